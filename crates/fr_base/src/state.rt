@@ -1,0 +1,19 @@
+/// The state of a node's protocol operation control: an active node sends, receives and corrects its
+/// clock, a passive one does not send, a halted one does neither.
+#[derive(Clone, Copy, Debug, PartialEq, Eq)]
+pub enum State {
+    Active,
+    Passive,
+    Halt,
+}
+
+/// How the computation of a correction term ended.
+#[derive(Clone, Copy, Debug, PartialEq, Eq)]
+pub enum Outcome {
+    /// The term lies within its limit.
+    Within,
+    /// No deviation was there to compute it from.
+    Missing,
+    /// It lay outside its limit and was cut.
+    Exceeded,
+}
