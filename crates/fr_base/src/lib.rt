@@ -4,8 +4,10 @@
 
 mod channel;
 mod ids;
+mod line;
 mod state;
 
 pub use channel::Channel;
 pub use ids::{NodeId, Slot};
+pub use line::{LINE_ROOM, Line};
 pub use state::{Outcome, State};
