@@ -1,1 +1,5 @@
+pub mod Device
 pub mod Line
+pub mod MemoryShelf
+pub mod MemorySink
+pub mod SureShelf

@@ -2,12 +2,24 @@
 //! two devices, a shelf that files are loaded from and a sink that text is put into.
 #![tactic(auto)]
 
+mod adapters;
 mod channel;
 mod ids;
 mod line;
+mod memory_shelf;
+mod memory_sink;
+mod shelf;
+mod sink;
 mod state;
+mod sure;
 
+pub use adapters::{DiskShelf, StreamSink};
 pub use channel::Channel;
 pub use ids::{NodeId, Slot};
 pub use line::{LINE_ROOM, Line};
+pub use memory_shelf::MemoryShelf;
+pub use memory_sink::MemorySink;
+pub use shelf::{LoadFault, MAX_FILE, Shelf};
+pub use sink::{PutFault, Sink};
 pub use state::{Outcome, State};
+pub use sure::{SureShelf, SureSink};

@@ -1,0 +1,9 @@
+-- What a shelf that never fails holds.
+use Rattle.std.specs.Prelude.{ℕ, List, [], Option, Some, unwrap_or}
+use Rattle.std.specs.Option.{option_map}
+use Rattle.std.specs.BTreeMap.{get_by_text}
+use Rattle.fr_base.specs.declared.sure.SureShelf.{SureShelf}
+
+-- the bytes under a name: those that were put there, else none
+abbrev pub kept_in : SureShelf → List ℕ → List ℕ
+kept_in shelf name = unwrap_or (option_map (λ bytes. bytes.items) (get_by_text shelf.files name)) []

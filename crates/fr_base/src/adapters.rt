@@ -1,0 +1,150 @@
+ghost use Rattle.std.specs.Prelude.{◌≡◌, ◌≤◌, ◌<◌, ◌++◌, [], None, length, take, OnOk, OnErr, IfOk, IfErr, IfSome, MatchResult, IsErrOf, IsTrue, vec_len};
+ghost use Rattle.std.specs.Io.KnownBytes.{Appends, Keeps};
+ghost use Rattle.fr_base.specs.Device.{AppendsFront, IsHeld, IfTooLong, IsSeen};
+
+use crate::{LoadFault, MAX_FILE, PutFault, Shelf, Sink};
+use std::fs;
+use std::io::{Read, Write};
+use std::rt::Files;
+
+// How many bytes are read at once.
+const CHUNK: usize = 4096;
+
+/// A shelf over the files of a runtime. It tells no content, and has one count for all names: each error
+/// of the file system is a fault of every name.
+#[derive(Drop)]
+pub struct DiskShelf<R: Files + Drop> {
+    files: R,
+    faults: u64,
+}
+
+impl<R: Files + Drop> DiskShelf<R> {
+    pub fn new(files: R) -> DiskShelf<R> {
+        DiskShelf { files, faults: 0 }
+    }
+}
+
+impl<R: Files + Drop> Shelf for DiskShelf<R> {
+    ghost held = { λ _ _. None };
+
+    ghost faults = { λ shelf _. shelf.faults };
+
+    fn load(&mut self, name: &str, into: &mut Vec<u8>) -> Result<(), LoadFault> {
+        let loaded = match fs::open(&self.files, name) {
+            Ok(mut file) => read_whole(&mut file, into),
+            Err(_) => Err(LoadFault::Failed),
+        };
+        if loaded.is_err() {
+            into.clear();
+        }
+        if loaded == Err(LoadFault::Failed) {
+            self.faults = self.faults.saturating_add(1);
+        }
+        loaded
+    }
+}
+
+/// A sink over a stream. It tells no content; each error of the stream is a counted fault. Every piece
+/// is flushed.
+#[derive(Drop)]
+pub struct StreamSink<W: Write + Drop> {
+    stream: W,
+    faults: u64,
+}
+
+impl<W: Write + Drop> StreamSink<W> {
+    pub fn new(stream: W) -> StreamSink<W> {
+        StreamSink { stream, faults: 0 }
+    }
+}
+
+impl<W: Write + Drop> Sink for StreamSink<W> {
+    ghost written = { λ _. None };
+
+    ghost faults = { λ sink. sink.faults };
+
+    fn put(&mut self, piece: &[u8]) -> Result<(), PutFault> {
+        let put = write_whole(&mut self.stream, piece);
+        if put.is_err() {
+            self.faults = self.faults.saturating_add(1);
+        }
+        put
+    }
+}
+
+// Reads a file to its end, or until it is seen to be too long: at most one turn for each byte of the limit
+// and one turn more, which finds the end or the byte too much.
+fn read_whole<F: Read>(file: &mut F, into: &mut Vec<u8>) -> Result<(), LoadFault>
+    requires { into.old.items ≡ [] }
+    ensures whole { OnOk result (IsHeld (F.remaining file.old) into.new.items) }
+    ensures fits { OnOk result (vec_len into.new ≤ MAX_FILE) }
+    ensures too_long { IfErr result (λ fault.
+        IfTooLong fault (λ seen. IsSeen (F.remaining file.old) MAX_FILE seen)) }
+{
+    let mut chunk = [0; CHUNK];
+    'turns: for turn in 0..=MAX_FILE {
+        let Ok(count) = file.read(&mut chunk) else {
+            return Err(LoadFault::Failed);
+        };
+        if count == 0 {
+            return Ok(());
+        }
+        let seen = into.len() + count;
+        if seen > MAX_FILE {
+            return Err(LoadFault::TooLong { seen: seen as u64 });
+        }
+        if into.extend_from_slice(&chunk[..count]).is_err() {
+            return Err(LoadFault::NoMemory);
+        }
+    }
+    unreachable!()
+}
+
+// Writes a piece to its end, and flushes: at most one turn for each byte of it and one turn more. A write
+// that takes nothing is a failure.
+fn write_whole<W: Write>(stream: &mut W, piece: &[u8]) -> Result<(), PutFault>
+    ensures whole { OnOk result (Appends (W.contents stream.old) (W.contents stream.new) piece.now) }
+    ensures front { OnErr result (AppendsFront (W.contents stream.old) (W.contents stream.new) piece.now) }
+{
+    let mut rest = piece;
+    'turns: for turn in 0..=piece.len() {
+        if rest.is_empty() {
+            return flushed(stream);
+        }
+        match write_some(stream, rest) {
+            Ok(count) => {
+                let (_, after) = rest.split_at(count);
+                rest = after;
+            }
+            Err(fault) => return Err(fault),
+        }
+    }
+    unreachable!()
+}
+
+// Writes a front of what is left, which is not empty, and answers its number of bytes, at least 1.
+fn write_some<W: Write>(stream: &mut W, rest: &[u8]) -> Result<usize, PutFault>
+    ensures some { IfOk result (λ count. 0 < count) }
+    ensures within { IfOk result (λ count. count ≤ length rest.now) }
+    ensures taken { IfOk result (λ count. Appends (W.contents stream.old) (W.contents stream.new) (take count rest.now)) }
+    ensures nothing { OnErr result (Keeps (W.contents stream.old) (W.contents stream.new)) }
+{
+    match stream.write(rest) {
+        Ok(count) => {
+            if count == 0 {
+                return Err(PutFault::Failed);
+            }
+            Ok(count)
+        }
+        Err(_) => Err(PutFault::Failed),
+    }
+}
+
+fn flushed<W: Write>(stream: &mut W) -> Result<(), PutFault>
+    ensures { Keeps (W.contents stream.old) (W.contents stream.new) }
+{
+    match stream.flush() {
+        Ok(()) => Ok(()),
+        Err(_) => Err(PutFault::Failed),
+    }
+}

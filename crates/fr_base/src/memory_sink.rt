@@ -1,0 +1,104 @@
+ghost use Rattle.std.specs.Prelude.{◌≡◌, ◌≤◌, ◌↔◌, ◌++◌, ◌∷◌, [], false, Some, OnOk, OnErr, IfOk, IsTrue, IsOk, vec_len, vec_capacity};
+ghost use Rattle.std.specs.Io.KnownBytes.{Appends};
+ghost use Rattle.fr_base.specs.Device.{Rose, AppendsFront, counted};
+
+use crate::{PutFault, Sink};
+use std::alloc::{AllocError, Global};
+
+/// A sink in memory, with a room in bytes that is reserved when it is made. A piece that does not fit
+/// the room fails, and so do the puts that are chosen to. Counters stay at their last value.
+#[derive(Drop)]
+pub struct MemorySink {
+    bytes: Vec<u8>,
+    room: usize,
+    faults: u64,
+    puts: u64,
+    failing: Vec<u64>,
+    ghost reserved: { room ≤ vec_capacity bytes },
+    ghost within: { vec_len bytes ≤ room },
+}
+
+impl MemorySink {
+    ghost use Rattle.fr_base.specs.MemorySink.{bytes_in, room_of, faults_of, puts_of, failing_puts, takes};
+
+    /// A sink of no bytes, with room for this many.
+    pub fn new(alloc: Global, room: usize) -> Result<MemorySink, AllocError>
+        ensures empty { IfOk result (λ sink. bytes_in sink ≡ []) }
+        ensures room { IfOk result (λ sink. room_of sink ≡ room) }
+        ensures none_counted { IfOk result (λ sink. faults_of sink ≡ 0) }
+        ensures no_puts { IfOk result (λ sink. puts_of sink ≡ 0) }
+        ensures none_failing { IfOk result (λ sink. failing_puts sink ≡ []) }
+    {
+        let bytes = Vec::with_capacity(alloc, room)?;
+        Ok(MemorySink {
+            bytes,
+            room,
+            faults: 0,
+            puts: 0,
+            failing: Vec::new(alloc),
+        })
+    }
+
+    /// The bytes put so far.
+    pub fn bytes(&self) -> &[u8]
+        ensures { result.now ≡ bytes_in self.now }
+    {
+        &self.bytes
+    }
+
+    /// Lists the put of this number, counted from 1, among those that are to fail. After an error nothing
+    /// changed.
+    pub fn fail_at(&mut self, call: u64) -> Result<(), AllocError>
+        ensures listed { OnOk result (failing_puts self.new ≡ failing_puts self.old ++ call ∷ []) }
+        ensures unchanged { OnErr result (failing_puts self.new ≡ failing_puts self.old) }
+        ensures bytes { bytes_in self.new ≡ bytes_in self.old }
+        ensures room { room_of self.new ≡ room_of self.old }
+        ensures faults { faults_of self.new ≡ faults_of self.old }
+        ensures puts { puts_of self.new ≡ puts_of self.old }
+    {
+        self.failing.push(call)?;
+        Ok(())
+    }
+
+    // Whether the next put takes the piece.
+    fn is_taken(&self, piece: &[u8]) -> bool
+        ensures { result ≡ takes self.now piece.now }
+    {
+        let number = self.puts.saturating_add(1);
+        !self.failing.contains(&number) && piece.len() <= self.room - self.bytes.len()
+    }
+}
+
+impl Sink for MemorySink {
+    ghost use Rattle.fr_base.specs.MemorySink.{bytes_in, room_of, faults_of, puts_of, failing_puts, takes};
+
+    ghost written = { λ sink. Some (bytes_in sink) };
+
+    ghost faults = { faults_of };
+
+    fn put(&mut self, piece: &[u8]) -> Result<(), PutFault>
+        // what every sink promises
+        ensures whole { OnOk result (Appends (Some (bytes_in self.old)) (Some (bytes_in self.new)) piece.now) }
+        ensures failed { OnErr result (Rose (faults_of self.old) (faults_of self.new)) }
+        ensures front { OnErr result (AppendsFront (Some (bytes_in self.old)) (Some (bytes_in self.new)) piece.now) }
+        ensures never_fall { faults_of self.old ≤ faults_of self.new }
+
+        // It takes a piece whole or not at all, and fails exactly where the put is listed or the piece
+        // does not fit.
+        ensures takes { IsTrue (takes self.old piece.now) ↔ IsOk result }
+        ensures nothing { OnErr result (bytes_in self.new ≡ bytes_in self.old) }
+        ensures counted { OnErr result (faults_of self.new ≡ counted (faults_of self.old)) }
+        ensures quiet { OnOk result (faults_of self.new ≡ faults_of self.old) }
+        ensures puts { puts_of self.new ≡ counted (puts_of self.old) }
+        ensures room { room_of self.new ≡ room_of self.old }
+        ensures failing { failing_puts self.new ≡ failing_puts self.old }
+    {
+        let taken = self.is_taken(piece);
+        self.puts = self.puts.saturating_add(1);
+        if taken && self.bytes.extend_from_slice(piece).is_ok() {
+            return Ok(());
+        }
+        self.faults = self.faults.saturating_add(1);
+        Err(PutFault::Failed)
+    }
+}

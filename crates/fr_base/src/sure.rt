@@ -1,0 +1,76 @@
+ghost use Rattle.std.specs.Prelude.{◌≡◌, ◌≢◌, ℕ, List, [], Some, None, OnOk, OnErr};
+
+use crate::memory_shelf::copy_file;
+use crate::{LoadFault, PutFault, Shelf, Sink};
+use std::alloc::{AllocError, Global};
+use std::collections::BTreeMap;
+
+/// A shelf in memory that never fails: names with their bytes, and every other name is an empty file. Its
+/// counts are the constant 0.
+#[derive(Drop)]
+pub struct SureShelf {
+    alloc: Global,
+    files: BTreeMap<String, Vec<u8>>,
+}
+
+impl SureShelf {
+    ghost use Rattle.fr_base.specs.SureShelf.{kept_in};
+
+    /// A shelf on which every file is empty. It takes no memory.
+    pub fn new(alloc: Global) -> SureShelf
+        ensures { (name : List ℕ) → kept_in result name ≡ [] }
+    {
+        SureShelf {
+            alloc,
+            files: BTreeMap::new(alloc),
+        }
+    }
+
+    /// Puts the bytes under the name, in the place of those that it had. After an error nothing changed.
+    pub fn hold(&mut self, name: &str, bytes: &[u8]) -> Result<(), AllocError>
+        ensures held { OnOk result (kept_in self.new name.now ≡ bytes.now) }
+        ensures others { OnOk result ((other : List ℕ) → other ≢ name.now → kept_in self.new other ≡ kept_in self.old other) }
+        ensures unchanged { OnErr result ((other : List ℕ) → kept_in self.new other ≡ kept_in self.old other) }
+    {
+        let bytes = Vec::from_slice(self.alloc, bytes)?;
+        let key = String::from_str(self.alloc, name)?;
+        self.files.insert(key, bytes)?;
+        Ok(())
+    }
+}
+
+impl Shelf for SureShelf {
+    ghost use Rattle.fr_base.specs.SureShelf.{kept_in};
+
+    ghost held = { λ shelf name. Some (kept_in shelf name) };
+
+    ghost faults = { λ _ _. 0 };
+
+    fn load(&mut self, name: &str, into: &mut Vec<u8>) -> Result<(), LoadFault> {
+        match self.files.get(name) {
+            Some(bytes) => copy_file(bytes, into),
+            None => Ok(()),
+        }
+    }
+}
+
+/// A sink that drops every piece and never fails. It tells no bytes, and its count is the constant 0.
+#[derive(Drop)]
+pub struct SureSink {}
+
+impl SureSink {
+    /// A sink. It takes no memory.
+    pub fn new() -> SureSink {
+        SureSink {}
+    }
+}
+
+impl Sink for SureSink {
+    ghost written = { λ _. None };
+
+    ghost faults = { λ _. 0 };
+
+    fn put(&mut self, _piece: &[u8]) -> Result<(), PutFault> {
+        Ok(())
+    }
+}
