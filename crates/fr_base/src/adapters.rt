@@ -83,17 +83,17 @@ fn read_whole<F: Read>(file: &mut F, into: &mut Vec<u8>) -> Result<(), LoadFault
 {
     let mut chunk = [0; CHUNK];
     'turns: for turn in 0..=MAX_FILE {
-        let Ok(count) = file.read(&mut chunk) else {
+        let Ok(given) = file.read(&mut chunk) else {
             return Err(LoadFault::Failed);
         };
-        if count == 0 {
+        if given == 0 {
             return Ok(());
         }
-        let seen = into.len() + count;
+        let seen = into.len() + given;
         if seen > MAX_FILE {
             return Err(LoadFault::TooLong { seen: seen as u64 });
         }
-        if into.extend_from_slice(&chunk[..count]).is_err() {
+        if into.extend_from_slice(&chunk[..given]).is_err() {
             return Err(LoadFault::NoMemory);
         }
     }

@@ -23,3 +23,6 @@ pub use shelf::{LoadFault, MAX_FILE, Shelf};
 pub use sink::{PutFault, Sink};
 pub use state::{Outcome, State};
 pub use sure::{SureShelf, SureSink};
+
+#[cfg(test)]
+mod tests;
