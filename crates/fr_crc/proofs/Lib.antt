@@ -1,0 +1,7 @@
+pub mod Sums
+pub mod Division
+pub mod Remainders
+pub mod Unique
+pub mod Steps
+pub mod Rows
+pub mod Existence
