@@ -1,0 +1,16 @@
+/// Why bytes are no frame. Of several causes it is the first in this order.
+#[derive(Clone, Copy, Debug, PartialEq, Eq)]
+pub enum FrameFault {
+    /// Fewer than 8 bytes are given.
+    Short { given: usize },
+    /// The header CRC in the bytes differs from the one that is computed of the header's fields.
+    HeaderCrc { kept: u16, computed: u16 },
+    /// The number of bytes is not the one that the payload length states.
+    Length { stated: usize, given: usize },
+    /// The last three bytes differ from the frame CRC that is computed of all bytes before them.
+    FrameCrc { kept: u32, computed: u32 },
+    /// The frame ID is 0.
+    ZeroId,
+    /// The startup indicator is set and the sync indicator is not.
+    StartupNotSync,
+}
