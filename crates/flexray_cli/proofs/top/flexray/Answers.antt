@@ -1,0 +1,29 @@
+use Rattle.std.proofs.Common.{◌≡◌, Ok, Err, sym, ◌∙◌, subst}
+use Rattle.flexray_cli.specs.declared.failure.Failure.{Failure}
+use Rattle.flexray_cli.specs.declared.status.Status.{Status}
+use Rattle.flexray_cli.specs.Answer.{Around, IsPut, IsComplete, failure_line}
+use Rattle.flexray_cli.proofs.Endings.{complete, usage_only}
+use Rattle.flexray_cli.proofs.top.flexray.Goals as goal
+
+pub returns-in-Ok-clause-complete : goal.returns-in-Ok-clause-complete
+returns-in-Ok-clause-complete g c = λ channel file asked. complete channel file _ (Ok tt) (c.in-Ok.ensures.frame channel file asked)
+
+pub returns-in-Err-clause-usage_told : goal.returns-in-Err-clause-usage_told
+returns-in-Err-clause-usage_told g c = λ usage.
+    let only = usage_only c.in-Err.failure (sym c.status.ensures ∙ usage) in
+    let P : Failure → Type 0 = λ failure. IsPut (g.E.Sink.written c.args.err.now) (g.E.Sink.written c.tell.new.err) (g.E.Sink.faults c.args.err.now) (g.E.Sink.faults c.tell.new.err) (failure_line failure) in
+    subst P only c.tell.ensures
+
+pub returns-in-Err-clause-complete : goal.returns-in-Err-clause-complete
+returns-in-Err-clause-complete g c = λ channel file asked.
+    let around : Around = record {
+      held = g.S.Shelf.held c.args.shelf.now;
+      read_before = g.S.Shelf.faults c.args.shelf.now;
+      read_after = g.S.Shelf.faults c.answer.new.shelf;
+      written_before = g.O.Sink.written c.args.out.now;
+      written_after = g.O.Sink.written c.answer.new.out;
+      write_before = g.O.Sink.faults c.args.out.now;
+      write_after = g.O.Sink.faults c.answer.new.out;
+    } in
+    let P : Status → Type 0 = IsComplete channel file around in
+    subst P (sym c.status.ensures) (complete channel file around (Err c.in-Err.failure) (c.in-Err.ensures.frame channel file asked))

@@ -1,0 +1,4 @@
+pub mod Answer
+pub mod FrameText
+pub mod Request
+pub mod Status

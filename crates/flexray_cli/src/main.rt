@@ -1,0 +1,31 @@
+//! `flexray`: a FlexRay cluster in one program. `flexray frame A FILE` decodes the frame in a file.
+#![tactic(auto)]
+
+mod failure;
+mod frame;
+mod frame_line;
+mod load;
+mod number;
+mod request;
+mod status;
+mod top;
+
+use fr_base::{DiskShelf, StreamSink};
+use status::Status;
+use std::env;
+use std::process::ExitCode;
+use top::flexray;
+
+fn main(rt: HostRuntime) -> ExitCode {
+    let Ok(all) = env::args(&rt) else {
+        return ExitCode::from(Status::NoMemory.code());
+    };
+    let Ok(words) = all.skip(1).collect::<Vec<String>>(rt.alloc()) else {
+        return ExitCode::from(Status::NoMemory.code());
+    };
+    let mut shelf = DiskShelf::new(&rt);
+    let mut out = StreamSink::new(rt.stdout());
+    let mut err = StreamSink::new(rt.stderr());
+    let status = flexray(rt.alloc(), &words, &mut shelf, &mut out, &mut err);
+    ExitCode::from(status.code())
+}

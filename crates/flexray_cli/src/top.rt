@@ -1,0 +1,122 @@
+ghost use Rattle.std.specs.Prelude.{◌≡◌, ◌↔◌, ℕ, List, IfErr, Err};
+ghost use Rattle.fr_base.specs.declared.channel.Channel.{Channel};
+ghost use Rattle.fr_base.specs.Device.{Rose, IsHeld};
+ghost use Rattle.flexray_cli.specs.declared.failure.Failure.TheVariants.{Usage};
+ghost use Rattle.flexray_cli.specs.Request.{texts, AsksFrame, IsNoRequest};
+ghost use Rattle.flexray_cli.specs.Answer.{Around, FrameEnds, RequestEnds, IsFrameAnswer, IsComplete, IsPut, WritesNothing, OutcomeWritesNothing, CanShow, failure_line};
+
+use crate::failure::Failure;
+use crate::frame;
+use crate::request::{Request, request_of};
+use crate::status::Status;
+use fr_base::{Shelf, Sink};
+use std::alloc::Global;
+
+/// Does what the words ask for, which are those after the program's name: loads the files that they name
+/// from the shelf, puts the text of the answer into `out`, and where the answer is not `Done` one line into
+/// `err`. Nothing is put into `out` before every file was accepted.
+pub fn flexray<S: Shelf, O: Sink, E: Sink>(
+    alloc: Global,
+    words: &[String],
+    shelf: &mut S,
+    out: &mut O,
+    err: &mut E,
+) -> Status
+    // Words that are no request, and no others, are answered so, whatever the shelf and the sinks do.
+    ensures usage { (result ≡ Status.Usage) ↔ IsNoRequest (texts words.now) }
+    ensures usage_told { result ≡ Status.Usage → IsPut (E.written err.old) (E.written err.new) (E.faults err.old) (E.faults err.new) (failure_line Usage) }
+
+    // A request for a frame: what each status says, what was written, and the line of a failure.
+    ensures frame { (channel : Channel) (file : List ℕ) → AsksFrame (texts words.now) channel file →
+        IsFrameAnswer channel file (record {
+          held = S.held shelf.old;
+          read_before = S.faults shelf.old;
+          read_after = S.faults shelf.new;
+          written_before = O.written out.old;
+          written_after = O.written out.new;
+          write_before = O.faults out.old;
+          write_after = O.faults out.new;
+        }) (E.written err.old) (E.written err.new) (E.faults err.old) (E.faults err.new) result }
+
+    // Where its bytes are told and no fault was counted, they decide the status, but for want of memory.
+    ensures complete { (channel : Channel) (file : List ℕ) → AsksFrame (texts words.now) channel file →
+        IsComplete channel file (record {
+          held = S.held shelf.old;
+          read_before = S.faults shelf.old;
+          read_after = S.faults shelf.new;
+          written_before = O.written out.old;
+          written_after = O.written out.new;
+          write_before = O.faults out.old;
+          write_after = O.faults out.new;
+        }) result }
+
+    // Only `Done` and a failed write leave anything on `out`, and `Done` nothing on `err`.
+    ensures unwritten { WritesNothing result → out.new ≡ out.old }
+    ensures untold { result ≡ Status.Done → err.new ≡ err.old }
+{
+    match answer(alloc, words, shelf, out) {
+        Ok(()) => Status::Done,
+        Err(failure) => {
+            tell(err, &failure);
+            failure.status()
+        }
+    }
+}
+
+// The answer before its status and its line.
+fn answer<S: Shelf, O: Sink>(
+    alloc: Global,
+    words: &[String],
+    shelf: &mut S,
+    out: &mut O,
+) -> Result<(), Failure>
+    ensures usage { (result ≡ Err Usage) ↔ IsNoRequest (texts words.now) }
+    ensures frame { (channel : Channel) (file : List ℕ) → AsksFrame (texts words.now) channel file →
+        FrameEnds channel file (record {
+          held = S.held shelf.old;
+          read_before = S.faults shelf.old;
+          read_after = S.faults shelf.new;
+          written_before = O.written out.old;
+          written_after = O.written out.new;
+          write_before = O.faults out.old;
+          write_after = O.faults out.new;
+        }) result }
+    ensures unwritten { OutcomeWritesNothing result → out.new ≡ out.old }
+    ensures shown { IfErr result CanShow }
+{
+    match request_of(words) {
+        Some(request) => carry_out(alloc, request, shelf, out),
+        None => Err(Failure::Usage),
+    }
+}
+
+fn carry_out<S: Shelf, O: Sink>(
+    alloc: Global,
+    request: Request<'_>,
+    shelf: &mut S,
+    out: &mut O,
+) -> Result<(), Failure>
+    ensures ends { RequestEnds request.entry (record {
+      held = S.held shelf.old;
+      read_before = S.faults shelf.old;
+      read_after = S.faults shelf.new;
+      written_before = O.written out.old;
+      written_after = O.written out.new;
+      write_before = O.faults out.old;
+      write_after = O.faults out.new;
+    }) result }
+    ensures unwritten { OutcomeWritesNothing result → out.new ≡ out.old }
+    ensures shown { IfErr result CanShow }
+{
+    match request {
+        Request::Frame { channel, file } => frame::answer(alloc, channel, file, shelf, out),
+    }
+}
+
+// Puts the line of the failure. What becomes of it changes nothing else.
+fn tell<E: Sink>(err: &mut E, failure: &Failure)
+    requires { CanShow failure.now }
+    ensures { IsPut (E.written err.old) (E.written err.new) (E.faults err.old) (E.faults err.new) (failure_line failure.now) }
+{
+    let _ = err.put(failure.line().bytes());
+}
