@@ -8,6 +8,8 @@ mod load;
 mod number;
 mod request;
 mod status;
+#[cfg(test)]
+mod tests;
 mod top;
 
 use fr_base::{DiskShelf, StreamSink};
