@@ -79,6 +79,13 @@ kept_in b2 b3 b4 = bit_or (bit_or (bit_and b2 1 * 1024 % 65536) (b3 * 4 % 65536)
 pub kept-lt : (b2 b3 b4 : ℕ) → b3 < 256 → b4 < 256 → kept_in b2 b3 b4 < 2048
 kept-lt b2 b3 b4 small below = rw (kept_is b2 b3 b4 small below) (omega arith)
 
+-- the header's numbers are in their ranges
+pub header_id-le : (b0 b1 b2 b4 : ℕ) → b1 < 256 → (header_in b0 b1 b2 b4).id ≤ 2047
+header_id-le b0 b1 b2 b4 small = rw (id_is b0 b1 small) (omega arith)
+
+pub header_cycle-le : (b4 : ℕ) → bit_and b4 63 ≤ 63
+header_cycle-le b4 = let e : bit_and b4 63 ≡ b4 % 64 = and_mask b4 6 in rw e (omega arith)
+
 -- five bytes are the spelling of what they hold
 spelled : (b0 b1 b2 b3 b4 : ℕ) → b0 < 256 → b1 < 256 → b2 < 256 → b3 < 256 → b4 < 256 →
     b0 ∷ b1 ∷ b2 ∷ b3 ∷ b4 ∷ [] ≡ header_bytes (header_in b0 b1 b2 b4) (kept_in b2 b3 b4)

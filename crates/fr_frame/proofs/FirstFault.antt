@@ -1,5 +1,5 @@
 -- Bytes that are no frame have one first fault, and no others have one.
-use Rattle.std.proofs.Common.{◌≡◌, ℕ, ◌+◌, ◌*◌, ◌≤◌, false, List, length, ap, sym, ◌∙◌, subst, IsTrue, arith}
+use Rattle.std.proofs.Common.{◌≡◌, ℕ, ◌+◌, ◌*◌, ◌≤◌, false, List, length, refl, ap, sym, ◌∙◌, subst, IsTrue, arith}
 use Rattle.std.proofs.lemmas.Bool.{both_ways}
 use Rattle.fr_base.specs.declared.channel.Channel.{Channel}
 use Rattle.fr_frame.specs.declared.header.Header.{Header}
@@ -55,3 +55,54 @@ fault_is_no_frame channel bytes fault is h payload (a, (b, frame)) =
     refuted (FrameCrc n m) is right some sync = frame_crc_or_right channel bytes n m h a b is right
     refuted ZeroId is right some sync = zero_id_or_some channel bytes h a b is right some
     refuted StartupNotSync is right some sync = startup_or_sync channel bytes h a b is right sync
+
+-- two first faults of the same bytes are one
+pub first_fault_is_one : (channel : Channel) (bytes : List ℕ) (first second : FrameFault) → IsFirstFault channel bytes first → IsFirstFault channel bytes second → first ≡ second
+first_fault_is_one channel bytes (Short n) (Short k) a b = ap Short (a.counted ∙ sym b.counted)
+first_fault_is_one channel bytes (Short n) (HeaderCrc k l) a b = absurd (short_or_enough bytes n a b.enough)
+first_fault_is_one channel bytes (Short n) (Length k l) a b = absurd (short_or_enough bytes n a b.header_right.enough)
+first_fault_is_one channel bytes (Short n) (FrameCrc k l) a b = absurd (short_or_enough bytes n a b.length_right.header_right.enough)
+first_fault_is_one channel bytes (Short n) ZeroId a b = absurd (short_or_enough bytes n a b.checks_right.length_right.header_right.enough)
+first_fault_is_one channel bytes (Short n) StartupNotSync a b = absurd (short_or_enough bytes n a b.checks_right.length_right.header_right.enough)
+first_fault_is_one channel bytes (HeaderCrc n m) (Short k) a b = absurd (short_or_enough bytes k b a.enough)
+first_fault_is_one channel bytes (HeaderCrc n m) (HeaderCrc k l) a b =
+    let one : (a.header ≡ b.header) × (n ≡ k) = header_is_one bytes a.header b.header n k a.holds b.holds in
+    let computed : m ≡ l = computed_is_one a.header b.header m l one.0 a.right b.right in
+    let kept : n ≡ k = one.1 in
+    cc
+first_fault_is_one channel bytes (HeaderCrc n m) (Length k l) a b = absurd (header_crc_or_right bytes n m b.header b.crc a b.header_right)
+first_fault_is_one channel bytes (HeaderCrc n m) (FrameCrc k l) a b = absurd (header_crc_or_right bytes n m b.header b.crc a b.length_right.header_right)
+first_fault_is_one channel bytes (HeaderCrc n m) ZeroId a b = absurd (header_crc_or_right bytes n m b.header b.header_crc a b.checks_right.length_right.header_right)
+first_fault_is_one channel bytes (HeaderCrc n m) StartupNotSync a b = absurd (header_crc_or_right bytes n m b.header b.header_crc a b.checks_right.length_right.header_right)
+first_fault_is_one channel bytes (Length n m) (Short k) a b = absurd (short_or_enough bytes k b a.header_right.enough)
+first_fault_is_one channel bytes (Length n m) (HeaderCrc k l) a b = absurd (header_crc_or_right bytes k l a.header a.crc b a.header_right)
+first_fault_is_one channel bytes (Length n m) (Length k l) a b =
+    let one : (a.header ≡ b.header) × (a.crc ≡ b.crc) = header_is_one bytes a.header b.header a.crc b.crc a.header_right.holds b.header_right.holds in
+    let stated : n ≡ k = a.states ∙ ap (λ (x : Header). 8 + 2 * x.words) one.0 ∙ sym b.states in
+    let given : m ≡ l = a.counted ∙ sym b.counted in
+    cc
+first_fault_is_one channel bytes (Length n m) (FrameCrc k l) a b = absurd (length_or_right bytes n m b.header b.crc a b.length_right)
+first_fault_is_one channel bytes (Length n m) ZeroId a b = absurd (length_or_right bytes n m b.header b.header_crc a b.checks_right.length_right)
+first_fault_is_one channel bytes (Length n m) StartupNotSync a b = absurd (length_or_right bytes n m b.header b.header_crc a b.checks_right.length_right)
+first_fault_is_one channel bytes (FrameCrc n m) (Short k) a b = absurd (short_or_enough bytes k b a.length_right.header_right.enough)
+first_fault_is_one channel bytes (FrameCrc n m) (HeaderCrc k l) a b = absurd (header_crc_or_right bytes k l a.header a.crc b a.length_right.header_right)
+first_fault_is_one channel bytes (FrameCrc n m) (Length k l) a b = absurd (length_or_right bytes k l a.header a.crc b a.length_right)
+first_fault_is_one channel bytes (FrameCrc n m) (FrameCrc k l) a b =
+    let one : (a.header ≡ b.header) × (a.crc ≡ b.crc) = header_is_one bytes a.header b.header a.crc b.crc a.length_right.header_right.holds b.length_right.header_right.holds in
+    let kept : n ≡ k = trailer_is_one bytes a.header b.header n k one.0 a.spelled b.spelled in
+    let computed : m ≡ l = whole_is_one channel bytes a.header b.header m l one.0 a.right b.right in
+    cc
+first_fault_is_one channel bytes (FrameCrc n m) ZeroId a b = absurd (frame_crc_or_right channel bytes n m b.header b.header_crc b.frame_crc a b.checks_right)
+first_fault_is_one channel bytes (FrameCrc n m) StartupNotSync a b = absurd (frame_crc_or_right channel bytes n m b.header b.header_crc b.frame_crc a b.checks_right)
+first_fault_is_one channel bytes ZeroId (Short k) a b = absurd (short_or_enough bytes k b a.checks_right.length_right.header_right.enough)
+first_fault_is_one channel bytes ZeroId (HeaderCrc k l) a b = absurd (header_crc_or_right bytes k l a.header a.header_crc b a.checks_right.length_right.header_right)
+first_fault_is_one channel bytes ZeroId (Length k l) a b = absurd (length_or_right bytes k l a.header a.header_crc b a.checks_right.length_right)
+first_fault_is_one channel bytes ZeroId (FrameCrc k l) a b = absurd (frame_crc_or_right channel bytes k l a.header a.header_crc a.frame_crc b a.checks_right)
+first_fault_is_one channel bytes ZeroId ZeroId a b = refl
+first_fault_is_one channel bytes ZeroId StartupNotSync a b = absurd (zero_id_or_some channel bytes b.header b.header_crc b.frame_crc a b.checks_right b.id_some)
+first_fault_is_one channel bytes StartupNotSync (Short k) a b = absurd (short_or_enough bytes k b a.checks_right.length_right.header_right.enough)
+first_fault_is_one channel bytes StartupNotSync (HeaderCrc k l) a b = absurd (header_crc_or_right bytes k l a.header a.header_crc b a.checks_right.length_right.header_right)
+first_fault_is_one channel bytes StartupNotSync (Length k l) a b = absurd (length_or_right bytes k l a.header a.header_crc b a.checks_right.length_right)
+first_fault_is_one channel bytes StartupNotSync (FrameCrc k l) a b = absurd (frame_crc_or_right channel bytes k l a.header a.header_crc a.frame_crc b a.checks_right)
+first_fault_is_one channel bytes StartupNotSync ZeroId a b = absurd (zero_id_or_some channel bytes a.header a.header_crc a.frame_crc b a.checks_right a.id_some)
+first_fault_is_one channel bytes StartupNotSync StartupNotSync a b = refl

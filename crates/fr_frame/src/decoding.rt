@@ -1,5 +1,5 @@
-ghost use Rattle.std.specs.Prelude.{IfOk, IfErr, OnErr};
-ghost use Rattle.fr_frame.specs.Frame.{IsFrameWith, IsNoFrame, IsPartAt};
+ghost use Rattle.std.specs.Prelude.{◌≡◌, ℕ, List, IfOk, IfErr, OnErr, IsOkAnd};
+ghost use Rattle.fr_frame.specs.Frame.{IsFrameWith, IsFrame, IsNoFrame, IsPartAt};
 ghost use Rattle.fr_frame.specs.Fault.{IsFirstFault};
 
 use crate::fault::FrameFault;
@@ -29,6 +29,8 @@ pub fn decode(channel: Channel, bytes: &[u8]) -> Result<Frame<'_>, FrameFault>
     ensures part { IfOk result (λ f. IsPartAt f.payload bytes.entry 5) }
     // Only what is no frame is refused.
     ensures only { OnErr result (IsNoFrame channel bytes.now) }
+    // What is a frame is read as that frame.
+    ensures back { (header : Header) (payload : List ℕ) → IsFrame channel header payload bytes.now → IsOkAnd result (λ f. (f.header ≡ header) × (f.payload.now ≡ payload)) }
     // The fault is the first one.
     ensures fault { IfErr result (IsFirstFault channel bytes.now) }
 {

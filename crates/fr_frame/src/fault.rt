@@ -14,3 +14,18 @@ pub enum FrameFault {
     /// The startup indicator is set and the sync indicator is not.
     StartupNotSync,
 }
+
+/// Why a frame is not written. Of several causes it is the first in this order.
+#[derive(Clone, Copy, Debug, PartialEq, Eq)]
+pub enum EncodeFault {
+    /// The frame ID is 0 or above 2047.
+    BadId,
+    /// The cycle count is above 63.
+    BadCycle,
+    /// The payload length is above 127 words, or the payload has not two bytes for each word.
+    BadPayload { given: usize, words: u8 },
+    /// The startup indicator is set and the sync indicator is not.
+    StartupNotSync,
+    /// The place for the frame has fewer bytes than it needs.
+    Room { needed: usize, given: usize },
+}

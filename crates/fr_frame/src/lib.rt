@@ -3,9 +3,18 @@
 #![tactic(auto)]
 
 mod decoding;
+mod encoding;
 mod fault;
 mod header;
+mod laws;
+#[cfg(test)]
+mod tests;
 
 pub use decoding::{Frame, decode};
-pub use fault::FrameFault;
+pub use encoding::encode;
+pub use fault::{EncodeFault, FrameFault};
 pub use header::Header;
+pub use laws::{
+    a_fault_is_no_frame, a_refusal_is_not_accepted, frame_length, no_frame_has_a_fault,
+    one_first_fault, one_first_refusal, one_reading, one_spelling,
+};
