@@ -15,10 +15,11 @@ pub record HasHeader (bytes : List ℕ) (header : Header) (kept : ℕ) : Type 0 
   pub kept_fits : kept < 2 ^ 11
   pub spelled : take 5 bytes ≡ header_bytes header kept
 
--- the bytes that the header states as header and payload, and what stands behind them
+-- the bytes of header and payload, as many as the header states
 abbrev pub body_of : Header → List ℕ → List ℕ
 body_of header bytes = take (5 + 2 * header.words) bytes
 
+-- what stands behind them
 abbrev pub trailer_of : Header → List ℕ → List ℕ
 trailer_of header bytes = drop (5 + 2 * header.words) bytes
 

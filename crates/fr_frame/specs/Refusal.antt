@@ -32,6 +32,11 @@ pub record IsAccepted (header : Header) (given room : ℕ) : Type 0 where
   pub good_flags : HasGoodFlags header given
   pub enough : 8 + given ≤ room
 
+-- a cycle count that is too great
+pub record IsBadCycle (header : Header) : Type 0 where
+  pub good_id : HasGoodId header
+  pub great : 63 < header.cycle
+
 -- the payload length is too great, or the payload has another
 pub record IsBadPayload (header : Header) (payload given words : ℕ) : Type 0 where
   pub good_cycle : HasGoodCycle header
@@ -51,11 +56,6 @@ pub record IsTooNarrow (header : Header) (payload room needed given : ℕ) : Typ
   pub needs : needed ≡ 8 + payload
   pub counted : given ≡ room
   pub few : given < needed
-
--- a cycle count that is too great
-pub record IsBadCycle (header : Header) : Type 0 where
-  pub good_id : HasGoodId header
-  pub great : 63 < header.cycle
 
 -- the first reason not to write this header with so many bytes of payload into so many bytes
 abbrev pub IsFirstRefusal : Header → ℕ → ℕ → EncodeFault → Type 0

@@ -1,4 +1,4 @@
-ghost use Rattle.std.specs.Prelude.{◌≡◌, ℕ, List, IfOk, IfErr, OnErr, IsOkAnd};
+ghost use Rattle.std.specs.Prelude.{◌≡◌, ◌≤◌, ◌-◌, ℕ, List, length, take, drop, IfOk, IfErr, OnErr, IsOkAnd};
 ghost use Rattle.fr_frame.specs.Frame.{IsFrameWith, IsFrame, IsNoFrame, IsPartAt};
 ghost use Rattle.fr_frame.specs.Fault.{IsFirstFault};
 
@@ -10,6 +10,7 @@ use fr_crc::{frame_crc, header_crc};
 /// A frame that was read from bytes.
 #[derive(Clone, Copy, Debug, PartialEq, Eq)]
 pub struct Frame<'a> {
+    /// The header that stands before the payload.
     pub header: Header,
     /// The payload, a part of the bytes: two bytes a word.
     pub payload: &'a [u8],
@@ -17,6 +18,16 @@ pub struct Frame<'a> {
     pub header_crc: u16,
     /// The frame CRC, of 24 bits.
     pub frame_crc: u32,
+}
+
+// The payload where it lies, between the header and `end`.
+fn payload_in(bytes: &[u8], end: usize) -> &[u8]
+    requires start { 5 ≤ end }
+    requires within { end ≤ length bytes.now }
+    ensures part { IsPartAt result bytes.entry 5 }
+    ensures value { result.now ≡ take (end - 5) (drop 5 bytes.now) }
+{
+    &bytes[5..end]
 }
 
 /// Reads the frame that the bytes are on this channel, all of them, or tells their first fault (sections
@@ -65,7 +76,7 @@ pub fn decode(channel: Channel, bytes: &[u8]) -> Result<Frame<'_>, FrameFault>
     }
     Ok(Frame {
         header,
-        payload: &bytes[5..end],
+        payload: payload_in(bytes, end),
         header_crc: kept,
         frame_crc: trailer,
     })

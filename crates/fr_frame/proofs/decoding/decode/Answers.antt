@@ -1,4 +1,4 @@
-use Rattle.std.proofs.Common.{rules, ◌≡◌, ℕ, ◌+◌, ◌-◌, ◌*◌, take, drop, IsTrue, ap, subst, arith}
+use Rattle.std.proofs.Common.{rules, ◌≡◌, ℕ, ◌+◌, ◌-◌, ◌*◌, take, drop, IsTrue, ap, ◌∙◌, subst, arith}
 use Rattle.std.proofs.lemmas.Bool.{both_ways, not-false}
 use Rattle.fr_crc.specs.Crc.{IsFrameCrc}
 use Rattle.fr_frame.specs.declared.fault.FrameFault.TheVariants.{HeaderCrc, FrameCrc}
@@ -41,14 +41,14 @@ returns-clause-found c =
     let more : 5 + 2 * c.from.result - 5 ≡ 2 * h.words = omega (arith, c.from.ensures) in
     let sync : IsTrue h.startup → IsTrue h.sync =
     elim c.else-header.branch [ else-header-via-then-header+else-not-header w ↦ λ set. not-false h.sync w.if-not-header.false | else-header-via-else-header w ↦ λ set. absurd (both_ways h.startup w.if-header.false set) ] in
-    checks_frame c.args.channel c.args.bytes.now (take (5 + 2 * c.from.result - 5) (drop 5 c.args.bytes.now)) h c.header_at-kept.result.1 c.trailer_at-trailer.result
+    checks_frame c.args.channel c.args.bytes.now c.payload_in.result.now h c.header_at-kept.result.1 c.trailer_at-trailer.result
     (record {
       length_right = length_right;
       right = read_body c.args.channel c.args.bytes.now h c.from.result c.trailer_at-trailer.result c.from.ensures right;
       spelled = read_trailer c.args.bytes.now h c.from.result c.trailer_at-trailer.result c.from.ensures c.trailer_at-trailer.ensures.spelled;
     })
     (omega arith) sync
-    (ap (λ (m : ℕ). take m (drop 5 c.args.bytes.now)) more)
+    (c.payload_in.ensures.value ∙ ap (λ (m : ℕ). take m (drop 5 c.args.bytes.now)) more)
 
 pub returns-then-kept-computed-clause-back : goal.returns-then-kept-computed-clause-back
 returns-then-kept-computed-clause-back c = returns-then-kept-computed-clause-only c
@@ -58,5 +58,5 @@ returns-then-trailer-whole-clause-back c = returns-then-trailer-whole-clause-onl
 
 pub returns-clause-back : goal.returns-clause-back
 returns-clause-back c = λ header payload is.
-    reading_is_one c.args.channel c.header_at-kept.result.0 header (take (5 + 2 * c.from.result - 5) (drop 5 c.args.bytes.now)) payload c.args.bytes.now
+    reading_is_one c.args.channel c.header_at-kept.result.0 header c.payload_in.result.now payload c.args.bytes.now
     (c.header_at-kept.result.1, (c.trailer_at-trailer.result, returns-clause-found c)) is
