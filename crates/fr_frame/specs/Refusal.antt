@@ -68,5 +68,6 @@ IsFirstRefusal header payload room (Room needed given) = IsTooNarrow header payl
 -- so many bytes at the start are the frame now, and the rest is as it was
 pub record IsEncoded (channel : Channel) (header : Header) (payload before now : List ℕ) (count : ℕ) : Type 0 where
   pub counted : count ≡ 8 + length payload
+  pub within : count ≤ length before
   pub frame : IsFrame channel header payload (take count now)
   pub rest : drop count now ≡ drop count before

@@ -1,3 +1,5 @@
+ghost use Rattle.std.specs.Prelude.{IsTrue};
+
 use super::*;
 use fr_base::Channel;
 
@@ -76,6 +78,19 @@ fn faults_are_the_first(rt: HostRuntime) {
     }
 }
 
+// What is written is read back: proved for every frame, and run for one.
+fn is_read_back(channel: Channel, header: &Header, payload: &[u8], out: &mut [u8]) -> bool
+    ensures { IsTrue result }
+{
+    match encode(channel, header, payload, out) {
+        Ok(count) => match decode(channel, &out[..count]) {
+            Ok(frame) => frame.header == *header && frame.payload == payload,
+            Err(_) => false,
+        },
+        Err(_) => true,
+    }
+}
+
 #[test]
 fn the_longest_frame_is_written_and_read_back(rt: HostRuntime) {
     let payload = [0; 254];
@@ -96,4 +111,5 @@ fn the_longest_frame_is_written_and_read_back(rt: HostRuntime) {
     assert!(rt;
         matches!(&read, Ok(frame) if frame.header == HEADER && frame.payload == payload.as_slice())
     );
+    assert!(rt; is_read_back(Channel::B, &HEADER, &payload, &mut out));
 }
