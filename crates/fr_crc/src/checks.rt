@@ -4,19 +4,22 @@ ghost use Rattle.fr_crc.specs.Crc.{frame_start, IsHeaderCrc, IsFrameCrc};
 use crate::register::{Generator, after_bit, after_bits, after_bytes};
 use fr_base::Channel;
 
-// x^11 + x^9 + x^8 + x^7 + x^2 + 1
+// The generator of the header CRC, x^11 + x^9 + x^8 + x^7 + x^2 + 1.
 pub(crate) const HEADER: Generator = Generator {
     width: 11,
     terms: 0x385,
 };
 
+// The start value of the header CRC, on both channels.
 pub(crate) const HEADER_START: u32 = 0x01A;
 
+// The terms of the frame CRC's generator below x^24.
 const FRAME: Generator = Generator {
     width: 24,
     terms: 0x5D6DCB,
 };
 
+// The start value of the frame CRC.
 fn start_on(channel: Channel) -> u32
     ensures { result ≡ frame_start channel }
 {

@@ -4,22 +4,29 @@ ghost use Rattle.fr_crc.specs.Crc.{IsCrc, IsHeaderCrc, IsFrameCrc};
 
 /// A law: a message has a remainder at each generator and start value of its width.
 pub fn a_remainder()
-    ensures { (generator start message : List Bool) → 0 < length generator → length start ≡ length generator → (remainder : List Bool) × IsCrc generator start message remainder }
+    ensures { (generator start message : List Bool) → 0 < length generator →
+        length start ≡ length generator →
+        (remainder : List Bool) × IsCrc generator start message remainder }
 {}
 
 /// A law: it has no other.
 pub fn one_remainder()
-    ensures { (generator start message first second : List Bool) → IsCrc generator start message first → IsCrc generator start message second → first ≡ second }
+    ensures { (generator start message first second : List Bool) →
+        IsCrc generator start message first → IsCrc generator start message second →
+        first ≡ second }
 {}
 
 /// A law: the fields of a header have a header CRC.
 pub fn a_header_crc()
-    ensures { (sync startup : Bool) (id words : ℕ) → (crc : ℕ) × IsHeaderCrc sync startup id words crc }
+    ensures { (sync startup : Bool) (id words : ℕ) →
+        (crc : ℕ) × IsHeaderCrc sync startup id words crc }
 {}
 
 /// A law: they have no other.
 pub fn one_header_crc()
-    ensures { (sync startup : Bool) (id words first second : ℕ) → IsHeaderCrc sync startup id words first → IsHeaderCrc sync startup id words second → first ≡ second }
+    ensures { (sync startup : Bool) (id words first second : ℕ) →
+        IsHeaderCrc sync startup id words first → IsHeaderCrc sync startup id words second →
+        first ≡ second }
 {}
 
 /// A law: bytes have a frame CRC on each channel.
@@ -29,5 +36,6 @@ pub fn a_frame_crc()
 
 /// A law: they have no other.
 pub fn one_frame_crc()
-    ensures { (channel : Channel) (body : List ℕ) (first second : ℕ) → IsFrameCrc channel body first → IsFrameCrc channel body second → first ≡ second }
+    ensures { (channel : Channel) (body : List ℕ) (first second : ℕ) →
+        IsFrameCrc channel body first → IsFrameCrc channel body second → first ≡ second }
 {}

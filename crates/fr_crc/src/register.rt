@@ -16,7 +16,8 @@ pub(crate) struct Generator {
 pub(crate) fn after_bit(generator: Generator, register: u32, bit: bool) -> u32
     requires { register < 2 ^ generator.width }
     ensures fits { result < 2 ^ generator.width }
-    ensures next { bits generator.width result ≡ stepped (bits generator.width generator.terms) (bits generator.width register) bit }
+    ensures next { bits generator.width result ≡
+        stepped (bits generator.width generator.terms) (bits generator.width register) bit }
 {
     let top = (register >> (generator.width - 1)) & 1 == 1;
     let shifted = (register << 1) & ((1 << generator.width) - 1);
@@ -32,7 +33,9 @@ pub(crate) fn after_bits(generator: Generator, mut register: u32, count: u32, nu
     requires register { register < 2 ^ generator.width }
     requires count { count ≤ 32 }
     ensures fits { result < 2 ^ generator.width }
-    ensures after { bits generator.width result ≡ after (bits generator.width generator.terms) (bits generator.width register) (bits count number) }
+    ensures after { bits generator.width result ≡
+        after (bits generator.width generator.terms) (bits generator.width register)
+        (bits count number) }
 {
     for place in (0..count).rev() {
         register = after_bit(generator, register, (number >> place) & 1 == 1);
@@ -44,7 +47,9 @@ pub(crate) fn after_bits(generator: Generator, mut register: u32, count: u32, nu
 pub(crate) fn after_bytes(generator: Generator, mut register: u32, bytes: &[u8]) -> u32
     requires { register < 2 ^ generator.width }
     ensures fits { result < 2 ^ generator.width }
-    ensures after { bits generator.width result ≡ after (bits generator.width generator.terms) (bits generator.width register) (message_of bytes.now) }
+    ensures after { bits generator.width result ≡
+        after (bits generator.width generator.terms) (bits generator.width register)
+        (message_of bytes.now) }
 {
     for byte in bytes {
         register = after_bits(generator, register, 8, u32::from(*byte));

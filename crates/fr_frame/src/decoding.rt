@@ -35,13 +35,16 @@ fn payload_in(bytes: &[u8], end: usize) -> &[u8]
 /// too is asked of received frames here, while the standard asks it of senders.
 pub fn decode(channel: Channel, bytes: &[u8]) -> Result<Frame<'_>, FrameFault>
     // The frame is that of the bytes, with both its CRCs.
-    ensures found { IfOk result (λ f. IsFrameWith channel f.header f.payload.now f.header_crc f.frame_crc bytes.now) }
+    ensures found { IfOk result (λ f.
+        IsFrameWith channel f.header f.payload.now f.header_crc f.frame_crc bytes.now) }
     // The payload is the bytes' own part behind the header.
     ensures part { IfOk result (λ f. IsPartAt f.payload bytes.entry 5) }
     // Only what is no frame is refused.
     ensures only { OnErr result (IsNoFrame channel bytes.now) }
     // What is a frame is read as that frame.
-    ensures back { (header : Header) (payload : List ℕ) → IsFrame channel header payload bytes.now → IsOkAnd result (λ f. (f.header ≡ header) × (f.payload.now ≡ payload)) }
+    ensures back { (header : Header) (payload : List ℕ) →
+        IsFrame channel header payload bytes.now →
+        IsOkAnd result (λ f. (f.header ≡ header) × (f.payload.now ≡ payload)) }
     // The fault is the first one.
     ensures fault { IfErr result (IsFirstFault channel bytes.now) }
 {

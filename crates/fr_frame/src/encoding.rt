@@ -8,7 +8,8 @@ use fr_crc::{frame_crc, header_crc};
 
 // The first reason not to write this header with so many bytes of payload into so many bytes.
 fn refusal(header: &Header, given: usize, room: usize) -> Option<EncodeFault>
-    ensures { MatchOption result (IsAccepted header.now given room) (IsFirstRefusal header.now given room) }
+    ensures { MatchOption result (IsAccepted header.now given room)
+        (IsFirstRefusal header.now given room) }
 {
     let Header {
         sync,
@@ -39,6 +40,7 @@ fn refusal(header: &Header, given: usize, room: usize) -> Option<EncodeFault>
     None
 }
 
+// Writes the piece over the bytes from `at` on.
 fn put_at(out: &mut [u8], at: usize, piece: &[u8])
     requires { at + length piece.now ≤ length out.old }
     ensures written { take (at + length piece.now) out.new ≡ take at out.old ++ piece.now }
@@ -47,6 +49,7 @@ fn put_at(out: &mut [u8], at: usize, piece: &[u8])
     out[at..at + piece.len()].copy_from_slice(piece);
 }
 
+// Writes a frame that nothing stands against, and answers how many bytes it has.
 fn write(channel: Channel, header: &Header, payload: &[u8], out: &mut [u8]) -> usize
     requires { IsAccepted header.now (length payload.now) (length out.old) }
     ensures { IsEncoded channel header.now payload.now out.old out.new result }

@@ -46,6 +46,7 @@ pub(crate) fn header_at(front: &[u8]) -> (Header, u16)
     (header, kept)
 }
 
+// An indicator as a number.
 fn number_of(set: bool) -> u8
     ensures value { result ≡ bit set }
     ensures small { result ≤ 1 }
@@ -55,7 +56,8 @@ fn number_of(set: bool) -> u8
 
 // The five indicators, at the top of a byte.
 fn indicators(header: &Header) -> u8
-    ensures value { result ≡ 128 * bit header.now.reserved + 64 * bit header.now.preamble + 32 * bit header.now.null_bit + 16 * bit header.now.sync + 8 * bit header.now.startup }
+    ensures value { result ≡ 128 * bit header.now.reserved + 64 * bit header.now.preamble +
+        32 * bit header.now.null_bit + 16 * bit header.now.sync + 8 * bit header.now.startup }
     ensures small { result ≤ 248 }
 {
     let first = 128 * number_of(header.reserved) + 64 * number_of(header.preamble);

@@ -9,40 +9,52 @@ ghost use Rattle.fr_frame.specs.Fault.{IsFirstFault};
 
 /// A law: on one channel equal headers and payloads have equal bytes.
 pub fn one_spelling()
-    ensures { (channel : Channel) (header : Header) (payload first second : List ℕ) → IsFrame channel header payload first → IsFrame channel header payload second → first ≡ second }
+    ensures { (channel : Channel) (header : Header) (payload first second : List ℕ) →
+        IsFrame channel header payload first → IsFrame channel header payload second →
+        first ≡ second }
 {}
 
 /// A law: on one channel equal bytes have equal headers and payloads.
 pub fn one_reading()
-    ensures { (channel : Channel) (header other : Header) (payload rest bytes : List ℕ) → IsFrame channel header payload bytes → IsFrame channel other rest bytes → (header ≡ other) × (payload ≡ rest) }
+    ensures { (channel : Channel) (header other : Header) (payload rest bytes : List ℕ) →
+        IsFrame channel header payload bytes → IsFrame channel other rest bytes →
+        (header ≡ other) × (payload ≡ rest) }
 {}
 
 /// A law: a frame has as many bytes as its header states, 8 to 262.
 pub fn frame_length()
-    ensures { (channel : Channel) (header : Header) (payload bytes : List ℕ) → IsFrame channel header payload bytes → (length bytes ≡ 8 + 2 * header.words) × (length bytes ≤ 262) }
+    ensures { (channel : Channel) (header : Header) (payload bytes : List ℕ) →
+        IsFrame channel header payload bytes →
+        (length bytes ≡ 8 + 2 * header.words) × (length bytes ≤ 262) }
 {}
 
 /// A law: bytes that have a first fault are no frame.
 pub fn a_fault_is_no_frame()
-    ensures { (channel : Channel) (bytes : List ℕ) (fault : FrameFault) → IsFirstFault channel bytes fault → IsNoFrame channel bytes }
+    ensures { (channel : Channel) (bytes : List ℕ) (fault : FrameFault) →
+        IsFirstFault channel bytes fault → IsNoFrame channel bytes }
 {}
 
 /// A law: bytes that are no frame have a first fault.
 pub fn no_frame_has_a_fault()
-    ensures { (channel : Channel) (bytes : List ℕ) → All (λ b. b < 2 ^ 8) bytes → IsNoFrame channel bytes → (fault : FrameFault) × IsFirstFault channel bytes fault }
+    ensures { (channel : Channel) (bytes : List ℕ) → All (λ b. b < 2 ^ 8) bytes →
+        IsNoFrame channel bytes → (fault : FrameFault) × IsFirstFault channel bytes fault }
 {}
 
 /// A law: they have no other first fault.
 pub fn one_first_fault()
-    ensures { (channel : Channel) (bytes : List ℕ) (first second : FrameFault) → IsFirstFault channel bytes first → IsFirstFault channel bytes second → first ≡ second }
+    ensures { (channel : Channel) (bytes : List ℕ) (first second : FrameFault) →
+        IsFirstFault channel bytes first → IsFirstFault channel bytes second → first ≡ second }
 {}
 
 /// A law: what has a reason not to be written is not accepted.
 pub fn a_refusal_is_not_accepted()
-    ensures { (header : Header) (payload room : ℕ) (fault : EncodeFault) → IsFirstRefusal header payload room fault → IsAccepted header payload room → ⊥ }
+    ensures { (header : Header) (payload room : ℕ) (fault : EncodeFault) →
+        IsFirstRefusal header payload room fault → IsAccepted header payload room → ⊥ }
 {}
 
 /// A law: it has no other first reason.
 pub fn one_first_refusal()
-    ensures { (header : Header) (payload room : ℕ) (first second : EncodeFault) → IsFirstRefusal header payload room first → IsFirstRefusal header payload room second → first ≡ second }
+    ensures { (header : Header) (payload room : ℕ) (first second : EncodeFault) →
+        IsFirstRefusal header payload room first → IsFirstRefusal header payload room second →
+        first ≡ second }
 {}
