@@ -3,3 +3,4 @@ pub mod Line
 pub mod MemoryShelf
 pub mod MemorySink
 pub mod SureShelf
+pub mod Number

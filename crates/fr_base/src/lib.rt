@@ -10,6 +10,8 @@ mod memory_shelf;
 mod memory_sink;
 mod shelf;
 mod sink;
+mod numbers;
+mod reason;
 mod state;
 mod sure;
 
@@ -21,6 +23,8 @@ pub use memory_shelf::MemoryShelf;
 pub use memory_sink::MemorySink;
 pub use shelf::{LoadFault, MAX_FILE, Shelf};
 pub use sink::{PutFault, Sink};
+pub use numbers::{NumberFault, number};
+pub use reason::Reason;
 pub use state::{Outcome, State};
 pub use sure::{SureShelf, SureSink};
 
