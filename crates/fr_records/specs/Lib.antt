@@ -1,0 +1,5 @@
+pub mod Records
+pub mod Reader
+pub mod Refusal
+pub mod Fields
+pub mod Tells
