@@ -1,13 +1,12 @@
-// A library with one function.
+//! The parameter file of a cluster: its table of names, its nodes and slots, and what a file must hold
+//! to be accepted.
 #![tactic(auto)]
 
-ghost use Rattle.std.specs.Prelude.{◌≡◌};
-ghost use Rattle.fr_params.specs.Echo.{echo_of};
+mod draft;
+mod lists;
+mod names;
+mod rows;
 
-// The `ensures` clause is the contract: what `echo` returns is `echo_of` of its argument, a definition
-// in `specs/Echo.antt`, which a caller's clause can cite too.
-pub fn echo(x: usize) -> usize
-    ensures { result ≡ echo_of x }
-{
-    x
-}
+pub use lists::{NodeList, SlotList};
+pub use names::{NAMES, ParamName};
+pub use rows::{NodeSpec, SlotSpec};

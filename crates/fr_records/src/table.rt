@@ -45,7 +45,7 @@ pub fn read_all<T: Table>(alloc: Global, bytes: &[u8], table: &mut T) -> Result<
 {
     let mut records = Records::new(alloc, bytes);
     let mut row = ByteRecord::new(alloc);
-    let mut number = 0;
+    let mut number: u64 = 0;
     'rows: loop {
         let Ok(found) = records.next(&mut row) else {
             return Err(RowFault::NoMemory);

@@ -1,0 +1,124 @@
+ghost use Rattle.std.specs.Prelude.{◌≡◌, ◌++◌, ◌∷◌, [], ℕ, List, Ok, None, ◌&&◌, ◌≤◌, nat_lt};
+ghost use Rattle.csv.specs.Records.{fields_of};
+ghost use Rattle.fr_records.specs.Records.{Record};
+ghost use Rattle.fr_params.specs.Rows.{InRange, IsProperNode, IsProperSlot, row_of};
+ghost use Rattle.fr_params.specs.Reasons.{is_keyless_starter, is_repetition, reason_after, row_reason};
+ghost use Rattle.fr_params.specs.Draft.{IsDraftOf};
+ghost use Rattle.fr_params.specs.declared.rows.Row.TheVariants as said;
+
+use crate::names::ParamName;
+use crate::rows::{NodeSpec, Row, SlotSpec, read_row};
+use csv::ByteRecord;
+use fr_base::{NodeId, Reason, Slot};
+use fr_records::Table;
+use std::alloc::AllocError;
+
+/// What the records so far say: the values by the place of their name, the nodes and the slots by their
+/// number. The places 0 of the last two stay empty.
+pub(crate) struct Draft {
+    pub(crate) values: [Option<i64>; 19],
+    pub(crate) nodes: [Option<NodeSpec>; 65],
+    pub(crate) slots: [Option<SlotSpec>; 1024],
+}
+
+impl Draft {
+    pub(crate) fn new() -> Draft
+        ensures { IsDraftOf result [] }
+    {
+        Draft {
+            values: [None; 19],
+            nodes: [None; 65],
+            slots: [None; 1024],
+        }
+    }
+
+    fn take_value(&mut self, name: ParamName, value: i64) -> Option<Reason>
+        requires { InRange name value }
+        ensures why { (done : List Record) → IsDraftOf self.old done → result ≡ row_reason done (Ok (said.Param name value)) }
+        ensures adds { (done : List Record) (r : Record) → IsDraftOf self.old done → row_of r ≡ Ok (said.Param name value) → result ≡ None → IsDraftOf self.new (done ++ r ∷ []) }
+    {
+        let place = name.place();
+        if self.values[place].is_some() {
+            return Some(Reason::Repeated);
+        }
+        self.values[place] = Some(value);
+        None
+    }
+
+    fn take_node(&mut self, node: NodeSpec) -> Option<Reason>
+        requires { IsProperNode node }
+        ensures why { (done : List Record) → IsDraftOf self.old done → result ≡ row_reason done (Ok (said.Node node)) }
+        ensures adds { (done : List Record) (r : Record) → IsDraftOf self.old done → row_of r ≡ Ok (said.Node node) → result ≡ None → IsDraftOf self.new (done ++ r ∷ []) }
+    {
+        if starts_without_key(&node) {
+            return Some(Reason::Role);
+        }
+        let place = node_place(&node.id);
+        if self.nodes[place].is_some() {
+            return Some(Reason::Repeated);
+        }
+        self.nodes[place] = Some(node);
+        None
+    }
+
+    fn take_slot(&mut self, slot: SlotSpec) -> Option<Reason>
+        requires { IsProperSlot slot }
+        ensures why { (done : List Record) → IsDraftOf self.old done → result ≡ row_reason done (Ok (said.Slot slot)) }
+        ensures adds { (done : List Record) (r : Record) → IsDraftOf self.old done → row_of r ≡ Ok (said.Slot slot) → result ≡ None → IsDraftOf self.new (done ++ r ∷ []) }
+    {
+        let node = node_place(&slot.node);
+        if self.nodes[node].is_none() {
+            return Some(Reason::UnknownNode);
+        }
+        if !goes_together(slot.base, slot.repetition) {
+            return Some(Reason::Role);
+        }
+        let place = slot_place(&slot.slot);
+        if self.slots[place].is_some() {
+            return Some(Reason::Repeated);
+        }
+        self.slots[place] = Some(slot);
+        None
+    }
+}
+
+fn starts_without_key(node: &NodeSpec) -> bool
+    ensures { result ≡ is_keyless_starter node.now }
+{
+    node.coldstart && node.key.is_none()
+}
+
+fn node_place(id: &NodeId) -> usize
+    ensures value { result ≡ id.now }
+    ensures most { result ≤ 64 }
+{
+    usize::from(id.0)
+}
+
+fn slot_place(slot: &Slot) -> usize
+    ensures value { result ≡ slot.now }
+    ensures most { result ≤ 1023 }
+{
+    usize::from(slot.0)
+}
+
+fn goes_together(base: u8, repetition: u8) -> bool
+    ensures { result ≡ (is_repetition repetition && nat_lt base repetition) }
+{
+    matches!(repetition, 1 | 2 | 4 | 8 | 16 | 32 | 64) && base < repetition
+}
+
+impl Table for Draft {
+    ghost reason = { λ _. reason_after };
+
+    ghost holds = { λ draft records. IsDraftOf draft records };
+
+    fn add(&mut self, row: &ByteRecord) -> Result<Option<Reason>, AllocError> {
+        match read_row(row) {
+            Err(why) => Ok(Some(why)),
+            Ok(Row::Param(name, value)) => Ok(self.take_value(name, value)),
+            Ok(Row::Node(node)) => Ok(self.take_node(node)),
+            Ok(Row::Slot(slot)) => Ok(self.take_slot(slot)),
+        }
+    }
+}

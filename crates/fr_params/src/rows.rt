@@ -1,0 +1,161 @@
+ghost use Rattle.std.specs.Prelude.{◌≡◌, ◌<◌, ◌≤◌, ℕ, List, [], length, pos, ◌≤ℤ◌, slice_index_or, codes, IfOk, IfSome};
+ghost use Rattle.csv.specs.Records.{fields_of};
+ghost use Rattle.fr_params.specs.Names.{greatest, least};
+ghost use Rattle.fr_params.specs.Rows.{IsProperRow, IsProperNode, IsProperSlot, channels_of, key_of, kind_row, node_row, param_row, row_of, slot_row};
+
+use crate::names::ParamName;
+use csv::ByteRecord;
+use fr_base::{NodeId, NumberFault, Reason, Slot, number};
+use fr_records::{both, field, natural, reason_of};
+
+/// A node of the cluster: its number, the static slot in which it sends its sync frames, if it does, the
+/// channels that it has, and whether its sync frames are startup frames.
+#[derive(Clone, Copy, Debug, PartialEq, Eq)]
+pub struct NodeSpec {
+    pub id: NodeId,
+    pub key: Option<Slot>,
+    pub on_a: bool,
+    pub on_b: bool,
+    pub coldstart: bool,
+}
+
+/// A further static slot of a node: it sends a frame with valid payload there in the cycles whose count
+/// modulo `repetition` is `base`, and a null frame in all others.
+#[derive(Clone, Copy, Debug, PartialEq, Eq)]
+pub struct SlotSpec {
+    pub slot: Slot,
+    pub node: NodeId,
+    pub base: u8,
+    pub repetition: u8,
+}
+
+/// What a record of a parameter file says by itself.
+#[derive(Clone, Copy, Debug, PartialEq, Eq)]
+pub enum Row {
+    /// The value of a parameter.
+    Param(ParamName, i64),
+    /// A node.
+    Node(NodeSpec),
+    /// A further slot.
+    Slot(SlotSpec),
+}
+
+/// What a record says, or the least of the reasons that it shows by itself: Shape, UnknownName,
+/// NotNumber, OutOfRange, BadChannel.
+pub fn read_row(row: &ByteRecord) -> Result<Row, Reason>
+    ensures said { result ≡ row_of (fields_of row.now) }
+    ensures proper { IfOk result (λ said. IsProperRow said) }
+{
+    if row.len() != 5 {
+        return Err(Reason::Shape);
+    }
+    read_kind(
+        field(row, 0),
+        field(row, 1),
+        field(row, 2),
+        field(row, 3),
+        field(row, 4),
+    )
+}
+
+fn read_kind(
+    kind: &[u8],
+    first: &[u8],
+    second: &[u8],
+    third: &[u8],
+    fourth: &[u8],
+) -> Result<Row, Reason>
+    ensures said { result ≡ kind_row kind.now first.now second.now third.now fourth.now }
+    ensures proper { IfOk result (λ said. IsProperRow said) }
+{
+    if kind == b"param".as_slice() {
+        if !third.is_empty() || !fourth.is_empty() {
+            return Err(Reason::Shape);
+        }
+        read_param(first, second)
+    } else if kind == b"node".as_slice() {
+        read_node(first, second, third, fourth)
+    } else if kind == b"slot".as_slice() {
+        read_slot(first, second, third, fourth)
+    } else {
+        Err(Reason::UnknownName)
+    }
+}
+
+fn read_param(word: &[u8], value: &[u8]) -> Result<Row, Reason>
+    ensures said { result ≡ param_row word.now value.now }
+    ensures proper { IfOk result (λ said. IsProperRow said) }
+{
+    let Some(name) = ParamName::named(word) else {
+        return Err(Reason::UnknownName);
+    };
+    match number(value, name.least(), name.greatest()) {
+        Ok(value) => Ok(Row::Param(name, value)),
+        Err(fault) => Err(reason_of(fault)),
+    }
+}
+
+fn read_node(id: &[u8], key: &[u8], channels: &[u8], coldstart: &[u8]) -> Result<Row, Reason>
+    ensures said { result ≡ node_row id.now key.now channels.now coldstart.now }
+    ensures proper { IfOk result (λ said. IsProperRow said) }
+{
+    match both(
+        natural(id, 1, 64),
+        both(read_key(key), natural(coldstart, 0, 1)),
+    ) {
+        Err(fault) => Err(reason_of(fault)),
+        Ok((id, (key, coldstart))) => match read_channels(channels) {
+            None => Err(Reason::BadChannel),
+            Some((on_a, on_b)) => Ok(Row::Node(NodeSpec {
+                id: NodeId(id as u8),
+                key,
+                on_a,
+                on_b,
+                coldstart: coldstart == 1,
+            })),
+        },
+    }
+}
+
+fn read_key(text: &[u8]) -> Result<Option<Slot>, NumberFault>
+    ensures said { result ≡ key_of text.now }
+    ensures range { IfOk result (λ key. IfSome key (λ slot. (1 ≤ slot) × (slot ≤ 1023))) }
+{
+    if text.is_empty() {
+        return Ok(None);
+    }
+    let slot = natural(text, 1, 1023)?;
+    Ok(Some(Slot(slot as u16)))
+}
+
+fn read_channels(text: &[u8]) -> Option<(bool, bool)>
+    ensures { result ≡ channels_of text.now }
+{
+    if text == b"A".as_slice() {
+        Some((true, false))
+    } else if text == b"B".as_slice() {
+        Some((false, true))
+    } else if text == b"AB".as_slice() {
+        Some((true, true))
+    } else {
+        None
+    }
+}
+
+fn read_slot(slot: &[u8], node: &[u8], base: &[u8], repetition: &[u8]) -> Result<Row, Reason>
+    ensures said { result ≡ slot_row slot.now node.now base.now repetition.now }
+    ensures proper { IfOk result (λ said. IsProperRow said) }
+{
+    match both(
+        both(natural(slot, 1, 1023), natural(node, 1, 64)),
+        both(natural(base, 0, 63), natural(repetition, 1, 64)),
+    ) {
+        Err(fault) => Err(reason_of(fault)),
+        Ok(((slot, node), (base, repetition))) => Ok(Row::Slot(SlotSpec {
+            slot: Slot(slot as u16),
+            node: NodeId(node as u8),
+            base: base as u8,
+            repetition: repetition as u8,
+        })),
+    }
+}
