@@ -1,1 +1,5 @@
 pub mod Tables
+pub mod Listing
+pub mod Making
+pub mod Distinct
+pub mod Outcomes

@@ -15,6 +15,7 @@ use std::alloc::AllocError;
 
 /// What the records so far say: the values by the place of their name, the nodes and the slots by their
 /// number. The places 0 of the last two stay empty.
+#[derive(Drop)]
 pub(crate) struct Draft {
     pub(crate) values: [Option<i64>; 19],
     pub(crate) nodes: [Option<NodeSpec>; 65],

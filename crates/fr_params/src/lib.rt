@@ -3,10 +3,21 @@
 #![tactic(auto)]
 
 mod draft;
+mod fault;
+mod laws;
+mod limits;
 mod lists;
 mod names;
+mod params;
+mod reading;
 mod rows;
+#[cfg(test)]
+mod tests;
 
+pub use fault::ParamFault;
+pub use laws::{no_difference_is_cut, one_answer};
 pub use lists::{NodeList, SlotList};
 pub use names::{NAMES, ParamName};
+pub use params::Params;
+pub use reading::read;
 pub use rows::{NodeSpec, SlotSpec};

@@ -1,0 +1,203 @@
+ghost use Rattle.std.specs.Prelude.{◌≡◌, ◌≤◌, ◌+◌, ◌*◌, ◌==◌, ◌&&◌, nat_lt, count_by};
+ghost use Rattle.std.specs.Option.{option_copied};
+ghost use Rattle.std.specs.List.{list_any};
+ghost use Rattle.fr_params.specs.Names.{greatest, least};
+ghost use Rattle.fr_params.specs.Values.{amount, figure};
+ghost use Rattle.fr_params.specs.Constraints.{key_slots};
+ghost use Rattle.fr_params.specs.Questions.{compensation_of, has_channel, key_index_of, node_of, widest_compensation_of};
+ghost use Rattle.fr_params.specs.declared.names.ParamName.TheVariants as name;
+
+use crate::lists::{NodeList, SlotList};
+use crate::names::ParamName;
+use crate::rows::NodeSpec;
+use fr_base::{Channel, NodeId, Slot};
+use std::marker::Model;
+
+/// The parameters of a cluster, as an accepted file has them: each number lies in its range, and the
+/// numbers, nodes and slots meet the eight constraints.
+#[derive(Drop)]
+pub struct Params {
+    /// Macroticks per cycle.
+    pub macros: i64,
+    /// Microticks per cycle before correction.
+    pub micros: i64,
+    /// Static slots per cycle.
+    pub static_slots: i64,
+    /// Macroticks per static slot.
+    pub slot_macros: i64,
+    /// Macroticks from the start of a static slot to its action point.
+    pub action_offset: i64,
+    /// Macroticks of the rest of the cycle behind the static slots.
+    pub idle_macros: i64,
+    /// Two-byte words of payload per static frame.
+    pub words: i64,
+    /// The macrotick at which the offset correction starts.
+    pub correction: i64,
+    /// Double cycles without correction until a node is passive.
+    pub max_passive: i64,
+    /// Double cycles without correction until a node may halt.
+    pub max_fatal: i64,
+    /// Whether a node may halt, 0 or 1.
+    pub halt_allowed: i64,
+    /// Good double cycles until a passive node is active; 0: never.
+    pub to_active: i64,
+    /// Microticks by which the rate term is damped.
+    pub damping: i64,
+    /// Limit of the offset term in microticks.
+    pub offset_limit: i64,
+    /// Limit of the rate term in microticks.
+    pub rate_limit: i64,
+    /// Microticks that are taken off each measured arrival.
+    pub compensation: i64,
+    /// Greatest distance of a microtick's length from nominal, in ticks.
+    pub rate_bound: i64,
+    /// Greatest change of that length from one cycle to the next, in ticks.
+    pub change_bound: i64,
+    /// Greatest distance of a delay from the compensation, in ticks.
+    pub delay_error: i64,
+    /// The nodes, in ascending order of id.
+    pub nodes: NodeList,
+    /// The further slots, in ascending order of slot.
+    pub slots: SlotList,
+}
+
+impl Model for Params {
+    ghost use Rattle.fr_params.specs.Values.{Values};
+
+    ghost Value = { Values };
+
+    ghost use Rattle.fr_params.specs.View.{values_of};
+    ghost use Rattle.fr_params.specs.Sane.{IsSane};
+
+    ghost view = { values_of };
+
+    ghost invariant = { λ a. IsSane (values_of a) };
+}
+
+impl Params {
+    /// The number of a name of the table.
+    pub fn value(&self, name: ParamName) -> i64
+        ensures { result ≡ figure self.now name }
+    {
+        match name {
+            ParamName::gMacroPerCycle => self.macros,
+            ParamName::pMicroPerCycle => self.micros,
+            ParamName::gNumberOfStaticSlots => self.static_slots,
+            ParamName::gdStaticSlot => self.slot_macros,
+            ParamName::gdActionPointOffset => self.action_offset,
+            ParamName::gdNIT => self.idle_macros,
+            ParamName::gPayloadLengthStatic => self.words,
+            ParamName::gOffsetCorrectionStart => self.correction,
+            ParamName::gMaxWithoutClockCorrectionPassive => self.max_passive,
+            ParamName::gMaxWithoutClockCorrectionFatal => self.max_fatal,
+            ParamName::pAllowHaltDueToClock => self.halt_allowed,
+            ParamName::pAllowPassiveToActive => self.to_active,
+            ParamName::pClusterDriftDamping => self.damping,
+            ParamName::pOffsetCorrectionOut => self.offset_limit,
+            ParamName::pRateCorrectionOut => self.rate_limit,
+            ParamName::pDelayCompensation => self.compensation,
+            ParamName::xRateBound => self.rate_bound,
+            ParamName::xChangeBound => self.change_bound,
+            ParamName::xDelayError => self.delay_error,
+        }
+    }
+
+    /// The number of a name as a natural, with its range: what computes with the parameters stands on it.
+    pub fn natural(&self, name: ParamName) -> u64
+        ensures value { result ≡ amount self.now name }
+        ensures from { least name ≤ result }
+        ensures to { result ≤ greatest name }
+    {
+        let _nodes = &self.nodes;
+        self.value(name) as u64
+    }
+
+    /// The delay compensation of a channel in microticks: what is taken off each arrival that is measured
+    /// there.
+    pub fn compensation(&self, channel: Channel) -> i64
+        ensures { result ≡ compensation_of self.now channel }
+    {
+        match channel {
+            Channel::A => self.compensation,
+            Channel::B => self.compensation,
+        }
+    }
+
+    /// The greater of the compensations of both channels, in microticks.
+    pub fn widest_compensation(&self) -> i64
+        ensures { result ≡ widest_compensation_of self.now }
+    {
+        self.compensation(Channel::A)
+            .max(self.compensation(Channel::B))
+    }
+
+    /// The node of a number; None exactly where there is none.
+    pub fn node(&self, id: NodeId) -> Option<&NodeSpec>
+        ensures value { option_copied result ≡ node_of self.now id }
+    {
+        let wanted = id.0;
+        self.nodes
+            .as_slice()
+            .iter()
+            .find(|node| node.id.0 == wanted)
+    }
+
+    /// The place of a slot among the key slots in ascending order, from 0; None exactly where it is none.
+    pub fn key_index(&self, slot: Slot) -> Option<usize>
+        ensures { result ≡ key_index_of self.now slot }
+    {
+        let wanted = slot.0;
+        let nodes = self.nodes.as_slice();
+        if is_key_slot(nodes, wanted) {
+            Some(keys_below(nodes, wanted))
+        } else {
+            None
+        }
+    }
+
+    /// Whether both nodes are there and have the channel.
+    pub fn common(&self, a: NodeId, b: NodeId, channel: Channel) -> bool
+        ensures { result ≡ (has_channel (node_of self.now a) channel && has_channel (node_of self.now b) channel) }
+    {
+        has(self.node(a), channel) && has(self.node(b), channel)
+    }
+
+    /// How many bytes a frame of the cluster has: 5 header bytes, 3 trailer bytes and the payload.
+    pub fn frame_bytes(&self) -> usize
+        ensures value { result ≡ 8 + 2 * amount self.now name.gPayloadLengthStatic }
+        ensures most { result ≤ 262 }
+    {
+        8 + 2 * self.natural(ParamName::gPayloadLengthStatic) as usize
+    }
+}
+
+fn has(node: Option<&NodeSpec>, channel: Channel) -> bool
+    ensures { result ≡ has_channel (option_copied node.entry) channel }
+{
+    match node {
+        None => false,
+        Some(node) => match channel {
+            Channel::A => node.on_a,
+            Channel::B => node.on_b,
+        },
+    }
+}
+
+fn is_key_slot(nodes: &[NodeSpec], wanted: u16) -> bool
+    ensures { result ≡ list_any (λ key. key == wanted) (key_slots nodes.now) }
+{
+    nodes
+        .iter()
+        .filter_map(|node| node.key)
+        .any(|key| key.0 == wanted)
+}
+
+fn keys_below(nodes: &[NodeSpec], wanted: u16) -> usize
+    ensures { result ≡ count_by (λ key. nat_lt key wanted) (key_slots nodes.now) }
+{
+    nodes
+        .iter()
+        .filter_map(|node| node.key)
+        .filter(|key| key.0 < wanted)
+        .count()
+}

@@ -1,0 +1,296 @@
+use crate::{NodeList, ParamFault, ParamName, SlotList, read};
+use fr_base::{Channel, NodeId, Reason, Slot};
+use std::alloc::{AllocError, Global};
+
+/// A cluster of two nodes with a cycle of 5 ms at a microtick of 25 ns.
+const REFERENCE: [&[u8]; 21] = [
+    b"param,gMacroPerCycle,5000,,",
+    b"param,pMicroPerCycle,200000,,",
+    b"param,gNumberOfStaticSlots,140,,",
+    b"param,gdStaticSlot,30,,",
+    b"param,gdActionPointOffset,7,,",
+    b"param,gdNIT,800,,",
+    b"param,gPayloadLengthStatic,0,,",
+    b"param,gOffsetCorrectionStart,4900,,",
+    b"param,gMaxWithoutClockCorrectionPassive,2,,",
+    b"param,gMaxWithoutClockCorrectionFatal,4,,",
+    b"param,pAllowHaltDueToClock,1,,",
+    b"param,pAllowPassiveToActive,2,,",
+    b"param,pClusterDriftDamping,4,,",
+    b"param,pOffsetCorrectionOut,254,,",
+    b"param,pRateCorrectionOut,81,,",
+    b"param,pDelayCompensation,0,,",
+    b"param,xRateBound,200,,",
+    b"param,xChangeBound,0,,",
+    b"param,xDelayError,500000,,",
+    b"node,1,1,A,1",
+    b"node,2,2,A,1",
+];
+
+/// The reference file with its lines `first` to `last`, counted from 1, replaced by `text`, and then `tail`.
+fn edited(
+    alloc: Global,
+    first: usize,
+    last: usize,
+    text: &[u8],
+    tail: &[u8],
+) -> Result<Vec<u8>, AllocError> {
+    let mut bytes = Vec::new(alloc);
+    for (place, line) in REFERENCE.iter().enumerate() {
+        if place + 1 == first {
+            bytes.extend_from_slice(text)?;
+            bytes.push(b'\n')?;
+        } else if place + 1 < first || last < place + 1 {
+            bytes.extend_from_slice(line)?;
+            bytes.push(b'\n')?;
+        }
+    }
+    bytes.extend_from_slice(tail)?;
+    Ok(bytes)
+}
+
+fn fault_of(alloc: Global, bytes: &[u8]) -> Option<ParamFault> {
+    match read(alloc, bytes) {
+        Ok(_) => None,
+        Err(fault) => Some(fault),
+    }
+}
+
+fn row(number: u64, reason: Reason) -> ParamFault {
+    ParamFault::Row { number, reason }
+}
+
+#[test]
+fn refuses_in_order(rt: HostRuntime) -> Result<(), AllocError> {
+    let rows: [(usize, usize, &[u8], &[u8], Option<ParamFault>); 20] = [
+        (0, 0, b"", b"", None),
+        (21, 21, b"node,2,,A,1", b"", Some(row(21, Reason::Role))),
+        (
+            0,
+            0,
+            b"",
+            b"slot,5,9,0,2\n",
+            Some(row(22, Reason::UnknownNode)),
+        ),
+        (0, 0, b"", b"slot,5,1,2,2\n", Some(row(22, Reason::Role))),
+        (
+            0,
+            0,
+            b"",
+            b"slot,2,1,0,2\n",
+            Some(ParamFault::Constraint(8)),
+        ),
+        (
+            1,
+            1,
+            b"param,gMacroPerCycle,5000,,\nparam,gMacroPerCycle,5000,,",
+            b"",
+            Some(row(2, Reason::Repeated)),
+        ),
+        (
+            6,
+            6,
+            b"param,gdNIT,801,,",
+            b"",
+            Some(ParamFault::Constraint(1)),
+        ),
+        (
+            5,
+            5,
+            b"param,gdActionPointOffset,30,,",
+            b"",
+            Some(ParamFault::Constraint(2)),
+        ),
+        (
+            8,
+            8,
+            b"param,gOffsetCorrectionStart,4200,,",
+            b"",
+            Some(ParamFault::Constraint(3)),
+        ),
+        (
+            8,
+            8,
+            b"param,gOffsetCorrectionStart,5000,,",
+            b"",
+            Some(ParamFault::Constraint(3)),
+        ),
+        (
+            2,
+            2,
+            b"param,pMicroPerCycle,17830,,",
+            b"",
+            Some(ParamFault::Constraint(4)),
+        ),
+        (2, 2, b"param,pMicroPerCycle,17831,,", b"", None),
+        (
+            9,
+            9,
+            b"param,gMaxWithoutClockCorrectionPassive,5,,",
+            b"",
+            Some(ParamFault::Constraint(5)),
+        ),
+        (20, 21, b"node,2,,A,0", b"", Some(ParamFault::Constraint(6))),
+        (
+            21,
+            21,
+            b"node,2,1,A,1",
+            b"",
+            Some(ParamFault::Constraint(7)),
+        ),
+        (
+            21,
+            21,
+            b"node,2,141,A,1",
+            b"",
+            Some(ParamFault::Constraint(7)),
+        ),
+        (
+            0,
+            0,
+            b"",
+            b"slot,141,1,0,2\n",
+            Some(ParamFault::Constraint(8)),
+        ),
+        (
+            2,
+            2,
+            b"",
+            b"",
+            Some(ParamFault::Missing(ParamName::pMicroPerCycle)),
+        ),
+        (
+            1,
+            21,
+            b"",
+            b"",
+            Some(ParamFault::Missing(ParamName::gMacroPerCycle)),
+        ),
+        (
+            3,
+            3,
+            b"param,gNumberOfStaticSlots,x,,",
+            b"slot,5,9,0,2\n",
+            Some(row(3, Reason::NotNumber)),
+        ),
+    ];
+    for (first, last, text, tail, want) in rows {
+        let bytes = edited(rt.alloc(), first, last, text, tail)?;
+        assert_eq!(rt; fault_of(rt.alloc(), &bytes), want, "at {text:?} {tail:?}");
+    }
+    Ok(())
+}
+
+#[test]
+fn finds_the_least_reason(rt: HostRuntime) -> Result<(), AllocError> {
+    let rows: [(u64, &[u8], Option<Reason>); 34] = [
+        (6, b"param,gdNIT,800,", Some(Reason::Shape)),
+        (6, b"param,gdNIT,800,,,", Some(Reason::Shape)),
+        (6, b"param,gdNIT,800,x,", Some(Reason::Shape)),
+        (6, b"param,gdNEAT,800,,x", Some(Reason::Shape)),
+        (6, b"\"\"", Some(Reason::Shape)),
+        (6, b"\"param\",\"gdNIT\",\"800\",,\"\"", None),
+        (6, b"param,gdNIT,\"800,,", Some(Reason::Shape)),
+        (6, b" param,gdNIT,800,,", Some(Reason::UnknownName)),
+        (6, b"param, gdNIT,800,,", Some(Reason::UnknownName)),
+        (6, b"version,2,,,", Some(Reason::UnknownName)),
+        (6, b"param,gdNIT, 800,,", Some(Reason::NotNumber)),
+        (6, b"param,gdNIT,800,,\r", None),
+        (1, b"\xEF\xBB\xBFparam,gMacroPerCycle,5000,,", None),
+        (
+            6,
+            b"\xEF\xBB\xBFparam,gdNIT,800,,",
+            Some(Reason::UnknownName),
+        ),
+        (6, b"param,gdNIT,\xFF,,", Some(Reason::NotNumber)),
+        (6, b"param,gdNIT,000000000000000800,,", None),
+        (
+            6,
+            b"param,gdNIT,0000000000000000800,,",
+            Some(Reason::NotNumber),
+        ),
+        (16, b"param,pDelayCompensation,-0,,", None),
+        (16, b"param,pDelayCompensation,-,,", Some(Reason::NotNumber)),
+        (
+            16,
+            b"param,pDelayCompensation,+1,,",
+            Some(Reason::NotNumber),
+        ),
+        (16, b"param,pDelayCompensation,,,", Some(Reason::NotNumber)),
+        (
+            16,
+            b"param,pDelayCompensation,-1,,",
+            Some(Reason::OutOfRange),
+        ),
+        (
+            16,
+            b"param,pDelayCompensation,201,,",
+            Some(Reason::OutOfRange),
+        ),
+        (21, b"node,2,2,C,1", Some(Reason::BadChannel)),
+        (21, b"node,65,2,C,1", Some(Reason::OutOfRange)),
+        (21, b"node,65,x,C,1", Some(Reason::NotNumber)),
+        (21, b"node,2,2,A,2", Some(Reason::OutOfRange)),
+        (21, b"node,2,,C,1", Some(Reason::BadChannel)),
+        (21, b"node,1,2,A,1", Some(Reason::Repeated)),
+        (21, b"node,1,,A,1", Some(Reason::Role)),
+        (21, b"slot,5,1,0,3", Some(Reason::Role)),
+        (21, b"slot,5,9,0,3", Some(Reason::UnknownNode)),
+        (21, b"slot,5,9,64,3", Some(Reason::OutOfRange)),
+        (21, b"slot,5,1,63,64", None),
+    ];
+    for (number, text, why) in rows {
+        let bytes = edited(rt.alloc(), number as usize, number as usize, text, b"")?;
+        let want = why.map(|reason| row(number, reason));
+        assert_eq!(rt; fault_of(rt.alloc(), &bytes), want, "at {text:?}");
+    }
+    Ok(())
+}
+
+#[test]
+fn answers_what_the_file_says(rt: HostRuntime) -> Result<(), AllocError> {
+    let tail = b"node,9,9,AB,0\nnode,3,,B,0\nslot,50,3,1,2\nslot,40,9,0,1";
+    let bytes = edited(rt.alloc(), 7, 7, b"param,gPayloadLengthStatic,8,,", tail)?;
+    let Ok(params) = read(rt.alloc(), &bytes) else {
+        assert!(rt; false, "the file is refused");
+        return Ok(());
+    };
+    assert_eq!(rt; params.macros, 5000);
+    assert_eq!(rt; params.delay_error, 500_000);
+    assert_eq!(rt; params.value(ParamName::pMicroPerCycle), 200_000);
+    assert_eq!(rt; params.natural(ParamName::pOffsetCorrectionOut), 254);
+    assert_eq!(rt; params.compensation(Channel::B), 0);
+    assert_eq!(rt; params.widest_compensation(), 0);
+    assert_eq!(rt; params.frame_bytes(), 24);
+    for (place, want) in [1, 2, 3, 9].into_iter().enumerate() {
+        assert_eq!(rt; id_at(&params.nodes, place), want);
+    }
+    assert_eq!(rt; (params.nodes.len(), params.slots.len()), (4, 2));
+    assert_eq!(rt;
+        (slot_at(&params.slots, 0), slot_at(&params.slots, 1)),
+        (40, 50)
+    );
+    assert!(rt; params.nodes.get(4).is_none() && params.slots.get(2).is_none());
+    for (slot, want) in [(1, Some(0)), (2, Some(1)), (3, None), (9, Some(2))] {
+        assert_eq!(rt; params.key_index(Slot(slot)), want);
+    }
+    assert!(rt; params.node(NodeId(9)).is_some() && params.node(NodeId(4)).is_none());
+    assert!(rt; params.common(NodeId(1), NodeId(9), Channel::A));
+    assert!(rt; !params.common(NodeId(1), NodeId(3), Channel::A));
+    assert!(rt; !params.common(NodeId(1), NodeId(9), Channel::B));
+    Ok(())
+}
+
+fn id_at(nodes: &NodeList, place: usize) -> u8 {
+    match nodes.get(place) {
+        Some(node) => node.id.0,
+        None => 0,
+    }
+}
+
+fn slot_at(slots: &SlotList, place: usize) -> u16 {
+    match slots.get(place) {
+        Some(slot) => slot.slot.0,
+        None => 0,
+    }
+}
