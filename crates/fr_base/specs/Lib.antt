@@ -2,5 +2,5 @@ pub mod Device
 pub mod Line
 pub mod MemoryShelf
 pub mod MemorySink
-pub mod SureShelf
 pub mod Number
+pub mod SureShelf

@@ -1,5 +1,6 @@
-//! What every crate of the cluster speaks of: channels, identifiers and states, a printed line, and the
-//! two devices, a shelf that files are loaded from and a sink that text is put into.
+//! What every crate of the cluster speaks of: channels, identifiers and states, exact numbers and the
+//! reasons for which records are refused, a printed line, and the two devices, a shelf that files are
+//! loaded from and a sink that text is put into.
 #![tactic(auto)]
 
 mod adapters;
@@ -8,10 +9,10 @@ mod ids;
 mod line;
 mod memory_shelf;
 mod memory_sink;
-mod shelf;
-mod sink;
 mod numbers;
 mod reason;
+mod shelf;
+mod sink;
 mod state;
 mod sure;
 
@@ -21,10 +22,10 @@ pub use ids::{NodeId, Slot};
 pub use line::{LINE_ROOM, Line};
 pub use memory_shelf::MemoryShelf;
 pub use memory_sink::MemorySink;
-pub use shelf::{LoadFault, MAX_FILE, Shelf};
-pub use sink::{PutFault, Sink};
 pub use numbers::{NumberFault, number};
 pub use reason::Reason;
+pub use shelf::{LoadFault, MAX_FILE, Shelf};
+pub use sink::{PutFault, Sink};
 pub use state::{Outcome, State};
 pub use sure::{SureShelf, SureSink};
 
