@@ -1,0 +1,87 @@
+-- Protocol operation control, at the end of a double cycle (sections 2.2 and 8.7).
+use Rattle.std.specs.Prelude.{◌≡◌, ℕ, ◌+◌, min, ◌&&◌, nat_lt, nat_le, if◌then◌else◌, List, [], ◌∷◌, ◌++◌, fold}
+use Rattle.fr_base.specs.declared.State.{State}
+use Rattle.fr_base.specs.declared.State.TheVariants.{Active, Passive, Halt}
+use Rattle.fr_base.specs.declared.Outcome.{Outcome}
+use Rattle.fr_base.specs.declared.Outcome.TheVariants.{Within, Missing, Exceeded}
+use Rattle.fr_poc.specs.declared.control.PocLimits.{PocLimits}
+
+-- a state, how many double cycles in a row had no correction, and how many in a row a passive node was corrected
+pub record Status : Type 0 where
+  pub state : State
+  pub bad : ℕ
+  pub good : ℕ
+
+-- operation control of one node: its limits, and how it stands
+pub record Control : Type 0 where
+  pub limits : PocLimits
+  pub status : Status
+
+-- a node begins active, with both counters at 0
+abbrev pub begun : Status
+begun = record { state = Active; bad = 0; good = 0 }
+
+-- the worse of two outcomes: Exceeded is worse than Missing, and Missing than Within
+abbrev pub worse_of : Outcome → Outcome → Outcome
+worse_of Exceeded rate = Exceeded
+worse_of Missing Exceeded = Exceeded
+worse_of Missing Missing = Missing
+worse_of Missing Within = Missing
+worse_of Within rate = rate
+
+-- a correction lay outside its limit: Halt where that is allowed, else Passive; `bad` stays
+abbrev pub exceeded_from : PocLimits → Status → Status
+exceeded_from limits status = record {
+  state = if limits.halt_allowed then Halt else Passive;
+  bad = status.bad;
+  good = 0;
+}
+
+-- the state that a node comes to by so many double cycles in a row with a correction missing
+abbrev pub state_after_bad : PocLimits → State → ℕ → State
+state_after_bad limits state bad =
+    if limits.halt_allowed && nat_le limits.fatal bad then Halt else (if nat_le limits.passive bad then Passive else state)
+
+-- a correction was missing: one more in `bad`, at most 15, and the state by the new `bad`
+abbrev pub missing_from : PocLimits → Status → Status
+missing_from limits status = record {
+  state = state_after_bad limits status.state (min (status.bad + 1) 15);
+  bad = min (status.bad + 1) 15;
+  good = 0;
+}
+
+-- a passive node that was corrected so many times in a row: active again where that is allowed and enough
+abbrev pub passive_after_good : PocLimits → ℕ → Status
+passive_after_good limits good =
+    if nat_lt 0 limits.to_active && nat_le limits.to_active good
+    then (record { state = Active; bad = 0; good = 0 })
+    else (record { state = Passive; bad = 0; good = good })
+
+-- one step, by the state before it and the worse of the two outcomes
+abbrev pub status_after : PocLimits → Status → State → Outcome → Status
+status_after limits status Halt worst = status
+status_after limits status Active Exceeded = exceeded_from limits status
+status_after limits status Passive Exceeded = exceeded_from limits status
+status_after limits status Active Missing = missing_from limits status
+status_after limits status Passive Missing = missing_from limits status
+status_after limits status Active Within = record { state = Active; bad = 0; good = 0 }
+status_after limits status Passive Within = passive_after_good limits (min (status.good + 1) 31)
+
+-- one step of operation control, by the outcomes of the offset and of the rate correction
+abbrev pub step_of : PocLimits → Status → Outcome → Outcome → Status
+step_of limits status offset rate = status_after limits status status.state (worse_of offset rate)
+
+-- operation control with the step taken
+abbrev pub stepped : Control → Outcome → Outcome → Control
+stepped control offset rate = record control { status = step_of control.limits control.status offset rate }
+
+-- how a node stands after a list of pairs of outcomes, offset and rate, the earliest first
+abbrev pub control_of : PocLimits → List (Outcome × Outcome) → Status
+control_of limits outcomes = fold (λ status pair. step_of limits status pair.0 pair.1) begun outcomes
+
+-- a node begins with no outcomes, and each further pair of outcomes is one more step
+pub record ControlStepsAlong : Type 0 where
+  pub none : (limits : PocLimits) → control_of limits [] ≡ begun
+  pub more :
+      (limits : PocLimits) (outcomes : List (Outcome × Outcome)) (offset rate : Outcome)
+      → control_of limits (outcomes ++ (offset, rate) ∷ []) ≡ step_of limits (control_of limits outcomes) offset rate

@@ -1,0 +1,7 @@
+//! Protocol operation control: which nodes send, which only listen and which have halted, by how
+//! the clock corrections of the double cycles ended.
+#![tactic(auto)]
+
+mod control;
+
+pub use control::{Poc, PocLimits, control_steps_along};
