@@ -1,0 +1,5 @@
+pub mod Counts
+pub mod Ascending
+pub mod MidpointLemmas
+pub mod ReadBack
+mod Rows

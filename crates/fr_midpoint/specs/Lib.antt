@@ -1,0 +1,2 @@
+pub mod Midpoint
+pub mod Within

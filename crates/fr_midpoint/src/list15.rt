@@ -1,0 +1,52 @@
+ghost use Rattle.std.specs.Prelude.{◌≡◌, ◌<◌, ◌≤◌, pos, [], ◌∷◌, ◌++◌, length};
+ghost use Rattle.fr_midpoint.specs.Within.{IsWithin};
+
+use std::marker::Model;
+
+/// At most 15 values in microticks, each within 2,000,000 of 0, in a fixed place.
+#[derive(Debug, Drop)]
+pub struct List15 {
+    pub(crate) values: [i32; 15],
+    pub(crate) len: usize,
+}
+
+impl Model for List15 {
+    ghost use Rattle.std.specs.Prelude.{◌≤◌, ℤ, pos, List, take, All};
+    ghost use Rattle.fr_midpoint.specs.Within.{IsWithin};
+
+    ghost Value = { List ℤ };
+
+    ghost view = { λ list. take list.len list.values };
+
+    ghost invariant = { λ list. (list.len ≤ 15) × All (IsWithin (pos 2000000)) (take list.len list.values) };
+}
+
+impl List15 {
+    /// A list with no values.
+    pub fn new() -> List15
+        ensures { result ≡ [] }
+    {
+        List15 {
+            values: [0; 15],
+            len: 0,
+        }
+    }
+
+    /// Appends a value.
+    pub fn push(&mut self, value: i32)
+        requires room { length self.old < 15 }
+        requires within { IsWithin (pos 2000000) value }
+        ensures { self.new ≡ self.old ++ value ∷ [] }
+    {
+        self.values[self.len] = value;
+        self.len += 1;
+    }
+
+    /// How many values the list has, at most 15.
+    pub fn len(&self) -> usize
+        ensures count { result ≡ length self.now }
+        ensures most { result ≤ 15 }
+    {
+        self.len
+    }
+}

@@ -1,0 +1,91 @@
+ghost use Rattle.std.specs.Prelude.{◌≡◌, ◌↔◌, ◌+ℤ◌, ◌+◌, ◌*◌, ◌<◌, ◌≤◌, pos, [], length, All, IsNone, IfSome, IsPermutation};
+ghost use Rattle.fr_midpoint.specs.Within.{IsWithin};
+ghost use Rattle.fr_midpoint.specs.Midpoint.{discarded, half_of_sum, IsMidpoint, MidpointIsUnique};
+
+use crate::list15::List15;
+
+/// The fault-tolerant midpoint (section 8.6.1): of 1 or 2 values none is discarded, of 3 to 7 the least
+/// and the greatest, of 8 to 15 the two least and the two greatest; the least and the greatest that
+/// remain are added and halved, truncated toward zero. The list is put into another order.
+pub fn midpoint(values: &mut List15) -> Option<i32>
+    ensures none { IsNone result ↔ (values.old ≡ []) }
+    ensures midpoint { IfSome result (IsMidpoint values.old) }
+    ensures within { IfSome result (IsWithin (pos 2000000)) }
+    ensures permutation { IsPermutation values.old values.new }
+{
+    let count = values.len;
+    if count == 0 {
+        return None;
+    }
+    Some(middle_of(&mut values.values[..count]))
+}
+
+/// The midpoint of 1 to 15 values, which it sorts.
+fn middle_of(values: &mut [i32]) -> i32
+    requires some { 0 < length values.old }
+    requires most { length values.old ≤ 15 }
+    requires within { All (IsWithin (pos 2000000)) values.old }
+    ensures midpoint { IsMidpoint values.old result }
+    ensures within { IsWithin (pos 2000000) result }
+    ensures permutation { IsPermutation values.old values.new }
+{
+    values.sort_unstable();
+    let count = values.len();
+    let ends = discarded_of(count);
+    half_sum(values[ends], values[count - 1 - ends])
+}
+
+/// How many values of so many are discarded at each end.
+fn discarded_of(count: usize) -> usize
+    ensures value { result ≡ discarded count }
+    ensures some_remain { 0 < count → 2 * result + 1 ≤ count }
+{
+    if count < 3 {
+        0
+    } else if count < 8 {
+        1
+    } else {
+        2
+    }
+}
+
+/// Half of the sum of two values, truncated toward zero.
+fn half_sum(low: i32, high: i32) -> i32
+    requires low { IsWithin (pos 2000000) low }
+    requires high { IsWithin (pos 2000000) high }
+    ensures value { result ≡ half_of_sum low high }
+    ensures within { IsWithin (pos 2000000) result }
+{
+    (low + high) / 2
+}
+
+/// The law that no list has two midpoints.
+pub fn midpoint_is_unique()
+    ensures { MidpointIsUnique }
+{}
+
+#[cfg(test)]
+mod tests {
+    use super::*;
+
+    #[test]
+    fn halves_what_remains(rt: HostRuntime) {
+        let empty: &[i32] = &[];
+        for (given, wanted) in [
+            (empty, None),
+            (&[5], Some(5)),
+            (&[-3, 4], Some(0)),
+            (&[-4, -3], Some(-3)),
+            (&[-9, 1, 30], Some(1)),
+            (&[-50, -40, 1, 2, 3, 4, 60, 70], Some(2)),
+        ] {
+            let mut values = List15::new();
+            for value in given {
+                assert!(rt; values.len() < 15);
+                values.push(*value);
+            }
+            assert_eq!(rt; values.len(), given.len());
+            assert_eq!(rt; midpoint(&mut values), wanted);
+        }
+    }
+}
