@@ -1,0 +1,6 @@
+//! The offset and the rate correction term of a double cycle (sections 8.6.2 to 8.6.4).
+#![tactic(auto)]
+
+mod term;
+
+pub use term::{Term, offset_term, rate_term};

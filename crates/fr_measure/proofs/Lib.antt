@@ -1,0 +1,3 @@
+mod ReadBack
+mod Rows
+pub mod Steps

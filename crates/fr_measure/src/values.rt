@@ -1,0 +1,99 @@
+ghost use Rattle.std.specs.Prelude.{◌≡◌, ◌<◌, ◌++◌, ◌-ℤ◌, pos, length, All, slice_set};
+ghost use Rattle.std.specs.Option.{ForSome, option_to_list};
+ghost use Rattle.fr_midpoint.specs.Within.{IsWithin};
+ghost use Rattle.fr_midpoint.specs.Midpoint.{half_of_sum};
+ghost use Rattle.fr_measure.specs.Values.{least_of, change_of, mean_of, own_value_or};
+
+use fr_midpoint::List15;
+
+/// Puts a deviation into a column.
+pub(crate) fn put(column: &mut [Option<i32>; 15], index: usize, value: i32)
+    requires index { index < 15 }
+    requires within { IsWithin (pos 1000000) value }
+    requires all_within { All (λ entry. ForSome entry (IsWithin (pos 1000000))) column.old }
+    ensures value { column.new ≡ slice_set column.old index (Some value) }
+    ensures all_within { All (λ entry. ForSome entry (IsWithin (pos 1000000))) column.new }
+{
+    column[index] = Some(value);
+}
+
+/// Appends a value, where there is one.
+pub(crate) fn append(values: &mut List15, value: Option<i32>)
+    requires room { length values.old < 15 }
+    requires within { ForSome value (IsWithin (pos 2000000)) }
+    ensures { values.new ≡ values.old ++ option_to_list value }
+{
+    if let Some(value) = value {
+        values.push(value);
+    }
+}
+
+/// The value at a key index: 0 at the node's own.
+pub(crate) fn own_or(own: Option<usize>, index: usize, value: Option<i32>) -> Option<i32>
+    requires within { ForSome value (IsWithin (pos 2000000)) }
+    ensures value { result ≡ own_value_or own index value }
+    ensures within { ForSome result (IsWithin (pos 2000000)) }
+{
+    if own == Some(index) { Some(0) } else { value }
+}
+
+/// The least of two deviations, either of which may be missing.
+pub(crate) fn least(a: Option<i32>, b: Option<i32>) -> Option<i32>
+    requires a_within { ForSome a (IsWithin (pos 1000000)) }
+    requires b_within { ForSome b (IsWithin (pos 1000000)) }
+    ensures value { result ≡ least_of a b }
+    ensures within { ForSome result (IsWithin (pos 1000000)) }
+{
+    match (a, b) {
+        (Some(x), Some(y)) => Some(x.min(y)),
+        (Some(x), None) => Some(x),
+        (None, b) => b,
+    }
+}
+
+/// How far the odd cycle's deviation lies above the even one's, where both are there.
+pub(crate) fn change(even: Option<i32>, odd: Option<i32>) -> Option<i32>
+    requires even_within { ForSome even (IsWithin (pos 1000000)) }
+    requires odd_within { ForSome odd (IsWithin (pos 1000000)) }
+    ensures value { result ≡ change_of even odd }
+    ensures within { ForSome result (IsWithin (pos 2000000)) }
+{
+    match (even, odd) {
+        (Some(x), Some(y)) => Some(difference(x, y)),
+        _ => None,
+    }
+}
+
+/// Of two changes half of the sum, truncated toward zero; of one, that one.
+pub(crate) fn mean(a: Option<i32>, b: Option<i32>) -> Option<i32>
+    requires a_within { ForSome a (IsWithin (pos 2000000)) }
+    requires b_within { ForSome b (IsWithin (pos 2000000)) }
+    ensures value { result ≡ mean_of a b }
+    ensures within { ForSome result (IsWithin (pos 2000000)) }
+{
+    match (a, b) {
+        (Some(x), Some(y)) => Some(half_sum(x, y)),
+        (Some(x), None) => Some(x),
+        (None, b) => b,
+    }
+}
+
+/// The later deviation less the earlier one.
+fn difference(even: i32, odd: i32) -> i32
+    requires even_within { IsWithin (pos 1000000) even }
+    requires odd_within { IsWithin (pos 1000000) odd }
+    ensures value { result ≡ odd -ℤ even }
+    ensures within { IsWithin (pos 2000000) result }
+{
+    odd - even
+}
+
+/// Half of the sum of two changes, truncated toward zero.
+fn half_sum(a: i32, b: i32) -> i32
+    requires a_within { IsWithin (pos 2000000) a }
+    requires b_within { IsWithin (pos 2000000) b }
+    ensures value { result ≡ half_of_sum a b }
+    ensures within { IsWithin (pos 2000000) result }
+{
+    (a + b) / 2
+}
