@@ -3,4 +3,4 @@
 
 mod term;
 
-pub use term::{Term, offset_term, rate_term};
+pub use term::{Term, offset_term, rate_term, terms_are_unique};

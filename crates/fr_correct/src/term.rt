@@ -1,6 +1,6 @@
 ghost use Rattle.std.specs.Prelude.{◌≡◌, ◌≢◌, ◌↔◌, ◌≤ℤ◌, ◌+ℤ◌, pos, [], IsPermutation};
 ghost use Rattle.fr_midpoint.specs.Within.{IsWithin};
-ghost use Rattle.fr_correct.specs.Terms.{damped, term_of, missing_term, IsOutside, IsOffsetTerm, IsRateTerm};
+ghost use Rattle.fr_correct.specs.Terms.{damped, term_of, missing_term, offset_term_of, rate_term_of, IsOutside, IsOffsetTerm, IsRateTerm, OffsetTermIsFound, RateTermIsFound};
 
 use fr_base::Outcome;
 use fr_midpoint::{List15, midpoint};
@@ -23,6 +23,7 @@ pub fn offset_term(limit: i32, values: &mut List15) -> Term
     requires limit_from { pos 1 ≤ℤ limit }
     requires limit_to { limit ≤ℤ pos 16000 }
     ensures term { IsOffsetTerm limit values.old result }
+    ensures value { result ≡ offset_term_of limit values.old }
     ensures missing { (result.outcome ≡ Outcome.Missing) ↔ (values.old ≡ []) }
     ensures exceeded { (result.outcome ≡ Outcome.Exceeded) ↔ IsOutside limit result.before }
     ensures within { IsWithin limit result.value }
@@ -44,6 +45,7 @@ pub fn rate_term(old: i32, damping: i32, limit: i32, values: &mut List15) -> Ter
     requires limit_from { pos 1 ≤ℤ limit }
     requires limit_to { limit ≤ℤ pos 2000 }
     ensures term { IsRateTerm old damping limit values.old result }
+    ensures value { result ≡ rate_term_of old damping limit values.old }
     ensures missing { (result.outcome ≡ Outcome.Missing) ↔ (values.old ≡ []) }
     ensures exceeded { (result.outcome ≡ Outcome.Exceeded) ↔ IsOutside limit result.before }
     ensures within { IsWithin limit result.value }
@@ -121,6 +123,12 @@ fn damp(damping: i32, x: i32) -> i32
         0
     }
 }
+
+/// The law that some values have one offset and one rate term, which are functions of them.
+pub fn terms_are_unique()
+    ensures offset { OffsetTermIsFound }
+    ensures rate { RateTermIsFound }
+{}
 
 #[cfg(test)]
 mod tests {

@@ -7,7 +7,7 @@ use Rattle.fr_base.specs.declared.Channel.{Channel}
 use Rattle.fr_base.specs.declared.Channel.TheVariants.{A, B}
 use Rattle.fr_midpoint.specs.Midpoint.{half_of_sum}
 
--- which deviation there is for a key index, in the odd or the even cycle, on a channel
+-- which deviation there is for a key index, in the odd or the even cycle, on a channel (section 8.5)
 abbrev pub LookUp : Type 0
 LookUp = ℕ → Bool → Channel → Option ℤ
 
@@ -26,7 +26,7 @@ least_of None b = b
 least_of (Some a) None = Some a
 least_of (Some a) (Some b) = Some (int_min a b)
 
--- the offset value at a key index: the least deviation of the odd cycle
+-- the offset value at a key index (section 8.6.2): the least deviation of the odd cycle
 abbrev pub offset_at : LookUp → Option ℕ → ℕ → Option ℤ
 offset_at look own index = own_value_or own index (least_of (look index true A) (look index true B))
 
@@ -46,10 +46,10 @@ mean_of None b = b
 mean_of (Some a) None = Some a
 mean_of (Some a) (Some b) = Some (half_of_sum a b)
 
--- the rate value at a key index: the mean change of its channels
+-- the rate value at a key index (section 8.6.3): the mean change of its channels
 abbrev pub rate_at : LookUp → Option ℕ → ℕ → Option ℤ
 rate_at look own index = own_value_or own index (mean_of (change_at look index A) (change_at look index B))
 
--- the values of a map from the 15 key indexes, in ascending order of index
+-- the values of a map from the 15 key indexes, in ascending order of index (sections 8.6.2 and 8.6.3)
 unfoldable pub values_of : (ℕ → Option ℤ) → List ℤ
 values_of at = filter_map at (range_with_len 0 15)

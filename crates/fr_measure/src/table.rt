@@ -89,8 +89,9 @@ impl Table {
         }
     }
 
-    /// Fills an empty list with the offset values, in ascending order of key index: the least of an
-    /// index's deviations in the odd cycle, and 0 at the node's own index (section 8.6.2).
+    /// Fills an empty list with the offset values in microticks, in ascending order of key index: the
+    /// least of an index's deviations in the odd cycle (section 8.6.2). `own` is the node's own key index,
+    /// below 15, where it has one; 0 stands there, whatever is stored.
     #[tactic(auto, unfolding(crate::specs::Values::values_of))]
     pub fn offset_values(&self, own: Option<usize>, values: &mut List15)
         requires { values.old ≡ [] }
@@ -101,9 +102,10 @@ impl Table {
         }
     }
 
-    /// Fills an empty list with the rate values, in ascending order of key index: how far an index's
-    /// deviation in the odd cycle lies above that of the even cycle on the same channel, with both
-    /// channels half of the sum toward zero, and 0 at the node's own index (section 8.6.3).
+    /// Fills an empty list with the rate values in microticks, in ascending order of key index: how far an
+    /// index's deviation in the odd cycle lies above that of the even cycle on the same channel, and with
+    /// both channels half of the sum, truncated toward zero (section 8.6.3). `own` is as in
+    /// `offset_values`.
     #[tactic(auto, unfolding(crate::specs::Values::values_of))]
     pub fn rate_values(&self, own: Option<usize>, values: &mut List15)
         requires { values.old ≡ [] }

@@ -1,6 +1,7 @@
 -- How many elements of a list pass a test, where those before or after a place do or do not.
 use Rattle.std.proofs.Common.{◌≡◌, ℕ, zero, suc, ◌+◌, ◌≤◌, ◌<◌, Bool, true, false, cond, List, [], ◌∷◌, length, get_or, ap, refl, arith, lit≤, zero-le}
-use Rattle.std.specs.List.{count_by}
+use Rattle.std.specs.Prelude.{Some}
+use Rattle.std.specs.List.{count_by, find}
 use Rattle.std.proofs.lemmas.List.Sums.{count_by-le-length, sum_by-cons, sum_by-le-sum_by}
 
 count_by-cons_no :
@@ -78,3 +79,37 @@ pub count_by-le-count_by :
     {X : Type 0} (p q : X → Bool) (xs : List X) → ((x : X) → p x ≡ true → q x ≡ true) → count_by p xs ≤ count_by q xs
 count_by-le-count_by p q xs along =
     sum_by-le-sum_by (λ x. cond (p x) 1 0) (λ x. cond (q x) 1 0) xs (λ x. cond-le-cond (p x) (q x) (along x))
+
+one_of_two : (a b c : Bool) → (a ≡ true → b ≡ false → c ≡ true) → cond a 1 0 ≤ cond b 1 0 + cond c 1 0
+one_of_two false b c other = zero-le
+one_of_two true true c other = omega arith
+one_of_two true false c other = rw (other refl refl) (lit≤ tt)
+
+-- a test that passes only where one of two others does passes at most as often as both
+pub count_by-le-both :
+    {X : Type 0} (p q r : X → Bool) (xs : List X) → ((x : X) → p x ≡ true → q x ≡ false → r x ≡ true)
+    → count_by p xs ≤ count_by q xs + count_by r xs
+count_by-le-both p q r [] other = omega arith
+count_by-le-both p q r (x ∷ xs) other =
+    omega (
+      arith,
+      sum_by-cons (λ y. cond (p y) 1 0) x xs,
+      sum_by-cons (λ y. cond (q y) 1 0) x xs,
+      sum_by-cons (λ y. cond (r y) 1 0) x xs,
+      one_of_two (p x) (q x) (r x) (other x),
+      count_by-le-both p q r xs other,
+    )
+
+find-cond :
+    {X : Type 0} (p : X → Bool) (x only : X) (xs : List X) (b : Bool) → p x ≡ b → (b ≡ true → x ≡ only)
+    → (0 < count_by p xs → find p xs ≡ Some only) → 0 < count_by p (x ∷ xs) → cond b (Some x) (find p xs) ≡ Some only
+find-cond p x only xs true is one rest some = ap Some (one refl)
+find-cond p x only xs false is one rest some = rest (omega (arith, count_by-cons_no p x xs is))
+
+-- a search finds the only element that passes, where there is one
+pub find-only :
+    {X : Type 0} (p : X → Bool) (only : X) (xs : List X) → ((x : X) → p x ≡ true → x ≡ only) → 0 < count_by p xs
+    → find p xs ≡ Some only
+find-only p only [] one some = absurd (omega arith)
+find-only p only (x ∷ xs) one some =
+    find-cond p x only xs (p x) refl (one x) (find-only p only xs one) some

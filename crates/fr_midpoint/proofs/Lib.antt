@@ -1,5 +1,6 @@
 pub mod Counts
 pub mod Ascending
 pub mod MidpointLemmas
+pub mod Found
 pub mod ReadBack
 mod Rows

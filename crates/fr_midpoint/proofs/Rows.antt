@@ -1,6 +1,6 @@
 -- The midpoint by ranks, computed on worked rows.
-use Rattle.std.proofs.Common.{pos, negsuc, [], ◌∷◌, refl, lit≤, lit<}
-use Rattle.fr_midpoint.specs.Midpoint.{IsMidpoint}
+use Rattle.std.proofs.Common.{◌≡◌, pos, negsuc, Some, [], ◌∷◌, refl, lit≤, lit<}
+use Rattle.fr_midpoint.specs.Midpoint.{IsMidpoint, midpoint_of, midpoint_by_ranks}
 
 -- of one value, that value
 one : IsMidpoint (pos 5 ∷ []) (pos 5)
@@ -52,3 +52,13 @@ eight = record {
   greatest = record { few_above = lit≤ tt; more_from = lit< tt };
   half = refl;
 }
+
+-- the same numbers from the ranks of the values
+found :
+    midpoint_of (negsuc 49 ∷ negsuc 39 ∷ pos 1 ∷ pos 2 ∷ pos 3 ∷ pos 4 ∷ pos 60 ∷ pos 70 ∷ []) ≡ Some (pos 2)
+unfolding midpoint_by_ranks
+found = refl
+
+found_below_zero : midpoint_of (negsuc 3 ∷ negsuc 2 ∷ []) ≡ Some (negsuc 2)
+unfolding midpoint_by_ranks
+found_below_zero = refl

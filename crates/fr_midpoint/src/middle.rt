@@ -1,6 +1,6 @@
 ghost use Rattle.std.specs.Prelude.{◌≡◌, ◌↔◌, ◌+ℤ◌, ◌+◌, ◌*◌, ◌<◌, ◌≤◌, pos, [], length, All, IsNone, IfSome, IsPermutation};
 ghost use Rattle.fr_midpoint.specs.Within.{IsWithin};
-ghost use Rattle.fr_midpoint.specs.Midpoint.{discarded, half_of_sum, IsMidpoint, MidpointIsUnique};
+ghost use Rattle.fr_midpoint.specs.Midpoint.{discarded, half_of_sum, midpoint_of, IsMidpoint, MidpointIsUnique, MidpointIsFound};
 
 use crate::list15::List15;
 
@@ -10,6 +10,7 @@ use crate::list15::List15;
 pub fn midpoint(values: &mut List15) -> Option<i32>
     ensures none { IsNone result ↔ (values.old ≡ []) }
     ensures midpoint { IfSome result (IsMidpoint values.old) }
+    ensures value { result ≡ midpoint_of values.old }
     ensures within { IfSome result (IsWithin (pos 2000000)) }
     ensures permutation { IsPermutation values.old values.new }
 {
@@ -59,9 +60,11 @@ fn half_sum(low: i32, high: i32) -> i32
     (low + high) / 2
 }
 
-/// The law that no list has two midpoints.
+/// The law that no list has two midpoints, and that the one it has is the number that the ranks of its
+/// values give.
 pub fn midpoint_is_unique()
-    ensures { MidpointIsUnique }
+    ensures unique { MidpointIsUnique }
+    ensures found { MidpointIsFound }
 {}
 
 #[cfg(test)]

@@ -1,4 +1,5 @@
--- Protocol operation control, at the end of a double cycle (sections 2.2 and 8.7).
+-- How a node's state follows from its clock corrections (chapter 2, protocol operation control). The exact comparisons
+-- are this profile's.
 use Rattle.std.specs.Prelude.{◌≡◌, ℕ, ◌+◌, min, ◌&&◌, nat_lt, nat_le, if◌then◌else◌, List, [], ◌∷◌, ◌++◌, fold}
 use Rattle.fr_base.specs.declared.State.{State}
 use Rattle.fr_base.specs.declared.State.TheVariants.{Active, Passive, Halt}
@@ -6,7 +7,8 @@ use Rattle.fr_base.specs.declared.Outcome.{Outcome}
 use Rattle.fr_base.specs.declared.Outcome.TheVariants.{Within, Missing, Exceeded}
 use Rattle.fr_poc.specs.declared.control.PocLimits.{PocLimits}
 
--- a state, how many double cycles in a row had no correction, and how many in a row a passive node was corrected
+-- a state; how many double cycles had a correction missing since the last one with both within their limits; and how
+-- many in a row a passive node had both within their limits
 pub record Status : Type 0 where
   pub state : State
   pub bad : ℕ
@@ -37,7 +39,7 @@ exceeded_from limits status = record {
   good = 0;
 }
 
--- the state that a node comes to by so many double cycles in a row with a correction missing
+-- the state by the number of double cycles with a correction missing
 abbrev pub state_after_bad : PocLimits → State → ℕ → State
 state_after_bad limits state bad =
     if limits.halt_allowed && nat_le limits.fatal bad then Halt else (if nat_le limits.passive bad then Passive else state)
@@ -50,14 +52,15 @@ missing_from limits status = record {
   good = 0;
 }
 
--- a passive node that was corrected so many times in a row: active again where that is allowed and enough
+-- a passive node with both corrections within their limits for so many double cycles in a row: active again where that
+-- is allowed and enough
 abbrev pub passive_after_good : PocLimits → ℕ → Status
 passive_after_good limits good =
     if nat_lt 0 limits.to_active && nat_le limits.to_active good
     then (record { state = Active; bad = 0; good = 0 })
     else (record { state = Passive; bad = 0; good = good })
 
--- one step, by the state before it and the worse of the two outcomes
+-- one step, by the state before it and the worse of the two outcomes; a halted node stays as it is
 abbrev pub status_after : PocLimits → Status → State → Outcome → Status
 status_after limits status Halt worst = status
 status_after limits status Active Exceeded = exceeded_from limits status
@@ -67,7 +70,7 @@ status_after limits status Passive Missing = missing_from limits status
 status_after limits status Active Within = record { state = Active; bad = 0; good = 0 }
 status_after limits status Passive Within = passive_after_good limits (min (status.good + 1) 31)
 
--- one step of operation control, by the outcomes of the offset and of the rate correction
+-- one step of operation control (chapter 2), by the outcomes of the offset and of the rate correction
 abbrev pub step_of : PocLimits → Status → Outcome → Outcome → Status
 step_of limits status offset rate = status_after limits status status.state (worse_of offset rate)
 
@@ -75,7 +78,7 @@ step_of limits status offset rate = status_after limits status status.state (wor
 abbrev pub stepped : Control → Outcome → Outcome → Control
 stepped control offset rate = record control { status = step_of control.limits control.status offset rate }
 
--- how a node stands after a list of pairs of outcomes, offset and rate, the earliest first
+-- how a node stands after a list of pairs of outcomes (chapter 2), offset and rate, the earliest first
 abbrev pub control_of : PocLimits → List (Outcome × Outcome) → Status
 control_of limits outcomes = fold (λ status pair. step_of limits status pair.0 pair.1) begun outcomes
 

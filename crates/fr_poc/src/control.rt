@@ -17,8 +17,8 @@ pub struct PocLimits {
     pub to_active: u8,
 }
 
-/// Operation control of one node: its limits, its state, and two counters of double cycles (sections
-/// 2.2 and 8.7).
+/// Operation control of one node: its limits, its state, and two counters of double cycles (chapter 2,
+/// protocol operation control).
 #[derive(Debug, Drop)]
 pub struct Poc {
     limits: PocLimits,
@@ -63,7 +63,8 @@ impl Poc {
         self.state
     }
 
-    /// How many double cycles in a row a correction was missing, at most 15.
+    /// How many double cycles had a correction missing since the last one with both within their
+    /// limits, at most 15.
     pub fn bad(&self) -> u8
         ensures count { result ≡ self.now.status.bad }
         ensures most { result ≤ 15 }
@@ -71,7 +72,8 @@ impl Poc {
         self.bad
     }
 
-    /// How many double cycles in a row a passive node was corrected, at most 31.
+    /// How many double cycles in a row a passive node had both corrections within their limits, at most
+    /// 31.
     pub fn good(&self) -> u8
         ensures count { result ≡ self.now.status.good }
         ensures most { result ≤ 31 }
@@ -80,7 +82,7 @@ impl Poc {
     }
 
     /// Takes the step at the end of an odd cycle, by how the offset and the rate correction ended,
-    /// and returns the state for the next double cycle (sections 2.2 and 8.7).
+    /// and returns the state for the next double cycle (chapter 2, protocol operation control).
     pub fn step(&mut self, offset: Outcome, rate: Outcome) -> State
         ensures steps { self.new ≡ stepped self.old offset rate }
         ensures state { result ≡ self.new.status.state }
