@@ -1,4 +1,4 @@
-ghost use Rattle.std.specs.Prelude.{◌≡◌, ◌≤◌, ◌+◌, ◌*◌, ◌==◌, ◌&&◌, nat_lt, count_by};
+ghost use Rattle.std.specs.Prelude.{pos, ◌≤ℤ◌, ◌≡◌, ◌≤◌, ◌+◌, ◌*◌, ◌==◌, ◌&&◌, nat_lt, count_by};
 ghost use Rattle.std.specs.Option.{option_copied};
 ghost use Rattle.std.specs.List.{list_any};
 ghost use Rattle.fr_params.specs.Names.{greatest, least};
@@ -115,8 +115,11 @@ impl Params {
     /// The delay compensation of a channel in microticks: what is taken off each arrival that is measured
     /// there.
     pub fn compensation(&self, channel: Channel) -> i64
-        ensures { result ≡ compensation_of self.now channel }
+        ensures value { result ≡ compensation_of self.now channel }
+        ensures from { pos 0 ≤ℤ result }
+        ensures to { result ≤ℤ pos 200 }
     {
+        let _within = self.natural(ParamName::pDelayCompensation);
         match channel {
             Channel::A => self.compensation,
             Channel::B => self.compensation,
@@ -125,7 +128,9 @@ impl Params {
 
     /// The greater of the compensations of both channels, in microticks.
     pub fn widest_compensation(&self) -> i64
-        ensures { result ≡ widest_compensation_of self.now }
+        ensures value { result ≡ widest_compensation_of self.now }
+        ensures from { pos 0 ≤ℤ result }
+        ensures to { result ≤ℤ pos 200 }
     {
         self.compensation(Channel::A)
             .max(self.compensation(Channel::B))

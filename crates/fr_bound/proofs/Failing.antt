@@ -1,0 +1,18 @@
+-- The first check that fails.
+use Rattle.std.proofs.Common.{◌≡◌, ℕ, ◌<◌, inl, inr, sym, ◌∙◌, true, false, arith}
+use Rattle.std.proofs.lemmas.Bool.{cases_order}
+use Rattle.fr_params.specs.Values.{Values}
+use Rattle.fr_bound.specs.Checks.{holds_of, FirstFailing, AllChecksHold}
+
+both : (p : Values) (k : ℕ) → holds_of k p ≡ false → holds_of k p ≡ true → ⊥
+both p k fails holds = cc
+
+pub none_lem : (p : Values) (number : ℕ) → FirstFailing number p → AllChecksHold p → ⊥
+none_lem p number first all = both p number first.fails (all number first.from first.to)
+
+pub one_lem : (p : Values) (number other : ℕ) → FirstFailing number p → FirstFailing other p → number ≡ other
+one_lem p number other first second = elim (cases_order number other) [
+  | inl same ↦ same
+  | inr (inl less) ↦ absurd (both p number first.fails (second.earlier number first.from less))
+  | inr (inr more) ↦ absurd (both p other second.fails (first.earlier other second.from more))
+]

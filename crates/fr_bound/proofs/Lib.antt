@@ -1,0 +1,3 @@
+pub mod Uncut
+pub mod Failing
+pub mod Rows

@@ -1,0 +1,68 @@
+-- The bounds and checks of worked clusters, computed.
+use Rattle.std.proofs.Common.{◌≡◌, ℕ, suc, zero, pos, List, [], true, false, refl}
+use Rattle.fr_params.specs.Values.{Values}
+use Rattle.fr_bound.specs.Bounds.{y1_of, lambda_of, pi_of, precision_of}
+use Rattle.fr_bound.specs.Checks.{left_of, right_of, holds_of, FirstFailing}
+
+-- a cycle of 5 ms at a microtick of 25 ns, with this damping, offset limit, rate limit, action point offset and
+-- change bound; nodes and slots do not matter here
+abbrev cluster : ℕ → ℕ → ℕ → ℕ → ℕ → Values
+cluster damping offset_limit rate_limit action_offset change_bound = record {
+  macros = pos 5000;
+  micros = pos 200000;
+  static_slots = pos 140;
+  slot_macros = pos 30;
+  action_offset = pos action_offset;
+  idle_macros = pos 800;
+  words = pos 0;
+  correction = pos 4900;
+  max_passive = pos 2;
+  max_fatal = pos 4;
+  halt_allowed = pos 1;
+  to_active = pos 2;
+  damping = pos damping;
+  offset_limit = pos offset_limit;
+  rate_limit = pos rate_limit;
+  compensation = pos 0;
+  rate_bound = pos 200;
+  change_bound = pos change_bound;
+  delay_error = pos 500000;
+  nodes = [];
+  slots = [];
+}
+
+abbrev Sides : ℕ → Values → ℕ → ℕ → Type 0
+Sides number p left right = (left_of number p ≡ left) × (right_of number p ≡ right)
+
+abbrev reference : Values
+reference = cluster 4 254 81 7 0
+
+reference_bounds : (y1_of reference ≡ 3000400) × (lambda_of reference ≡ 30005200) × (pi_of reference ≡ 190032800) × (precision_of reference ≡ 252043600)
+reference_bounds = (refl, refl, refl, refl)
+
+reference_sides : Sides 1 reference 3999200 3000400 × Sides 2 reference 80983800 80000000 × Sides 3 reference 253949200 253543800 × Sides 4 reference 1394154113400 1262718000000 × Sides 5 reference 4592218372600 1262718000000
+reference_sides = ((refl, refl), (refl, refl), (refl, refl), (refl, refl), (refl, refl))
+
+reference_holds : (holds_of 1 reference ≡ true) × (holds_of 2 reference ≡ true) × (holds_of 3 reference ≡ true) × (holds_of 4 reference ≡ true) × (holds_of 5 reference ≡ true)
+reference_holds = (refl, refl, refl, refl, refl)
+
+-- an earlier action point, a smaller offset limit, a smaller rate limit
+early_action : Sides 4 (cluster 4 254 81 6 0) 1194275097200 1262718000000 × (holds_of 4 (cluster 4 254 81 6 0) ≡ false)
+early_action = ((refl, refl), refl)
+
+small_offset_limit : Sides 3 (cluster 4 253 81 7 0) 252949400 253543800 × (holds_of 3 (cluster 4 253 81 7 0) ≡ false)
+small_offset_limit = ((refl, refl), refl)
+
+small_rate_limit : Sides 2 (cluster 4 254 80 7 0) 79984000 80000000 × (holds_of 2 (cluster 4 254 80 7 0) ≡ false)
+small_rate_limit = ((refl, refl), refl)
+
+-- microticks that change
+changing : (y1_of (cluster 4 254 81 7 1) ≡ 3600643) × Sides 1 (cluster 4 254 81 7 1) 3999200 4000805 × (holds_of 1 (cluster 4 254 81 7 1) ≡ false)
+changing = (refl, (refl, refl), refl)
+
+wider : (lambda_of (cluster 5 318 81 8 1) ≡ 38007620) × (pi_of (cluster 5 318 81 8 1) ≡ 238047320) × (precision_of (cluster 5 318 81 8 1) ≡ 316062960)
+wider = (refl, refl, refl)
+
+wider_holds : (holds_of 1 (cluster 5 318 81 8 1) ≡ true) × (holds_of 2 (cluster 5 318 81 8 1) ≡ true) × (holds_of 3 (cluster 5 318 81 8 1) ≡ true) × (holds_of 4 (cluster 5 318 81 8 1) ≡ true)
+    × (holds_of 5 (cluster 5 318 81 8 1) ≡ true)
+wider_holds = (refl, refl, refl, refl, refl)

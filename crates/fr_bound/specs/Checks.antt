@@ -1,0 +1,59 @@
+-- The five checks under which the bounds hold.
+use Rattle.std.specs.Prelude.{ℕ, zero, suc, ◌≡◌, ◌+◌, ◌-◌, ◌*◌, ◌<◌, ◌≤◌, Bool, true, false, nat_le, nat_lt}
+use Rattle.fr_params.specs.Values.{Values, amount}
+use Rattle.fr_params.specs.declared.names.ParamName.TheVariants as name
+use Rattle.fr_bound.specs.Bounds.{nominal, longest_micro, shortest_micro, widest, arrival_error, cycle_change, y1_of, precision_of}
+
+-- the microticks of the shortest cycle before its offset
+abbrev pub least_cycle : Values → ℕ
+least_cycle p = amount p name.pMicroPerCycle - amount p name.pRateCorrectionOut
+
+-- microticks of so many macroticks of the shortest cycle, times the macroticks of a cycle, less the macrotick that a floor may take
+abbrev pub reach : Values → ℕ → ℕ
+reach p macroticks = macroticks * least_cycle p - amount p name.gMacroPerCycle
+
+-- the macroticks from an action point to the end of its slot
+abbrev pub behind_action : Values → ℕ
+behind_action p = amount p name.gdStaticSlot - amount p name.gdActionPointOffset
+
+-- the left side of a check, by its number
+abbrev pub left_of : ℕ → Values → ℕ
+left_of (suc zero) p = amount p name.pClusterDriftDamping * shortest_micro p
+left_of (suc (suc zero)) p = amount p name.pRateCorrectionOut * shortest_micro p
+left_of (suc (suc (suc zero))) p = amount p name.pOffsetCorrectionOut * shortest_micro p
+left_of (suc (suc (suc (suc zero)))) p = reach p (amount p name.gdActionPointOffset) * shortest_micro p
+left_of (suc (suc (suc (suc (suc zero))))) p = reach p (behind_action p) * shortest_micro p
+left_of other p = 0
+
+-- the right side
+abbrev pub right_of : ℕ → Values → ℕ
+right_of (suc zero) p = y1_of p + 2 * cycle_change p
+right_of (suc (suc zero)) p = 2 * (amount p name.pMicroPerCycle * amount p name.xRateBound)
+right_of (suc (suc (suc zero))) p = precision_of p + arrival_error p + longest_micro p
+right_of (suc (suc (suc (suc zero)))) p = amount p name.gMacroPerCycle * (precision_of p + amount p name.xDelayError)
+right_of (suc (suc (suc (suc (suc zero))))) p = amount p name.gMacroPerCycle * (precision_of p + widest p * nominal + amount p name.xDelayError)
+right_of other p = 0
+
+-- the check holds: the left side is at least the right one, at the fifth it is greater
+abbrev pub holds_of : ℕ → Values → Bool
+holds_of (suc (suc (suc (suc (suc zero))))) p = nat_lt (right_of 5 p) (left_of 5 p)
+holds_of number p = nat_le (right_of number p) (left_of number p)
+
+-- the check of this number fails, and those of lesser numbers hold
+pub record FirstFailing (number : ℕ) (p : Values) : Type 0 where
+  pub from : 1 ≤ number
+  pub to : number ≤ 5
+  pub fails : holds_of number p ≡ false
+  pub earlier : (k : ℕ) → 1 ≤ k → k < number → holds_of k p ≡ true
+
+-- every check holds
+abbrev pub AllChecksHold : Values → Type 0
+AllChecksHold p = (k : ℕ) → 1 ≤ k → k ≤ 5 → holds_of k p ≡ true
+
+-- no subtraction in the sides is cut off at 0
+pub record IsUncut (p : Values) : Type 0 where
+  pub shortest : amount p name.xRateBound ≤ nominal
+  pub cycle : amount p name.pRateCorrectionOut ≤ amount p name.pMicroPerCycle
+  pub behind : amount p name.gdActionPointOffset ≤ amount p name.gdStaticSlot
+  pub before_action : amount p name.gMacroPerCycle ≤ amount p name.gdActionPointOffset * least_cycle p
+  pub behind_action : amount p name.gMacroPerCycle ≤ behind_action p * least_cycle p

@@ -1,0 +1,105 @@
+ghost use Rattle.std.specs.Prelude.{◌≡◌, ◌≤◌, pos};
+ghost use Rattle.fr_bound.specs.Bounds.{longest_micro, shortest_micro, widest, arrival_error, cycle_change, y1_of, lambda_of, pi_of, precision_of};
+
+use fr_params::{ParamName, Params};
+
+/// The bounds of a cluster, in ticks.
+#[derive(Clone, Copy, Debug, PartialEq, Eq)]
+pub struct BoundValues {
+    /// How far a rate value may place the length of a sender's cycle from the true one.
+    pub y1: i64,
+    /// How far the lengths of two cycles lie apart in a cluster that is in sync.
+    pub lambda: i64,
+    /// How far two starts of an even cycle lie apart there.
+    pub pi: i64,
+    /// The precision: how far two corresponding macroticks lie apart there.
+    pub precision: i64,
+}
+
+// The ticks of a nominal microtick.
+pub(crate) const NOMINAL: u64 = 1_000_000;
+
+/// The bounds for these parameters.
+pub fn bounds(params: &Params) -> BoundValues
+    ensures y1 { result.y1 ≡ pos (y1_of params.now) }
+    ensures lambda { result.lambda ≡ pos (lambda_of params.now) }
+    ensures pi { result.pi ≡ pos (pi_of params.now) }
+    ensures precision { result.precision ≡ pos (precision_of params.now) }
+{
+    BoundValues {
+        y1: y1(params) as i64,
+        lambda: lambda(params) as i64,
+        pi: pi(params) as i64,
+        precision: precision(params) as i64,
+    }
+}
+
+// The longest microtick.
+pub(crate) fn longest(params: &Params) -> u64
+    ensures value { result ≡ longest_micro params.now }
+    ensures most { result ≤ 1_001_500 }
+{
+    NOMINAL + params.natural(ParamName::xRateBound)
+}
+
+// The shortest microtick.
+pub(crate) fn shortest(params: &Params) -> u64
+    ensures value { result ≡ shortest_micro params.now }
+    ensures most { result ≤ 1_000_000 }
+{
+    NOMINAL - params.natural(ParamName::xRateBound)
+}
+
+// The delay compensation in microticks, the wider of both channels.
+pub(crate) fn compensation(params: &Params) -> u64
+    ensures value { result ≡ widest params.now }
+    ensures most { result ≤ 200 }
+{
+    params.widest_compensation() as u64
+}
+
+pub(crate) fn delay_error(params: &Params) -> u64
+    ensures value { result ≡ arrival_error params.now }
+    ensures most { result ≤ 10_300_000 }
+{
+    params.natural(ParamName::xDelayError)
+        + compensation(params) * params.natural(ParamName::xRateBound)
+}
+
+pub(crate) fn change(params: &Params) -> u64
+    ensures value { result ≡ cycle_change params.now }
+    ensures most { result ≤ 963_000_000 }
+{
+    let micros = params.natural(ParamName::pMicroPerCycle)
+        + params.natural(ParamName::pRateCorrectionOut);
+    micros * params.natural(ParamName::xChangeBound)
+}
+
+pub(crate) fn y1(params: &Params) -> u64
+    ensures value { result ≡ y1_of params.now }
+    ensures most { result ≤ 3_000_000_000 }
+{
+    2 * delay_error(params) + 2 * longest(params) + 3 * change(params)
+}
+
+pub(crate) fn lambda(params: &Params) -> u64
+    ensures value { result ≡ lambda_of params.now }
+    ensures most { result ≤ 21_000_000_000 }
+{
+    let damped = params.natural(ParamName::pClusterDriftDamping) * longest(params);
+    4 * y1(params) + 2 * longest(params) + 4 * damped + 8 * change(params)
+}
+
+pub(crate) fn pi(params: &Params) -> u64
+    ensures value { result ≡ pi_of params.now }
+    ensures most { result ≤ 130_000_000_000 }
+{
+    6 * lambda(params) + 4 * delay_error(params) + 8 * longest(params)
+}
+
+pub(crate) fn precision(params: &Params) -> u64
+    ensures value { result ≡ precision_of params.now }
+    ensures most { result ≤ 180_000_000_000 }
+{
+    pi(params) + 2 * lambda(params) + 2 * longest(params)
+}

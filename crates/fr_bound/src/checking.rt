@@ -1,0 +1,148 @@
+ghost use Rattle.std.specs.Prelude.{◌≡◌, ◌≤◌, ◌*◌, pos, OnOk, IfErr};
+ghost use Rattle.fr_bound.specs.Checks.{least_cycle, reach, behind_action, left_of, right_of, holds_of, FirstFailing, AllChecksHold};
+
+use crate::bounding::{
+    NOMINAL, change, compensation, delay_error, longest, precision, shortest, y1,
+};
+use fr_params::{ParamName, Params};
+
+/// Both sides of a check, and whether it holds.
+#[derive(Clone, Copy, Debug, PartialEq, Eq)]
+pub struct CheckSides {
+    pub left: i64,
+    pub right: i64,
+    pub holds: bool,
+}
+
+/// The sides of the check of this number, 1 to 5: damping, rate limit, offset limit, the action point
+/// behind the start of its slot, and before its end.
+pub fn side(params: &Params, number: u8) -> CheckSides
+    requires from { 1 ≤ number }
+    requires to { number ≤ 5 }
+    ensures left { result.left ≡ pos (left_of number params.now) }
+    ensures right { result.right ≡ pos (right_of number params.now) }
+    ensures holds { result.holds ≡ holds_of number params.now }
+{
+    let (left, right) = sides(params, number);
+    CheckSides {
+        left: left as i64,
+        right: right as i64,
+        holds: if number == 5 {
+            right < left
+        } else {
+            right <= left
+        },
+    }
+}
+
+/// Whether every check holds; else the least number of one that fails.
+pub fn checks(params: &Params) -> Result<(), u8>
+    ensures all { OnOk result (AllChecksHold params.now) }
+    ensures first { IfErr result (λ number. FirstFailing number params.now) }
+{
+    for number in 1..6 {
+        if !side(params, number).holds {
+            return Err(number);
+        }
+    }
+    Ok(())
+}
+
+fn sides(params: &Params, number: u8) -> (u64, u64)
+    requires from { 1 ≤ number }
+    requires to { number ≤ 5 }
+    ensures left { result.0 ≡ left_of number params.now }
+    ensures right { result.1 ≡ right_of number params.now }
+    ensures left_fits { result.0 ≤ 1_000_000_000_000_000_000 }
+    ensures right_fits { result.1 ≤ 1_000_000_000_000_000_000 }
+{
+    match number {
+        1 => damping_sides(params),
+        2 => rate_sides(params),
+        3 => offset_sides(params),
+        4 => front_sides(params),
+        _ => back_sides(params),
+    }
+}
+
+// The damping outweighs what a rate value may be off.
+fn damping_sides(params: &Params) -> (u64, u64)
+    ensures left { result.0 ≡ left_of 1 params.now }
+    ensures right { result.1 ≡ right_of 1 params.now }
+    ensures left_fits { result.0 ≤ 100_000_000 }
+    ensures right_fits { result.1 ≤ 5_000_000_000 }
+{
+    (
+        params.natural(ParamName::pClusterDriftDamping) * shortest(params),
+        y1(params) + 2 * change(params),
+    )
+}
+
+// The rate limit suffices for two oscillators at opposite ends.
+fn rate_sides(params: &Params) -> (u64, u64)
+    ensures left { result.0 ≡ left_of 2 params.now }
+    ensures right { result.1 ≡ right_of 2 params.now }
+    ensures left_fits { result.0 ≤ 2_000_000_000 }
+    ensures right_fits { result.1 ≤ 2_000_000_000 }
+{
+    let drift = params.natural(ParamName::pMicroPerCycle) * params.natural(ParamName::xRateBound);
+    (
+        params.natural(ParamName::pRateCorrectionOut) * shortest(params),
+        2 * drift,
+    )
+}
+
+// The offset limit suffices for the precision and the error of an arrival.
+fn offset_sides(params: &Params) -> (u64, u64)
+    ensures left { result.0 ≡ left_of 3 params.now }
+    ensures right { result.1 ≡ right_of 3 params.now }
+    ensures left_fits { result.0 ≤ 16_000_000_000 }
+    ensures right_fits { result.1 ≤ 200_000_000_000 }
+{
+    (
+        params.natural(ParamName::pOffsetCorrectionOut) * shortest(params),
+        precision(params) + delay_error(params) + longest(params),
+    )
+}
+
+// An early arrival does not fall before its slot.
+fn front_sides(params: &Params) -> (u64, u64)
+    ensures left { result.0 ≡ left_of 4 params.now }
+    ensures right { result.1 ≡ right_of 4 params.now }
+    ensures left_fits { result.0 ≤ 100_000_000_000_000 }
+    ensures right_fits { result.1 ≤ 4_000_000_000_000_000 }
+{
+    let within = precision(params) + params.natural(ParamName::xDelayError);
+    let front = params.natural(ParamName::gdActionPointOffset);
+    (
+        within_reach(params, front) * shortest(params),
+        params.natural(ParamName::gMacroPerCycle) * within,
+    )
+}
+
+// A late arrival does not fall behind its slot.
+fn back_sides(params: &Params) -> (u64, u64)
+    ensures left { result.0 ≡ left_of 5 params.now }
+    ensures right { result.1 ≡ right_of 5 params.now }
+    ensures left_fits { result.0 ≤ 1_000_000_000_000_000 }
+    ensures right_fits { result.1 ≤ 4_000_000_000_000_000 }
+{
+    let delay = compensation(params) * NOMINAL;
+    let within = precision(params) + delay + params.natural(ParamName::xDelayError);
+    let slot = params.natural(ParamName::gdStaticSlot);
+    let back = slot.saturating_sub(params.natural(ParamName::gdActionPointOffset));
+    (
+        within_reach(params, back) * shortest(params),
+        params.natural(ParamName::gMacroPerCycle) * within,
+    )
+}
+
+fn within_reach(params: &Params, macroticks: u64) -> u64
+    requires { macroticks ≤ 1000 }
+    ensures value { result ≡ reach params.now macroticks }
+    ensures most { result ≤ 640_000 * macroticks }
+{
+    let micros = params.natural(ParamName::pMicroPerCycle);
+    let least = micros.saturating_sub(params.natural(ParamName::pRateCorrectionOut));
+    (macroticks * least).saturating_sub(params.natural(ParamName::gMacroPerCycle))
+}

@@ -1,0 +1,16 @@
+ghost use Rattle.std.specs.Prelude.{◌≡◌, ℕ};
+ghost use Rattle.fr_params.specs.Values.{Values};
+ghost use Rattle.fr_params.specs.Sane.{IsSane};
+ghost use Rattle.fr_bound.specs.Checks.{IsUncut, FirstFailing, AllChecksHold};
+
+/// A law: of the parameters of a cluster, no difference in the bounds and checks is below 0, so none is cut
+/// off there.
+pub fn nothing_is_cut()
+    ensures { (p : Values) → IsSane p → IsUncut p }
+{}
+
+/// A law: there is one first check that fails, and none where all hold.
+pub fn one_first_failing()
+    ensures one { (p : Values) (number other : ℕ) → FirstFailing number p → FirstFailing other p → number ≡ other }
+    ensures none { (p : Values) (number : ℕ) → FirstFailing number p → AllChecksHold p → ⊥ }
+{}

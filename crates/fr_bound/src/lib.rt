@@ -1,0 +1,11 @@
+//! What the theory computes from the parameters of a cluster: the bounds, in ticks, and the checks under
+//! which they hold.
+#![tactic(auto)]
+
+mod bounding;
+mod checking;
+mod laws;
+
+pub use bounding::{BoundValues, bounds};
+pub use checking::{CheckSides, checks, side};
+pub use laws::{nothing_is_cut, one_first_failing};
