@@ -1,4 +1,9 @@
 pub mod Answer
+pub mod Around
+pub mod BoundAnswer
+pub mod BoundText
+pub mod Failure
+pub mod FrameAnswer
 pub mod FrameText
 pub mod Request
 pub mod Status

@@ -1,5 +1,7 @@
 ghost use Rattle.std.specs.Prelude.{◌≡◌, IfErr};
-ghost use Rattle.flexray_cli.specs.Answer.{Around, FrameEnds, OutcomeWritesNothing, CanShow};
+ghost use Rattle.flexray_cli.specs.Around.{Around};
+ghost use Rattle.flexray_cli.specs.Failure.{OutcomeWritesNothing, CanShow};
+ghost use Rattle.flexray_cli.specs.FrameAnswer.{FrameEnds};
 
 use crate::failure::{Failure, FileRole};
 use crate::frame_line::line_of;

@@ -1,6 +1,6 @@
 ghost use Rattle.std.specs.Prelude.{◌≡◌, ◌≤◌, ℕ, [], List, OnOk, OnErr, IfErr, length};
 ghost use Rattle.fr_base.specs.Device.{Rose, IsHeld};
-ghost use Rattle.flexray_cli.specs.Answer.{LoadFails, CanShow};
+ghost use Rattle.flexray_cli.specs.Failure.{LoadFails, CanShow};
 
 use crate::failure::{Failure, FileRole};
 use fr_base::{LoadFault, MAX_FILE, Shelf};

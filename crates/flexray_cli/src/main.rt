@@ -1,6 +1,9 @@
-//! `flexray`: a FlexRay cluster in one program. `flexray frame A FILE` decodes the frame in a file.
+//! `flexray`: a FlexRay cluster in one program. `flexray frame A FILE` decodes the frame in a file,
+//! and `flexray bound FILE` computes the bounds and checks of a cluster.
 #![tactic(auto)]
 
+mod bound;
+mod bound_line;
 mod failure;
 mod frame;
 mod frame_line;

@@ -1,4 +1,4 @@
-ghost use Rattle.std.specs.Prelude.{◌≡◌, List, ℕ, IfSome, IsNone};
+ghost use Rattle.std.specs.Prelude.{◌≡◌, ◌∷◌, [], List, ℕ, IfSome, IsNone};
 ghost use Rattle.flexray_cli.specs.Request.{texts, letter, Asks, IsNoRequest};
 
 use fr_base::Channel;
@@ -8,6 +8,8 @@ use fr_base::Channel;
 pub enum Request<'a> {
     /// Decode the bytes of the file as a frame on the channel.
     Frame { channel: Channel, file: &'a str },
+    /// Print the bounds and checks of the parameters in the file.
+    Bound { file: &'a str },
 }
 
 /// Reads the words by position. It takes no memory.
@@ -15,15 +17,36 @@ pub fn request_of(words: &[String]) -> Option<Request<'_>>
     ensures found { IfSome result (Asks (texts words.now)) }
     ensures none { IsNone result → IsNoRequest (texts words.now) }
 {
-    let [command, channel, file] = words else {
-        return None;
-    };
-    match command.as_str() {
+    match words {
+        [command, channel, file] => frame_request(
+            command.as_str(),
+            channel.as_str(),
+            file.as_str(),
+        ),
+        [command, file] => bound_request(command.as_str(), file.as_str()),
+        _ => None,
+    }
+}
+
+fn frame_request<'a>(command: &str, channel: &str, file: &'a str) -> Option<Request<'a>>
+    ensures found { IfSome result (Asks (command.now ∷ channel.now ∷ file.now ∷ [])) }
+    ensures none { IsNone result → IsNoRequest (command.now ∷ channel.now ∷ file.now ∷ []) }
+{
+    match command {
         "frame" => {
-            let channel = channel_of(channel.as_str())?;
-            let file = file.as_str();
+            let channel = channel_of(channel)?;
             Some(Request::Frame { channel, file })
         }
+        _ => None,
+    }
+}
+
+fn bound_request<'a>(command: &str, file: &'a str) -> Option<Request<'a>>
+    ensures found { IfSome result (Asks (command.now ∷ file.now ∷ [])) }
+    ensures none { IsNone result → IsNoRequest (command.now ∷ file.now ∷ []) }
+{
+    match command {
+        "bound" => Some(Request::Bound { file }),
         _ => None,
     }
 }

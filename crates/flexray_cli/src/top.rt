@@ -2,13 +2,17 @@ ghost use Rattle.std.specs.Prelude.{◌≡◌, ◌↔◌, ℕ, List, IfErr, Err}
 ghost use Rattle.fr_base.specs.declared.channel.Channel.{Channel};
 ghost use Rattle.fr_base.specs.Device.{Rose, IsHeld};
 ghost use Rattle.flexray_cli.specs.declared.failure.Failure.TheVariants.{Usage};
-ghost use Rattle.flexray_cli.specs.Request.{texts, AsksFrame, IsNoRequest};
-ghost use Rattle.flexray_cli.specs.Answer.{Around, FrameEnds, RequestEnds, IsFrameAnswer, IsComplete, IsPut, WritesNothing, OutcomeWritesNothing, CanShow, failure_line};
+ghost use Rattle.flexray_cli.specs.Request.{texts, AsksFrame, AsksBound, IsNoRequest};
+ghost use Rattle.flexray_cli.specs.Around.{Around};
+ghost use Rattle.flexray_cli.specs.Failure.{IsPut, WritesNothing, OutcomeWritesNothing, CanShow, failure_line};
+ghost use Rattle.flexray_cli.specs.FrameAnswer.{FrameEnds, IsFrameStatus};
+ghost use Rattle.flexray_cli.specs.BoundAnswer.{BoundEnds, IsBoundStatus};
+ghost use Rattle.flexray_cli.specs.Answer.{RequestEnds, IsAnswer, IsComplete};
 
 use crate::failure::Failure;
-use crate::frame;
 use crate::request::{Request, request_of};
 use crate::status::Status;
+use crate::{bound, frame};
 use fr_base::{Shelf, Sink};
 use std::alloc::Global;
 
@@ -26,9 +30,9 @@ pub fn flexray<S: Shelf, O: Sink, E: Sink>(
     ensures usage { (result ≡ Status.Usage) ↔ IsNoRequest (texts words.now) }
     ensures usage_told { result ≡ Status.Usage → IsPut (E.written err.old) (E.written err.new) (E.faults err.old) (E.faults err.new) (failure_line Usage) }
 
-    // A request for a frame: what each status says, what was written, and the line of a failure.
+    // For each request: what each status says, what was written, and the line of a failure.
     ensures frame { (channel : Channel) (file : List ℕ) → AsksFrame (texts words.now) channel file →
-        IsFrameAnswer channel file (record {
+        IsAnswer (FrameEnds channel file (record {
           held = S.held shelf.old;
           read_before = S.faults shelf.old;
           read_after = S.faults shelf.new;
@@ -36,11 +40,31 @@ pub fn flexray<S: Shelf, O: Sink, E: Sink>(
           written_after = O.written out.new;
           write_before = O.faults out.old;
           write_after = O.faults out.new;
-        }) (E.written err.old) (E.written err.new) (E.faults err.old) (E.faults err.new) result }
+        })) (E.written err.old) (E.written err.new) (E.faults err.old) (E.faults err.new) result }
+    ensures bound { (file : List ℕ) → AsksBound (texts words.now) file →
+        IsAnswer (BoundEnds file (record {
+          held = S.held shelf.old;
+          read_before = S.faults shelf.old;
+          read_after = S.faults shelf.new;
+          written_before = O.written out.old;
+          written_after = O.written out.new;
+          write_before = O.faults out.old;
+          write_after = O.faults out.new;
+        })) (E.written err.old) (E.written err.new) (E.faults err.old) (E.faults err.new) result }
 
-    // Where its bytes are told and no fault was counted, they decide the status, but for want of memory.
-    ensures complete { (channel : Channel) (file : List ℕ) → AsksFrame (texts words.now) channel file →
-        IsComplete channel file (record {
+    // Where the bytes of the file are told and no fault was counted, they decide the status, but for want of memory.
+    ensures complete_frame { (channel : Channel) (file : List ℕ) → AsksFrame (texts words.now) channel file →
+        IsComplete (IsFrameStatus channel) file (record {
+          held = S.held shelf.old;
+          read_before = S.faults shelf.old;
+          read_after = S.faults shelf.new;
+          written_before = O.written out.old;
+          written_after = O.written out.new;
+          write_before = O.faults out.old;
+          write_after = O.faults out.new;
+        }) result }
+    ensures complete_bound { (file : List ℕ) → AsksBound (texts words.now) file →
+        IsComplete IsBoundStatus file (record {
           held = S.held shelf.old;
           read_before = S.faults shelf.old;
           read_after = S.faults shelf.new;
@@ -81,6 +105,16 @@ fn answer<S: Shelf, O: Sink>(
           write_before = O.faults out.old;
           write_after = O.faults out.new;
         }) result }
+    ensures bound { (file : List ℕ) → AsksBound (texts words.now) file →
+        BoundEnds file (record {
+          held = S.held shelf.old;
+          read_before = S.faults shelf.old;
+          read_after = S.faults shelf.new;
+          written_before = O.written out.old;
+          written_after = O.written out.new;
+          write_before = O.faults out.old;
+          write_after = O.faults out.new;
+        }) result }
     ensures unwritten { OutcomeWritesNothing result → out.new ≡ out.old }
     ensures shown { IfErr result CanShow }
 {
@@ -110,6 +144,7 @@ fn carry_out<S: Shelf, O: Sink>(
 {
     match request {
         Request::Frame { channel, file } => frame::answer(alloc, channel, file, shelf, out),
+        Request::Bound { file } => bound::answer(alloc, file, shelf, out),
     }
 }
 

@@ -1,12 +1,19 @@
 use Rattle.std.proofs.Common.{◌≡◌, Ok, Err, sym, ◌∙◌, subst}
 use Rattle.flexray_cli.specs.declared.failure.Failure.{Failure}
 use Rattle.flexray_cli.specs.declared.status.Status.{Status}
-use Rattle.flexray_cli.specs.Answer.{Around, IsPut, IsComplete, failure_line}
-use Rattle.flexray_cli.proofs.Endings.{complete, usage_only}
+use Rattle.flexray_cli.specs.Around.{Around}
+use Rattle.flexray_cli.specs.Failure.{IsPut, failure_line}
+use Rattle.flexray_cli.specs.FrameAnswer.{IsFrameStatus}
+use Rattle.flexray_cli.specs.BoundAnswer.{IsBoundStatus}
+use Rattle.flexray_cli.specs.Answer.{IsComplete}
+use Rattle.flexray_cli.proofs.Endings.{frame_complete, bound_complete, usage_only}
 use Rattle.flexray_cli.proofs.top.flexray.Goals as goal
 
-pub returns-in-Ok-clause-complete : goal.returns-in-Ok-clause-complete
-returns-in-Ok-clause-complete g c = λ channel file asked. complete channel file _ (Ok tt) (c.in-Ok.ensures.frame channel file asked)
+pub returns-in-Ok-clause-complete_frame : goal.returns-in-Ok-clause-complete_frame
+returns-in-Ok-clause-complete_frame g c = λ channel file asked. frame_complete channel file _ (Ok tt) (c.in-Ok.ensures.frame channel file asked)
+
+pub returns-in-Ok-clause-complete_bound : goal.returns-in-Ok-clause-complete_bound
+returns-in-Ok-clause-complete_bound g c = λ file asked. bound_complete file _ (Ok tt) (c.in-Ok.ensures.bound file asked)
 
 pub returns-in-Err-clause-usage_told : goal.returns-in-Err-clause-usage_told
 returns-in-Err-clause-usage_told g c = λ usage.
@@ -14,8 +21,8 @@ returns-in-Err-clause-usage_told g c = λ usage.
     let P : Failure → Type 0 = λ failure. IsPut (g.E.Sink.written c.args.err.now) (g.E.Sink.written c.tell.new.err) (g.E.Sink.faults c.args.err.now) (g.E.Sink.faults c.tell.new.err) (failure_line failure) in
     subst P only c.tell.ensures
 
-pub returns-in-Err-clause-complete : goal.returns-in-Err-clause-complete
-returns-in-Err-clause-complete g c = λ channel file asked.
+pub returns-in-Err-clause-complete_frame : goal.returns-in-Err-clause-complete_frame
+returns-in-Err-clause-complete_frame g c = λ channel file asked.
     let around : Around = record {
       held = g.S.Shelf.held c.args.shelf.now;
       read_before = g.S.Shelf.faults c.args.shelf.now;
@@ -25,5 +32,19 @@ returns-in-Err-clause-complete g c = λ channel file asked.
       write_before = g.O.Sink.faults c.args.out.now;
       write_after = g.O.Sink.faults c.answer.new.out;
     } in
-    let P : Status → Type 0 = IsComplete channel file around in
-    subst P (sym c.status.ensures) (complete channel file around (Err c.in-Err.failure) (c.in-Err.ensures.frame channel file asked))
+    let P : Status → Type 0 = IsComplete (IsFrameStatus channel) file around in
+    subst P (sym c.status.ensures) (frame_complete channel file around (Err c.in-Err.failure) (c.in-Err.ensures.frame channel file asked))
+
+pub returns-in-Err-clause-complete_bound : goal.returns-in-Err-clause-complete_bound
+returns-in-Err-clause-complete_bound g c = λ file asked.
+    let around : Around = record {
+      held = g.S.Shelf.held c.args.shelf.now;
+      read_before = g.S.Shelf.faults c.args.shelf.now;
+      read_after = g.S.Shelf.faults c.answer.new.shelf;
+      written_before = g.O.Sink.written c.args.out.now;
+      written_after = g.O.Sink.written c.answer.new.out;
+      write_before = g.O.Sink.faults c.args.out.now;
+      write_after = g.O.Sink.faults c.answer.new.out;
+    } in
+    let P : Status → Type 0 = IsComplete IsBoundStatus file around in
+    subst P (sym c.status.ensures) (bound_complete file around (Err c.in-Err.failure) (c.in-Err.ensures.bound file asked))

@@ -1,5 +1,5 @@
 use Rattle.std.proofs.Common.{◌≡◌, ◌∙◌}
-use Rattle.flexray_cli.specs.Answer.{failure_line}
+use Rattle.flexray_cli.specs.Failure.{failure_line}
 use Rattle.flexray_cli.proofs.Endings.{is_put}
 use Rattle.flexray_cli.proofs.top.tell.Goals as goal
 

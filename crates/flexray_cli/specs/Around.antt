@@ -1,0 +1,41 @@
+-- What a call found around it, and left.
+use Rattle.std.specs.Prelude.{◌≡◌, ℕ, ◌<◌, ◌≤◌, List, length, Option, Some, IfSome}
+use Rattle.std.specs.Io.KnownBytes.{Appends}
+use Rattle.fr_base.specs.Device.{Rose, IsHeld, AppendsFront}
+use Rattle.fr_base.specs.declared.shelf.TheConstants.{MAX_FILE}
+
+-- the bytes that the shelf holds and the counts of their names, what was written to the first sink, and its count
+pub record Around : Type 0 where
+  pub held : List ℕ → Option (List ℕ)
+  pub read_before : List ℕ → ℕ
+  pub read_after : List ℕ → ℕ
+  pub written_before : Option (List ℕ)
+  pub written_after : Option (List ℕ)
+  pub write_before : ℕ
+  pub write_after : ℕ
+
+-- a file was loaded: these are its bytes where the shelf tells them, and they are not too many
+pub record IsLoaded (around : Around) (file bytes : List ℕ) : Type 0 where
+  pub held : IsHeld (around.held file) bytes
+  pub fits : length bytes ≤ MAX_FILE
+
+-- a fault of the file was counted
+abbrev pub IsFaulty : Around → List ℕ → Type 0
+IsFaulty around file = Rose (around.read_before file) (around.read_after file)
+
+-- a file has more bytes than a file may have, where the shelf tells them
+abbrev pub IsTooLong : Around → List ℕ → Type 0
+IsTooLong around file = IfSome (around.held file) (λ bytes. MAX_FILE < length bytes)
+
+-- a text that is defined was written whole
+pub record IsWritten (IsDefined : List ℕ → Type 0) (around : Around) : Type 0 where
+  pub text : List ℕ
+  pub defined : IsDefined text
+  pub grew : Appends around.written_before around.written_after text
+
+-- a front of it was written, and the sink counted a fault
+pub record IsCutShort (IsDefined : List ℕ → Type 0) (around : Around) : Type 0 where
+  pub text : List ℕ
+  pub defined : IsDefined text
+  pub counted : Rose around.write_before around.write_after
+  pub grew : AppendsFront around.written_before around.written_after text

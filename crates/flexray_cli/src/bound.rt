@@ -1,0 +1,60 @@
+ghost use Rattle.std.specs.Prelude.{◌≡◌, ◌<◌, ◌≤◌, IfErr, OnOk, OnErr};
+ghost use Rattle.std.specs.Io.KnownBytes.{Appends};
+ghost use Rattle.fr_base.specs.Device.{Rose, AppendsFront};
+ghost use Rattle.flexray_cli.specs.Around.{Around};
+ghost use Rattle.flexray_cli.specs.Failure.{OutcomeWritesNothing, CanShow};
+ghost use Rattle.flexray_cli.specs.BoundText.{bound_text};
+ghost use Rattle.flexray_cli.specs.BoundAnswer.{BoundEnds};
+
+use crate::bound_line::line_at;
+use crate::failure::{Failure, FileRole};
+use crate::load::load;
+use fr_base::{PutFault, Shelf, Sink};
+use fr_params::{ParamFault, Params, read};
+use std::alloc::Global;
+
+/// Reads the parameters in the file, and writes their bounds and checks.
+pub fn answer<S: Shelf, O: Sink>(
+    alloc: Global,
+    file: &str,
+    shelf: &mut S,
+    out: &mut O,
+) -> Result<(), Failure>
+    ensures ends { BoundEnds file.now (record {
+      held = S.held shelf.old;
+      read_before = S.faults shelf.old;
+      read_after = S.faults shelf.new;
+      written_before = O.written out.old;
+      written_after = O.written out.new;
+      write_before = O.faults out.old;
+      write_after = O.faults out.new;
+    }) result }
+    ensures unwritten { OutcomeWritesNothing result → out.new ≡ out.old }
+    ensures shown { IfErr result CanShow }
+{
+    let mut bytes = Vec::new(alloc);
+    load(shelf, FileRole::Params, file, &mut bytes)?;
+    match read(alloc, &bytes) {
+        Ok(params) => match print(&params, out) {
+            Ok(()) => Ok(()),
+            Err(_) => Err(Failure::WriteFault),
+        },
+        Err(ParamFault::NoMemory) => Err(Failure::NoMemory),
+        Err(fault) => Err(Failure::BadParams(fault)),
+    }
+}
+
+// Writes the nine lines, one after the other.
+fn print<O: Sink>(params: &Params, out: &mut O) -> Result<(), PutFault>
+    ensures whole { OnOk result (Appends (O.written out.old) (O.written out.new) (bound_text params.now)) }
+    ensures failed { OnErr result (Rose (O.faults out.old) (O.faults out.new)) }
+    ensures front { OnErr result (AppendsFront (O.written out.old) (O.written out.new) (bound_text params.now)) }
+{
+    for place in 0..9 {
+        match out.put(line_at(params, place).bytes()) {
+            Ok(()) => {}
+            Err(fault) => return Err(fault),
+        }
+    }
+    Ok(())
+}
