@@ -1,6 +1,6 @@
 use crate::status::Status;
 use crate::top::flexray;
-use fr_base::{MAX_FILE, MemoryShelf, MemorySink};
+use fr_base::{MAX_FILE, MemoryShelf, MemorySink, SureShelf, SureSink};
 use std::alloc::{AllocError, Global};
 use std::test::Fail;
 
@@ -163,5 +163,199 @@ fn devices_fail(rt: HostRuntime) -> Result<(), Fail> {
         Status::TooLong
     );
     assert_eq!(rt; written.bytes(), b"".as_slice());
+    Ok(())
+}
+
+// A cycle of 5 ms at a microtick of 25 ns, with two nodes.
+const PARAMS: &str = "\
+param,gMacroPerCycle,5000,,\n\
+param,pMicroPerCycle,200000,,\n\
+param,gNumberOfStaticSlots,140,,\n\
+param,gdStaticSlot,30,,\n\
+param,gdActionPointOffset,7,,\n\
+param,gdNIT,800,,\n\
+param,gPayloadLengthStatic,0,,\n\
+param,gOffsetCorrectionStart,4900,,\n\
+param,gMaxWithoutClockCorrectionPassive,2,,\n\
+param,gMaxWithoutClockCorrectionFatal,4,,\n\
+param,pAllowHaltDueToClock,1,,\n\
+param,pAllowPassiveToActive,2,,\n\
+param,pClusterDriftDamping,4,,\n\
+param,pOffsetCorrectionOut,254,,\n\
+param,pRateCorrectionOut,81,,\n\
+param,pDelayCompensation,0,,\n\
+param,xRateBound,200,,\n\
+param,xChangeBound,0,,\n\
+param,xDelayError,500000,,\n\
+node,1,1,A,1\n\
+node,2,2,A,1\n\
+";
+
+const BOUNDS: &str = "\
+y1 3000400\n\
+lambda 30005200\n\
+pi 190032800\n\
+precision 252043600\n\
+C1 holds 3999200 3000400\n\
+C2 holds 80983800 80000000\n\
+C3 holds 253949200 253543800\n\
+C4 holds 1394154113400 1262718000000\n\
+C5 holds 4592218372600 1262718000000\n\
+";
+
+// The file with the value of each of these names in place of its own.
+fn changed(alloc: Global, values: &[(&str, &str)]) -> Result<String, AllocError> {
+    let mut text = String::new(alloc);
+    for line in PARAMS.lines() {
+        let mut shown = line;
+        for (name, value) in values {
+            if line.starts_with(*name) {
+                shown = value;
+            }
+        }
+        text.push_str(shown)?;
+        text.push('\n')?;
+    }
+    Ok(text)
+}
+
+// Each row: lines to put in the place of those that begin so, and a part of what is written.
+#[test]
+fn bounds_are_printed(rt: HostRuntime) -> Result<(), Fail> {
+    let alloc = rt.alloc();
+    let words = words_of(alloc, &["bound", "p"])?;
+    let point = ("param,gdActionPointOffset", "param,gdActionPointOffset,6,,");
+    let offset = (
+        "param,pOffsetCorrectionOut",
+        "param,pOffsetCorrectionOut,253,,",
+    );
+    let rate = ("param,pRateCorrectionOut", "param,pRateCorrectionOut,80,,");
+    let change = ("param,xChangeBound", "param,xChangeBound,1,,");
+    let wider = [
+        change,
+        (
+            "param,pClusterDriftDamping",
+            "param,pClusterDriftDamping,5,,",
+        ),
+        (
+            "param,pOffsetCorrectionOut",
+            "param,pOffsetCorrectionOut,318,,",
+        ),
+        ("param,gdActionPointOffset", "param,gdActionPointOffset,8,,"),
+    ];
+    for (values, part) in [
+        ([].as_slice(), BOUNDS),
+        (&[point], "C4 fails 1194275097200 1262718000000\n"),
+        (&[offset], "C3 fails 252949400 253543800\n"),
+        (&[rate], "C2 fails 79984000 80000000\n"),
+        (&[change], "C1 fails 3999200 4000805\n"),
+        (
+            &wider,
+            "lambda 38007620\npi 238047320\nprecision 316062960\nC1 holds ",
+        ),
+    ] {
+        let mut shelf = SureShelf::new(alloc);
+        shelf.hold("p", changed(alloc, values)?.as_bytes())?;
+        let mut written = MemorySink::new(alloc, 1000)?;
+        assert_eq!(rt;
+            flexray(
+                alloc,
+                &words,
+                &mut shelf,
+                &mut written,
+                &mut SureSink::new()
+            ),
+            Status::Done
+        );
+        let text = String::from_utf8(written.bytes().to_vec(alloc)?)
+            .ok()
+            .ok_or("text")?;
+        assert!(rt; text.contains(part), "{text}");
+        assert_eq!(rt; text.lines().count(), 9);
+    }
+    Ok(())
+}
+
+// Each row: what a file holds, the status, and the line.
+#[test]
+fn other_files_are_refused(rt: HostRuntime) -> Result<(), Fail> {
+    let alloc = rt.alloc();
+    let words = words_of(alloc, &["bound", "p"])?;
+    let first = "param,gMacroPerCycle,5000,,";
+    let twice = ("param,pMicroPerCycle", first);
+    let idle = ("param,gdNIT", "param,gdNIT,801,,");
+    for (text, line) in [
+        (String::new(alloc), "params: missing gMacroPerCycle\n"),
+        (changed(alloc, &[twice])?, "params: record 2: Repeated\n"),
+        (changed(alloc, &[idle])?, "params: constraint 1\n"),
+        (
+            changed(alloc, &[("node,2", "node,2,,A,1")])?,
+            "params: record 21: Role\n",
+        ),
+        (
+            changed(alloc, &[("node,2", "slot,5,9,0,2")])?,
+            "params: record 21: UnknownNode\n",
+        ),
+        (
+            changed(alloc, &[("node,1", "param,gMacroPer")])?,
+            "params: record 20: Shape\n",
+        ),
+    ] {
+        let mut shelf = MemoryShelf::new(alloc);
+        shelf.hold("p", text.as_bytes())?;
+        let mut written = MemorySink::new(alloc, 0)?;
+        let mut told = MemorySink::new(alloc, 100)?;
+        assert_eq!(rt;
+            flexray(alloc, &words, &mut shelf, &mut written, &mut told),
+            Status::Refused
+        );
+        assert_eq!(rt; told.bytes(), line.as_bytes());
+    }
+
+    let mut shelf = MemoryShelf::new(alloc);
+    let mut written = MemorySink::new(alloc, 0)?;
+    let mut told = MemorySink::new(alloc, 100)?;
+    assert_eq!(rt;
+        flexray(alloc, &words, &mut shelf, &mut written, &mut told),
+        Status::ReadFault
+    );
+    shelf.hold("p", &vec![in alloc; 0; MAX_FILE + 1]?)?;
+    assert_eq!(rt;
+        flexray(alloc, &words, &mut shelf, &mut written, &mut told),
+        Status::TooLong
+    );
+    assert_eq!(rt;
+        told.bytes(),
+        b"params: read fault\nparams: too long\n".as_slice()
+    );
+    Ok(())
+}
+
+// Where a put fails, the lines before it were written.
+#[test]
+fn each_line_is_a_put(rt: HostRuntime) -> Result<(), Fail> {
+    let alloc = rt.alloc();
+    let words = words_of(alloc, &["bound", "p"])?;
+    for failing in 1..11 {
+        let mut shelf = MemoryShelf::new(alloc);
+        shelf.hold("p", PARAMS.as_bytes())?;
+        let mut written = MemorySink::new(alloc, 1000)?;
+        written.fail_at(failing)?;
+        let mut told = MemorySink::new(alloc, 100)?;
+        let status = if failing > 9 {
+            Status::Done
+        } else {
+            Status::WriteFault
+        };
+        assert_eq!(rt;
+            flexray(alloc, &words, &mut shelf, &mut written, &mut told),
+            status
+        );
+        let text = String::from_utf8(written.bytes().to_vec(alloc)?)
+            .ok()
+            .ok_or("text")?;
+        assert!(rt; BOUNDS.starts_with(text.as_str()));
+        assert_eq!(rt; text.lines().count() as u64, failing - 1);
+    }
     Ok(())
 }
