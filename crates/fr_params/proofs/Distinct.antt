@@ -1,4 +1,4 @@
--- Keys that are all different, and the numbers of constraints.
+-- Keys that are all different.
 use Rattle.std.proofs.Common.{◌≡◌, ◌≢◌, ℕ, zero, suc, ◌+◌, ◌<◌, ◌≤◌, List, length, take, ap, sym, ◌∙◌, refl, arith, ◌⊎◌, inl, inr}
 use Rattle.std.specs.Prelude.{AllPairs, Contains, get_or}
 use Rattle.std.proofs.lemmas.Bool.{cases_eq}
@@ -33,23 +33,3 @@ differ-not keys p room there all =
     let lt : there.0 < p = omega (arith, there.1) in
     all there.0 p (get_or keys p 0) lt room
     (sym (get_or-take p keys there.0 (get_or keys p 0) lt) ∙ there.2 ∙ get_or_default keys p 0 (get_or keys p 0) room)
-
--- the constraints below a number
-pub holds-below-7 : (f : Amounts) (keys : List ℕ) (slots : List SlotSpec) → IsWholeCycle f → ActsInSlot f → CorrectsBehindSlots f → LeavesMicroticks f → IsPassiveFirst f
-    → HasSyncNodes keys → (j : ℕ) → j < 7 → Holds j f keys slots
-holds-below-7 f keys slots a b c d e s zero lt = tt
-holds-below-7 f keys slots a b c d e s (suc zero) lt = a
-holds-below-7 f keys slots a b c d e s (suc (suc zero)) lt = b
-holds-below-7 f keys slots a b c d e s (suc (suc (suc zero))) lt = c
-holds-below-7 f keys slots a b c d e s (suc (suc (suc (suc zero)))) lt = d
-holds-below-7 f keys slots a b c d e s (suc (suc (suc (suc (suc zero))))) lt = e
-holds-below-7 f keys slots a b c d e s (suc (suc (suc (suc (suc (suc zero)))))) lt = s
-holds-below-7 f keys slots a b c d e s (suc (suc (suc (suc (suc (suc (suc k))))))) lt = absurd (omega arith)
-
-pub holds-below-8 : (f : Amounts) (keys : List ℕ) (slots : List SlotSpec) → ((j : ℕ) → j < 7 → Holds j f keys slots) → AreKeySlots (f name.gNumberOfStaticSlots) keys
-    → (j : ℕ) → j < 8 → Holds j f keys slots
-holds-below-8 f keys slots front seven j lt = by (cases_eq j 7)
-  where
-    by : (j ≡ 7) ⊎ (j ≡ 7 → ⊥) → Holds j f keys slots
-    by (inl e) = rw e seven
-    by (inr ne) = front j (omega arith)

@@ -161,16 +161,17 @@ shows-kept t size said done r h more = record {
 nothing : {A P : Type 0} (size k : ℕ) (x : A) → entry (replicate size None) k ≡ Some x → P
 nothing {A} {P} size k x e = by (ltb k size) refl
   where
+    clash : entry (replicate size None) k ≡ None → P
+    clash none = let both : ◌≡◌ {A = Option A} None (Some x) = sym none ∙ e in cc
+
     by : (b : Bool) → ltb k size ≡ b → P
     by true h =
         let none : entry (replicate size None) k ≡ None = get_or-replicate size k None None (ltb-true k size h) in
-        let both = sym none ∙ e in
-        cc both
+        clash none
     by false h =
         let long : length (replicate size None) ≤ k = omega (arith, length-replicate {A = Option A} size None, ltb-false k size h) in
         let none : entry (replicate size None) k ≡ None = get_or_past (replicate size None) k None long in
-        let both : None ≡ Some x = sym none ∙ e in
-        cc both
+        clash none
 
 -- a table of nothing
 pub draft-nil : (d : Draft) → d.values ≡ replicate 19 None → d.nodes ≡ replicate 65 None → d.slots ≡ replicate 1024 None → IsDraftOf d []

@@ -33,11 +33,10 @@ pub(crate) fn first_failing(numbers: &[i64; 19], keys: &[Slot], slots: &[SlotSpe
     if !has_sync_nodes(keys) {
         return Some(6);
     }
-    let limit = amount(numbers, ParamName::gNumberOfStaticSlots);
-    if !are_key_slots(limit, keys) {
+    if !are_key_slots(numbers, keys) {
         return Some(7);
     }
-    if !are_free_slots(limit, keys, slots) {
+    if !are_free_slots(numbers, keys, slots) {
         return Some(8);
     }
     None
@@ -118,9 +117,11 @@ fn has_sync_nodes(keys: &[Slot]) -> bool
     1 <= keys.len() && keys.len() <= 15
 }
 
-fn are_key_slots(limit: u64, keys: &[Slot]) -> bool
-    ensures { IsTrue result ↔ AreKeySlots limit keys.now }
+fn are_key_slots(numbers: &[i64; 19], keys: &[Slot]) -> bool
+    requires { AreInRange numbers.now }
+    ensures { IsTrue result ↔ AreKeySlots (amount_in numbers.now name.gNumberOfStaticSlots) keys.now }
 {
+    let limit = amount(numbers, ParamName::gNumberOfStaticSlots);
     keys.iter().all(|key| u64::from(key.0) <= limit) && all_differ(keys)
 }
 
@@ -141,8 +142,10 @@ fn is_among(keys: &[Slot], key: &Slot) -> bool
     keys.contains(key)
 }
 
-fn are_free_slots(limit: u64, keys: &[Slot], slots: &[SlotSpec]) -> bool
-    ensures { IsTrue result ↔ AreFreeSlots limit keys.now slots.now }
+fn are_free_slots(numbers: &[i64; 19], keys: &[Slot], slots: &[SlotSpec]) -> bool
+    requires { AreInRange numbers.now }
+    ensures { IsTrue result ↔ AreFreeSlots (amount_in numbers.now name.gNumberOfStaticSlots) keys.now slots.now }
 {
+    let limit = amount(numbers, ParamName::gNumberOfStaticSlots);
     slots.iter().all(|slot| u64::from(slot.slot.0) <= limit && !is_among(keys, &slot.slot))
 }

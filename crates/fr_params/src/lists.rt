@@ -7,7 +7,7 @@ use std::marker::Model;
 /// The nodes of a cluster, seen as a list. That of a `Params` is in ascending order of id.
 #[derive(Drop)]
 pub struct NodeList {
-    items: Vec<NodeSpec>,
+    nodes: Vec<NodeSpec>,
 }
 
 impl Model for NodeList {
@@ -16,41 +16,41 @@ impl Model for NodeList {
 
     ghost Value = { List NodeSpec };
 
-    ghost view = { λ a. a.items.items };
+    ghost view = { λ a. a.nodes.items };
 }
 
 impl NodeList {
-    pub(crate) fn of(items: Vec<NodeSpec>) -> NodeList
-        ensures { result ≡ items.items }
+    pub(crate) fn of(nodes: Vec<NodeSpec>) -> NodeList
+        ensures { result ≡ nodes.items }
     {
-        NodeList { items }
+        NodeList { nodes }
     }
 
     pub(crate) fn as_slice(&self) -> &[NodeSpec]
         ensures { result.now ≡ self.now }
     {
-        self.items.as_slice()
+        self.nodes.as_slice()
     }
 
     /// How many nodes there are.
     pub fn len(&self) -> usize
         ensures { result ≡ length self.now }
     {
-        self.items.len()
+        self.nodes.len()
     }
 
     /// The node at a place, counted from 0; None exactly past the end.
     pub fn get(&self, place: usize) -> Option<&NodeSpec>
         ensures { IsItemAt self.now place result }
     {
-        self.items.get(place)
+        self.nodes.get(place)
     }
 }
 
 /// The further slots of a cluster, seen as a list. That of a `Params` is in ascending order of slot.
 #[derive(Drop)]
 pub struct SlotList {
-    items: Vec<SlotSpec>,
+    slots: Vec<SlotSpec>,
 }
 
 impl Model for SlotList {
@@ -59,33 +59,33 @@ impl Model for SlotList {
 
     ghost Value = { List SlotSpec };
 
-    ghost view = { λ a. a.items.items };
+    ghost view = { λ a. a.slots.items };
 }
 
 impl SlotList {
-    pub(crate) fn of(items: Vec<SlotSpec>) -> SlotList
-        ensures { result ≡ items.items }
+    pub(crate) fn of(slots: Vec<SlotSpec>) -> SlotList
+        ensures { result ≡ slots.items }
     {
-        SlotList { items }
+        SlotList { slots }
     }
 
     pub(crate) fn as_slice(&self) -> &[SlotSpec]
         ensures { result.now ≡ self.now }
     {
-        self.items.as_slice()
+        self.slots.as_slice()
     }
 
     /// How many further slots there are.
     pub fn len(&self) -> usize
         ensures { result ≡ length self.now }
     {
-        self.items.len()
+        self.slots.len()
     }
 
     /// The slot at a place, counted from 0; None exactly past the end.
     pub fn get(&self, place: usize) -> Option<&SlotSpec>
         ensures { IsItemAt self.now place result }
     {
-        self.items.get(place)
+        self.slots.get(place)
     }
 }

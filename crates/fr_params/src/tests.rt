@@ -27,6 +27,205 @@ const REFERENCE: [&[u8]; 21] = [
     b"node,2,2,A,1",
 ];
 
+/// Lines `first` to `last` of the reference file, what stands in their place, what follows, and the refusal.
+const REFUSALS: [(usize, usize, &[u8], &[u8], Option<ParamFault>); 20] = [
+    (0, 0, b"", b"", None),
+    (
+        21,
+        21,
+        b"node,2,,A,1",
+        b"",
+        Some(ParamFault::Row {
+            number: 21,
+            reason: Reason::Role,
+        }),
+    ),
+    (
+        0,
+        0,
+        b"",
+        b"slot,5,9,0,2\n",
+        Some(ParamFault::Row {
+            number: 22,
+            reason: Reason::UnknownNode,
+        }),
+    ),
+    (
+        0,
+        0,
+        b"",
+        b"slot,5,1,2,2\n",
+        Some(ParamFault::Row {
+            number: 22,
+            reason: Reason::Role,
+        }),
+    ),
+    (
+        0,
+        0,
+        b"",
+        b"slot,2,1,0,2\n",
+        Some(ParamFault::Constraint(8)),
+    ),
+    (
+        1,
+        1,
+        b"param,gMacroPerCycle,5000,,\nparam,gMacroPerCycle,5000,,",
+        b"",
+        Some(ParamFault::Row {
+            number: 2,
+            reason: Reason::Repeated,
+        }),
+    ),
+    (
+        6,
+        6,
+        b"param,gdNIT,801,,",
+        b"",
+        Some(ParamFault::Constraint(1)),
+    ),
+    (
+        5,
+        5,
+        b"param,gdActionPointOffset,30,,",
+        b"",
+        Some(ParamFault::Constraint(2)),
+    ),
+    (
+        8,
+        8,
+        b"param,gOffsetCorrectionStart,4200,,",
+        b"",
+        Some(ParamFault::Constraint(3)),
+    ),
+    (
+        8,
+        8,
+        b"param,gOffsetCorrectionStart,5000,,",
+        b"",
+        Some(ParamFault::Constraint(3)),
+    ),
+    (
+        2,
+        2,
+        b"param,pMicroPerCycle,17830,,",
+        b"",
+        Some(ParamFault::Constraint(4)),
+    ),
+    (2, 2, b"param,pMicroPerCycle,17831,,", b"", None),
+    (
+        9,
+        9,
+        b"param,gMaxWithoutClockCorrectionPassive,5,,",
+        b"",
+        Some(ParamFault::Constraint(5)),
+    ),
+    (20, 21, b"node,2,,A,0", b"", Some(ParamFault::Constraint(6))),
+    (
+        21,
+        21,
+        b"node,2,1,A,1",
+        b"",
+        Some(ParamFault::Constraint(7)),
+    ),
+    (
+        21,
+        21,
+        b"node,2,141,A,1",
+        b"",
+        Some(ParamFault::Constraint(7)),
+    ),
+    (
+        0,
+        0,
+        b"",
+        b"slot,141,1,0,2\n",
+        Some(ParamFault::Constraint(8)),
+    ),
+    (
+        2,
+        2,
+        b"",
+        b"",
+        Some(ParamFault::Missing(ParamName::pMicroPerCycle)),
+    ),
+    (
+        1,
+        21,
+        b"",
+        b"",
+        Some(ParamFault::Missing(ParamName::gMacroPerCycle)),
+    ),
+    (
+        3,
+        3,
+        b"param,gNumberOfStaticSlots,x,,",
+        b"slot,5,9,0,2\n",
+        Some(ParamFault::Row {
+            number: 3,
+            reason: Reason::NotNumber,
+        }),
+    ),
+];
+
+/// The line of the reference file, what stands in its place, and the reason for which that record is refused.
+const REASONS: [(u64, &[u8], Option<Reason>); 34] = [
+    (6, b"param,gdNIT,800,", Some(Reason::Shape)),
+    (6, b"param,gdNIT,800,,,", Some(Reason::Shape)),
+    (6, b"param,gdNIT,800,x,", Some(Reason::Shape)),
+    (6, b"param,gdNEAT,800,,x", Some(Reason::Shape)),
+    (6, b"\"\"", Some(Reason::Shape)),
+    (6, b"\"param\",\"gdNIT\",\"800\",,\"\"", None),
+    (6, b"param,gdNIT,\"800,,", Some(Reason::Shape)),
+    (6, b" param,gdNIT,800,,", Some(Reason::UnknownName)),
+    (6, b"param, gdNIT,800,,", Some(Reason::UnknownName)),
+    (6, b"version,2,,,", Some(Reason::UnknownName)),
+    (6, b"param,gdNIT, 800,,", Some(Reason::NotNumber)),
+    (6, b"param,gdNIT,800,,\r", None),
+    (1, b"\xEF\xBB\xBFparam,gMacroPerCycle,5000,,", None),
+    (
+        6,
+        b"\xEF\xBB\xBFparam,gdNIT,800,,",
+        Some(Reason::UnknownName),
+    ),
+    (6, b"param,gdNIT,\xFF,,", Some(Reason::NotNumber)),
+    (6, b"param,gdNIT,000000000000000800,,", None),
+    (
+        6,
+        b"param,gdNIT,0000000000000000800,,",
+        Some(Reason::NotNumber),
+    ),
+    (16, b"param,pDelayCompensation,-0,,", None),
+    (16, b"param,pDelayCompensation,-,,", Some(Reason::NotNumber)),
+    (
+        16,
+        b"param,pDelayCompensation,+1,,",
+        Some(Reason::NotNumber),
+    ),
+    (16, b"param,pDelayCompensation,,,", Some(Reason::NotNumber)),
+    (
+        16,
+        b"param,pDelayCompensation,-1,,",
+        Some(Reason::OutOfRange),
+    ),
+    (
+        16,
+        b"param,pDelayCompensation,201,,",
+        Some(Reason::OutOfRange),
+    ),
+    (21, b"node,2,2,C,1", Some(Reason::BadChannel)),
+    (21, b"node,65,2,C,1", Some(Reason::OutOfRange)),
+    (21, b"node,65,x,C,1", Some(Reason::NotNumber)),
+    (21, b"node,2,2,A,2", Some(Reason::OutOfRange)),
+    (21, b"node,2,,C,1", Some(Reason::BadChannel)),
+    (21, b"node,1,2,A,1", Some(Reason::Repeated)),
+    (21, b"node,1,,A,1", Some(Reason::Role)),
+    (21, b"slot,5,1,0,3", Some(Reason::Role)),
+    (21, b"slot,5,9,0,3", Some(Reason::UnknownNode)),
+    (21, b"slot,5,9,64,3", Some(Reason::OutOfRange)),
+    (21, b"slot,5,1,63,64", None),
+];
+
 /// The reference file with its lines `first` to `last`, counted from 1, replaced by `text`, and then `tail`.
 fn edited(
     alloc: Global,
@@ -62,119 +261,7 @@ fn row(number: u64, reason: Reason) -> ParamFault {
 
 #[test]
 fn refuses_in_order(rt: HostRuntime) -> Result<(), AllocError> {
-    let rows: [(usize, usize, &[u8], &[u8], Option<ParamFault>); 20] = [
-        (0, 0, b"", b"", None),
-        (21, 21, b"node,2,,A,1", b"", Some(row(21, Reason::Role))),
-        (
-            0,
-            0,
-            b"",
-            b"slot,5,9,0,2\n",
-            Some(row(22, Reason::UnknownNode)),
-        ),
-        (0, 0, b"", b"slot,5,1,2,2\n", Some(row(22, Reason::Role))),
-        (
-            0,
-            0,
-            b"",
-            b"slot,2,1,0,2\n",
-            Some(ParamFault::Constraint(8)),
-        ),
-        (
-            1,
-            1,
-            b"param,gMacroPerCycle,5000,,\nparam,gMacroPerCycle,5000,,",
-            b"",
-            Some(row(2, Reason::Repeated)),
-        ),
-        (
-            6,
-            6,
-            b"param,gdNIT,801,,",
-            b"",
-            Some(ParamFault::Constraint(1)),
-        ),
-        (
-            5,
-            5,
-            b"param,gdActionPointOffset,30,,",
-            b"",
-            Some(ParamFault::Constraint(2)),
-        ),
-        (
-            8,
-            8,
-            b"param,gOffsetCorrectionStart,4200,,",
-            b"",
-            Some(ParamFault::Constraint(3)),
-        ),
-        (
-            8,
-            8,
-            b"param,gOffsetCorrectionStart,5000,,",
-            b"",
-            Some(ParamFault::Constraint(3)),
-        ),
-        (
-            2,
-            2,
-            b"param,pMicroPerCycle,17830,,",
-            b"",
-            Some(ParamFault::Constraint(4)),
-        ),
-        (2, 2, b"param,pMicroPerCycle,17831,,", b"", None),
-        (
-            9,
-            9,
-            b"param,gMaxWithoutClockCorrectionPassive,5,,",
-            b"",
-            Some(ParamFault::Constraint(5)),
-        ),
-        (20, 21, b"node,2,,A,0", b"", Some(ParamFault::Constraint(6))),
-        (
-            21,
-            21,
-            b"node,2,1,A,1",
-            b"",
-            Some(ParamFault::Constraint(7)),
-        ),
-        (
-            21,
-            21,
-            b"node,2,141,A,1",
-            b"",
-            Some(ParamFault::Constraint(7)),
-        ),
-        (
-            0,
-            0,
-            b"",
-            b"slot,141,1,0,2\n",
-            Some(ParamFault::Constraint(8)),
-        ),
-        (
-            2,
-            2,
-            b"",
-            b"",
-            Some(ParamFault::Missing(ParamName::pMicroPerCycle)),
-        ),
-        (
-            1,
-            21,
-            b"",
-            b"",
-            Some(ParamFault::Missing(ParamName::gMacroPerCycle)),
-        ),
-        (
-            3,
-            3,
-            b"param,gNumberOfStaticSlots,x,,",
-            b"slot,5,9,0,2\n",
-            Some(row(3, Reason::NotNumber)),
-        ),
-    ];
-    for (first, last, text, tail, want) in rows {
+    for (first, last, text, tail, want) in REFUSALS {
         let bytes = edited(rt.alloc(), first, last, text, tail)?;
         assert_eq!(rt; fault_of(rt.alloc(), &bytes), want, "at {text:?} {tail:?}");
     }
@@ -183,63 +270,7 @@ fn refuses_in_order(rt: HostRuntime) -> Result<(), AllocError> {
 
 #[test]
 fn finds_the_least_reason(rt: HostRuntime) -> Result<(), AllocError> {
-    let rows: [(u64, &[u8], Option<Reason>); 34] = [
-        (6, b"param,gdNIT,800,", Some(Reason::Shape)),
-        (6, b"param,gdNIT,800,,,", Some(Reason::Shape)),
-        (6, b"param,gdNIT,800,x,", Some(Reason::Shape)),
-        (6, b"param,gdNEAT,800,,x", Some(Reason::Shape)),
-        (6, b"\"\"", Some(Reason::Shape)),
-        (6, b"\"param\",\"gdNIT\",\"800\",,\"\"", None),
-        (6, b"param,gdNIT,\"800,,", Some(Reason::Shape)),
-        (6, b" param,gdNIT,800,,", Some(Reason::UnknownName)),
-        (6, b"param, gdNIT,800,,", Some(Reason::UnknownName)),
-        (6, b"version,2,,,", Some(Reason::UnknownName)),
-        (6, b"param,gdNIT, 800,,", Some(Reason::NotNumber)),
-        (6, b"param,gdNIT,800,,\r", None),
-        (1, b"\xEF\xBB\xBFparam,gMacroPerCycle,5000,,", None),
-        (
-            6,
-            b"\xEF\xBB\xBFparam,gdNIT,800,,",
-            Some(Reason::UnknownName),
-        ),
-        (6, b"param,gdNIT,\xFF,,", Some(Reason::NotNumber)),
-        (6, b"param,gdNIT,000000000000000800,,", None),
-        (
-            6,
-            b"param,gdNIT,0000000000000000800,,",
-            Some(Reason::NotNumber),
-        ),
-        (16, b"param,pDelayCompensation,-0,,", None),
-        (16, b"param,pDelayCompensation,-,,", Some(Reason::NotNumber)),
-        (
-            16,
-            b"param,pDelayCompensation,+1,,",
-            Some(Reason::NotNumber),
-        ),
-        (16, b"param,pDelayCompensation,,,", Some(Reason::NotNumber)),
-        (
-            16,
-            b"param,pDelayCompensation,-1,,",
-            Some(Reason::OutOfRange),
-        ),
-        (
-            16,
-            b"param,pDelayCompensation,201,,",
-            Some(Reason::OutOfRange),
-        ),
-        (21, b"node,2,2,C,1", Some(Reason::BadChannel)),
-        (21, b"node,65,2,C,1", Some(Reason::OutOfRange)),
-        (21, b"node,65,x,C,1", Some(Reason::NotNumber)),
-        (21, b"node,2,2,A,2", Some(Reason::OutOfRange)),
-        (21, b"node,2,,C,1", Some(Reason::BadChannel)),
-        (21, b"node,1,2,A,1", Some(Reason::Repeated)),
-        (21, b"node,1,,A,1", Some(Reason::Role)),
-        (21, b"slot,5,1,0,3", Some(Reason::Role)),
-        (21, b"slot,5,9,0,3", Some(Reason::UnknownNode)),
-        (21, b"slot,5,9,64,3", Some(Reason::OutOfRange)),
-        (21, b"slot,5,1,63,64", None),
-    ];
-    for (number, text, why) in rows {
+    for (number, text, why) in REASONS {
         let bytes = edited(rt.alloc(), number as usize, number as usize, text, b"")?;
         let want = why.map(|reason| row(number, reason));
         assert_eq!(rt; fault_of(rt.alloc(), &bytes), want, "at {text:?}");
