@@ -1,11 +1,8 @@
 -- Keys that are all different.
-use Rattle.std.proofs.Common.{◌≡◌, ◌≢◌, ℕ, zero, suc, ◌+◌, ◌<◌, ◌≤◌, List, length, take, ap, sym, ◌∙◌, refl, arith, ◌⊎◌, inl, inr}
+use Rattle.std.proofs.Common.{◌≡◌, ◌≢◌, ℕ, ◌+◌, ◌<◌, List, length, take, sym, ◌∙◌, arith, ◌⊎◌, inl, inr}
 use Rattle.std.specs.Prelude.{AllPairs, Contains, get_or}
 use Rattle.std.proofs.lemmas.Bool.{cases_eq}
 use Rattle.std.proofs.lemmas.List.{get_or-take, get_or_default, length-take}
-use Rattle.fr_params.specs.Constraints.{Amounts, Holds, IsWholeCycle, ActsInSlot, CorrectsBehindSlots, LeavesMicroticks, IsPassiveFirst, HasSyncNodes, AreKeySlots}
-use Rattle.fr_params.specs.declared.names.ParamName.TheVariants as name
-use Rattle.fr_params.specs.declared.rows.SlotSpec.{SlotSpec}
 
 -- those below a place are all different
 abbrev pub DifferBelow : List ℕ → ℕ → Type 0

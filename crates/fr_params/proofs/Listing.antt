@@ -3,11 +3,10 @@ use Rattle.std.proofs.Common.{◌≡◌, ℕ, zero, suc, ◌+◌, ◌<◌, ◌�
 use Rattle.std.proofs.lemmas.Bool.{cases_eq}
 use Rattle.std.specs.Prelude.{All, AllPairs, Contains, IsSome, get_or}
 use Rattle.std.proofs.lemmas.List.{append-nil, map-append}
-use Rattle.std.proofs.lemmas.List.Elements.{All-nil, All-push, All-get_or, Contains-append_left, Contains-push}
+use Rattle.std.proofs.lemmas.List.Elements.{All-nil, All-push, Contains-append_left, Contains-push}
 use Rattle.std.proofs.lemmas.List.Quantifiers.{all_pairs_push}
 use Rattle.fr_records.specs.Records.{Record}
-use Rattle.fr_params.specs.Rows.{IsProperNode, IsProperSlot}
-use Rattle.fr_params.specs.Draft.{entry, IsNodeAt, IsSlotAt, IsDraftOf}
+use Rattle.fr_params.specs.Draft.{entry, IsDraftOf}
 use Rattle.fr_params.specs.Lists.{as_list, listed}
 use Rattle.fr_params.specs.Sane.{IsSaneNode, IsSaneSlot, AreSaneLists}
 use Rattle.fr_params.specs.declared.rows.NodeSpec.{NodeSpec}

@@ -1,13 +1,13 @@
 -- Parameters that are made of numbers by the place of their name.
-use Rattle.std.proofs.Common.{◌≡◌, ℕ, ℤ, pos, ◌<◌, ◌≤◌, List, [], Option, Some, ap, sym, ◌∙◌, refl, arith, subst}
+use Rattle.std.proofs.Common.{◌≡◌, ℕ, ℤ, pos, ◌<◌, ◌≤◌, List, Some, ap, sym, ◌∙◌, refl, arith, subst}
 use Rattle.std.specs.Prelude.{nat_abs, slice_index_or}
 use mir.Val.{to_z, of_z, SFits}
 use mir.Syntax.{w64}
 use Rattle.std.proofs.lemmas.Int.{to_z-of_z, ints}
 use Rattle.fr_records.specs.Records.{Record}
-use Rattle.fr_params.specs.Names.{place, least, greatest}
+use Rattle.fr_params.specs.Names.{place, greatest}
 use Rattle.fr_params.specs.Rows.{InRange}
-use Rattle.fr_params.specs.Reasons.{value_at, node_at, slot_at}
+use Rattle.fr_params.specs.Reasons.{node_at, slot_at}
 use Rattle.fr_params.specs.Values.{Values, figure, amount}
 use Rattle.fr_params.specs.Numbers.{number_in, amount_in, AreInRange}
 use Rattle.fr_params.specs.Constraints.{Amounts, AllHold, FirstFails, key_slots}

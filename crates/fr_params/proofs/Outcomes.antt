@@ -4,7 +4,7 @@ use Rattle.std.specs.Prelude.{IsSome, nat_lt}
 use Rattle.std.proofs.lemmas.Bool.{cases_eq}
 use borrow.Author.Tests.{ltb-true, ltb-false}
 use Rattle.fr_records.specs.Records.{Record, records_of}
-use Rattle.fr_records.specs.Refusal.{Refusing, NoneRefused, FirstRefused}
+use Rattle.fr_records.specs.Refusal.{NoneRefused, FirstRefused}
 use Rattle.fr_records.proofs.Cuts.{first-same}
 use Rattle.fr_base.specs.declared.reason.Reason.{Reason}
 use Rattle.fr_params.specs.Names.{place}

@@ -11,7 +11,7 @@ use Rattle.fr_records.specs.Records.{Record}
 use Rattle.fr_params.specs.Names.{place}
 use Rattle.fr_params.specs.Rows.{row_of, kind_row, InRange, IsProperNode, IsProperSlot}
 use Rattle.fr_params.specs.Reasons.{or_else, looked_up, value_in, node_in, slot_in, value_at, node_at, slot_at, has_turn, is_keyless_starter}
-use Rattle.fr_params.specs.Draft.{entry, Shows, AreRanged, IsNodeAt, AreNodes, IsSlotAt, AreSlots, IsDraftOf}
+use Rattle.fr_params.specs.Draft.{entry, Shows, IsNodeAt, IsSlotAt, IsDraftOf}
 use Rattle.fr_params.specs.declared.names.ParamName.{ParamName}
 use Rattle.fr_params.specs.declared.names.ParamName.TheVariants as name
 use Rattle.fr_params.specs.declared.names.TheConstants.{NAMES}
@@ -157,21 +157,19 @@ shows-kept t size said done r h more = record {
   same = λ j below. h.same j below ∙ sym (more j ∙ or_else-none (said j done));
 }
 
+-- an option is not empty and full
+none-some : {A P : Type 0} (o : Option A) (x : A) → o ≡ None → o ≡ Some x → P
+none-some o x none some = let both : ◌≡◌ {A = Option _} None (Some x) = sym none ∙ some in cc
+
 -- no table has anything at first
 nothing : {A P : Type 0} (size k : ℕ) (x : A) → entry (replicate size None) k ≡ Some x → P
 nothing {A} {P} size k x e = by (ltb k size) refl
   where
-    clash : entry (replicate size None) k ≡ None → P
-    clash none = let both : ◌≡◌ {A = Option A} None (Some x) = sym none ∙ e in cc
-
     by : (b : Bool) → ltb k size ≡ b → P
-    by true h =
-        let none : entry (replicate size None) k ≡ None = get_or-replicate size k None None (ltb-true k size h) in
-        clash none
+    by true h = none-some (entry (replicate size None) k) x (get_or-replicate size k None None (ltb-true k size h)) e
     by false h =
         let long : length (replicate size None) ≤ k = omega (arith, length-replicate {A = Option A} size None, ltb-false k size h) in
-        let none : entry (replicate size None) k ≡ None = get_or_past (replicate size None) k None long in
-        clash none
+        none-some (entry (replicate size None) k) x (get_or_past (replicate size None) k None long) e
 
 -- a table of nothing
 pub draft-nil : (d : Draft) → d.values ≡ replicate 19 None → d.nodes ≡ replicate 65 None → d.slots ≡ replicate 1024 None → IsDraftOf d []

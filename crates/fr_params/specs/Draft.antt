@@ -1,5 +1,5 @@
 -- What the tables under construction hold of the records so far.
-use Rattle.std.specs.Prelude.{ℕ, ℤ, ◌≡◌, ◌<◌, Bool, true, false, List, length, Option, Some, None, IsSome, slice_index_or}
+use Rattle.std.specs.Prelude.{ℕ, ℤ, ◌≡◌, ◌<◌, true, false, List, length, Option, Some, None, IsSome, slice_index_or}
 use Rattle.fr_records.specs.Records.{Record}
 use Rattle.fr_params.specs.Names.{place}
 use Rattle.fr_params.specs.Rows.{InRange, IsProperNode, IsProperSlot}

@@ -1,12 +1,11 @@
 -- Why a record of a parameter file is refused behind the records before it: what the earlier records say
 -- is looked up in their list.
-use Rattle.std.specs.Prelude.{ℕ, ℤ, Bool, true, false, not, ◌==◌, ◌&&◌, ◌||◌, nat_lt, List, [], ◌∷◌, Option, Some, None, is_some, is_none, Result, Ok, Err, if◌then◌else◌}
+use Rattle.std.specs.Prelude.{ℕ, ℤ, Bool, not, ◌==◌, ◌&&◌, ◌||◌, nat_lt, List, [], ◌∷◌, Option, Some, None, is_some, is_none, Result, Ok, Err, if◌then◌else◌}
 use Rattle.fr_base.specs.declared.reason.Reason.{Reason}
 use Rattle.fr_base.specs.declared.reason.Reason.TheVariants as reason
 use Rattle.fr_records.specs.Records.{Record}
 use Rattle.fr_params.specs.Names.{place}
 use Rattle.fr_params.specs.Rows.{row_of}
-use Rattle.fr_params.specs.declared.names.ParamName.{ParamName}
 use Rattle.fr_params.specs.declared.rows.NodeSpec.{NodeSpec}
 use Rattle.fr_params.specs.declared.rows.SlotSpec.{SlotSpec}
 use Rattle.fr_params.specs.declared.rows.Row.{Row}

@@ -1,5 +1,5 @@
 -- What a record of a parameter file says by itself.
-use Rattle.std.specs.Prelude.{ℕ, ℤ, ◌≡◌, ◌≤◌, ◌<◌, ◌≤ℤ◌, pos, Bool, true, false, not, ◌==◌, ◌||◌, List, [], ◌∷◌, length, slice_index_or, Option, Some, None, Result, Ok, Err, IfSome, IsSome, codes, if◌then◌else◌}
+use Rattle.std.specs.Prelude.{ℕ, ℤ, ◌≤◌, ◌≤ℤ◌, pos, Bool, true, false, not, ◌==◌, ◌||◌, List, [], length, slice_index_or, Option, Some, None, Result, Ok, Err, IfSome, codes, if◌then◌else◌}
 use Rattle.std.specs.Str.{bytes_eq}
 use Rattle.fr_base.specs.Number.{number_of, within}
 use Rattle.fr_base.specs.declared.numbers.NumberFault.{NumberFault}

@@ -1,5 +1,5 @@
 -- What holds of all parameters.
-use Rattle.std.specs.Prelude.{ℕ, ◌≡◌, ◌<◌, ◌≤◌, true, false, List, length, map, All, AllPairs, Contains}
+use Rattle.std.specs.Prelude.{◌≡◌, ◌<◌, ◌≤◌, true, false, List, length, map, All, AllPairs, Contains}
 use Rattle.fr_params.specs.Rows.{InRange, IsProperNode, IsProperSlot}
 use Rattle.fr_params.specs.Reasons.{has_turn, is_keyless_starter}
 use Rattle.fr_params.specs.Values.{Values, figure, amount}

@@ -1,5 +1,5 @@
-use Rattle.std.proofs.Common.{◌≡◌, sym, take, ℕ}
-use Rattle.std.specs.Prelude.{Contains, get_or}
+use Rattle.std.proofs.Common.{take}
+use Rattle.std.specs.Prelude.{Contains}
 use Rattle.std.proofs.lemmas.List.{get_or_read}
 use Rattle.fr_params.proofs.Distinct.{differ-more, differ-not}
 use Rattle.fr_params.proofs.limits.all_differ.Goals as goal

@@ -1,4 +1,4 @@
-use Rattle.std.proofs.Common.{◌≡◌, ◌+◌, ◌<◌, ◌∙◌, sym, length, arith, None}
+use Rattle.std.proofs.Common.{◌+◌, ◌<◌, ◌∙◌, sym, length, arith, None}
 use Rattle.std.proofs.lemmas.List.{get_or_default}
 use Rattle.fr_params.proofs.Listing.{listed-zero, listed-pushed}
 use Rattle.fr_params.proofs.reading.listed_nodes.Goals as goal

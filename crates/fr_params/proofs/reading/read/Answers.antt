@@ -1,4 +1,4 @@
-use Rattle.std.proofs.Common.{◌≡◌, ◌∙◌, ap, sym, refl, List, ℕ}
+use Rattle.std.proofs.Common.{◌∙◌, ap}
 use Rattle.fr_records.specs.Records.{records_of}
 use Rattle.fr_params.specs.Constraints.{key_slots}
 use Rattle.fr_params.proofs.Listing.{sane-lists}

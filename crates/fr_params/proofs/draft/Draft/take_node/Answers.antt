@@ -1,4 +1,4 @@
-use Rattle.std.proofs.Common.{rules, sym, ◌∙◌, ◌≡◌, ◌<◌, length, arith, None}
+use Rattle.std.proofs.Common.{sym, ◌∙◌, ◌≡◌, ◌<◌, length, arith, None}
 use Rattle.fr_params.specs.Draft.{entry}
 use Rattle.fr_params.proofs.Tables.{draft-node, entry-none}
 use Rattle.fr_params.proofs.draft.Draft.take_node.Goals as goal

@@ -1,4 +1,4 @@
-use Rattle.std.proofs.Common.{rules, sym, ◌∙◌, ◌≡◌, ◌<◌, length, arith, None}
+use Rattle.std.proofs.Common.{sym, ◌∙◌, ◌≡◌, ◌<◌, length, arith, None}
 use Rattle.std.specs.Prelude.{IsSome}
 use Rattle.fr_params.specs.Draft.{entry}
 use Rattle.fr_params.proofs.Tables.{draft-slot, entry-none, entry-some}

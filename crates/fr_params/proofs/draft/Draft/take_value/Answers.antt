@@ -1,4 +1,4 @@
-use Rattle.std.proofs.Common.{rules, sym, ◌∙◌, ◌≡◌, ◌<◌, length, arith, Option, Some, None, ℤ}
+use Rattle.std.proofs.Common.{sym, ◌≡◌, ◌<◌, length, arith, None}
 use mir.Val.{to_z, of_z}
 use mir.Syntax.{w64}
 use Rattle.std.proofs.lemmas.Int.{to_z-of_z}
