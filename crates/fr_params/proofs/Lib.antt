@@ -3,3 +3,4 @@ pub mod Listing
 pub mod Making
 pub mod Distinct
 pub mod Outcomes
+pub mod Fourth

@@ -150,7 +150,7 @@ reads-same bytes (Err (fault.Constraint k)) (Err fault.NoMemory) na nb f g = abs
 reads-same bytes (Err fault.NoMemory) b na nb f g = absurd (na refl)
 
 -- what is cut off to 0 is no more than nothing
-cut-none : (macros correction offset micros rate : ℕ) → 1 ≤ macros → micros ≤ rate → macros * (correction + offset + 1) ≤ (micros - rate) * correction → ⊥
+pub cut-none : (macros correction offset micros rate : ℕ) → 1 ≤ macros → micros ≤ rate → macros * (correction + offset + 1) ≤ (micros - rate) * correction → ⊥
 cut-none macros correction offset micros rate some le h = let none : micros - rate ≡ 0 = omega arith in let least = rw none at h in omega (arith, least)
 
 -- under the constraints no difference of the definitions is cut off at 0

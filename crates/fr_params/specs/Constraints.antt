@@ -1,5 +1,5 @@
 -- The eight constraints on the parameters of a cluster, over the number of each name as a natural.
-use Rattle.std.specs.Prelude.{ℕ, zero, suc, ◌≡◌, ◌≢◌, ◌+◌, ◌-◌, ◌*◌, ◌<◌, ◌≤◌, List, length, All, AllPairs, Contains}
+use Rattle.std.specs.Prelude.{pos, ◌+ℤ◌, ◌-ℤ◌, ◌*ℤ◌, ◌≤ℤ◌, ℕ, zero, suc, ◌≡◌, ◌≢◌, ◌+◌, ◌-◌, ◌*◌, ◌<◌, ◌≤◌, List, length, All, AllPairs, Contains}
 use Rattle.std.specs.List.{filter_map}
 use Rattle.fr_params.specs.declared.names.ParamName.{ParamName}
 use Rattle.fr_params.specs.declared.names.ParamName.TheVariants as name
@@ -38,6 +38,12 @@ least_micros f = f name.pMicroPerCycle - f name.pRateCorrectionOut
 -- 4: (N - Ro)(G - O) is at least G (G - O + Oo + 1): the shortest cycle has a microtick for each macrotick of the correction
 abbrev pub LeavesMicroticks : Amounts → Type 0
 LeavesMicroticks f = f name.gMacroPerCycle * (correction_macros f + f name.pOffsetCorrectionOut + 1) ≤ least_micros f * correction_macros f
+
+-- the same over signed numbers, where no difference is cut off; a law says that under 3 it is the same
+abbrev pub LeavesSignedMicroticks : Amounts → Type 0
+LeavesSignedMicroticks f =
+    (pos (f name.gMacroPerCycle) *ℤ (((pos (f name.gMacroPerCycle) -ℤ pos (f name.gOffsetCorrectionStart)) +ℤ pos (f name.pOffsetCorrectionOut)) +ℤ pos 1))
+    ≤ℤ ((pos (f name.pMicroPerCycle) -ℤ pos (f name.pRateCorrectionOut)) *ℤ (pos (f name.gMacroPerCycle) -ℤ pos (f name.gOffsetCorrectionStart)))
 
 -- 5: a node is passive before it halts
 abbrev pub IsPassiveFirst : Amounts → Type 0

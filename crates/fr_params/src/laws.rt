@@ -1,5 +1,6 @@
-ghost use Rattle.std.specs.Prelude.{◌≡◌, ◌≢◌, ◌<◌, ℕ, List, Result, Ok, Err};
+ghost use Rattle.std.specs.Prelude.{◌≡◌, ◌≢◌, ◌<◌, ◌↔◌, ℕ, List, Result, Ok, Err};
 ghost use Rattle.fr_params.specs.Values.{Values, amount};
+ghost use Rattle.fr_params.specs.Constraints.{Amounts, CorrectsBehindSlots, LeavesMicroticks, LeavesSignedMicroticks};
 ghost use Rattle.fr_params.specs.Sane.{IsSane};
 ghost use Rattle.fr_params.specs.Files.{Reads};
 ghost use Rattle.fr_params.specs.declared.names.ParamName.TheVariants as name;
@@ -15,4 +16,10 @@ pub fn one_answer()
 /// Under the constraints no difference of natural numbers in their definitions is cut off at 0.
 pub fn no_difference_is_cut()
     ensures { (p : Values) → IsSane p → (amount p name.pRateCorrectionOut < amount p name.pMicroPerCycle) × (amount p name.gOffsetCorrectionStart < amount p name.gMacroPerCycle) }
+{}
+
+/// The fourth constraint is said over natural numbers; where the third holds it is the one that is stated
+/// over signed numbers.
+pub fn fourth_constraint_is_signed()
+    ensures { (f : Amounts) → CorrectsBehindSlots f → (LeavesMicroticks f ↔ LeavesSignedMicroticks f) }
 {}

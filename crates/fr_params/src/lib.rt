@@ -15,7 +15,7 @@ mod rows;
 mod tests;
 
 pub use fault::ParamFault;
-pub use laws::{no_difference_is_cut, one_answer};
+pub use laws::{fourth_constraint_is_signed, no_difference_is_cut, one_answer};
 pub use lists::{NodeList, SlotList};
 pub use names::{NAMES, ParamName};
 pub use params::Params;
