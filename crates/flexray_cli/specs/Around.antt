@@ -14,6 +14,18 @@ pub record Around : Type 0 where
   pub write_before : ℕ
   pub write_after : ℕ
 
+-- the same from what a shelf and a sink tell before and after: what is held, the counts of reads, what was written, the count of writes
+abbrev pub around_of : (List ℕ → Option (List ℕ)) → (List ℕ → ℕ) → (List ℕ → ℕ) → Option (List ℕ) → Option (List ℕ) → ℕ → ℕ → Around
+around_of held read_before read_after written_before written_after write_before write_after = record {
+  held = held;
+  read_before = read_before;
+  read_after = read_after;
+  written_before = written_before;
+  written_after = written_after;
+  write_before = write_before;
+  write_after = write_after;
+}
+
 -- a file was loaded: these are its bytes where the shelf tells them, and they are not too many
 pub record IsLoaded (around : Around) (file bytes : List ℕ) : Type 0 where
   pub held : IsHeld (around.held file) bytes

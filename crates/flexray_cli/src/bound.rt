@@ -1,7 +1,7 @@
 ghost use Rattle.std.specs.Prelude.{◌≡◌, ◌<◌, ◌≤◌, IfErr, OnOk, OnErr};
 ghost use Rattle.std.specs.Io.KnownBytes.{Appends};
 ghost use Rattle.fr_base.specs.Device.{Rose, AppendsFront};
-ghost use Rattle.flexray_cli.specs.Around.{Around};
+ghost use Rattle.flexray_cli.specs.Around.{around_of};
 ghost use Rattle.flexray_cli.specs.Failure.{OutcomeWritesNothing, CanShow};
 ghost use Rattle.flexray_cli.specs.BoundText.{bound_text};
 ghost use Rattle.flexray_cli.specs.BoundAnswer.{BoundEnds};
@@ -20,15 +20,9 @@ pub fn answer<S: Shelf, O: Sink>(
     shelf: &mut S,
     out: &mut O,
 ) -> Result<(), Failure>
-    ensures ends { BoundEnds file.now (record {
-      held = S.held shelf.old;
-      read_before = S.faults shelf.old;
-      read_after = S.faults shelf.new;
-      written_before = O.written out.old;
-      written_after = O.written out.new;
-      write_before = O.faults out.old;
-      write_after = O.faults out.new;
-    }) result }
+    ensures ends { BoundEnds file.now
+        (around_of (S.held shelf.old) (S.faults shelf.old) (S.faults shelf.new)
+        (O.written out.old) (O.written out.new) (O.faults out.old) (O.faults out.new)) result }
     ensures unwritten { OutcomeWritesNothing result → out.new ≡ out.old }
     ensures shown { IfErr result CanShow }
 {

@@ -1,5 +1,5 @@
 ghost use Rattle.std.specs.Prelude.{◌≡◌, IfErr};
-ghost use Rattle.flexray_cli.specs.Around.{Around};
+ghost use Rattle.flexray_cli.specs.Around.{around_of};
 ghost use Rattle.flexray_cli.specs.Failure.{OutcomeWritesNothing, CanShow};
 ghost use Rattle.flexray_cli.specs.FrameAnswer.{FrameEnds};
 
@@ -18,15 +18,9 @@ pub fn answer<S: Shelf, O: Sink>(
     shelf: &mut S,
     out: &mut O,
 ) -> Result<(), Failure>
-    ensures ends { FrameEnds channel file.now (record {
-      held = S.held shelf.old;
-      read_before = S.faults shelf.old;
-      read_after = S.faults shelf.new;
-      written_before = O.written out.old;
-      written_after = O.written out.new;
-      write_before = O.faults out.old;
-      write_after = O.faults out.new;
-    }) result }
+    ensures ends { FrameEnds channel file.now
+        (around_of (S.held shelf.old) (S.faults shelf.old) (S.faults shelf.new)
+        (O.written out.old) (O.written out.new) (O.faults out.old) (O.faults out.new)) result }
     ensures unwritten { OutcomeWritesNothing result → out.new ≡ out.old }
     ensures shown { IfErr result CanShow }
 {

@@ -3,7 +3,7 @@ ghost use Rattle.fr_base.specs.declared.channel.Channel.{Channel};
 ghost use Rattle.fr_base.specs.Device.{Rose, IsHeld};
 ghost use Rattle.flexray_cli.specs.declared.failure.Failure.TheVariants.{Usage};
 ghost use Rattle.flexray_cli.specs.Request.{texts, AsksFrame, AsksBound, IsNoRequest};
-ghost use Rattle.flexray_cli.specs.Around.{Around};
+ghost use Rattle.flexray_cli.specs.Around.{around_of};
 ghost use Rattle.flexray_cli.specs.Failure.{IsPut, WritesNothing, OutcomeWritesNothing, CanShow, failure_line};
 ghost use Rattle.flexray_cli.specs.FrameAnswer.{FrameEnds, IsFrameStatus};
 ghost use Rattle.flexray_cli.specs.BoundAnswer.{BoundEnds, IsBoundStatus};
@@ -28,51 +28,30 @@ pub fn flexray<S: Shelf, O: Sink, E: Sink>(
 ) -> Status
     // Words that are no request, and no others, are answered so, whatever the shelf and the sinks do.
     ensures usage { (result ≡ Status.Usage) ↔ IsNoRequest (texts words.now) }
-    ensures usage_told { result ≡ Status.Usage → IsPut (E.written err.old) (E.written err.new) (E.faults err.old) (E.faults err.new) (failure_line Usage) }
+    ensures usage_told { result ≡ Status.Usage →
+        IsPut (E.written err.old) (E.written err.new) (E.faults err.old) (E.faults err.new) (failure_line Usage) }
 
     // For each request: what each status says, what was written, and the line of a failure.
     ensures frame { (channel : Channel) (file : List ℕ) → AsksFrame (texts words.now) channel file →
-        IsAnswer (FrameEnds channel file (record {
-          held = S.held shelf.old;
-          read_before = S.faults shelf.old;
-          read_after = S.faults shelf.new;
-          written_before = O.written out.old;
-          written_after = O.written out.new;
-          write_before = O.faults out.old;
-          write_after = O.faults out.new;
-        })) (E.written err.old) (E.written err.new) (E.faults err.old) (E.faults err.new) result }
+        IsAnswer (FrameEnds channel file
+        (around_of (S.held shelf.old) (S.faults shelf.old) (S.faults shelf.new)
+        (O.written out.old) (O.written out.new) (O.faults out.old) (O.faults out.new)))
+        (E.written err.old) (E.written err.new) (E.faults err.old) (E.faults err.new) result }
     ensures bound { (file : List ℕ) → AsksBound (texts words.now) file →
-        IsAnswer (BoundEnds file (record {
-          held = S.held shelf.old;
-          read_before = S.faults shelf.old;
-          read_after = S.faults shelf.new;
-          written_before = O.written out.old;
-          written_after = O.written out.new;
-          write_before = O.faults out.old;
-          write_after = O.faults out.new;
-        })) (E.written err.old) (E.written err.new) (E.faults err.old) (E.faults err.new) result }
+        IsAnswer (BoundEnds file
+        (around_of (S.held shelf.old) (S.faults shelf.old) (S.faults shelf.new)
+        (O.written out.old) (O.written out.new) (O.faults out.old) (O.faults out.new)))
+        (E.written err.old) (E.written err.new) (E.faults err.old) (E.faults err.new) result }
 
     // Where the bytes of the file are told and no fault was counted, they decide the status, but for want of memory.
     ensures complete_frame { (channel : Channel) (file : List ℕ) → AsksFrame (texts words.now) channel file →
-        IsComplete (IsFrameStatus channel) file (record {
-          held = S.held shelf.old;
-          read_before = S.faults shelf.old;
-          read_after = S.faults shelf.new;
-          written_before = O.written out.old;
-          written_after = O.written out.new;
-          write_before = O.faults out.old;
-          write_after = O.faults out.new;
-        }) result }
+        IsComplete (IsFrameStatus channel) file
+        (around_of (S.held shelf.old) (S.faults shelf.old) (S.faults shelf.new)
+        (O.written out.old) (O.written out.new) (O.faults out.old) (O.faults out.new)) result }
     ensures complete_bound { (file : List ℕ) → AsksBound (texts words.now) file →
-        IsComplete IsBoundStatus file (record {
-          held = S.held shelf.old;
-          read_before = S.faults shelf.old;
-          read_after = S.faults shelf.new;
-          written_before = O.written out.old;
-          written_after = O.written out.new;
-          write_before = O.faults out.old;
-          write_after = O.faults out.new;
-        }) result }
+        IsComplete IsBoundStatus file
+        (around_of (S.held shelf.old) (S.faults shelf.old) (S.faults shelf.new)
+        (O.written out.old) (O.written out.new) (O.faults out.old) (O.faults out.new)) result }
 
     // Only `Done` and a failed write leave anything on `out`, and `Done` nothing on `err`.
     ensures unwritten { WritesNothing result → out.new ≡ out.old }
@@ -96,25 +75,13 @@ fn answer<S: Shelf, O: Sink>(
 ) -> Result<(), Failure>
     ensures usage { (result ≡ Err Usage) ↔ IsNoRequest (texts words.now) }
     ensures frame { (channel : Channel) (file : List ℕ) → AsksFrame (texts words.now) channel file →
-        FrameEnds channel file (record {
-          held = S.held shelf.old;
-          read_before = S.faults shelf.old;
-          read_after = S.faults shelf.new;
-          written_before = O.written out.old;
-          written_after = O.written out.new;
-          write_before = O.faults out.old;
-          write_after = O.faults out.new;
-        }) result }
+        FrameEnds channel file
+        (around_of (S.held shelf.old) (S.faults shelf.old) (S.faults shelf.new)
+        (O.written out.old) (O.written out.new) (O.faults out.old) (O.faults out.new)) result }
     ensures bound { (file : List ℕ) → AsksBound (texts words.now) file →
-        BoundEnds file (record {
-          held = S.held shelf.old;
-          read_before = S.faults shelf.old;
-          read_after = S.faults shelf.new;
-          written_before = O.written out.old;
-          written_after = O.written out.new;
-          write_before = O.faults out.old;
-          write_after = O.faults out.new;
-        }) result }
+        BoundEnds file
+        (around_of (S.held shelf.old) (S.faults shelf.old) (S.faults shelf.new)
+        (O.written out.old) (O.written out.new) (O.faults out.old) (O.faults out.new)) result }
     ensures unwritten { OutcomeWritesNothing result → out.new ≡ out.old }
     ensures shown { IfErr result CanShow }
 {
@@ -130,15 +97,9 @@ fn carry_out<S: Shelf, O: Sink>(
     shelf: &mut S,
     out: &mut O,
 ) -> Result<(), Failure>
-    ensures ends { RequestEnds request.entry (record {
-      held = S.held shelf.old;
-      read_before = S.faults shelf.old;
-      read_after = S.faults shelf.new;
-      written_before = O.written out.old;
-      written_after = O.written out.new;
-      write_before = O.faults out.old;
-      write_after = O.faults out.new;
-    }) result }
+    ensures ends { RequestEnds request.entry
+        (around_of (S.held shelf.old) (S.faults shelf.old) (S.faults shelf.new)
+        (O.written out.old) (O.written out.new) (O.faults out.old) (O.faults out.new)) result }
     ensures unwritten { OutcomeWritesNothing result → out.new ≡ out.old }
     ensures shown { IfErr result CanShow }
 {

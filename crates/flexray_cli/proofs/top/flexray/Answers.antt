@@ -1,7 +1,7 @@
 use Rattle.std.proofs.Common.{◌≡◌, Ok, Err, sym, ◌∙◌, subst}
 use Rattle.flexray_cli.specs.declared.failure.Failure.{Failure}
 use Rattle.flexray_cli.specs.declared.status.Status.{Status}
-use Rattle.flexray_cli.specs.Around.{Around}
+use Rattle.flexray_cli.specs.Around.{Around, around_of}
 use Rattle.flexray_cli.specs.Failure.{IsPut, failure_line}
 use Rattle.flexray_cli.specs.FrameAnswer.{IsFrameStatus}
 use Rattle.flexray_cli.specs.BoundAnswer.{IsBoundStatus}
@@ -23,28 +23,12 @@ returns-in-Err-clause-usage_told g c = λ usage.
 
 pub returns-in-Err-clause-complete_frame : goal.returns-in-Err-clause-complete_frame
 returns-in-Err-clause-complete_frame g c = λ channel file asked.
-    let around : Around = record {
-      held = g.S.Shelf.held c.args.shelf.now;
-      read_before = g.S.Shelf.faults c.args.shelf.now;
-      read_after = g.S.Shelf.faults c.answer.new.shelf;
-      written_before = g.O.Sink.written c.args.out.now;
-      written_after = g.O.Sink.written c.answer.new.out;
-      write_before = g.O.Sink.faults c.args.out.now;
-      write_after = g.O.Sink.faults c.answer.new.out;
-    } in
+    let around : Around = around_of (g.S.Shelf.held c.args.shelf.now) (g.S.Shelf.faults c.args.shelf.now) (g.S.Shelf.faults c.answer.new.shelf) (g.O.Sink.written c.args.out.now) (g.O.Sink.written c.answer.new.out) (g.O.Sink.faults c.args.out.now) (g.O.Sink.faults c.answer.new.out) in
     let P : Status → Type 0 = IsComplete (IsFrameStatus channel) file around in
     subst P (sym c.status.ensures) (frame_complete channel file around (Err c.in-Err.failure) (c.in-Err.ensures.frame channel file asked))
 
 pub returns-in-Err-clause-complete_bound : goal.returns-in-Err-clause-complete_bound
 returns-in-Err-clause-complete_bound g c = λ file asked.
-    let around : Around = record {
-      held = g.S.Shelf.held c.args.shelf.now;
-      read_before = g.S.Shelf.faults c.args.shelf.now;
-      read_after = g.S.Shelf.faults c.answer.new.shelf;
-      written_before = g.O.Sink.written c.args.out.now;
-      written_after = g.O.Sink.written c.answer.new.out;
-      write_before = g.O.Sink.faults c.args.out.now;
-      write_after = g.O.Sink.faults c.answer.new.out;
-    } in
+    let around : Around = around_of (g.S.Shelf.held c.args.shelf.now) (g.S.Shelf.faults c.args.shelf.now) (g.S.Shelf.faults c.answer.new.shelf) (g.O.Sink.written c.args.out.now) (g.O.Sink.written c.answer.new.out) (g.O.Sink.faults c.args.out.now) (g.O.Sink.faults c.answer.new.out) in
     let P : Status → Type 0 = IsComplete IsBoundStatus file around in
     subst P (sym c.status.ensures) (bound_complete file around (Err c.in-Err.failure) (c.in-Err.ensures.bound file asked))
