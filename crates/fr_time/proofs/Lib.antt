@@ -1,0 +1,5 @@
+pub mod Floors
+pub mod Placing
+pub mod Ends
+pub mod Found
+pub mod Rows

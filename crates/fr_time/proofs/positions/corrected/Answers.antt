@@ -1,0 +1,52 @@
+use Rattle.std.proofs.Common.{◌≡◌, pos, FitsSigned, w32, w64, arith, rules}
+use Rattle.std.specs.Prelude.{◌≤ℤ◌, ◌+ℤ◌, ◌-ℤ◌, ◌*ℤ◌}
+use Rattle.std.proofs.lemmas.Int.{ints, to_z-of_z}
+use Rattle.fr_time.specs.Position.{corrected_micros, corrected_position, even_position, floor_of}
+use Rattle.fr_time.proofs.Ends.{corrected_position_le}
+use Rattle.fr_time.proofs.positions.corrected.Goals as goal
+
+pub share-requires-clause-count_from : goal.share-requires-clause-count_from
+share-requires-clause-count_from c =
+    let grid = c.requires.placeable.is_grid in omega (arith, ints, grid.correction_from, grid.correction_to, grid.macros_to, c.requires.from, c.requires.to)
+
+pub share-requires-clause-count_to : goal.share-requires-clause-count_to
+share-requires-clause-count_to c =
+    let grid = c.requires.placeable.is_grid in omega (arith, ints, grid.correction_from, grid.correction_to, grid.macros_to, c.requires.from, c.requires.to)
+
+pub share-requires-clause-parts_from : goal.share-requires-clause-parts_from
+share-requires-clause-parts_from c =
+    let grid = c.requires.placeable.is_grid in omega (arith, ints, grid.correction_from, grid.correction_to, grid.macros_to)
+
+pub share-requires-clause-parts_to : goal.share-requires-clause-parts_to
+share-requires-clause-parts_to c =
+    let grid = c.requires.placeable.is_grid in omega (arith, ints, grid.correction_from, grid.correction_to, grid.macros_to)
+
+-- what the calls answer, without the conversions of their arguments
+value_lem : (c : goal.After-share) → c.even-start.result +ℤ c.share.result ≡ corrected_position c.args.grid.now c.args.rate c.args.offset c.args.macrotick
+value_lem c =
+    let grid = c.requires.placeable.is_grid in
+    let rate : FitsSigned w32 c.args.rate = c.ranges.rate in
+    let offset : FitsSigned w32 c.args.offset = c.ranges.offset in
+    let macrotick : FitsSigned w64 c.args.macrotick = c.ranges.macrotick in
+    let start_fits : FitsSigned w64 c.even-start.result = search rules in
+    let macros : FitsSigned w64 c.args.grid.now.macros = omega (arith, ints, grid.correction_from, grid.correction_to, grid.macros_to) in
+    let correction : FitsSigned w64 c.args.grid.now.correction = omega (arith, ints, grid.correction_from, grid.correction_to, grid.macros_to) in
+    let count : FitsSigned w64 (c.args.macrotick -ℤ c.args.grid.now.correction) = omega (arith, ints, grid.correction_from, grid.correction_to, grid.macros_to, c.requires.from, c.requires.to) in
+    let parts : FitsSigned w64 (c.args.grid.now.macros -ℤ c.args.grid.now.correction) = omega (arith, ints, grid.correction_from, grid.correction_to, grid.macros_to) in
+    let left_fits : FitsSigned w64 c.left-length.result = search rules in
+    let start : c.even-start.result ≡ even_position c.args.grid.now c.args.rate c.args.grid.now.correction = simp to_z-of_z at c.even-start.ensures.value in
+    let left : c.left-length.result ≡ corrected_micros c.args.grid.now c.args.rate c.args.offset = simp to_z-of_z at c.left-length.ensures.value in
+    let share : c.share.result ≡ floor_of ((c.args.macrotick -ℤ c.args.grid.now.correction) *ℤ c.left-length.result) (c.args.grid.now.macros -ℤ c.args.grid.now.correction) =
+    simp to_z-of_z at c.share.ensures.value in
+    let whole : c.share.result ≡ floor_of ((c.args.macrotick -ℤ c.args.grid.now.correction) *ℤ corrected_micros c.args.grid.now c.args.rate c.args.offset) (c.args.grid.now.macros -ℤ c.args.grid.now.correction) =
+    rw left at share in
+    cc
+
+pub returns-clause-value : goal.returns-clause-value
+returns-clause-value c = let value = value_lem c in omega (arith, ints, value, c.even-start.ensures.low, c.even-start.ensures.high, c.share.ensures.low, c.share.ensures.high)
+
+pub returns-clause-high : goal.returns-clause-high
+returns-clause-high c =
+    let can = c.requires.placeable in
+    let within = corrected_position_le c.args.grid.now c.args.rate c.args.offset c.args.macrotick can c.requires.from c.requires.to in
+    omega (arith, ints, value_lem c, within, can.is_grid.micros_to, can.rate_to, can.offset_to, c.even-start.ensures.low, c.even-start.ensures.high, c.share.ensures.low, c.share.ensures.high)

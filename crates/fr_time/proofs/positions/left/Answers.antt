@@ -1,0 +1,20 @@
+use Rattle.std.proofs.Common.{◌≡◌, pos, arith}
+use Rattle.std.specs.Prelude.{◌≤ℤ◌, ◌+ℤ◌}
+use Rattle.std.proofs.lemmas.Int.{ints}
+use Rattle.fr_time.specs.Position.{even_position}
+use Rattle.fr_time.proofs.positions.left.Goals as goal
+
+pub returns-clause-value : goal.returns-clause-value
+returns-clause-value c =
+    let can = c.requires.placeable in
+    omega (arith, ints, can.is_grid.correction_from, can.is_grid.correction_to, can.is_grid.micros_to, can.micros_from, can.rate_to, can.offset_from, can.offset_to, can.reaches_correction, c.requires.start)
+
+pub returns-clause-low : goal.returns-clause-low
+returns-clause-low c =
+    let can = c.requires.placeable in
+    omega (arith, ints, can.is_grid.correction_from, can.is_grid.correction_to, can.is_grid.micros_to, can.micros_from, can.rate_to, can.offset_from, can.offset_to, can.reaches_correction, c.requires.start)
+
+pub returns-clause-high : goal.returns-clause-high
+returns-clause-high c =
+    let can = c.requires.placeable in
+    omega (arith, ints, can.is_grid.correction_from, can.is_grid.correction_to, can.is_grid.micros_to, can.micros_from, can.rate_to, can.offset_from, can.offset_to, can.reaches_correction, c.requires.start)

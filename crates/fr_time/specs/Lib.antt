@@ -1,0 +1,6 @@
+pub mod Position
+pub mod Instant
+pub mod Walk
+pub mod Cycles
+pub mod Slots
+pub mod Senders

@@ -1,0 +1,26 @@
+-- Macroticks one after the other.
+use Rattle.std.specs.Prelude.{ℤ, pos, Bool, ◌≤ℤ◌}
+use Rattle.fr_time.specs.declared.grid.Grid.{Grid}
+use Rattle.fr_time.specs.Position.{IsPlaceable, position_of}
+
+-- the macroticks of a cycle under its terms, and the next one
+pub record Walk : Type 0 where
+  pub grid : Grid
+  pub rate : ℤ
+  pub offset : ℤ
+  pub odd : Bool
+  pub next : ℤ
+
+-- before macrotick 0
+abbrev pub begun : Grid → ℤ → ℤ → Bool → Walk
+begun grid rate offset odd = record { grid = grid; rate = rate; offset = offset; odd = odd; next = pos 0 }
+
+-- the position of the next macrotick
+abbrev pub next_position : Walk → ℤ
+next_position walk = position_of walk.grid walk.rate walk.offset walk.odd walk.next
+
+-- the macroticks can be placed, and the next one is one of them or their end
+pub record IsWalk (walk : Walk) : Type 0 where
+  pub is_placeable : IsPlaceable walk.grid walk.rate walk.offset
+  pub next_from : pos 0 ≤ℤ walk.next
+  pub next_to : walk.next ≤ℤ walk.grid.macros

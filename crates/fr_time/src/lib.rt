@@ -1,0 +1,22 @@
+//! The time base of a cluster: where each macrotick of a cycle lies, in microticks and in ticks, and which
+//! node sends in which static slot, and when.
+#![tactic(auto)]
+
+mod grid;
+mod laws;
+mod macroticks;
+mod positions;
+mod senders;
+mod slots;
+#[cfg(test)]
+mod tests;
+
+pub use grid::{Grid, grid_of};
+pub use laws::{
+    a_cycle_begins_and_ends, each_cycle_is_in_a_double_cycle, placeable,
+    slots_end_before_the_correction,
+};
+pub use macroticks::Macro;
+pub use positions::{instant, position};
+pub use senders::{Kind, Sending, sender};
+pub use slots::{action_point, slot_bounds};
