@@ -3,3 +3,4 @@ pub mod Placing
 pub mod Ends
 pub mod Found
 pub mod Rows
+pub mod Unused

@@ -37,8 +37,8 @@ position_of grid rate offset odd macrotick =
 pub record IsGrid (grid : Grid) : Type 0 where
   pub correction_from : pos 1 ≤ℤ grid.correction
   pub correction_to : grid.correction <ℤ grid.macros
-  pub macros_to : grid.macros ≤ℤ pos 16000
-  pub micros_to : grid.micros ≤ℤ pos 640000
+  pub macros_to : grid.macros ≤ℤ pos 16_000
+  pub micros_to : grid.micros ≤ℤ pos 640_000
 
 -- the macroticks of a cycle can be placed under these terms: each has a microtick, and the cycle does not end before
 -- its offset correction starts
@@ -47,6 +47,6 @@ pub record IsPlaceable (grid : Grid) (rate offset : ℤ) : Type 0 where
   pub micros_from : grid.macros ≤ℤ (grid.micros +ℤ rate)
   pub rate_from : neg_ℤ (pos 2000) ≤ℤ rate
   pub rate_to : rate ≤ℤ pos 2000
-  pub offset_from : neg_ℤ (pos 16000) ≤ℤ offset
-  pub offset_to : offset ≤ℤ pos 16000
+  pub offset_from : neg_ℤ (pos 16_000) ≤ℤ offset
+  pub offset_to : offset ≤ℤ pos 16_000
   pub reaches_correction : even_position grid rate grid.correction ≤ℤ (grid.micros +ℤ rate +ℤ offset)

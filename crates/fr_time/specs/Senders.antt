@@ -1,5 +1,5 @@
 -- Who sends in a static slot of a cycle, and what kind of frame.
-use Rattle.std.specs.Prelude.{ℕ, ◌%◌, Bool, false, ◌==◌, Option, Some, None, find, if◌then◌else◌}
+use Rattle.std.specs.Prelude.{ℕ, ◌%◌, Bool, false, ◌==◌, ◌≢◌, All, Option, Some, None, find, if◌then◌else◌}
 use Rattle.std.specs.Option.{option_or, option_map}
 use Rattle.fr_params.specs.Values.{Values}
 use Rattle.fr_params.specs.declared.rows.NodeSpec.{NodeSpec}
@@ -36,3 +36,8 @@ further_slot_of p slot = find (λ spec. spec.slot == slot) p.slots
 -- who sends in a slot of a cycle: the node of this key slot, or that of this further slot; no slot is both
 abbrev pub sender_of : Values → ℕ → ℕ → Option Sending
 sender_of p slot cycle = option_or (option_map sync_sending (key_node_of p slot)) (option_map (further_sending cycle) (further_slot_of p slot))
+
+-- a slot is neither a key slot nor a further slot
+pub record IsUnused (p : Values) (slot : ℕ) : Type 0 where
+  pub no_key : All (λ node. node.key ≢ Some slot) p.nodes
+  pub no_further : All (λ spec. spec.slot ≢ slot) p.slots

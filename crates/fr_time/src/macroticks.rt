@@ -47,7 +47,7 @@ impl Macro {
     pub fn next(&mut self) -> Option<i64>
         ensures position { MatchOption result (self.old.grid.macros ≤ℤ self.old.next) (λ at. (self.old.next <ℤ self.old.grid.macros) × (at ≡ next_position self.old)) }
         ensures after { MatchOption result (self.new ≡ self.old) (λ at. self.new ≡ record self.old { next = self.old.next +ℤ pos 1 }) }
-        ensures within { IfSome result (λ at. (pos 0 ≤ℤ at) × (at ≤ℤ pos 700000)) }
+        ensures within { IfSome result (λ at. (pos 0 ≤ℤ at) × (at ≤ℤ pos 700_000)) }
     {
         if self.next >= self.grid.macros {
             return None;

@@ -15,7 +15,7 @@ pub fn position(grid: &Grid, rate: i32, offset: i32, odd: bool, macrotick: i64) 
     requires to { macrotick ≤ℤ grid.now.macros }
     ensures value { result ≡ position_of grid.now rate offset odd macrotick }
     ensures low { pos 0 ≤ℤ result }
-    ensures high { result ≤ℤ pos 700000 }
+    ensures high { result ≤ℤ pos 700_000 }
 {
     if odd && grid.correction < macrotick {
         corrected(grid, rate, offset, macrotick)
@@ -31,12 +31,12 @@ pub fn instant(grid: &Grid, row: &NodeRow, odd: bool, macrotick: i64) -> i64
     requires from { pos 0 ≤ℤ macrotick }
     requires to { macrotick ≤ℤ grid.now.macros }
     requires start_from { pos 0 ≤ℤ row.now.start }
-    requires start_to { row.now.start ≤ℤ pos 900000000000000000 }
-    requires length_from { pos 500000 ≤ℤ row.now.length }
-    requires length_to { row.now.length ≤ℤ pos 1500000 }
+    requires start_to { row.now.start ≤ℤ pos 900_000_000_000_000_000 }
+    requires length_from { pos 500_000 ≤ℤ row.now.length }
+    requires length_to { row.now.length ≤ℤ pos 1_500_000 }
     ensures value { result ≡ instant_of grid.now row.now odd macrotick }
     ensures low { pos 0 ≤ℤ result }
-    ensures high { result ≤ℤ pos 901000000000000000 }
+    ensures high { result ≤ℤ pos 901_000_000_000_000_000 }
 {
     let microticks = position(grid, row.rate, row.offset, odd, macrotick);
     row.start + ticks(microticks, row.length)
@@ -45,12 +45,12 @@ pub fn instant(grid: &Grid, row: &NodeRow, odd: bool, macrotick: i64) -> i64
 // The ticks of so many microticks.
 fn ticks(microticks: i64, length: i64) -> i64
     requires microticks_from { pos 0 ≤ℤ microticks }
-    requires microticks_to { microticks ≤ℤ pos 700000 }
+    requires microticks_to { microticks ≤ℤ pos 700_000 }
     requires length_from { pos 0 ≤ℤ length }
-    requires length_to { length ≤ℤ pos 1500000 }
+    requires length_to { length ≤ℤ pos 1_500_000 }
     ensures value { result ≡ microticks *ℤ length }
     ensures low { pos 0 ≤ℤ result }
-    ensures high { result ≤ℤ pos 1050000000000 }
+    ensures high { result ≤ℤ pos 1_050_000_000_000 }
 {
     microticks * length
 }
@@ -60,12 +60,12 @@ fn share(count: i64, length: i64, parts: i64) -> i64
     requires count_from { pos 0 ≤ℤ count }
     requires count_to { count ≤ℤ parts }
     requires parts_from { pos 1 ≤ℤ parts }
-    requires parts_to { parts ≤ℤ pos 16000 }
+    requires parts_to { parts ≤ℤ pos 16_000 }
     requires length_from { pos 0 ≤ℤ length }
-    requires length_to { length ≤ℤ pos 660000 }
+    requires length_to { length ≤ℤ pos 660_000 }
     ensures value { result ≡ floor_of (count *ℤ length) parts }
     ensures low { pos 0 ≤ℤ result }
-    ensures high { result ≤ℤ pos 660000 }
+    ensures high { result ≤ℤ pos 660_000 }
 {
     (count * length).div_euclid(parts)
 }
@@ -79,7 +79,7 @@ fn even(grid: &Grid, rate: i32, macrotick: i64) -> i64
     requires to { macrotick ≤ℤ grid.now.macros }
     ensures value { result ≡ even_position grid.now rate macrotick }
     ensures low { pos 0 ≤ℤ result }
-    ensures high { result ≤ℤ pos 660000 }
+    ensures high { result ≤ℤ pos 660_000 }
 {
     share(macrotick, grid.micros + rate as i64, grid.macros)
 }
@@ -91,7 +91,7 @@ fn corrected(grid: &Grid, rate: i32, offset: i32, macrotick: i64) -> i64
     requires to { macrotick ≤ℤ grid.now.macros }
     ensures value { result ≡ corrected_position grid.now rate offset macrotick }
     ensures low { pos 0 ≤ℤ result }
-    ensures high { result ≤ℤ pos 700000 }
+    ensures high { result ≤ℤ pos 700_000 }
 {
     let start = even(grid, rate, grid.correction);
     let length = left(grid, rate, offset, start);
@@ -110,7 +110,7 @@ fn left(grid: &Grid, rate: i32, offset: i32, start: i64) -> i64
     requires start_from { pos 0 ≤ℤ start }
     ensures value { result ≡ corrected_micros grid.now rate offset }
     ensures low { pos 0 ≤ℤ result }
-    ensures high { result ≤ℤ pos 660000 }
+    ensures high { result ≤ℤ pos 660_000 }
 {
     grid.micros + rate as i64 + offset as i64 - start
 }

@@ -1,6 +1,6 @@
-ghost use Rattle.std.specs.Prelude.{◌≡◌, ◌<◌};
+ghost use Rattle.std.specs.Prelude.{◌≡◌, ◌<◌, ◌↔◌, IsNone};
 ghost use Rattle.std.specs.Option.{option_map, option_or};
-ghost use Rattle.fr_time.specs.Senders.{further_kind, further_sending, further_slot_of, is_key, key_node_of, sender_of, sync_sending};
+ghost use Rattle.fr_time.specs.Senders.{further_kind, further_sending, further_slot_of, is_key, key_node_of, sender_of, sync_sending, IsUnused};
 
 use fr_base::{NodeId, Slot};
 use fr_params::{NodeSpec, Params, SlotSpec};
@@ -27,7 +27,8 @@ pub struct Sending {
 /// cycle; in a further slot its node sends a frame with valid payload in the cycles whose count modulo the
 /// repetition is the base, and a null frame in all others. None exactly where the slot is neither.
 pub fn sender(params: &Params, slot: Slot, cycle: u32) -> Option<Sending>
-    ensures { result ≡ sender_of params.now slot cycle }
+    ensures value { result ≡ sender_of params.now slot cycle }
+    ensures none { IsNone result ↔ IsUnused params.now slot }
 {
     match key_sending(params, slot.0) {
         None => further(params, slot.0, cycle),

@@ -11,7 +11,7 @@ pub fn action_point(params: &Params, slot: Slot) -> i64
     requires { slot ≤ amount params.now name.gNumberOfStaticSlots }
     ensures value { result ≡ pos (action_point_of params.now slot) }
     ensures low { pos 0 ≤ℤ result }
-    ensures high { result ≤ℤ pos 16000 }
+    ensures high { result ≤ℤ pos 16_000 }
     ensures before_correction { result <ℤ params.now.correction }
 {
     let (start, _) = bounds(params, slot.0);
@@ -25,7 +25,7 @@ pub fn slot_bounds(params: &Params, slot: Slot) -> (i64, i64)
     ensures start { result.0 ≡ pos (slot_start_of params.now slot) }
     ensures end { result.1 ≡ pos (slot_end_of params.now slot) }
     ensures low { pos 0 ≤ℤ result.0 }
-    ensures high { result.1 ≤ℤ pos 16000 }
+    ensures high { result.1 ≤ℤ pos 16_000 }
     ensures before_correction { result.1 <ℤ params.now.correction }
 {
     let (start, end) = bounds(params, slot.0);
