@@ -1,7 +1,7 @@
 -- The numbers of cycles: 0, 1, 2 and so on.
 use Rattle.std.specs.Prelude.{ℕ, ◌+◌, ◌*◌, ◌/◌, ◌%◌, Bool, ◌==◌}
 
--- the cycle count that a frame carries (section 4.2.8)
+-- the cycle count that a frame carries (section 4.2.9)
 abbrev pub cycle_count : ℕ → ℕ
 cycle_count cycle = cycle % 64
 
