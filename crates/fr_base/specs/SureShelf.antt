@@ -1,4 +1,4 @@
--- What a shelf that never fails holds.
+-- What a shelf holds that never answers a fault of its own.
 use Rattle.std.specs.Prelude.{ℕ, List, [], Option, Some, unwrap_or}
 use Rattle.std.specs.Option.{option_map}
 use Rattle.std.specs.BTreeMap.{get_by_text}

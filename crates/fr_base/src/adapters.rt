@@ -1,6 +1,6 @@
 ghost use Rattle.std.specs.Prelude.{◌≡◌, ◌≤◌, ◌<◌, ◌++◌, [], None, length, take, OnOk, OnErr, IfOk, IfErr, IfSome, MatchResult, IsErrOf, IsTrue, vec_len};
 ghost use Rattle.std.specs.Io.KnownBytes.{Appends, Keeps};
-ghost use Rattle.fr_base.specs.Device.{AppendsFront, IsHeld, IfTooLong, IsSeen};
+ghost use Rattle.fr_base.specs.Device.{AppendsFront, Rose, IsHeld, IfTooLong, IsSeen};
 
 use crate::{LoadFault, MAX_FILE, PutFault, Shelf, Sink};
 use std::fs;
@@ -19,6 +19,7 @@ pub struct DiskShelf<R: Files + Drop> {
 }
 
 impl<R: Files + Drop> DiskShelf<R> {
+    /// A shelf over the files, with no fault counted.
     pub fn new(files: R) -> DiskShelf<R> {
         DiskShelf { files, faults: 0 }
     }
@@ -53,17 +54,33 @@ pub struct StreamSink<W: Write + Drop> {
 }
 
 impl<W: Write + Drop> StreamSink<W> {
-    pub fn new(stream: W) -> StreamSink<W> {
+    ghost use Rattle.fr_base.specs.StreamSink.{stream_of, faults_of};
+
+    /// A sink over the stream, with no fault counted.
+    pub fn new(stream: W) -> StreamSink<W>
+        ensures stream { stream_of result ≡ stream }
+        ensures none_counted { faults_of result ≡ 0 }
+    {
         StreamSink { stream, faults: 0 }
     }
 }
 
 impl<W: Write + Drop> Sink for StreamSink<W> {
+    ghost use Rattle.fr_base.specs.StreamSink.{stream_of, faults_of};
+
     ghost written = { λ _. None };
 
-    ghost faults = { λ sink. sink.faults };
+    ghost faults = { faults_of };
 
-    fn put(&mut self, piece: &[u8]) -> Result<(), PutFault> {
+    fn put(&mut self, piece: &[u8]) -> Result<(), PutFault>
+        // what every sink promises that tells no bytes
+        ensures failed { OnErr result (Rose (faults_of self.old) (faults_of self.new)) }
+        ensures never_fall { faults_of self.old ≤ faults_of self.new }
+
+        // Where the stream says what it holds, that grew by the piece, or by a front of it.
+        ensures whole { OnOk result (Appends (W.Write.contents (stream_of self.old)) (W.Write.contents (stream_of self.new)) piece.now) }
+        ensures front { OnErr result (AppendsFront (W.Write.contents (stream_of self.old)) (W.Write.contents (stream_of self.new)) piece.now) }
+    {
         let put = write_whole(&mut self.stream, piece);
         if put.is_err() {
             self.faults = self.faults.saturating_add(1);
@@ -148,3 +165,6 @@ fn flushed<W: Write>(stream: &mut W) -> Result<(), PutFault>
         Err(_) => Err(PutFault::Failed),
     }
 }
+
+#[cfg(test)]
+mod tests;

@@ -43,7 +43,8 @@ impl MemoryShelf {
         }
     }
 
-    /// Puts the bytes under the name, in the place of those that it had. After an error nothing changed.
+    /// Puts the bytes under the name, in the place of those that it had. `AllocError` where memory ran out;
+    /// then nothing changed.
     pub fn hold(&mut self, name: &str, bytes: &[u8]) -> Result<(), AllocError>
         ensures held { OnOk result (held_in self.new name.now ≡ Some bytes.now) }
         ensures others { OnOk result ((other : List ℕ) → other ≢ name.now → held_in self.new other ≡ held_in self.old other) }
@@ -64,8 +65,8 @@ impl MemoryShelf {
         Ok(())
     }
 
-    /// Lists the load of this number, counted from 1, among those that are to fail. After an error
-    /// nothing changed.
+    /// Lists the load of this number, counted from 1, among those that are to fail. `AllocError` where
+    /// memory ran out; then nothing changed.
     pub fn fail_at(&mut self, call: u64) -> Result<(), AllocError>
         ensures listed { OnOk result (failing_loads self.new ≡ failing_loads self.old ++ call ∷ []) }
         ensures unchanged { OnErr result (failing_loads self.new ≡ failing_loads self.old) }
@@ -90,6 +91,7 @@ impl MemoryShelf {
         ensures counted { faults_in self.new name.now ≡ counted (faults_in self.old name.now) }
         ensures never_fall { (other : List ℕ) → faults_in self.old other ≤ faults_in self.new other }
         ensures others { (other : List ℕ) → other ≢ name.now → IsSome (held_in self.old other) → faults_in self.new other ≡ faults_in self.old other }
+        ensures common { IsSome (held_in self.old name.now) → (other : List ℕ) → other ≢ name.now → faults_in self.new other ≡ faults_in self.old other }
         ensures held { (other : List ℕ) → held_in self.new other ≡ held_in self.old other }
         ensures loads { loads_of self.new ≡ loads_of self.old }
         ensures failing { failing_loads self.new ≡ failing_loads self.old }
@@ -125,6 +127,7 @@ impl Shelf for MemoryShelf {
         ensures refuses { IsTrue (refuses self.old name.now) ↔ IsErrOf result LoadFault.Failed }
         ensures counted { IsTrue (refuses self.old name.now) → faults_in self.new name.now ≡ counted (faults_in self.old name.now) }
         ensures others { (other : List ℕ) → other ≢ name.now → IsSome (held_in self.old other) → faults_in self.new other ≡ faults_in self.old other }
+        ensures common { IsSome (held_in self.old name.now) → (other : List ℕ) → other ≢ name.now → faults_in self.new other ≡ faults_in self.old other }
         ensures quiet { (refuses self.old name.now ≡ false) → (other : List ℕ) → faults_in self.new other ≡ faults_in self.old other }
         ensures loads { loads_of self.new ≡ counted (loads_of self.old) }
         ensures failing { failing_loads self.new ≡ failing_loads self.old }

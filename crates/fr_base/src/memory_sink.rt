@@ -21,7 +21,7 @@ pub struct MemorySink {
 impl MemorySink {
     ghost use Rattle.fr_base.specs.MemorySink.{bytes_in, room_of, faults_of, puts_of, failing_puts, takes};
 
-    /// A sink of no bytes, with room for this many.
+    /// A sink of no bytes, with room for this many. `AllocError` where memory ran out.
     pub fn new(alloc: Global, room: usize) -> Result<MemorySink, AllocError>
         ensures empty { IfOk result (λ sink. bytes_in sink ≡ []) }
         ensures room { IfOk result (λ sink. room_of sink ≡ room) }
@@ -46,8 +46,8 @@ impl MemorySink {
         &self.bytes
     }
 
-    /// Lists the put of this number, counted from 1, among those that are to fail. After an error nothing
-    /// changed.
+    /// Lists the put of this number, counted from 1, among those that are to fail. `AllocError` where memory
+    /// ran out; then nothing changed.
     pub fn fail_at(&mut self, call: u64) -> Result<(), AllocError>
         ensures listed { OnOk result (failing_puts self.new ≡ failing_puts self.old ++ call ∷ []) }
         ensures unchanged { OnErr result (failing_puts self.new ≡ failing_puts self.old) }

@@ -1,3 +1,5 @@
+ghost use Rattle.std.specs.Prelude.{◌≡◌};
+
 /// Why a record of a file is refused, numbered 1 to 10 in this order. A record is refused for the reason
 /// with the least number that holds.
 #[derive(Clone, Copy, Debug, PartialEq, Eq, PartialOrd, Ord)]
@@ -14,7 +16,7 @@ pub enum Reason {
     UnknownNode = 5,
     /// A field that is to name channels does not.
     BadChannel = 6,
-    /// What it says does not fit what it says it of.
+    /// Its fields do not go together, or it may not stand here.
     Role = 7,
     /// Two nodes have no such channel in common.
     Link = 8,
@@ -22,4 +24,15 @@ pub enum Reason {
     NotHex = 9,
     /// An earlier record said the same thing.
     Repeated = 10,
+}
+
+impl Reason {
+    ghost use Rattle.fr_base.specs.Reason.{rank_of};
+
+    /// Its number, 1 to 10: a record is refused for the least that holds.
+    pub fn rank(self) -> u8
+        ensures { result ≡ rank_of self }
+    {
+        self as u8
+    }
 }

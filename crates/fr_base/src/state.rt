@@ -1,5 +1,6 @@
-/// The state of a node's protocol operation control: an active node sends, receives and corrects its
-/// clock, a passive one does not send, a halted one does neither.
+/// The state of a node's protocol operation control (chapter 2 of the standard): an active node sends,
+/// receives and corrects its clock, a passive one receives and corrects, a halted one neither sends nor
+/// receives.
 #[derive(Clone, Copy, Debug, PartialEq, Eq)]
 pub enum State {
     Active,
@@ -12,7 +13,7 @@ pub enum State {
 pub enum Outcome {
     /// The term lies within its limit.
     Within,
-    /// No deviation was there to compute it from.
+    /// No value was there to compute it from.
     Missing,
     /// It lay outside its limit and was cut.
     Exceeded,

@@ -5,8 +5,8 @@ use crate::{LoadFault, PutFault, Shelf, Sink};
 use std::alloc::{AllocError, Global};
 use std::collections::BTreeMap;
 
-/// A shelf in memory that never fails: names with their bytes, and every other name is an empty file. Its
-/// counts are the constant 0.
+/// A shelf in memory that never answers `Failed`: names with their bytes, and every other name is an empty
+/// file. Its counts are the constant 0.
 #[derive(Drop)]
 pub struct SureShelf {
     alloc: Global,
@@ -26,7 +26,8 @@ impl SureShelf {
         }
     }
 
-    /// Puts the bytes under the name, in the place of those that it had. After an error nothing changed.
+    /// Puts the bytes under the name, in the place of those that it had. `AllocError` where memory ran out;
+    /// then nothing changed.
     pub fn hold(&mut self, name: &str, bytes: &[u8]) -> Result<(), AllocError>
         ensures held { OnOk result (kept_in self.new name.now ≡ bytes.now) }
         ensures others { OnOk result ((other : List ℕ) → other ≢ name.now → kept_in self.new other ≡ kept_in self.old other) }

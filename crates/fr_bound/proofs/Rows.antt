@@ -50,6 +50,9 @@ reference_holds = (refl, refl, refl, refl, refl)
 early_action : Sides 4 (cluster 4 254 81 6 0) 1194275097200 1262718000000 × (holds_of 4 (cluster 4 254 81 6 0) ≡ false)
 early_action = ((refl, refl), refl)
 
+early_action_others : (holds_of 1 (cluster 4 254 81 6 0) ≡ true) × (holds_of 2 (cluster 4 254 81 6 0) ≡ true) × (holds_of 3 (cluster 4 254 81 6 0) ≡ true) × (holds_of 5 (cluster 4 254 81 6 0) ≡ true)
+early_action_others = (refl, refl, refl, refl)
+
 small_offset_limit : Sides 3 (cluster 4 253 81 7 0) 252949400 253543800 × (holds_of 3 (cluster 4 253 81 7 0) ≡ false)
 small_offset_limit = ((refl, refl), refl)
 

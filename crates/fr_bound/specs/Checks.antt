@@ -9,8 +9,8 @@ abbrev pub least_cycle : Values → ℕ
 least_cycle p = amount p name.pMicroPerCycle - amount p name.pRateCorrectionOut
 
 -- microticks of so many macroticks of the shortest cycle, times the macroticks of a cycle, less the macrotick that a floor may take
-abbrev pub reach : Values → ℕ → ℕ
-reach p macroticks = macroticks * least_cycle p - amount p name.gMacroPerCycle
+abbrev pub clear_micros : Values → ℕ → ℕ
+clear_micros p macroticks = macroticks * least_cycle p - amount p name.gMacroPerCycle
 
 -- the macroticks from an action point to the end of its slot
 abbrev pub behind_action : Values → ℕ
@@ -21,8 +21,8 @@ abbrev pub left_of : ℕ → Values → ℕ
 left_of (suc zero) p = amount p name.pClusterDriftDamping * shortest_micro p
 left_of (suc (suc zero)) p = amount p name.pRateCorrectionOut * shortest_micro p
 left_of (suc (suc (suc zero))) p = amount p name.pOffsetCorrectionOut * shortest_micro p
-left_of (suc (suc (suc (suc zero)))) p = reach p (amount p name.gdActionPointOffset) * shortest_micro p
-left_of (suc (suc (suc (suc (suc zero))))) p = reach p (behind_action p) * shortest_micro p
+left_of (suc (suc (suc (suc zero)))) p = clear_micros p (amount p name.gdActionPointOffset) * shortest_micro p
+left_of (suc (suc (suc (suc (suc zero))))) p = clear_micros p (behind_action p) * shortest_micro p
 left_of other p = 0
 
 -- the right side

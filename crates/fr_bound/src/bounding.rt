@@ -3,16 +3,16 @@ ghost use Rattle.fr_bound.specs.Bounds.{longest_micro, shortest_micro, widest, a
 
 use fr_params::{ParamName, Params};
 
-/// The bounds of a cluster, in ticks.
+/// The bounds of a cluster that the theory computes, in ticks.
 #[derive(Clone, Copy, Debug, PartialEq, Eq)]
 pub struct BoundValues {
     /// How far a rate value may place the length of a sender's cycle from the true one.
     pub y1: i64,
-    /// How far the lengths of two cycles lie apart in a cluster that is in sync.
+    /// How far the lengths of two nodes' cycles may lie apart in a cluster that is in sync.
     pub lambda: i64,
-    /// How far two starts of an even cycle lie apart there.
+    /// How far two nodes' starts of an even cycle may lie apart there.
     pub pi: i64,
-    /// The precision: how far two corresponding macroticks lie apart there.
+    /// The precision: how far two nodes' instants of the same macrotick may lie apart there.
     pub precision: i64,
 }
 
@@ -58,7 +58,7 @@ pub(crate) fn compensation(params: &Params) -> u64
     params.widest_compensation() as u64
 }
 
-pub(crate) fn delay_error(params: &Params) -> u64
+pub(crate) fn arrival_error(params: &Params) -> u64
     ensures value { result ≡ arrival_error params.now }
     ensures most { result ≤ 10_300_000 }
 {
@@ -79,7 +79,7 @@ pub(crate) fn y1(params: &Params) -> u64
     ensures value { result ≡ y1_of params.now }
     ensures most { result ≤ 3_000_000_000 }
 {
-    2 * delay_error(params) + 2 * longest(params) + 3 * change(params)
+    2 * arrival_error(params) + 2 * longest(params) + 3 * change(params)
 }
 
 pub(crate) fn lambda(params: &Params) -> u64
@@ -94,7 +94,7 @@ pub(crate) fn pi(params: &Params) -> u64
     ensures value { result ≡ pi_of params.now }
     ensures most { result ≤ 130_000_000_000 }
 {
-    6 * lambda(params) + 4 * delay_error(params) + 8 * longest(params)
+    6 * lambda(params) + 4 * arrival_error(params) + 8 * longest(params)
 }
 
 pub(crate) fn precision(params: &Params) -> u64

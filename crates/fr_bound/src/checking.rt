@@ -1,16 +1,20 @@
 ghost use Rattle.std.specs.Prelude.{◌≡◌, ◌≤◌, ◌*◌, pos, OnOk, IfErr};
-ghost use Rattle.fr_bound.specs.Checks.{least_cycle, reach, behind_action, left_of, right_of, holds_of, FirstFailing, AllChecksHold};
+ghost use Rattle.fr_bound.specs.Checks.{least_cycle, clear_micros, behind_action, left_of, right_of, holds_of, FirstFailing, AllChecksHold};
 
 use crate::bounding::{
-    NOMINAL, change, compensation, delay_error, longest, precision, shortest, y1,
+    NOMINAL, change, arrival_error, compensation, longest, precision, shortest, y1,
 };
 use fr_params::{ParamName, Params};
 
-/// Both sides of a check, and whether it holds.
+/// Both sides of a check, and whether it holds. The sides are ticks, but of the last two checks ticks times
+/// the macroticks of a cycle.
 #[derive(Clone, Copy, Debug, PartialEq, Eq)]
 pub struct CheckSides {
+    /// What the cluster has.
     pub left: i64,
+    /// What it needs.
     pub right: i64,
+    /// Whether it has that much; of the fifth check, whether it has more.
     pub holds: bool,
 }
 
@@ -101,7 +105,7 @@ fn offset_sides(params: &Params) -> (u64, u64)
 {
     (
         params.natural(ParamName::pOffsetCorrectionOut) * shortest(params),
-        precision(params) + delay_error(params) + longest(params),
+        precision(params) + arrival_error(params) + longest(params),
     )
 }
 
@@ -115,7 +119,7 @@ fn front_sides(params: &Params) -> (u64, u64)
     let within = precision(params) + params.natural(ParamName::xDelayError);
     let front = params.natural(ParamName::gdActionPointOffset);
     (
-        within_reach(params, front) * shortest(params),
+        clear(params, front) * shortest(params),
         params.natural(ParamName::gMacroPerCycle) * within,
     )
 }
@@ -132,14 +136,14 @@ fn back_sides(params: &Params) -> (u64, u64)
     let slot = params.natural(ParamName::gdStaticSlot);
     let back = slot.saturating_sub(params.natural(ParamName::gdActionPointOffset));
     (
-        within_reach(params, back) * shortest(params),
+        clear(params, back) * shortest(params),
         params.natural(ParamName::gMacroPerCycle) * within,
     )
 }
 
-fn within_reach(params: &Params, macroticks: u64) -> u64
+fn clear(params: &Params, macroticks: u64) -> u64
     requires { macroticks ≤ 1000 }
-    ensures value { result ≡ reach params.now macroticks }
+    ensures value { result ≡ clear_micros params.now macroticks }
     ensures most { result ≤ 640_000 * macroticks }
 {
     let micros = params.natural(ParamName::pMicroPerCycle);

@@ -4,7 +4,7 @@ ghost use Rattle.fr_midpoint.specs.Within.{IsWithin};
 ghost use Rattle.fr_measure.specs.Readings.{no_readings, reading, stored, IsEmpty, Stores};
 ghost use Rattle.fr_measure.specs.Values.{values_of, offset_at, rate_at, change_at};
 
-use crate::values::{append, change, least, mean, own_or, put};
+use crate::values::{append, change, least, mean, put};
 use fr_base::Channel;
 use fr_midpoint::List15;
 use std::marker::Model;
@@ -137,7 +137,7 @@ impl Table {
         ensures value { result ≡ rate_at (reading self.now) own index }
         ensures within { ForSome result (IsWithin (pos 2000000)) }
     {
-        if own == Some(index) {
+        if Some(index) == own {
             return Some(0);
         }
         mean(

@@ -28,15 +28,6 @@ pub(crate) fn append(values: &mut List15, value: Option<i32>)
     }
 }
 
-/// The value at a key index: 0 at the node's own.
-pub(crate) fn own_or(own: Option<usize>, index: usize, value: Option<i32>) -> Option<i32>
-    requires within { ForSome value (IsWithin (pos 2000000)) }
-    ensures value { result ≡ own_value_or own index value }
-    ensures within { ForSome result (IsWithin (pos 2000000)) }
-{
-    if own == Some(index) { Some(0) } else { value }
-}
-
 /// The least of two deviations, either of which may be missing.
 pub(crate) fn least(a: Option<i32>, b: Option<i32>) -> Option<i32>
     requires a_within { ForSome a (IsWithin (pos 1000000)) }

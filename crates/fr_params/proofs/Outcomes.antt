@@ -117,7 +117,7 @@ file-fails p bytes k f g =
     let same = stands-same g.values p (records_of bytes) g.stands f.stands in
     let P : Values → Type 0 = λ v. FirstFails k (amount v) (key_slots v.nodes) v.slots in
     let fails = subst P same g.fails in
-    fails.fails (holds-of (amount p) (key_slots p.nodes) p.slots f.sane.constraints k)
+    fails.fails (holds-of (amount p) (key_slots p.nodes) p.slots f.constraints k)
 
 constraint-same : (records : List Record) (j k : ℕ) → FailsConstraint j records → FailsConstraint k records → j ≡ k
 constraint-same records j k f g =

@@ -7,8 +7,7 @@ use Rattle.fr_params.specs.Reasons.{value_at, node_at, slot_at, reason_after}
 use Rattle.fr_params.specs.Lists.{listed}
 use Rattle.fr_params.specs.Draft.{entry}
 use Rattle.fr_params.specs.Values.{Values, figure, amount}
-use Rattle.fr_params.specs.Constraints.{FirstFails, key_slots}
-use Rattle.fr_params.specs.Sane.{IsSane}
+use Rattle.fr_params.specs.Constraints.{AllHold, FirstFails, key_slots}
 use Rattle.fr_params.specs.declared.names.ParamName.{ParamName}
 use Rattle.fr_params.specs.declared.rows.NodeSpec.{NodeSpec}
 use Rattle.fr_params.specs.declared.rows.SlotSpec.{SlotSpec}
@@ -29,11 +28,12 @@ pub record StandsFor (p : Values) (records : List Record) : Type 0 where
   pub nodes : p.nodes ≡ nodes_of records
   pub slots : p.slots ≡ slots_of records
 
--- the file is accepted, and these are the parameters that it stands for
+-- the file is accepted, and these are the parameters that it stands for: no record is refused, every name has its row, and
+-- all constraints hold
 pub record IsFileOf (p : Values) (bytes : List ℕ) : Type 0 where
   pub none_refused : NoneRefused reason_after (records_of bytes)
   pub stands : StandsFor p (records_of bytes)
-  pub sane : IsSane p
+  pub constraints : AllHold (amount p) (key_slots p.nodes) p.slots
 
 -- no record is refused, and this is the first name of the table that no record has
 pub record IsMissing (name : ParamName) (records : List Record) : Type 0 where

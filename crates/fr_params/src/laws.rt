@@ -8,7 +8,7 @@ ghost use Rattle.fr_params.specs.declared.fault.ParamFault.{ParamFault as Fault}
 ghost use Rattle.fr_params.specs.declared.fault.ParamFault.TheVariants as fault;
 
 /// The answer to a file is determined by its bytes: two that are not want of memory are the same. So a
-/// file stands for one `Params` at most, and is refused exactly where it is not accepted.
+/// file stands for one `Params` at most, has one first cause at most, and is not both accepted and refused.
 pub fn one_answer()
     ensures { (bytes : List ℕ) (a b : Result Values Fault) → a ≢ Err fault.NoMemory → b ≢ Err fault.NoMemory → Reads bytes a → Reads bytes b → a ≡ b }
 {}

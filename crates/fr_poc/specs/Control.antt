@@ -7,8 +7,8 @@ use Rattle.fr_base.specs.declared.Outcome.{Outcome}
 use Rattle.fr_base.specs.declared.Outcome.TheVariants.{Within, Missing, Exceeded}
 use Rattle.fr_poc.specs.declared.control.PocLimits.{PocLimits}
 
--- a state; how many double cycles had a correction missing since the last one with both within their limits; and how
--- many in a row a passive node had both within their limits
+-- a state; how many double cycles had a correction missing, and none outside its limit, since the last one with both
+-- within their limits; and how many in a row a passive node had both within their limits
 pub record Status : Type 0 where
   pub state : State
   pub bad : ℕ

@@ -63,8 +63,8 @@ impl Poc {
         self.state
     }
 
-    /// How many double cycles had a correction missing since the last one with both within their
-    /// limits, at most 15.
+    /// How many double cycles had a correction missing, and none outside its limit, since the last one with
+    /// both within their limits; at most 15.
     pub fn bad(&self) -> u8
         ensures count { result ≡ self.now.status.bad }
         ensures most { result ≤ 15 }
@@ -98,7 +98,7 @@ impl Poc {
         self.state()
     }
 
-    /// Enters a state, with no correction of a passive node counted.
+    /// Enters a state, and sets `good` to 0.
     fn enter(&mut self, state: State)
         ensures { self.new ≡ record self.old { status = record self.old.status { state = state; good = 0 } } }
     {

@@ -5,7 +5,7 @@ ghost use Rattle.fr_records.specs.Fields.{both_of, channel_of, natural_of, reaso
 use csv::ByteRecord;
 use fr_base::{Channel, NumberFault, Reason, number};
 
-/// The bytes of one field of a record, counted from 0. It does not look at what they mean.
+/// The bytes of one field of a record, by its place from 0.
 pub fn field(row: &ByteRecord, place: usize) -> &[u8]
     requires { place < length (fields_of row.now) }
     ensures { result.now ≡ slice_index_or (fields_of row.now) place [] }

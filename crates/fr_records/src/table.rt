@@ -21,7 +21,8 @@ pub enum RowFault {
 
 /// A table that takes the records of a file one by one, or says why it does not take one.
 pub trait Table {
-    /// Why a record is refused behind the records before it. A table may hold what else that rests on.
+    /// Why a record is refused behind the records before it. What else that depends on, such as the
+    /// parameters of the cluster, the table holds.
     ghost reason: { Self → List Record → Record → Option Why };
 
     /// What the table holds of the records that it took: a relation, since a table need not keep them.
@@ -34,8 +35,8 @@ pub trait Table {
         ensures adds { (done : List Record) → holds self.old done → IfOk result (λ why. why ≡ None → holds self.new (done ++ fields_of row.now ∷ [])) };
 }
 
-/// Fills a table with the records of a file. `Row` names the first record that is refused and why; then
-/// and after `NoMemory` the table holds some of the records before.
+/// Fills a table with the records of a file. `Row` names the first record that is refused and why. After an
+/// error nothing is said of what the table holds.
 pub fn read_all<T: Table>(alloc: Global, bytes: &[u8], table: &mut T) -> Result<(), RowFault>
     requires { T.holds table.old [] }
     ensures accepted { OnOk result (NoneRefused (T.reason table.old) (records_of bytes.now)) }

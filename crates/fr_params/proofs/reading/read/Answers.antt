@@ -35,5 +35,5 @@ returns-in-None-clause-accepted c = record {
       stands-of c.in_ok-draft.draft (records_of c.args.bytes.now) c.params_of.result c.in-Ok.numbers c.in_ok-draft.ensures.holds
       c.in-Ok.ensures.all c.params_of.ensures.figures
       (c.params_of.ensures.nodes ∙ c.in-Ok-listed_nodes.ensures) (c.params_of.ensures.slots ∙ c.in-Ok-listed_slots.ensures);
-  sane = c.params_of.ensures.sane;
+  constraints = c.params_of.ensures.sane.constraints;
 }

@@ -10,3 +10,6 @@ returns-in-Some-clause-others c = grind (arith, text_keys)
 
 pub returns-in-Some-clause-held : goal.returns-in-Some-clause-held
 returns-in-Some-clause-held c = grind (arith, text_keys)
+
+pub returns-in-Some-clause-common : goal.returns-in-Some-clause-common
+returns-in-Some-clause-common c = λ held other differs. grind (arith, text_keys)
