@@ -1,8 +1,8 @@
 -- Quotients rounded down.
-use Rattle.std.proofs.Common.{◌≡◌, ℕ, zero, suc, ℤ, pos, negsuc, ◌+◌, ◌-◌, ◌*◌, ◌/◌, ◌<◌, ◌≤◌, refl, ap, sym, ◌∙◌, subst, arith}
-use Rattle.std.specs.Prelude.{◌≤ℤ◌, ◌<ℤ◌, ◌+ℤ◌, ◌-ℤ◌, ◌*ℤ◌, nat_abs}
+use Rattle.std.proofs.Common.{◌≡◌, ℕ, ℤ, pos, negsuc, ◌+◌, ◌-◌, ◌*◌, ◌/◌, ◌<◌, ◌≤◌, refl, ap, sym, subst, arith}
+use Rattle.std.specs.Prelude.{◌≤ℤ◌, ◌<ℤ◌, ◌+ℤ◌, ◌*ℤ◌, nat_abs}
 use Rattle.std.proofs.lemmas.Int.{ints}
-use Rattle.std.proofs.Math.Nat.{add-mul-div_left, div-le_of_le-mul, mul-add, mul_comm, mul-div_cancel_left, mul-le-mul_left, mul-le-mul_right}
+use Rattle.std.proofs.Math.Nat.{add-mul-div_left, div-le_of_le-mul, mul-add, mul_comm, mul-div_cancel_left, mul-le-mul_right}
 use Rattle.fr_time.specs.Position.{floor_of}
 
 -- a number from 0 on is that of a natural

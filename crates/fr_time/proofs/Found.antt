@@ -1,5 +1,5 @@
 -- A list searched from its front on.
-use Rattle.std.proofs.Common.{◌≡◌, ℕ, suc, ◌<◌, ◌≤◌, List, ◌∷◌, length, get_or, drop, Bool, true, false, cond, Option, Some, None, ap, ◌∙◌, drop-cons}
+use Rattle.std.proofs.Common.{◌≡◌, ℕ, suc, List, ◌∷◌, drop, Bool, cond, Some, ap, ◌∙◌, drop-cons}
 use Rattle.std.specs.List.{find, slice_get}
 use Rattle.std.proofs.lemmas.Option.{get_or_from_slice_get, slice_get_within}
 

@@ -4,3 +4,4 @@ pub mod Ends
 pub mod Found
 pub mod Rows
 pub mod Unused
+pub mod SoleSenders

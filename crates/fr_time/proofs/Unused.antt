@@ -1,5 +1,5 @@
 -- In a slot that is neither a key slot nor a further slot no node sends, and in each other slot one does.
-use Rattle.std.proofs.Common.{◌≡◌, ◌≢◌, ◌↔◌, ℕ, List, [], ◌∷◌, Bool, true, false, Option, Some, None, inl, inr, cond, refl, ap, sym, ◌∙◌, arith}
+use Rattle.std.proofs.Common.{◌≡◌, ◌≢◌, ◌↔◌, ℕ, List, [], ◌∷◌, Bool, false, Option, Some, None, inl, inr, refl, sym, ◌∙◌, arith}
 use Rattle.std.specs.Prelude.{All, find, IsNone, ◌==◌}
 use Rattle.std.specs.Option.{option_map, option_or}
 use Rattle.std.proofs.lemmas.Bool.{cases_Bool}
@@ -17,7 +17,7 @@ none_passes test P fails (x ∷ xs) none = elim (cases_Bool (test x)) [
   | inr not ↦ let rest : find test (x ∷ xs) ≡ find test xs = rw not refl in All-cons P x xs (fails x not) (none_passes test P fails xs (sym rest ∙ none))
 ]
 
-none_found : {X : Type 0} (test : X → Bool) (P : X → Type 0) → ((x : X) → P x → test x ≡ false) → (xs : List X) → All P xs → find test xs ≡ None
+pub none_found : {X : Type 0} (test : X → Bool) (P : X → Type 0) → ((x : X) → P x → test x ≡ false) → (xs : List X) → All P xs → find test xs ≡ None
 none_found test P fails [] none = refl
 none_found test P fails (x ∷ xs) none =
     let front : test x ≡ false = fails x (All-head P x xs none) in
@@ -28,7 +28,7 @@ is_key-false : (key : Option ℕ) (slot : ℕ) → is_key key slot ≡ false →
 is_key-false None slot fails same = absurd (cc)
 is_key-false (Some key) slot fails same = grind arith
 
-is_key-other : (key : Option ℕ) (slot : ℕ) → key ≢ Some slot → is_key key slot ≡ false
+pub is_key-other : (key : Option ℕ) (slot : ℕ) → key ≢ Some slot → is_key key slot ≡ false
 is_key-other None slot other = refl
 is_key-other (Some key) slot other = grind arith
 

@@ -1,12 +1,15 @@
-ghost use Rattle.std.specs.Prelude.{◌≡◌, ◌⊎◌, ◌≤◌, ◌<◌, ◌≤ℤ◌, ◌+ℤ◌, ℕ, ℤ, Bool, true, false, pos, neg_ℤ};
+ghost use Rattle.std.specs.Prelude.{◌≡◌, ◌⊎◌, ◌≤◌, ◌<◌, ◌≤ℤ◌, ◌+ℤ◌, ℕ, ℤ, Bool, true, false, pos, neg_ℤ, Contains, Some};
 ghost use Rattle.fr_base.specs.declared.node_row.NodeRow.{NodeRow};
 ghost use Rattle.fr_params.specs.Values.{Values, amount};
 ghost use Rattle.fr_params.specs.Sane.{IsSane};
+ghost use Rattle.fr_params.specs.declared.rows.NodeSpec.{NodeSpec};
+ghost use Rattle.fr_params.specs.declared.rows.SlotSpec.{SlotSpec};
 ghost use Rattle.fr_params.specs.declared.names.ParamName.TheVariants as name;
 ghost use Rattle.fr_time.specs.declared.grid.Grid.{Grid};
 ghost use Rattle.fr_time.specs.Cycles.{double_cycle_of, even_cycle, is_odd, odd_cycle};
 ghost use Rattle.fr_time.specs.Instant.{instant_of, next_start_of};
 ghost use Rattle.fr_time.specs.Position.{corrected_position, even_position, grid_for, position_of, IsPlaceable};
+ghost use Rattle.fr_time.specs.Senders.{further_sending, sender_of, sync_sending};
 ghost use Rattle.fr_time.specs.Slots.{action_point_of, slot_end_of, slot_start_of};
 
 /// A law: in a cluster the macroticks of a cycle can be placed under every rate and every offset term
@@ -32,6 +35,13 @@ pub fn slots_end_before_the_correction()
     ensures starts { (p : Values) (slot : ℕ) → IsSane p → 1 ≤ slot → slot_start_of p slot < action_point_of p slot }
     ensures acts { (p : Values) (slot : ℕ) → IsSane p → 1 ≤ slot → action_point_of p slot < slot_end_of p slot }
     ensures ends { (p : Values) (slot : ℕ) → IsSane p → slot ≤ amount p name.gNumberOfStaticSlots → slot_end_of p slot < amount p name.gOffsetCorrectionStart }
+{}
+
+/// A law: in a cluster a node sends a sync frame in its key slot in every cycle, and a node with a further
+/// slot sends there what the slot carries.
+pub fn each_slot_has_its_sender()
+    ensures key { (p : Values) (slot cycle : ℕ) (node : NodeSpec) → IsSane p → Contains p.nodes node → node.key ≡ Some slot → sender_of p slot cycle ≡ Some (sync_sending node) }
+    ensures further { (p : Values) (cycle : ℕ) (spec : SlotSpec) → IsSane p → Contains p.slots spec → sender_of p spec.slot cycle ≡ Some (further_sending cycle spec) }
 {}
 
 /// A law: each cycle is the even or the odd cycle of its double cycle.

@@ -13,7 +13,7 @@ mod tests;
 
 pub use grid::{Grid, grid_of};
 pub use laws::{
-    a_cycle_begins_and_ends, each_cycle_is_in_a_double_cycle, placeable,
+    a_cycle_begins_and_ends, each_cycle_is_in_a_double_cycle, each_slot_has_its_sender, placeable,
     slots_end_before_the_correction,
 };
 pub use macroticks::Macro;

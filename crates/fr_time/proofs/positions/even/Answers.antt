@@ -1,5 +1,5 @@
-use Rattle.std.proofs.Common.{◌≡◌, pos, FitsSigned, w32, w64, arith}
-use Rattle.std.specs.Prelude.{◌≤ℤ◌, ◌+ℤ◌, ◌*ℤ◌}
+use Rattle.std.proofs.Common.{◌≡◌, FitsSigned, w32, w64, arith}
+use Rattle.std.specs.Prelude.{◌+ℤ◌}
 use Rattle.std.proofs.lemmas.Int.{ints, to_z-of_z}
 use Rattle.fr_time.specs.Position.{even_position}
 use Rattle.fr_time.proofs.positions.even.Goals as goal

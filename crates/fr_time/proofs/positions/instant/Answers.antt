@@ -1,5 +1,5 @@
 use Rattle.std.proofs.Common.{◌≡◌, FitsSigned, w32, w64, arith, rules}
-use Rattle.std.specs.Prelude.{◌≤ℤ◌, ◌+ℤ◌, ◌*ℤ◌}
+use Rattle.std.specs.Prelude.{◌*ℤ◌}
 use Rattle.std.proofs.lemmas.Int.{ints, to_z-of_z}
 use Rattle.fr_time.specs.Position.{position_of}
 use Rattle.fr_time.proofs.positions.instant.Goals as goal

@@ -1,7 +1,5 @@
-use Rattle.std.proofs.Common.{◌≡◌, pos, arith}
-use Rattle.std.specs.Prelude.{◌≤ℤ◌, ◌+ℤ◌}
+use Rattle.std.proofs.Common.{arith}
 use Rattle.std.proofs.lemmas.Int.{ints}
-use Rattle.fr_time.specs.Position.{even_position}
 use Rattle.fr_time.proofs.positions.left.Goals as goal
 
 pub returns-clause-value : goal.returns-clause-value

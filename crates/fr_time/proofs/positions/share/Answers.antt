@@ -1,5 +1,5 @@
 use Rattle.std.proofs.Common.{arith}
-use Rattle.std.specs.Prelude.{◌≤ℤ◌, ◌*ℤ◌, ◌≡◌}
+use Rattle.std.specs.Prelude.{◌≤ℤ◌, ◌*ℤ◌}
 use Rattle.std.proofs.lemmas.Int.{ints, to_z-of_z}
 use Rattle.fr_time.specs.Position.{floor_of}
 use Rattle.fr_time.proofs.Floors.{share_le}

@@ -1,10 +1,10 @@
-use Rattle.std.proofs.Common.{◌≡◌, ℕ, ◌+◌, ◌-◌, ◌*◌, ◌<◌, ◌≤◌, pos, subst, arith}
+use Rattle.std.proofs.Common.{◌≡◌, ◌≤◌, pos, subst, arith}
 use Rattle.std.proofs.lemmas.Int.{ints}
 use Rattle.std.specs.Prelude.{◌<ℤ◌}
 use Rattle.fr_params.specs.Sane.{IsSane}
 use Rattle.fr_params.specs.Values.{amount}
 use Rattle.fr_params.specs.declared.names.ParamName.TheVariants as name
-use Rattle.fr_time.specs.Slots.{action_point_of, slot_end_of}
+use Rattle.fr_time.specs.Slots.{slot_end_of}
 use Rattle.fr_time.proofs.Placing.{action_point_lt, before_correction}
 use Rattle.fr_time.proofs.slots.bounds.Goals as goal
 

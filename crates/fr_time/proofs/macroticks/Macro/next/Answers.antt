@@ -1,5 +1,5 @@
 use Rattle.std.proofs.Common.{◌≡◌, ap, pos, to_z, of_z, w64, arith}
-use Rattle.std.specs.Prelude.{ℤ, ◌≤ℤ◌, ◌+ℤ◌}
+use Rattle.std.specs.Prelude.{ℤ, ◌+ℤ◌}
 use Rattle.std.proofs.lemmas.Int.{ints}
 use Rattle.fr_time.specs.Walk.{Walk}
 use Rattle.fr_time.proofs.macroticks.Macro.next.Goals as goal
