@@ -51,7 +51,7 @@ reason_text reason.Link = codes "Link"
 reason_text reason.NotHex = codes "NotHex"
 reason_text reason.Repeated = codes "Repeated"
 
--- why a parameter file is not accepted
+-- why a parameter file is not accepted; want of memory is a failure of its own, so the last line is never shown
 abbrev pub param_text : ParamFault → List ℕ
 param_text (param.Row number reason) = codes "record " ++ decimal number ++ (codes ": " ++ reason_text reason)
 param_text (param.Missing name) = codes "missing " ++ word_of name

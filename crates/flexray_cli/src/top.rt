@@ -26,8 +26,10 @@ pub fn flexray<S: Shelf, O: Sink, E: Sink>(
     out: &mut O,
     err: &mut E,
 ) -> Status
-    // Words that are no request, and no others, are answered so, whatever the shelf and the sinks do.
+    // Words that are no request, and no others, are answered Usage, whatever the shelf and the sinks do, and
+    // nothing is loaded then.
     ensures usage { (result ≡ Status.Usage) ↔ IsNoRequest (texts words.now) }
+    ensures usage_unread { result ≡ Status.Usage → shelf.new ≡ shelf.old }
     ensures usage_told { result ≡ Status.Usage →
         IsPut (E.written err.old) (E.written err.new) (E.faults err.old) (E.faults err.new) (failure_line Usage) }
 
@@ -74,6 +76,7 @@ fn answer<S: Shelf, O: Sink>(
     out: &mut O,
 ) -> Result<(), Failure>
     ensures usage { (result ≡ Err Usage) ↔ IsNoRequest (texts words.now) }
+    ensures unread { result ≡ Err Usage → shelf.new ≡ shelf.old }
     ensures frame { (channel : Channel) (file : List ℕ) → AsksFrame (texts words.now) channel file →
         FrameEnds channel file
         (around_of (S.held shelf.old) (S.faults shelf.old) (S.faults shelf.new)
