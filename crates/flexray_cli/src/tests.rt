@@ -105,7 +105,11 @@ fn other_words_are_no_request(rt: HostRuntime) -> Result<(), Fail> {
         &["frame", "A", "f", "f"],
         &["--help"],
         &["--version"],
+        &["bound"],
+        &["bound", "f", "f"],
         &["run", "p", "d", "s"],
+        &["trace", "p", "d", "s"],
+        &["check", "p", "t"],
         &["make", "1", "1"],
     ] {
         let words = words_of(alloc, words)?;
@@ -203,10 +207,10 @@ C4 holds 1394154113400 1262718000000\n\
 C5 holds 4592218372600 1262718000000\n\
 ";
 
-// The file with the value of each of these names in place of its own.
-fn changed(alloc: Global, values: &[(&str, &str)]) -> Result<String, AllocError> {
+// The text with each line that begins so replaced.
+fn changed(alloc: Global, old: &str, values: &[(&str, &str)]) -> Result<String, AllocError> {
     let mut text = String::new(alloc);
-    for line in PARAMS.lines() {
+    for line in old.lines() {
         let mut shown = line;
         for (name, value) in values {
             if line.starts_with(*name) {
@@ -219,43 +223,78 @@ fn changed(alloc: Global, values: &[(&str, &str)]) -> Result<String, AllocError>
     Ok(text)
 }
 
-// Each row: lines to put in the place of those that begin so, and a part of what is written.
+// Each row: lines to put in the place of those that begin so, and lines of the text in the place of those
+// of the unchanged file.
 #[test]
 fn bounds_are_printed(rt: HostRuntime) -> Result<(), Fail> {
     let alloc = rt.alloc();
     let words = words_of(alloc, &["bound", "p"])?;
-    let point = ("param,gdActionPointOffset", "param,gdActionPointOffset,6,,");
-    let offset = (
-        "param,pOffsetCorrectionOut",
-        "param,pOffsetCorrectionOut,253,,",
-    );
-    let rate = ("param,pRateCorrectionOut", "param,pRateCorrectionOut,80,,");
-    let change = ("param,xChangeBound", "param,xChangeBound,1,,");
-    let wider = [
-        change,
+    for (values, texts) in [
+        ([].as_slice(), [].as_slice()),
         (
-            "param,pClusterDriftDamping",
-            "param,pClusterDriftDamping,5,,",
+            &[("param,gdActionPointOffset", "param,gdActionPointOffset,6,,")],
+            &[
+                ("C4", "C4 fails 1194275097200 1262718000000"),
+                ("C5", "C5 holds 4792097388800 1262718000000"),
+            ],
         ),
         (
-            "param,pOffsetCorrectionOut",
-            "param,pOffsetCorrectionOut,318,,",
+            &[(
+                "param,pOffsetCorrectionOut",
+                "param,pOffsetCorrectionOut,253,,",
+            )],
+            &[("C3", "C3 fails 252949400 253543800")],
         ),
-        ("param,gdActionPointOffset", "param,gdActionPointOffset,8,,"),
-    ];
-    for (values, part) in [
-        ([].as_slice(), BOUNDS),
-        (&[point], "C4 fails 1194275097200 1262718000000\n"),
-        (&[offset], "C3 fails 252949400 253543800\n"),
-        (&[rate], "C2 fails 79984000 80000000\n"),
-        (&[change], "C1 fails 3999200 4000805\n"),
         (
-            &wider,
-            "lambda 38007620\npi 238047320\nprecision 316062960\nC1 holds ",
+            &[("param,pRateCorrectionOut", "param,pRateCorrectionOut,80,,")],
+            &[
+                ("C2", "C2 fails 79984000 80000000"),
+                ("C4", "C4 holds 1394161112000 1262718000000"),
+                ("C5", "C5 holds 4592241368000 1262718000000"),
+            ],
+        ),
+        (
+            &[("param,xChangeBound", "param,xChangeBound,1,,")],
+            &[
+                ("y1", "y1 3600643"),
+                ("lambda", "lambda 34006820"),
+                ("pi", "pi 214042520"),
+                ("precision", "precision 284056560"),
+                ("C1", "C1 fails 3999200 4000805"),
+                ("C2", "C2 holds 80983800 80000000"),
+                ("C3", "C3 fails 253949200 285556760"),
+                ("C4", "C4 fails 1394154113400 1422782800000"),
+                ("C5", "C5 holds 4592218372600 1422782800000"),
+            ],
+        ),
+        (
+            &[
+                ("param,xChangeBound", "param,xChangeBound,1,,"),
+                (
+                    "param,pClusterDriftDamping",
+                    "param,pClusterDriftDamping,5,,",
+                ),
+                (
+                    "param,pOffsetCorrectionOut",
+                    "param,pOffsetCorrectionOut,318,,",
+                ),
+                ("param,gdActionPointOffset", "param,gdActionPointOffset,8,,"),
+            ],
+            &[
+                ("y1", "y1 3600643"),
+                ("lambda", "lambda 38007620"),
+                ("pi", "pi 238047320"),
+                ("precision", "precision 316062960"),
+                ("C1", "C1 holds 4999000 4000805"),
+                ("C2", "C2 holds 80983800 80000000"),
+                ("C3", "C3 holds 317936400 317563160"),
+                ("C4", "C4 holds 1594033129600 1582814800000"),
+                ("C5", "C5 holds 4392339356400 1582814800000"),
+            ],
         ),
     ] {
         let mut shelf = SureShelf::new(alloc);
-        shelf.hold("p", changed(alloc, values)?.as_bytes())?;
+        shelf.hold("p", changed(alloc, PARAMS, values)?.as_bytes())?;
         let mut written = MemorySink::new(alloc, 1000)?;
         assert_eq!(rt;
             flexray(
@@ -267,11 +306,8 @@ fn bounds_are_printed(rt: HostRuntime) -> Result<(), Fail> {
             ),
             Status::Done
         );
-        let text = String::from_utf8(written.bytes().to_vec(alloc)?)
-            .ok()
-            .ok_or("text")?;
-        assert!(rt; text.contains(part), "{text}");
-        assert_eq!(rt; text.lines().count(), 9);
+        let wanted = changed(alloc, BOUNDS, texts)?;
+        assert_eq!(rt; written.bytes(), wanted.as_bytes());
     }
     Ok(())
 }
@@ -286,18 +322,21 @@ fn other_files_are_refused(rt: HostRuntime) -> Result<(), Fail> {
     let idle = ("param,gdNIT", "param,gdNIT,801,,");
     for (text, line) in [
         (String::new(alloc), "params: missing gMacroPerCycle\n"),
-        (changed(alloc, &[twice])?, "params: record 2: Repeated\n"),
-        (changed(alloc, &[idle])?, "params: constraint 1\n"),
         (
-            changed(alloc, &[("node,2", "node,2,,A,1")])?,
+            changed(alloc, PARAMS, &[twice])?,
+            "params: record 2: Repeated\n",
+        ),
+        (changed(alloc, PARAMS, &[idle])?, "params: constraint 1\n"),
+        (
+            changed(alloc, PARAMS, &[("node,2", "node,2,,A,1")])?,
             "params: record 21: Role\n",
         ),
         (
-            changed(alloc, &[("node,2", "slot,5,9,0,2")])?,
+            changed(alloc, PARAMS, &[("node,2", "slot,5,9,0,2")])?,
             "params: record 21: UnknownNode\n",
         ),
         (
-            changed(alloc, &[("node,1", "param,gMacroPer")])?,
+            changed(alloc, PARAMS, &[("node,1", "param,gMacroPer")])?,
             "params: record 20: Shape\n",
         ),
     ] {

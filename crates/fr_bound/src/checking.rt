@@ -2,7 +2,7 @@ ghost use Rattle.std.specs.Prelude.{◌≡◌, ◌≤◌, ◌*◌, pos, OnOk, If
 ghost use Rattle.fr_bound.specs.Checks.{least_cycle, clear_micros, behind_action, left_of, right_of, holds_of, FirstFailing, AllChecksHold};
 
 use crate::bounding::{
-    NOMINAL, change, arrival_error, compensation, longest, precision, shortest, y1,
+    NOMINAL, arrival_error, change, compensation, longest, precision, shortest, y1,
 };
 use fr_params::{ParamName, Params};
 

@@ -5,6 +5,8 @@
 mod bounding;
 mod checking;
 mod laws;
+#[cfg(test)]
+mod tests;
 
 pub use bounding::{BoundValues, bounds};
 pub use checking::{CheckSides, checks, side};

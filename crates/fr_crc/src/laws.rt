@@ -9,7 +9,7 @@ pub fn a_remainder()
         (remainder : List Bool) × IsCrc generator start message remainder }
 {}
 
-/// A law: it has no other.
+/// A law: a message has no two remainders at one generator and start value.
 pub fn one_remainder()
     ensures { (generator start message first second : List Bool) →
         IsCrc generator start message first → IsCrc generator start message second →
@@ -22,7 +22,7 @@ pub fn a_header_crc()
         (crc : ℕ) × IsHeaderCrc sync startup id words crc }
 {}
 
-/// A law: they have no other.
+/// A law: the fields of a header have no two header CRCs.
 pub fn one_header_crc()
     ensures { (sync startup : Bool) (id words first second : ℕ) →
         IsHeaderCrc sync startup id words first → IsHeaderCrc sync startup id words second →
@@ -34,7 +34,7 @@ pub fn a_frame_crc()
     ensures { (channel : Channel) (body : List ℕ) → (crc : ℕ) × IsFrameCrc channel body crc }
 {}
 
-/// A law: they have no other.
+/// A law: bytes have no two frame CRCs on one channel.
 pub fn one_frame_crc()
     ensures { (channel : Channel) (body : List ℕ) (first second : ℕ) →
         IsFrameCrc channel body first → IsFrameCrc channel body second → first ≡ second }

@@ -40,7 +40,7 @@ pub fn no_frame_has_a_fault()
         IsNoFrame channel bytes → (fault : FrameFault) × IsFirstFault channel bytes fault }
 {}
 
-/// A law: they have no other first fault.
+/// A law: bytes have no two first faults on one channel.
 pub fn one_first_fault()
     ensures { (channel : Channel) (bytes : List ℕ) (first second : FrameFault) →
         IsFirstFault channel bytes first → IsFirstFault channel bytes second → first ≡ second }
@@ -52,7 +52,7 @@ pub fn a_refusal_is_not_accepted()
         IsFirstRefusal header payload room fault → IsAccepted header payload room → ⊥ }
 {}
 
-/// A law: it has no other first reason.
+/// A law: there are no two first reasons not to write the same header and payload.
 pub fn one_first_refusal()
     ensures { (header : Header) (payload room : ℕ) (first second : EncodeFault) →
         IsFirstRefusal header payload room first → IsFirstRefusal header payload room second →
