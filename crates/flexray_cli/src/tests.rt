@@ -17,66 +17,71 @@ fn words_of(alloc: Global, texts: &[&str]) -> Result<Vec<String>, AllocError> {
     Ok(words)
 }
 
-// Each row: the words, the bytes under the name `f`, the status, what is written, what is told.
+// The words, the bytes under the name `f`, the status, what is written, what is told.
+const FRAMES: &[(&[&str], &[u8], Status, &[u8], &[u8])] = &[
+    (&["frame", "A", "f"], &FRAME, Status::Done, LINE, b""),
+    (
+        &["frame", "B", "f"],
+        &FRAME,
+        Status::No,
+        b"",
+        b"frame: frame crc kept 9AE525 computed 716B40\n",
+    ),
+    (
+        &["frame", "A", "f"],
+        &[0x18, 0x01, 0x00, 0x6F, 0x00, 0x9A, 0xE5],
+        Status::No,
+        b"",
+        b"frame: short 7\n",
+    ),
+    (
+        &["frame", "A", "f"],
+        b"",
+        Status::No,
+        b"",
+        b"frame: short 0\n",
+    ),
+    (
+        &["frame", "A", "f"],
+        &[0x18, 0x01, 0x02, 0x6F, 0x00, 0x9A, 0xE5, 0x25],
+        Status::No,
+        b"",
+        b"frame: header crc kept 1BC computed 239\n",
+    ),
+    (
+        &["frame", "A", "f"],
+        &[0x18, 0x01, 0x02, 0x8E, 0x40, 0x00, 0x00, 0x00],
+        Status::No,
+        b"",
+        b"frame: length stated 10 given 8\n",
+    ),
+    (
+        &["frame", "A", "f"],
+        &[0x00, 0x00, 0x01, 0xDA, 0x80, 0x5F, 0xA2, 0x6B],
+        Status::No,
+        b"",
+        b"frame: zero id\n",
+    ),
+    (
+        &["frame", "A", "f"],
+        &[0x08, 0x01, 0x01, 0x1F, 0x80, 0xF6, 0xC4, 0x62],
+        Status::No,
+        b"",
+        b"frame: startup without sync\n",
+    ),
+    (
+        &["frame", "A", "f"],
+        &[0x20, 0x05, 0x02, 0xB3, 0x89, 0x12, 0x34, 0x75, 0x12, 0x6B],
+        Status::Done,
+        b"frame A id 5 words 1 cycle 9 reserved 0 preamble 0 null 1 sync 0 startup 0 header 2CE crc 75126B payload 1234\n",
+        b"",
+    ),
+];
+
 #[test]
 fn frames_are_decoded_or_their_first_fault_is_told(rt: HostRuntime) -> Result<(), Fail> {
     let alloc = rt.alloc();
-    let payload = [0x20, 0x05, 0x02, 0xB3, 0x89, 0x12, 0x34, 0x75, 0x12, 0x6B];
-    let a = ["frame", "A", "f"];
-    let b = ["frame", "B", "f"];
-    for (words, bytes, status, out, err) in [
-        (
-            a.as_slice(),
-            FRAME.as_slice(),
-            Status::Done,
-            LINE,
-            b"".as_slice(),
-        ),
-        (
-            &b,
-            &FRAME,
-            Status::No,
-            b"",
-            b"frame: frame crc kept 9AE525 computed 716B40\n",
-        ),
-        (&a, &FRAME[..7], Status::No, b"", b"frame: short 7\n"),
-        (&a, b"", Status::No, b"", b"frame: short 0\n"),
-        (
-            &a,
-            &[0x18, 0x01, 0x02, 0x6F, 0x00, 0x9A, 0xE5, 0x25],
-            Status::No,
-            b"",
-            b"frame: header crc kept 1BC computed 239\n",
-        ),
-        (
-            &a,
-            &[0x18, 0x01, 0x02, 0x8E, 0x40, 0x00, 0x00, 0x00],
-            Status::No,
-            b"",
-            b"frame: length stated 10 given 8\n",
-        ),
-        (
-            &a,
-            &[0x00, 0x00, 0x01, 0xDA, 0x80, 0x5F, 0xA2, 0x6B],
-            Status::No,
-            b"",
-            b"frame: zero id\n",
-        ),
-        (
-            &a,
-            &[0x08, 0x01, 0x01, 0x1F, 0x80, 0xF6, 0xC4, 0x62],
-            Status::No,
-            b"",
-            b"frame: startup without sync\n",
-        ),
-        (
-            &a,
-            &payload,
-            Status::Done,
-            b"frame A id 5 words 1 cycle 9 reserved 0 preamble 0 null 1 sync 0 startup 0 header 2CE crc 75126B payload 1234\n",
-            b"",
-        ),
-    ] {
+    for (words, bytes, status, out, err) in FRAMES {
         let words = words_of(alloc, words)?;
         let mut shelf = MemoryShelf::new(alloc);
         shelf.hold("f", bytes)?;
@@ -84,10 +89,10 @@ fn frames_are_decoded_or_their_first_fault_is_told(rt: HostRuntime) -> Result<()
         let mut told = MemorySink::new(alloc, 1000)?;
         assert_eq!(rt;
             flexray(alloc, &words, &mut shelf, &mut written, &mut told),
-            status
+            *status
         );
-        assert_eq!(rt; written.bytes(), out);
-        assert_eq!(rt; told.bytes(), err);
+        assert_eq!(rt; written.bytes(), *out);
+        assert_eq!(rt; told.bytes(), *err);
     }
     Ok(())
 }
@@ -223,76 +228,78 @@ fn changed(alloc: Global, old: &str, values: &[(&str, &str)]) -> Result<String, 
     Ok(text)
 }
 
-// Each row: lines to put in the place of those that begin so, and lines of the text in the place of those
-// of the unchanged file.
+// Lines to put in the place of those that begin so, and lines of the text in the place of those of the
+// unchanged file.
+const CHANGES: &[(&[(&str, &str)], &[(&str, &str)])] = &[
+    (&[], &[]),
+    (
+        &[("param,gdActionPointOffset", "param,gdActionPointOffset,6,,")],
+        &[
+            ("C4", "C4 fails 1194275097200 1262718000000"),
+            ("C5", "C5 holds 4792097388800 1262718000000"),
+        ],
+    ),
+    (
+        &[(
+            "param,pOffsetCorrectionOut",
+            "param,pOffsetCorrectionOut,253,,",
+        )],
+        &[("C3", "C3 fails 252949400 253543800")],
+    ),
+    (
+        &[("param,pRateCorrectionOut", "param,pRateCorrectionOut,80,,")],
+        &[
+            ("C2", "C2 fails 79984000 80000000"),
+            ("C4", "C4 holds 1394161112000 1262718000000"),
+            ("C5", "C5 holds 4592241368000 1262718000000"),
+        ],
+    ),
+    (
+        &[("param,xChangeBound", "param,xChangeBound,1,,")],
+        &[
+            ("y1", "y1 3600643"),
+            ("lambda", "lambda 34006820"),
+            ("pi", "pi 214042520"),
+            ("precision", "precision 284056560"),
+            ("C1", "C1 fails 3999200 4000805"),
+            ("C2", "C2 holds 80983800 80000000"),
+            ("C3", "C3 fails 253949200 285556760"),
+            ("C4", "C4 fails 1394154113400 1422782800000"),
+            ("C5", "C5 holds 4592218372600 1422782800000"),
+        ],
+    ),
+    (
+        &[
+            ("param,xChangeBound", "param,xChangeBound,1,,"),
+            (
+                "param,pClusterDriftDamping",
+                "param,pClusterDriftDamping,5,,",
+            ),
+            (
+                "param,pOffsetCorrectionOut",
+                "param,pOffsetCorrectionOut,318,,",
+            ),
+            ("param,gdActionPointOffset", "param,gdActionPointOffset,8,,"),
+        ],
+        &[
+            ("y1", "y1 3600643"),
+            ("lambda", "lambda 38007620"),
+            ("pi", "pi 238047320"),
+            ("precision", "precision 316062960"),
+            ("C1", "C1 holds 4999000 4000805"),
+            ("C2", "C2 holds 80983800 80000000"),
+            ("C3", "C3 holds 317936400 317563160"),
+            ("C4", "C4 holds 1594033129600 1582814800000"),
+            ("C5", "C5 holds 4392339356400 1582814800000"),
+        ],
+    ),
+];
+
 #[test]
 fn bounds_are_printed(rt: HostRuntime) -> Result<(), Fail> {
     let alloc = rt.alloc();
     let words = words_of(alloc, &["bound", "p"])?;
-    for (values, texts) in [
-        ([].as_slice(), [].as_slice()),
-        (
-            &[("param,gdActionPointOffset", "param,gdActionPointOffset,6,,")],
-            &[
-                ("C4", "C4 fails 1194275097200 1262718000000"),
-                ("C5", "C5 holds 4792097388800 1262718000000"),
-            ],
-        ),
-        (
-            &[(
-                "param,pOffsetCorrectionOut",
-                "param,pOffsetCorrectionOut,253,,",
-            )],
-            &[("C3", "C3 fails 252949400 253543800")],
-        ),
-        (
-            &[("param,pRateCorrectionOut", "param,pRateCorrectionOut,80,,")],
-            &[
-                ("C2", "C2 fails 79984000 80000000"),
-                ("C4", "C4 holds 1394161112000 1262718000000"),
-                ("C5", "C5 holds 4592241368000 1262718000000"),
-            ],
-        ),
-        (
-            &[("param,xChangeBound", "param,xChangeBound,1,,")],
-            &[
-                ("y1", "y1 3600643"),
-                ("lambda", "lambda 34006820"),
-                ("pi", "pi 214042520"),
-                ("precision", "precision 284056560"),
-                ("C1", "C1 fails 3999200 4000805"),
-                ("C2", "C2 holds 80983800 80000000"),
-                ("C3", "C3 fails 253949200 285556760"),
-                ("C4", "C4 fails 1394154113400 1422782800000"),
-                ("C5", "C5 holds 4592218372600 1422782800000"),
-            ],
-        ),
-        (
-            &[
-                ("param,xChangeBound", "param,xChangeBound,1,,"),
-                (
-                    "param,pClusterDriftDamping",
-                    "param,pClusterDriftDamping,5,,",
-                ),
-                (
-                    "param,pOffsetCorrectionOut",
-                    "param,pOffsetCorrectionOut,318,,",
-                ),
-                ("param,gdActionPointOffset", "param,gdActionPointOffset,8,,"),
-            ],
-            &[
-                ("y1", "y1 3600643"),
-                ("lambda", "lambda 38007620"),
-                ("pi", "pi 238047320"),
-                ("precision", "precision 316062960"),
-                ("C1", "C1 holds 4999000 4000805"),
-                ("C2", "C2 holds 80983800 80000000"),
-                ("C3", "C3 holds 317936400 317563160"),
-                ("C4", "C4 holds 1594033129600 1582814800000"),
-                ("C5", "C5 holds 4392339356400 1582814800000"),
-            ],
-        ),
-    ] {
+    for (values, texts) in CHANGES {
         let mut shelf = SureShelf::new(alloc);
         shelf.hold("p", changed(alloc, PARAMS, values)?.as_bytes())?;
         let mut written = MemorySink::new(alloc, 1000)?;
