@@ -1,9 +1,10 @@
 use crate::{NodeList, ParamFault, ParamName, SlotList, read};
 use fr_base::{Channel, NodeId, Reason, Slot};
 use std::alloc::{AllocError, Global};
+use std::test::Fail;
 
 /// A cluster of two nodes with a cycle of 5 ms at a microtick of 25 ns.
-const REFERENCE: [&[u8]; 21] = [
+const REFERENCE: &[&[u8]] = &[
     b"param,gMacroPerCycle,5000,,",
     b"param,pMicroPerCycle,200000,,",
     b"param,gNumberOfStaticSlots,140,,",
@@ -28,7 +29,7 @@ const REFERENCE: [&[u8]; 21] = [
 ];
 
 /// Lines `first` to `last` of the reference file, what stands in their place, what follows, and the refusal.
-const REFUSALS: [(usize, usize, &[u8], &[u8], Option<ParamFault>); 20] = [
+const REFUSALS: &[(usize, usize, &[u8], &[u8], Option<ParamFault>)] = &[
     (0, 0, b"", b"", None),
     (
         21,
@@ -169,7 +170,7 @@ const REFUSALS: [(usize, usize, &[u8], &[u8], Option<ParamFault>); 20] = [
 ];
 
 /// The line of the reference file, what stands in its place, and the reason for which that record is refused.
-const REASONS: [(u64, &[u8], Option<Reason>); 34] = [
+const REASONS: &[(u64, &[u8], Option<Reason>)] = &[
     (6, b"param,gdNIT,800,", Some(Reason::Shape)),
     (6, b"param,gdNIT,800,,,", Some(Reason::Shape)),
     (6, b"param,gdNIT,800,x,", Some(Reason::Shape)),
@@ -262,8 +263,8 @@ fn row(number: u64, reason: Reason) -> ParamFault {
 #[test]
 fn refuses_in_order(rt: HostRuntime) -> Result<(), AllocError> {
     for (first, last, text, tail, want) in REFUSALS {
-        let bytes = edited(rt.alloc(), first, last, text, tail)?;
-        assert_eq!(rt; fault_of(rt.alloc(), &bytes), want, "at {text:?} {tail:?}");
+        let bytes = edited(rt.alloc(), *first, *last, text, tail)?;
+        assert_eq!(rt; fault_of(rt.alloc(), &bytes), *want, "at {text:?} {tail:?}");
     }
     Ok(())
 }
@@ -271,21 +272,22 @@ fn refuses_in_order(rt: HostRuntime) -> Result<(), AllocError> {
 #[test]
 fn finds_the_least_reason(rt: HostRuntime) -> Result<(), AllocError> {
     for (number, text, why) in REASONS {
-        let bytes = edited(rt.alloc(), number as usize, number as usize, text, b"")?;
-        let want = why.map(|reason| row(number, reason));
+        let bytes = edited(rt.alloc(), *number as usize, *number as usize, text, b"")?;
+        let want = why.map(|reason| row(*number, reason));
         assert_eq!(rt; fault_of(rt.alloc(), &bytes), want, "at {text:?}");
     }
     Ok(())
 }
 
-#[test]
-fn answers_what_the_file_says(rt: HostRuntime) -> Result<(), AllocError> {
+/// The reference file with payloads of 16 bytes, two more nodes and two further slots.
+fn wider(alloc: Global) -> Result<Vec<u8>, AllocError> {
     let tail = b"node,9,9,AB,0\nnode,3,,B,0\nslot,50,3,1,2\nslot,40,9,0,1";
-    let bytes = edited(rt.alloc(), 7, 7, b"param,gPayloadLengthStatic,8,,", tail)?;
-    let Ok(params) = read(rt.alloc(), &bytes) else {
-        assert!(rt; false, "the file is refused");
-        return Ok(());
-    };
+    edited(alloc, 7, 7, b"param,gPayloadLengthStatic,8,,", tail)
+}
+
+#[test]
+fn answers_what_the_file_says(rt: HostRuntime) -> Result<(), Fail> {
+    let params = read(rt.alloc(), &wider(rt.alloc())?)?;
     assert_eq!(rt; params.macros, 5000);
     assert_eq!(rt; params.delay_error, 500_000);
     assert_eq!(rt; params.value(ParamName::pMicroPerCycle), 200_000);
@@ -293,18 +295,29 @@ fn answers_what_the_file_says(rt: HostRuntime) -> Result<(), AllocError> {
     assert_eq!(rt; params.compensation(Channel::B), 0);
     assert_eq!(rt; params.widest_compensation(), 0);
     assert_eq!(rt; params.frame_bytes(), 24);
-    for (place, want) in [1, 2, 3, 9].into_iter().enumerate() {
+    Ok(())
+}
+
+#[test]
+fn orders_nodes_and_slots(rt: HostRuntime) -> Result<(), Fail> {
+    let params = read(rt.alloc(), &wider(rt.alloc())?)?;
+    assert_eq!(rt; (params.nodes.len(), params.slots.len()), (4, 2));
+    for (place, want) in [1, 2, 3, 9, 0].into_iter().enumerate() {
         assert_eq!(rt; id_at(&params.nodes, place), want);
     }
-    assert_eq!(rt; (params.nodes.len(), params.slots.len()), (4, 2));
-    assert_eq!(rt;
-        (slot_at(&params.slots, 0), slot_at(&params.slots, 1)),
-        (40, 50)
-    );
-    assert!(rt; params.nodes.get(4).is_none() && params.slots.get(2).is_none());
-    for (slot, want) in [(1, Some(0)), (2, Some(1)), (3, None), (9, Some(2))] {
-        assert_eq!(rt; params.key_index(Slot(slot)), want);
+    for (place, want) in [40, 50, 0].into_iter().enumerate() {
+        assert_eq!(rt; slot_at(&params.slots, place), want);
     }
+    Ok(())
+}
+
+#[test]
+fn knows_nodes_and_their_key_slots(rt: HostRuntime) -> Result<(), Fail> {
+    let params = read(rt.alloc(), &wider(rt.alloc())?)?;
+    assert_eq!(rt; params.key_index(Slot(1)), Some(0));
+    assert_eq!(rt; params.key_index(Slot(2)), Some(1));
+    assert_eq!(rt; params.key_index(Slot(3)), None);
+    assert_eq!(rt; params.key_index(Slot(9)), Some(2));
     assert!(rt; params.node(NodeId(9)).is_some() && params.node(NodeId(4)).is_none());
     assert!(rt; params.common(NodeId(1), NodeId(9), Channel::A));
     assert!(rt; !params.common(NodeId(1), NodeId(3), Channel::A));
