@@ -1,5 +1,5 @@
 -- Hexadecimal text, digit by digit.
-use Rattle.std.proofs.Common.{◌≡◌, ℕ, suc, ◌+◌, ◌-◌, ◌<◌, ◌≤◌, ◌/◌, ◌%◌, List, [], ◌∷◌, ◌++◌, refl, ap, sym, ◌∙◌, append_assoc, arith}
+use Rattle.std.proofs.Common.{◌≡◌, ℕ, suc, ◌-◌, ◌≤◌, ◌/◌, ◌%◌, List, [], ◌∷◌, ◌++◌, refl, ap, sym, ◌∙◌, append_assoc, arith}
 use Rattle.fr_base.specs.Line.{hexadecimal, digit_of}
 
 step : (k n : ℕ) → hexadecimal (suc k) n ≡ hexadecimal k (n / 16) ++ digit_of (n % 16) ∷ []

@@ -1,8 +1,10 @@
 pub mod Device
+pub mod Event
 pub mod Line
 pub mod MemoryShelf
 pub mod MemorySink
 pub mod Number
 pub mod Reason
+pub mod Rows
 pub mod StreamSink
 pub mod SureShelf

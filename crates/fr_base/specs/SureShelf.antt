@@ -1,5 +1,5 @@
 -- What a shelf holds that never answers a fault of its own.
-use Rattle.std.specs.Prelude.{ℕ, List, [], Option, Some, unwrap_or}
+use Rattle.std.specs.Prelude.{ℕ, List, [], unwrap_or}
 use Rattle.std.specs.Option.{option_map}
 use Rattle.std.specs.BTreeMap.{get_by_text}
 use Rattle.fr_base.specs.declared.sure.SureShelf.{SureShelf}

@@ -5,6 +5,9 @@
 
 mod adapters;
 mod channel;
+mod cycle_row;
+mod dev;
+mod dev_list;
 mod ids;
 mod line;
 mod memory_shelf;
@@ -12,6 +15,7 @@ mod memory_sink;
 mod node_row;
 mod numbers;
 mod reason;
+mod row_list;
 mod shelf;
 mod sink;
 mod state;
@@ -19,6 +23,9 @@ mod sure;
 
 pub use adapters::{DiskShelf, StreamSink};
 pub use channel::Channel;
+pub use cycle_row::{Counts, CycleRow};
+pub use dev::Dev;
+pub use dev_list::DevList;
 pub use ids::{NodeId, Slot};
 pub use line::{LINE_ROOM, Line};
 pub use memory_shelf::MemoryShelf;
@@ -26,6 +33,7 @@ pub use memory_sink::MemorySink;
 pub use node_row::NodeRow;
 pub use numbers::{NumberFault, number};
 pub use reason::Reason;
+pub use row_list::{ROW_ROOM, RowList};
 pub use shelf::{LoadFault, MAX_FILE, Shelf};
 pub use sink::{PutFault, Sink};
 pub use state::{Outcome, State};

@@ -1,4 +1,4 @@
-use Rattle.std.proofs.Common.{◌≡◌, ◌+◌, ◌≤◌, ◌/◌, length, ap, sym, ◌∙◌, arith, ◌++◌, ◌∷◌, [], ◌%◌, List, ℕ, rules}
+use Rattle.std.proofs.Common.{◌≡◌, ◌+◌, ◌/◌, length, ap, ◌∙◌, arith, ◌++◌, ◌∷◌, [], ◌%◌, List, ℕ, rules}
 use Rattle.std.specs.Fmt.{decimal}
 use Rattle.fr_base.proofs.Decimals.{length-decimal_step, length-decimal_digit, append_last, append_only}
 use Rattle.fr_base.proofs.line.Line.+natural.Goals as goal
