@@ -1,0 +1,3 @@
+pub mod Regular
+pub mod Offers
+pub mod Answers
