@@ -1,6 +1,6 @@
 -- What a node answers to an offer in a cycle (sections 4.2 to 4.5 and 8.5): the first of six reasons to ignore it that
 -- holds, or else the deviation that it stores.
-use Rattle.std.specs.Prelude.{◌≡◌, ◌≢◌, ◌⊎◌, ℕ, ℤ, ◌≤ℤ◌, ◌<ℤ◌, int_lt, int_le, Bool, true, false, not, ◌||◌, ◌==◌, List, Option, None, IsSome, is_none, Result, Ok, Err, if◌then◌else◌}
+use Rattle.std.specs.Prelude.{◌≡◌, ◌≢◌, ◌⊎◌, ℕ, ℤ, ◌≤ℤ◌, ◌<ℤ◌, int_lt, int_le, true, false, not, ◌||◌, ◌==◌, List, None, IsSome, is_none, Result, Ok, Err, if◌then◌else◌}
 use Rattle.fr_base.specs.declared.node_row.NodeRow.{NodeRow}
 use Rattle.fr_frame.specs.declared.header.Header.{Header}
 use Rattle.fr_frame.specs.declared.fault.FrameFault.{FrameFault}
