@@ -1,3 +1,4 @@
 pub mod Uncut
 pub mod Failing
 pub mod Rows
+pub mod Sync

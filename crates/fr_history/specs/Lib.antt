@@ -1,0 +1,9 @@
+pub mod Setting
+pub mod History
+pub mod Offers
+pub mod Kinds
+pub mod Terms
+pub mod Lawful
+pub mod Next
+pub mod Skew
+pub mod Sync
