@@ -6,6 +6,7 @@ use Rattle.std.specs.Option.{option_map, option_to_list}
 use Rattle.std.proofs.lemmas.Nat.{xor_lt}
 use Rattle.std.proofs.Math.Nat.{pow-le-pow_right}
 use Rattle.std.proofs.lemmas.List.Elements.{All-cons, All-head, All-map, All-nil, All-set, All-tail, All-weaker}
+use Rattle.fr_base.specs.States.{is_active, is_halted}
 use Rattle.fr_base.specs.Event.{Event}
 use Rattle.fr_base.specs.Event.Event.{Regular, Silent, Flip, Say}
 use Rattle.fr_base.specs.declared.channel.Channel.{Channel}
@@ -19,7 +20,7 @@ use Rattle.fr_reception.specs.Answers.{IsAnswer, answer_of}
 use Rattle.fr_reception.specs.Offers.{Offer, flipped}
 use Rattle.fr_reception.specs.Regular.{is_sync_frame, regular_frame}
 use Rattle.fr_history.specs.Setting.{IsSetting, SaysBytes, Setting, correct_nodes}
-use Rattle.fr_history.specs.History.{History, is_active, is_halted, row_of}
+use Rattle.fr_history.specs.History.{History, row_of}
 use Rattle.fr_history.specs.Offers.{AreReceptions, IsProper, active_offer, is_on, left_of, offer_in, offered, offers_among, offers_to, reception_of, receptions_among, said_by, said_offer, sender_offer, sent_offer, channels, slots_of}
 use Rattle.fr_history.specs.Terms.{status_in}
 use Rattle.fr_history.specs.Lawful.{AreCounts, IsLawful, Obeys, cut_behind, offset_behind, rate_behind, start_behind, uncorrected}

@@ -3,8 +3,6 @@ use Rattle.std.specs.Prelude.{◌≡◌, ℕ, ◌==◌, Bool, true, false, List,
 use Rattle.fr_base.specs.declared.cycle_row.Counts.{Counts}
 use Rattle.fr_base.specs.declared.dev.Dev.{Dev}
 use Rattle.fr_base.specs.declared.node_row.NodeRow.{NodeRow}
-use Rattle.fr_base.specs.declared.state.State.{State}
-use Rattle.fr_base.specs.declared.state.State.TheVariants.{Active, Passive, Halt}
 
 -- The record of a cycle: a row for each correct node, in ascending order of node; the deviations that were stored, in
 -- ascending order of receiver, slot and channel; and what became of the frames.
@@ -33,14 +31,3 @@ record_at (r ∷ h) cycle = if length h == cycle then Some r else record_at h cy
 -- the row of a node, if it has one
 abbrev pub row_of : List NodeRow → ℕ → Option NodeRow
 row_of rows node = find (λ row. row.node == node) rows
-
--- the state of a node's operation control
-abbrev pub is_active : State → Bool
-is_active Active = true
-is_active Passive = false
-is_active Halt = false
-
-abbrev pub is_halted : State → Bool
-is_halted Active = false
-is_halted Passive = false
-is_halted Halt = true

@@ -1,5 +1,6 @@
 -- Which histories are lawful: each record obeys the laws behind the records before it.
 use Rattle.std.specs.Prelude.{◌≡◌, ℕ, ℤ, pos, Bool, not, ◌&&◌, List, [], ◌∷◌, length, map, fold, All, count_by, bit_xor, Option, Some, None, if◌then◌else◌}
+use Rattle.fr_base.specs.States.{is_halted}
 use Rattle.fr_base.specs.declared.channel.Channel.TheVariants.{A, B}
 use Rattle.fr_base.specs.declared.cycle_row.Counts.{Counts}
 use Rattle.fr_base.specs.declared.node_row.NodeRow.{NodeRow}
@@ -8,7 +9,7 @@ use Rattle.fr_time.specs.Instant.{next_start_of}
 use Rattle.fr_time.specs.Position.{grid_for}
 use Rattle.fr_reception.specs.Regular.{carried_crc}
 use Rattle.fr_history.specs.Setting.{Setting, correct_nodes}
-use Rattle.fr_history.specs.History.{History, Record, is_halted, row_of}
+use Rattle.fr_history.specs.History.{History, Record, row_of}
 use Rattle.fr_history.specs.Offers.{AreReceptions, Reception, devs_among, frames_on}
 use Rattle.fr_history.specs.Kinds.{is_stored, is_outside, is_damaged, is_wrong_id, is_wrong_cycle, is_wrong_length, is_plain}
 use Rattle.fr_history.specs.Terms.{cuts_in, offset_term_in, rate_term_in, status_in}

@@ -4,6 +4,7 @@
 use Rattle.std.specs.Prelude.{◌≡◌, ℕ, ◌==◌, ℤ, ◌+ℤ◌, ◌*ℤ◌, Bool, not, ◌&&◌, ◌||◌, List, [], ◌∷◌, map, Option, Some, None, unwrap_or, option_and_then, All, if◌then◌else◌}
 use Rattle.std.specs.List.{flat_map, filter_map, range_with_len}
 use Rattle.std.specs.Option.{option_map, option_to_list}
+use Rattle.fr_base.specs.States.{is_active, is_halted}
 use Rattle.fr_base.specs.Event.{Event}
 use Rattle.fr_base.specs.Event.Event.{Regular, Silent, Flip, Say}
 use Rattle.fr_base.specs.declared.channel.Channel.{Channel}
@@ -21,7 +22,7 @@ use Rattle.fr_reception.specs.Answers.{IsAnswer, answer_of}
 use Rattle.fr_reception.specs.declared.heard.Heard.{Heard}
 use Rattle.fr_reception.specs.declared.heard.Heard.TheVariants.{Stored, Ignored}
 use Rattle.fr_history.specs.Setting.{Setting}
-use Rattle.fr_history.specs.History.{is_active, is_halted, row_of}
+use Rattle.fr_history.specs.History.{row_of}
 
 -- whether a node of the cluster has a channel
 abbrev pub is_on : Setting → ℕ → Channel → Bool

@@ -2,13 +2,14 @@
 use Rattle.std.specs.Prelude.{◌≡◌, ◌≢◌, ◌⊎◌, ℕ, zero, suc, ◌<◌, ℤ, pos, ◌-ℤ◌, ◌≤ℤ◌, int_lt, Bool, true, false, not, List, [], ◌∷◌, length, map, filter, fold, Option, Some, None}
 use Rattle.std.specs.Int.{int_max, int_min}
 use Rattle.std.specs.Option.{option_map_or}
+use Rattle.fr_base.specs.States.{is_halted}
 use Rattle.fr_base.specs.declared.node_row.NodeRow.{NodeRow}
 use Rattle.fr_params.specs.Values.{Values, amount}
 use Rattle.fr_params.specs.declared.names.ParamName.TheVariants as name
 use Rattle.fr_time.specs.Cycles.{is_odd}
 use Rattle.fr_time.specs.Instant.{instant_of}
 use Rattle.fr_time.specs.Position.{grid_for}
-use Rattle.fr_history.specs.History.{History, is_halted, record_at}
+use Rattle.fr_history.specs.History.{History, record_at}
 
 -- the greatest of some numbers less the least; 0 where there are none
 abbrev pub spread_of : List ℤ → ℤ

@@ -3,11 +3,11 @@
 use Rattle.std.specs.Prelude.{ℕ, ◌+◌, ◌==◌, ℤ, Bool, false, ◌&&◌, List, [], ◌∷◌, ◌++◌, length, Option, Some, None, find, option_and_then, if◌then◌else◌}
 use Rattle.std.specs.Option.{option_map, option_map_or}
 use Rattle.fr_base.specs.Rows.{rank_of}
+use Rattle.fr_base.specs.States.{cut_of}
 use Rattle.fr_base.specs.declared.channel.Channel.{Channel}
 use Rattle.fr_base.specs.declared.dev.Dev.{Dev}
 use Rattle.fr_base.specs.declared.node_row.NodeRow.{NodeRow}
 use Rattle.fr_base.specs.declared.state.Outcome.{Outcome}
-use Rattle.fr_base.specs.declared.state.Outcome.TheVariants.{Within, Missing, Exceeded}
 use Rattle.fr_params.specs.Values.{Values, amount}
 use Rattle.fr_params.specs.Constraints.{key_slots}
 use Rattle.fr_params.specs.Questions.{key_index_of, node_of}
@@ -62,12 +62,6 @@ offset_term_in x h odds node = offset_term_of x.params.offset_limit (offset_valu
 abbrev pub rate_term_in : Setting → History → List Dev → NodeRow → Term
 rate_term_in x h odds row =
     rate_term_of row.rate x.params.damping x.params.rate_limit (rate_values_of x.params (latest_devs h) odds row.node)
-
--- one for a term that was cut
-abbrev pub cut_of : Outcome → ℕ
-cut_of Within = 0
-cut_of Missing = 0
-cut_of Exceeded = 1
 
 -- how many of the two terms of a node were cut at the end of an odd cycle
 abbrev pub cuts_in : Setting → History → List Dev → NodeRow → ℕ
