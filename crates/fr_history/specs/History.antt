@@ -11,8 +11,9 @@ pub record Record : Type 0 where
   pub devs : List Dev
   pub counts : Counts
 
--- The records of cycles from 0 on, the latest first. So the number of a record's cycle is the length of the history
--- behind it, and a history with its first records taken off is a history too.
+-- The records of cycles from 0 on, the latest first. So the number of a record's cycle is how many records stand behind
+-- it in the list, which are those of the cycles before it; "behind a history" means: in the cycle that follows it. A
+-- history with records taken off at the head is a history too.
 abbrev pub History : Type 0
 History = List Record
 
@@ -20,7 +21,7 @@ History = List Record
 pub record IsRecordOf (h : History) (cycle : ℕ) (r : Record) : Type 0 where
   pub later : History
   pub earlier : History
-  pub cut : h ≡ later ++ r ∷ earlier
+  pub parted : h ≡ later ++ r ∷ earlier
   pub counted : length earlier ≡ cycle
 
 -- the record of a cycle, if the history has it

@@ -30,7 +30,8 @@ skew_at p h cycle macrotick = option_map_or (λ r. spread_at p cycle r.rows macr
 
 -- a cycle and a macrotick come before others
 abbrev pub IsBefore : ℕ → ℕ → ℕ → ℕ → Type 0
-IsBefore cycle macrotick later last = (cycle < later) ⊎ ((cycle ≡ later) × (macrotick < last))
+IsBefore cycle macrotick other_cycle other_macrotick =
+    (cycle < other_cycle) ⊎ ((cycle ≡ other_cycle) × (macrotick < other_macrotick))
 
 -- the greatest skew of a history over all its cycles and macroticks, and the first place at which it occurs
 pub record IsGreatestSkew (p : Values) (h : History) (skew : ℤ) (cycle macrotick : ℕ) : Type 0 where

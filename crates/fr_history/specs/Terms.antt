@@ -49,12 +49,14 @@ offset_values_of p evens odds node = values_of (offset_at (deviations_of p evens
 abbrev pub rate_values_of : Values → List Dev → List Dev → ℕ → List ℤ
 rate_values_of p evens odds node = values_of (rate_at (deviations_of p evens odds node) (own_index_of p node))
 
--- the deviations of the latest cycle of a history
+-- the deviations of the latest cycle of a history: where an odd cycle follows, those of the even cycle of its double
+-- cycle
 abbrev pub latest_devs : History → List Dev
 latest_devs [] = []
 latest_devs (r ∷ h) = r.devs
 
--- the offset term of a node at the end of an odd cycle behind its even one, by the deviations of both
+-- the offset term of a node at the end of an odd cycle, by its deviations and those of the even cycle before it, with
+-- which the history ends
 abbrev pub offset_term_in : Setting → History → List Dev → ℕ → Term
 offset_term_in x h odds node = offset_term_of x.params.offset_limit (offset_values_of x.params (latest_devs h) odds node)
 
