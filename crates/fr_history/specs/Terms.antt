@@ -10,8 +10,9 @@ use Rattle.fr_base.specs.declared.node_row.NodeRow.{NodeRow}
 use Rattle.fr_base.specs.declared.state.Outcome.{Outcome}
 use Rattle.fr_params.specs.Values.{Values, amount}
 use Rattle.fr_params.specs.Constraints.{key_slots}
-use Rattle.fr_params.specs.Questions.{key_index_of, node_of}
+use Rattle.fr_params.specs.Questions.{key_index_of}
 use Rattle.fr_params.specs.declared.names.ParamName.TheVariants as name
+use Rattle.fr_reception.specs.Own.{own_index}
 use Rattle.fr_time.specs.Cycles.{is_odd}
 use Rattle.fr_measure.specs.Values.{LookUp, offset_at, rate_at, values_of}
 use Rattle.fr_correct.specs.Terms.{offset_term_of, rate_term_of}
@@ -33,10 +34,6 @@ dev_in devs receiver slot channel = option_map (λ dev. dev.value) (find (is_dev
 abbrev pub key_slot_of : Values → ℕ → Option ℕ
 key_slot_of p index = find (λ slot. option_map_or (λ place. place == index) (key_index_of p slot) false) (key_slots p.nodes)
 
--- the key index of a node's own key slot, if it has one
-abbrev pub own_index_of : Values → ℕ → Option ℕ
-own_index_of p node = option_and_then (λ spec. option_and_then (key_index_of p) spec.key) (node_of p node)
-
 -- a receiver's deviations of a double cycle, by key index, parity and channel (section 8.5)
 abbrev pub deviations_of : Values → List Dev → List Dev → ℕ → LookUp
 deviations_of p evens odds receiver index odd channel =
@@ -44,10 +41,10 @@ deviations_of p evens odds receiver index odd channel =
 
 -- the offset and the rate values of a node at the end of a double cycle (sections 8.6.2 and 8.6.3)
 abbrev pub offset_values_of : Values → List Dev → List Dev → ℕ → List ℤ
-offset_values_of p evens odds node = values_of (offset_at (deviations_of p evens odds node) (own_index_of p node))
+offset_values_of p evens odds node = values_of (offset_at (deviations_of p evens odds node) (own_index p node))
 
 abbrev pub rate_values_of : Values → List Dev → List Dev → ℕ → List ℤ
-rate_values_of p evens odds node = values_of (rate_at (deviations_of p evens odds node) (own_index_of p node))
+rate_values_of p evens odds node = values_of (rate_at (deviations_of p evens odds node) (own_index p node))
 
 -- the deviations of the latest cycle of a history: where an odd cycle follows, those of the even cycle of its double
 -- cycle
