@@ -1,0 +1,3 @@
+pub mod RowFacts
+pub mod Tables
+pub mod Making
