@@ -17,7 +17,7 @@ use Rattle.fr_params.specs.Questions.{compensation_of}
 use Rattle.fr_drift.specs.Keys.{delay_cmp, delay_key, length_cmp, length_key}
 use Rattle.fr_drift.specs.Rows.{IsProperCount, IsProperDelay, IsProperLength, IsProperStart}
 use Rattle.fr_drift.specs.View.{DriftView, compensation_on, delay_rows, delays_on}
-use Rattle.fr_drift.specs.Sane.{IsProperCompensation, IsSane}
+use Rattle.fr_drift.specs.Sane.{IsDrift, IsProperCompensation}
 use Rattle.fr_drift.specs.Draft.{AreProper, IsDraftOf}
 use Rattle.fr_drift.specs.Files.{StandsFor}
 use Rattle.fr_drift.specs.Reasons.{delay_at}
@@ -56,7 +56,7 @@ made doubles a b draft = record {
 }
 
 -- tables in which nothing is out of range make a drift in which nothing is
-pub sane-made : (doubles : ℕ) (a b : ℤ) (draft : Draft) → AreProper draft → draft.doubles ≡ Some doubles → IsProperCompensation a → IsProperCompensation b → IsSane (made doubles a b draft)
+pub sane-made : (doubles : ℕ) (a b : ℤ) (draft : Draft) → AreProper draft → draft.doubles ≡ Some doubles → IsProperCompensation a → IsProperCompensation b → IsDrift (made doubles a b draft)
 unfolding made
 sane-made doubles a b draft h told on_a on_b = record {
   count = rw told at h.count;

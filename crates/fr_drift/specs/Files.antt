@@ -1,5 +1,5 @@
 -- What a drift file stands for, and why it is refused.
-use Rattle.std.specs.Prelude.{ℕ, ◌≡◌, List, Some, None, Result, Ok, Err, ⊤}
+use Rattle.std.specs.Prelude.{ℕ, ℤ, neg_ℤ, ◌≤ℤ◌, ◌≡◌, List, Some, None, Result, Ok, Err, ⊤}
 use Rattle.std.specs.FinMap as map
 use Rattle.fr_base.specs.declared.channel.Channel.{Channel}
 use Rattle.fr_records.specs.Records.{Record, records_of}
@@ -25,6 +25,11 @@ pub record Fits (p : Values) (d : DriftView) : Type 0 where
   pub records : List Record
   pub none_refused : NoneRefused (reason_after p) records
   pub stands : StandsFor p d records
+
+-- a rate term lies within the limit of these parameters
+pub record IsRateWithin (p : Values) (rate : ℤ) : Type 0 where
+  pub from : neg_ℤ p.rate_limit ≤ℤ rate
+  pub to : rate ≤ℤ p.rate_limit
 
 -- the file is accepted against these parameters, and this is the drift that it stands for
 pub record IsFileOf (p : Values) (d : DriftView) (bytes : List ℕ) : Type 0 where

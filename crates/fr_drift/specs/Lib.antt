@@ -1,5 +1,6 @@
 pub mod Keys
 pub mod Spans
+pub mod Held
 pub mod Rows
 pub mod Reasons
 pub mod View

@@ -1,15 +1,10 @@
 -- What the questions to a drift file answer.
-use Rattle.std.specs.Prelude.{ℕ, zero, suc, ℤ, pos, ◌*ℤ◌, Option, Some, None, unwrap_or}
+use Rattle.std.specs.Prelude.{ℕ, ℤ, pos, ◌*ℤ◌, unwrap_or}
 use Rattle.std.specs.Option.{option_map_or}
 use Rattle.std.specs.FinMap as map
 use Rattle.fr_base.specs.declared.channel.Channel.{Channel}
-use Rattle.fr_params.specs.Reasons.{or_else}
+use Rattle.fr_drift.specs.Held.{held}
 use Rattle.fr_drift.specs.View.{DriftView, compensation_on, delay_rows, length_rows}
-
--- of rows that stand at cycles, the one that holds in a cycle: the last that stands at it or before it
-unfoldable pub held : (ℕ → Option ℤ) → ℕ → Option ℤ
-held rows zero = rows zero
-held rows (suc cycle) = or_else (rows (suc cycle)) (held rows cycle)
 
 -- how many double cycles the run has
 unfoldable pub doubles_of : DriftView → ℕ

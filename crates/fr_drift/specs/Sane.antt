@@ -13,7 +13,7 @@ pub record IsProperCompensation (micros : ℤ) : Type 0 where
   pub to : micros ≤ℤ pos 200
 
 -- each number lies in its range
-pub record IsSane (d : DriftView) : Type 0 where
+pub record IsDrift (d : DriftView) : Type 0 where
   pub count : IsProperCount d.doubles
   pub compensation : (ch : Channel) → IsProperCompensation (compensation_on d ch)
   pub starts : (node : ℕ) → IfSome (map.get d.starts node) IsProperStart

@@ -6,10 +6,12 @@ mod draft;
 mod drift;
 mod fault;
 mod keys;
+mod laws;
 mod reading;
 mod rows;
 mod spans;
 
 pub use drift::Drift;
 pub use fault::DriftFault;
+pub use laws::one_answer;
 pub use reading::read;
