@@ -106,30 +106,3 @@ reads-same p bytes (Err fault.MissingDoubles) (Err (fault.Row n why)) na nb f g 
 reads-same p bytes (Err fault.MissingDoubles) (Err fault.MissingDoubles) na nb f g = refl
 reads-same p bytes (Err fault.MissingDoubles) (Err fault.NoMemory) na nb f g = absurd (nb refl)
 reads-same p bytes (Err fault.NoMemory) b na nb f g = absurd (na refl)
-
--- what the records say of each key, as a finite map: a record says something of one key at most
-module _ {K V : Type 0} {R : K → K → Ordering} (total : IsTotalOrder R) (said : K → Result Row Reason → Option V) (one : Result Row Reason → Option (K × V))
-  (says : (key : K) (x : Result Row Reason) → said key x ≡ (elim (one x) [ None ↦ None | Some e ↦ cond (eq_by_cmp R key e.0) (Some e.1) None ])) where
-  with : Option (K × V) → FinMap R V → FinMap R V
-  with None m = m
-  with (Some e) m = map.insert m e.0 e.1
-
-  gathered : List Record → FinMap R V
-  gathered [] = map.empty
-  gathered (r ∷ rest) = with (one (row_of r)) (gathered rest)
-
-  get-with : (o : Option (K × V)) (m : FinMap R V) (key : K) → map.get (with o m) key ≡ or_else (elim o [ None ↦ None | Some e ↦ cond (eq_by_cmp R key e.0) (Some e.1) None ]) (map.get m key)
-  unfolding with
-  get-with None m key = refl
-  get-with (Some e) m key = get-insert total m e.0 e.1 key ∙ chosen (eq_by_cmp R key e.0) e.1 (map.get m key)
-    where
-      chosen : (b : Bool) (v : V) (o : Option V) → cond b (Some v) o ≡ or_else (cond b (Some v) None) o
-      chosen true v o = refl
-      chosen false v o = refl
-
-  get-gathered : (records : List Record) (key : K) → map.get (gathered records) key ≡ looked_up (λ r. said key (row_of r)) records
-  unfolding gathered looked_up
-  get-gathered [] key = get-empty R key
-  get-gathered (r ∷ rest) key =
-      get-with (one (row_of r)) (gathered rest) key
-      ∙ (λ i. or_else (sym (says key (row_of r)) i) (get-gathered rest key i))

@@ -83,7 +83,7 @@ then-ties Less b = refl
 then-ties Equal b = refl
 then-ties Greater b = refl
 
-start-ties : (a b : ℕ) → is_at (nat_cmp a) b ≡ (a == b)
+pub start-ties : (a b : ℕ) → is_at (nat_cmp a) b ≡ (a == b)
 start-ties a b = grind (arith, nat_tests)
 
 pub length-ties : (a f b g : ℕ) → is_at (length_cmp (length_key a f)) (length_key b g) ≡ ((a == b) && (f == g))

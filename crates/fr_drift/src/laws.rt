@@ -11,3 +11,8 @@ ghost use Rattle.fr_drift.specs.declared.fault.DriftFault.TheVariants as fault;
 pub fn one_answer()
     ensures { (p : Values) (bytes : List ℕ) (a b : Result DriftView Fault) → a ≢ Err fault.NoMemory → b ≢ Err fault.NoMemory → Reads p bytes a → Reads p bytes b → a ≡ b }
 {}
+
+/// Each file has an answer that is not want of memory: it is accepted, or it is refused for a cause.
+pub fn some_answer()
+    ensures { (p : Values) (bytes : List ℕ) → (answer : Result DriftView Fault) × (answer ≢ Err fault.NoMemory) × Reads p bytes answer }
+{}

@@ -13,5 +13,5 @@ mod spans;
 
 pub use drift::Drift;
 pub use fault::DriftFault;
-pub use laws::one_answer;
+pub use laws::{one_answer, some_answer};
 pub use reading::read;
