@@ -36,7 +36,7 @@ use Rattle.fr_drift.proofs.Making.{delay_total, length_total}
 
 -- what the records say of each key, as a finite map: a record says something of one key at most
 module _ {K V : Type 0} {R : K → K → Ordering} (total : IsTotalOrder R) (said : K → Result Row Reason → Option V) (one : Result Row Reason → Option (K × V))
-  (says : (key : K) (x : Result Row Reason) → said key x ≡ (elim (one x) [ None ↦ None | Some e ↦ cond (eq_by_cmp R key e.0) (Some e.1) None ])) where
+    (says : (key : K) (x : Result Row Reason) → said key x ≡ (elim (one x) [ None ↦ None | Some e ↦ cond (eq_by_cmp R key e.0) (Some e.1) None ])) where
   with : Option (K × V) → FinMap R V → FinMap R V
   with None m = m
   with (Some e) m = map.insert m e.0 e.1

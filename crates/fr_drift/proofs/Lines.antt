@@ -115,11 +115,11 @@ module _ {K : Type 0} {cmp : K → K → Ordering} {at : ℕ → K} (line : IsLi
       let high = up-to place.0 n (rw (place.1, line.ordered place.0 n) at h.inside.to) in
       held-last (λ c. rows (at c)) place.0 n ticks high (rw place.1 at h.there)
       (λ c low to.
-          none-or-some (rows (at c))
-          (λ some.
-              let ahead = rw (place.1, line.ordered place.0 c) at (h.behind (at c) (inside line 0 n c (omega arith) to) some) in
-              let no : c ≤ place.0 = not-less place.0 c ahead in
-              absurd (omega arith)))
+      none-or-some (rows (at c))
+      (λ some.
+      let ahead = rw (place.1, line.ordered place.0 c) at (h.behind (at c) (inside line 0 n c (omega arith) to) some) in
+      let no : c ≤ place.0 = not-less place.0 c ahead in
+      absurd (omega arith)))
 
   pub last-none : (n : ℕ) → ((key : K) → IsFromTo cmp (at 0) (at n) key → rows key ≡ None) → held (λ c. rows (at c)) n ≡ None
   last-none n none = held-none (λ c. rows (at c)) n (λ c to. none (at c) (inside line 0 n c (omega arith) to))
@@ -138,9 +138,9 @@ module _ {K : Type 0} {cmp : K → K → Ordering} {at : ℕ → K} (line : IsLi
           quiet = λ c from to.
               none-or-some (rows (at c))
               (λ some.
-                  let after = rw (place.1, line.ordered place.0 c) at (h.before (at c) (inside line (cycle + 1) end c (omega arith) (omega arith)) some) in
-                  let no : place.0 ≤ c = up-to place.0 c after in
-                  absurd (omega arith));
+              let after = rw (place.1, line.ordered place.0 c) at (h.before (at c) (inside line (cycle + 1) end c (omega arith) (omega arith)) some) in
+              let no : place.0 ≤ c = up-to place.0 c after in
+              absurd (omega arith));
           stands = λ _. rw place.1 at h.there;
         },
       )

@@ -33,14 +33,14 @@ coded_view =
     (coded× (map.code coded_length_key coded_ℤ) (coded× (map.code coded_delay_key coded_ℤ) (map.code coded_delay_key coded_ℤ)))))))
     (λ d. (d.doubles, (d.compensation_a, (d.compensation_b, (d.starts, (d.lengths, (d.delays_a, d.delays_b)))))))
     (λ t. record {
-        doubles = t.0;
-        compensation_a = t.1.0;
-        compensation_b = t.1.1.0;
-        starts = t.1.1.1.0;
-        lengths = t.1.1.1.1.0;
-        delays_a = t.1.1.1.1.1.0;
-        delays_b = t.1.1.1.1.1.1;
-      })
+      doubles = t.0;
+      compensation_a = t.1.0;
+      compensation_b = t.1.1.0;
+      starts = t.1.1.1.0;
+      lengths = t.1.1.1.1.0;
+      delays_a = t.1.1.1.1.1.0;
+      delays_b = t.1.1.1.1.1.1;
+    })
     (λ _. refl)
 
 -- the compensation of a channel, in microticks

@@ -10,6 +10,8 @@ mod laws;
 mod reading;
 mod rows;
 mod spans;
+#[cfg(test)]
+mod tests;
 
 pub use drift::Drift;
 pub use fault::DriftFault;
