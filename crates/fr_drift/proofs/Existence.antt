@@ -1,6 +1,6 @@
 -- Each file has an answer: records of which none is refused stand for a drift.
 use Rattle.std.proofs.Common.{◌≡◌, ◌≢◌, ℕ, ℤ, Bool, true, false, cond, List, [], ◌∷◌, Option, Some, None, Result, Ok, Err, ap, sym, ◌∙◌, refl, ◌⊎◌, inl, inr}
-use Rattle.std.specs.Prelude.{◌==◌, ◌&&◌, if◌then◌else◌}
+use Rattle.std.specs.Prelude.{◌&&◌, if◌then◌else◌}
 use Rattle.std.specs.Cmp.{IsTotalOrder, eq_by_cmp_equiv}
 use Rattle.std.specs.Ordering.{nat_cmp, eq_by_cmp}
 use Rattle.std.specs.declared.cmp.Ordering.{Ordering}
@@ -18,15 +18,13 @@ use Rattle.fr_params.specs.Questions.{compensation_of}
 use Rattle.fr_params.specs.Reasons.{or_else, looked_up}
 use Rattle.fr_drift.specs.Keys.{delay_cmp, delay_key, length_cmp, length_key}
 use Rattle.fr_drift.specs.Rows.{row_of}
-use Rattle.fr_drift.specs.Reasons.{reason_after, doubles_at, start_at, length_at, delay_at, start_in, length_in, delay_in, is_channel, is_delay_of}
+use Rattle.fr_drift.specs.Reasons.{reason_after, doubles_at, delay_at, start_in, length_in, delay_in, is_channel, is_delay_of}
 use Rattle.fr_drift.specs.View.{DriftView, compensation_on, delay_rows}
-use Rattle.fr_drift.specs.Files.{StandsFor, IsFileOf, LacksDoubles, Reads}
+use Rattle.fr_drift.specs.Files.{StandsFor, Reads}
 use Rattle.fr_drift.specs.declared.keys.LengthKey.{LengthKey}
 use Rattle.fr_drift.specs.declared.keys.DelayKey.{DelayKey}
 use Rattle.fr_drift.specs.declared.rows.Start.{Start}
-use Rattle.fr_drift.specs.declared.rows.LengthRow.{LengthRow}
 use Rattle.fr_drift.specs.declared.rows.DelayRow.{DelayRow}
-use Rattle.fr_drift.specs.declared.rows.StartRow.{StartRow}
 use Rattle.fr_drift.specs.declared.rows.Row.{Row}
 use Rattle.fr_drift.specs.declared.rows.Row.TheVariants as row
 use Rattle.fr_drift.specs.declared.fault.DriftFault.{DriftFault}

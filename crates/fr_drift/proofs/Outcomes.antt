@@ -1,32 +1,19 @@
 -- What reading a file may answer is one answer, but for want of memory.
-use Rattle.std.proofs.Common.{◌≡◌, ◌≢◌, ℕ, ℤ, Bool, true, false, cond, List, [], ◌∷◌, Option, Some, None, Result, Ok, Err, ap, sym, ◌∙◌, refl, ◌⊎◌, inl, inr}
-use Rattle.std.specs.Prelude.{◌==◌, ◌&&◌, if◌then◌else◌}
-use Rattle.std.specs.Cmp.{IsTotalOrder, eq_by_cmp_equiv}
-use Rattle.std.specs.Ordering.{nat_cmp, eq_by_cmp}
-use Rattle.std.specs.declared.cmp.Ordering.{Ordering}
-use Rattle.std.specs.FinMap as map
-use Rattle.std.specs.FinMap.{FinMap, IsAntisymmetric, nat_cmp-IsAntisymmetric, same_map, get-empty, get-insert}
+use Rattle.std.proofs.Common.{◌≡◌, ◌≢◌, ℕ, List, Some, None, Result, Ok, Err, ap, sym, ◌∙◌, refl}
+use Rattle.std.specs.Ordering.{nat_cmp}
+use Rattle.std.specs.FinMap.{IsAntisymmetric, nat_cmp-IsAntisymmetric, same_map}
 use Rattle.std.proofs.lemmas.Cmp.{nat_cmp_total}
 use Rattle.std.proofs.lemmas.Map.Lookups.{exact_pairs, exact_unsigned}
-use Rattle.fr_base.specs.declared.channel.Channel.{Channel}
 use Rattle.fr_base.specs.declared.channel.Channel.TheVariants as channel
 use Rattle.fr_base.specs.declared.reason.Reason.{Reason}
 use Rattle.fr_records.specs.Records.{Record, records_of}
 use Rattle.fr_records.specs.Refusal.{NoneRefused, FirstRefused}
-use Rattle.fr_records.proofs.Cuts.{first-same, none-or-first-refused}
+use Rattle.fr_records.proofs.Cuts.{first-same}
 use Rattle.fr_params.specs.Values.{Values}
-use Rattle.fr_params.specs.Questions.{compensation_of}
-use Rattle.fr_params.specs.Reasons.{or_else, looked_up}
-use Rattle.fr_drift.specs.Keys.{delay_cmp, delay_key, length_cmp, length_key}
-use Rattle.fr_drift.specs.Rows.{row_of}
-use Rattle.fr_drift.specs.Reasons.{reason_after, doubles_at, start_at, length_at, delay_at, start_in, length_in, delay_in}
+use Rattle.fr_drift.specs.Keys.{delay_cmp, length_cmp, length_key}
+use Rattle.fr_drift.specs.Reasons.{reason_after, doubles_at}
 use Rattle.fr_drift.specs.View.{DriftView}
-use Rattle.fr_drift.specs.Files.{StandsFor, IsFileOf, LacksDoubles, Reads}
-use Rattle.fr_drift.specs.declared.keys.LengthKey.{LengthKey}
-use Rattle.fr_drift.specs.declared.keys.DelayKey.{DelayKey}
-use Rattle.fr_drift.specs.declared.rows.Start.{Start}
-use Rattle.fr_drift.specs.declared.rows.Row.{Row}
-use Rattle.fr_drift.specs.declared.rows.Row.TheVariants as row
+use Rattle.fr_drift.specs.Files.{StandsFor, Reads}
 use Rattle.fr_drift.specs.declared.fault.DriftFault.{DriftFault}
 use Rattle.fr_drift.specs.declared.fault.DriftFault.TheVariants as fault
 use Rattle.fr_drift.proofs.Making.{delay_total, length_total}
