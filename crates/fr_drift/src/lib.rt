@@ -1,0 +1,19 @@
+//! The drift file of a cluster: how long a run is, where each node's clock starts, how long its microticks
+//! are, and how long frames travel; and what it takes for a file to be accepted.
+#![tactic(auto)]
+
+mod draft;
+mod drift;
+mod fault;
+mod keys;
+mod laws;
+mod reading;
+mod rows;
+mod spans;
+#[cfg(test)]
+mod tests;
+
+pub use drift::Drift;
+pub use fault::DriftFault;
+pub use laws::{a_row_holds_until_the_next, one_answer, some_answer};
+pub use reading::read;
