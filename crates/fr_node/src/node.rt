@@ -1,0 +1,3 @@
+pub struct Node {
+    id: u8,
+}
