@@ -1,5 +1,5 @@
 -- What contracts see of a node.
-use Rattle.std.specs.Prelude.{◌≡◌, ℕ, ◌+◌, ◌*◌, ◌<◌, ◌≤◌, ℤ, pos, ◌≤ℤ◌, Option, None, IsSome, unwrap_or}
+use Rattle.std.specs.Prelude.{ℕ, ◌+◌, ◌*◌, ◌<◌, ◌≤◌, ℤ, pos, ◌≤ℤ◌, Option, IsSome, unwrap_or}
 use Rattle.std.specs.Option.{ForSome}
 use Rattle.fr_base.specs.declared.node_row.NodeRow.{NodeRow}
 use Rattle.fr_midpoint.specs.Within.{IsWithin}
@@ -42,3 +42,11 @@ pub record IsNode (node : NodeView) : Type 0 where
   pub start_to : node.start ≤ℤ pos (1_000_000_000_000 * (node.cycle + 1))
   pub rate : IsWithin (pos 2000) node.rate
   pub length : ForSome node.length IsLength
+
+-- the numbers of a row lie where instants can be computed
+pub record IsProperRow (row : NodeRow) : Type 0 where
+  pub rate : IsWithin (pos 2000) row.rate
+  pub start_from : pos 0 ≤ℤ row.start
+  pub start_to : row.start ≤ℤ pos 900_000_000_000_000_000
+  pub length_from : pos 500_000 ≤ℤ row.length
+  pub length_to : row.length ≤ℤ pos 1_500_000

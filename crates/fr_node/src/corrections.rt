@@ -2,27 +2,15 @@ ghost use Rattle.std.specs.Prelude.{◌≡◌, ◌≤◌, ◌≤ℤ◌, pos};
 ghost use Rattle.fr_correct.specs.Terms.{offset_term_of, rate_term_of};
 ghost use Rattle.fr_measure.specs.Readings.{reading};
 ghost use Rattle.fr_measure.specs.Values.{offset_at, rate_at, values_of};
-ghost use Rattle.fr_params.specs.Names.{greatest, least};
-ghost use Rattle.fr_params.specs.Values.{figure};
 ghost use Rattle.fr_midpoint.specs.Within.{IsWithin};
 ghost use Rattle.fr_node.specs.Cycle.{cut_by};
 
-use crate::own::sane;
+use crate::own::number;
 use fr_base::Outcome;
 use fr_correct::{Term, offset_term, rate_term};
 use fr_measure::Table;
 use fr_midpoint::List15;
 use fr_params::{ParamName, Params};
-
-// The number of a name, within its range.
-fn number(params: &Params, name: ParamName) -> i64
-    ensures value { result ≡ figure params.now name }
-    ensures from { pos (least name) ≤ℤ result }
-    ensures to { result ≤ℤ pos (greatest name) }
-{
-    sane(params);
-    params.value(name)
-}
 
 // The limit of the offset term.
 fn offset_limit(params: &Params) -> i32

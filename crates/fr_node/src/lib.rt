@@ -7,6 +7,7 @@ mod corrections;
 mod frames;
 mod node;
 mod own;
+mod times;
 
 pub use fr_reception::{Heard, Ignored};
 pub use frames::frame_of;

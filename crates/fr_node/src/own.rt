@@ -1,4 +1,6 @@
-ghost use Rattle.std.specs.Prelude.{◌≡◌, ◌<◌, ◌≤◌, IfSome};
+ghost use Rattle.std.specs.Prelude.{◌≡◌, ◌<◌, ◌≤◌, ◌≤ℤ◌, pos, IfSome};
+ghost use Rattle.fr_params.specs.Names.{greatest, least};
+ghost use Rattle.fr_params.specs.Values.{figure};
 ghost use Rattle.fr_params.specs.Questions.{key_index_of};
 ghost use Rattle.fr_params.specs.Sane.{IsSane};
 ghost use Rattle.fr_node.specs.Own.{limits_of, own_index};
@@ -12,6 +14,16 @@ pub(crate) fn sane(params: &Params)
     ensures { IsSane params.now }
 {
     let _nodes = &params.nodes;
+}
+
+// The number of a name, within its range.
+pub(crate) fn number(params: &Params, name: ParamName) -> i64
+    ensures value { result ≡ figure params.now name }
+    ensures from { pos (least name) ≤ℤ result }
+    ensures to { result ≤ℤ pos (greatest name) }
+{
+    sane(params);
+    params.value(name)
 }
 
 // The place of a slot among the key slots, if it is one.

@@ -1,4 +1,4 @@
-use Rattle.std.proofs.Common.{◌≡◌, ◌+◌, ◌++◌, [], ◌∷◌, take, slice_set, ap, sym, ◌∙◌, List, ℕ, arith}
+use Rattle.std.proofs.Common.{◌++◌, [], ◌∷◌, ap, sym, ◌∙◌, List, ℕ, arith}
 use Rattle.std.proofs.lemmas.List.{take_more_set}
 use Rattle.fr_node.proofs.Written.{payload_more}
 use Rattle.fr_node.proofs.frames.fill.Goals as goal

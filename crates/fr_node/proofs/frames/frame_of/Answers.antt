@@ -1,4 +1,4 @@
-use Rattle.std.proofs.Common.{◌≡◌, ◌*◌, List, ℕ, take, ap, sym, ◌∙◌, arith}
+use Rattle.std.proofs.Common.{◌≡◌, ◌*◌, ℕ, take, ap, ◌∙◌}
 use Rattle.fr_frame.specs.declared.header.Header.{Header}
 use Rattle.fr_reception.specs.Regular.{payload_of, regular_frame, regular_header, regular_payload}
 use Rattle.fr_node.proofs.Written.{encoded}
