@@ -1,0 +1,7 @@
+//! The fault script of a cluster: which nodes are arbitrary, what becomes of each frame, and whether a run
+//! is covered by the precision theorem.
+#![tactic(auto)]
+
+mod deeds;
+
+pub use deeds::{Deed, DeedTable, Passage, SaidBytes};
