@@ -1,2 +1,8 @@
 pub mod Said
 pub mod Deeds
+pub mod Rows
+pub mod Reasons
+pub mod View
+pub mod Fields
+pub mod Events
+pub mod Draft

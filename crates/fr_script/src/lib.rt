@@ -3,5 +3,10 @@
 #![tactic(auto)]
 
 mod deeds;
+mod draft;
+mod rows;
+mod script;
 
 pub use deeds::{Deed, DeedTable, Passage, SaidBytes};
+pub use rows::{DeedRow, Row, read_row};
+pub use script::{Event, Script};
