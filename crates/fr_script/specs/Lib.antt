@@ -6,3 +6,4 @@ pub mod View
 pub mod Fields
 pub mod Events
 pub mod Draft
+pub mod Files

@@ -1,14 +1,16 @@
-ghost use Rattle.std.specs.Prelude.{◌≡◌, ◌≤◌, ◌*◌, ◌++◌, ◌∷◌, [], ℕ, List, Ok, Some, None, OnOk, IfOk, IfErr, IfSome, is_none, option_and_then};
+ghost use Rattle.std.specs.Prelude.{◌≡◌, ◌≤◌, ◌*◌, ◌++◌, ◌∷◌, [], ℕ, List, Ok, Some, None, OnOk, IfOk, IfErr, IfSome, is_some, ◌&&◌};
 ghost use Rattle.csv.specs.Records.{fields_of};
 ghost use Rattle.fr_records.specs.Records.{Record};
 ghost use Rattle.fr_params.specs.Questions.{node_of};
 ghost use Rattle.fr_script.specs.Rows.{IsProperDeed, IsProperRow, bits_of, row_of};
-ghost use Rattle.fr_script.specs.Reasons.{deed_reason, is_misplaced, is_say, key_slot, node_reason, reason_after, row_reason};
+ghost use Rattle.fr_script.specs.Reasons.{deed_by, deed_reason, is_common, is_misplaced, is_named, is_say, node_reason, reason_after, row_reason};
+ghost use Rattle.fr_script.specs.View.{IsScript};
 ghost use Rattle.fr_script.specs.Draft.{IsDraftOf};
 ghost use Rattle.fr_script.specs.declared.rows.Row.TheVariants as said;
 
 use crate::deeds::{Deed, DeedTable, Passage};
 use crate::rows::{DeedRow, Row, read_row};
+use crate::script::Script;
 use csv::ByteRecord;
 use fr_base::{Channel, NodeId, Reason};
 use fr_params::Params;
@@ -50,6 +52,23 @@ impl<'a> Draft<'a> {
         }
     }
 
+    /// The script that the records stand for.
+    pub(crate) fn into_script(self) -> Script
+        requires { (done : List Record) × IsDraftOf self done }
+        ensures script { result ≡ record { arbitrary = self.arbitrary; on_a = self.on_a; on_b = self.on_b } }
+        ensures sane { IsScript result }
+    {
+        let Draft {
+            alloc: _,
+            params: _,
+            arbitrary,
+            on_a,
+            on_b,
+            acted: _,
+        } = self;
+        Script::of(arbitrary, on_a, on_b)
+    }
+
     fn is_arbitrary(&self, node: NodeId) -> bool
         ensures { (done : List Record) → IsDraftOf self.now done → result ≡ is_named self.now.params.now node done }
     {
@@ -75,5 +94,149 @@ impl<'a> Draft<'a> {
         }
         self.arbitrary[usize::from(node.0)] = true;
         None
+    }
+
+    fn take(&mut self, row: Row) -> Result<Option<Reason>, AllocError>
+        requires { IsProperRow row }
+        ensures same { self.new.params ≡ self.old.params }
+        ensures why { (done : List Record) → IsDraftOf self.old done → IfOk result (λ why. why ≡ row_reason self.old.params.now done (Ok row)) }
+        ensures adds { (done : List Record) (r : Record) → IsDraftOf self.old done → row_of (bits_of self.old.params.now) r ≡ Ok row → IfOk result (λ why. why ≡ None → IsDraftOf self.new (done ++ r ∷ [])) }
+    {
+        match row {
+            Row::Arbitrary(node) => Ok(self.take_node(node)),
+            Row::Deed(deed) => self.take_deed(deed),
+        }
+    }
+
+    fn take_deed(&mut self, row: DeedRow) -> Result<Option<Reason>, AllocError>
+        requires { IfSome row.deed IsProperDeed }
+        ensures same { self.new.params ≡ self.old.params }
+        ensures why { (done : List Record) → IsDraftOf self.old done → IfOk result (λ why. why ≡ deed_reason self.old.params.now done row) }
+        ensures adds { (done : List Record) (r : Record) → IsDraftOf self.old done → row_of (bits_of self.old.params.now) r ≡ Ok (said.Deed row) → IfOk result (λ why. why ≡ None → IsDraftOf self.new (done ++ r ∷ [])) }
+    {
+        match self.checked(row) {
+            Err(why) => Ok(Some(why)),
+            Ok(act) => {
+                self.put(act)?;
+                Ok(None)
+            }
+        }
+    }
+
+    /// What a row does, or the least reason for which it is not taken.
+    fn checked(&self, row: DeedRow) -> Result<Act, Reason>
+        ensures why { (done : List Record) → IsDraftOf self.now done → IfErr result (λ why. deed_reason self.now.params.now done row ≡ Some why) }
+        ensures none { (done : List Record) → IsDraftOf self.now done → IfOk result (λ act. deed_reason self.now.params.now done row ≡ None) }
+        ensures free { (done : List Record) → IsDraftOf self.now done → IfOk result (λ act. deed_by self.now.params.now act.channel act.passage done ≡ None) }
+        ensures same { IfOk result (λ act. row ≡ record { passage = act.passage; channel = Some act.channel; deed = Some act.deed }) }
+    {
+        let DeedRow {
+            passage,
+            channel,
+            deed,
+        } = row;
+        if !self.knows_both(&passage) {
+            return Err(Reason::UnknownNode);
+        }
+        let Some(channel) = channel else {
+            return Err(Reason::BadChannel);
+        };
+        if self.is_misplaced(&passage, says(&deed)) {
+            return Err(Reason::Role);
+        }
+        if !self.is_common(&passage, channel) {
+            return Err(Reason::Link);
+        }
+        let Some(deed) = deed else {
+            return Err(Reason::NotHex);
+        };
+        if self.is_taken(&passage, channel) {
+            return Err(Reason::Repeated);
+        }
+        Ok(Act {
+            passage,
+            channel,
+            deed,
+        })
+    }
+
+    fn knows_both(&self, passage: &Passage) -> bool
+        ensures { result ≡ (is_some (node_of self.now.params.now passage.now.sender) && is_some (node_of self.now.params.now passage.now.receiver)) }
+    {
+        let params = self.params;
+        params.node(passage.sender).is_some() && params.node(passage.receiver).is_some()
+    }
+
+    fn is_misplaced(&self, passage: &Passage, says: bool) -> bool
+        ensures { (done : List Record) → IsDraftOf self.now done → result ≡ is_misplaced self.now.params.now done passage.now says }
+    {
+        passage.sender == passage.receiver
+            || self.is_arbitrary(passage.receiver)
+            || self.is_arbitrary(passage.sender) != says
+    }
+
+    fn is_common(&self, passage: &Passage, channel: Channel) -> bool
+        ensures { result ≡ is_common self.now.params.now passage.now channel }
+    {
+        let params = self.params;
+        params.common(passage.sender, passage.receiver, channel)
+    }
+
+    fn is_taken(&self, passage: &Passage, channel: Channel) -> bool
+        ensures { (done : List Record) → IsDraftOf self.now done → result ≡ is_some (deed_by self.now.params.now channel passage.now done) }
+    {
+        match channel {
+            Channel::A => self.on_a.get(passage).is_some(),
+            Channel::B => self.on_b.get(passage).is_some(),
+        }
+    }
+
+    fn put(&mut self, act: Act) -> Result<(), AllocError>
+        requires { IsProperDeed act.deed }
+        ensures same { self.new.params ≡ self.old.params }
+        ensures adds { (done : List Record) (r : Record) → IsDraftOf self.old done
+            → row_of (bits_of self.old.params.now) r ≡ Ok (said.Deed (record { passage = act.passage; channel = Some act.channel; deed = Some act.deed }))
+            → deed_by self.old.params.now act.channel act.passage done ≡ None → OnOk result (IsDraftOf self.new (done ++ r ∷ [])) }
+    {
+        let Act {
+            passage,
+            channel,
+            deed,
+        } = act;
+        self.acted = true;
+        match channel {
+            Channel::A => self.on_a.put(passage, deed),
+            Channel::B => self.on_b.put(passage, deed),
+        }
+    }
+}
+
+fn says(deed: &Option<Deed>) -> bool
+    ensures { result ≡ is_say deed.now }
+{
+    match deed {
+        None | Some(Deed::Say { .. }) => true,
+        Some(Deed::Lose | Deed::Flip(_)) => false,
+    }
+}
+
+fn bits_of(params: &Params) -> u64
+    ensures value { result ≡ bits_of params.now }
+    ensures some { 1 ≤ result }
+    ensures few { result ≤ 8 * 262 }
+{
+    8 * params.frame_bytes() as u64
+}
+
+impl<'a> Table for Draft<'a> {
+    ghost reason = { λ draft. reason_after draft.params.now };
+
+    ghost holds = { λ draft records. IsDraftOf draft records };
+
+    fn add(&mut self, row: &ByteRecord) -> Result<Option<Reason>, AllocError> {
+        match read_row(self.alloc, bits_of(self.params), row)? {
+            Err(why) => Ok(Some(why)),
+            Ok(said) => self.take(said),
+        }
     }
 }
