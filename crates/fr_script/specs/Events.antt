@@ -4,7 +4,7 @@ use Rattle.fr_base.specs.Event.{Event}
 use Rattle.fr_base.specs.Event as event
 use Rattle.fr_base.specs.declared.channel.Channel.{Channel}
 use Rattle.fr_script.specs.Said.{AreSaidBytes}
-use Rattle.fr_script.specs.Rows.{IsProperSay}
+use Rattle.fr_script.specs.Rows.{IsProperSay, most_bits}
 use Rattle.fr_script.specs.View.{ScriptView, is_arbitrary, deed_of}
 use Rattle.fr_script.specs.declared.deeds.Deed.{Deed}
 use Rattle.fr_script.specs.declared.deeds.Deed.TheVariants as deed
@@ -44,5 +44,5 @@ event_seen (shown.Say shift bytes) = event.Say shift (option_map (λ b. b.now) b
 abbrev pub IsProperEvent : Event → Type 0
 IsProperEvent event.Regular = Unit {0}
 IsProperEvent event.Silent = Unit {0}
-IsProperEvent (event.Flip bit) = bit < 8 * 262
+IsProperEvent (event.Flip bit) = bit < most_bits
 IsProperEvent (event.Say shift bytes) = IsProperSay shift bytes

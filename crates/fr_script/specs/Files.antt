@@ -12,22 +12,22 @@ use Rattle.fr_script.specs.declared.fault.ScriptFault.{ScriptFault}
 use Rattle.fr_script.specs.declared.fault.ScriptFault.TheVariants as fault
 
 -- the script is what the records say: a node is arbitrary where a record names it, and each deed is that of its record
-pub record StandsFor (p : Values) (s : ScriptView) (records : List Record) : Type 0 where
+pub record StandsFor (s : ScriptView) (records : List Record) : Type 0 where
   pub long : length s.arbitrary ≡ 65
-  pub nodes : (node : ℕ) → node ≤ 64 → is_arbitrary s node ≡ is_named p node records
-  pub deeds : (ch : Channel) (passage : Passage) → deed_in (deeds_on s ch) passage ≡ deed_by p ch passage records
+  pub nodes : (node : ℕ) → node ≤ 64 → is_arbitrary s node ≡ is_named node records
+  pub deeds : (ch : Channel) (passage : Passage) → deed_in (deeds_on s ch) passage ≡ deed_by ch passage records
   pub ascending : (ch : Channel) → AreAscending (deeds_on s ch)
 
 -- the file is accepted, and this is the script that it stands for
 pub record IsFileOf (p : Values) (s : ScriptView) (bytes : List ℕ) : Type 0 where
   pub none_refused : NoneRefused (reason_after p) (records_of bytes)
-  pub stands : StandsFor p s (records_of bytes)
+  pub stands : StandsFor s (records_of bytes)
 
 -- a script fits parameters where there are records that are accepted with them and that stand for it
 pub record Fits (p : Values) (s : ScriptView) : Type 0 where
   pub records : List Record
   pub none_refused : NoneRefused (reason_after p) records
-  pub stands : StandsFor p s records
+  pub stands : StandsFor s records
 
 -- a fault tells the first refused record and its reason; want of memory may come at any file
 abbrev pub Refuses : Values → List ℕ → ScriptFault → Type 0

@@ -1,4 +1,4 @@
--- What a record of a script says by itself, where a frame of the cluster has so many bits.
+-- What a record of a script says by itself.
 use Rattle.std.specs.Prelude.{ℕ, ℤ, ◌≡◌, ◌<◌, ◌≤◌, ◌≤ℤ◌, pos, neg_ℤ, ◌+◌, ◌-◌, ◌*◌, ◌==◌, ◌&&◌, ◌||◌, nat_lt, not, Bool, List, length, Option, Some, None, IfSome, Result, Ok, Err, IfOk, codes, if◌then◌else◌}
 use Rattle.std.specs.Str.{bytes_eq}
 use Rattle.hex.specs.Hex.{decode_of}
@@ -11,9 +11,7 @@ use Rattle.fr_base.specs.declared.reason.Reason.{Reason}
 use Rattle.fr_base.specs.declared.reason.Reason.TheVariants as reason
 use Rattle.fr_records.specs.Records.{Record}
 use Rattle.fr_records.specs.Fields.{natural_of, both_of, channel_of}
-use Rattle.fr_params.specs.Values.{Values, amount}
 use Rattle.fr_params.specs.Rows.{is_blank, or_reason, field_of}
-use Rattle.fr_params.specs.declared.names.ParamName.TheVariants as name
 use Rattle.fr_script.specs.Deeds.{passage_of}
 use Rattle.fr_script.specs.Said.{AreSaidBytes}
 use Rattle.fr_script.specs.declared.deeds.Passage.{Passage}
@@ -27,9 +25,9 @@ use Rattle.fr_script.specs.declared.rows.Row.TheVariants as row
 abbrev pub farthest : ℤ
 farthest = pos 1_000_000_000_000
 
--- the bits of a frame of the cluster
-abbrev pub bits_of : Values → ℕ
-bits_of p = 8 * (8 + 2 * amount p name.gPayloadLengthStatic)
+-- the bits of the longest frame
+abbrev pub most_bits : ℕ
+most_bits = 8 * 262
 
 -- the passage that three fields name
 abbrev pub joined : Result (ℕ × (ℕ × ℕ)) NumberFault → Result Passage NumberFault
@@ -84,25 +82,25 @@ is_channel_last fields = is_blank (field_of fields 5) && is_blank (field_of fiel
 abbrev pub lose_row : Record → Result Row Reason
 lose_row fields = if is_channel_last fields then or_reason (λ passage. Ok (deed_row fields passage (Some deed.Lose))) (passage_in fields) else Err reason.Shape
 
-abbrev pub flip_row : ℕ → Record → Result Row Reason
-flip_row bits fields =
+abbrev pub flip_row : Record → Result Row Reason
+flip_row fields =
     if is_blank (field_of fields 6)
-    then or_reason (λ numbers. Ok (deed_row fields numbers.0 (Some (deed.Flip numbers.1)))) (both_of (passage_in fields) (natural_of 0 (bits - 1) (field_of fields 5)))
+    then or_reason (λ numbers. Ok (deed_row fields numbers.0 (Some (deed.Flip numbers.1)))) (both_of (passage_in fields) (natural_of 0 2095 (field_of fields 5)))
     else Err reason.Shape
 
 -- what a record of seven fields says, by its kind
-abbrev pub kind_row : ℕ → Record → Result Row Reason
-kind_row bits fields =
+abbrev pub kind_row : Record → Result Row Reason
+kind_row fields =
     if bytes_eq (field_of fields 0) (codes "arbitrary") then arbitrary_row fields
     else if bytes_eq (field_of fields 0) (codes "say") then say_row fields
     else if bytes_eq (field_of fields 0) (codes "lose") then lose_row fields
-    else if bytes_eq (field_of fields 0) (codes "flip") then flip_row bits fields
+    else if bytes_eq (field_of fields 0) (codes "flip") then flip_row fields
     else Err reason.UnknownName
 
--- what a record says, or the least of the reasons that it shows by itself: but for what an unknown node, a channel that is
--- none and bytes that are not hexadecimal are, since those come behind others
-unfoldable pub row_of : ℕ → Record → Result Row Reason
-row_of bits fields = if length fields == 7 then kind_row bits fields else Err reason.Shape
+-- what a record says, or the least of the reasons that it shows by itself: but for those of a field that is no channel or
+-- not hexadecimal, which come behind reasons that it does not show, and of a bit behind the end of the cluster's frames
+unfoldable pub row_of : Record → Result Row Reason
+row_of fields = if length fields == 7 then kind_row fields else Err reason.Shape
 
 -- the numbers of a deed lie in their ranges, and what is said fits a frame
 pub record IsProperSay (shift : ℤ) (bytes : Option (List ℕ)) : Type 0 where
@@ -112,7 +110,7 @@ pub record IsProperSay (shift : ℤ) (bytes : Option (List ℕ)) : Type 0 where
 
 abbrev pub IsProperDeed : Deed → Type 0
 IsProperDeed deed.Lose = Unit {0}
-IsProperDeed (deed.Flip bit) = bit < 8 * 262
+IsProperDeed (deed.Flip bit) = bit < most_bits
 IsProperDeed (deed.Say shift bytes) = IsProperSay shift bytes
 
 abbrev pub IsProperRow : Row → Type 0

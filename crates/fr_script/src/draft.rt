@@ -2,8 +2,8 @@ ghost use Rattle.std.specs.Prelude.{◌≡◌, ◌≤◌, ◌*◌, ◌++◌, ◌
 ghost use Rattle.csv.specs.Records.{fields_of};
 ghost use Rattle.fr_records.specs.Records.{Record};
 ghost use Rattle.fr_params.specs.Questions.{node_of};
-ghost use Rattle.fr_script.specs.Rows.{IsProperDeed, IsProperRow, bits_of, row_of};
-ghost use Rattle.fr_script.specs.Reasons.{deed_by, deed_reason, is_common, is_misplaced, is_named, is_say, node_reason, reason_after, row_reason};
+ghost use Rattle.fr_script.specs.Rows.{IsProperDeed, IsProperRow, row_of};
+ghost use Rattle.fr_script.specs.Reasons.{bits_of, deed_by, deed_reason, is_behind_frame, is_common, is_misplaced, is_named, is_say, node_reason, reason_after, row_reason};
 ghost use Rattle.fr_script.specs.View.{IsScript};
 ghost use Rattle.fr_script.specs.Draft.{IsDraftOf};
 ghost use Rattle.fr_script.specs.declared.rows.Row.TheVariants as said;
@@ -55,7 +55,7 @@ impl<'a> Draft<'a> {
     /// The script that the records stand for.
     pub(crate) fn into_script(self) -> Script
         requires { (done : List Record) × IsDraftOf self done }
-        ensures script { result ≡ record { arbitrary = self.arbitrary; on_a = self.on_a; on_b = self.on_b } }
+        ensures script { result ≡ record { arbitrary = self.entry.arbitrary; on_a = self.entry.on_a; on_b = self.entry.on_b } }
         ensures sane { IsScript result }
     {
         let Draft {
@@ -70,7 +70,7 @@ impl<'a> Draft<'a> {
     }
 
     fn is_arbitrary(&self, node: NodeId) -> bool
-        ensures { (done : List Record) → IsDraftOf self.now done → result ≡ is_named self.now.params.now node done }
+        ensures { (done : List Record) → IsDraftOf self.now done → result ≡ is_named node done }
     {
         self.arbitrary[usize::from(node.0)]
     }
@@ -78,7 +78,7 @@ impl<'a> Draft<'a> {
     fn take_node(&mut self, node: NodeId) -> Option<Reason>
         ensures same { self.new.params ≡ self.old.params }
         ensures why { (done : List Record) → IsDraftOf self.old done → result ≡ node_reason self.old.params.now done node }
-        ensures adds { (done : List Record) (r : Record) → IsDraftOf self.old done → row_of (bits_of self.old.params.now) r ≡ Ok (said.Arbitrary node) → result ≡ None → IsDraftOf self.new (done ++ r ∷ []) }
+        ensures adds { (done : List Record) (r : Record) → IsDraftOf self.old done → row_of r ≡ Ok (said.Arbitrary node) → result ≡ None → IsDraftOf self.new (done ++ r ∷ []) }
     {
         let params = self.params;
         match params.node(node) {
@@ -100,7 +100,7 @@ impl<'a> Draft<'a> {
         requires { IsProperRow row }
         ensures same { self.new.params ≡ self.old.params }
         ensures why { (done : List Record) → IsDraftOf self.old done → IfOk result (λ why. why ≡ row_reason self.old.params.now done (Ok row)) }
-        ensures adds { (done : List Record) (r : Record) → IsDraftOf self.old done → row_of (bits_of self.old.params.now) r ≡ Ok row → IfOk result (λ why. why ≡ None → IsDraftOf self.new (done ++ r ∷ [])) }
+        ensures adds { (done : List Record) (r : Record) → IsDraftOf self.old done → row_of r ≡ Ok row → IfOk result (λ why. why ≡ None → IsDraftOf self.new (done ++ r ∷ [])) }
     {
         match row {
             Row::Arbitrary(node) => Ok(self.take_node(node)),
@@ -112,7 +112,7 @@ impl<'a> Draft<'a> {
         requires { IfSome row.deed IsProperDeed }
         ensures same { self.new.params ≡ self.old.params }
         ensures why { (done : List Record) → IsDraftOf self.old done → IfOk result (λ why. why ≡ deed_reason self.old.params.now done row) }
-        ensures adds { (done : List Record) (r : Record) → IsDraftOf self.old done → row_of (bits_of self.old.params.now) r ≡ Ok (said.Deed row) → IfOk result (λ why. why ≡ None → IsDraftOf self.new (done ++ r ∷ [])) }
+        ensures adds { (done : List Record) (r : Record) → IsDraftOf self.old done → row_of r ≡ Ok (said.Deed row) → IfOk result (λ why. why ≡ None → IsDraftOf self.new (done ++ r ∷ [])) }
     {
         match self.checked(row) {
             Err(why) => Ok(Some(why)),
@@ -127,7 +127,7 @@ impl<'a> Draft<'a> {
     fn checked(&self, row: DeedRow) -> Result<Act, Reason>
         ensures why { (done : List Record) → IsDraftOf self.now done → IfErr result (λ why. deed_reason self.now.params.now done row ≡ Some why) }
         ensures none { (done : List Record) → IsDraftOf self.now done → IfOk result (λ act. deed_reason self.now.params.now done row ≡ None) }
-        ensures free { (done : List Record) → IsDraftOf self.now done → IfOk result (λ act. deed_by self.now.params.now act.channel act.passage done ≡ None) }
+        ensures free { (done : List Record) → IsDraftOf self.now done → IfOk result (λ act. deed_by act.channel act.passage done ≡ None) }
         ensures same { IfOk result (λ act. row ≡ record { passage = act.passage; channel = Some act.channel; deed = Some act.deed }) }
     {
         let DeedRow {
@@ -135,6 +135,9 @@ impl<'a> Draft<'a> {
             channel,
             deed,
         } = row;
+        if self.is_behind_frame(&deed) {
+            return Err(Reason::OutOfRange);
+        }
         if !self.knows_both(&passage) {
             return Err(Reason::UnknownNode);
         }
@@ -160,6 +163,15 @@ impl<'a> Draft<'a> {
         })
     }
 
+    fn is_behind_frame(&self, deed: &Option<Deed>) -> bool
+        ensures { result ≡ is_behind_frame self.now.params.now deed.now }
+    {
+        match deed {
+            Some(Deed::Flip(bit)) => bits_of(self.params) <= *bit as usize,
+            Some(Deed::Lose | Deed::Say { .. }) | None => false,
+        }
+    }
+
     fn knows_both(&self, passage: &Passage) -> bool
         ensures { result ≡ (is_some (node_of self.now.params.now passage.now.sender) && is_some (node_of self.now.params.now passage.now.receiver)) }
     {
@@ -168,7 +180,7 @@ impl<'a> Draft<'a> {
     }
 
     fn is_misplaced(&self, passage: &Passage, says: bool) -> bool
-        ensures { (done : List Record) → IsDraftOf self.now done → result ≡ is_misplaced self.now.params.now done passage.now says }
+        ensures { (done : List Record) → IsDraftOf self.now done → result ≡ is_misplaced done passage.now says }
     {
         passage.sender == passage.receiver
             || self.is_arbitrary(passage.receiver)
@@ -183,7 +195,7 @@ impl<'a> Draft<'a> {
     }
 
     fn is_taken(&self, passage: &Passage, channel: Channel) -> bool
-        ensures { (done : List Record) → IsDraftOf self.now done → result ≡ is_some (deed_by self.now.params.now channel passage.now done) }
+        ensures { (done : List Record) → IsDraftOf self.now done → result ≡ is_some (deed_by channel passage.now done) }
     {
         match channel {
             Channel::A => self.on_a.get(passage).is_some(),
@@ -195,8 +207,8 @@ impl<'a> Draft<'a> {
         requires { IsProperDeed act.deed }
         ensures same { self.new.params ≡ self.old.params }
         ensures adds { (done : List Record) (r : Record) → IsDraftOf self.old done
-            → row_of (bits_of self.old.params.now) r ≡ Ok (said.Deed (record { passage = act.passage; channel = Some act.channel; deed = Some act.deed }))
-            → deed_by self.old.params.now act.channel act.passage done ≡ None → OnOk result (IsDraftOf self.new (done ++ r ∷ [])) }
+            → row_of r ≡ Ok (said.Deed (record { passage = act.passage; channel = Some act.channel; deed = Some act.deed }))
+            → deed_by act.channel act.passage done ≡ None → OnOk result (IsDraftOf self.new (done ++ r ∷ [])) }
     {
         let Act {
             passage,
@@ -220,12 +232,10 @@ fn says(deed: &Option<Deed>) -> bool
     }
 }
 
-fn bits_of(params: &Params) -> u64
-    ensures value { result ≡ bits_of params.now }
-    ensures some { 1 ≤ result }
-    ensures few { result ≤ 8 * 262 }
+fn bits_of(params: &Params) -> usize
+    ensures { result ≡ bits_of params.now }
 {
-    8 * params.frame_bytes() as u64
+    8 * params.frame_bytes()
 }
 
 impl<'a> Table for Draft<'a> {
@@ -234,7 +244,7 @@ impl<'a> Table for Draft<'a> {
     ghost holds = { λ draft records. IsDraftOf draft records };
 
     fn add(&mut self, row: &ByteRecord) -> Result<Option<Reason>, AllocError> {
-        match read_row(self.alloc, bits_of(self.params), row)? {
+        match read_row(self.alloc, row)? {
             Err(why) => Ok(Some(why)),
             Ok(said) => self.take(said),
         }

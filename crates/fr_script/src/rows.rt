@@ -1,4 +1,4 @@
-ghost use Rattle.std.specs.Prelude.{◌≡◌, ◌≤◌, ◌-◌, ◌*◌, length, IfOk, IfSome, pos, neg_ℤ, ◌≤ℤ◌};
+ghost use Rattle.std.specs.Prelude.{◌≡◌, ◌≤◌, length, IfOk, IfSome, pos, neg_ℤ, ◌≤ℤ◌};
 ghost use Rattle.csv.specs.Records.{fields_of};
 ghost use Rattle.fr_params.specs.Rows.{field_of, is_blank};
 ghost use Rattle.fr_script.specs.Said.{AreSaidBytes};
@@ -13,6 +13,9 @@ use std::alloc::{AllocError, Global};
 
 /// The greatest distance of a shift from 0, in ticks.
 const FARTHEST: i64 = 1_000_000_000_000;
+
+/// The last bit of the longest frame, which has 262 bytes.
+const LAST_BIT: u64 = 2095;
 
 /// The greatest number of hexadecimal digits of a frame.
 const MOST_DIGITS: usize = 524;
@@ -36,34 +39,22 @@ pub enum Row {
     Deed(DeedRow),
 }
 
-/// What a record says where a frame has so many bits, or the least of the reasons that it shows by itself:
-/// Shape, UnknownName, NotNumber, OutOfRange. `AllocError` where memory ran out.
+/// What a record says, or the least of the reasons that it shows by itself: Shape, UnknownName, NotNumber,
+/// OutOfRange. `AllocError` where memory ran out.
 #[tactic(auto, unfolding(crate::specs::Rows::row_of))]
-pub fn read_row(
-    alloc: Global,
-    bits: u64,
-    row: &ByteRecord,
-) -> Result<Result<Row, Reason>, AllocError>
-    requires some { 1 ≤ bits }
-    requires few { bits ≤ 8 * 262 }
-    ensures said { IfOk result (λ said. said ≡ row_of bits (fields_of row.now)) }
+pub fn read_row(alloc: Global, row: &ByteRecord) -> Result<Result<Row, Reason>, AllocError>
+    ensures said { IfOk result (λ said. said ≡ row_of (fields_of row.now)) }
     ensures proper { IfOk result (λ said. IfOk said IsProperRow) }
 {
     if row.len() != 7 {
         return Ok(Err(Reason::Shape));
     }
-    read_kind(alloc, bits, row)
+    read_kind(alloc, row)
 }
 
-fn read_kind(
-    alloc: Global,
-    bits: u64,
-    row: &ByteRecord,
-) -> Result<Result<Row, Reason>, AllocError>
-    requires seven { length (fields_of row.now) ≡ 7 }
-    requires some { 1 ≤ bits }
-    requires few { bits ≤ 8 * 262 }
-    ensures said { IfOk result (λ said. said ≡ kind_row bits (fields_of row.now)) }
+fn read_kind(alloc: Global, row: &ByteRecord) -> Result<Result<Row, Reason>, AllocError>
+    requires { length (fields_of row.now) ≡ 7 }
+    ensures said { IfOk result (λ said. said ≡ kind_row (fields_of row.now)) }
     ensures proper { IfOk result (λ said. IfOk said IsProperRow) }
 {
     let kind = field(row, 0);
@@ -74,7 +65,7 @@ fn read_kind(
     } else if kind == b"lose".as_slice() {
         Ok(read_lose(row))
     } else if kind == b"flip".as_slice() {
-        Ok(read_flip(bits, row))
+        Ok(read_flip(row))
     } else {
         Ok(Err(Reason::UnknownName))
     }
@@ -138,17 +129,15 @@ fn read_lose(row: &ByteRecord) -> Result<Row, Reason>
     }
 }
 
-fn read_flip(bits: u64, row: &ByteRecord) -> Result<Row, Reason>
-    requires seven { length (fields_of row.now) ≡ 7 }
-    requires some { 1 ≤ bits }
-    requires few { bits ≤ 8 * 262 }
-    ensures said { result ≡ flip_row bits (fields_of row.now) }
+fn read_flip(row: &ByteRecord) -> Result<Row, Reason>
+    requires { length (fields_of row.now) ≡ 7 }
+    ensures said { result ≡ flip_row (fields_of row.now) }
     ensures proper { IfOk result IsProperRow }
 {
     if !field(row, 6).is_empty() {
         return Err(Reason::Shape);
     }
-    match both(read_passage(row), natural(field(row, 5), 0, bits - 1)) {
+    match both(read_passage(row), natural(field(row, 5), 0, LAST_BIT)) {
         Ok((passage, bit)) => Ok(deed_of(row, passage, Some(Deed::Flip(bit as u32)))),
         Err(fault) => Err(reason_of(fault)),
     }
