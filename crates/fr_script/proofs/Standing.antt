@@ -1,10 +1,10 @@
 -- What the tables make of the records of a file.
-use Rattle.std.proofs.Common.{◌≡◌, ℕ, ◌≤◌, List, refl}
+use Rattle.std.proofs.Common.{◌≡◌, List}
 use Rattle.fr_base.specs.declared.channel.Channel.{Channel}
 use Rattle.fr_base.specs.declared.channel.Channel.TheVariants as channel
 use Rattle.fr_records.specs.Records.{Record}
 use Rattle.fr_script.specs.Deeds.{deed_in, AreAscending}
-use Rattle.fr_script.specs.Reasons.{is_named, deed_by}
+use Rattle.fr_script.specs.Reasons.{deed_by}
 use Rattle.fr_script.specs.View.{ScriptView, is_arbitrary, deeds_on}
 use Rattle.fr_script.specs.Draft.{IsDraftOf}
 use Rattle.fr_script.specs.Files.{StandsFor}

@@ -1,9 +1,8 @@
 -- What becomes of the frames of a passage.
-use Rattle.std.specs.Prelude.{ℕ, ◌<◌, ◌≤ℤ◌, ◌*◌, neg_ℤ, Bool, true, false, Option, Some, None, IfSome, option_map}
+use Rattle.std.specs.Prelude.{ℕ, ◌<◌, Bool, true, false, Option, Some, None, option_map}
 use Rattle.fr_base.specs.Event.{Event}
 use Rattle.fr_base.specs.Event as event
 use Rattle.fr_base.specs.declared.channel.Channel.{Channel}
-use Rattle.fr_script.specs.Said.{AreSaidBytes}
 use Rattle.fr_script.specs.Rows.{IsProperSay, most_bits}
 use Rattle.fr_script.specs.View.{ScriptView, is_arbitrary, deed_of}
 use Rattle.fr_script.specs.declared.deeds.Deed.{Deed}

@@ -1,10 +1,9 @@
 -- What a record of a script says by itself.
-use Rattle.std.specs.Prelude.{ℕ, ℤ, ◌≡◌, ◌<◌, ◌≤◌, ◌≤ℤ◌, pos, neg_ℤ, ◌+◌, ◌-◌, ◌*◌, ◌==◌, ◌&&◌, ◌||◌, nat_lt, not, Bool, List, length, Option, Some, None, IfSome, Result, Ok, Err, IfOk, codes, if◌then◌else◌}
+use Rattle.std.specs.Prelude.{ℕ, ℤ, ◌<◌, ◌≤ℤ◌, pos, neg_ℤ, ◌*◌, ◌==◌, ◌&&◌, nat_lt, Bool, List, length, Option, Some, None, IfSome, Result, Ok, Err, codes, if◌then◌else◌}
 use Rattle.std.specs.Str.{bytes_eq}
 use Rattle.hex.specs.Hex.{decode_of}
 use Rattle.hex.specs.declared.error.FromHexError.{FromHexError}
 use Rattle.fr_base.specs.Number.{number_of, within}
-use Rattle.fr_base.specs.declared.channel.Channel.{Channel}
 use Rattle.fr_base.specs.declared.numbers.NumberFault.{NumberFault}
 use Rattle.fr_base.specs.declared.numbers.NumberFault.TheVariants as fault
 use Rattle.fr_base.specs.declared.reason.Reason.{Reason}
@@ -17,7 +16,6 @@ use Rattle.fr_script.specs.Said.{AreSaidBytes}
 use Rattle.fr_script.specs.declared.deeds.Passage.{Passage}
 use Rattle.fr_script.specs.declared.deeds.Deed.{Deed}
 use Rattle.fr_script.specs.declared.deeds.Deed.TheVariants as deed
-use Rattle.fr_script.specs.declared.rows.DeedRow.{DeedRow}
 use Rattle.fr_script.specs.declared.rows.Row.{Row}
 use Rattle.fr_script.specs.declared.rows.Row.TheVariants as row
 

@@ -102,10 +102,7 @@ fn read_say(alloc: Global, row: &ByteRecord) -> Result<Result<Row, Reason>, Allo
     ensures proper { IfOk result (λ said. IfOk said IsProperRow) }
 {
     let text = field(row, 6);
-    let numbers = both(
-        read_passage(row),
-        both(read_shift(row), few_digits(text)),
-    );
+    let numbers = both(read_passage(row), both(read_shift(row), few_digits(text)));
     match numbers {
         Err(fault) => Ok(Err(reason_of(fault))),
         Ok((passage, (shift, _))) => {

@@ -19,10 +19,7 @@ pub enum Event<'a> {
     Flip(u32),
     /// The sender says a frame, so many ticks later than expected: of these bytes, or else the regular one
     /// of its key slot.
-    Say {
-        shift: i64,
-        bytes: Option<&'a [u8]>,
-    },
+    Say { shift: i64, bytes: Option<&'a [u8]> },
 }
 
 /// The faults of a run, as an accepted script says them.
@@ -71,13 +68,7 @@ impl Script {
     /// comes where a `lose` row says so, one bit is inverted where a `flip` row does, otherwise it is regular. Of an
     /// arbitrary one: what a `say` row says, otherwise nothing.
     #[tactic(auto, unfolding(crate::specs::Events::event_of))]
-    pub fn at(
-        &self,
-        cycle: u32,
-        sender: NodeId,
-        receiver: NodeId,
-        channel: Channel,
-    ) -> Event<'_>
+    pub fn at(&self, cycle: u32, sender: NodeId, receiver: NodeId, channel: Channel) -> Event<'_>
         ensures value { event_seen result ≡ event_of self.now cycle sender receiver channel }
         ensures proper { IsProperEvent (event_of self.now cycle sender receiver channel) }
     {
@@ -90,13 +81,7 @@ impl Script {
     }
 
     #[tactic(auto, unfolding(crate::specs::View::deed_of))]
-    fn deed(
-        &self,
-        cycle: u32,
-        sender: NodeId,
-        receiver: NodeId,
-        channel: Channel,
-    ) -> Option<&Deed>
+    fn deed(&self, cycle: u32, sender: NodeId, receiver: NodeId, channel: Channel) -> Option<&Deed>
         ensures { option_copied result ≡ deed_of self.now cycle sender receiver channel }
     {
         let passage = Passage {
@@ -125,10 +110,12 @@ fn said(deed: Option<&Deed>) -> Event<'_>
     ensures { event_seen result ≡ said_by (option_copied deed.entry) }
 {
     match deed {
-        Some(Deed::Say {
-            shift,
-            bytes: Some(bytes),
-        }) => Event::Say {
+        Some(
+            Deed::Say {
+                shift,
+                bytes: Some(bytes),
+            },
+        ) => Event::Say {
             shift: *shift,
             bytes: Some(bytes.as_slice()),
         },

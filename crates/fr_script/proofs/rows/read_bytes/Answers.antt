@@ -1,4 +1,3 @@
-use Rattle.std.proofs.Common.{rules}
 use Rattle.fr_script.proofs.Said.{decoded-said}
 use Rattle.fr_script.proofs.rows.read_bytes.Goals as goal
 
