@@ -7,3 +7,5 @@ pub mod Fields
 pub mod Events
 pub mod Draft
 pub mod Files
+pub mod First
+pub mod Coverage

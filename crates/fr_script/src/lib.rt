@@ -5,14 +5,18 @@
 mod deeds;
 mod draft;
 mod fault;
+mod gap;
 mod laws;
+mod linking;
 mod reading;
 mod rows;
 mod script;
+mod search;
+#[cfg(test)]
+mod tests;
 
-pub use deeds::{Deed, DeedTable, Passage, SaidBytes};
 pub use fault::ScriptFault;
+pub use gap::Gap;
 pub use laws::{arbitrary_node_has_key_slot, events_are_proper, one_answer, script_of_a_file_fits};
 pub use reading::read;
-pub use rows::{DeedRow, Row, read_row};
 pub use script::{Event, Script};

@@ -1,4 +1,4 @@
-ghost use Rattle.std.specs.Prelude.{◌≡◌, ◌≤◌, ℕ, Some};
+ghost use Rattle.std.specs.Prelude.{◌≡◌, ◌<◌, ◌≤◌, ℕ, Some, None};
 ghost use Rattle.std.specs.Option.{option_copied};
 ghost use Rattle.fr_base.specs.declared.channel.Channel.{Channel as Line};
 ghost use Rattle.fr_script.specs.View.{IsScript, deed_of, deeds_on, is_arbitrary};
@@ -78,6 +78,26 @@ impl Script {
         } else {
             done(deed)
         }
+    }
+
+    /// The first cycle from `cycle` on, before `end`, in which the script does anything to the frames of a sender
+    /// at a receiver, or `end`.
+    #[tactic(auto, unfolding(crate::specs::View::deed_of))]
+    pub(crate) fn next_deed(
+        &self,
+        sender: NodeId,
+        receiver: NodeId,
+        cycle: u32,
+        end: u32,
+    ) -> u32
+        requires { cycle ≤ end }
+        ensures from { cycle ≤ result }
+        ensures to { result ≤ end }
+        ensures quiet { (c : ℕ) (channel : Line) → cycle ≤ c → c < result → deed_of self.now c sender receiver channel ≡ None }
+    {
+        let on_a = self.on_a.next(sender, receiver, cycle, end);
+        let on_b = self.on_b.next(sender, receiver, cycle, end);
+        on_a.min(on_b)
     }
 
     #[tactic(auto, unfolding(crate::specs::View::deed_of))]
