@@ -8,4 +8,4 @@ pub mod Events
 pub mod Draft
 pub mod Files
 pub mod First
-pub mod Coverage
+pub mod Links

@@ -2,7 +2,7 @@ ghost use Rattle.std.specs.Prelude.{◌≡◌, ◌≤◌, ◌*◌, ◌||◌, ◌
 ghost use Rattle.fr_params.specs.Questions.{has_channel};
 ghost use Rattle.fr_script.specs.View.{is_arbitrary};
 ghost use Rattle.fr_script.specs.First.{first_below};
-ghost use Rattle.fr_script.specs.Coverage.{is_carried, is_carried_on, is_free, is_link, link_gap, shares};
+ghost use Rattle.fr_script.specs.Links.{is_carried, is_carried_on, is_free, is_link, link_gap, shares};
 
 use crate::gap::Gap;
 use crate::script::{Event, Script};

@@ -20,10 +20,12 @@ pub(crate) fn first_among<S: Search>(nodes: &NodeList, search: &S) -> Option<Gap
     ensures { result ≡ first_in (S.found search.now) nodes.now }
 {
     for place in 0..nodes.len() {
-        if let Some(node) = nodes.get(place) {
-            if let Some(gap) = search.find(node) {
-                return Some(gap);
-            }
+        match nodes.get(place) {
+            Some(node) => match search.find(node) {
+                Some(gap) => return Some(gap),
+                None => {}
+            },
+            None => {}
         }
     }
     None
