@@ -1,8 +1,9 @@
 -- Products of signed numbers.
-use Rattle.std.proofs.Common.{◌≡◌, ℕ, ◌+◌, ◌*◌, ◌≤◌, ℤ, pos, negsuc, ap, sym, arith}
+use Rattle.std.proofs.Common.{◌≡◌, ℕ, ◌+◌, ◌*◌, ◌≤◌, ℤ, pos, negsuc, ap, sym, ◌∙◌, arith}
 use Rattle.std.specs.Prelude.{◌+ℤ◌, ◌-ℤ◌, ◌*ℤ◌, ◌≤ℤ◌, ◌<ℤ◌, neg_ℤ}
 use Rattle.std.proofs.lemmas.Int.{ints, by_lt_z}
 use Rattle.std.proofs.Math.Nat.{mul-le-mul_right}
+use Rattle.fr_midpoint.specs.Within.{IsWithin}
 use borrow.Author.Differences.{up, down, sum_is_lem, neg_is, le_out, product_is, same_in}
 
 pub mulz_comm : (a b : ℤ) → a *ℤ b ≡ b *ℤ a
@@ -64,3 +65,31 @@ lez_of_mulz-lez a b t above le =
   where
     over : (b a next t : ℤ) → pos 0 <ℤ t → a ≤ℤ b → next ≤ℤ a → next ≡ b +ℤ t → ⊥
     over b a next t above le from is = omega (arith, ints)
+
+pub mulz-lez_left : (a b t : ℤ) → a ≤ℤ b → pos 0 ≤ℤ t → (t *ℤ a) ≤ℤ (t *ℤ b)
+mulz-lez_left a b t le from = omega (arith, ints, mulz-lez a b t le from, mulz_comm t a, mulz_comm t b)
+
+pub mulz_from : (a b : ℤ) → pos 0 ≤ℤ a → pos 0 ≤ℤ b → pos 0 ≤ℤ (a *ℤ b)
+mulz_from a b from also = omega (arith, ints, mulz-lez (pos 0) a b from also)
+
+pub mulz-negz : (a t : ℤ) → a *ℤ neg_ℤ t ≡ neg_ℤ (a *ℤ t)
+mulz-negz a t = mulz_comm a (neg_ℤ t) ∙ negz-mulz t a ∙ ap neg_ℤ (mulz_comm t a)
+
+-- a product of a number from 0 to a bound with one within another bound
+pub mulz_within : (a x most bound : ℤ) → pos 0 ≤ℤ a → a ≤ℤ most → IsWithin bound x → IsWithin (most *ℤ bound) (a *ℤ x)
+mulz_within a x most bound from to near =
+    let above : pos 0 ≤ℤ bound = omega (arith, ints, near.low, near.high) in
+    let up : (a *ℤ x) ≤ℤ (a *ℤ bound) = mulz-lez_left x bound a near.high from in
+    let down : (a *ℤ neg_ℤ bound) ≤ℤ (a *ℤ x) = mulz-lez_left (neg_ℤ bound) x a near.low from in
+    let wide : (a *ℤ bound) ≤ℤ (most *ℤ bound) = mulz-lez a most bound to above in
+    let turned : a *ℤ neg_ℤ bound ≡ neg_ℤ (a *ℤ bound) = mulz-negz a bound in
+    both (a *ℤ x) (a *ℤ bound) (most *ℤ bound) (a *ℤ neg_ℤ bound) up down wide turned
+  where
+    both : (p q r s : ℤ) → p ≤ℤ q → s ≤ℤ p → q ≤ℤ r → s ≡ neg_ℤ q → IsWithin r p
+    both p q r s a b c d = record { low = omega (arith, ints); high = omega (arith, ints) }
+
+pub mulz-addz : (a b t : ℤ) → t *ℤ (a +ℤ b) ≡ (t *ℤ a) +ℤ (t *ℤ b)
+mulz-addz a b t = omega (arith, ints, addz-mulz a b t, mulz_comm t (a +ℤ b), mulz_comm t a, mulz_comm t b)
+
+pub mulz-subz : (a b t : ℤ) → t *ℤ (a -ℤ b) ≡ (t *ℤ a) -ℤ (t *ℤ b)
+mulz-subz a b t = mulz-addz a (neg_ℤ b) t ∙ ap (λ x. (t *ℤ a) +ℤ x) (mulz-negz t b)

@@ -1,0 +1,5 @@
+pub mod Figures
+pub mod Ranges
+pub mod Moves
+pub mod Senders
+pub mod RateLaws
