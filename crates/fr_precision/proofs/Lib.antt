@@ -3,3 +3,5 @@ pub mod Ranges
 pub mod Moves
 pub mod Senders
 pub mod RateLaws
+pub mod Lines
+pub mod InstantLaws

@@ -1,2 +1,4 @@
-pub mod Rows
+pub mod Instants
+pub mod Offsets
 pub mod Rates
+pub mod Rows

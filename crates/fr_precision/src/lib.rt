@@ -2,6 +2,10 @@
 //! values that each node has of the others.
 #![tactic(auto)]
 
+mod instants;
+mod offsets;
 mod rates;
 
+pub use instants::{macroticks_stay_near, precision_holds};
+pub use offsets::{offsets_stay_in_limit, starts_draw_together};
 pub use rates::{lengths_draw_together, lengths_stay_in_range};
