@@ -51,7 +51,7 @@ drift_range n q d least most low high =
     last : (a b : ℕ) → a + (b + b) ≡ a + 2 * b
     last a b = omega arith
 
-nat_le-true : (a b : ℕ) → nat_le a b ≡ true → a ≤ b
+pub nat_le-true : (a b : ℕ) → nat_le a b ≡ true → a ≤ b
 nat_le-true a b h = grind (arith, nat_tests)
 
 limits_lem : (n ro : ℤ) (qm qp d : ℕ) → pos 0 ≤ℤ n → pos 0 ≤ℤ ro → nat_abs n * qp ≡ nat_abs n * qm + 2 * (nat_abs n * d) → 2 * (nat_abs n * d) ≤ nat_abs ro * qm

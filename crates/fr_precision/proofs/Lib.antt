@@ -5,3 +5,4 @@ pub mod Senders
 pub mod RateLaws
 pub mod Lines
 pub mod InstantLaws
+pub mod OffsetLaws

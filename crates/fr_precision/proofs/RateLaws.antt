@@ -41,13 +41,13 @@ is_placed base unit bound position value within =
     moved_out : (base scaled bound position : ℤ) → IsWithin bound ((base +ℤ scaled) -ℤ position) → ((position -ℤ bound) ≤ℤ (base +ℤ scaled)) × ((base +ℤ scaled) ≤ℤ (position +ℤ bound))
     moved_out base scaled bound position within = (omega (arith, ints, within.low), omega (arith, ints, within.high))
 
-limited_within : (limit x : ℤ) → IsWithin limit x → limited limit x ≡ x
+pub limited_within : (limit x : ℤ) → IsWithin limit x → limited limit x ≡ x
 limited_within limit x within =
     let low = within.low in
     let high = within.high in
     grind (arith, ints)
 
-outcome_within : (limit x : ℤ) → IsWithin limit x → (term_of limit x).outcome ≡ Within
+pub outcome_within : (limit x : ℤ) → IsWithin limit x → (term_of limit x).outcome ≡ Within
 outcome_within limit x within =
     let low = within.low in
     let high = within.high in
