@@ -36,7 +36,7 @@ pub times_natural : (z : ℤ) (k : ℕ) → pos 0 ≤ℤ z → pos (nat_abs z * 
 times_natural (pos n) k from = refl
 times_natural (negsuc n) k from = absurd (omega (arith, ints))
 
-change_is : (n ro w : ℤ) → pos 0 ≤ℤ n → pos 0 ≤ℤ ro → pos 0 ≤ℤ w → pos ((nat_abs n + nat_abs ro) * nat_abs w) ≡ (n +ℤ ro) *ℤ w
+pub change_is : (n ro w : ℤ) → pos 0 ≤ℤ n → pos 0 ≤ℤ ro → pos 0 ≤ℤ w → pos ((nat_abs n + nat_abs ro) * nat_abs w) ≡ (n +ℤ ro) *ℤ w
 change_is (pos n) (pos ro) (pos w) a b c = refl
 change_is (negsuc n) ro w a b c = absurd (omega (arith, ints))
 change_is (pos n) (negsuc ro) w a b c = absurd (omega (arith, ints))

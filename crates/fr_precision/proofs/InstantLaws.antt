@@ -25,7 +25,7 @@ int_lt_true a b less = grind (arith, ints)
 even_instant : Values → NodeRow → ℤ → ℤ
 even_instant p row macrotick = row.start +ℤ (even_position (grid_for p) row.rate macrotick *ℤ row.length)
 
-before_correction : (p : Values) (row : NodeRow) (macrotick : ℤ) → macrotick ≤ℤ p.correction
+pub before_correction : (p : Values) (row : NodeRow) (macrotick : ℤ) → macrotick ≤ℤ p.correction
     → instant_of (grid_for p) row true macrotick ≡ instant_of (grid_for p) row false macrotick
 before_correction p row macrotick to = rw (int_lt_false p.correction macrotick to) refl
 

@@ -6,3 +6,5 @@ pub mod RateLaws
 pub mod Lines
 pub mod InstantLaws
 pub mod OffsetLaws
+pub mod PlacementLaws
+pub mod ReceptionLaws

@@ -8,9 +8,9 @@ use Rattle.fr_midpoint.proofs.Products.{addz-mulz, subz-mulz, lez_of_mulz-lez, m
 use Rattle.fr_time.specs.Position.{floor_of}
 
 -- what a quotient rounded down leaves
-record Rest (n d : ℤ) : Type 0 where
-  from : pos 0 ≤ℤ (n -ℤ (floor_of n d *ℤ d))
-  to : ((n -ℤ (floor_of n d *ℤ d)) +ℤ pos 1) ≤ℤ d
+pub record Rest (n d : ℤ) : Type 0 where
+  pub from : pos 0 ≤ℤ (n -ℤ (floor_of n d *ℤ d))
+  pub to : ((n -ℤ (floor_of n d *ℤ d)) +ℤ pos 1) ≤ℤ d
 
 rest_natural : (n : ℤ) (k : ℕ) → 0 < k → Rest n (pos k)
 rest_natural (pos a) k some =
@@ -22,7 +22,7 @@ rest_natural (negsuc a) k some =
     let less : a % k < k = mod-lt a some in
     record { from = omega (arith, ints, whole, less); to = omega (arith, ints, whole, less) }
 
-rest_of : (n d : ℤ) → pos 0 <ℤ d → Rest n d
+pub rest_of : (n d : ℤ) → pos 0 <ℤ d → Rest n d
 rest_of n (pos k) some = rest_natural n k (omega (arith, ints))
 rest_of n (negsuc k) some = absurd (omega (arith, ints))
 

@@ -4,8 +4,12 @@
 
 mod instants;
 mod offsets;
+mod placement;
 mod rates;
+mod reception;
 
 pub use instants::{macroticks_stay_near, precision_holds};
 pub use offsets::{offsets_stay_in_limit, starts_draw_together};
+pub use placement::rate_values_place_lengths;
 pub use rates::{lengths_draw_together, lengths_stay_in_range};
+pub use reception::frames_arrive_in_slots;
