@@ -8,3 +8,4 @@ pub mod InstantLaws
 pub mod OffsetLaws
 pub mod PlacementLaws
 pub mod ReceptionLaws
+mod Worked
