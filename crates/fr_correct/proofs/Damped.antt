@@ -1,5 +1,5 @@
 -- What damping does to a number.
-use Rattle.std.proofs.Common.{◌≡◌, ◌⊎◌, true, false, ℤ, pos, inl, inr, arith}
+use Rattle.std.proofs.Common.{◌≡◌, ◌⊎◌, ℤ, pos, inl, inr, arith}
 use Rattle.std.specs.Prelude.{neg_ℤ, ◌+ℤ◌, ◌-ℤ◌, ◌≤ℤ◌, ◌<ℤ◌}
 use Rattle.std.proofs.lemmas.Int.{ints, by_lt_z}
 use Rattle.fr_midpoint.specs.Within.{IsWithin}

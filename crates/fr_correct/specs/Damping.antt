@@ -1,5 +1,5 @@
 -- What damping does to a number.
-use Rattle.std.specs.Prelude.{◌≡◌, ℤ, pos, neg_ℤ, ◌+ℤ◌, ◌-ℤ◌, ◌≤ℤ◌, ◌<ℤ◌}
+use Rattle.std.specs.Prelude.{◌≡◌, ℤ, pos, ◌+ℤ◌, ◌-ℤ◌, ◌≤ℤ◌, ◌<ℤ◌}
 use Rattle.fr_midpoint.specs.Within.{IsWithin}
 use Rattle.fr_correct.specs.Terms.{damped}
 

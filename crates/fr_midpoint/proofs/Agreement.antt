@@ -6,10 +6,10 @@ use Rattle.std.proofs.lemmas.Bool.{cases_Bool}
 use Rattle.std.proofs.lemmas.Int.{ints, by_lt_z}
 use Rattle.std.proofs.lemmas.List.Elements.{All-head, All-tail}
 use Rattle.std.proofs.lemmas.List.Sums.{count_by-le-length, sum_by-append, sum_by-cons}
-use Rattle.std.proofs.lemmas.List.Sorted.{length_permutation, sum_by-IsPermutation}
+use Rattle.std.proofs.lemmas.List.Sorted.{sum_by-IsPermutation}
 use Rattle.fr_midpoint.specs.Within.{IsWithin}
 use Rattle.fr_midpoint.specs.Midpoint.{discarded, half_of_sum, IsMidpoint}
-use Rattle.fr_midpoint.specs.Receivers.{place_at, place_of, AreFew, FewAreDiscarded, Hears, IsPlaced, LieWithin, OneReceiver, Receiver, Receives, ShareOne, TwoReceivers}
+use Rattle.fr_midpoint.specs.Receivers.{place_at, place_of, FewAreDiscarded, IsPlaced, LieWithin, OneReceiver, Receiver, Receives, ShareOne, TwoReceivers}
 use Rattle.fr_midpoint.proofs.Counts.{count_by-cons_no, count_by-cons_yes}
 use Rattle.fr_midpoint.proofs.Products.{addz-mulz, mulz-lez}
 
@@ -70,14 +70,14 @@ common_sender R S p q (x ∷ xs) (v ∷ vs) (w ∷ ws) each also few = elim (cas
         common_sender R S p q xs vs ws each.1 also.1
         (omega (arith, count_by-cons_no p v vs fails, count_by-cons_yes q w ws passes))
     | inr neither ↦ record {
-        position = x;
-        value = v;
-        other = w;
-        says = each.0;
-        says_other = also.0;
-        fails = fails;
-        other_fails = neither;
-      }
+      position = x;
+      value = v;
+      other = w;
+      says = each.0;
+      says_other = also.0;
+      fails = fails;
+      other_fails = neither;
+    }
   ]
 ]
 
@@ -141,16 +141,17 @@ doubled_place low high mid unit lasts half =
     let twice = addz-mulz mid mid unit in
     let both = addz-mulz low high unit in
     let more = addz-mulz (low +ℤ high) (pos 1) unit in
-    let other = addz-mulz (mid +ℤ mid) (pos 1) unit in
-    (
+    let other = addz-mulz (mid +ℤ mid) (pos 1) unit in (
       step (mid *ℤ unit) (low *ℤ unit) (high *ℤ unit) unit ((mid +ℤ mid) *ℤ unit) ((low +ℤ high) *ℤ unit) (pos 1 *ℤ unit) (((low +ℤ high) +ℤ pos 1) *ℤ unit) twice both more (one_times unit) up,
       back (mid *ℤ unit) (low *ℤ unit) (high *ℤ unit) unit ((mid +ℤ mid) *ℤ unit) ((low +ℤ high) *ℤ unit) (pos 1 *ℤ unit) (((mid +ℤ mid) +ℤ pos 1) *ℤ unit) twice both other (one_times unit) down,
     )
   where
     one_times : (t : ℤ) → pos 1 *ℤ t ≡ t
     one_times t = omega (arith, ints)
+
     step : (m l h t mm lh one more : ℤ) → mm ≡ m +ℤ m → lh ≡ l +ℤ h → more ≡ lh +ℤ one → one ≡ t → mm ≤ℤ more → (m +ℤ m) ≤ℤ ((l +ℤ h) +ℤ t)
     step m l h t mm lh one more a b c d e = omega (arith, ints)
+
     back : (m l h t mm lh one more : ℤ) → mm ≡ m +ℤ m → lh ≡ l +ℤ h → more ≡ mm +ℤ one → one ≡ t → lh ≤ℤ more → (l +ℤ h) ≤ℤ ((m +ℤ m) +ℤ t)
     back m l h t mm lh one more a b c d e = omega (arith, ints)
 
@@ -181,8 +182,8 @@ low_placed before after positions r mid P receives is all =
     let test : ℤ → Bool = λ v. int_le v is.low in
     let counts = count_by-said test hears.said hears.further r.values hears.parts in
     from (
-      some_sender (IsPlaced r.base r.unit before after) P test positions hears.said hears.each all
-      (omega (arith, counts.1, hears.few, is.least.more_up_to))
+    some_sender (IsPlaced r.base r.unit before after) P test positions hears.said hears.each all
+    (omega (arith, counts.1, hears.few, is.least.more_up_to))
     )
   where
     from :
@@ -202,8 +203,8 @@ high_placed before after positions r mid P receives is all =
     let test : ℤ → Bool = λ v. int_le is.high v in
     let counts = count_by-said test hears.said hears.further r.values hears.parts in
     from (
-      some_sender (IsPlaced r.base r.unit before after) P test positions hears.said hears.each all
-      (omega (arith, counts.1, hears.few, is.greatest.more_from))
+    some_sender (IsPlaced r.base r.unit before after) P test positions hears.said hears.each all
+    (omega (arith, counts.1, hears.few, is.greatest.more_from))
     )
   where
     from :
@@ -220,14 +221,14 @@ one_receiver_lem positions least greatest before after r mid from to receives is
     let low = low_placed before after positions r mid (λ x. least ≤ℤ x) receives is from in
     let high = high_placed before after positions r mid (λ x. x ≤ℤ greatest) receives is to in
     let up = place_order r.base r.unit is.low mid receives.lasts order.0 in
-    let down = place_order r.base r.unit mid is.high receives.lasts order.1 in
-    (
+    let down = place_order r.base r.unit mid is.high receives.lasts order.1 in (
       left (place_at r is.low) (place_at r mid) low.0 least before low.1 low.2 up,
       right (place_at r mid) (place_at r is.high) high.0 greatest after high.1 high.2 down,
     )
   where
     left : (a b x least before : ℤ) → least ≤ℤ x → (x -ℤ before) ≤ℤ a → a ≤ℤ b → (least -ℤ before) ≤ℤ b
     left a b x least before h k l = omega (arith, ints)
+
     right : (a b x greatest after : ℤ) → x ≤ℤ greatest → b ≤ℤ (x +ℤ after) → a ≤ℤ b → a ≤ℤ (greatest +ℤ after)
     right a b x greatest after h k l = omega (arith, ints)
 
@@ -251,17 +252,17 @@ both_keep before after positions one other mid other_mid receives also_receives 
     let counts = count_by-said low hears.said hears.further one.values hears.parts in
     let also_counts = count_by-said high also_hears.said also_hears.further other.values also_hears.parts in
     from (
-      common_sender
-      (IsPlaced one.base one.unit before after)
-      (IsPlaced other.base other.unit before after)
-      low
-      high
-      positions
-      hears.said
-      also_hears.said
-      hears.each
-      also_hears.each
-      (omega (arith, counts.0, also_counts.0, is.least.few_below, also.greatest.few_above, share))
+    common_sender
+    (IsPlaced one.base one.unit before after)
+    (IsPlaced other.base other.unit before after)
+    low
+    high
+    positions
+    hears.said
+    also_hears.said
+    hears.each
+    also_hears.each
+    (omega (arith, counts.0, also_counts.0, is.least.few_below, also.greatest.few_above, share))
     )
   where
     from :

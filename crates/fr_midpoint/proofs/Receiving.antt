@@ -1,14 +1,14 @@
 -- The law of two receivers, both sides computed: six correct nodes and two arbitrary ones, of which one receiver hears
 -- one alone. It has seven values and discards one at each end, the other has eight and discards two.
-use Rattle.std.proofs.Common.{◌≡◌, ℤ, pos, negsuc, List, [], ◌∷◌, ◌++◌, Some, replicate, refl, lit≤, lit<}
+use Rattle.std.proofs.Common.{◌≡◌, ℤ, pos, negsuc, List, [], ◌∷◌, ◌++◌, refl, lit≤, lit<}
 use Rattle.std.specs.Prelude.{All, ◌+ℤ◌, ◌-ℤ◌, ◌*ℤ◌, ◌≤ℤ◌}
 use Rattle.std.proofs.lemmas.Int.{ints}
 use Rattle.std.proofs.Common.{arith}
-use Rattle.std.proofs.lemmas.List.Elements.{All-cons, All-nil, All-replicate}
+use Rattle.std.proofs.lemmas.List.Elements.{All-replicate}
 use Rattle.std.proofs.lemmas.List.Sorted.{IsPermutation-refl}
 use Rattle.fr_midpoint.specs.Within.{IsWithin}
-use Rattle.fr_midpoint.specs.Midpoint.{midpoint_of, midpoint_by_ranks, IsMidpoint}
-use Rattle.fr_midpoint.specs.Receivers.{place_at, place_of, Hears, IsPlaced, LieWithin, Receiver, Receives, ShareOne}
+use Rattle.fr_midpoint.specs.Midpoint.{IsMidpoint}
+use Rattle.fr_midpoint.specs.Receivers.{place_at, place_of, IsPlaced, Receiver, Receives, ShareOne}
 use Rattle.fr_midpoint.proofs.Agreement.{two_receivers_lem, one_receiver_lem}
 
 -- the positions of the correct nodes, in ticks

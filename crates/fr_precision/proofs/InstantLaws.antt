@@ -1,18 +1,18 @@
 -- The laws of instants, over rows.
-use Rattle.std.proofs.Common.{◌≡◌, ℕ, ◌+◌, ◌*◌, ◌≤◌, Bool, true, false, ℤ, pos, refl, ap, sym, ◌∙◌, subst, arith}
-use Rattle.std.specs.Prelude.{neg_ℤ, ◌+ℤ◌, ◌-ℤ◌, ◌*ℤ◌, ◌≤ℤ◌, ◌<ℤ◌, int_lt}
+use Rattle.std.proofs.Common.{◌≡◌, ℕ, true, false, ℤ, pos, refl, ap, sym, ◌∙◌, subst, arith}
+use Rattle.std.specs.Prelude.{◌+ℤ◌, ◌-ℤ◌, ◌*ℤ◌, ◌≤ℤ◌, ◌<ℤ◌, int_lt}
 use Rattle.std.proofs.lemmas.Int.{ints, by_lt_z}
 use Rattle.fr_base.specs.declared.node_row.NodeRow.{NodeRow}
-use Rattle.fr_params.specs.Values.{Values, amount}
+use Rattle.fr_params.specs.Values.{Values}
 use Rattle.fr_params.specs.Sane.{IsSane}
 use Rattle.fr_midpoint.specs.Within.{IsWithin}
 use Rattle.fr_midpoint.proofs.Products.{addz-mulz, subz-mulz}
-use Rattle.fr_time.specs.Position.{corrected_micros, corrected_position, even_position, floor_of, grid_for, position_of, IsGrid}
-use Rattle.fr_time.specs.Instant.{instant_of, next_start_of}
+use Rattle.fr_time.specs.Position.{corrected_micros, even_position, floor_of, grid_for}
+use Rattle.fr_time.specs.Instant.{instant_of}
 use Rattle.fr_time.proofs.Placing.{is_grid_lem}
-use Rattle.fr_bound.specs.Bounds.{lambda_of, longest_micro, pi_of, precision_of}
+use Rattle.fr_bound.specs.Bounds.{lambda_of, longest_micro, pi_of}
 use Rattle.fr_precision.specs.Rows.{corrected_end_of, end_of, length_of, Lasts, IsDoubleCycle}
-use Rattle.fr_precision.specs.Instants.{gap_of, row_in, LieNear, MacroticksLieBetween, MacroticksStayNear, PrecisionHolds, Runs}
+use Rattle.fr_precision.specs.Instants.{gap_of, LieNear, MacroticksLieBetween, MacroticksStayNear, PrecisionHolds, Runs}
 use Rattle.fr_precision.proofs.Lines.{lines_between, lines_near, on_line, OnLine}
 
 -- up to the offset correction the rule of even cycles places a macrotick
@@ -55,6 +55,7 @@ late_instant p row macrotick from =
   where
     itself : (a : ℤ) → a ≤ℤ a
     itself a = omega (arith, ints)
+
     sum : (s b m w : ℤ) → w ≡ b +ℤ m → s +ℤ w ≡ (s +ℤ b) +ℤ m
     sum s b m w e = omega (arith, ints)
 
@@ -86,6 +87,7 @@ corrected_end_is p row =
   where
     itself : (a : ℤ) → a ≤ℤ a
     itself a = omega (arith, ints)
+
     sum : (s b w r : ℤ) → r ≡ w -ℤ b → (s +ℤ b) +ℤ r ≡ s +ℤ w
     sum s b w r e = omega (arith, ints)
 
@@ -118,8 +120,7 @@ pub macroticks_stay_near_lem : MacroticksStayNear
 macroticks_stay_near_lem p starts even_lengths odd_lengths macrotick even odd other_even other_odd sane runs other_runs near from =
     let grid = is_grid_lem p sane in
     let some : pos 0 <ℤ p.macros = omega (arith, ints, grid.correction_from, grid.correction_to) in
-    let most = pos (longest_micro p) in
-    (
+    let most = pos (longest_micro p) in (
       λ to.
           lines_near even.start other_even.start (length_of p even) (length_of p other_even) even.length other_even.length macrotick p.macros most
           (instant_of (grid_for p) even false macrotick) (instant_of (grid_for p) other_even false macrotick) starts even_lengths
@@ -162,14 +163,19 @@ late_between p starts lengths macrotick even odd other_even other_odd sane runs 
   where
     itself : (a : ℤ) → a ≤ℤ a
     itself a = omega (arith, ints)
+
     apart : (o g : ℤ) → o <ℤ g → pos 0 <ℤ (g -ℤ o)
     apart o g less = omega (arith, ints)
+
     apart_from : (o m : ℤ) → o <ℤ m → pos 0 ≤ℤ (m -ℤ o)
     apart_from o m less = omega (arith, ints)
+
     no_more : (m o g : ℤ) → m ≤ℤ g → (m -ℤ o) ≤ℤ (g -ℤ o)
     no_more m o g le = omega (arith, ints)
+
     no_closer : (s l : ℤ) (q : ℕ) (x : ℤ) → IsWithin l x → s ≤ℤ (s +ℤ l +ℤ l +ℤ pos q)
     no_closer s l q x within = omega (arith, ints, within.low, within.high)
+
     at_ends : (s b x x' y y' : ℤ) → x ≡ x' → y ≡ y' → s ≤ℤ b → IsWithin s (x' -ℤ y') → IsWithin b (x -ℤ y)
     at_ends s b x x' y y' e g le within = record { low = omega (arith, ints, within.low); high = omega (arith, ints, within.high) }
 
@@ -194,6 +200,7 @@ macroticks_lie_between p starts lengths macrotick true even odd other_even other
   where
     same : (s l : ℤ) (q : ℕ) → (s +ℤ l +ℤ l +ℤ pos q +ℤ pos q) ≤ℤ (s +ℤ (pos 2 *ℤ l) +ℤ (pos 2 *ℤ pos q))
     same s l q = omega (arith, ints)
+
     more : (s l : ℤ) (q : ℕ) → (s +ℤ l +ℤ l +ℤ pos q) ≤ℤ (s +ℤ (pos 2 *ℤ l) +ℤ (pos 2 *ℤ pos q))
     more s l q = omega (arith, ints)
 

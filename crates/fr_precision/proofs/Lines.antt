@@ -1,10 +1,10 @@
 -- Instants that lie evenly between two points, rounded down to microticks: over plain numbers.
-use Rattle.std.proofs.Common.{◌≡◌, ℕ, ◌+◌, ◌*◌, ◌/◌, ◌%◌, ◌<◌, ◌≤◌, ℤ, pos, negsuc, ap, sym, ◌∙◌, arith}
+use Rattle.std.proofs.Common.{◌≡◌, ℕ, ◌+◌, ◌*◌, ◌/◌, ◌%◌, ◌<◌, ℤ, pos, negsuc, ap, sym, ◌∙◌, arith}
 use Rattle.std.specs.Prelude.{neg_ℤ, ◌+ℤ◌, ◌-ℤ◌, ◌*ℤ◌, ◌≤ℤ◌, ◌<ℤ◌}
 use Rattle.std.proofs.lemmas.Int.{ints}
 use Rattle.std.proofs.Math.Nat.{div-add-mod', mod-lt}
 use Rattle.fr_midpoint.specs.Within.{IsWithin}
-use Rattle.fr_midpoint.proofs.Products.{addz-mulz, subz-mulz, lez_of_mulz-lez, mulz-addz, mulz-subz, mulz_assoc, mulz_comm, mulz-lez, mulz-lez_left, mulz-negz, mulz_from, mulz_within, negz-mulz}
+use Rattle.fr_midpoint.proofs.Products.{addz-mulz, subz-mulz, lez_of_mulz-lez, mulz-subz, mulz_assoc, mulz_comm, mulz-lez, mulz-lez_left, mulz_from, mulz_within, negz-mulz}
 use Rattle.fr_time.specs.Position.{floor_of}
 
 -- what a quotient rounded down leaves
@@ -58,12 +58,16 @@ on_line start unit macrotick micros parts most some lasts short =
   where
     one_times : (t : ℤ) → pos 1 *ℤ t ≡ t
     one_times t = omega (arith, ints)
+
     last_part : (x d : ℤ) → (x +ℤ pos 1) ≤ℤ d → x ≤ℤ (d -ℤ pos 1)
     last_part x d h = omega (arith, ints)
+
     less_one : (d : ℤ) → pos 0 <ℤ d → pos 0 ≤ℤ (d -ℤ pos 1)
     less_one d h = omega (arith, ints)
+
     sum : (x s fup fpu mmu mmu' l : ℤ) → x ≡ s +ℤ fup → fup ≡ fpu → l ≡ mmu -ℤ fpu → mmu ≡ mmu' → x ≡ (s +ℤ mmu') -ℤ l
     sum x s fup fpu mmu mmu' l a b c d = omega (arith, ints)
+
     bound : (l a b c c' o m : ℤ) → l ≤ℤ a → a ≤ℤ b → b ≡ c -ℤ o → c ≡ c' → o ≡ m → l ≤ℤ (c' -ℤ m)
     bound l a b c c' o m h k e g i = omega (arith, ints)
 
@@ -117,14 +121,17 @@ lines_near start other_start length other_length unit other_unit macrotick parts
             → pos 0 ≤ℤ k → k ≤ℤ (qg -ℤ q) → pos 0 ≤ℤ k' → k' ≤ℤ (qg -ℤ q) → pos 0 ≤ℤ q → d ≤ℤ p → dl ≤ℤ gl
             → (x -ℤ y) ≤ℤ (p +ℤ lg +ℤ qg)
         upper x y s s' d p l l' dl gl lg k k' qg q a b c f g h i j m n o hi = omega (arith, ints)
+
         lower :
             (x y s s' d p p' l l' dl gl lg k k' qg q : ℤ)
             → x ≡ (s +ℤ l) -ℤ k → y ≡ (s' +ℤ l') -ℤ k' → d ≡ s -ℤ s' → p' ≡ neg_ℤ p → dl ≡ l -ℤ l' → gl ≡ lg
             → pos 0 ≤ℤ k → k ≤ℤ (qg -ℤ q) → pos 0 ≤ℤ k' → k' ≤ℤ (qg -ℤ q) → pos 0 ≤ℤ q → p' ≤ℤ d → neg_ℤ gl ≤ℤ dl
             → (y -ℤ x) ≤ℤ (p +ℤ lg +ℤ qg)
         lower x y s s' d p p' l l' dl gl lg k k' qg q a b c e f g h i j m n r lo = omega (arith, ints)
+
     up : (d x y w sl s l q : ℤ) → d ≡ x -ℤ y → w ≡ sl +ℤ q → sl ≡ s +ℤ l → (x -ℤ y) ≤ℤ (s +ℤ l +ℤ q) → d ≤ℤ w
     up d x y w sl s l q a b c le = omega (arith, ints)
+
     down : (d n x y w sl s l q : ℤ) → d ≡ x -ℤ y → n ≡ neg_ℤ d → w ≡ sl +ℤ q → sl ≡ s +ℤ l → (y -ℤ x) ≤ℤ (s +ℤ l +ℤ q) → n ≤ℤ w
     down d n x y w sl s l q a e b c le = omega (arith, ints)
 
@@ -156,8 +163,10 @@ lines_between start other_start length other_length unit other_unit macrotick pa
   where
     itself : (a : ℤ) → a ≤ℤ a
     itself a = omega (arith, ints)
+
     difference : (s s' l l' : ℤ) → l -ℤ l' ≡ ((s +ℤ l) -ℤ (s' +ℤ l')) -ℤ (s -ℤ s')
     difference s s' l l' = omega (arith, ints)
+
     both :
         (x y s s' d d' hd rd l l' dl he rb gb hb bg k k' qg q : ℤ)
         → x ≡ (s +ℤ l) -ℤ k → y ≡ (s' +ℤ l') -ℤ k' → d ≡ s -ℤ s' → d ≡ d' → rd ≡ d' -ℤ hd → dl ≡ l -ℤ l' → dl ≡ he -ℤ hd
@@ -171,10 +180,13 @@ lines_between start other_start length other_length unit other_unit macrotick pa
       where
         upper : (x y rd he rb hb bg k k' qg q : ℤ) → x -ℤ y ≡ ((rd +ℤ he) -ℤ k) +ℤ k' → rb +ℤ hb ≡ bg → pos 0 ≤ℤ k → k' ≤ℤ (qg -ℤ q) → pos 0 ≤ℤ q → rd ≤ℤ rb → he ≤ℤ hb → (x -ℤ y) ≤ℤ (bg +ℤ qg)
         upper x y rd he rb hb bg k k' qg q a b c d e f g = omega (arith, ints)
+
         lower : (x y rd he rb hb bg k k' qg q : ℤ) → x -ℤ y ≡ ((rd +ℤ he) -ℤ k) +ℤ k' → rb +ℤ hb ≡ bg → k ≤ℤ (qg -ℤ q) → pos 0 ≤ℤ k' → pos 0 ≤ℤ q → neg_ℤ rb ≤ℤ rd → neg_ℤ hb ≤ℤ he → (y -ℤ x) ≤ℤ (bg +ℤ qg)
         lower x y rd he rb hb bg k k' qg q a b c d e f g = omega (arith, ints)
+
     up : (d x y w b q : ℤ) → d ≡ x -ℤ y → w ≡ b +ℤ q → (x -ℤ y) ≤ℤ (b +ℤ q) → d ≤ℤ w
     up d x y w b q a c le = omega (arith, ints)
+
     down : (d n x y w b q : ℤ) → d ≡ x -ℤ y → n ≡ neg_ℤ d → w ≡ b +ℤ q → (y -ℤ x) ≤ℤ (b +ℤ q) → n ≤ℤ w
     down d n x y w b q a e c le = omega (arith, ints)
 
@@ -206,8 +218,10 @@ lines_end start other_start length other_length unit other_unit macrotick parts 
   where
     shared : (x g m : ℤ) → (g -ℤ m) *ℤ x ≡ (x *ℤ g) -ℤ (m *ℤ x)
     shared x g m = subz-mulz g m x ∙ ap (λ y. y -ℤ (m *ℤ x)) (mulz_comm g x)
+
     joined : (xg mx lg lg' ml ml' : ℤ) → xg ≡ lg -ℤ lg' → mx ≡ ml -ℤ ml' → xg -ℤ mx ≡ (lg -ℤ lg') -ℤ (ml -ℤ ml')
     joined xg mx lg lg' ml ml' a b = omega (arith, ints)
+
     both :
         (x y s s' lg lg' a a' ml ml' r gl bl k k' qg q : ℤ)
         → x ≡ (s +ℤ lg) -ℤ a → y ≡ (s' +ℤ lg') -ℤ a' → a ≡ (s +ℤ ml) -ℤ k → a' ≡ (s' +ℤ ml') -ℤ k' → r ≡ (lg -ℤ lg') -ℤ (ml -ℤ ml') → gl ≡ bl
@@ -219,9 +233,12 @@ lines_end start other_start length other_length unit other_unit macrotick parts 
       where
         upper : (x y r gl bl k k' qg q : ℤ) → x -ℤ y ≡ (r +ℤ k) -ℤ k' → gl ≡ bl → k ≤ℤ (qg -ℤ q) → pos 0 ≤ℤ k' → pos 0 ≤ℤ q → r ≤ℤ gl → (x -ℤ y) ≤ℤ (bl +ℤ qg)
         upper x y r gl bl k k' qg q a b c d e f = omega (arith, ints)
+
         lower : (x y r gl bl k k' qg q : ℤ) → x -ℤ y ≡ (r +ℤ k) -ℤ k' → gl ≡ bl → pos 0 ≤ℤ k → k' ≤ℤ (qg -ℤ q) → pos 0 ≤ℤ q → neg_ℤ gl ≤ℤ r → (y -ℤ x) ≤ℤ (bl +ℤ qg)
         lower x y r gl bl k k' qg q a b c d e f = omega (arith, ints)
+
     up : (d x y w b q : ℤ) → d ≡ x -ℤ y → w ≡ b +ℤ q → (x -ℤ y) ≤ℤ (b +ℤ q) → d ≤ℤ w
     up d x y w b q a c le = omega (arith, ints)
+
     down : (d n x y w b q : ℤ) → d ≡ x -ℤ y → n ≡ neg_ℤ d → w ≡ b +ℤ q → (y -ℤ x) ≤ℤ (b +ℤ q) → n ≤ℤ w
     down d n x y w b q a e c le = omega (arith, ints)

@@ -1,6 +1,6 @@
 -- What a change of the microtick makes of a length, over plain numbers.
-use Rattle.std.proofs.Common.{◌≡◌, ℤ, pos, ap, sym, ◌∙◌, arith}
-use Rattle.std.specs.Prelude.{neg_ℤ, ◌+ℤ◌, ◌-ℤ◌, ◌*ℤ◌, ◌≤ℤ◌, ◌<ℤ◌}
+use Rattle.std.proofs.Common.{◌≡◌, ℤ, pos, ap, ◌∙◌, arith}
+use Rattle.std.specs.Prelude.{neg_ℤ, ◌+ℤ◌, ◌-ℤ◌, ◌*ℤ◌, ◌≤ℤ◌}
 use Rattle.std.proofs.lemmas.Int.{ints, by_lt_z}
 use Rattle.fr_midpoint.specs.Within.{IsWithin}
 use Rattle.fr_midpoint.proofs.Products.{addz-mulz, subz-mulz, mulz-addz, mulz-subz, mulz_comm, mulz-lez_left, mulz_from, mulz_within, negz-mulz}
@@ -61,14 +61,19 @@ moved n c ro w qm qp y1 j t other b f r least most steady =
   where
     longer : (nqm n_other b_other long : ℤ) → nqm ≤ℤ n_other → long ≡ n_other +ℤ b_other → pos 0 ≤ℤ b_other → nqm ≤ℤ long
     longer nqm n_other b_other long a b c = omega (arith, ints)
+
     shorter : (nqp n_other b_other minus long : ℤ) → n_other ≤ℤ nqp → long ≡ n_other +ℤ b_other → minus ≡ neg_ℤ b_other → pos 0 ≤ℤ minus → long ≤ℤ nqp
     shorter nqp n_other b_other minus long a b c d = omega (arith, ints)
+
     kept_high : (nqp j v w : ℤ) → (v +ℤ (pos 2 *ℤ j)) ≤ℤ nqp → IsWithin (pos 2 *ℤ j) (w -ℤ v) → w ≤ℤ nqp
     kept_high nqp j v w a within = omega (arith, ints, within.high)
+
     kept_low : (nqm j v w : ℤ) → (nqm +ℤ (pos 2 *ℤ j)) ≤ℤ v → IsWithin (pos 2 *ℤ j) (w -ℤ v) → nqm ≤ℤ w
     kept_low nqm j v w a within = omega (arith, ints, within.low)
+
     still_low : (a b c : ℤ) → a ≤ℤ b → c ≡ b → a ≤ℤ c
     still_low a b c le is = omega (arith, ints)
+
     still_high : (a b c : ℤ) → b ≤ℤ a → c ≡ b → c ≤ℤ a
     still_high a b c le is = omega (arith, ints)
 
@@ -84,5 +89,6 @@ damped_near n c ro w qm qp y1 j t z f least most =
   where
     difference : (n z b : ℤ) → z -ℤ b ≡ (n +ℤ z) -ℤ (n +ℤ b)
     difference n z b = omega (arith, ints)
+
     same : (wide other apart x y : ℤ) → wide ≡ other → apart ≡ x -ℤ y → IsWithin wide apart → IsWithin other (x -ℤ y)
     same wide other apart x y a b within = record { low = omega (arith, ints, within.low); high = omega (arith, ints, within.high) }

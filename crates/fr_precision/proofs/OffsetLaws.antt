@@ -1,8 +1,7 @@
 -- The laws of offsets, over rows.
-use Rattle.std.proofs.Common.{◌≡◌, ◌⊎◌, ℕ, ◌+◌, ◌*◌, ◌≤◌, Bool, true, false, ℤ, pos, List, [], ◌∷◌, length, map, All, inl, inr, refl, ap, sym, ◌∙◌, arith}
+use Rattle.std.proofs.Common.{◌≡◌, ◌⊎◌, ℕ, ◌+◌, ◌*◌, ◌≤◌, Bool, true, ℤ, pos, List, [], length, map, All, inl, inr, refl, ap, ◌∙◌, arith}
 use Rattle.std.specs.Prelude.{neg_ℤ, ◌+ℤ◌, ◌-ℤ◌, ◌*ℤ◌, ◌≤ℤ◌, ◌<ℤ◌}
 use Rattle.std.proofs.lemmas.Int.{ints}
-use Rattle.std.proofs.lemmas.List.Elements.{All-cons, All-nil}
 use Rattle.fr_base.specs.declared.node_row.NodeRow.{NodeRow}
 use Rattle.fr_base.specs.declared.Outcome.TheVariants.{Within}
 use Rattle.fr_params.specs.Values.{Values, amount}
@@ -10,24 +9,24 @@ use Rattle.fr_params.specs.Sane.{IsSane}
 use Rattle.fr_params.specs.declared.names.ParamName.TheVariants as name
 use Rattle.fr_midpoint.specs.Within.{IsWithin}
 use Rattle.fr_midpoint.specs.Midpoint.{IsMidpoint}
-use Rattle.fr_midpoint.specs.Receivers.{place_at, place_of, Hears, IsPlaced, LieWithin, Receiver, Receives, ShareOne}
+use Rattle.fr_midpoint.specs.Receivers.{place_at, Hears, IsPlaced, Receiver, Receives}
 use Rattle.fr_midpoint.proofs.Agreement.{one_receiver_lem, two_receivers_lem}
 use Rattle.fr_midpoint.proofs.Products.{addz-mulz, lez_of_mulz-lez, mulz-lez_left, negz-mulz}
 use Rattle.fr_correct.specs.declared.term.Term.{Term}
-use Rattle.fr_correct.specs.Terms.{missing_term, term_of, IsOffsetTerm}
+use Rattle.fr_correct.specs.Terms.{missing_term, term_of}
 use Rattle.fr_time.specs.Position.{grid_for}
 use Rattle.fr_time.specs.Instant.{instant_of}
 use Rattle.fr_time.proofs.Placing.{is_grid_lem}
 use Rattle.fr_bound.specs.Bounds.{arrival_error, lambda_of, longest_micro, pi_of, precision_of, shortest_micro}
-use Rattle.fr_bound.specs.Checks.{holds_of, left_of}
-use Rattle.fr_precision.specs.Rows.{corrected_end_of, end_of, length_of, AreNear, HasProperMicro, IsDoubleCycle, KeepOne, Lasts, Sender}
+use Rattle.fr_bound.specs.Checks.{left_of}
+use Rattle.fr_precision.specs.Rows.{corrected_end_of, end_of, length_of, AreNear, HasProperMicro, Lasts, Sender}
 use Rattle.fr_precision.specs.Instants.{gap_of}
 use Rattle.fr_precision.specs.Offsets.{CorrectedEndLiesAmong, EndsDrawTogether, EndsStayTogether, IsDeviation, IsOffsetRound, IsSending, LimitSuffices, NearAll, OffsetTermsAreUncut, OwnValueIsDeviation, ReachAll, SendersLieNear, ThirdCheckSuffices}
 use Rattle.fr_precision.proofs.Figures.{nat_le-true, times_natural}
 use Rattle.fr_precision.proofs.InstantLaws.{early_on_line, odd_start_is}
 use Rattle.fr_precision.proofs.Lines.{lines_end}
 use Rattle.fr_precision.proofs.RateLaws.{half_within, limited_within, outcome_within}
-use Rattle.fr_precision.proofs.Senders.{heard_all, hears_mapped, length_mapped, lie_within, All-along, All-both, All-mapped}
+use Rattle.fr_precision.proofs.Senders.{heard_all, hears_mapped, length_mapped, lie_within, All-both, All-mapped}
 
 -- the shortest microtick lasts
 pub shortest_from : (p : Values) → IsSane p → pos 1 ≤ℤ pos (shortest_micro p)
@@ -74,6 +73,7 @@ deviation_within p reach is_odd action row sender value sane suffices micro near
     step : (gap reach : ℤ) (e q : ℕ) (t v minus : ℤ) (left : ℕ) (short long : ℤ) → minus ≡ neg_ℤ v → pos left ≡ short → short ≤ℤ long → (reach +ℤ pos e +ℤ pos q) ≤ℤ pos left
         → neg_ℤ reach ≤ℤ gap → gap ≤ℤ reach → (gap -ℤ (pos e +ℤ t)) <ℤ v → v ≤ℤ (gap +ℤ pos e) → t ≤ℤ pos q → (v ≤ℤ long) × (minus ≤ℤ long)
     step gap reach e q t v minus left short long a b c d f g h i j = (omega (arith, ints), omega (arith, ints))
+
     turned : (limit v : ℤ) → v ≤ℤ limit → neg_ℤ v ≤ℤ limit → IsWithin limit v
     turned limit v a b = record { low = omega (arith, ints); high = omega (arith, ints) }
 
@@ -113,8 +113,10 @@ round_at p senders reach row values term mid sane suffices near micro hears midd
   where
     from_zero : pos 0 ≤ℤ pos 0
     from_zero = omega (arith, ints)
+
     some : pos 0 <ℤ pos 1
     some = omega (arith, ints)
+
     out : (limit mid : ℤ) → (pos 0 -ℤ limit) ≤ℤ (pos 0 +ℤ (mid *ℤ pos 1)) → (pos 0 +ℤ (mid *ℤ pos 1)) ≤ℤ (pos 0 +ℤ limit) → IsWithin limit mid
     out limit mid a b = record { low = omega (arith, ints); high = omega (arith, ints) }
 
@@ -157,10 +159,13 @@ end_placed p lengths row sender value sane micro sending near dev =
   where
     some : (o g : ℤ) → pos 1 ≤ℤ o → o <ℤ g → pos 0 <ℤ g
     some o g a b = omega (arith, ints)
+
     no_less : (n : ℕ) → pos 0 ≤ℤ pos n
     no_less n = omega (arith, ints)
+
     within_cycle : (m o g : ℤ) → m ≤ℤ o → o <ℤ g → m ≤ℤ g
     within_cycle m o g a b = omega (arith, ints)
+
     step : (x y at other v t l : ℤ) (e q : ℕ)
         → neg_ℤ (l +ℤ pos q) ≤ℤ ((x -ℤ at) -ℤ (y -ℤ other)) → ((x -ℤ at) -ℤ (y -ℤ other)) ≤ℤ (l +ℤ pos q)
         → ((other -ℤ at) -ℤ (pos e +ℤ t)) <ℤ v → v ≤ℤ ((other -ℤ at) +ℤ pos e) → t ≤ℤ pos q
@@ -211,14 +216,14 @@ corrected_end_lies_among p senders lengths reach least greatest row values term 
     (All-mapped (λ (sender : Sender). end_of p sender.odd ≤ℤ greatest) (λ x. x ≤ℤ greatest) f senders (λ sender h. h) to)
     (receives_ends p senders lengths row values term sane sending near is)
     round.middle in
-    let same = corrected_place p row values round.mid (is.applied ∙ round.is) in
-    (
+    let same = corrected_place p row values round.mid (is.applied ∙ round.is) in (
       low (corrected_end_of p row) (place_at (ends_at p row values) round.mid) (least -ℤ before_end p lengths) same among.0,
       high (corrected_end_of p row) (place_at (ends_at p row values) round.mid) (greatest +ℤ behind_end p lengths) same among.1,
     )
   where
     low : (x y a : ℤ) → x ≡ y → a ≤ℤ y → a ≤ℤ x
     low x y a e le = omega (arith, ints)
+
     high : (x y a : ℤ) → x ≡ y → y ≤ℤ a → x ≤ℤ a
     high x y a e le = omega (arith, ints)
 
@@ -244,6 +249,7 @@ ends_near p starts lengths senders sending near =
   where
     step : (s l x x' e e' y y' o o' : ℤ) → y ≡ x +ℤ e → y' ≡ x' +ℤ e' → IsWithin s (x -ℤ x') → IsWithin l (e -ℤ e') → IsWithin l (o -ℤ o') → IsWithin (s +ℤ (pos 2 *ℤ l)) ((y +ℤ o) -ℤ (y' +ℤ o'))
     step s l x x' e e' y y' o o' a b c d f = record { low = omega (arith, ints, c.low, d.low, f.low); high = omega (arith, ints, c.high, d.high, f.high) }
+
     pair : (one other : Sender) → IsSending p one → IsSending p other → IsWithin starts (one.even.start -ℤ other.even.start)
         → IsWithin lengths (length_of p one.even -ℤ length_of p other.even) → IsWithin lengths (length_of p one.odd -ℤ length_of p other.odd)
         → IsWithin (starts +ℤ (pos 2 *ℤ lengths)) (end_of p one.odd -ℤ end_of p other.odd)

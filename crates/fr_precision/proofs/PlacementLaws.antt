@@ -1,5 +1,5 @@
 -- What deviations say of a sender's length.
-use Rattle.std.proofs.Common.{◌≡◌, ℕ, suc, ◌+◌, ◌-◌, ◌*◌, ◌<◌, ◌≤◌, Bool, true, false, ℤ, pos, inl, inr, refl, ap, sym, ◌∙◌, arith}
+use Rattle.std.proofs.Common.{◌≡◌, ℕ, ◌+◌, ◌-◌, ◌*◌, ◌≤◌, true, false, ℤ, pos, inl, inr, refl, ap, sym, ◌∙◌, arith}
 use Rattle.std.specs.Prelude.{neg_ℤ, ◌+ℤ◌, ◌-ℤ◌, ◌*ℤ◌, ◌≤ℤ◌, ◌<ℤ◌, nat_abs}
 use Rattle.std.proofs.lemmas.Bool.{cases_lt}
 use Rattle.std.proofs.lemmas.Int.{ints, by_lt_z}
@@ -11,19 +11,16 @@ use Rattle.fr_params.specs.Constraints.{correction_macros, least_micros}
 use Rattle.fr_params.specs.declared.names.ParamName.TheVariants as name
 use Rattle.fr_midpoint.specs.Within.{IsWithin}
 use Rattle.fr_midpoint.specs.Midpoint.{half_of_sum}
-use Rattle.fr_midpoint.specs.Receivers.{place_of}
-use Rattle.fr_midpoint.proofs.Products.{addz-mulz, subz-mulz, lez_of_mulz-lez, mulz-addz, mulz-subz, mulz_comm, mulz-lez, mulz-lez_left, mulz_from, mulz_within, negz-mulz}
+use Rattle.fr_midpoint.proofs.Products.{addz-mulz, subz-mulz, mulz-subz, mulz-lez, mulz_from, mulz_within, negz-mulz}
 use Rattle.fr_time.specs.Position.{even_position, floor_of, grid_for}
 use Rattle.fr_time.specs.Instant.{instant_of}
 use Rattle.fr_time.proofs.Floors.{share_le}
 use Rattle.fr_time.proofs.Placing.{is_grid_lem}
-use Rattle.fr_bound.specs.Bounds.{arrival_error, cycle_change, longest_micro, shortest_micro, y1_of}
+use Rattle.fr_bound.specs.Bounds.{arrival_error, cycle_change, longest_micro, y1_of}
 use Rattle.fr_bound.proofs.Uncut.{uncut_lem}
-use Rattle.fr_precision.specs.Rows.{end_of, length_of, HasProperMicro, IsDoubleCycle, IsSteady, Lasts, Sender}
-use Rattle.fr_precision.specs.Instants.{gap_of}
-use Rattle.fr_precision.specs.Offsets.{IsDeviation, LimitSuffices}
+use Rattle.fr_precision.specs.Rows.{length_of, IsSteady, Sender}
 use Rattle.fr_precision.specs.Rates.{PlacesLength}
-use Rattle.fr_precision.specs.Placement.{AreDeviations, DifferencePlaces, HalfPlaces, IsRegular, OwnValuePlaces}
+use Rattle.fr_precision.specs.Placement.{DifferencePlaces, HalfPlaces, IsRegular, OwnValuePlaces}
 use Rattle.fr_precision.proofs.Figures.{change_is, natural}
 use Rattle.fr_precision.proofs.InstantLaws.{before_correction, odd_start_is}
 use Rattle.fr_precision.proofs.Lines.{rest_of}
@@ -57,10 +54,13 @@ share_from count length parts from also some =
   where
     none : (t : ℤ) → pos 0 *ℤ t ≡ pos 0
     none t = omega (arith, ints)
+
     once : (t : ℤ) → pos 1 *ℤ t ≡ t
     once t = omega (arith, ints)
+
     step : (n fg g o w z : ℤ) → z ≡ pos 0 → o ≡ g → w ≡ fg +ℤ o → pos 0 ≤ℤ n → ((n -ℤ fg) +ℤ pos 1) ≤ℤ g → z <ℤ w
     step n fg g o w z a b c d e = omega (arith, ints)
+
     contrary : (a b : ℤ) → a ≤ℤ b → b <ℤ a → ⊥
     contrary a b le less = omega (arith, ints)
 
@@ -147,10 +147,13 @@ step_of p even odd macrotick sane regular from to =
   where
     rate_range : (n limit r r' : ℤ) → n ≡ pos (nat_abs n) → limit ≡ pos (nat_abs limit) → nat_abs limit ≤ nat_abs n → r' ≡ r → IsWithin limit r → (pos 0 ≤ℤ (n +ℤ r')) × ((n +ℤ r') ≤ℤ (n +ℤ limit))
     rate_range n limit r r' a b le e within = (omega (arith, ints, within.low), omega (arith, ints, within.high))
+
     rest_to : (at whole most : ℤ) → pos 0 ≤ℤ at → whole ≤ℤ most → (whole -ℤ at) ≤ℤ most
     rest_to at whole most a b = omega (arith, ints)
+
     turned : (a b x : ℤ) → b ≡ a → IsWithin a x → IsWithin b x
     turned a b x e within = record { low = omega (arith, ints, within.low); high = omega (arith, ints, within.high) }
+
     sum : (s1 s0 a1 a0 a0' l0 w0 l1 rc wc ac : ℤ) → s1 ≡ s0 +ℤ l0 → a0 ≡ a0' → l0 ≡ w0 → rc ≡ wc -ℤ ac → wc ≡ l1 -ℤ w0 → ac ≡ a1 -ℤ a0' → (s1 +ℤ a1) -ℤ (s0 +ℤ a0) ≡ l1 -ℤ rc
     sum s1 s0 a1 a0 a0' l0 w0 l1 rc wc ac a b c d e f = omega (arith, ints)
 

@@ -1,9 +1,9 @@
 -- What damping leaves of a length, over plain numbers.
 use Rattle.std.proofs.Common.{◌≡◌, ◌⊎◌, ℤ, pos, inl, inr, ap, ◌∙◌, arith}
 use Rattle.std.specs.Prelude.{neg_ℤ, ◌+ℤ◌, ◌-ℤ◌, ◌*ℤ◌, ◌≤ℤ◌, ◌<ℤ◌}
-use Rattle.std.proofs.lemmas.Int.{ints, by_lt_z}
+use Rattle.std.proofs.lemmas.Int.{ints}
 use Rattle.fr_midpoint.specs.Within.{IsWithin}
-use Rattle.fr_midpoint.proofs.Products.{addz-mulz, subz-mulz, lez_of_mulz-lez, mulz-lez, mulz-lez_left, mulz-negz, mulz_from, mulz_within, negz-mulz}
+use Rattle.fr_midpoint.proofs.Products.{addz-mulz, subz-mulz, lez_of_mulz-lez, mulz-lez_left, mulz_from, negz-mulz}
 use Rattle.fr_correct.specs.Terms.{damped}
 use Rattle.fr_correct.proofs.Damped.{damped_cases}
 use Rattle.fr_precision.proofs.Figures.{Figures}
@@ -43,8 +43,10 @@ above n c ro w qm qp y1 j t z b f least most to over is =
   where
     leaves : (nqp y1 j cqm ct zt bt : ℤ) → zt ≤ℤ (nqp +ℤ y1) → (y1 +ℤ (pos 2 *ℤ j)) ≤ℤ cqm → cqm ≤ℤ ct → bt ≡ zt -ℤ ct → (bt +ℤ (pos 2 *ℤ j)) ≤ℤ nqp
     leaves nqp y1 j cqm ct zt bt a b c d = omega (arith, ints)
+
     bounded : (nqp nqm bqm roqm short long j : ℤ) → pos 0 ≤ℤ j → (long +ℤ (pos 2 *ℤ j)) ≤ℤ nqp → short ≤ℤ long → short ≡ nqm +ℤ bqm → (nqp -ℤ nqm) ≤ℤ roqm → bqm ≤ℤ roqm
     bounded nqp nqm bqm roqm short long j a b c d e = omega (arith, ints)
+
     longer : (nqm bqm short long : ℤ) → short ≡ nqm +ℤ bqm → short ≤ℤ long → pos 0 ≤ℤ bqm → nqm ≤ℤ long
     longer nqm bqm short long a b c = omega (arith, ints)
 
@@ -80,12 +82,16 @@ below n c ro w qm qp y1 j t z b f least most from under is =
   where
     none : (t : ℤ) → pos 0 *ℤ t ≡ pos 0
     none t = omega (arith, ints)
+
     leaves : (nqm y1 j cqm ct zt bt : ℤ) → (nqm -ℤ y1) ≤ℤ zt → (y1 +ℤ (pos 2 *ℤ j)) ≤ℤ cqm → cqm ≤ℤ ct → bt ≡ zt +ℤ ct → (nqm +ℤ (pos 2 *ℤ j)) ≤ℤ bt
     leaves nqm y1 j cqm ct zt bt a b c d = omega (arith, ints)
+
     positive : (nqm j bt zero : ℤ) → zero ≡ pos 0 → pos 0 ≤ℤ nqm → pos 0 ≤ℤ j → (nqm +ℤ (pos 2 *ℤ j)) ≤ℤ bt → zero ≤ℤ bt
     positive nqm j bt zero e a b c = omega (arith, ints)
+
     bounded : (nqp nqm bqp minus roqm roqp short wide j : ℤ) → pos 0 ≤ℤ j → (nqm +ℤ (pos 2 *ℤ j)) ≤ℤ short → short ≤ℤ wide → wide ≡ nqp +ℤ bqp → (nqp -ℤ nqm) ≤ℤ roqm → roqm ≤ℤ roqp → minus ≡ neg_ℤ bqp → minus ≤ℤ roqp
     bounded nqp nqm bqp minus roqm roqp short wide j a b c d e g h = omega (arith, ints)
+
     shorter : (nqp bqp minus short wide : ℤ) → short ≤ℤ wide → wide ≡ nqp +ℤ bqp → minus ≡ neg_ℤ bqp → pos 0 ≤ℤ minus → short ≤ℤ nqp
     shorter nqp bqp minus short wide a b c d = omega (arith, ints)
 
@@ -106,6 +112,7 @@ between n c ro w qm qp y1 j t b f least most is =
   where
     kept_low : (a b c : ℤ) → c ≡ b → a ≤ℤ b → a ≤ℤ c
     kept_low a b c is le = omega (arith, ints)
+
     kept_high : (a b c : ℤ) → c ≡ b → b ≤ℤ a → c ≤ℤ a
     kept_high a b c is le = omega (arith, ints)
 

@@ -1,26 +1,25 @@
 -- The laws of rates, over rows.
-use Rattle.std.proofs.Common.{◌≡◌, ◌⊎◌, ℕ, ◌+◌, ◌*◌, ◌≤◌, ◌<◌, ◌||◌, true, false, ℤ, pos, List, [], ◌∷◌, length, map, All, inl, inr, refl, ap, sym, ◌∙◌, subst, arith}
-use Rattle.std.specs.Prelude.{neg_ℤ, ◌+ℤ◌, ◌-ℤ◌, ◌*ℤ◌, ◌≤ℤ◌, ◌<ℤ◌, int_lt, if◌then◌else◌}
+use Rattle.std.proofs.Common.{◌≡◌, ◌⊎◌, ℕ, ◌+◌, ◌*◌, ◌≤◌, true, ℤ, pos, List, [], ◌∷◌, length, map, All, inl, inr, ap, sym, ◌∙◌, subst, arith}
+use Rattle.std.specs.Prelude.{◌+ℤ◌, ◌-ℤ◌, ◌*ℤ◌, ◌≤ℤ◌, ◌<ℤ◌}
 use Rattle.std.proofs.lemmas.Int.{ints}
 use Rattle.std.proofs.lemmas.List.Elements.{All-cons, All-nil}
 use Rattle.fr_base.specs.declared.node_row.NodeRow.{NodeRow}
-use Rattle.fr_base.specs.declared.Outcome.{Outcome}
-use Rattle.fr_base.specs.declared.Outcome.TheVariants.{Within, Missing, Exceeded}
+use Rattle.fr_base.specs.declared.Outcome.TheVariants.{Within}
 use Rattle.fr_params.specs.Values.{Values, amount}
 use Rattle.fr_params.specs.Sane.{IsSane}
 use Rattle.fr_params.specs.declared.names.ParamName.TheVariants as name
 use Rattle.fr_midpoint.specs.Within.{IsWithin}
-use Rattle.fr_midpoint.specs.Midpoint.{discarded, IsMidpoint}
-use Rattle.fr_midpoint.specs.Receivers.{place_at, place_of, Hears, IsPlaced, LieWithin, Receiver, Receives, ShareOne}
+use Rattle.fr_midpoint.specs.Midpoint.{IsMidpoint}
+use Rattle.fr_midpoint.specs.Receivers.{place_at, place_of, Hears, IsPlaced, Receiver, Receives}
 use Rattle.fr_midpoint.proofs.Agreement.{one_receiver_lem, two_receivers_lem}
 use Rattle.fr_midpoint.proofs.Products.{addz-mulz}
 use Rattle.fr_correct.specs.declared.term.Term.{Term}
-use Rattle.fr_correct.specs.Terms.{damped, limited, missing_term, term_of, IsRateTerm}
+use Rattle.fr_correct.specs.Terms.{damped, limited, missing_term, term_of}
 use Rattle.fr_bound.specs.Bounds.{cycle_change, lambda_of, longest_micro, shortest_micro, y1_of}
 use Rattle.fr_bound.specs.Checks.{holds_of}
-use Rattle.fr_precision.specs.Rows.{length_of, longest_cycle, shortest_cycle, AreNear, HasProperLength, HasProperMicro, IsSteady, KeepOne, Sender}
-use Rattle.fr_precision.specs.Rates.{length_at, near_length, IsNext, IsRateRound, KeepsRange, LengthsDrawTogether, LengthsStayInRange, LengthsStayNear, LengthsStayTogether, LengthsWithin, PlacesLength, RateTermsAreUncut}
-use Rattle.fr_precision.proofs.Figures.{figures_of, longest_is, natural, shortest_is, times_natural, Figures}
+use Rattle.fr_precision.specs.Rows.{length_of, longest_cycle, shortest_cycle, HasProperLength, HasProperMicro, IsSteady, KeepOne, Sender}
+use Rattle.fr_precision.specs.Rates.{near_length, IsRateRound, LengthsDrawTogether, LengthsStayInRange, LengthsStayNear, LengthsStayTogether, LengthsWithin, PlacesLength, RateTermsAreUncut}
+use Rattle.fr_precision.proofs.Figures.{figures_of, longest_is, natural, shortest_is, times_natural}
 use Rattle.fr_precision.proofs.Moves.{damped_near, moved, Moved}
 use Rattle.fr_precision.proofs.Ranges.{ranged, Ranged}
 use Rattle.fr_precision.proofs.Senders.{heard_all, hears_mapped, length_mapped, lie_within, All-along, All-mapped}
@@ -128,6 +127,7 @@ round_at p senders row values term mid sane first second proper micro hears midd
   where
     moved_low : (a b y x z : ℤ) → a ≡ b → z ≡ x → (a -ℤ y) ≤ℤ x → (b -ℤ y) ≤ℤ z
     moved_low a b y x z e g h = omega (arith, ints)
+
     moved_high : (a b y x z : ℤ) → a ≡ b → z ≡ x → x ≤ℤ (a +ℤ y) → z ≤ℤ (b +ℤ y)
     moved_high a b y x z e g h = omega (arith, ints)
 
@@ -169,10 +169,13 @@ rate_terms_are_uncut p senders row values term sane first second some proper is 
   where
     turned_low : (a b x : ℤ) → a ≡ b → b ≤ℤ x → a ≤ℤ x
     turned_low a b x e le = omega (arith, ints)
+
     turned_high : (a b x : ℤ) → a ≡ b → x ≤ℤ b → x ≤ℤ a
     turned_high a b x e le = omega (arith, ints)
+
     more_high : (a j : ℕ) (b x : ℤ) → pos a ≡ b → (x +ℤ (pos 2 *ℤ pos j)) ≤ℤ b → (x +ℤ pos (2 * j)) ≤ℤ pos a
     more_high a j b x e le = omega (arith, ints)
+
     more_low : (a j : ℕ) (b x : ℤ) → pos a ≡ b → (b +ℤ (pos 2 *ℤ pos j)) ≤ℤ x → pos (a + 2 * j) ≤ℤ x
     more_low a j b x e le = omega (arith, ints)
 
@@ -183,11 +186,10 @@ next_length : (p : Values) (row : NodeRow) (values : List ℤ) (term : Term) (ne
     → (length_of p next ≡ (p.micros +ℤ damped p.damping (row.rate +ℤ round.mid)) *ℤ next.length)
     × Moved p.micros (pos (shortest_micro p)) (pos (longest_micro p)) (pos (cycle_change p)) row.length next.length (damped p.damping (row.rate +ℤ round.mid))
 next_length p row values term next sane first second round same micro steady =
-    let b = damped p.damping (row.rate +ℤ round.mid) in
-    (
+    let b = damped p.damping (row.rate +ℤ round.mid) in (
       ap (λ rate. (p.micros +ℤ rate) *ℤ next.length) (same ∙ round.is),
       moved p.micros p.damping p.rate_limit p.change_bound (pos (shortest_micro p)) (pos (longest_micro p)) (pos (y1_of p)) (pos (cycle_change p)) row.length next.length b
-      (figures_of p sane first second) round.range micro.least micro.most steady,
+          (figures_of p sane first second) round.range micro.least micro.most steady,
     )
 
 proper_next : (p : Values) (row : NodeRow) (values : List ℤ) (term : Term) (next : NodeRow)
@@ -204,6 +206,7 @@ proper_next p row values term next sane first second round same micro steady =
   where
     low : (a b x y : ℤ) → a ≡ b → y ≡ x → b ≤ℤ x → a ≤ℤ y
     low a b x y e g le = omega (arith, ints)
+
     high : (a b x y : ℤ) → a ≡ b → y ≡ x → x ≤ℤ b → y ≤ℤ a
     high a b x y e g le = omega (arith, ints)
 
@@ -230,8 +233,7 @@ steady p row even odd sane one other =
 pub lengths_stay_in_range_lem : LengthsStayInRange
 lengths_stay_in_range_lem p senders row values term even odd sane first second some proper is next =
     let round = round_of p senders row values term sane first second some proper is in
-    let near = steady p row even odd sane next.even_steady next.odd_steady in
-    (
+    let near = steady p row even odd sane next.even_steady next.odd_steady in (
       proper_next p row values term even sane first second round next.even_rate next.even_micro near.once,
       proper_next p row values term odd sane first second round next.odd_rate next.odd_micro near.twice,
     )
@@ -264,6 +266,7 @@ near_next p row values term next sane first second round at same micro steady =
   where
     moved_left : (bound x y z : ℤ) → x ≡ y → IsWithin bound (x -ℤ z) → IsWithin bound (y -ℤ z)
     moved_left bound x y z e within = record { low = omega (arith, ints, within.low); high = omega (arith, ints, within.high) }
+
     turned : (bound x y z : ℤ) → y ≡ x → IsWithin bound (x -ℤ z) → IsWithin bound (y -ℤ z)
     turned bound x y z e within = record { low = omega (arith, ints, within.low); high = omega (arith, ints, within.high) }
 
@@ -306,8 +309,7 @@ lengths_draw_together_lem p senders spread row other_row values other_values ter
     let round = round_of p senders row values term sane first second some proper is in
     let other_round = round_of p senders other_row other_values other_term sane first second some proper also in
     let s = steady p row even odd sane next.even_steady next.odd_steady in
-    let other_s = steady p other_row other_even other_odd sane other_next.even_steady other_next.odd_steady in
-    (
+    let other_s = steady p other_row other_even other_odd sane other_next.even_steady other_next.odd_steady in (
       draw_together p senders spread row other_row values other_values term other_term even other_even sane first second within is also keep round other_round
           (near_next p row values term even sane first second round is.micro next.even_rate next.even_micro s.once)
           (near_next p other_row other_values other_term other_even sane first second other_round also.micro other_next.even_rate other_next.even_micro other_s.once),
@@ -321,8 +323,7 @@ half_within bound x within = record { low = omega (arith, ints, within.low); hig
 
 pub lengths_stay_together : LengthsStayTogether
 lengths_stay_together p senders row other_row values other_values term other_term even odd other_even other_odd sane first second proper within is also keep next other_next =
-    let both = lengths_draw_together_lem p senders (pos (lambda_of p)) row other_row values other_values term other_term even odd other_even other_odd sane first second proper within is also keep next other_next in
-    (
+    let both = lengths_draw_together_lem p senders (pos (lambda_of p)) row other_row values other_values term other_term even odd other_even other_odd sane first second proper within is also keep next other_next in (
       half_within (pos (lambda_of p)) (length_of p even -ℤ length_of p other_even) both.0,
       half_within (pos (lambda_of p)) (length_of p odd -ℤ length_of p other_odd) both.1,
     )
@@ -347,8 +348,10 @@ near_sender p senders spread row values term next length sane first second near 
   where
     from_low : (a b s : ℤ) → IsWithin s (a -ℤ b) → (a -ℤ s) ≤ℤ b
     from_low a b s h = omega (arith, ints, h.high)
+
     from_high : (a b s : ℤ) → IsWithin s (a -ℤ b) → b ≤ℤ (a +ℤ s)
     from_high a b s h = omega (arith, ints, h.low)
+
     sum : (spread c : ℤ) (y1 cqp j : ℕ) (u v w x : ℤ) → pos cqp ≡ c → ((x -ℤ spread) -ℤ pos y1) ≤ℤ u → u ≤ℤ ((x +ℤ spread) +ℤ pos y1)
         → IsWithin c (u -ℤ v) → IsWithin (pos 2 *ℤ pos j) (w -ℤ v) → IsWithin (spread +ℤ pos (y1 + cqp + 2 * j)) (w -ℤ x)
     sum spread c y1 cqp j u v w x is a b d e = record {

@@ -9,20 +9,18 @@ use Rattle.fr_base.specs.declared.channel.Channel.TheVariants as channel
 use Rattle.fr_base.specs.declared.node_row.NodeRow.{NodeRow}
 use Rattle.fr_params.specs.Values.{Values, amount}
 use Rattle.fr_params.specs.Sane.{IsSane}
-use Rattle.fr_params.specs.Questions.{compensation_of}
 use Rattle.fr_params.specs.declared.names.ParamName.TheVariants as name
 use Rattle.fr_midpoint.specs.Within.{IsWithin}
-use Rattle.fr_midpoint.proofs.Products.{lez_of_mulz-lez, mulz-lez, mulz-lez_left, mulz-subz, mulz_comm, mulz_from, subz-mulz, mulz_assoc}
+use Rattle.fr_midpoint.proofs.Products.{lez_of_mulz-lez, mulz-lez, mulz-lez_left, mulz_comm, subz-mulz, mulz_assoc}
 use Rattle.fr_time.specs.Position.{grid_for}
 use Rattle.fr_time.specs.Instant.{instant_of}
 use Rattle.fr_time.specs.Slots.{action_point_of, slot_end_of, slot_start_of}
 use Rattle.fr_time.proofs.Placing.{action_point_lt, is_grid_lem, slot_end_lt, slot_length}
-use Rattle.fr_bound.specs.Bounds.{longest_micro, nominal, precision_of, shortest_micro, widest}
-use Rattle.fr_bound.specs.Checks.{behind_action, clear_micros, holds_of, least_cycle, left_of}
+use Rattle.fr_bound.specs.Bounds.{nominal, precision_of, shortest_micro, widest}
+use Rattle.fr_bound.specs.Checks.{behind_action, clear_micros, least_cycle, left_of}
 use Rattle.fr_bound.proofs.Uncut.{uncut_lem}
 use Rattle.fr_precision.specs.Rows.{length_of}
-use Rattle.fr_precision.specs.Instants.{gap_of}
-use Rattle.fr_precision.specs.Reception.{ArrivesInSlot, IsDelay, LeavesRoom, RoomChecksSuffice}
+use Rattle.fr_precision.specs.Reception.{ArrivesInSlot, IsDelay, RoomChecksSuffice}
 use Rattle.fr_precision.proofs.Figures.{nat_le-true, natural, times_natural}
 use Rattle.fr_precision.proofs.InstantLaws.{before_correction}
 use Rattle.fr_precision.proofs.Lines.{on_line, OnLine}
@@ -44,6 +42,7 @@ room_checks_suffice p sane fourth fifth =
   where
     at_most : (a b : ℕ) (x : ℤ) → pos a ≡ x → a ≤ b → x ≤ℤ pos b
     at_most a b x e le = omega (arith, ints)
+
     less : (a b : ℕ) (x : ℤ) → pos a ≡ x → a < b → x <ℤ pos b
     less a b x e le = omega (arith, ints)
 
@@ -112,16 +111,22 @@ room p row is_odd from to count sane rate least is within some =
   where
     long : (q t : ℤ) → pos 1 ≤ℤ q → q ≤ℤ t → pos 0 <ℤ t
     long q t a b = omega (arith, ints)
+
     sooner : (from to count : ℕ) (o : ℤ) → to ≡ from + count → pos to ≤ℤ o → pos from ≤ℤ o
     sooner from to count o e le = omega (arith, ints)
+
     counted : (from to count : ℕ) → to ≡ from + count → pos to -ℤ pos from ≡ pos count
     counted from to count e = omega (arith, ints)
+
     no_less : (n : ℕ) → pos 0 ≤ℤ pos n
     no_less n = omega (arith, ints)
+
     reaches : (n limit r : ℤ) → n ≡ pos (nat_abs n) → limit ≡ pos (nat_abs limit) → nat_abs limit ≤ nat_abs n → IsWithin limit r → pos (nat_abs n - nat_abs limit) ≤ℤ (n +ℤ r)
     reaches n limit r a b le within = omega (arith, ints, within.low)
+
     cleared : (g : ℤ) (count least : ℕ) → g ≡ pos (nat_abs g) → nat_abs g ≤ count * least → pos (count * least - nat_abs g) ≡ (pos count *ℤ pos least) -ℤ g
     cleared g count least e le = omega (arith, ints)
+
     joined : (a b c : ℤ) → a ≤ℤ b → b ≤ℤ c → a ≤ℤ c
     joined a b c h k = omega (arith, ints)
 
@@ -185,8 +190,10 @@ arrives_in_slot p reach delay slot ch is_odd row sender sane leaves some static 
   where
     parts : (start length action hi : ℕ) → start + length ≡ hi → action ≤ length → hi ≡ (start + action) + (length - action)
     parts start length action hi e le = omega arith
+
     sooner : (a hi : ℕ) (o : ℤ) → a < hi → pos hi ≤ℤ o → pos a ≤ℤ o
     sooner a hi o less le = omega (arith, ints)
+
     within_slot : (x_lo x_a x_hi y reach delay : ℤ) (e w : ℕ) → (reach +ℤ pos e) ≤ℤ (x_a -ℤ x_lo) → (reach +ℤ pos w +ℤ pos e) <ℤ (x_hi -ℤ x_a)
         → neg_ℤ reach ≤ℤ (y -ℤ x_a) → (y -ℤ x_a) ≤ℤ reach → neg_ℤ (pos e) ≤ℤ delay → delay ≤ℤ (pos w +ℤ pos e)
         → (x_lo ≤ℤ (y +ℤ delay)) × ((y +ℤ delay) <ℤ x_hi)

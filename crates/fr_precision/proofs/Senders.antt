@@ -1,5 +1,5 @@
 -- Lists of senders, and the lists of their positions.
-use Rattle.std.proofs.Common.{◌≡◌, ℕ, ◌+◌, ◌≤◌, ℤ, List, [], ◌∷◌, ◌++◌, length, map, All, refl, suc, ap, sym, ◌∙◌, arith}
+use Rattle.std.proofs.Common.{◌≡◌, ◌≤◌, ℤ, List, [], ◌∷◌, ◌++◌, length, map, All, refl, suc, ap, arith}
 use Rattle.std.specs.Prelude.{◌-ℤ◌, ◌≤ℤ◌}
 use Rattle.std.specs.List.{AllZip}
 use Rattle.std.proofs.lemmas.List.{length-append}

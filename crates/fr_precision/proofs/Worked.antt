@@ -1,7 +1,7 @@
 -- The premises of the laws are met: two nodes of a worked cluster, each with the values that it has of the other. Node 2
 -- starts 2,500,000 ticks behind node 1; node 1 measures 2 microticks and node 2 measures -3, and their offset terms are
 -- 1 and -1.
-use Rattle.std.proofs.Common.{◌≡◌, ℕ, ◌≤◌, true, false, ℤ, pos, negsuc, List, [], ◌∷◌, Some, None, All, refl, inl, inr, lit≤, lit<, rules, arith}
+use Rattle.std.proofs.Common.{◌≡◌, ℕ, ◌≤◌, true, false, ℤ, pos, negsuc, List, [], ◌∷◌, Some, All, refl, inr, lit≤, lit<, rules, arith}
 use Rattle.std.specs.Prelude.{◌≢◌, ◌<◌, ◌+◌, ◌*◌, ◌+ℤ◌, ◌-ℤ◌, ◌*ℤ◌, ◌≤ℤ◌, ◌<ℤ◌, AllPairs, Contains}
 use Rattle.std.proofs.lemmas.List.Elements.{All-cons, All-nil}
 use Rattle.std.proofs.lemmas.List.Kept.{AllPairs-cons}
@@ -9,10 +9,9 @@ use Rattle.std.proofs.lemmas.List.Sorted.{IsPermutation-refl}
 use Rattle.fr_base.specs.declared.node_row.NodeRow.{NodeRow}
 use Rattle.fr_base.specs.declared.Outcome.TheVariants.{Within}
 use Rattle.fr_base.specs.declared.state.State.TheVariants.{Active}
-use Rattle.fr_params.specs.Values.{Values, amount}
-use Rattle.fr_params.specs.Sane.{AreSaneLists, IsSane, IsSaneNode, IsSaneSlot}
-use Rattle.fr_params.specs.Rows.{InRange, IsProperNode}
-use Rattle.fr_params.specs.Constraints.{AllHold}
+use Rattle.fr_params.specs.Values.{Values}
+use Rattle.fr_params.specs.Sane.{IsSane, IsSaneNode, IsSaneSlot}
+use Rattle.fr_params.specs.Rows.{InRange}
 use Rattle.fr_params.specs.Values.{figure}
 use Rattle.fr_params.specs.declared.names.ParamName.{ParamName}
 use Rattle.fr_params.specs.declared.names.ParamName.TheVariants as name

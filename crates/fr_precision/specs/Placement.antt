@@ -1,5 +1,5 @@
 -- What deviations say: each rate value places the length of a sender's cycle within y1.
-use Rattle.std.specs.Prelude.{◌≡◌, true, false, ℤ, pos, ◌-ℤ◌, ◌≤ℤ◌, ◌+ℤ◌}
+use Rattle.std.specs.Prelude.{true, false, ℤ, pos, ◌-ℤ◌, ◌≤ℤ◌}
 use Rattle.fr_base.specs.declared.node_row.NodeRow.{NodeRow}
 use Rattle.fr_params.specs.Values.{Values}
 use Rattle.fr_params.specs.Sane.{IsSane}
