@@ -4,3 +4,4 @@ pub mod Rates
 pub mod OneArbitrary
 pub mod Quiet
 pub mod Lost
+pub mod TwoArbitrary

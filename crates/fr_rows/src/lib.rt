@@ -9,6 +9,7 @@ ghost use Rattle.fr_history.specs.Sync.{first_sync_of};
 ghost use Rattle.fr_rows.specs.Offset.{offset_history, offset_run};
 ghost use Rattle.fr_rows.specs.Rates.{rates_history, rates_run};
 ghost use Rattle.fr_rows.specs.OneArbitrary.{one_arbitrary_history, one_arbitrary_run};
+ghost use Rattle.fr_rows.specs.TwoArbitrary.{two_arbitrary_history, two_arbitrary_run};
 ghost use Rattle.fr_rows.specs.Quiet.{quiet_history, quiet_run};
 ghost use Rattle.fr_rows.specs.Lost.{flipped_history, flipped_run, lost_history, lost_on_one_history, lost_on_one_run, lost_run};
 
@@ -36,6 +37,14 @@ pub fn a_run_with_one_arbitrary_node()
     ensures skew { greatest_skew_of one_arbitrary_run.params one_arbitrary_history ≡
         Some (record { skew = pos 0; cycle = 0; macrotick = 0 }) }
     ensures sync { first_sync_of one_arbitrary_run.params one_arbitrary_history ≡ Some 0 }
+{}
+
+/// A law: two arbitrary nodes move none of six correct ones.
+pub fn a_run_with_two_arbitrary_nodes()
+    ensures history { history_of two_arbitrary_run 2 ≡ two_arbitrary_history }
+    ensures skew { greatest_skew_of two_arbitrary_run.params two_arbitrary_history ≡
+        Some (record { skew = pos 0; cycle = 0; macrotick = 0 }) }
+    ensures sync { first_sync_of two_arbitrary_run.params two_arbitrary_history ≡ Some 0 }
 {}
 
 /// A law: an arbitrary node that says nothing, beside two correct ones.
