@@ -1,0 +1,5 @@
+pub mod Sums
+pub mod After
+pub mod Words
+pub mod Text
+pub mod Ended
