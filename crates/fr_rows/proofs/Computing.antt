@@ -1,5 +1,7 @@
 -- What a proof opens to compute a run.
 use Rattle.std.specs.Prelude.{⊤}
+use Rattle.std.specs.Fmt.{digits}
+use Rattle.fr_base.specs.Line.{hexadecimal}
 use Rattle.fr_bound.specs.Sync.{is_in_sync}
 use Rattle.fr_crc.specs.Bits.{bits}
 use Rattle.fr_crc.specs.Computed.{frame_crc_of, header_crc_of}
@@ -15,6 +17,9 @@ use Rattle.fr_midpoint.specs.Midpoint.{midpoint_by_ranks}
 use Rattle.fr_reception.specs.Answers.{answer_of}
 use Rattle.fr_reception.specs.Offers.{flipped}
 use Rattle.fr_reception.specs.Regular.{carried_crc, regular_frame}
+use Rattle.fr_report.specs.After.{last_offset_of}
+use Rattle.fr_report.specs.Sums.{cuts_of, total_of, xor_of}
+use Rattle.fr_report.specs.Text.{report_with}
 
 -- the bytes of frames, and what is made of them
 unfoldable pub on_frames : ⊤
@@ -30,3 +35,13 @@ on_records = tt
 unfoldable pub on_histories : ⊤
 unfolding greatest_skew_of greatest_within spread_at first_sync_of is_in_sync record_at
 on_histories = tt
+
+-- the sums of a history
+unfoldable pub on_sums : ⊤
+unfolding total_of xor_of cuts_of
+on_sums = tt
+
+-- the report of a history
+unfoldable pub on_reports : ⊤
+unfolding on_histories on_sums outcomes_in values_of midpoint_by_ranks last_offset_of digits hexadecimal report_with
+on_reports = tt

@@ -1,5 +1,5 @@
 -- A run of two nodes whose clocks start two and a half microticks apart.
-use Rattle.std.specs.Prelude.{ℕ, ◌==◌, pos, negsuc, false, List, [], ◌∷◌, if◌then◌else◌}
+use Rattle.std.specs.Prelude.{ℕ, ◌==◌, pos, negsuc, false, List, [], ◌∷◌, ◌++◌, codes, if◌then◌else◌}
 use Rattle.fr_base.specs.Event.Event.{Regular}
 use Rattle.fr_base.specs.declared.channel.Channel.TheVariants.{A}
 use Rattle.fr_history.specs.Setting.{Setting}
@@ -63,3 +63,18 @@ offset_cycle_3 = record {
 -- the whole run, the latest cycle first
 abbrev pub offset_history : History
 offset_history = offset_cycle_3 ∷ offset_cycle_2 ∷ offset_cycle_1 ∷ offset_cycle_0 ∷ []
+
+-- what is printed of it
+abbrev pub offset_report : List ℕ
+offset_report =
+    codes "nodes 2 sync 2 arbitrary 0 doubles 2\n"
+    ++ codes "precision 252043600\n"
+    ++ codes "covered yes\n"
+    ++ codes "in sync 0\n"
+    ++ codes "greatest skew 2500000 cycle 0 macrotick 0\n"
+    ++ codes "sent A 8 xor 000000\n"
+    ++ codes "sent B 0 xor 000000\n"
+    ++ codes "heard stored 8 outside 0 damaged 0 id 0 cycle 0 length 0 plain 0\n"
+    ++ codes "cut 0\n"
+    ++ codes "node 1 active next 800001000000 rate 0 offset 0\n"
+    ++ codes "node 2 active next 800001500000 rate 0 offset 0\n"

@@ -1,5 +1,5 @@
 -- A run of two nodes whose oscillators lie 200 ticks in a million apart.
-use Rattle.std.specs.Prelude.{ℕ, ◌==◌, pos, negsuc, false, List, [], ◌∷◌, if◌then◌else◌}
+use Rattle.std.specs.Prelude.{ℕ, ◌==◌, pos, negsuc, false, List, [], ◌∷◌, ◌++◌, codes, if◌then◌else◌}
 use Rattle.fr_base.specs.Event.Event.{Regular}
 use Rattle.fr_base.specs.declared.channel.Channel.TheVariants.{A}
 use Rattle.fr_history.specs.Setting.{Setting}
@@ -78,3 +78,18 @@ rates_cycle_3 = record {
 -- the whole run, the latest cycle first
 abbrev pub rates_history : History
 rates_history = rates_cycle_3 ∷ rates_cycle_2 ∷ rates_cycle_1 ∷ rates_cycle_0 ∷ []
+
+-- what is printed of it
+abbrev pub rates_report : List ℕ
+rates_report =
+    codes "nodes 2 sync 2 arbitrary 0 doubles 2\n"
+    ++ codes "precision 252043600\n"
+    ++ codes "covered yes\n"
+    ++ codes "in sync 1\n"
+    ++ codes "greatest skew 79200000 cycle 1 macrotick 4900\n"
+    ++ codes "sent A 8 xor 000000\n"
+    ++ codes "sent B 0 xor 000000\n"
+    ++ codes "heard stored 8 outside 0 damaged 0 id 0 cycle 0 length 0 plain 0\n"
+    ++ codes "cut 0\n"
+    ++ codes "node 1 active next 800003992400 rate -16 offset -24\n"
+    ++ codes "node 2 active next 799994992500 rate 16 offset 23\n"
