@@ -1,0 +1,6 @@
+pub mod RowFacts
+pub mod Tables
+pub mod Making
+pub mod Lines
+pub mod Limits
+pub mod Outcomes

@@ -1,0 +1,11 @@
+pub mod Keys
+pub mod Spans
+pub mod Held
+pub mod Rows
+pub mod Reasons
+pub mod View
+pub mod Inside
+pub mod Sane
+pub mod Questions
+pub mod Draft
+pub mod Files

@@ -1,0 +1,224 @@
+ghost use Rattle.std.specs.Prelude.{◌≡◌, ◌≤◌, ◌<◌, ◌≤ℤ◌, ℕ, pos, negsuc, List, Some, IsSome, IfSome};
+ghost use Rattle.std.specs.BTreeMap.{get};
+ghost use Rattle.std.specs.FinMap as map;
+ghost use Rattle.fr_records.specs.Records.{Record};
+ghost use Rattle.fr_params.specs.Values.{Values};
+ghost use Rattle.fr_params.specs.Sane.{IsSane};
+ghost use Rattle.fr_drift.specs.Keys.{delay_cmp, delay_key};
+ghost use Rattle.fr_drift.specs.View.{compensation_on, delay_rows, length_rows};
+ghost use Rattle.fr_drift.specs.declared.keys.DelayKey.{DelayKey as Key};
+ghost use Rattle.fr_drift.specs.Held.{held};
+ghost use Rattle.fr_drift.specs.Rows.{IsProperDelay, IsProperLength, IsProperStart};
+ghost use Rattle.fr_drift.specs.Questions.{delay_of, doubles_of, length_of, rate_of, start_of};
+ghost use Rattle.fr_drift.specs.Draft.{AreProper, IsDraftOf};
+ghost use Rattle.fr_drift.specs.Files.{Fits, IsRateWithin, StandsFor};
+
+use crate::draft::Draft;
+use crate::keys::{DelayKey, LengthKey};
+use crate::rows::Start;
+use crate::spans::{held_delay, held_length, next_delay_row, next_length_row};
+use fr_base::{Channel, NodeId};
+use fr_params::Params;
+use std::collections::BTreeMap;
+use std::marker::Model;
+
+/// The nominal length of a microtick, in ticks.
+const NOMINAL: i64 = 1_000_000;
+
+/// What a drift file says of a cluster: how many double cycles a run has, where each node's clock starts,
+/// how long its microticks are in each cycle, and how long frames travel.
+///
+/// It keeps the delay compensation of each channel of the parameters against which it was read.
+#[derive(Drop)]
+pub struct Drift {
+    doubles: u32,
+    compensation_a: i64,
+    compensation_b: i64,
+    starts: BTreeMap<NodeId, Start>,
+    lengths: BTreeMap<LengthKey, i64>,
+    delays_a: BTreeMap<DelayKey, i64>,
+    delays_b: BTreeMap<DelayKey, i64>,
+}
+
+impl Model for Drift {
+    ghost use Rattle.fr_drift.specs.View.{DriftView, coded_view};
+
+    ghost Value = { DriftView };
+
+    ghost coded = { coded_view };
+
+    ghost use Rattle.fr_drift.specs.Inside.{view_of};
+    ghost use Rattle.fr_drift.specs.Sane.{IsDrift};
+
+    ghost view = { view_of };
+
+    ghost invariant = { λ a. IsDrift (view_of a) };
+}
+
+/// What the tables stand for against these parameters.
+pub(crate) fn drift_of(params: &Params, draft: Draft, doubles: u32) -> Drift
+    requires proper { AreProper draft }
+    requires told { draft.doubles ≡ Some doubles }
+    ensures { (records : List Record) → IsDraftOf draft records → StandsFor params.now result records }
+{
+    Drift {
+        doubles,
+        compensation_a: params.compensation(Channel::A),
+        compensation_b: params.compensation(Channel::B),
+        starts: draft.starts,
+        lengths: draft.lengths,
+        delays_a: draft.delays_a,
+        delays_b: draft.delays_b,
+    }
+}
+
+impl Drift {
+    /// How many double cycles a run has.
+    #[tactic(auto, unfolding(crate::specs::Questions::doubles_of))]
+    pub fn doubles(&self) -> u32
+        ensures value { result ≡ doubles_of self.now }
+        ensures from { 1 ≤ result }
+        ensures to { result ≤ 10_000 }
+    {
+        self.doubles
+    }
+
+    /// The tick at which a node's first cycle starts: that of its row, 0 where it has none.
+    #[tactic(auto, unfolding(crate::specs::Questions::start_of))]
+    pub fn start(&self, node: NodeId) -> i64
+        ensures value { result ≡ start_of self.now node }
+        ensures from { pos 0 ≤ℤ result }
+        ensures to { result ≤ℤ pos 1_000_000_000_000 }
+    {
+        match self.start_row(node) {
+            Some(start) => start.ticks,
+            None => 0,
+        }
+    }
+
+    /// A node's first rate term in microticks: that of its row, 0 where it has none. It lies within the
+    /// limit of rate terms of the parameters that the drift fits.
+    #[tactic(auto, unfolding(crate::specs::Questions::rate_of))]
+    pub fn rate(&self, node: NodeId) -> i32
+        ensures value { result ≡ rate_of self.now node }
+        ensures from { negsuc 1999 ≤ℤ result }
+        ensures to { result ≤ℤ pos 2000 }
+        ensures limited { (p : Values) → IsSane p → Fits p self.now → IsRateWithin p result }
+    {
+        match self.start_row(node) {
+            Some(start) => start.rate,
+            None => 0,
+        }
+    }
+
+    /// How many ticks a microtick of a node lasts in a cycle: as its last row at that cycle or before it
+    /// says, a million where there is none. It takes time as the logarithm of the number of rows.
+    #[tactic(auto, unfolding(crate::specs::Questions::length_of))]
+    pub fn length(&self, node: NodeId, cycle: u32) -> i64
+        ensures value { result ≡ length_of self.now node cycle }
+        ensures from { pos 500_000 ≤ℤ result }
+        ensures to { result ≤ℤ pos 1_500_000 }
+    {
+        match self.length_row(node, cycle) {
+            Some(ticks) => ticks,
+            None => NOMINAL,
+        }
+    }
+
+    /// From a cycle below `end`, the next cycle up to which the node's length does not change: that of its
+    /// next row, `end` where there is none before it.
+    pub fn next_length(&self, node: NodeId, cycle: u32, end: u32) -> u32
+        requires { cycle < end }
+        ensures behind { cycle < result }
+        ensures within { result ≤ end }
+        ensures stays { (c : ℕ) → cycle ≤ c → c < result → length_of self.now node c ≡ length_of self.now node cycle }
+        ensures stands { result < end → IsSome (length_rows self.now node result) }
+    {
+        next_length_row(&self.lengths, node, cycle, end)
+    }
+
+    /// How many ticks a frame travels from one node to another on a channel in a cycle: as the last row of
+    /// that link at that cycle or before it says, the channel's compensation where there is none. It takes
+    /// time as the logarithm of the number of rows.
+    #[tactic(auto, unfolding(crate::specs::Questions::delay_of))]
+    pub fn delay(&self, sender: NodeId, receiver: NodeId, channel: Channel, cycle: u32) -> i64
+        ensures value { result ≡ delay_of self.now sender receiver channel cycle }
+        ensures from { pos 0 ≤ℤ result }
+        ensures to { result ≤ℤ pos 1_000_000_000 }
+    {
+        match self.delay_row(sender, receiver, channel, cycle) {
+            Some(ticks) => ticks,
+            None => self.compensation(channel) * NOMINAL,
+        }
+    }
+
+    /// From a cycle below `end`, the next cycle up to which the link's delay does not change: that of its
+    /// next row, `end` where there is none before it.
+    pub fn next_delay(
+        &self,
+        sender: NodeId,
+        receiver: NodeId,
+        channel: Channel,
+        cycle: u32,
+        end: u32,
+    ) -> u32
+        requires { cycle < end }
+        ensures behind { cycle < result }
+        ensures within { result ≤ end }
+        ensures stays { (c : ℕ) → cycle ≤ c → c < result → delay_of self.now sender receiver channel c ≡ delay_of self.now sender receiver channel cycle }
+        ensures stands { result < end → IsSome (delay_rows self.now sender receiver channel result) }
+    {
+        next_delay_row(self.delays(channel), sender, receiver, cycle, end)
+    }
+
+    fn start_row(&self, node: NodeId) -> Option<Start>
+        ensures told { result ≡ map.get self.now.starts node }
+        ensures proper { IfSome result IsProperStart }
+    {
+        match self.starts.get(&node) {
+            Some(start) => Some(*start),
+            None => None,
+        }
+    }
+
+    fn length_row(&self, node: NodeId, cycle: u32) -> Option<i64>
+        ensures told { result ≡ held (length_rows self.now node) cycle }
+        ensures proper { IfSome result IsProperLength }
+    {
+        held_length(&self.lengths, node, cycle)
+    }
+
+    fn delay_row(
+        &self,
+        sender: NodeId,
+        receiver: NodeId,
+        channel: Channel,
+        cycle: u32,
+    ) -> Option<i64>
+        ensures told { result ≡ held (delay_rows self.now sender receiver channel) cycle }
+        ensures proper { IfSome result IsProperDelay }
+    {
+        held_delay(self.delays(channel), sender, receiver, cycle)
+    }
+
+    fn compensation(&self, channel: Channel) -> i64
+        ensures value { result ≡ compensation_on self.now channel }
+        ensures from { pos 0 ≤ℤ result }
+        ensures to { result ≤ℤ pos 200 }
+    {
+        match channel {
+            Channel::A => self.compensation_a,
+            Channel::B => self.compensation_b,
+        }
+    }
+
+    fn delays(&self, channel: Channel) -> &BTreeMap<DelayKey, i64>
+        ensures same { (sender receiver from : ℕ) → get delay_cmp result.now (delay_key sender receiver from) ≡ delay_rows self.now sender receiver channel from }
+        ensures proper { (key : Key) → IfSome (get delay_cmp result.now key) IsProperDelay }
+    {
+        match channel {
+            Channel::A => &self.delays_a,
+            Channel::B => &self.delays_b,
+        }
+    }
+}

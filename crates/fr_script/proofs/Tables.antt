@@ -1,0 +1,227 @@
+-- Tables under construction, against the list of the records so far.
+use Rattle.std.proofs.Common.{◌≡◌, ℕ, ◌<◌, ◌≤◌, Bool, true, false, List, [], ◌∷◌, ◌++◌, length, Option, Some, None, Result, Ok, ap, sym, ◌∙◌, refl, arith, inl, inr, ◌⊎◌, replicate, eq-eqb}
+use Rattle.std.specs.Prelude.{if◌then◌else◌, ◌==◌, ◌||◌, ◌&&◌, slice_index_or, slice_set, IfSome, OnOk, Err}
+use Rattle.std.specs.BTreeMap.{is_at}
+use Rattle.std.specs.List.Sorted.{IsStrictlySortedBy}
+use Rattle.std.proofs.lemmas.Bool.{cases_eq}
+use Rattle.std.proofs.lemmas.Bool.Decides.{nat_tests}
+use Rattle.std.proofs.lemmas.List.{get_or-replicate, length-replicate, get_or-set_same, get_or-set_other, length-set}
+use Rattle.std.proofs.lemmas.List.Folds.{list_any-append}
+use Rattle.fr_base.specs.declared.channel.Channel.{Channel}
+use Rattle.fr_base.specs.declared.channel.Channel.TheVariants as channel
+use Rattle.fr_base.specs.declared.reason.Reason.{Reason}
+use Rattle.fr_records.specs.Records.{Record}
+use Rattle.fr_params.specs.Reasons.{or_else, looked_up}
+use Rattle.fr_script.specs.Deeds.{deed_in, passage_cmp, AreAscending}
+use Rattle.fr_script.specs.Rows.{row_of, IsProperDeed}
+use Rattle.fr_script.specs.Reasons.{names, acts, is_same, is_on, deed_said, is_named, has_acted, deed_by}
+use Rattle.fr_script.specs.View.{AreDeeds}
+use Rattle.fr_script.specs.Draft.{IsDraftOf}
+use Rattle.fr_script.specs.declared.deeds.Passage.{Passage}
+use Rattle.fr_script.specs.declared.deeds.Deed.{Deed}
+use Rattle.fr_script.specs.declared.rows.Row.{Row}
+use Rattle.fr_script.specs.declared.rows.Row.TheVariants as row
+use Rattle.fr_script.specs.declared.draft.Draft.{Draft}
+
+or_else-none : {A : Type 0} (o : Option A) → or_else o None ≡ o
+or_else-none None = refl
+or_else-none (Some x) = refl
+
+or_else_assoc : {A : Type 0} (a b c : Option A) → or_else a (or_else b c) ≡ or_else (or_else a b) c
+or_else_assoc None b c = refl
+or_else_assoc (Some x) b c = refl
+
+-- one record more to look in
+looked_up-more : {A : Type 0} (what : Record → Option A) (records : List Record) (r : Record) → looked_up what (records ++ r ∷ []) ≡ or_else (looked_up what records) (what r)
+unfolding looked_up
+looked_up-more what [] r = or_else-none (what r)
+looked_up-more what (x ∷ xs) r =
+    ap (λ (o : Option _). or_else (what x) o) (looked_up-more what xs r) ∙ or_else_assoc (what x) (looked_up what xs) (what r)
+
+or-false : (b : Bool) → (b || false) ≡ b
+or-false true = refl
+or-false false = refl
+
+or-true : (b : Bool) → (b || true) ≡ true
+or-true true = refl
+or-true false = refl
+
+is_named-more : (node : ℕ) (done : List Record) (r : Record) (x : Result Row Reason) → row_of r ≡ x
+    → is_named node (done ++ r ∷ []) ≡ (is_named node done || names node x)
+is_named-more node done r x e =
+    list_any-append (λ q. names node (row_of q)) done (r ∷ [])
+    ∙ ap (λ (b : Bool). is_named node done || b) (or-false (names node (row_of r)))
+    ∙ ap (λ (y : Result Row Reason). is_named node done || names node y) e
+
+has_acted-more : (done : List Record) (r : Record) (x : Result Row Reason) → row_of r ≡ x
+    → has_acted (done ++ r ∷ []) ≡ (has_acted done || acts x)
+has_acted-more done r x e =
+    list_any-append (λ q. acts (row_of q)) done (r ∷ [])
+    ∙ ap (λ (b : Bool). has_acted done || b) (or-false (acts (row_of r)))
+    ∙ ap (λ (y : Result Row Reason). has_acted done || acts y) e
+
+deed_by-more : (ch : Channel) (q : Passage) (done : List Record) (r : Record) (x : Result Row Reason) → row_of r ≡ x
+    → deed_by ch q (done ++ r ∷ []) ≡ or_else (deed_by ch q done) (deed_said ch q x)
+deed_by-more ch q done r x e =
+    looked_up-more (λ s. deed_said ch q (row_of s)) done r ∙ ap (λ (y : Result Row Reason). or_else (deed_by ch q done) (deed_said ch q y)) e
+
+deeds-nil : AreDeeds []
+unfolding AreAscending IsStrictlySortedBy deed_in
+deeds-nil = record { ascending = tt; proper = λ q. tt }
+
+deed_by-nil : (ch : Channel) (q : Passage) → None ≡ deed_by ch q []
+unfolding looked_up
+deed_by-nil ch q = refl
+
+deed_in-nil : (q : Passage) → deed_in [] q ≡ None
+unfolding deed_in
+deed_in-nil q = refl
+
+nothing-named : (k : ℕ) → k ≤ 64 → slice_index_or (replicate 65 false) k false ≡ false
+nothing-named k h = get_or-replicate 65 k false false (omega arith)
+
+-- tables of nothing
+pub draft-nil : (d : Draft) → d.arbitrary ≡ replicate 65 false → d.on_a ≡ [] → d.on_b ≡ [] → d.acted ≡ false → IsDraftOf d []
+draft-nil d nodes a b acted = record {
+  long = rw nodes (length-replicate 65 false);
+  nodes = λ k h. rw nodes (nothing-named k h);
+  acted = acted;
+  said_a = λ q. rw a (deed_in-nil q ∙ deed_by-nil channel.A q);
+  said_b = λ q. rw b (deed_in-nil q ∙ deed_by-nil channel.B q);
+  deeds_a = rw a deeds-nil;
+  deeds_b = rw b deeds-nil;
+}
+
+-- the mark of a node that is named, and those of the others
+marked : (marks : List Bool) (node k : ℕ) (named : Bool) → length marks ≡ 65 → node ≤ 64 → slice_index_or marks k false ≡ named
+    → slice_index_or (slice_set marks node true) k false ≡ (named || (node == k))
+marked marks node k named long low before = by (cases_eq k node)
+  where
+    room : node < length marks
+    room = omega (arith, long)
+
+    by : (k ≡ node) ⊎ (k ≡ node → ⊥) → slice_index_or (slice_set marks node true) k false ≡ (named || (node == k))
+    by (inl e) =
+        let yes : (node == k) ≡ true = eq-eqb node k (sym e) in
+        rw (e, get_or-set_same marks node true false room) (sym (ap (λ (b : Bool). named || b) (rw e at yes) ∙ or-true named))
+    by (inr ne) =
+        let no : (node == k) ≡ false = grind (arith, nat_tests) in
+        get_or-set_other marks node k true false ne ∙ before ∙ sym (ap (λ (b : Bool). named || b) no ∙ or-false named)
+
+-- a node that was not named is taken
+pub draft-node : (d : Draft) (done : List Record) (r : Record) (node : ℕ) → IsDraftOf d done → node ≤ 64 → row_of r ≡ Ok (row.Arbitrary node)
+    → IsDraftOf (record d { arbitrary = slice_set d.arbitrary node true }) (done ++ r ∷ [])
+draft-node d done r node h low e = record {
+  long = length-set d.arbitrary node true ∙ h.long;
+  nodes = λ k below. marked d.arbitrary node k _ h.long low (h.nodes k below) ∙ sym (is_named-more k done r _ e);
+  acted = h.acted ∙ sym (has_acted-more done r _ e ∙ or-false (has_acted done));
+  said_a = λ q. h.said_a q ∙ sym (deed_by-more channel.A q done r _ e ∙ or_else-none _);
+  said_b = λ q. h.said_b q ∙ sym (deed_by-more channel.B q done r _ e ∙ or_else-none _);
+  deeds_a = h.deeds_a;
+  deeds_b = h.deeds_b;
+}
+
+-- passages compare alike exactly where their parts are the same
+is_same-at : (a b : Passage) → is_same a b ≡ is_at (passage_cmp a) b
+is_same-at a b = grind (arith, nat_tests)
+
+equal-sender : (a b : Passage) → is_same a b ≡ true → a.sender ≡ b.sender
+equal-sender a b h = grind (arith, nat_tests)
+
+equal-receiver : (a b : Passage) → is_same a b ≡ true → a.receiver ≡ b.receiver
+equal-receiver a b h = grind (arith, nat_tests)
+
+equal-cycle : (a b : Passage) → is_same a b ≡ true → a.cycle ≡ b.cycle
+equal-cycle a b h = grind (arith, nat_tests)
+
+pub same-passage : (a b : Passage) → is_at (passage_cmp a) b ≡ true → a ≡ b
+same-passage a b h =
+    let e = is_same-at a b ∙ h in
+    let sender = equal-sender a b e in
+    let receiver = equal-receiver a b e in
+    let cycle = equal-cycle a b e in
+    λ i. record { sender = sender i; receiver = receiver i; cycle = cycle i }
+
+-- a row that says what becomes of the frames of a passage
+abbrev deed_line : Channel → Passage → Deed → Result Row Reason
+deed_line ch passage what = Ok (row.Deed (record { passage = passage; channel = Some ch; deed = Some what }))
+
+-- what a table with one deed more has, and what the records with one row more say
+taken : (ch : Channel) (done : List Record) (r : Record) (old new : List (Passage × Deed)) (passage : Passage) (what : Deed)
+    → row_of r ≡ deed_line ch passage what → is_on ch (Some ch) ≡ true
+    → ((q : Passage) → deed_in old q ≡ deed_by ch q done) → deed_by ch passage done ≡ None
+    → ((q : Passage) → deed_in new q ≡ (if is_at (passage_cmp passage) q then Some what else deed_in old q))
+    → (q : Passage) → deed_in new q ≡ deed_by ch q (done ++ r ∷ [])
+taken ch done r old new passage what e said before empty there q =
+    there q ∙ by (is_at (passage_cmp passage) q) refl ∙ sym (deed_by-more ch q done r _ e)
+  where
+    own : deed_said ch q (deed_line ch passage what) ≡ (if is_at (passage_cmp passage) q then Some what else None)
+    own =
+        ap (λ (b : Bool). if (b && is_same passage q) then Some what else None) said
+        ∙ ap (λ (b : Bool). if b then Some what else None) (is_same-at passage q)
+
+    by : (b : Bool) → is_at (passage_cmp passage) q ≡ b
+        → (if is_at (passage_cmp passage) q then Some what else deed_in old q) ≡ or_else (deed_by ch q done) (deed_said ch q (deed_line ch passage what))
+    by true same =
+        let none : deed_by ch q done ≡ None = ap (λ (x : Passage). deed_by ch x done) (sym (same-passage passage q same)) ∙ empty in
+        let mine : deed_said ch q (deed_line ch passage what) ≡ Some what = own ∙ ap (λ (b : Bool). if b then Some what else None) same in
+        ap (λ (b : Bool). if b then Some what else deed_in old q) same
+        ∙ sym (ap (λ (o : Option Deed). or_else o (deed_said ch q (deed_line ch passage what))) none ∙ mine)
+    by false other =
+        let none : deed_said ch q (deed_line ch passage what) ≡ None = own ∙ ap (λ (b : Bool). if b then Some what else None) other in
+        ap (λ (b : Bool). if b then Some what else deed_in old q) other ∙ before q
+        ∙ sym (ap (λ (o : Option Deed). or_else (deed_by ch q done) o) none ∙ or_else-none (deed_by ch q done))
+
+-- deeds of one channel say nothing of the other
+kept : (ch on : Channel) (done : List Record) (r : Record) (old : List (Passage × Deed)) (passage : Passage) (what : Deed)
+    → row_of r ≡ deed_line on passage what → is_on ch (Some on) ≡ false
+    → ((q : Passage) → deed_in old q ≡ deed_by ch q done) → (q : Passage) → deed_in old q ≡ deed_by ch q (done ++ r ∷ [])
+kept ch on done r old passage what e off before q =
+    let none : deed_said ch q (deed_line on passage what) ≡ None = ap (λ (b : Bool). if (b && is_same passage q) then Some what else None) off in
+    before q ∙ sym (deed_by-more ch q done r _ e ∙ ap (λ (o : Option Deed). or_else (deed_by ch q done) o) none ∙ or_else-none (deed_by ch q done))
+
+-- deeds stay proper with one more
+pub deeds-put : (old new : List (Passage × Deed)) (passage : Passage) (what : Deed) → AreDeeds old → IsProperDeed what
+    → ((q : Passage) → deed_in new q ≡ (if is_at (passage_cmp passage) q then Some what else deed_in old q)) → (AreAscending old → AreAscending new) → AreDeeds new
+deeds-put old new passage what h proper there ordered = record {
+  ascending = ordered h.ascending;
+  proper = λ q. rw (there q) (by q (is_at (passage_cmp passage) q));
+}
+  where
+    by : (q : Passage) (b : Bool) → IfSome (if b then Some what else deed_in old q) IsProperDeed
+    by q true = proper
+    by q false = h.proper q
+
+-- a deed on channel A is taken, and one on channel B
+pub draft-deed_a : (d : Draft) (new : List (Passage × Deed)) (done : List Record) (r : Record) (passage : Passage) (what : Deed) → IsDraftOf d done
+    → row_of r ≡ deed_line channel.A passage what → deed_by channel.A passage done ≡ None → IsProperDeed what
+    → ((q : Passage) → deed_in new q ≡ (if is_at (passage_cmp passage) q then Some what else deed_in d.on_a q)) → (AreAscending d.on_a → AreAscending new)
+    → IsDraftOf (record d { on_a = new; acted = true }) (done ++ r ∷ [])
+draft-deed_a d new done r passage what h e empty proper there ordered = record {
+  long = h.long;
+  nodes = λ k below. h.nodes k below ∙ sym (is_named-more k done r _ e ∙ or-false (is_named k done));
+  acted = sym (has_acted-more done r _ e ∙ or-true (has_acted done));
+  said_a = taken channel.A done r d.on_a new passage what e refl h.said_a empty there;
+  said_b = kept channel.B channel.A done r d.on_b passage what e refl h.said_b;
+  deeds_a = deeds-put d.on_a new passage what h.deeds_a proper there ordered;
+  deeds_b = h.deeds_b;
+}
+
+pub draft-deed_b : (d : Draft) (new : List (Passage × Deed)) (done : List Record) (r : Record) (passage : Passage) (what : Deed) → IsDraftOf d done
+    → row_of r ≡ deed_line channel.B passage what → deed_by channel.B passage done ≡ None → IsProperDeed what
+    → ((q : Passage) → deed_in new q ≡ (if is_at (passage_cmp passage) q then Some what else deed_in d.on_b q)) → (AreAscending d.on_b → AreAscending new)
+    → IsDraftOf (record d { on_b = new; acted = true }) (done ++ r ∷ [])
+draft-deed_b d new done r passage what h e empty proper there ordered = record {
+  long = h.long;
+  nodes = λ k below. h.nodes k below ∙ sym (is_named-more k done r _ e ∙ or-false (is_named k done));
+  acted = sym (has_acted-more done r _ e ∙ or-true (has_acted done));
+  said_a = kept channel.A channel.B done r d.on_a passage what e refl h.said_a;
+  said_b = taken channel.B done r d.on_b new passage what e refl h.said_b empty there;
+  deeds_a = h.deeds_a;
+  deeds_b = deeds-put d.on_b new passage what h.deeds_b proper there ordered;
+}
+
+-- what two facts of a call that went well give
+pub on_ok : {E P Q R : Type 0} (r : Result (Unit {0}) E) → (P → Q → R) → OnOk r P → OnOk r Q → OnOk r R
+on_ok (Ok x) f p q = f p q
+on_ok (Err e) f p q = tt

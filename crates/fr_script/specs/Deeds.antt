@@ -1,0 +1,28 @@
+-- What the rows of a script do to frames, looked up by passage.
+use Rattle.std.specs.Prelude.{ℕ, ◌≡◌, ◌<◌, ◌≤◌, List, Option, None}
+use Rattle.std.specs.declared.cmp.Ordering.{Ordering}
+use Rattle.std.specs.Ordering.{nat_cmp, ordering_then}
+use Rattle.std.specs.BTreeMap.{is_at}
+use Rattle.std.specs.Map.{lookup, keys_of}
+use Rattle.std.specs.List.Sorted.{IsStrictlySortedBy}
+use Rattle.fr_script.specs.declared.deeds.Passage.{Passage}
+use Rattle.fr_script.specs.declared.deeds.Deed.{Deed}
+
+-- passages in order: by sender, then by receiver, then by cycle
+abbrev pub passage_cmp : Passage → Passage → Ordering
+passage_cmp a b = ordering_then (nat_cmp a.sender b.sender) (ordering_then (nat_cmp a.receiver b.receiver) (nat_cmp a.cycle b.cycle))
+
+abbrev pub passage_of : ℕ → ℕ → ℕ → Passage
+passage_of sender receiver cycle = record { sender = sender; receiver = receiver; cycle = cycle }
+
+-- what a table of deeds has at a passage
+unfoldable pub deed_in : List (Passage × Deed) → Passage → Option Deed
+deed_in deeds passage = lookup (is_at (passage_cmp passage)) deeds
+
+-- the passages stand in order, none of them twice
+unfoldable pub AreAscending : List (Passage × Deed) → Type 0
+AreAscending deeds = IsStrictlySortedBy passage_cmp (keys_of deeds)
+
+-- no deed of a pair of nodes lies from one cycle on and before another
+abbrev pub IsQuiet : List (Passage × Deed) → ℕ → ℕ → ℕ → ℕ → Type 0
+IsQuiet deeds sender receiver from to = (cycle : ℕ) → from ≤ cycle → cycle < to → deed_in deeds (passage_of sender receiver cycle) ≡ None

@@ -1,0 +1,11 @@
+pub mod Said
+pub mod Deeds
+pub mod Rows
+pub mod Reasons
+pub mod View
+pub mod Fields
+pub mod Events
+pub mod Draft
+pub mod Files
+pub mod First
+pub mod Links

@@ -1,0 +1,252 @@
+ghost use Rattle.std.specs.Prelude.{◌≡◌, ◌≤◌, ◌*◌, ◌++◌, ◌∷◌, [], ℕ, List, Ok, Some, None, OnOk, IfOk, IfErr, IfSome, is_some, ◌&&◌};
+ghost use Rattle.csv.specs.Records.{fields_of};
+ghost use Rattle.fr_records.specs.Records.{Record};
+ghost use Rattle.fr_params.specs.Questions.{node_of};
+ghost use Rattle.fr_script.specs.Rows.{IsProperDeed, IsProperRow, row_of};
+ghost use Rattle.fr_script.specs.Reasons.{bits_of, deed_by, deed_reason, is_behind_frame, is_common, is_misplaced, is_named, is_say, node_reason, reason_after, row_reason};
+ghost use Rattle.fr_script.specs.View.{IsScript};
+ghost use Rattle.fr_script.specs.Draft.{IsDraftOf};
+ghost use Rattle.fr_script.specs.declared.rows.Row.TheVariants as said;
+
+use crate::deeds::{Deed, DeedTable, Passage};
+use crate::rows::{DeedRow, Row, read_row};
+use crate::script::Script;
+use csv::ByteRecord;
+use fr_base::{Channel, NodeId, Reason};
+use fr_params::Params;
+use fr_records::Table;
+use std::alloc::{AllocError, Global};
+
+/// What the records so far say: which nodes are arbitrary, by their number, what becomes of frames, by
+/// channel, and whether a record of another kind than `arbitrary` came.
+#[derive(Drop)]
+pub(crate) struct Draft<'a> {
+    pub(crate) alloc: Global,
+    pub(crate) params: &'a Params,
+    pub(crate) arbitrary: [bool; 65],
+    pub(crate) on_a: DeedTable,
+    pub(crate) on_b: DeedTable,
+    pub(crate) acted: bool,
+}
+
+/// A deed that is taken.
+#[derive(Drop)]
+pub(crate) struct Act {
+    passage: Passage,
+    channel: Channel,
+    deed: Deed,
+}
+
+impl<'a> Draft<'a> {
+    pub(crate) fn new(alloc: Global, params: &'a Params) -> Draft<'a>
+        ensures none { IsDraftOf result [] }
+        ensures params { result.params.now ≡ params.now }
+    {
+        Draft {
+            alloc,
+            params,
+            arbitrary: [false; 65],
+            on_a: DeedTable::new(alloc),
+            on_b: DeedTable::new(alloc),
+            acted: false,
+        }
+    }
+
+    /// The script that the records stand for.
+    pub(crate) fn into_script(self) -> Script
+        requires { (done : List Record) × IsDraftOf self done }
+        ensures script { result ≡ record { arbitrary = self.entry.arbitrary; on_a = self.entry.on_a; on_b = self.entry.on_b } }
+        ensures sane { IsScript result }
+    {
+        let Draft {
+            alloc: _,
+            params: _,
+            arbitrary,
+            on_a,
+            on_b,
+            acted: _,
+        } = self;
+        Script::of(arbitrary, on_a, on_b)
+    }
+
+    fn is_arbitrary(&self, node: NodeId) -> bool
+        ensures { (done : List Record) → IsDraftOf self.now done → result ≡ is_named node done }
+    {
+        self.arbitrary[usize::from(node.0)]
+    }
+
+    fn take_node(&mut self, node: NodeId) -> Option<Reason>
+        ensures same { self.new.params ≡ self.old.params }
+        ensures why { (done : List Record) → IsDraftOf self.old done → result ≡ node_reason self.old.params.now done node }
+        ensures adds { (done : List Record) (r : Record) → IsDraftOf self.old done → row_of r ≡ Ok (said.Arbitrary node) → result ≡ None → IsDraftOf self.new (done ++ r ∷ []) }
+    {
+        let params = self.params;
+        match params.node(node) {
+            None => return Some(Reason::UnknownNode),
+            Some(spec) => {
+                if spec.key.is_none() || self.acted {
+                    return Some(Reason::Role);
+                }
+            }
+        }
+        if self.is_arbitrary(node) {
+            return Some(Reason::Repeated);
+        }
+        self.arbitrary[usize::from(node.0)] = true;
+        None
+    }
+
+    fn take(&mut self, row: Row) -> Result<Option<Reason>, AllocError>
+        requires { IsProperRow row }
+        ensures same { self.new.params ≡ self.old.params }
+        ensures why { (done : List Record) → IsDraftOf self.old done → IfOk result (λ why. why ≡ row_reason self.old.params.now done (Ok row)) }
+        ensures adds { (done : List Record) (r : Record) → IsDraftOf self.old done → row_of r ≡ Ok row → IfOk result (λ why. why ≡ None → IsDraftOf self.new (done ++ r ∷ [])) }
+    {
+        match row {
+            Row::Arbitrary(node) => Ok(self.take_node(node)),
+            Row::Deed(deed) => self.take_deed(deed),
+        }
+    }
+
+    fn take_deed(&mut self, row: DeedRow) -> Result<Option<Reason>, AllocError>
+        requires { IfSome row.deed IsProperDeed }
+        ensures same { self.new.params ≡ self.old.params }
+        ensures why { (done : List Record) → IsDraftOf self.old done → IfOk result (λ why. why ≡ deed_reason self.old.params.now done row) }
+        ensures adds { (done : List Record) (r : Record) → IsDraftOf self.old done → row_of r ≡ Ok (said.Deed row) → IfOk result (λ why. why ≡ None → IsDraftOf self.new (done ++ r ∷ [])) }
+    {
+        match self.checked(row) {
+            Err(why) => Ok(Some(why)),
+            Ok(act) => {
+                self.put(act)?;
+                Ok(None)
+            }
+        }
+    }
+
+    /// What a row does, or the least reason for which it is not taken.
+    fn checked(&self, row: DeedRow) -> Result<Act, Reason>
+        ensures why { (done : List Record) → IsDraftOf self.now done → IfErr result (λ why. deed_reason self.now.params.now done row ≡ Some why) }
+        ensures none { (done : List Record) → IsDraftOf self.now done → IfOk result (λ act. deed_reason self.now.params.now done row ≡ None) }
+        ensures free { (done : List Record) → IsDraftOf self.now done → IfOk result (λ act. deed_by act.channel act.passage done ≡ None) }
+        ensures same { IfOk result (λ act. row ≡ record { passage = act.passage; channel = Some act.channel; deed = Some act.deed }) }
+    {
+        let DeedRow {
+            passage,
+            channel,
+            deed,
+        } = row;
+        if self.is_behind_frame(&deed) {
+            return Err(Reason::OutOfRange);
+        }
+        if !self.knows_both(&passage) {
+            return Err(Reason::UnknownNode);
+        }
+        let Some(channel) = channel else {
+            return Err(Reason::BadChannel);
+        };
+        if self.is_misplaced(&passage, says(&deed)) {
+            return Err(Reason::Role);
+        }
+        if !self.is_common(&passage, channel) {
+            return Err(Reason::Link);
+        }
+        let Some(deed) = deed else {
+            return Err(Reason::NotHex);
+        };
+        if self.is_taken(&passage, channel) {
+            return Err(Reason::Repeated);
+        }
+        Ok(Act {
+            passage,
+            channel,
+            deed,
+        })
+    }
+
+    fn is_behind_frame(&self, deed: &Option<Deed>) -> bool
+        ensures { result ≡ is_behind_frame self.now.params.now deed.now }
+    {
+        match deed {
+            Some(Deed::Flip(bit)) => bits_of(self.params) <= *bit as usize,
+            Some(Deed::Lose | Deed::Say { .. }) | None => false,
+        }
+    }
+
+    fn knows_both(&self, passage: &Passage) -> bool
+        ensures { result ≡ (is_some (node_of self.now.params.now passage.now.sender) && is_some (node_of self.now.params.now passage.now.receiver)) }
+    {
+        let params = self.params;
+        params.node(passage.sender).is_some() && params.node(passage.receiver).is_some()
+    }
+
+    fn is_misplaced(&self, passage: &Passage, says: bool) -> bool
+        ensures { (done : List Record) → IsDraftOf self.now done → result ≡ is_misplaced done passage.now says }
+    {
+        passage.sender == passage.receiver
+            || self.is_arbitrary(passage.receiver)
+            || self.is_arbitrary(passage.sender) != says
+    }
+
+    fn is_common(&self, passage: &Passage, channel: Channel) -> bool
+        ensures { result ≡ is_common self.now.params.now passage.now channel }
+    {
+        let params = self.params;
+        params.common(passage.sender, passage.receiver, channel)
+    }
+
+    fn is_taken(&self, passage: &Passage, channel: Channel) -> bool
+        ensures { (done : List Record) → IsDraftOf self.now done → result ≡ is_some (deed_by channel passage.now done) }
+    {
+        match channel {
+            Channel::A => self.on_a.get(passage).is_some(),
+            Channel::B => self.on_b.get(passage).is_some(),
+        }
+    }
+
+    fn put(&mut self, act: Act) -> Result<(), AllocError>
+        requires { IsProperDeed act.deed }
+        ensures same { self.new.params ≡ self.old.params }
+        ensures adds { (done : List Record) (r : Record) → IsDraftOf self.old done
+            → row_of r ≡ Ok (said.Deed (record { passage = act.passage; channel = Some act.channel; deed = Some act.deed }))
+            → deed_by act.channel act.passage done ≡ None → OnOk result (IsDraftOf self.new (done ++ r ∷ [])) }
+    {
+        let Act {
+            passage,
+            channel,
+            deed,
+        } = act;
+        self.acted = true;
+        match channel {
+            Channel::A => self.on_a.put(passage, deed),
+            Channel::B => self.on_b.put(passage, deed),
+        }
+    }
+}
+
+fn says(deed: &Option<Deed>) -> bool
+    ensures { result ≡ is_say deed.now }
+{
+    match deed {
+        None | Some(Deed::Say { .. }) => true,
+        Some(Deed::Lose | Deed::Flip(_)) => false,
+    }
+}
+
+fn bits_of(params: &Params) -> usize
+    ensures { result ≡ bits_of params.now }
+{
+    8 * params.frame_bytes()
+}
+
+impl<'a> Table for Draft<'a> {
+    ghost reason = { λ draft. reason_after draft.params.now };
+
+    ghost holds = { λ draft records. IsDraftOf draft records };
+
+    fn add(&mut self, row: &ByteRecord) -> Result<Option<Reason>, AllocError> {
+        match read_row(self.alloc, row)? {
+            Err(why) => Ok(Some(why)),
+            Ok(said) => self.take(said),
+        }
+    }
+}

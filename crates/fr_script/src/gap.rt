@@ -1,0 +1,38 @@
+use fr_base::{Channel, NodeId};
+
+/// Why a run is not covered by the precision theorem.
+#[derive(Clone, Copy, Debug, PartialEq, Eq)]
+pub enum Gap {
+    /// A check of the parameters fails: its number, 1 to 5, and both its sides.
+    Check { number: u8, left: i64, right: i64 },
+    /// The correct nodes with a key slot do not outweigh the arbitrary ones.
+    Count { correct: u32, arbitrary: u32 },
+    /// The microtick of a correct node lasts so many ticks in a cycle, too few or too many.
+    Length {
+        node: NodeId,
+        cycle: u32,
+        ticks: i64,
+    },
+    /// The microtick of a correct node lasts so many ticks more in a cycle than in the cycle before, too many
+    /// either way.
+    Change {
+        node: NodeId,
+        cycle: u32,
+        ticks: i64,
+    },
+    /// The frames of a correct node with a key slot travel so many ticks to another correct node in a cycle,
+    /// too few or too many.
+    Delay {
+        sender: NodeId,
+        receiver: NodeId,
+        channel: Channel,
+        cycle: u32,
+        ticks: i64,
+    },
+    /// In a double cycle no channel that both nodes have carries the frames of both cycles.
+    Link {
+        sender: NodeId,
+        receiver: NodeId,
+        double: u32,
+    },
+}

@@ -1,0 +1,22 @@
+//! The fault script of a cluster: which nodes are arbitrary, what becomes of each frame, and whether a run
+//! is covered by the precision theorem.
+#![tactic(auto)]
+
+mod deeds;
+mod draft;
+mod fault;
+mod gap;
+mod laws;
+mod linking;
+mod reading;
+mod rows;
+mod script;
+mod search;
+#[cfg(test)]
+mod tests;
+
+pub use fault::ScriptFault;
+pub use gap::Gap;
+pub use laws::{arbitrary_node_has_key_slot, events_are_proper, one_answer, script_of_a_file_fits};
+pub use reading::read;
+pub use script::{Event, Script};

@@ -1,0 +1,30 @@
+ghost use Rattle.std.specs.Prelude.{◌≡◌, IfOk, IfErr};
+ghost use Rattle.fr_script.specs.View.{IsScript};
+ghost use Rattle.fr_script.specs.Draft.{IsDraftOf};
+ghost use Rattle.fr_script.specs.Files.{Fits, IsFileOf, Refuses};
+
+use crate::draft::Draft;
+use crate::fault::ScriptFault;
+use crate::script::Script;
+use fr_params::Params;
+use fr_records::{RowFault, read_all};
+use std::alloc::Global;
+
+/// Reads the fault script of a cluster with these parameters. It accepts exactly the files of which no
+/// record is refused, the empty one among them; the answer is what the file stands for.
+///
+/// Its only refusal is `Row`, the first record that is refused, by its number from 1, with the least reason
+/// that holds. `NoMemory` comes where memory ran out.
+pub fn read(alloc: Global, params: &Params, bytes: &[u8]) -> Result<Script, ScriptFault>
+    ensures accepted { IfOk result (λ script. IsFileOf params.now script bytes.now) }
+    ensures fits { IfOk result (λ script. Fits params.now script) }
+    ensures sane { IfOk result (λ script. IsScript script) }
+    ensures refused { IfErr result (λ fault. Refuses params.now bytes.now fault) }
+{
+    let mut draft = Draft::new(alloc, params);
+    match read_all(alloc, bytes, &mut draft) {
+        Ok(()) => Ok(draft.into_script()),
+        Err(RowFault::Row { number, reason }) => Err(ScriptFault::Row { number, reason }),
+        Err(RowFault::NoMemory) => Err(ScriptFault::NoMemory),
+    }
+}

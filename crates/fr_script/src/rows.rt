@@ -1,0 +1,210 @@
+ghost use Rattle.std.specs.Prelude.{◌≡◌, ◌≤◌, length, IfOk, IfSome, pos, neg_ℤ, ◌≤ℤ◌};
+ghost use Rattle.csv.specs.Records.{fields_of};
+ghost use Rattle.fr_params.specs.Rows.{field_of, is_blank};
+ghost use Rattle.fr_script.specs.Said.{AreSaidBytes};
+ghost use Rattle.fr_script.specs.Rows.{IsProperDeed, IsProperRow, arbitrary_row, deed_row, digits_in, farthest, flip_row, is_channel_last, is_node_alone, kind_row, lose_row, passage_in, row_of, said_in, say_deed, say_row, shift_in};
+
+use crate::deeds::{Deed, Passage, SaidBytes};
+use csv::ByteRecord;
+use fr_base::{Channel, NodeId, NumberFault, Reason, number};
+use fr_records::{both, channel_of, field, natural, reason_of};
+use hex::FromHexError;
+use std::alloc::{AllocError, Global};
+
+/// The greatest distance of a shift from 0, in ticks.
+const FARTHEST: i64 = 1_000_000_000_000;
+
+/// The last bit of the longest frame, which has 262 bytes.
+const LAST_BIT: u64 = 2095;
+
+/// The greatest number of hexadecimal digits of a frame.
+const MOST_DIGITS: usize = 524;
+
+/// What a record says of the frames of a passage.
+#[derive(Drop)]
+pub struct DeedRow {
+    pub passage: Passage,
+    /// None where its field names none.
+    pub channel: Option<Channel>,
+    /// None where a frame is to be said, and its bytes are not hexadecimal.
+    pub deed: Option<Deed>,
+}
+
+/// What a record of a script says by itself.
+#[derive(Drop)]
+pub enum Row {
+    /// The node is arbitrary.
+    Arbitrary(NodeId),
+    /// What becomes of the frames of a passage.
+    Deed(DeedRow),
+}
+
+/// What a record says, or the least of the reasons that it shows by itself: Shape, UnknownName, NotNumber,
+/// OutOfRange. `AllocError` where memory ran out.
+#[tactic(auto, unfolding(crate::specs::Rows::row_of))]
+pub fn read_row(alloc: Global, row: &ByteRecord) -> Result<Result<Row, Reason>, AllocError>
+    ensures said { IfOk result (λ said. said ≡ row_of (fields_of row.now)) }
+    ensures proper { IfOk result (λ said. IfOk said IsProperRow) }
+{
+    if row.len() != 7 {
+        return Ok(Err(Reason::Shape));
+    }
+    read_kind(alloc, row)
+}
+
+fn read_kind(alloc: Global, row: &ByteRecord) -> Result<Result<Row, Reason>, AllocError>
+    requires { length (fields_of row.now) ≡ 7 }
+    ensures said { IfOk result (λ said. said ≡ kind_row (fields_of row.now)) }
+    ensures proper { IfOk result (λ said. IfOk said IsProperRow) }
+{
+    let kind = field(row, 0);
+    if kind == b"arbitrary".as_slice() {
+        Ok(read_arbitrary(row))
+    } else if kind == b"say".as_slice() {
+        read_say(alloc, row)
+    } else if kind == b"lose".as_slice() {
+        Ok(read_lose(row))
+    } else if kind == b"flip".as_slice() {
+        Ok(read_flip(row))
+    } else {
+        Ok(Err(Reason::UnknownName))
+    }
+}
+
+fn read_arbitrary(row: &ByteRecord) -> Result<Row, Reason>
+    requires { length (fields_of row.now) ≡ 7 }
+    ensures said { result ≡ arbitrary_row (fields_of row.now) }
+    ensures proper { IfOk result IsProperRow }
+{
+    if !is_node_alone(row) {
+        return Err(Reason::Shape);
+    }
+    match natural(field(row, 1), 1, 64) {
+        Ok(node) => Ok(Row::Arbitrary(NodeId(node as u8))),
+        Err(fault) => Err(reason_of(fault)),
+    }
+}
+
+fn is_node_alone(row: &ByteRecord) -> bool
+    requires { length (fields_of row.now) ≡ 7 }
+    ensures { result ≡ is_node_alone (fields_of row.now) }
+{
+    field(row, 2).is_empty()
+        && field(row, 3).is_empty()
+        && field(row, 4).is_empty()
+        && field(row, 5).is_empty()
+        && field(row, 6).is_empty()
+}
+
+fn read_say(alloc: Global, row: &ByteRecord) -> Result<Result<Row, Reason>, AllocError>
+    requires { length (fields_of row.now) ≡ 7 }
+    ensures said { IfOk result (λ said. said ≡ say_row (fields_of row.now)) }
+    ensures proper { IfOk result (λ said. IfOk said IsProperRow) }
+{
+    let text = field(row, 6);
+    let numbers = both(read_passage(row), both(read_shift(row), few_digits(text)));
+    match numbers {
+        Err(fault) => Ok(Err(reason_of(fault))),
+        Ok((passage, (shift, _))) => {
+            let deed = say(shift, read_bytes(alloc, text)?);
+            Ok(Ok(deed_of(row, passage, deed)))
+        }
+    }
+}
+
+fn read_lose(row: &ByteRecord) -> Result<Row, Reason>
+    requires { length (fields_of row.now) ≡ 7 }
+    ensures said { result ≡ lose_row (fields_of row.now) }
+    ensures proper { IfOk result IsProperRow }
+{
+    if !field(row, 5).is_empty() || !field(row, 6).is_empty() {
+        return Err(Reason::Shape);
+    }
+    match read_passage(row) {
+        Ok(passage) => Ok(deed_of(row, passage, Some(Deed::Lose))),
+        Err(fault) => Err(reason_of(fault)),
+    }
+}
+
+fn read_flip(row: &ByteRecord) -> Result<Row, Reason>
+    requires { length (fields_of row.now) ≡ 7 }
+    ensures said { result ≡ flip_row (fields_of row.now) }
+    ensures proper { IfOk result IsProperRow }
+{
+    if !field(row, 6).is_empty() {
+        return Err(Reason::Shape);
+    }
+    match both(read_passage(row), natural(field(row, 5), 0, LAST_BIT)) {
+        Ok((passage, bit)) => Ok(deed_of(row, passage, Some(Deed::Flip(bit as u32)))),
+        Err(fault) => Err(reason_of(fault)),
+    }
+}
+
+fn deed_of(row: &ByteRecord, passage: Passage, deed: Option<Deed>) -> Row
+    requires { length (fields_of row.now) ≡ 7 }
+    ensures { result ≡ deed_row (fields_of row.now) passage deed }
+{
+    Row::Deed(DeedRow {
+        passage,
+        channel: channel_of(field(row, 4)),
+        deed,
+    })
+}
+
+fn read_passage(row: &ByteRecord) -> Result<Passage, NumberFault>
+    requires { length (fields_of row.now) ≡ 7 }
+    ensures { result ≡ passage_in (fields_of row.now) }
+{
+    let (cycle, (sender, receiver)) = both(
+        natural(field(row, 1), 0, 199_999),
+        both(natural(field(row, 2), 1, 64), natural(field(row, 3), 1, 64)),
+    )?;
+    Ok(Passage {
+        sender: NodeId(sender as u8),
+        receiver: NodeId(receiver as u8),
+        cycle: cycle as u32,
+    })
+}
+
+fn read_shift(row: &ByteRecord) -> Result<i64, NumberFault>
+    requires { length (fields_of row.now) ≡ 7 }
+    ensures said { result ≡ shift_in (fields_of row.now) }
+    ensures range { IfOk result (λ shift. (neg_ℤ farthest ≤ℤ shift) × (shift ≤ℤ farthest)) }
+{
+    number(field(row, 5), -FARTHEST, FARTHEST)
+}
+
+fn few_digits(text: &[u8]) -> Result<usize, NumberFault>
+    ensures { result ≡ digits_in text.now }
+{
+    if text.len() > MOST_DIGITS {
+        return Err(NumberFault::OutOfRange);
+    }
+    Ok(text.len())
+}
+
+/// The frame that is to be said, None within where it is the regular one; None where the text is not
+/// hexadecimal. `AllocError` where memory ran out.
+fn read_bytes(alloc: Global, text: &[u8]) -> Result<Option<Option<SaidBytes>>, AllocError>
+    requires { length text.now ≤ 524 }
+    ensures said { IfOk result (λ said. said ≡ said_in text.now) }
+    ensures proper { IfOk result (λ said. IfSome said (λ bytes. IfSome bytes AreSaidBytes)) }
+{
+    if text.is_empty() {
+        return Ok(Some(None));
+    }
+    match hex::decode(alloc, text) {
+        Ok(bytes) => Ok(Some(Some(SaidBytes::of(bytes)))),
+        Err(FromHexError::OutOfMemory) => Err(AllocError),
+        Err(_) => Ok(None),
+    }
+}
+
+fn say(shift: i64, bytes: Option<Option<SaidBytes>>) -> Option<Deed>
+    ensures { result ≡ say_deed shift bytes }
+{
+    match bytes {
+        Some(bytes) => Some(Deed::Say { shift, bytes }),
+        None => None,
+    }
+}

@@ -1,0 +1,148 @@
+ghost use Rattle.std.specs.Prelude.{◌≡◌, ◌<◌, ◌≤◌, ℕ, Some, None};
+ghost use Rattle.std.specs.Option.{option_copied};
+ghost use Rattle.fr_base.specs.declared.channel.Channel.{Channel as Line};
+ghost use Rattle.fr_script.specs.View.{IsScript, deed_of, deeds_on, is_arbitrary};
+ghost use Rattle.fr_script.specs.Events.{IsProperEvent, done_by, event_of, event_seen, said_by};
+
+use crate::deeds::{Deed, DeedTable, Passage};
+use fr_base::{Channel, NodeId};
+use std::marker::Model;
+
+/// What becomes of a frame between a sender and a receiver.
+#[derive(Clone, Copy, Debug, Drop)]
+pub enum Event<'a> {
+    /// The regular frame comes.
+    Regular,
+    /// Nothing comes.
+    Silent,
+    /// The regular frame comes with one bit inverted, counted from 0, the first bit sent.
+    Flip(u32),
+    /// The sender says a frame, so many ticks later than expected: of these bytes, or else the regular one
+    /// of its key slot.
+    Say { shift: i64, bytes: Option<&'a [u8]> },
+}
+
+/// The faults of a run, as an accepted script says them.
+#[derive(Drop)]
+pub struct Script {
+    arbitrary: [bool; 65],
+    on_a: DeedTable,
+    on_b: DeedTable,
+}
+
+impl Model for Script {
+    ghost use Rattle.fr_script.specs.View.{ScriptView, IsScript};
+
+    ghost Value = { ScriptView };
+
+    ghost use Rattle.fr_script.specs.Fields.{seen_of};
+
+    ghost view = { seen_of };
+
+    ghost invariant = { λ a. IsScript (seen_of a) };
+}
+
+impl Script {
+    /// The script of these nodes, by their number, and of the deeds of both channels.
+    pub(crate) fn of(arbitrary: [bool; 65], on_a: DeedTable, on_b: DeedTable) -> Script
+        requires { IsScript (record { arbitrary = arbitrary; on_a = on_a; on_b = on_b }) }
+        ensures { result ≡ record { arbitrary = arbitrary; on_a = on_a; on_b = on_b } }
+    {
+        Script {
+            arbitrary,
+            on_a,
+            on_b,
+        }
+    }
+
+    /// Whether the script names the node arbitrary.
+    #[tactic(auto, unfolding(crate::specs::View::is_arbitrary))]
+    pub fn arbitrary(&self, node: NodeId) -> bool
+        ensures value { result ≡ is_arbitrary self.now node }
+        ensures sane { IsScript self.now }
+    {
+        self.arbitrary[usize::from(node.0)]
+    }
+
+    /// What becomes of each frame of a sender at a receiver, in a cycle on a channel. Of a correct sender: nothing
+    /// comes where a `lose` row says so, one bit is inverted where a `flip` row does, otherwise it is regular. Of an
+    /// arbitrary one: what a `say` row says, otherwise nothing.
+    #[tactic(auto, unfolding(crate::specs::Events::event_of))]
+    pub fn at(&self, cycle: u32, sender: NodeId, receiver: NodeId, channel: Channel) -> Event<'_>
+        ensures value { event_seen result ≡ event_of self.now cycle sender receiver channel }
+        ensures proper { IsProperEvent (event_of self.now cycle sender receiver channel) }
+    {
+        let deed = self.deed(cycle, sender, receiver, channel);
+        if self.arbitrary(sender) {
+            said(deed)
+        } else {
+            done(deed)
+        }
+    }
+
+    /// The first cycle from `cycle` on, before `end`, in which the script does anything to the frames of a sender
+    /// at a receiver, or `end`.
+    #[tactic(auto, unfolding(crate::specs::View::deed_of))]
+    pub(crate) fn next_deed(
+        &self,
+        sender: NodeId,
+        receiver: NodeId,
+        cycle: u32,
+        end: u32,
+    ) -> u32
+        requires { cycle ≤ end }
+        ensures from { cycle ≤ result }
+        ensures to { result ≤ end }
+        ensures quiet { (c : ℕ) (channel : Line) → cycle ≤ c → c < result → deed_of self.now c sender receiver channel ≡ None }
+    {
+        let on_a = self.on_a.next(sender, receiver, cycle, end);
+        let on_b = self.on_b.next(sender, receiver, cycle, end);
+        on_a.min(on_b)
+    }
+
+    #[tactic(auto, unfolding(crate::specs::View::deed_of))]
+    fn deed(&self, cycle: u32, sender: NodeId, receiver: NodeId, channel: Channel) -> Option<&Deed>
+        ensures { option_copied result ≡ deed_of self.now cycle sender receiver channel }
+    {
+        let passage = Passage {
+            sender,
+            receiver,
+            cycle,
+        };
+        match channel {
+            Channel::A => self.on_a.get(&passage),
+            Channel::B => self.on_b.get(&passage),
+        }
+    }
+}
+
+fn done(deed: Option<&Deed>) -> Event<'_>
+    ensures { event_seen result ≡ done_by (option_copied deed.entry) }
+{
+    match deed {
+        Some(Deed::Lose) => Event::Silent,
+        Some(Deed::Flip(bit)) => Event::Flip(*bit),
+        Some(Deed::Say { .. }) | None => Event::Regular,
+    }
+}
+
+fn said(deed: Option<&Deed>) -> Event<'_>
+    ensures { event_seen result ≡ said_by (option_copied deed.entry) }
+{
+    match deed {
+        Some(
+            Deed::Say {
+                shift,
+                bytes: Some(bytes),
+            },
+        ) => Event::Say {
+            shift: *shift,
+            bytes: Some(bytes.as_slice()),
+        },
+        Some(Deed::Say { shift, bytes: None }) => Event::Say {
+            shift: *shift,
+            bytes: None,
+        },
+        Some(Deed::Lose | Deed::Flip(_)) | None => Event::Silent,
+    }
+}

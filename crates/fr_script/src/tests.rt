@@ -1,0 +1,244 @@
+use crate::{Event, Script, ScriptFault, read};
+use fr_base::{Channel, NodeId, Reason};
+use fr_params::Params;
+use std::alloc::{AllocError, Global};
+use std::test::Fail;
+
+/// A cycle of 5 ms at a microtick of 25 ns; frames have 64 bits.
+const CLUSTER: &[&[u8]] = &[
+    b"param,gMacroPerCycle,5000,,",
+    b"param,pMicroPerCycle,200000,,",
+    b"param,gNumberOfStaticSlots,140,,",
+    b"param,gdStaticSlot,30,,",
+    b"param,gdActionPointOffset,7,,",
+    b"param,gdNIT,800,,",
+    b"param,gPayloadLengthStatic,0,,",
+    b"param,gOffsetCorrectionStart,4900,,",
+    b"param,gMaxWithoutClockCorrectionPassive,2,,",
+    b"param,gMaxWithoutClockCorrectionFatal,4,,",
+    b"param,pAllowHaltDueToClock,1,,",
+    b"param,pAllowPassiveToActive,2,,",
+    b"param,pClusterDriftDamping,4,,",
+    b"param,pOffsetCorrectionOut,254,,",
+    b"param,pRateCorrectionOut,81,,",
+    b"param,pDelayCompensation,0,,",
+    b"param,xRateBound,200,,",
+    b"param,xChangeBound,0,,",
+    b"param,xDelayError,500000,,",
+];
+
+/// Nodes 1 and 2 on channel A, 3 and 4 on both, 5 on both without a key slot, 6 on channel B without one.
+const NODES: &[u8] =
+    b"node,1,1,A,1\nnode,2,2,A,1\nnode,3,3,AB,1\nnode,4,4,AB,1\nnode,5,,AB,0\nnode,6,,B,0\n";
+
+/// A script, and the record that is refused with its reason, if one is.
+const REFUSALS: &[(&[u8], Option<(u64, Reason)>)] = &[
+    (b"", None),
+    (b"\n\n", None),
+    (b"say,0,1,2,A,0,", Some((1, Reason::Role))),
+    (b"arbitrary,4,,,,", Some((1, Reason::Shape))),
+    (b"arbitrary,4,,,,,,", Some((1, Reason::Shape))),
+    (b"arbitrary,4,,,,,x", Some((1, Reason::Shape))),
+    (b"arbitrary,x,x,,,,", Some((1, Reason::Shape))),
+    (b"flip,0,1,2,A,0,0", Some((1, Reason::Shape))),
+    (b"lose,0,1,2,A,0,", Some((1, Reason::Shape))),
+    (b"\"\"", Some((1, Reason::Shape))),
+    (b"join,0,1,2,,,", Some((1, Reason::UnknownName))),
+    (b"Lose,0,1,2,A,,", Some((1, Reason::UnknownName))),
+    (b"arbitrary,,,,,,", Some((1, Reason::NotNumber))),
+    (b"lose,200000,65,2,Z,,", Some((1, Reason::OutOfRange))),
+    (b"lose,200000,65,x,Z,,", Some((1, Reason::NotNumber))),
+    (b"arbitrary,0,,,,,", Some((1, Reason::OutOfRange))),
+    (b"arbitrary,65,,,,,", Some((1, Reason::OutOfRange))),
+    (b"arbitrary,7,,,,,", Some((1, Reason::UnknownNode))),
+    (b"lose,0,1,7,Z,,", Some((1, Reason::UnknownNode))),
+    (b"lose,0,7,1,Z,,", Some((1, Reason::UnknownNode))),
+    (b"lose,0,1,1,Z,,", Some((1, Reason::BadChannel))),
+    (b"lose,0,1,1,AB,,", Some((1, Reason::BadChannel))),
+    (b"lose,0,1,1,B,,", Some((1, Reason::Role))),
+    (b"lose,0,1,2,B,,", Some((1, Reason::Link))),
+    (b"lose,0,1,6,A,,", Some((1, Reason::Link))),
+    (b"lose,0,5,6,B,,\nlose,199999,5,6,B,,", None),
+    (b"arbitrary,5,,,,,", Some((1, Reason::Role))),
+    (b"flip,0,1,2,A,63,", None),
+    (b"flip,0,1,2,A,64,", Some((1, Reason::OutOfRange))),
+    (b"flip,0,1,7,Z,64,", Some((1, Reason::OutOfRange))),
+    (b"flip,0,x,2,A,64,", Some((1, Reason::NotNumber))),
+    (b"flip,0,1,2,A,2096,", Some((1, Reason::OutOfRange))),
+    (b"flip,0,1,2,A,-0,", None),
+    (b"flip,0,1,2,A,-1,", Some((1, Reason::OutOfRange))),
+];
+
+/// Records behind `arbitrary,4` and `arbitrary,3`, and the record that is refused with its reason.
+const BEHIND: &[(&[u8], Option<(u64, Reason)>)] = &[
+    (b"arbitrary,4,,,,,", Some((3, Reason::Repeated))),
+    (b"arbitrary,5,,,,,", Some((3, Reason::Role))),
+    (b"lose,0,4,1,A,,", Some((3, Reason::Role))),
+    (b"flip,0,4,1,A,0,", Some((3, Reason::Role))),
+    (b"lose,0,1,4,A,,", Some((3, Reason::Role))),
+    (b"say,0,4,3,A,0,", Some((3, Reason::Role))),
+    (b"say,0,4,4,A,0,", Some((3, Reason::Role))),
+    (b"say,0,1,2,A,0,", Some((3, Reason::Role))),
+    (b"say,0,4,1,B,0,z", Some((3, Reason::Link))),
+    (b"say,0,4,1,A,0,z", Some((3, Reason::NotHex))),
+    (b"say,0,4,1,A,0,abc", Some((3, Reason::NotHex))),
+    (b"say,0,4,1,A,x,z", Some((3, Reason::NotNumber))),
+    (b"say,0,4,1,A,1000000000000,", None),
+    (b"say,0,4,1,A,-1000000000000,", None),
+    (
+        b"say,0,4,1,A,1000000000001,",
+        Some((3, Reason::OutOfRange)),
+    ),
+    (
+        b"say,0,4,1,A,-1000000000001,",
+        Some((3, Reason::OutOfRange)),
+    ),
+    (b"say,0,4,1,A,0,\narbitrary,2,,,,,", Some((4, Reason::Role))),
+    (
+        b"lose,0,1,2,A,,\narbitrary,4,,,,,",
+        Some((4, Reason::Role)),
+    ),
+    (
+        b"say,0,4,1,A,0,\nsay,1,4,1,A,0,\nsay,0,4,1,A,5,z",
+        Some((5, Reason::NotHex)),
+    ),
+    (
+        b"say,0,4,1,A,0,\nsay,1,4,1,A,0,\nsay,0,4,1,A,5,00",
+        Some((5, Reason::Repeated)),
+    ),
+    (
+        b"lose,0,1,2,A,,\nflip,0,1,2,A,0,\nflip,1,1,2,A,0,",
+        Some((4, Reason::Repeated)),
+    ),
+    (
+        b"flip,7,1,2,A,0,\nlose,8,1,2,A,,\nlose,7,1,2,A,,",
+        Some((5, Reason::Repeated)),
+    ),
+    (b"lose,0,5,2,A,,\nlose,0,2,5,A,,\nlose,1,5,2,A,,", None),
+    (b"say,0,4,5,A,0,\nsay,0,4,5,B,0,\nsay,0,3,5,A,0,", None),
+];
+
+/// How many of which byte stand for the bytes that are said, and the reason for which they are refused.
+const DIGITS: &[(usize, u8, Option<Reason>)] = &[
+    (0, b'z', None),
+    (2, b'f', None),
+    (3, b'f', Some(Reason::NotHex)),
+    (524, b'F', None),
+    (524, b'g', Some(Reason::NotHex)),
+    (523, b'0', Some(Reason::NotHex)),
+    (525, b'0', Some(Reason::OutOfRange)),
+    (525, b'z', Some(Reason::OutOfRange)),
+    (526, b'0', Some(Reason::OutOfRange)),
+    (526, b'z', Some(Reason::OutOfRange)),
+];
+
+/// The script of a node that says its frames early to one node, late to another, and not at all to a third.
+const TWO_FACED: &[u8] = b"arbitrary,4,,,,,
+say,0,4,1,A,100000000,
+say,1,4,1,A,100000000,
+say,0,4,2,A,-100000000,
+say,1,4,2,A,-100000000,
+";
+
+/// The parameters of the cluster with these nodes.
+fn cluster(alloc: Global, nodes: &[u8]) -> Result<Params, Fail> {
+    let mut bytes = Vec::new(alloc);
+    for line in CLUSTER {
+        bytes.extend_from_slice(line)?;
+        bytes.push(b'\n')?;
+    }
+    bytes.extend_from_slice(nodes)?;
+    Ok(fr_params::read(alloc, &bytes)?)
+}
+
+fn fault_of(alloc: Global, params: &Params, bytes: &[u8]) -> Option<ScriptFault> {
+    match read(alloc, params, bytes) {
+        Ok(_) => None,
+        Err(fault) => Some(fault),
+    }
+}
+
+fn row(refusal: Option<(u64, Reason)>) -> Option<ScriptFault> {
+    let (number, reason) = refusal?;
+    Some(ScriptFault::Row { number, reason })
+}
+
+fn joined(alloc: Global, head: &[u8], tail: &[u8]) -> Result<Vec<u8>, AllocError> {
+    let mut bytes = head.to_vec(alloc)?;
+    bytes.extend_from_slice(tail)?;
+    Ok(bytes)
+}
+
+fn event(script: &Script, cycle: u32, sender: u8, receiver: u8) -> Event<'_> {
+    if sender < 1 || 64 < sender || receiver < 1 || 64 < receiver {
+        return Event::Regular;
+    }
+    script.at(cycle, NodeId(sender), NodeId(receiver), Channel::A)
+}
+
+#[test]
+fn finds_the_least_reason(rt: HostRuntime) -> Result<(), Fail> {
+    let params = cluster(rt.alloc(), NODES)?;
+    for (text, want) in REFUSALS {
+        assert_eq!(rt; fault_of(rt.alloc(), &params, text), row(*want), "at {text:?}");
+    }
+    Ok(())
+}
+
+#[test]
+fn looks_at_earlier_records(rt: HostRuntime) -> Result<(), Fail> {
+    let params = cluster(rt.alloc(), NODES)?;
+    for (text, want) in BEHIND {
+        let bytes = joined(rt.alloc(), b"arbitrary,4,,,,,\narbitrary,3,,,,,\n", text)?;
+        assert_eq!(rt; fault_of(rt.alloc(), &params, &bytes), row(*want), "at {text:?}");
+    }
+    Ok(())
+}
+
+#[test]
+fn counts_digits_whatever_they_are(rt: HostRuntime) -> Result<(), Fail> {
+    let params = cluster(rt.alloc(), NODES)?;
+    for (count, digit, why) in DIGITS {
+        let mut bytes = joined(rt.alloc(), b"arbitrary,4,,,,,\n", b"say,0,4,1,A,0,")?;
+        for _ in 0..*count {
+            bytes.push(*digit)?;
+        }
+        let want = row(why.map(|reason| (2, reason)));
+        assert_eq!(rt; fault_of(rt.alloc(), &params, &bytes), want, "at {count} {digit}");
+    }
+    Ok(())
+}
+
+#[test]
+fn says_to_each_its_own(rt: HostRuntime) -> Result<(), Fail> {
+    let params = cluster(rt.alloc(), NODES)?;
+    let script = read(rt.alloc(), &params, TWO_FACED)?;
+    assert!(rt; script.arbitrary(NodeId(4)) && !script.arbitrary(NodeId(1)));
+    assert!(rt; matches!(event(&script, 0, 4, 1), Event::Say { shift: 100_000_000, bytes: None }));
+    assert!(rt; matches!(event(&script, 1, 4, 2), Event::Say { shift: -100_000_000, bytes: None }));
+    assert!(rt; matches!(event(&script, 0, 4, 3), Event::Silent));
+    assert!(rt; matches!(event(&script, 2, 4, 1), Event::Silent));
+    assert!(rt; matches!(event(&script, 0, 1, 2), Event::Regular));
+    Ok(())
+}
+
+#[test]
+fn tells_what_becomes_of_frames(rt: HostRuntime) -> Result<(), Fail> {
+    let params = cluster(rt.alloc(), NODES)?;
+    let text = b"arbitrary,4,,,,,\nlose,3,1,2,A,,\nflip,2,1,2,A,63,\nsay,5,4,2,A,-1,0aFf\n";
+    let script = read(rt.alloc(), &params, text)?;
+    assert!(rt; matches!(event(&script, 3, 1, 2), Event::Silent));
+    assert!(rt; matches!(event(&script, 2, 1, 2), Event::Flip(63)));
+    assert!(rt; matches!(event(&script, 2, 2, 1), Event::Regular));
+    match event(&script, 5, 4, 2) {
+        Event::Say {
+            shift,
+            bytes: Some(bytes),
+        } => {
+            assert_eq!(rt; shift, -1);
+            assert_eq!(rt; bytes, [0x0a, 0xff].as_slice());
+        }
+        _ => assert!(rt; false),
+    }
+    Ok(())
+}
