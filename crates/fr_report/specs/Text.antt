@@ -12,7 +12,9 @@ use Rattle.fr_history.specs.Lawful.{rate_behind, start_behind}
 use Rattle.fr_history.specs.Skew.{Place, greatest_skew_of}
 use Rattle.fr_history.specs.Sync.{first_sync_of}
 use Rattle.fr_history.specs.Terms.{status_in}
+use Rattle.fr_script.specs.declared.gap.Gap.{Gap}
 use Rattle.fr_report.specs.After.{arbitrary_nodes, last_offset_of}
+use Rattle.fr_report.specs.Covered.{covered_text}
 use Rattle.fr_report.specs.Sums.{cuts_of, total_of, xor_of}
 use Rattle.fr_report.specs.Words.{double_text, line, state_text}
 
@@ -74,12 +76,12 @@ node_text x h node =
     ++ codes " next " ++ signed_decimal (start_behind x h node) ++ codes " rate " ++ signed_decimal (rate_behind x h node)
     ++ codes " offset " ++ signed_decimal (last_offset_of h node)
 
--- the lines of the run, with the words that say whether it is covered
-abbrev pub run_lines : Setting → List ℕ → History → List ℕ
-run_lines x covered h =
+-- the lines of the run
+abbrev pub run_lines : Setting → Option Gap → History → List ℕ
+run_lines x gap h =
     line (nodes_text x)
     ++ line (precision_text x.params)
-    ++ line (codes "covered " ++ covered)
+    ++ line (covered_text gap)
     ++ line (sync_text (first_sync_of x.params h))
     ++ skew_line (greatest_skew_of x.params h)
 
@@ -91,6 +93,6 @@ frames_lines h = line (sent_a_text h) ++ line (sent_b_text h) ++ line (heard_tex
 abbrev pub node_lines : Setting → History → List ℕ
 node_lines x h = flat_map (λ node. line (node_text x h node.id)) (correct_nodes x)
 
--- the whole text
-unfoldable pub report_with : Setting → List ℕ → History → List ℕ
-report_with x covered h = run_lines x covered h ++ frames_lines h ++ line (cut_text h) ++ node_lines x h
+-- the whole text, of a run with this first gap or none
+unfoldable pub report_of : Setting → Option Gap → History → List ℕ
+report_of x gap h = run_lines x gap h ++ frames_lines h ++ line (cut_text h) ++ node_lines x h

@@ -2,13 +2,14 @@
 //! here runs.
 #![tactic(auto)]
 
-ghost use Rattle.std.specs.Prelude.{ℕ, List};
+ghost use Rattle.std.specs.Prelude.{Option};
 ghost use Rattle.fr_history.specs.Setting.{Setting};
 ghost use Rattle.fr_history.specs.History.{History};
+ghost use Rattle.fr_script.specs.declared.gap.Gap.{Gap};
 ghost use Rattle.fr_report.specs.Ended.{IsEnded};
-ghost use Rattle.fr_report.specs.Text.{report_with};
+ghost use Rattle.fr_report.specs.Text.{report_of};
 
 /// A law: the report ends with a line feed.
 pub fn a_report_ends_its_last_line()
-    ensures { (x : Setting) (covered : List ℕ) (h : History) → IsEnded (report_with x covered h) }
+    ensures { (x : Setting) (gap : Option Gap) (h : History) → IsEnded (report_of x gap h) }
 {}

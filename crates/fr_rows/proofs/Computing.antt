@@ -19,7 +19,7 @@ use Rattle.fr_reception.specs.Offers.{flipped}
 use Rattle.fr_reception.specs.Regular.{carried_crc, regular_frame}
 use Rattle.fr_report.specs.After.{last_offset_of}
 use Rattle.fr_report.specs.Sums.{cuts_of, total_of, xor_of}
-use Rattle.fr_report.specs.Text.{report_with}
+use Rattle.fr_report.specs.Text.{report_of}
 
 -- the bytes of frames, and what is made of them
 unfoldable pub on_frames : ⊤
@@ -43,5 +43,5 @@ on_sums = tt
 
 -- the report of a history
 unfoldable pub on_reports : ⊤
-unfolding on_histories on_sums outcomes_in values_of midpoint_by_ranks last_offset_of digits hexadecimal report_with
+unfolding on_histories on_sums outcomes_in values_of midpoint_by_ranks last_offset_of digits hexadecimal report_of
 on_reports = tt

@@ -1,10 +1,9 @@
 -- The run of two nodes with an offset, cycle by cycle.
-use Rattle.std.proofs.Common.{◌≡◌, [], ◌∷◌, Some, pos, refl}
-use Rattle.std.specs.Prelude.{codes}
+use Rattle.std.proofs.Common.{◌≡◌, [], ◌∷◌, None, Some, pos, refl}
 use Rattle.fr_history.specs.Next.{history_of, next_record}
 use Rattle.fr_history.specs.Skew.{greatest_skew_of}
 use Rattle.fr_history.specs.Sync.{first_sync_of}
-use Rattle.fr_report.specs.Text.{report_with}
+use Rattle.fr_report.specs.Text.{report_of}
 use Rattle.fr_rows.proofs.Computing.{on_histories, on_records, on_reports}
 use Rattle.fr_rows.specs.Offset.{offset_cycle_0, offset_cycle_1, offset_cycle_2, offset_cycle_3, offset_history, offset_report, offset_run}
 
@@ -36,6 +35,6 @@ pub offset_sync_is : first_sync_of offset_run.params offset_history ≡ Some 0
 unfolding on_histories
 offset_sync_is = refl
 
-pub offset_report_is : report_with offset_run (codes "yes") offset_history ≡ offset_report
+pub offset_report_is : report_of offset_run None offset_history ≡ offset_report
 unfolding on_reports
 offset_report_is = refl

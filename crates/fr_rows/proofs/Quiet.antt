@@ -1,10 +1,12 @@
 -- The run with an arbitrary node that says nothing, cycle by cycle.
-use Rattle.std.proofs.Common.{◌≡◌, [], ◌∷◌, Some, pos, refl}
+use Rattle.std.proofs.Common.{◌≡◌, [], ◌∷◌, None, Some, pos, refl}
+use Rattle.fr_script.specs.declared.gap.Gap.TheVariants.{Count}
 use Rattle.fr_history.specs.Next.{history_of, next_record}
 use Rattle.fr_history.specs.Skew.{greatest_skew_of}
 use Rattle.fr_history.specs.Sync.{first_sync_of}
-use Rattle.fr_rows.proofs.Computing.{on_histories, on_records}
-use Rattle.fr_rows.specs.Quiet.{quiet_cycle_0, quiet_cycle_1, quiet_history, quiet_run}
+use Rattle.fr_report.specs.Text.{report_of}
+use Rattle.fr_rows.proofs.Computing.{on_histories, on_records, on_reports}
+use Rattle.fr_rows.specs.Quiet.{quiet_cycle_0, quiet_cycle_1, quiet_history, quiet_report, quiet_run}
 
 cycle_0_is : next_record quiet_run [] ≡ quiet_cycle_0
 unfolding on_records
@@ -25,3 +27,7 @@ quiet_skew_is = refl
 pub quiet_sync_is : first_sync_of quiet_run.params quiet_history ≡ Some 0
 unfolding on_histories
 quiet_sync_is = refl
+
+pub quiet_report_is : report_of quiet_run (Some (Count 2 1)) quiet_history ≡ quiet_report
+unfolding on_reports
+quiet_report_is = refl

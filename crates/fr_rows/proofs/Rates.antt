@@ -1,10 +1,9 @@
 -- The run of two nodes whose oscillators lie apart, cycle by cycle.
-use Rattle.std.proofs.Common.{◌≡◌, [], ◌∷◌, Some, pos, refl}
-use Rattle.std.specs.Prelude.{codes}
+use Rattle.std.proofs.Common.{◌≡◌, [], ◌∷◌, None, Some, pos, refl}
 use Rattle.fr_history.specs.Next.{history_of, next_record}
 use Rattle.fr_history.specs.Skew.{greatest_skew_of}
 use Rattle.fr_history.specs.Sync.{first_sync_of}
-use Rattle.fr_report.specs.Text.{report_with}
+use Rattle.fr_report.specs.Text.{report_of}
 use Rattle.fr_rows.proofs.Computing.{on_histories, on_records, on_reports}
 use Rattle.fr_rows.specs.Rates.{rates_cycle_0, rates_cycle_1, rates_cycle_2, rates_cycle_3, rates_history, rates_report, rates_run}
 
@@ -36,6 +35,6 @@ pub rates_sync_is : first_sync_of rates_run.params rates_history ≡ Some 1
 unfolding on_histories
 rates_sync_is = refl
 
-pub rates_report_is : report_with rates_run (codes "yes") rates_history ≡ rates_report
+pub rates_report_is : report_of rates_run None rates_history ≡ rates_report
 unfolding on_reports
 rates_report_is = refl

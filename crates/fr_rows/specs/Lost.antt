@@ -1,5 +1,5 @@
 -- The run with an offset once more, with one frame of node 1 hit on its way to node 2 in the last cycle.
-use Rattle.std.specs.Prelude.{ℕ, ◌==◌, ◌&&◌, pos, negsuc, List, [], ◌∷◌, if◌then◌else◌}
+use Rattle.std.specs.Prelude.{ℕ, ◌==◌, ◌&&◌, pos, negsuc, List, [], ◌∷◌, if◌then◌else◌, ◌++◌, codes}
 use Rattle.fr_base.specs.Event.{Event}
 use Rattle.fr_base.specs.Event.Event.{Regular, Silent, Flip}
 use Rattle.fr_base.specs.declared.channel.Channel.{Channel}
@@ -34,6 +34,21 @@ lost_cycle_3 =
 abbrev pub lost_history : History
 lost_history = lost_cycle_3 ∷ offset_cycle_2 ∷ offset_cycle_1 ∷ offset_cycle_0 ∷ []
 
+-- what is printed of it
+abbrev pub lost_report : List ℕ
+lost_report =
+    codes "nodes 2 sync 2 arbitrary 0 doubles 2\n"
+    ++ codes "precision 252043600\n"
+    ++ codes "covered no link 1 2 1\n"
+    ++ codes "in sync 0\n"
+    ++ codes "greatest skew 2500000 cycle 0 macrotick 0\n"
+    ++ codes "sent A 8 xor 000000\n"
+    ++ codes "sent B 0 xor 000000\n"
+    ++ codes "heard stored 7 outside 0 damaged 0 id 0 cycle 0 length 0 plain 0\n"
+    ++ codes "cut 0\n"
+    ++ codes "node 1 active next 800001000000 rate 0 offset 0\n"
+    ++ codes "node 2 active next 800001500000 rate 0 offset 0\n"
+
 -- ---- one bit of the frame is inverted, the first
 
 abbrev pub flipped_run : Setting
@@ -47,6 +62,21 @@ flipped_cycle_3 =
 
 abbrev pub flipped_history : History
 flipped_history = flipped_cycle_3 ∷ offset_cycle_2 ∷ offset_cycle_1 ∷ offset_cycle_0 ∷ []
+
+-- what is printed of it
+abbrev pub flipped_report : List ℕ
+flipped_report =
+    codes "nodes 2 sync 2 arbitrary 0 doubles 2\n"
+    ++ codes "precision 252043600\n"
+    ++ codes "covered no link 1 2 1\n"
+    ++ codes "in sync 0\n"
+    ++ codes "greatest skew 2500000 cycle 0 macrotick 0\n"
+    ++ codes "sent A 8 xor 000000\n"
+    ++ codes "sent B 0 xor 000000\n"
+    ++ codes "heard stored 7 outside 0 damaged 1 id 0 cycle 0 length 0 plain 0\n"
+    ++ codes "cut 0\n"
+    ++ codes "node 1 active next 800001000000 rate 0 offset 0\n"
+    ++ codes "node 2 active next 800001500000 rate 0 offset 0\n"
 
 -- ---- the frame is lost, and both nodes are on both channels
 
@@ -88,3 +118,18 @@ lost_on_one_cycle_3 =
 
 abbrev pub lost_on_one_history : History
 lost_on_one_history = lost_on_one_cycle_3 ∷ lost_on_one_cycle_2 ∷ lost_on_one_cycle_1 ∷ lost_on_one_cycle_0 ∷ []
+
+-- what is printed of it
+abbrev pub lost_on_one_report : List ℕ
+lost_on_one_report =
+    codes "nodes 2 sync 2 arbitrary 0 doubles 2\n"
+    ++ codes "precision 252043600\n"
+    ++ codes "covered yes\n"
+    ++ codes "in sync 0\n"
+    ++ codes "greatest skew 2500000 cycle 0 macrotick 0\n"
+    ++ codes "sent A 8 xor 000000\n"
+    ++ codes "sent B 8 xor 000000\n"
+    ++ codes "heard stored 15 outside 0 damaged 0 id 0 cycle 0 length 0 plain 0\n"
+    ++ codes "cut 0\n"
+    ++ codes "node 1 active next 800001000000 rate 0 offset 0\n"
+    ++ codes "node 2 active next 800001500000 rate 0 offset 0\n"

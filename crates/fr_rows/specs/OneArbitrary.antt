@@ -1,5 +1,5 @@
 -- A run of four nodes, one of which is arbitrary and says different things.
-use Rattle.std.specs.Prelude.{ℕ, ◌==◌, ℤ, pos, negsuc, List, [], ◌∷◌, ◌++◌, None, if◌then◌else◌}
+use Rattle.std.specs.Prelude.{ℕ, ◌==◌, ℤ, pos, negsuc, List, [], ◌∷◌, ◌++◌, None, if◌then◌else◌, codes}
 use Rattle.fr_base.specs.Event.{Event}
 use Rattle.fr_base.specs.Event.Event.{Regular, Silent, Say}
 use Rattle.fr_base.specs.declared.dev.Dev.{Dev}
@@ -54,3 +54,19 @@ one_arbitrary_cycle_1 = record {
 -- the whole run, the latest cycle first
 abbrev pub one_arbitrary_history : History
 one_arbitrary_history = one_arbitrary_cycle_1 ∷ one_arbitrary_cycle_0 ∷ []
+
+-- what is printed of it
+abbrev pub one_arbitrary_report : List ℕ
+one_arbitrary_report =
+    codes "nodes 4 sync 4 arbitrary 1 doubles 1\n"
+    ++ codes "precision 252043600\n"
+    ++ codes "covered yes\n"
+    ++ codes "in sync 0\n"
+    ++ codes "greatest skew 0 cycle 0 macrotick 0\n"
+    ++ codes "sent A 6 xor 5D6DCB\n"
+    ++ codes "sent B 0 xor 000000\n"
+    ++ codes "heard stored 16 outside 0 damaged 0 id 0 cycle 0 length 0 plain 0\n"
+    ++ codes "cut 0\n"
+    ++ codes "node 1 active next 400000000000 rate 0 offset 0\n"
+    ++ codes "node 2 active next 400000000000 rate 0 offset 0\n"
+    ++ codes "node 3 active next 400000000000 rate 0 offset 0\n"

@@ -1,5 +1,5 @@
 -- A run of three nodes, one of which is arbitrary and says nothing.
-use Rattle.std.specs.Prelude.{ℕ, ◌==◌, pos, List, [], ◌∷◌, ◌++◌, if◌then◌else◌}
+use Rattle.std.specs.Prelude.{ℕ, ◌==◌, pos, List, [], ◌∷◌, ◌++◌, if◌then◌else◌, codes}
 use Rattle.fr_base.specs.Event.Event.{Regular, Silent}
 use Rattle.fr_history.specs.Setting.{Setting}
 use Rattle.fr_history.specs.History.{History, Record}
@@ -36,3 +36,18 @@ quiet_cycle_1 = record {
 -- the whole run, the latest cycle first
 abbrev pub quiet_history : History
 quiet_history = quiet_cycle_1 ∷ quiet_cycle_0 ∷ []
+
+-- what is printed of it
+abbrev pub quiet_report : List ℕ
+quiet_report =
+    codes "nodes 3 sync 3 arbitrary 1 doubles 1\n"
+    ++ codes "precision 252043600\n"
+    ++ codes "covered no count 2 1\n"
+    ++ codes "in sync 0\n"
+    ++ codes "greatest skew 0 cycle 0 macrotick 0\n"
+    ++ codes "sent A 4 xor 000000\n"
+    ++ codes "sent B 0 xor 000000\n"
+    ++ codes "heard stored 4 outside 0 damaged 0 id 0 cycle 0 length 0 plain 0\n"
+    ++ codes "cut 0\n"
+    ++ codes "node 1 active next 400000000000 rate 0 offset 0\n"
+    ++ codes "node 2 active next 400000000000 rate 0 offset 0\n"

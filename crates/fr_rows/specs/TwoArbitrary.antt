@@ -1,5 +1,5 @@
 -- A run of eight nodes, two of which are arbitrary.
-use Rattle.std.specs.Prelude.{ℕ, ◌==◌, ◌||◌, pos, negsuc, List, [], ◌∷◌, ◌++◌, None, if◌then◌else◌}
+use Rattle.std.specs.Prelude.{ℕ, ◌==◌, ◌||◌, pos, negsuc, List, [], ◌∷◌, ◌++◌, None, if◌then◌else◌, codes}
 use Rattle.fr_base.specs.Event.{Event}
 use Rattle.fr_base.specs.Event.Event.{Regular, Silent, Say}
 use Rattle.fr_base.specs.declared.dev.Dev.{Dev}
@@ -56,3 +56,22 @@ two_arbitrary_cycle_1 = record {
 -- the whole run, the latest cycle first
 abbrev pub two_arbitrary_history : History
 two_arbitrary_history = two_arbitrary_cycle_1 ∷ two_arbitrary_cycle_0 ∷ []
+
+-- what is printed of it
+abbrev pub two_arbitrary_report : List ℕ
+two_arbitrary_report =
+    codes "nodes 8 sync 8 arbitrary 2 doubles 1\n"
+    ++ codes "precision 252043600\n"
+    ++ codes "covered yes\n"
+    ++ codes "in sync 0\n"
+    ++ codes "greatest skew 0 cycle 0 macrotick 0\n"
+    ++ codes "sent A 12 xor 000000\n"
+    ++ codes "sent B 0 xor 000000\n"
+    ++ codes "heard stored 82 outside 0 damaged 0 id 0 cycle 0 length 0 plain 0\n"
+    ++ codes "cut 0\n"
+    ++ codes "node 1 active next 400000000000 rate 0 offset 0\n"
+    ++ codes "node 2 active next 400000000000 rate 0 offset 0\n"
+    ++ codes "node 3 active next 400000000000 rate 0 offset 0\n"
+    ++ codes "node 4 active next 400000000000 rate 0 offset 0\n"
+    ++ codes "node 5 active next 400000000000 rate 0 offset 0\n"
+    ++ codes "node 6 active next 400000000000 rate 0 offset 0\n"
