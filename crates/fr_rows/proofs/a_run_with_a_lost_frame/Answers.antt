@@ -1,0 +1,14 @@
+use Rattle.fr_rows.proofs.Lost.{lost_history_is, lost_report_is, lost_skew_is, lost_sync_is}
+use Rattle.fr_rows.proofs.a_run_with_a_lost_frame.Goals as goal
+
+pub returns-clause-history : goal.returns-clause-history
+returns-clause-history c = lost_history_is
+
+pub returns-clause-skew : goal.returns-clause-skew
+returns-clause-skew c = lost_skew_is
+
+pub returns-clause-sync : goal.returns-clause-sync
+returns-clause-sync c = lost_sync_is
+
+pub returns-clause-report : goal.returns-clause-report
+returns-clause-report c = lost_report_is

@@ -1,0 +1,14 @@
+use Rattle.fr_rows.proofs.Quiet.{quiet_history_is, quiet_report_is, quiet_skew_is, quiet_sync_is}
+use Rattle.fr_rows.proofs.a_run_with_a_silent_arbitrary_node.Goals as goal
+
+pub returns-clause-history : goal.returns-clause-history
+returns-clause-history c = quiet_history_is
+
+pub returns-clause-skew : goal.returns-clause-skew
+returns-clause-skew c = quiet_skew_is
+
+pub returns-clause-sync : goal.returns-clause-sync
+returns-clause-sync c = quiet_sync_is
+
+pub returns-clause-report : goal.returns-clause-report
+returns-clause-report c = quiet_report_is

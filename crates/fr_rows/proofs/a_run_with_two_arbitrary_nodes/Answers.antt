@@ -1,0 +1,14 @@
+use Rattle.fr_rows.proofs.TwoArbitrary.{two_arbitrary_history_is, two_arbitrary_report_is, two_arbitrary_skew_is, two_arbitrary_sync_is}
+use Rattle.fr_rows.proofs.a_run_with_two_arbitrary_nodes.Goals as goal
+
+pub returns-clause-history : goal.returns-clause-history
+returns-clause-history c = two_arbitrary_history_is
+
+pub returns-clause-skew : goal.returns-clause-skew
+returns-clause-skew c = two_arbitrary_skew_is
+
+pub returns-clause-sync : goal.returns-clause-sync
+returns-clause-sync c = two_arbitrary_sync_is
+
+pub returns-clause-report : goal.returns-clause-report
+returns-clause-report c = two_arbitrary_report_is

@@ -1,0 +1,100 @@
+//! Worked runs of a cluster, computed from the definitions alone: what happens cycle by cycle, the greatest
+//! skew, the first double cycle in sync, and the report. Definitions and their values; nothing here runs.
+#![tactic(auto)]
+
+ghost use Rattle.std.specs.Prelude.{◌≡◌, None, Some, pos};
+ghost use Rattle.fr_script.specs.declared.gap.Gap.TheVariants.{Count, Link};
+ghost use Rattle.fr_history.specs.Next.{history_of};
+ghost use Rattle.fr_history.specs.Skew.{greatest_skew_of};
+ghost use Rattle.fr_history.specs.Sync.{first_sync_of};
+ghost use Rattle.fr_report.specs.Text.{report_of};
+ghost use Rattle.fr_rows.specs.Offset.{offset_history, offset_report, offset_run};
+ghost use Rattle.fr_rows.specs.Rates.{rates_history, rates_report, rates_run};
+ghost use Rattle.fr_rows.specs.OneArbitrary.{one_arbitrary_history, one_arbitrary_report, one_arbitrary_run};
+ghost use Rattle.fr_rows.specs.TwoArbitrary.{two_arbitrary_history, two_arbitrary_report, two_arbitrary_run};
+ghost use Rattle.fr_rows.specs.Quiet.{quiet_history, quiet_report, quiet_run};
+ghost use Rattle.fr_rows.specs.Lost.{
+    flipped_history,
+    flipped_report,
+    flipped_run,
+    lost_history,
+    lost_on_one_history,
+    lost_on_one_report,
+    lost_on_one_run,
+    lost_report,
+    lost_run,
+};
+
+/// A law: two clocks that start two and a half microticks apart come within half a microtick.
+pub fn a_run_with_an_offset()
+    ensures history { history_of offset_run 4 ≡ offset_history }
+    ensures skew { greatest_skew_of offset_run.params offset_history ≡
+        Some (record { skew = pos 2_500_000; cycle = 0; macrotick = 0 }) }
+    ensures sync { first_sync_of offset_run.params offset_history ≡ Some 0 }
+    ensures report { report_of offset_run None offset_history ≡ offset_report }
+{}
+
+/// A law: where two oscillators lie apart, the rate terms bring the cycles together, and the skew is
+/// greatest where the first offset correction starts.
+pub fn a_run_with_drifting_rates()
+    ensures history { history_of rates_run 4 ≡ rates_history }
+    ensures skew { greatest_skew_of rates_run.params rates_history ≡
+        Some (record { skew = pos 79_200_000; cycle = 1; macrotick = 4_900 }) }
+    ensures sync { first_sync_of rates_run.params rates_history ≡ Some 1 }
+    ensures report { report_of rates_run None rates_history ≡ rates_report }
+{}
+
+/// A law: an arbitrary node that says different things to each of three correct nodes moves none of
+/// them.
+pub fn a_run_with_one_arbitrary_node()
+    ensures history { history_of one_arbitrary_run 2 ≡ one_arbitrary_history }
+    ensures skew { greatest_skew_of one_arbitrary_run.params one_arbitrary_history ≡
+        Some (record { skew = pos 0; cycle = 0; macrotick = 0 }) }
+    ensures sync { first_sync_of one_arbitrary_run.params one_arbitrary_history ≡ Some 0 }
+    ensures report { report_of one_arbitrary_run None one_arbitrary_history ≡ one_arbitrary_report }
+{}
+
+/// A law: two arbitrary nodes move none of six correct ones.
+pub fn a_run_with_two_arbitrary_nodes()
+    ensures history { history_of two_arbitrary_run 2 ≡ two_arbitrary_history }
+    ensures skew { greatest_skew_of two_arbitrary_run.params two_arbitrary_history ≡
+        Some (record { skew = pos 0; cycle = 0; macrotick = 0 }) }
+    ensures sync { first_sync_of two_arbitrary_run.params two_arbitrary_history ≡ Some 0 }
+    ensures report { report_of two_arbitrary_run None two_arbitrary_history ≡ two_arbitrary_report }
+{}
+
+/// A law: two correct nodes are too few beside an arbitrary one, even where that says nothing.
+pub fn a_run_with_a_silent_arbitrary_node()
+    ensures history { history_of quiet_run 2 ≡ quiet_history }
+    ensures skew { greatest_skew_of quiet_run.params quiet_history ≡
+        Some (record { skew = pos 0; cycle = 0; macrotick = 0 }) }
+    ensures sync { first_sync_of quiet_run.params quiet_history ≡ Some 0 }
+    ensures report { report_of quiet_run (Some (Count 2 1)) quiet_history ≡ quiet_report }
+{}
+
+/// A law: a frame that is lost is not measured.
+pub fn a_run_with_a_lost_frame()
+    ensures history { history_of lost_run 4 ≡ lost_history }
+    ensures skew { greatest_skew_of lost_run.params lost_history ≡
+        Some (record { skew = pos 2_500_000; cycle = 0; macrotick = 0 }) }
+    ensures sync { first_sync_of lost_run.params lost_history ≡ Some 0 }
+    ensures report { report_of lost_run (Some (Link 1 2 1)) lost_history ≡ lost_report }
+{}
+
+/// A law: a frame with one bit inverted is found damaged.
+pub fn a_run_with_a_flipped_frame()
+    ensures history { history_of flipped_run 4 ≡ flipped_history }
+    ensures skew { greatest_skew_of flipped_run.params flipped_history ≡
+        Some (record { skew = pos 2_500_000; cycle = 0; macrotick = 0 }) }
+    ensures sync { first_sync_of flipped_run.params flipped_history ≡ Some 0 }
+    ensures report { report_of flipped_run (Some (Link 1 2 1)) flipped_history ≡ flipped_report }
+{}
+
+/// A law: a frame that is lost on one channel is measured on the other.
+pub fn a_run_with_a_frame_lost_on_one_channel()
+    ensures history { history_of lost_on_one_run 4 ≡ lost_on_one_history }
+    ensures skew { greatest_skew_of lost_on_one_run.params lost_on_one_history ≡
+        Some (record { skew = pos 2_500_000; cycle = 0; macrotick = 0 }) }
+    ensures sync { first_sync_of lost_on_one_run.params lost_on_one_history ≡ Some 0 }
+    ensures report { report_of lost_on_one_run None lost_on_one_history ≡ lost_on_one_report }
+{}
