@@ -21,7 +21,8 @@ pub record AreInOrder (d : DriftView) : Type 0 where
   pub delays_b : is_sorted delay_cmp d.delays_b ≡ true
 
 -- the drift is what the records say: its number of double cycles is that of their one row, its starts, lengths and delays
--- are those of their rows, and it keeps the compensation that these parameters answer for each channel
+-- are those of their rows, in the order of their keys, and it keeps the compensation that these parameters answer for each
+-- channel
 pub record StandsFor (p : Values) (d : DriftView) (records : List Record) : Type 0 where
   pub doubles : doubles_at records ≡ Some d.doubles
   pub compensation : (ch : Channel) → compensation_on d ch ≡ compensation_of p ch
