@@ -48,7 +48,8 @@ impl Model for Node {
 
 impl Node {
     ghost use Rattle.fr_node.specs.View.{row_of, IsProperRow};
-    ghost use Rattle.fr_node.specs.Own.{own_key, Fits};
+    ghost use Rattle.fr_reception.specs.Own.{own_key};
+    ghost use Rattle.fr_node.specs.Fits.{Fits};
     ghost use Rattle.fr_node.specs.Cycle.{after_hearing, begun, corrected_row, corrects, ended, ended_row, fresh, offset_term_in, passed, rate_term_in};
     ghost use Rattle.fr_node.specs.Arrivals.{IfStored};
 
