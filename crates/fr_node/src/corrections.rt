@@ -22,7 +22,7 @@ fn offset_limit(params: &Params) -> i32
 }
 
 // The limit of the rate term.
-fn rate_limit(params: &Params) -> i32
+pub(crate) fn rate_limit(params: &Params) -> i32
     ensures value { result ≡ params.now.rate_limit }
     ensures from { pos 1 ≤ℤ result }
     ensures to { result ≤ℤ pos 2000 }
