@@ -22,7 +22,8 @@ use Rattle.fr_midpoint.specs.Midpoint.{IsMidpoint}
 use Rattle.fr_correct.specs.declared.term.Term.{Term}
 use Rattle.fr_base.specs.declared.channel.Channel.TheVariants.{A}
 use Rattle.fr_bound.specs.Bounds.{arrival_error, lambda_of, longest_micro, pi_of, precision_of}
-use Rattle.fr_precision.specs.Rows.{corrected_end_of, length_of, AreNear, HasProperLength, HasProperMicro, Lasts, Sender}
+use Rattle.fr_bound.specs.Sync.{cycle_length_of, IsProperLength}
+use Rattle.fr_precision.specs.Rows.{corrected_end_of, AreNear, HasProperMicro, Lasts, Sender}
 use Rattle.fr_precision.specs.Instants.{gap_of, Runs}
 use Rattle.fr_precision.specs.Offsets.{IsDeviation, IsOffsetRound, IsSending, LimitSuffices, NearAll, ReachAll}
 use Rattle.fr_precision.specs.Placement.{IsRegular}
@@ -234,17 +235,17 @@ starts_near =
     (two (λ (other : Sender). IsWithin (pos (pi_of cluster)) (first.even.start -ℤ other.even.start)) first second (record { low = record { le = tt }; high = record { le = tt } }) (record { low = record { le = tt }; high = record { le = tt } }))
     (two (λ (other : Sender). IsWithin (pos (pi_of cluster)) (second.even.start -ℤ other.even.start)) first second (record { low = record { le = tt }; high = record { le = tt } }) (record { low = record { le = tt }; high = record { le = tt } }))
 
-even_near : AreNear (λ sender. length_of cluster sender.even) (pos (lambda_of cluster)) both
+even_near : AreNear (λ sender. cycle_length_of cluster sender.even) (pos (lambda_of cluster)) both
 even_near =
-    two (λ (one : Sender). All (λ (other : Sender). IsWithin (pos (lambda_of cluster)) (length_of cluster one.even -ℤ length_of cluster other.even)) both) first second
-    (two (λ (other : Sender). IsWithin (pos (lambda_of cluster)) (length_of cluster first.even -ℤ length_of cluster other.even)) first second (record { low = record { le = tt }; high = record { le = tt } }) (record { low = record { le = tt }; high = record { le = tt } }))
-    (two (λ (other : Sender). IsWithin (pos (lambda_of cluster)) (length_of cluster second.even -ℤ length_of cluster other.even)) first second (record { low = record { le = tt }; high = record { le = tt } }) (record { low = record { le = tt }; high = record { le = tt } }))
+    two (λ (one : Sender). All (λ (other : Sender). IsWithin (pos (lambda_of cluster)) (cycle_length_of cluster one.even -ℤ cycle_length_of cluster other.even)) both) first second
+    (two (λ (other : Sender). IsWithin (pos (lambda_of cluster)) (cycle_length_of cluster first.even -ℤ cycle_length_of cluster other.even)) first second (record { low = record { le = tt }; high = record { le = tt } }) (record { low = record { le = tt }; high = record { le = tt } }))
+    (two (λ (other : Sender). IsWithin (pos (lambda_of cluster)) (cycle_length_of cluster second.even -ℤ cycle_length_of cluster other.even)) first second (record { low = record { le = tt }; high = record { le = tt } }) (record { low = record { le = tt }; high = record { le = tt } }))
 
-odd_near : AreNear (λ sender. length_of cluster sender.odd) (pos (lambda_of cluster)) both
+odd_near : AreNear (λ sender. cycle_length_of cluster sender.odd) (pos (lambda_of cluster)) both
 odd_near =
-    two (λ (one : Sender). All (λ (other : Sender). IsWithin (pos (lambda_of cluster)) (length_of cluster one.odd -ℤ length_of cluster other.odd)) both) first second
-    (two (λ (other : Sender). IsWithin (pos (lambda_of cluster)) (length_of cluster first.odd -ℤ length_of cluster other.odd)) first second (record { low = record { le = tt }; high = record { le = tt } }) (record { low = record { le = tt }; high = record { le = tt } }))
-    (two (λ (other : Sender). IsWithin (pos (lambda_of cluster)) (length_of cluster second.odd -ℤ length_of cluster other.odd)) first second (record { low = record { le = tt }; high = record { le = tt } }) (record { low = record { le = tt }; high = record { le = tt } }))
+    two (λ (one : Sender). All (λ (other : Sender). IsWithin (pos (lambda_of cluster)) (cycle_length_of cluster one.odd -ℤ cycle_length_of cluster other.odd)) both) first second
+    (two (λ (other : Sender). IsWithin (pos (lambda_of cluster)) (cycle_length_of cluster first.odd -ℤ cycle_length_of cluster other.odd)) first second (record { low = record { le = tt }; high = record { le = tt } }) (record { low = record { le = tt }; high = record { le = tt } }))
+    (two (λ (other : Sender). IsWithin (pos (lambda_of cluster)) (cycle_length_of cluster second.odd -ℤ cycle_length_of cluster other.odd)) first second (record { low = record { le = tt }; high = record { le = tt } }) (record { low = record { le = tt }; high = record { le = tt } }))
 
 -- the limit suffices for the precision, and each node is within reach of the other
 suffices : LimitSuffices cluster (pos (precision_of cluster))
@@ -264,13 +265,13 @@ reach_second =
 
 near_first : NearAll cluster (pos (lambda_of cluster)) both first.odd
 near_first =
-    two (λ (sender : Sender). IsWithin (pos (lambda_of cluster)) (length_of cluster first.odd -ℤ length_of cluster sender.odd)) first second
+    two (λ (sender : Sender). IsWithin (pos (lambda_of cluster)) (cycle_length_of cluster first.odd -ℤ cycle_length_of cluster sender.odd)) first second
     (record { low = record { le = tt }; high = record { le = tt } })
     (record { low = record { le = tt }; high = record { le = tt } })
 
 near_second : NearAll cluster (pos (lambda_of cluster)) both second.odd
 near_second =
-    two (λ (sender : Sender). IsWithin (pos (lambda_of cluster)) (length_of cluster second.odd -ℤ length_of cluster sender.odd)) first second
+    two (λ (sender : Sender). IsWithin (pos (lambda_of cluster)) (cycle_length_of cluster second.odd -ℤ cycle_length_of cluster sender.odd)) first second
     (record { low = record { le = tt }; high = record { le = tt } })
     (record { low = record { le = tt }; high = record { le = tt } })
 
@@ -333,11 +334,9 @@ rates_of_second = record {
   is_term = inr (pos 0, middle_of_zeros, refl);
 }
 
-proper : All (λ sender. HasProperLength cluster sender.odd) both
+proper : All (λ sender. IsProperLength cluster (cycle_length_of cluster sender.odd)) both
 proper =
-    two (λ (sender : Sender). HasProperLength cluster sender.odd) first second
-    (record { least = record { le = tt }; most = record { le = tt } })
-    (record { least = record { le = tt }; most = record { le = tt } })
+    two (λ (sender : Sender). IsProperLength cluster (cycle_length_of cluster sender.odd)) first second (record { le = tt }, record { le = tt }) (record { le = tt }, record { le = tt })
 
 next_first : IsNext cluster first.odd zero_term (row 1 400_001_000_000 (pos 0)) (row 1 600_001_000_000 (pos 0))
 next_first = record {
