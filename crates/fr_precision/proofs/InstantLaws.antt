@@ -100,7 +100,7 @@ odd_start_is p even odd double =
     none : (n r o : ℤ) → o ≡ pos 0 → n +ℤ r +ℤ o ≡ n +ℤ r
     none n r o e = omega (arith, ints)
 
-wider : (a b x : ℤ) → a ≤ℤ b → IsWithin a x → IsWithin b x
+pub wider : (a b x : ℤ) → a ≤ℤ b → IsWithin a x → IsWithin b x
 wider a b x le within = record { low = omega (arith, ints, within.low); high = omega (arith, ints, within.high) }
 
 -- the odd cycles' starts lie no further apart than the even ones' and their lengths

@@ -8,4 +8,5 @@ pub mod InstantLaws
 pub mod OffsetLaws
 pub mod PlacementLaws
 pub mod ReceptionLaws
+pub mod StepLaws
 mod Worked

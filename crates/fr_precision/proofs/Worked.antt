@@ -27,6 +27,8 @@ use Rattle.fr_precision.specs.Rows.{corrected_end_of, AreNear, HasProperMicro, L
 use Rattle.fr_precision.specs.Instants.{gap_of, Runs}
 use Rattle.fr_precision.specs.Offsets.{IsDeviation, IsOffsetRound, IsSending, LimitSuffices, NearAll, ReachAll}
 use Rattle.fr_precision.specs.Placement.{IsRegular}
+use Rattle.fr_precision.specs.Step.{AreSynced, Member, SendersAreSynced, StaySynced, TakesPart}
+use Rattle.fr_precision.proofs.StepLaws.{sync_is_kept_lem}
 use Rattle.fr_precision.specs.Rates.{IsNext, IsRateRound, PlacesLength}
 use Rattle.fr_precision.proofs.InstantLaws.{precision_holds_lem}
 use Rattle.fr_precision.proofs.OffsetLaws.{ends_stay_together, offset_terms_are_uncut, third_check_suffices}
@@ -414,3 +416,66 @@ arrives =
     arrives_in_slot cluster (pos (precision_of cluster)) (pos 0) 2 A false first.even second.even is_sane (room_checks_suffice cluster is_sane refl refl) (lit≤ tt) (lit≤ tt)
     (record { low = record { le = tt }; high = record { le = tt } }) (record { le = tt })
     (record { low = record { le = tt }; high = record { le = tt } }) (record { low = record { le = tt }; high = record { le = tt } })
+
+-- both take part, and stay in sync
+abbrev first_member : Member
+first_member = record {
+  even = first.even;
+  odd = first.odd;
+  offsets = first_values;
+  rates = zeros;
+  offset_term = first_term;
+  rate_term = zero_term;
+}
+
+abbrev second_member : Member
+second_member = record {
+  even = second.even;
+  odd = second.odd;
+  offsets = second_values;
+  rates = zeros;
+  offset_term = second_term;
+  rate_term = zero_term;
+}
+
+synced : (one other : Sender) → IsWithin (pos (pi_of cluster)) (one.even.start -ℤ other.even.start)
+    → IsWithin (pos (lambda_of cluster)) (cycle_length_of cluster one.even -ℤ cycle_length_of cluster other.even)
+    → IsWithin (pos (lambda_of cluster)) (cycle_length_of cluster one.odd -ℤ cycle_length_of cluster other.odd)
+    → AreSynced cluster one.even one.odd other.even other.odd
+synced one other start even odd = record { by_start = start; by_even = even; by_odd = odd }
+
+senders_synced : SendersAreSynced cluster both
+senders_synced = record {
+  sending = two (IsSending cluster) first second sending_first sending_second;
+  run = two (λ (sender : Sender). Runs cluster sender.even sender.odd) first second runs_first runs_second;
+  near = record { by_start = starts_near; by_even = even_near; by_odd = odd_near };
+  proper = proper;
+}
+
+first_takes_part : TakesPart cluster both first_member
+first_takes_part = record {
+  runs = runs_first;
+  near =
+      two (λ (sender : Sender). AreSynced cluster sender.even sender.odd first.even first.odd) first second
+      (synced first first (record { low = record { le = tt }; high = record { le = tt } }) (record { low = record { le = tt }; high = record { le = tt } }) (record { low = record { le = tt }; high = record { le = tt } }))
+      (synced second first (record { low = record { le = tt }; high = record { le = tt } }) (record { low = record { le = tt }; high = record { le = tt } }) (record { low = record { le = tt }; high = record { le = tt } }));
+  by_offset = offsets_of_first;
+  by_rate = rates_of_first;
+}
+
+second_takes_part : TakesPart cluster both second_member
+second_takes_part = record {
+  runs = runs_second;
+  near =
+      two (λ (sender : Sender). AreSynced cluster sender.even sender.odd second.even second.odd) first second
+      (synced first second (record { low = record { le = tt }; high = record { le = tt } }) (record { low = record { le = tt }; high = record { le = tt } }) (record { low = record { le = tt }; high = record { le = tt } }))
+      (synced second second (record { low = record { le = tt }; high = record { le = tt } }) (record { low = record { le = tt }; high = record { le = tt } }) (record { low = record { le = tt }; high = record { le = tt } }));
+  by_offset = offsets_of_second;
+  by_rate = rates_of_second;
+}
+
+stay_synced : StaySynced cluster first_member second_member
+stay_synced =
+    sync_is_kept_lem cluster both first_member second_member is_sane refl refl refl senders_synced first_takes_part second_takes_part
+    (synced first second (record { low = record { le = tt }; high = record { le = tt } }) (record { low = record { le = tt }; high = record { le = tt } }) (record { low = record { le = tt }; high = record { le = tt } }))
+    (lit≤ tt) (lit≤ tt)

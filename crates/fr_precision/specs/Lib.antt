@@ -4,3 +4,4 @@ pub mod Placement
 pub mod Rates
 pub mod Reception
 pub mod Rows
+pub mod Step
