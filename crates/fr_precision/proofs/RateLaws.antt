@@ -19,7 +19,7 @@ use Rattle.fr_bound.specs.Bounds.{cycle_change, lambda_of, longest_micro, shorte
 use Rattle.fr_bound.specs.Checks.{holds_of}
 use Rattle.fr_bound.specs.Sync.{cycle_length_of, IsProperLength}
 use Rattle.fr_precision.specs.Rows.{longest_cycle, shortest_cycle, HasProperMicro, IsSteady, KeepOne, Sender}
-use Rattle.fr_precision.specs.Rates.{near_length, IsRateRound, LengthsDrawTogether, LengthsStayInRange, LengthsStayNear, LengthsStayTogether, LengthsWithin, PlacesLength, RateTermsAreUncut}
+use Rattle.fr_precision.specs.Rates.{near_length, IsRateRound, LengthsDrawTogether, LengthsStayInRange, LengthsStayNear, LengthsStayTogether, LengthsWithin, NearLengthIsBelowLambda, PlacesLength, RateTermsAreUncut}
 use Rattle.fr_precision.proofs.Figures.{figures_of, longest_is, natural, shortest_is, times_natural}
 use Rattle.fr_precision.proofs.Moves.{damped_near, moved, Moved}
 use Rattle.fr_precision.proofs.Ranges.{ranged, Ranged}
@@ -374,3 +374,9 @@ lengths_stay_near p senders spread row values term even odd sane first second so
       near_sender p senders spread row values term odd (cycle_length_of p one.odd) sane first second near is round odd_near,
     ))
     within
+
+pub near_length_is_below_lambda : NearLengthIsBelowLambda
+near_length_is_below_lambda p = step (y1_of p) (longest_micro p) (cycle_change p) (amount p name.pClusterDriftDamping * longest_micro p)
+  where
+    step : (y1 qp j cqp : ℕ) → y1 + cqp + 2 * j ≤ 4 * y1 + 2 * qp + 4 * cqp + 8 * j
+    step y1 qp j cqp = omega arith

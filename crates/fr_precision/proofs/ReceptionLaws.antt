@@ -157,7 +157,7 @@ delay_range p channel.A delay sane near = let range = sane.ranges name.pDelayCom
 delay_range p channel.B delay sane near = let range = sane.ranges name.pDelayCompensation in compensated p.compensation (amount p name.xDelayError) delay range.0 near
 
 -- a slot and its end before the offset correction
-ends_before : (p : Values) (slot : ℕ) → IsSane p → slot ≤ amount p name.gNumberOfStaticSlots → pos (slot_end_of p slot) ≤ℤ p.correction
+pub ends_before : (p : Values) (slot : ℕ) → IsSane p → slot ≤ amount p name.gNumberOfStaticSlots → pos (slot_end_of p slot) ≤ℤ p.correction
 ends_before p slot sane static =
     let range = sane.ranges name.gOffsetCorrectionStart in
     let behind = slot_end_lt p slot sane static in

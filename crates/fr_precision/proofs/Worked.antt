@@ -26,7 +26,11 @@ use Rattle.fr_bound.specs.Sync.{cycle_length_of, IsProperLength}
 use Rattle.fr_precision.specs.Rows.{corrected_end_of, AreNear, HasProperMicro, Lasts, Sender}
 use Rattle.fr_precision.specs.Instants.{gap_of, Runs}
 use Rattle.fr_precision.specs.Offsets.{IsDeviation, IsOffsetRound, IsSending, LimitSuffices, NearAll, ReachAll}
+use Rattle.fr_precision.specs.Deviations.{counted_of}
 use Rattle.fr_precision.specs.Placement.{IsRegular}
+use Rattle.fr_time.specs.Position.{grid_for}
+use Rattle.fr_time.specs.Instant.{instant_of}
+use Rattle.fr_precision.proofs.DeviationLaws.{counted_is_deviation, recorded_is_deviation}
 use Rattle.fr_precision.specs.Step.{AreSynced, Member, SendersAreSynced, StaySynced, TakesPart}
 use Rattle.fr_precision.proofs.StepLaws.{sync_is_kept_lem}
 use Rattle.fr_precision.specs.Rates.{IsNext, IsRateRound, PlacesLength}
@@ -202,6 +206,22 @@ own_of_second = record { low = record { lt = tt }; high = record { le = tt } }
 -- two microticks more than node 1 measures is no deviation that it may have
 not_four : IsDeviation cluster true (pos 37) first.odd second.odd (pos 4) → ⊥
 not_four dev = absurd (dev.high.le)
+
+-- these are what they count where frames come without a delay
+counted :
+    (counted_of cluster first.odd 2 A (instant_of (grid_for cluster) second.odd true (pos 37) +ℤ pos 0) ≡ pos 2)
+    × (counted_of cluster second.odd 1 A (instant_of (grid_for cluster) first.odd true (pos 7) +ℤ pos 0) ≡ negsuc 2)
+counted = (refl, refl)
+
+also_first_of_second : IsDeviation cluster true (pos 37) first.odd second.odd (pos 2)
+also_first_of_second =
+    counted_is_deviation cluster (pos 0) 2 A true first.odd second.odd is_sane (lit≤ tt) (lit≤ tt) (micro 1 200_000_000_000 (pos 1))
+    (record { low = record { le = tt }; high = record { le = tt } })
+
+-- and they lie in the range that the gap of both instants gives
+recorded_first_of_second : IsDeviation cluster true (pos 37) first.odd second.odd (pos 2)
+recorded_first_of_second =
+    recorded_is_deviation cluster true (pos 37) (pos 2) first.odd second.odd (lasts 1 200_000_000_000 (pos 1)) (record { le = tt }) (record { le = tt })
 
 offsets_of_first : IsOffsetRound cluster both first.odd first_values first_term
 offsets_of_first = record {

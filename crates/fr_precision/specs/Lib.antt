@@ -1,3 +1,4 @@
+pub mod Deviations
 pub mod Instants
 pub mod Offsets
 pub mod Placement

@@ -109,3 +109,7 @@ LengthsStayNear =
     → IsRateRound p senders row values term → IsNext p row term even odd
     → All (λ (sender : Sender). IsWithin (spread +ℤ pos (near_length p)) (cycle_length_of p even -ℤ cycle_length_of p sender.odd)
     × IsWithin (spread +ℤ pos (near_length p)) (cycle_length_of p odd -ℤ cycle_length_of p sender.odd)) senders
+
+-- so that is no further than lambda beyond the spread
+abbrev pub NearLengthIsBelowLambda : Type 0
+NearLengthIsBelowLambda = (p : Values) → near_length p ≤ lambda_of p

@@ -2,6 +2,7 @@
 //! values that each node has of the others.
 #![tactic(auto)]
 
+mod deviations;
 mod instants;
 mod offsets;
 mod placement;
@@ -9,6 +10,7 @@ mod rates;
 mod reception;
 mod step;
 
+pub use deviations::deviations_are_gaps;
 pub use instants::{macroticks_stay_near, precision_holds};
 pub use offsets::{offsets_stay_in_limit, starts_draw_together};
 pub use placement::rate_values_place_lengths;
