@@ -6,3 +6,4 @@ pub mod OneArbitrary
 pub mod TwoArbitrary
 pub mod Quiet
 pub mod Lost
+pub mod Positions

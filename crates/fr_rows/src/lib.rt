@@ -2,12 +2,13 @@
 //! skew, the first double cycle in sync, and the report. Definitions and their values; nothing here runs.
 #![tactic(auto)]
 
-ghost use Rattle.std.specs.Prelude.{◌≡◌, None, Some, pos};
+ghost use Rattle.std.specs.Prelude.{◌≡◌, None, Some, false, pos, true};
 ghost use Rattle.fr_script.specs.declared.gap.Gap.TheVariants.{Count, Link};
 ghost use Rattle.fr_history.specs.Next.{history_of};
 ghost use Rattle.fr_history.specs.Skew.{greatest_skew_of};
 ghost use Rattle.fr_history.specs.Sync.{first_sync_of};
 ghost use Rattle.fr_report.specs.Text.{report_of};
+ghost use Rattle.fr_rows.specs.Positions.{even_positions, odd_positions, positions_of, short_grid};
 ghost use Rattle.fr_rows.specs.Offset.{offset_history, offset_report, offset_run};
 ghost use Rattle.fr_rows.specs.Rates.{rates_history, rates_report, rates_run};
 ghost use Rattle.fr_rows.specs.OneArbitrary.{one_arbitrary_history, one_arbitrary_report, one_arbitrary_run};
@@ -97,4 +98,10 @@ pub fn a_run_with_a_frame_lost_on_one_channel()
         Some (record { skew = pos 2_500_000; cycle = 0; macrotick = 0 }) }
     ensures sync { first_sync_of lost_on_one_run.params lost_on_one_history ≡ Some 0 }
     ensures report { report_of lost_on_one_run None lost_on_one_history ≡ lost_on_one_report }
+{}
+
+/// A law: where the macroticks of a short cycle lie, in an even cycle and in an odd one with a correction.
+pub fn positions_in_a_short_cycle()
+    ensures even { positions_of (short_grid (pos 9)) (pos 0) false ≡ even_positions }
+    ensures odd { positions_of (short_grid (pos 8)) (pos 2) true ≡ odd_positions }
 {}
