@@ -9,3 +9,4 @@ pub mod Draft
 pub mod Files
 pub mod First
 pub mod Links
+pub mod Coverage

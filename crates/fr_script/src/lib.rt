@@ -6,17 +6,20 @@ mod deeds;
 mod draft;
 mod fault;
 mod gap;
+mod gaps;
 mod laws;
 mod linking;
 mod reading;
 mod rows;
 mod script;
 mod search;
+mod spans;
 #[cfg(test)]
 mod tests;
 
 pub use fault::ScriptFault;
 pub use gap::Gap;
+pub use gaps::covered;
 pub use laws::{arbitrary_node_has_key_slot, events_are_proper, one_answer, script_of_a_file_fits};
 pub use reading::read;
 pub use script::{Event, Script};
