@@ -5,3 +5,4 @@ pub mod OneArbitrary
 pub mod Quiet
 pub mod Lost
 pub mod TwoArbitrary
+pub mod Gaps

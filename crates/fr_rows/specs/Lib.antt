@@ -1,5 +1,6 @@
 pub mod Clusters
 pub mod Entries
+pub mod Files
 pub mod Offset
 pub mod Rates
 pub mod OneArbitrary

@@ -8,6 +8,7 @@ use Rattle.fr_history.specs.Setting.{Setting}
 use Rattle.fr_history.specs.History.{History, Record}
 use Rattle.fr_rows.specs.Clusters.{cluster_of, on_a}
 use Rattle.fr_rows.specs.Entries.{all_stored, measured, steady_rows}
+use Rattle.fr_rows.specs.Files.{said_first}
 
 -- what node 4 says: that it is 100 microticks late, as much early, or nothing
 abbrev pub said_to : ℕ → Event
@@ -26,7 +27,7 @@ one_arbitrary_run = record {
   microtick = λ _ _. pos 1_000_000;
   delay = λ _ _ _ _. pos 0;
   is_arbitrary = λ node. node == 4;
-  event = λ _ sender receiver _. if sender == 4 then said_to receiver else Regular;
+  event = λ cycle sender receiver channel. if sender == 4 then said_first (said_to receiver) cycle channel else Regular;
 }
 
 -- the deviations of each cycle

@@ -3,11 +3,15 @@
 #![tactic(auto)]
 
 ghost use Rattle.std.specs.Prelude.{◌≡◌, None, Some, false, pos, true};
+ghost use Rattle.fr_drift.specs.View.{DriftView};
+ghost use Rattle.fr_script.specs.Coverage.{first_gap};
+ghost use Rattle.fr_script.specs.View.{ScriptView};
 ghost use Rattle.fr_script.specs.declared.gap.Gap.TheVariants.{Count, Link};
 ghost use Rattle.fr_history.specs.Next.{history_of};
 ghost use Rattle.fr_history.specs.Skew.{greatest_skew_of};
 ghost use Rattle.fr_history.specs.Sync.{first_sync_of};
 ghost use Rattle.fr_report.specs.Text.{report_of};
+ghost use Rattle.fr_rows.specs.Files.{run_of};
 ghost use Rattle.fr_rows.specs.Positions.{even_positions, odd_positions, positions_of, short_grid};
 ghost use Rattle.fr_rows.specs.Offset.{offset_history, offset_report, offset_run};
 ghost use Rattle.fr_rows.specs.Rates.{rates_history, rates_report, rates_run};
@@ -32,6 +36,8 @@ pub fn a_run_with_an_offset()
     ensures skew { greatest_skew_of offset_run.params offset_history ≡
         Some (record { skew = pos 2_500_000; cycle = 0; macrotick = 0 }) }
     ensures sync { first_sync_of offset_run.params offset_history ≡ Some 0 }
+    ensures gap { (d : DriftView) (s : ScriptView) → run_of offset_run.params d s ≡ offset_run →
+        first_gap offset_run.params d s ≡ None }
     ensures report { report_of offset_run None offset_history ≡ offset_report }
 {}
 
@@ -42,6 +48,8 @@ pub fn a_run_with_drifting_rates()
     ensures skew { greatest_skew_of rates_run.params rates_history ≡
         Some (record { skew = pos 79_200_000; cycle = 1; macrotick = 4_900 }) }
     ensures sync { first_sync_of rates_run.params rates_history ≡ Some 1 }
+    ensures gap { (d : DriftView) (s : ScriptView) → run_of rates_run.params d s ≡ rates_run →
+        first_gap rates_run.params d s ≡ None }
     ensures report { report_of rates_run None rates_history ≡ rates_report }
 {}
 
@@ -52,6 +60,8 @@ pub fn a_run_with_one_arbitrary_node()
     ensures skew { greatest_skew_of one_arbitrary_run.params one_arbitrary_history ≡
         Some (record { skew = pos 0; cycle = 0; macrotick = 0 }) }
     ensures sync { first_sync_of one_arbitrary_run.params one_arbitrary_history ≡ Some 0 }
+    ensures gap { (d : DriftView) (s : ScriptView) → run_of one_arbitrary_run.params d s ≡ one_arbitrary_run →
+        first_gap one_arbitrary_run.params d s ≡ None }
     ensures report { report_of one_arbitrary_run None one_arbitrary_history ≡ one_arbitrary_report }
 {}
 
@@ -61,6 +71,8 @@ pub fn a_run_with_two_arbitrary_nodes()
     ensures skew { greatest_skew_of two_arbitrary_run.params two_arbitrary_history ≡
         Some (record { skew = pos 0; cycle = 0; macrotick = 0 }) }
     ensures sync { first_sync_of two_arbitrary_run.params two_arbitrary_history ≡ Some 0 }
+    ensures gap { (d : DriftView) (s : ScriptView) → run_of two_arbitrary_run.params d s ≡ two_arbitrary_run →
+        first_gap two_arbitrary_run.params d s ≡ None }
     ensures report { report_of two_arbitrary_run None two_arbitrary_history ≡ two_arbitrary_report }
 {}
 
@@ -70,6 +82,8 @@ pub fn a_run_with_a_silent_arbitrary_node()
     ensures skew { greatest_skew_of quiet_run.params quiet_history ≡
         Some (record { skew = pos 0; cycle = 0; macrotick = 0 }) }
     ensures sync { first_sync_of quiet_run.params quiet_history ≡ Some 0 }
+    ensures gap { (d : DriftView) (s : ScriptView) → run_of quiet_run.params d s ≡ quiet_run →
+        first_gap quiet_run.params d s ≡ Some (Count 2 1) }
     ensures report { report_of quiet_run (Some (Count 2 1)) quiet_history ≡ quiet_report }
 {}
 
@@ -79,6 +93,8 @@ pub fn a_run_with_a_lost_frame()
     ensures skew { greatest_skew_of lost_run.params lost_history ≡
         Some (record { skew = pos 2_500_000; cycle = 0; macrotick = 0 }) }
     ensures sync { first_sync_of lost_run.params lost_history ≡ Some 0 }
+    ensures gap { (d : DriftView) (s : ScriptView) → run_of lost_run.params d s ≡ lost_run →
+        first_gap lost_run.params d s ≡ Some (Link 1 2 1) }
     ensures report { report_of lost_run (Some (Link 1 2 1)) lost_history ≡ lost_report }
 {}
 
@@ -88,6 +104,8 @@ pub fn a_run_with_a_flipped_frame()
     ensures skew { greatest_skew_of flipped_run.params flipped_history ≡
         Some (record { skew = pos 2_500_000; cycle = 0; macrotick = 0 }) }
     ensures sync { first_sync_of flipped_run.params flipped_history ≡ Some 0 }
+    ensures gap { (d : DriftView) (s : ScriptView) → run_of flipped_run.params d s ≡ flipped_run →
+        first_gap flipped_run.params d s ≡ Some (Link 1 2 1) }
     ensures report { report_of flipped_run (Some (Link 1 2 1)) flipped_history ≡ flipped_report }
 {}
 
@@ -97,6 +115,8 @@ pub fn a_run_with_a_frame_lost_on_one_channel()
     ensures skew { greatest_skew_of lost_on_one_run.params lost_on_one_history ≡
         Some (record { skew = pos 2_500_000; cycle = 0; macrotick = 0 }) }
     ensures sync { first_sync_of lost_on_one_run.params lost_on_one_history ≡ Some 0 }
+    ensures gap { (d : DriftView) (s : ScriptView) → run_of lost_on_one_run.params d s ≡ lost_on_one_run →
+        first_gap lost_on_one_run.params d s ≡ None }
     ensures report { report_of lost_on_one_run None lost_on_one_history ≡ lost_on_one_report }
 {}
 

@@ -1,4 +1,4 @@
-use Rattle.fr_rows.proofs.Lost.{flipped_history_is, flipped_report_is, flipped_skew_is, flipped_sync_is}
+use Rattle.fr_rows.proofs.Lost.{flipped_gap_is, flipped_history_is, flipped_report_is, flipped_skew_is, flipped_sync_is}
 use Rattle.fr_rows.proofs.a_run_with_a_flipped_frame.Goals as goal
 
 pub returns-clause-history : goal.returns-clause-history
@@ -9,6 +9,9 @@ returns-clause-skew c = flipped_skew_is
 
 pub returns-clause-sync : goal.returns-clause-sync
 returns-clause-sync c = flipped_sync_is
+
+pub returns-clause-gap : goal.returns-clause-gap
+returns-clause-gap c = flipped_gap_is
 
 pub returns-clause-report : goal.returns-clause-report
 returns-clause-report c = flipped_report_is

@@ -1,4 +1,4 @@
-use Rattle.fr_rows.proofs.Lost.{lost_history_is, lost_report_is, lost_skew_is, lost_sync_is}
+use Rattle.fr_rows.proofs.Lost.{lost_gap_is, lost_history_is, lost_report_is, lost_skew_is, lost_sync_is}
 use Rattle.fr_rows.proofs.a_run_with_a_lost_frame.Goals as goal
 
 pub returns-clause-history : goal.returns-clause-history
@@ -9,6 +9,9 @@ returns-clause-skew c = lost_skew_is
 
 pub returns-clause-sync : goal.returns-clause-sync
 returns-clause-sync c = lost_sync_is
+
+pub returns-clause-gap : goal.returns-clause-gap
+returns-clause-gap c = lost_gap_is
 
 pub returns-clause-report : goal.returns-clause-report
 returns-clause-report c = lost_report_is

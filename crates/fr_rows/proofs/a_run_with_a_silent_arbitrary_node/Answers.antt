@@ -1,4 +1,4 @@
-use Rattle.fr_rows.proofs.Quiet.{quiet_history_is, quiet_report_is, quiet_skew_is, quiet_sync_is}
+use Rattle.fr_rows.proofs.Quiet.{quiet_gap_is, quiet_history_is, quiet_report_is, quiet_skew_is, quiet_sync_is}
 use Rattle.fr_rows.proofs.a_run_with_a_silent_arbitrary_node.Goals as goal
 
 pub returns-clause-history : goal.returns-clause-history
@@ -9,6 +9,9 @@ returns-clause-skew c = quiet_skew_is
 
 pub returns-clause-sync : goal.returns-clause-sync
 returns-clause-sync c = quiet_sync_is
+
+pub returns-clause-gap : goal.returns-clause-gap
+returns-clause-gap c = quiet_gap_is
 
 pub returns-clause-report : goal.returns-clause-report
 returns-clause-report c = quiet_report_is

@@ -1,4 +1,4 @@
-use Rattle.fr_rows.proofs.Offset.{offset_history_is, offset_report_is, offset_skew_is, offset_sync_is}
+use Rattle.fr_rows.proofs.Offset.{offset_gap_is, offset_history_is, offset_report_is, offset_skew_is, offset_sync_is}
 use Rattle.fr_rows.proofs.a_run_with_an_offset.Goals as goal
 
 pub returns-clause-history : goal.returns-clause-history
@@ -9,6 +9,9 @@ returns-clause-skew c = offset_skew_is
 
 pub returns-clause-sync : goal.returns-clause-sync
 returns-clause-sync c = offset_sync_is
+
+pub returns-clause-gap : goal.returns-clause-gap
+returns-clause-gap c = offset_gap_is
 
 pub returns-clause-report : goal.returns-clause-report
 returns-clause-report c = offset_report_is

@@ -1,4 +1,4 @@
-use Rattle.fr_rows.proofs.Rates.{rates_history_is, rates_report_is, rates_skew_is, rates_sync_is}
+use Rattle.fr_rows.proofs.Rates.{rates_gap_is, rates_history_is, rates_report_is, rates_skew_is, rates_sync_is}
 use Rattle.fr_rows.proofs.a_run_with_drifting_rates.Goals as goal
 
 pub returns-clause-history : goal.returns-clause-history
@@ -9,6 +9,9 @@ returns-clause-skew c = rates_skew_is
 
 pub returns-clause-sync : goal.returns-clause-sync
 returns-clause-sync c = rates_sync_is
+
+pub returns-clause-gap : goal.returns-clause-gap
+returns-clause-gap c = rates_gap_is
 
 pub returns-clause-report : goal.returns-clause-report
 returns-clause-report c = rates_report_is

@@ -1,4 +1,4 @@
-use Rattle.fr_rows.proofs.OneArbitrary.{one_arbitrary_history_is, one_arbitrary_report_is, one_arbitrary_skew_is, one_arbitrary_sync_is}
+use Rattle.fr_rows.proofs.OneArbitrary.{one_arbitrary_gap_is, one_arbitrary_history_is, one_arbitrary_report_is, one_arbitrary_skew_is, one_arbitrary_sync_is}
 use Rattle.fr_rows.proofs.a_run_with_one_arbitrary_node.Goals as goal
 
 pub returns-clause-history : goal.returns-clause-history
@@ -9,6 +9,9 @@ returns-clause-skew c = one_arbitrary_skew_is
 
 pub returns-clause-sync : goal.returns-clause-sync
 returns-clause-sync c = one_arbitrary_sync_is
+
+pub returns-clause-gap : goal.returns-clause-gap
+returns-clause-gap c = one_arbitrary_gap_is
 
 pub returns-clause-report : goal.returns-clause-report
 returns-clause-report c = one_arbitrary_report_is

@@ -1,4 +1,4 @@
-use Rattle.fr_rows.proofs.TwoArbitrary.{two_arbitrary_history_is, two_arbitrary_report_is, two_arbitrary_skew_is, two_arbitrary_sync_is}
+use Rattle.fr_rows.proofs.TwoArbitrary.{two_arbitrary_gap_is, two_arbitrary_history_is, two_arbitrary_report_is, two_arbitrary_skew_is, two_arbitrary_sync_is}
 use Rattle.fr_rows.proofs.a_run_with_two_arbitrary_nodes.Goals as goal
 
 pub returns-clause-history : goal.returns-clause-history
@@ -9,6 +9,9 @@ returns-clause-skew c = two_arbitrary_skew_is
 
 pub returns-clause-sync : goal.returns-clause-sync
 returns-clause-sync c = two_arbitrary_sync_is
+
+pub returns-clause-gap : goal.returns-clause-gap
+returns-clause-gap c = two_arbitrary_gap_is
 
 pub returns-clause-report : goal.returns-clause-report
 returns-clause-report c = two_arbitrary_report_is
