@@ -54,7 +54,8 @@ lost_gap_is d s same =
       nodes_decided lost_run.params d s lost_run same,
       lengths_decided lost_run.params d s lost_run same,
       delays_decided lost_run.params d s lost_run same,
-      events_decided lost_run.params d s lost_run same) refl
+      events_decided lost_run.params d s lost_run same,
+    ) refl
 
 flipped_0_is : next_record flipped_run [] ≡ offset_cycle_0
 unfolding on_records
@@ -96,7 +97,8 @@ flipped_gap_is d s same =
       nodes_decided flipped_run.params d s flipped_run same,
       lengths_decided flipped_run.params d s flipped_run same,
       delays_decided flipped_run.params d s flipped_run same,
-      events_decided flipped_run.params d s flipped_run same) refl
+      events_decided flipped_run.params d s flipped_run same,
+    ) refl
 
 lost_on_one_0_is : next_record lost_on_one_run [] ≡ lost_on_one_cycle_0
 unfolding on_records
@@ -138,4 +140,5 @@ lost_on_one_gap_is d s same =
       nodes_decided lost_on_one_run.params d s lost_on_one_run same,
       lengths_decided lost_on_one_run.params d s lost_on_one_run same,
       delays_decided lost_on_one_run.params d s lost_on_one_run same,
-      events_decided lost_on_one_run.params d s lost_on_one_run same) refl
+      events_decided lost_on_one_run.params d s lost_on_one_run same,
+    ) refl

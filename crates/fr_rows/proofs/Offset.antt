@@ -52,4 +52,5 @@ offset_gap_is d s same =
       nodes_decided offset_run.params d s offset_run same,
       lengths_decided offset_run.params d s offset_run same,
       delays_decided offset_run.params d s offset_run same,
-      events_decided offset_run.params d s offset_run same) refl
+      events_decided offset_run.params d s offset_run same,
+    ) refl

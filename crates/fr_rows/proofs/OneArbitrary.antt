@@ -44,4 +44,5 @@ one_arbitrary_gap_is d s same =
       nodes_decided one_arbitrary_run.params d s one_arbitrary_run same,
       lengths_decided one_arbitrary_run.params d s one_arbitrary_run same,
       delays_decided one_arbitrary_run.params d s one_arbitrary_run same,
-      events_decided one_arbitrary_run.params d s one_arbitrary_run same) refl
+      events_decided one_arbitrary_run.params d s one_arbitrary_run same,
+    ) refl

@@ -1,5 +1,5 @@
 -- The run with an arbitrary node that says nothing, cycle by cycle.
-use Rattle.std.proofs.Common.{◌≡◌, [], ◌∷◌, None, Some, pos, refl}
+use Rattle.std.proofs.Common.{◌≡◌, [], ◌∷◌, Some, pos, refl}
 use Rattle.fr_drift.specs.View.{DriftView}
 use Rattle.fr_script.specs.Coverage.{first_gap}
 use Rattle.fr_script.specs.View.{ScriptView}
@@ -45,4 +45,5 @@ quiet_gap_is d s same =
       nodes_decided quiet_run.params d s quiet_run same,
       lengths_decided quiet_run.params d s quiet_run same,
       delays_decided quiet_run.params d s quiet_run same,
-      events_decided quiet_run.params d s quiet_run same) refl
+      events_decided quiet_run.params d s quiet_run same,
+    ) refl

@@ -52,4 +52,5 @@ rates_gap_is d s same =
       nodes_decided rates_run.params d s rates_run same,
       lengths_decided rates_run.params d s rates_run same,
       delays_decided rates_run.params d s rates_run same,
-      events_decided rates_run.params d s rates_run same) refl
+      events_decided rates_run.params d s rates_run same,
+    ) refl

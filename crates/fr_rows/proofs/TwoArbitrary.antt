@@ -44,4 +44,5 @@ two_arbitrary_gap_is d s same =
       nodes_decided two_arbitrary_run.params d s two_arbitrary_run same,
       lengths_decided two_arbitrary_run.params d s two_arbitrary_run same,
       delays_decided two_arbitrary_run.params d s two_arbitrary_run same,
-      events_decided two_arbitrary_run.params d s two_arbitrary_run same) refl
+      events_decided two_arbitrary_run.params d s two_arbitrary_run same,
+    ) refl

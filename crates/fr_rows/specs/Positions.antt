@@ -1,5 +1,5 @@
 -- The positions of a cycle of ten macroticks and twenty-five microticks.
-use Rattle.std.specs.Prelude.{ℕ, ℤ, pos, nat_abs, Bool, List, [], ◌∷◌, map}
+use Rattle.std.specs.Prelude.{ℤ, pos, nat_abs, Bool, List, [], ◌∷◌, map}
 use Rattle.std.specs.List.{range_with_len}
 use Rattle.fr_time.specs.Position.{position_of}
 use Rattle.fr_time.specs.declared.grid.Grid.{Grid}

@@ -19,15 +19,15 @@ ghost use Rattle.fr_rows.specs.OneArbitrary.{one_arbitrary_history, one_arbitrar
 ghost use Rattle.fr_rows.specs.TwoArbitrary.{two_arbitrary_history, two_arbitrary_report, two_arbitrary_run};
 ghost use Rattle.fr_rows.specs.Quiet.{quiet_history, quiet_report, quiet_run};
 ghost use Rattle.fr_rows.specs.Lost.{
-    flipped_history,
-    flipped_report,
-    flipped_run,
-    lost_history,
-    lost_on_one_history,
-    lost_on_one_report,
-    lost_on_one_run,
-    lost_report,
-    lost_run,
+  flipped_history,
+  flipped_report,
+  flipped_run,
+  lost_history,
+  lost_on_one_history,
+  lost_on_one_report,
+  lost_on_one_run,
+  lost_report,
+  lost_run,
 };
 
 /// A law: two clocks that start two and a half microticks apart come within half a microtick.
