@@ -6,3 +6,5 @@ pub mod Quiet
 pub mod Lost
 pub mod TwoArbitrary
 pub mod Gaps
+pub mod Sane
+pub mod Settings

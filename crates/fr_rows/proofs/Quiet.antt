@@ -9,7 +9,7 @@ use Rattle.fr_history.specs.Skew.{greatest_skew_of}
 use Rattle.fr_history.specs.Sync.{first_sync_of}
 use Rattle.fr_report.specs.Text.{report_of}
 use Rattle.fr_rows.proofs.Computing.{on_gaps, on_histories, on_records, on_reports}
-use Rattle.fr_rows.proofs.Gaps.{delays_decided, doubles_decided, events_decided, lengths_decided, nodes_decided}
+use Rattle.fr_rows.proofs.Gaps.{doubles_decided, nodes_decided}
 use Rattle.fr_rows.specs.Files.{run_of}
 use Rattle.fr_rows.specs.Quiet.{quiet_cycle_0, quiet_cycle_1, quiet_history, quiet_report, quiet_run}
 
@@ -43,7 +43,4 @@ quiet_gap_is d s same =
     Prim.simp (
       doubles_decided quiet_run.params d s quiet_run same,
       nodes_decided quiet_run.params d s quiet_run same,
-      lengths_decided quiet_run.params d s quiet_run same,
-      delays_decided quiet_run.params d s quiet_run same,
-      events_decided quiet_run.params d s quiet_run same,
     ) refl
