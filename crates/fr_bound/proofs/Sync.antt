@@ -4,13 +4,14 @@ use Rattle.std.specs.Prelude.{int_le}
 use Rattle.std.specs.List.{list_all}
 use Rattle.std.proofs.lemmas.Int.{ints}
 use Rattle.std.proofs.lemmas.List.Elements.{All-cons, All-head, All-nil, All-tail}
+use Rattle.fr_base.specs.States.{is_active}
 use Rattle.fr_base.specs.declared.node_row.NodeRow.{NodeRow}
 use Rattle.fr_base.specs.declared.state.State.{State}
 use Rattle.fr_base.specs.declared.state.State.TheVariants.{Active, Passive, Halt}
 use Rattle.fr_params.specs.Values.{Values, amount}
 use Rattle.fr_params.specs.declared.names.ParamName.TheVariants as name
 use Rattle.fr_bound.specs.Bounds.{lambda_of, longest_micro, pi_of, shortest_micro}
-use Rattle.fr_bound.specs.Sync.{IsInSync, IsProperLength, LieWithin, cycle_length_of, has_synced_rates, is_active, is_in_sync, is_proper_length, lie_within}
+use Rattle.fr_bound.specs.Sync.{IsInSync, IsProperLength, LieWithin, cycle_length_of, has_synced_rates, is_in_sync, is_proper_length, lie_within}
 
 and_left : (a b : Bool) → (a && b) ≡ true → a ≡ true
 and_left true b is = refl

@@ -1,9 +1,9 @@
 -- When the clocks of a cluster are in sync in a double cycle, by the rows of its two cycles.
 use Rattle.std.specs.Prelude.{◌≡◌, ◌≤ℤ◌, ◌+ℤ◌, ◌-ℤ◌, ◌*ℤ◌, ◌*◌, ℤ, pos, Bool, true, false, ◌&&◌, int_le, List, All, map}
 use Rattle.std.specs.List.{list_all}
+use Rattle.fr_base.specs.States.{is_active}
 use Rattle.fr_base.specs.declared.node_row.NodeRow.{NodeRow}
-use Rattle.fr_base.specs.declared.state.State.{State}
-use Rattle.fr_base.specs.declared.state.State.TheVariants.{Active, Passive, Halt}
+use Rattle.fr_base.specs.declared.state.State.TheVariants.{Active}
 use Rattle.fr_params.specs.Values.{Values, amount}
 use Rattle.fr_params.specs.declared.names.ParamName.TheVariants as name
 use Rattle.fr_bound.specs.Bounds.{lambda_of, longest_micro, pi_of, shortest_micro}
@@ -34,11 +34,6 @@ pub record IsInSync (p : Values) (even odd : List NodeRow) : Type 0 where
   pub odd_proper : All (λ row. IsProperLength p (cycle_length_of p row)) odd
 
 -- ---- the same as a test
-
-abbrev pub is_active : State → Bool
-is_active Active = true
-is_active Passive = false
-is_active Halt = false
 
 abbrev pub lie_within : ℤ → List ℤ → Bool
 lie_within bound xs = list_all (λ a. list_all (λ b. int_le (a -ℤ b) bound) xs) xs

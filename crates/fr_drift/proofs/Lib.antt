@@ -4,3 +4,4 @@ pub mod Making
 pub mod Lines
 pub mod Limits
 pub mod Outcomes
+pub mod Existence

@@ -1,9 +1,8 @@
 -- A drift that is made of tables.
-use Rattle.std.proofs.Common.{◌≡◌, ℕ, ℤ, Bool, cond, List, [], ◌∷◌, Option, Some, None, ap, sym, ◌∙◌, refl, subst}
+use Rattle.std.proofs.Common.{◌≡◌, ℕ, ℤ, cond, List, [], ◌∷◌, Some, ap, sym, ◌∙◌, refl}
 use Rattle.std.specs.Prelude.{IfSome}
 use Rattle.std.specs.Cmp.{IsTotalOrder}
 use Rattle.std.specs.Map.{lookup}
-use Rattle.std.specs.Ordering.{nat_cmp}
 use Rattle.std.specs.declared.cmp.Ordering.{Ordering}
 use Rattle.std.specs.BTreeMap.{BTreeMap, get, is_at}
 use Rattle.std.specs.FinMap as map
@@ -15,7 +14,7 @@ use Rattle.fr_records.specs.Records.{Record}
 use Rattle.fr_params.specs.Values.{Values}
 use Rattle.fr_params.specs.Questions.{compensation_of}
 use Rattle.fr_drift.specs.Keys.{delay_cmp, delay_key, length_cmp, length_key}
-use Rattle.fr_drift.specs.Rows.{IsProperCount, IsProperDelay, IsProperLength, IsProperStart}
+use Rattle.fr_drift.specs.Rows.{IsProperDelay}
 use Rattle.fr_drift.specs.View.{DriftView, compensation_on, delay_rows, delays_on}
 use Rattle.fr_drift.specs.Sane.{IsDrift, IsProperCompensation}
 use Rattle.fr_drift.specs.Draft.{AreProper, IsDraftOf}
@@ -24,7 +23,6 @@ use Rattle.fr_drift.specs.Reasons.{delay_at}
 use Rattle.fr_drift.specs.declared.draft.Draft.{Draft}
 use Rattle.fr_drift.specs.declared.keys.LengthKey.{LengthKey}
 use Rattle.fr_drift.specs.declared.keys.DelayKey.{DelayKey}
-use Rattle.fr_drift.specs.declared.rows.Start.{Start}
 
 pub length_total : IsTotalOrder length_cmp
 length_total = then_total (on_total (λ (k : LengthKey). k.node) nat_cmp_total) (on_total (λ (k : LengthKey). k.from) nat_cmp_total)

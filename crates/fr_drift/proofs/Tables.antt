@@ -1,6 +1,6 @@
 -- Tables under construction, against the list of the records so far.
 use Rattle.std.proofs.Common.{◌≡◌, ℕ, ℤ, Bool, true, false, cond, List, [], ◌∷◌, ◌++◌, Option, Some, None, Result, Ok, Err, ap, sym, ◌∙◌, refl, arith}
-use Rattle.std.specs.Prelude.{◌==◌, ◌&&◌, IfOk, IfSome, if◌then◌else◌}
+use Rattle.std.specs.Prelude.{◌==◌, ◌&&◌, IfOk, IfSome}
 use Rattle.std.specs.Ordering.{nat_cmp, ordering_then, is_eq}
 use Rattle.std.specs.declared.cmp.Ordering.{Ordering}
 use Rattle.std.specs.declared.cmp.Ordering.TheVariants.{Less, Equal, Greater}
@@ -83,7 +83,7 @@ then-ties Less b = refl
 then-ties Equal b = refl
 then-ties Greater b = refl
 
-start-ties : (a b : ℕ) → is_at (nat_cmp a) b ≡ (a == b)
+pub start-ties : (a b : ℕ) → is_at (nat_cmp a) b ≡ (a == b)
 start-ties a b = grind (arith, nat_tests)
 
 pub length-ties : (a f b g : ℕ) → is_at (length_cmp (length_key a f)) (length_key b g) ≡ ((a == b) && (f == g))
@@ -161,7 +161,7 @@ draft-length d new done r l h e proper put = record {
     count = h.proper.count;
     starts = h.proper.starts;
     lengths = λ key.
-      still IsProperLength ((l.node == key.node) && (l.from == key.from)) l.ticks (get length_cmp new key) (get length_cmp d.lengths key) (value key.node key.from) proper (h.proper.lengths key);
+        still IsProperLength ((l.node == key.node) && (l.from == key.from)) l.ticks (get length_cmp new key) (get length_cmp d.lengths key) (value key.node key.from) proper (h.proper.lengths key);
     delays_a = h.proper.delays_a;
     delays_b = h.proper.delays_b;
   };
@@ -174,8 +174,8 @@ draft-length d new done r l h e proper put = record {
 
 -- the row of a delay on a channel, in a table of that channel that was empty there
 module _ (ch : Channel) (old new : BTreeMap DelayKey ℤ) (done : List Record) (r : Record) (d : DelayRow)
-  (same : (a b from : ℕ) → get delay_cmp old (delay_key a b from) ≡ delay_at a b ch from done)
-  (put : IsPut delay_cmp old new (delay_key d.sender d.receiver d.from) d.ticks) where
+    (same : (a b from : ℕ) → get delay_cmp old (delay_key a b from) ≡ delay_at a b ch from done)
+    (put : IsPut delay_cmp old new (delay_key d.sender d.receiver d.from) d.ticks) where
   hits : ℕ → ℕ → ℕ → Bool
   hits a b from = (d.sender == a) && ((d.receiver == b) && (d.from == from))
 

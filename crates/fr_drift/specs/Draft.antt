@@ -1,9 +1,8 @@
 -- What the tables under construction hold of the records so far.
-use Rattle.std.specs.Prelude.{ℕ, ℤ, ◌≡◌, List, Option, Some, None, IfSome, if◌then◌else◌}
+use Rattle.std.specs.Prelude.{ℕ, ◌≡◌, List, Some, None, IfSome, if◌then◌else◌}
 use Rattle.std.specs.declared.cmp.Ordering.{Ordering}
 use Rattle.std.specs.Ordering.{nat_cmp}
 use Rattle.std.specs.BTreeMap.{BTreeMap, get, is_at}
-use Rattle.fr_base.specs.declared.channel.Channel.{Channel}
 use Rattle.fr_base.specs.declared.channel.Channel.TheVariants as channel
 use Rattle.fr_records.specs.Records.{Record}
 use Rattle.fr_drift.specs.Keys.{delay_cmp, delay_key, length_cmp, length_key}
@@ -12,7 +11,6 @@ use Rattle.fr_drift.specs.Rows.{IsProperCount, IsProperDelay, IsProperLength, Is
 use Rattle.fr_drift.specs.declared.draft.Draft.{Draft}
 use Rattle.fr_drift.specs.declared.keys.DelayKey.{DelayKey}
 use Rattle.fr_drift.specs.declared.keys.LengthKey.{LengthKey}
-use Rattle.fr_drift.specs.declared.rows.Start.{Start}
 
 -- a value is put under a key that had none, and all else stays
 pub record IsPut {K V : Type 0} (cmp : K → K → Ordering) (old new : BTreeMap K V) (key : K) (value : V) : Type 0 where

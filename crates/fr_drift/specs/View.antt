@@ -6,8 +6,6 @@ use Rattle.std.specs.Coded.{Coded, code_by, coded×, coded_ℕ, coded_ℤ}
 use Rattle.fr_base.specs.declared.channel.Channel.{Channel}
 use Rattle.fr_base.specs.declared.channel.Channel.TheVariants as channel
 use Rattle.fr_drift.specs.Keys.{coded_delay_key, coded_length_key, delay_cmp, delay_key, length_cmp, length_key}
-use Rattle.fr_drift.specs.declared.keys.LengthKey.{LengthKey}
-use Rattle.fr_drift.specs.declared.keys.DelayKey.{DelayKey}
 use Rattle.fr_drift.specs.declared.rows.Start.{Start}
 
 -- the double cycles of the run, the compensation of each channel, the starts by node, and the rows of lengths
@@ -33,14 +31,14 @@ coded_view =
     (coded× (map.code coded_length_key coded_ℤ) (coded× (map.code coded_delay_key coded_ℤ) (map.code coded_delay_key coded_ℤ)))))))
     (λ d. (d.doubles, (d.compensation_a, (d.compensation_b, (d.starts, (d.lengths, (d.delays_a, d.delays_b)))))))
     (λ t. record {
-        doubles = t.0;
-        compensation_a = t.1.0;
-        compensation_b = t.1.1.0;
-        starts = t.1.1.1.0;
-        lengths = t.1.1.1.1.0;
-        delays_a = t.1.1.1.1.1.0;
-        delays_b = t.1.1.1.1.1.1;
-      })
+      doubles = t.0;
+      compensation_a = t.1.0;
+      compensation_b = t.1.1.0;
+      starts = t.1.1.1.0;
+      lengths = t.1.1.1.1.0;
+      delays_a = t.1.1.1.1.1.0;
+      delays_b = t.1.1.1.1.1.1;
+    })
     (λ _. refl)
 
 -- the compensation of a channel, in microticks

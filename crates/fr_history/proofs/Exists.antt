@@ -1,11 +1,12 @@
 -- The record that the function gives obeys the laws.
-use Rattle.std.proofs.Common.{◌≡◌, ℕ, ◌<◌, ◌^◌, ◌-◌, ◌/◌, ◌%◌, ℤ, Bool, true, false, Option, Some, None, List, [], ◌∷◌, All, IfSome, map, length, refl, sym, ◌∙◌, subst, lit<, arith, get_or, bit_xor, if◌then◌else◌, ◌≤◌, zero, suc, ◌==◌, not, ◌||◌}
+use Rattle.std.proofs.Common.{◌≡◌, ℕ, ◌<◌, ◌^◌, ◌-◌, ◌/◌, ◌%◌, ℤ, Bool, true, false, Option, Some, None, List, [], ◌∷◌, All, IfSome, map, length, refl, sym, ◌∙◌, subst, lit<, arith, get_or, bit_xor, if◌then◌else◌, ◌≤◌, zero, suc, ◌==◌, not, ◌||◌, ◌&&◌}
 use Rattle.std.specs.Prelude.{option_and_then, slice_index_or}
 use Rattle.std.specs.List.{flat_map}
 use Rattle.std.specs.Option.{option_map, option_to_list}
 use Rattle.std.proofs.lemmas.Nat.{xor_lt}
 use Rattle.std.proofs.Math.Nat.{pow-le-pow_right}
 use Rattle.std.proofs.lemmas.List.Elements.{All-cons, All-head, All-map, All-nil, All-set, All-tail, All-weaker}
+use Rattle.fr_base.specs.States.{is_active, is_halted}
 use Rattle.fr_base.specs.Event.{Event}
 use Rattle.fr_base.specs.Event.Event.{Regular, Silent, Flip, Say}
 use Rattle.fr_base.specs.declared.channel.Channel.{Channel}
@@ -19,8 +20,8 @@ use Rattle.fr_reception.specs.Answers.{IsAnswer, answer_of}
 use Rattle.fr_reception.specs.Offers.{Offer, flipped}
 use Rattle.fr_reception.specs.Regular.{is_sync_frame, regular_frame}
 use Rattle.fr_history.specs.Setting.{IsSetting, SaysBytes, Setting, correct_nodes}
-use Rattle.fr_history.specs.History.{History, is_active, is_halted, row_of}
-use Rattle.fr_history.specs.Offers.{AreReceptions, IsProper, active_offer, is_on, left_of, offer_in, offered, offers_among, offers_to, reception_of, receptions_among, said_by, said_offer, sender_offer, sent_offer, channels, slots_of}
+use Rattle.fr_history.specs.History.{History, row_of}
+use Rattle.fr_history.specs.Offers.{AreReceptions, IsProper, active_offer, is_on, arrived_of, offer_in, offered, offers_among, offers_to, reception_of, receptions_among, said_by, said_offer, sender_offer, sent_offer, channels, slots_of}
 use Rattle.fr_history.specs.Terms.{status_in}
 use Rattle.fr_history.specs.Lawful.{AreCounts, IsLawful, Obeys, cut_behind, offset_behind, rate_behind, start_behind, uncorrected}
 use Rattle.fr_history.specs.Next.{early_record, early_row, early_rows, ended_row, history_of, next_counts, next_devs, next_receptions, next_record}
@@ -61,7 +62,7 @@ flipped-bytes bit frame small =
     All-set (λ byte. byte < 2 ^ 8) frame (bit / 8) (bit_xor (slice_index_or frame (bit / 8) 0) (2 ^ (7 - bit % 8)))
     (xor_lt 8 (slice_index_or frame (bit / 8) 0) (2 ^ (7 - bit % 8)) (byte_at-lt frame (bit / 8) small) (power-lt (bit % 8))) small
 
-left-bytes : (event : Event) (frame : List ℕ) → AreBytes frame → IfSome (left_of event frame) AreBytes
+left-bytes : (event : Event) (frame : List ℕ) → AreBytes frame → IfSome (arrived_of event frame) AreBytes
 left-bytes Regular frame small = small
 left-bytes Silent frame small = tt
 left-bytes (Flip bit) frame small = flipped-bytes bit frame small
@@ -88,7 +89,7 @@ and_then-good f (Some sending) each = each sending refl
 
 sent-good : (x : Setting) (cycle : ℕ) (sending : Sending) (sender receiver : NodeRow) (slot : ℕ) (channel : Channel) → AreBytes (regular_frame x.params sending slot cycle channel) → IsGood (sent_offer x cycle sending sender receiver slot channel)
 sent-good x cycle sending sender receiver slot channel small =
-    option_map-good AreBytes _ (λ bytes is. is) (left_of (x.event cycle sender.node receiver.node channel) (regular_frame x.params sending slot cycle channel))
+    option_map-good AreBytes _ (λ bytes is. is) (arrived_of (x.event cycle sender.node receiver.node channel) (regular_frame x.params sending slot cycle channel))
     (left-bytes (x.event cycle sender.node receiver.node channel) (regular_frame x.params sending slot cycle channel) small)
 
 said-good : (x : Setting) → IsSetting x → (cycle : ℕ) (sending : Sending) (receiver : NodeRow) (slot : ℕ) (channel : Channel) → AreBytes (regular_frame x.params sending slot cycle channel) → IsGood (said_offer x cycle sending receiver slot channel)
@@ -99,7 +100,7 @@ said-good x setting cycle sending receiver slot channel small =
 active-good : (x : Setting) (cycle : ℕ) (sending : Sending) (sender : Option NodeRow) (receiver : NodeRow) (slot : ℕ) (channel : Channel) → AreBytes (regular_frame x.params sending slot cycle channel) → IsGood (active_offer x cycle sending sender receiver slot channel)
 active-good x cycle sending None receiver slot channel small = tt
 active-good x cycle sending (Some sender) receiver slot channel small =
-    if-good (is_active sender.state) (sent_offer x cycle sending sender receiver slot channel) None (sent-good x cycle sending sender receiver slot channel small) tt
+    if-good (is_active sender.state && is_on x sending.node channel) (sent_offer x cycle sending sender receiver slot channel) None (sent-good x cycle sending sender receiver slot channel small) tt
 
 sender-good : (x : Setting) → IsSetting x → (cycle : ℕ) (rows : List NodeRow) (receiver : NodeRow) (slot : ℕ) (channel : Channel) (sending : Sending) → AreBytes (regular_frame x.params sending slot cycle channel) → IsGood (sender_offer x cycle rows receiver slot channel sending)
 sender-good x setting cycle rows receiver slot channel sending small =
@@ -107,7 +108,7 @@ sender-good x setting cycle rows receiver slot channel sending small =
     let sent : Option Offer = active_offer x cycle sending (row_of rows sending.node) receiver slot channel in
     let one : IsGood (if is_sync_frame sending.kind then said else None) = if-good (is_sync_frame sending.kind) said None (said-good x setting cycle sending receiver slot channel small) tt in
     let two : IsGood sent = active-good x cycle sending (row_of rows sending.node) receiver slot channel small in
-    if-good ((sending.node == receiver.node) || not (is_on x sending.node channel)) None (if x.is_arbitrary sending.node then (if is_sync_frame sending.kind then said else None) else sent) tt
+    if-good (sending.node == receiver.node) None (if x.is_arbitrary sending.node then (if is_sync_frame sending.kind then said else None) else sent) tt
     (if-good (x.is_arbitrary sending.node) (if is_sync_frame sending.kind then said else None) sent one two)
 
 offer-good : FramesAreBytes → (x : Setting) → IsSetting x → (cycle : ℕ) (rows : List NodeRow) (receiver : NodeRow) (slot : ℕ) (channel : Channel) → IsGood (offer_in x cycle rows receiver slot channel)
@@ -180,7 +181,7 @@ record_obeys answers frames x setting h =
       offsets = each_row x h (λ row. row.offset ≡ offset_behind x h (next_record x h) row) (λ node. refl);
       cuts = each_row x h (λ row. row.cut ≡ cut_behind x h (next_record x h) row) (λ node. refl);
       receptions = next_receptions x h;
-      heard = subst Heard (sym rows) (receptions_are answers frames x setting (length h) (early_rows x h));
+      received = subst Heard (sym rows) (receptions_are answers frames x setting (length h) (early_rows x h));
       devs = refl;
       counts = subst Counted (sym rows) (record { sent_a = refl; sent_b = refl; xor_a = refl; xor_b = refl; stored = refl; outside = refl; damaged = refl; wrong_id = refl; wrong_cycle = refl; wrong_length = refl; plain = refl });
     }

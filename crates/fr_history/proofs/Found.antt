@@ -156,7 +156,7 @@ unfolding next_record next_devs
 record_found found x h r laws =
     let rows : map uncorrected r.rows ≡ early_rows x h = early_rows_are x h r laws in
     let receptions : laws.receptions ≡ next_receptions x h =
-    receptions_found found x (length h) (map uncorrected r.rows) laws.receptions laws.heard ∙ ap (receptions_among x (length h)) rows in
+    receptions_found found x (length h) (map uncorrected r.rows) laws.receptions laws.received ∙ ap (receptions_among x (length h)) rows in
     let devs : r.devs ≡ next_devs x h = laws.devs ∙ ap devs_among receptions in
     let P : List NodeRow → Type 0 = λ rs. AreCounts x (length h) rs laws.receptions r.counts in
     let Q : List Reception → Type 0 = λ rs. AreCounts x (length h) (early_rows x h) rs r.counts in

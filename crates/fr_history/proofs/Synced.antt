@@ -1,5 +1,5 @@
 -- The first double cycle in sync: the function finds it, and there is no other. The record of a cycle.
-use Rattle.std.proofs.Common.{◌≡◌, ◌⊎◌, ℕ, zero, suc, ◌+◌, ◌/◌, ◌<◌, ◌≤◌, ◌++◌, Bool, true, false, Option, Some, None, [], ◌∷◌, length, refl, ap, sym, ◌∙◌, inl, inr, arith, ◌==◌}
+use Rattle.std.proofs.Common.{◌≡◌, ◌⊎◌, ℕ, zero, suc, ◌+◌, ◌/◌, ◌<◌, ◌≤◌, ◌++◌, Bool, true, false, Option, Some, None, IsSome, [], ◌∷◌, length, refl, ap, sym, ◌∙◌, inl, inr, arith, ◌==◌}
 use Rattle.std.specs.Prelude.{find}
 use Rattle.std.specs.List.{range_with_len}
 use Rattle.std.proofs.lemmas.List.{length-append}
@@ -33,7 +33,7 @@ record_of_cut (s ∷ later) earlier r =
     ∙ record_of_cut later earlier r
 
 pub record_of_part : (h : History) (n : ℕ) (r : Record) → IsRecordOf h n r → record_at h n ≡ Some r
-record_of_part h n r is = rw (is.cut, ← is.counted) (record_of_cut is.later is.earlier r)
+record_of_part h n r is = rw (is.parted, ← is.counted) (record_of_cut is.later is.earlier r)
 
 cut_of_record_by : (s : Record) (h : History) (n : ℕ) (r : Record) (b : Bool) → (length h == n) ≡ b → (record_at h n ≡ Some r → IsRecordOf h n r) → record_at (s ∷ h) n ≡ Some r → IsRecordOf (s ∷ h) n r
 unfolding record_at
@@ -42,11 +42,11 @@ cut_of_record_by s h n r true same behind is =
     let here : record_at (s ∷ h) n ≡ Some s = rw same refl in
     let found : Some s ≡ Some r = sym here ∙ is in
     let one : s ≡ r = cc in
-    record { later = []; earlier = h; cut = ap (λ (t : Record). t ∷ h) one; counted = e }
+    record { later = []; earlier = h; parted = ap (λ (t : Record). t ∷ h) one; counted = e }
 cut_of_record_by s h n r false other behind is =
     let moved : record_at (s ∷ h) n ≡ record_at h n = rw other refl in
     let cut : IsRecordOf h n r = behind (sym moved ∙ is) in
-    record { later = s ∷ cut.later; earlier = cut.earlier; cut = ap (λ (t : History). s ∷ t) cut.cut; counted = cut.counted }
+    record { later = s ∷ cut.later; earlier = cut.earlier; parted = ap (λ (t : History). s ∷ t) cut.parted; counted = cut.counted }
 
 pub cut_of_record : (h : History) (n : ℕ) (r : Record) → record_at h n ≡ Some r → IsRecordOf h n r
 unfolding record_at
@@ -143,3 +143,13 @@ first_sync_is_one p h k l one other = by_order (grind arith)
     by_order (inl (inl less)) = absurd (other.first k less one.in_sync)
     by_order (inl (inr more)) = absurd (one.first l more other.in_sync)
     by_order (inr same) = same
+
+-- ---- each cycle of a history has a record
+
+record_at-some_by : (s : Record) (h : History) (n : ℕ) → n < suc (length h) → (n < length h → IsSome (record_at h n)) → (n ≡ length h) ⊎ (n < length h) → IsSome (record_at (s ∷ h) n)
+record_at-some_by s h n below behind (inl same) = rw (same, record_here s h) refl
+record_at-some_by s h n below behind (inr less) = rw (record_behind s h n less) (behind less)
+
+pub record_at-some : (h : History) (n : ℕ) → n < length h → IsSome (record_at h n)
+record_at-some [] n below = absurd (omega arith)
+record_at-some (s ∷ h) n below = record_at-some_by s h n below (record_at-some h n) (grind arith)

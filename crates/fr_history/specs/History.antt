@@ -3,8 +3,6 @@ use Rattle.std.specs.Prelude.{◌≡◌, ℕ, ◌==◌, Bool, true, false, List,
 use Rattle.fr_base.specs.declared.cycle_row.Counts.{Counts}
 use Rattle.fr_base.specs.declared.dev.Dev.{Dev}
 use Rattle.fr_base.specs.declared.node_row.NodeRow.{NodeRow}
-use Rattle.fr_base.specs.declared.state.State.{State}
-use Rattle.fr_base.specs.declared.state.State.TheVariants.{Active, Passive, Halt}
 
 -- The record of a cycle: a row for each correct node, in ascending order of node; the deviations that were stored, in
 -- ascending order of receiver, slot and channel; and what became of the frames.
@@ -13,8 +11,9 @@ pub record Record : Type 0 where
   pub devs : List Dev
   pub counts : Counts
 
--- The records of cycles from 0 on, the latest first. So the number of a record's cycle is the length of the history
--- behind it, and a history with its first records taken off is a history too.
+-- The records of cycles from 0 on, the latest first. So the number of a record's cycle is how many records stand behind
+-- it in the list, which are those of the cycles before it; "behind a history" means: in the cycle that follows it. A
+-- history with records taken off at the head is a history too.
 abbrev pub History : Type 0
 History = List Record
 
@@ -22,7 +21,7 @@ History = List Record
 pub record IsRecordOf (h : History) (cycle : ℕ) (r : Record) : Type 0 where
   pub later : History
   pub earlier : History
-  pub cut : h ≡ later ++ r ∷ earlier
+  pub parted : h ≡ later ++ r ∷ earlier
   pub counted : length earlier ≡ cycle
 
 -- the record of a cycle, if the history has it
@@ -33,14 +32,3 @@ record_at (r ∷ h) cycle = if length h == cycle then Some r else record_at h cy
 -- the row of a node, if it has one
 abbrev pub row_of : List NodeRow → ℕ → Option NodeRow
 row_of rows node = find (λ row. row.node == node) rows
-
--- the state of a node's operation control
-abbrev pub is_active : State → Bool
-is_active Active = true
-is_active Passive = false
-is_active Halt = false
-
-abbrev pub is_halted : State → Bool
-is_halted Active = false
-is_halted Passive = false
-is_halted Halt = true

@@ -1,5 +1,6 @@
 -- Which histories are lawful: each record obeys the laws behind the records before it.
 use Rattle.std.specs.Prelude.{◌≡◌, ℕ, ℤ, pos, Bool, not, ◌&&◌, List, [], ◌∷◌, length, map, fold, All, count_by, bit_xor, Option, Some, None, if◌then◌else◌}
+use Rattle.fr_base.specs.States.{is_halted}
 use Rattle.fr_base.specs.declared.channel.Channel.TheVariants.{A, B}
 use Rattle.fr_base.specs.declared.cycle_row.Counts.{Counts}
 use Rattle.fr_base.specs.declared.node_row.NodeRow.{NodeRow}
@@ -8,7 +9,7 @@ use Rattle.fr_time.specs.Instant.{next_start_of}
 use Rattle.fr_time.specs.Position.{grid_for}
 use Rattle.fr_reception.specs.Regular.{carried_crc}
 use Rattle.fr_history.specs.Setting.{Setting, correct_nodes}
-use Rattle.fr_history.specs.History.{History, Record, is_halted, row_of}
+use Rattle.fr_history.specs.History.{History, Record, row_of}
 use Rattle.fr_history.specs.Offers.{AreReceptions, Reception, devs_among, frames_on}
 use Rattle.fr_history.specs.Kinds.{is_stored, is_outside, is_damaged, is_wrong_id, is_wrong_cycle, is_wrong_length, is_plain}
 use Rattle.fr_history.specs.Terms.{cuts_in, offset_term_in, rate_term_in, status_in}
@@ -25,21 +26,21 @@ abbrev pub start_behind : Setting → History → ℕ → ℤ
 start_behind x [] node = x.start node
 start_behind x (r ∷ h) node = start_by x (row_of r.rows node)
 
+-- whether a row's cycle ends with corrections: an odd cycle of a node that is not halted
+abbrev pub is_corrected : History → NodeRow → Bool
+is_corrected h row = is_odd (length h) && not (is_halted row.state)
+
 -- the rate term that follows from the row of the cycle before: within a double cycle it stays; behind one it is the
 -- rate term of that double cycle's deviations, and a halted node keeps its own
 abbrev pub rate_by : Setting → History → Record → Option NodeRow → ℤ
 rate_by x h r None = pos 0
 rate_by x h r (Some before) =
-    if is_odd (length h) && not (is_halted before.state) then (rate_term_in x h r.devs before).value else before.rate
+    if is_corrected h before then (rate_term_in x h r.devs before).value else before.rate
 
 -- rates: that of cycle 0 is given
 abbrev pub rate_behind : Setting → History → ℕ → ℤ
 rate_behind x [] node = x.rate node
 rate_behind x (r ∷ h) node = rate_by x h r (row_of r.rows node)
-
--- whether a row's cycle ends with corrections: an odd cycle of a node that is not halted
-abbrev pub is_corrected : History → NodeRow → Bool
-is_corrected h row = is_odd (length h) && not (is_halted row.state)
 
 -- offsets: 0 in even cycles and in Halt, else the offset term
 abbrev pub offset_behind : Setting → History → Record → NodeRow → ℤ
@@ -55,7 +56,7 @@ uncorrected row = record row { offset = pos 0; cut = 0 }
 
 -- ---- the laws of a record's counts
 
--- how many frames were sent on a channel, and the sum without carry of their frame CRCs
+-- the sum without carry of the frame CRCs of some frames
 abbrev pub crcs_sum : List (List ℕ) → ℕ
 crcs_sum frames = fold (λ sum frame. bit_xor sum (carried_crc frame)) 0 frames
 
@@ -87,7 +88,7 @@ pub record Obeys (x : Setting) (h : History) (r : Record) : Type 0 where
   pub cuts : All (λ row. row.cut ≡ cut_behind x h r row) r.rows
   -- each offer has its answer
   pub receptions : List Reception
-  pub heard : AreReceptions x (length h) (map uncorrected r.rows) receptions
+  pub received : AreReceptions x (length h) (map uncorrected r.rows) receptions
   -- the deviations are those that were stored, and no others
   pub devs : r.devs ≡ devs_among receptions
   pub counts : AreCounts x (length h) (map uncorrected r.rows) receptions r.counts

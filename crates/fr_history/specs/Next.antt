@@ -1,5 +1,5 @@
 -- The one lawful history, as a function of the setting and the number of cycles: the record that follows a history.
-use Rattle.std.specs.Prelude.{ℕ, zero, suc, pos, List, [], ◌∷◌, length, map, count_by}
+use Rattle.std.specs.Prelude.{ℕ, zero, suc, ◌*◌, pos, List, [], ◌∷◌, length, map, count_by}
 use Rattle.fr_base.specs.declared.channel.Channel.TheVariants.{A, B}
 use Rattle.fr_base.specs.declared.cycle_row.Counts.{Counts}
 use Rattle.fr_base.specs.declared.dev.Dev.{Dev}
@@ -63,7 +63,11 @@ early_record x h = record { rows = early_rows x h; devs = next_devs x h; counts 
 unfoldable pub next_record : Setting → History → Record
 next_record x h = let early : Record = early_record x h in record early { rows = map (ended_row x h early) early.rows }
 
--- the history of so many cycles
+-- the history of so many cycles, also beyond the end of the run
 unfoldable pub history_of : Setting → ℕ → History
 history_of x zero = []
 history_of x (suc n) = let h : History = history_of x n in next_record x h ∷ h
+
+-- the history of the whole run
+abbrev pub whole_history : Setting → History
+whole_history x = history_of x (2 * x.doubles)

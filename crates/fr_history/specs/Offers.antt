@@ -4,6 +4,7 @@
 use Rattle.std.specs.Prelude.{◌≡◌, ℕ, ◌==◌, ℤ, ◌+ℤ◌, ◌*ℤ◌, Bool, not, ◌&&◌, ◌||◌, List, [], ◌∷◌, map, Option, Some, None, unwrap_or, option_and_then, All, if◌then◌else◌}
 use Rattle.std.specs.List.{flat_map, filter_map, range_with_len}
 use Rattle.std.specs.Option.{option_map, option_to_list}
+use Rattle.fr_base.specs.States.{is_active, is_halted}
 use Rattle.fr_base.specs.Event.{Event}
 use Rattle.fr_base.specs.Event.Event.{Regular, Silent, Flip, Say}
 use Rattle.fr_base.specs.declared.channel.Channel.{Channel}
@@ -21,18 +22,18 @@ use Rattle.fr_reception.specs.Answers.{IsAnswer, answer_of}
 use Rattle.fr_reception.specs.declared.heard.Heard.{Heard}
 use Rattle.fr_reception.specs.declared.heard.Heard.TheVariants.{Stored, Ignored}
 use Rattle.fr_history.specs.Setting.{Setting}
-use Rattle.fr_history.specs.History.{is_active, is_halted, row_of}
+use Rattle.fr_history.specs.History.{row_of}
 
 -- whether a node of the cluster has a channel
 abbrev pub is_on : Setting → ℕ → Channel → Bool
 is_on x node channel = has_channel (node_of x.params node) channel
 
--- what comes of the frame of a correct sender: the frame, the frame with one bit inverted, or nothing
-abbrev pub left_of : Event → List ℕ → Option (List ℕ)
-left_of Regular frame = Some frame
-left_of Silent frame = None
-left_of (Flip bit) frame = Some (flipped bit frame)
-left_of (Say shift bytes) frame = None
+-- what arrives of the frame of a correct sender: the frame, the frame with one bit inverted, or nothing
+abbrev pub arrived_of : Event → List ℕ → Option (List ℕ)
+arrived_of Regular frame = Some frame
+arrived_of Silent frame = None
+arrived_of (Flip bit) frame = Some (flipped bit frame)
+arrived_of (Say shift bytes) frame = None
 
 -- what an arbitrary sender says, if it says something: a shift in ticks, and bytes, or else its regular frame
 abbrev pub said_by : Event → List ℕ → Option (ℤ × List ℕ)
@@ -51,7 +52,7 @@ sent_offer x cycle sending sender receiver slot channel =
       arrival = action_instant x.params sender slot +ℤ x.delay sender.node receiver.node channel cycle;
       bytes = bytes;
     })
-    (left_of (x.event cycle sender.node receiver.node channel) (regular_frame x.params sending slot cycle channel))
+    (arrived_of (x.event cycle sender.node receiver.node channel) (regular_frame x.params sending slot cycle channel))
 
 -- what an arbitrary sender says comes so much later than the receiver expects it
 abbrev pub said_offer : Setting → ℕ → Sending → NodeRow → ℕ → Channel → Option Offer
@@ -65,16 +66,16 @@ said_offer x cycle sending receiver slot channel =
     })
     (said_by (x.event cycle sending.node receiver.node channel) (regular_frame x.params sending slot cycle channel))
 
--- of a correct sender, where it is active
+-- of a correct sender, where it is active and has the channel
 abbrev pub active_offer : Setting → ℕ → Sending → Option NodeRow → NodeRow → ℕ → Channel → Option Offer
 active_offer x cycle sending None receiver slot channel = None
 active_offer x cycle sending (Some sender) receiver slot channel =
-    if is_active sender.state then sent_offer x cycle sending sender receiver slot channel else None
+    if is_active sender.state && is_on x sending.node channel then sent_offer x cycle sending sender receiver slot channel else None
 
 -- the sender of a slot offers its frame to a receiver; an arbitrary one in its key slot alone
 abbrev pub sender_offer : Setting → ℕ → List NodeRow → NodeRow → ℕ → Channel → Sending → Option Offer
 sender_offer x cycle rows receiver slot channel sending =
-    if (sending.node == receiver.node) || not (is_on x sending.node channel) then None
+    if sending.node == receiver.node then None
     else if x.is_arbitrary sending.node then (if is_sync_frame sending.kind then said_offer x cycle sending receiver slot channel else None)
     else active_offer x cycle sending (row_of rows sending.node) receiver slot channel
 
@@ -96,7 +97,7 @@ abbrev pub offers_to : Setting → ℕ → List NodeRow → NodeRow → List Off
 offers_to x cycle rows receiver =
     flat_map (λ slot. flat_map (λ channel. option_to_list (offer_in x cycle rows receiver slot channel)) channels) (slots_of x)
 
--- what a receiver makes of an offer
+-- what a receiver makes of an offer; its row is the one before its corrections
 pub record Reception : Type 0 where
   pub receiver : NodeRow
   pub offer : Offer

@@ -40,7 +40,8 @@ SaysBytes Silent = Unit {0}
 SaysBytes (Flip bit) = Unit {0}
 SaysBytes (Say shift bytes) = IfSome bytes (λ said. All (λ byte. byte < 2 ^ 8) said)
 
--- the parameters are those of a cluster, and what arbitrary nodes say is made of bytes
+-- The parameters are those of a cluster, and what arbitrary nodes say is made of bytes. Ranges of starts, rates, lengths
+-- and delays are not asked: the laws hold without them.
 pub record IsSetting (x : Setting) : Type 0 where
   pub sane : IsSane x.params
   pub bytes : (cycle sender receiver : ℕ) (channel : Channel) → SaysBytes (x.event cycle sender receiver channel)

@@ -2,13 +2,14 @@
 use Rattle.std.specs.Prelude.{◌≡◌, ◌≢◌, ◌⊎◌, ℕ, zero, suc, ◌<◌, ℤ, pos, ◌-ℤ◌, ◌≤ℤ◌, int_lt, Bool, true, false, not, List, [], ◌∷◌, length, map, filter, fold, Option, Some, None}
 use Rattle.std.specs.Int.{int_max, int_min}
 use Rattle.std.specs.Option.{option_map_or}
+use Rattle.fr_base.specs.States.{is_halted}
 use Rattle.fr_base.specs.declared.node_row.NodeRow.{NodeRow}
 use Rattle.fr_params.specs.Values.{Values, amount}
 use Rattle.fr_params.specs.declared.names.ParamName.TheVariants as name
 use Rattle.fr_time.specs.Cycles.{is_odd}
 use Rattle.fr_time.specs.Instant.{instant_of}
 use Rattle.fr_time.specs.Position.{grid_for}
-use Rattle.fr_history.specs.History.{History, is_halted, record_at}
+use Rattle.fr_history.specs.History.{History, record_at}
 
 -- the greatest of some numbers less the least; 0 where there are none
 abbrev pub spread_of : List ℤ → ℤ
@@ -29,7 +30,8 @@ skew_at p h cycle macrotick = option_map_or (λ r. spread_at p cycle r.rows macr
 
 -- a cycle and a macrotick come before others
 abbrev pub IsBefore : ℕ → ℕ → ℕ → ℕ → Type 0
-IsBefore cycle macrotick later last = (cycle < later) ⊎ ((cycle ≡ later) × (macrotick < last))
+IsBefore cycle macrotick other_cycle other_macrotick =
+    (cycle < other_cycle) ⊎ ((cycle ≡ other_cycle) × (macrotick < other_macrotick))
 
 -- the greatest skew of a history over all its cycles and macroticks, and the first place at which it occurs
 pub record IsGreatestSkew (p : Values) (h : History) (skew : ℤ) (cycle macrotick : ℕ) : Type 0 where

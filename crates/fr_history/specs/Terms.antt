@@ -3,15 +3,16 @@
 use Rattle.std.specs.Prelude.{ℕ, ◌+◌, ◌==◌, ℤ, Bool, false, ◌&&◌, List, [], ◌∷◌, ◌++◌, length, Option, Some, None, find, option_and_then, if◌then◌else◌}
 use Rattle.std.specs.Option.{option_map, option_map_or}
 use Rattle.fr_base.specs.Rows.{rank_of}
+use Rattle.fr_base.specs.States.{cut_of}
 use Rattle.fr_base.specs.declared.channel.Channel.{Channel}
 use Rattle.fr_base.specs.declared.dev.Dev.{Dev}
 use Rattle.fr_base.specs.declared.node_row.NodeRow.{NodeRow}
 use Rattle.fr_base.specs.declared.state.Outcome.{Outcome}
-use Rattle.fr_base.specs.declared.state.Outcome.TheVariants.{Within, Missing, Exceeded}
 use Rattle.fr_params.specs.Values.{Values, amount}
 use Rattle.fr_params.specs.Constraints.{key_slots}
-use Rattle.fr_params.specs.Questions.{key_index_of, node_of}
+use Rattle.fr_params.specs.Questions.{key_index_of}
 use Rattle.fr_params.specs.declared.names.ParamName.TheVariants as name
+use Rattle.fr_reception.specs.Own.{own_index}
 use Rattle.fr_time.specs.Cycles.{is_odd}
 use Rattle.fr_measure.specs.Values.{LookUp, offset_at, rate_at, values_of}
 use Rattle.fr_correct.specs.Terms.{offset_term_of, rate_term_of}
@@ -33,10 +34,6 @@ dev_in devs receiver slot channel = option_map (λ dev. dev.value) (find (is_dev
 abbrev pub key_slot_of : Values → ℕ → Option ℕ
 key_slot_of p index = find (λ slot. option_map_or (λ place. place == index) (key_index_of p slot) false) (key_slots p.nodes)
 
--- the key index of a node's own key slot, if it has one
-abbrev pub own_index_of : Values → ℕ → Option ℕ
-own_index_of p node = option_and_then (λ spec. option_and_then (key_index_of p) spec.key) (node_of p node)
-
 -- a receiver's deviations of a double cycle, by key index, parity and channel (section 8.5)
 abbrev pub deviations_of : Values → List Dev → List Dev → ℕ → LookUp
 deviations_of p evens odds receiver index odd channel =
@@ -44,17 +41,19 @@ deviations_of p evens odds receiver index odd channel =
 
 -- the offset and the rate values of a node at the end of a double cycle (sections 8.6.2 and 8.6.3)
 abbrev pub offset_values_of : Values → List Dev → List Dev → ℕ → List ℤ
-offset_values_of p evens odds node = values_of (offset_at (deviations_of p evens odds node) (own_index_of p node))
+offset_values_of p evens odds node = values_of (offset_at (deviations_of p evens odds node) (own_index p node))
 
 abbrev pub rate_values_of : Values → List Dev → List Dev → ℕ → List ℤ
-rate_values_of p evens odds node = values_of (rate_at (deviations_of p evens odds node) (own_index_of p node))
+rate_values_of p evens odds node = values_of (rate_at (deviations_of p evens odds node) (own_index p node))
 
--- the deviations of the latest cycle of a history
+-- the deviations of the latest cycle of a history: where an odd cycle follows, those of the even cycle of its double
+-- cycle
 abbrev pub latest_devs : History → List Dev
 latest_devs [] = []
 latest_devs (r ∷ h) = r.devs
 
--- the offset term of a node at the end of an odd cycle behind its even one, by the deviations of both
+-- the offset term of a node at the end of an odd cycle, by its deviations and those of the even cycle before it, with
+-- which the history ends
 abbrev pub offset_term_in : Setting → History → List Dev → ℕ → Term
 offset_term_in x h odds node = offset_term_of x.params.offset_limit (offset_values_of x.params (latest_devs h) odds node)
 
@@ -62,12 +61,6 @@ offset_term_in x h odds node = offset_term_of x.params.offset_limit (offset_valu
 abbrev pub rate_term_in : Setting → History → List Dev → NodeRow → Term
 rate_term_in x h odds row =
     rate_term_of row.rate x.params.damping x.params.rate_limit (rate_values_of x.params (latest_devs h) odds row.node)
-
--- one for a term that was cut
-abbrev pub cut_of : Outcome → ℕ
-cut_of Within = 0
-cut_of Missing = 0
-cut_of Exceeded = 1
 
 -- how many of the two terms of a node were cut at the end of an odd cycle
 abbrev pub cuts_in : Setting → History → List Dev → NodeRow → ℕ

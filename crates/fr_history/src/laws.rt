@@ -1,4 +1,4 @@
-ghost use Rattle.std.specs.Prelude.{◌≡◌, ◌↔◌, ◌+◌, ◌<◌, ℕ, ℤ, List, length, drop, Some, None, true};
+ghost use Rattle.std.specs.Prelude.{◌≡◌, ◌↔◌, ◌+◌, ◌<◌, ℕ, ℤ, List, length, drop, Some, None, IsSome};
 ghost use Rattle.fr_params.specs.Values.{Values, amount};
 ghost use Rattle.fr_params.specs.declared.names.ParamName.TheVariants as name;
 ghost use Rattle.fr_history.specs.Setting.{IsSetting, Setting};
@@ -10,8 +10,9 @@ ghost use Rattle.fr_history.specs.Sync.{IsFirstInSync, IsInSyncAt, first_sync_of
 
 use fr_reception::{a_regular_frame, an_answer, the_answer_is_found};
 
-/// A law: for each number of cycles there is exactly one lawful history of a run, the one that `history_of`
-/// gives.
+/// A law: for each number of cycles there is exactly one lawful history of a run with the parameters of a
+/// cluster and with bytes for what is said: the one that `history_of` gives. That there is no other holds of
+/// every setting.
 pub fn one_lawful_history()
     ensures lawful { (x : Setting) (n : ℕ) → IsSetting x → IsLawful x (history_of x n) }
     ensures long { (x : Setting) (n : ℕ) → length (history_of x n) ≡ n }
@@ -22,7 +23,8 @@ pub fn one_lawful_history()
     the_answer_is_found();
 }
 
-/// A law: behind a history exactly one record obeys the laws, the one that `next_record` gives.
+/// A law: behind a history exactly one record obeys the laws, the one that `next_record` gives, under the
+/// same premise.
 pub fn one_next_record()
     ensures obeys { (x : Setting) (h : History) → IsSetting x → Obeys x h (next_record x h) }
     ensures only { (x : Setting) (h : History) (r : Record) → Obeys x h r → r ≡ next_record x h }
@@ -39,9 +41,11 @@ pub fn a_shorter_history_is_a_part()
         record_at (history_of x n) cycle ≡ Some (next_record x (history_of x cycle)) }
 {}
 
-/// A law: the record of a cycle is the one that stands before as many others as there are cycles before it.
+/// A law: a history has a record of each of its cycles: of cycle n the one with n others behind it in the
+/// list.
 pub fn each_cycle_has_its_record()
-    ensures { (h : History) (cycle : ℕ) (r : Record) →
+    ensures there { (h : History) (cycle : ℕ) → cycle < length h → IsSome (record_at h cycle) }
+    ensures which { (h : History) (cycle : ℕ) (r : Record) →
         IsRecordOf h cycle r ↔ (record_at h cycle ≡ Some r) }
 {}
 

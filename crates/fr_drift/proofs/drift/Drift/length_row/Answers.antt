@@ -1,4 +1,4 @@
-use Rattle.std.proofs.Common.{◌≡◌, ◌∙◌, ℕ, sym}
+use Rattle.std.proofs.Common.{◌∙◌, sym}
 use Rattle.std.specs.BTreeMap.{get}
 use Rattle.fr_drift.specs.Keys.{length_cmp, length_key}
 use Rattle.fr_drift.specs.Rows.{IsProperLength}

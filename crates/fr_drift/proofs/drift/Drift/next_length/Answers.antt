@@ -1,4 +1,4 @@
-use Rattle.std.proofs.Common.{◌≡◌, ℕ, ℤ, pos, Option, ap, sym}
+use Rattle.std.proofs.Common.{ℤ, pos, Option, ap, sym}
 use Rattle.std.specs.Prelude.{unwrap_or}
 use Rattle.std.specs.BTreeMap.{get}
 use Rattle.fr_drift.specs.Keys.{length_cmp, length_key}

@@ -1,0 +1,17 @@
+ghost use Rattle.fr_midpoint.specs.Receivers.{FewAreDiscarded, OneReceiver, TwoReceivers};
+
+/// The law of two receivers (J. Welch and N. Lynch): each has a list with one value of every sender, which
+/// places that sender's position, and with no more values of any other kind than it discards at each end.
+/// Then their midpoints lie about half as far apart as the positions, whatever the other values are; and
+/// the midpoint of each lies among the positions.
+pub fn receivers_agree()
+    ensures two { TwoReceivers }
+    ensures one { OneReceiver }
+{}
+
+/// The law of sizes: with no arbitrary sync node beside one correct one or more, one beside three or more,
+/// or two beside six or more, each list discards as many values at each end as are arbitrary, and any two
+/// lists keep a correct one in common.
+pub fn few_are_discarded()
+    ensures { FewAreDiscarded }
+{}

@@ -1,0 +1,6 @@
+pub mod Instants
+pub mod Offsets
+pub mod Placement
+pub mod Rates
+pub mod Reception
+pub mod Rows
