@@ -41,7 +41,7 @@ not-above : (w : ℕ) (t : ℤ) → int_lt (t +ℤ pos w) t ≡ false
 not-above w t = grind (arith, ints)
 
 -- nothing has jumped from itself
-stands-still : (p : Values) (t : ℤ) → has_jumped p t t ≡ false
+pub stands-still : (p : Values) (t : ℤ) → has_jumped p t t ≡ false
 stands-still p t =
     let up = not-above (amount p name.xChangeBound) t in
     ap (λ (b : Bool). b || int_lt (t +ℤ pos (amount p name.xChangeBound)) t) up ∙ up
