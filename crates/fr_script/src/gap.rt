@@ -4,9 +4,16 @@ use fr_base::{Channel, NodeId};
 #[derive(Clone, Copy, Debug, PartialEq, Eq)]
 pub enum Gap {
     /// A check of the parameters fails: its number, 1 to 5, and both its sides.
-    Check { number: u8, left: i64, right: i64 },
+    Check {
+        number: u8,
+        left: i64,
+        right: i64,
+    },
     /// The correct nodes with a key slot do not outweigh the arbitrary ones.
-    Count { correct: u32, arbitrary: u32 },
+    Count {
+        correct: u32,
+        arbitrary: u32,
+    },
     /// The microtick of a correct node lasts so many ticks in a cycle, too few or too many.
     Length {
         node: NodeId,

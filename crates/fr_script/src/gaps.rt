@@ -2,7 +2,7 @@ ghost use Rattle.std.specs.Prelude.{◌≡◌, ◌≤◌, ◌+◌, ◌&&◌, not
 ghost use Rattle.fr_script.specs.View.{is_arbitrary};
 ghost use Rattle.fr_script.specs.First.{first_in};
 ghost use Rattle.fr_script.specs.Links.{is_sync};
-ghost use Rattle.fr_script.specs.Coverage.{channel_gap, changes_gap, checks_gap, count_gap, count_of, delays_gap, first_gap, is_counted, lengths_gap, links_gap, outweighs, weighed};
+ghost use Rattle.fr_script.specs.Coverage.{channel_gap, changes_gap, checks_gap, count_gap, count_of, delays_gap, first_gap, is_counted, lengths_gap, links_gap, outweighs, pairs_gap, weighed};
 
 use crate::gap::Gap;
 use crate::linking::{first_break, is_link, shares};
@@ -35,6 +35,7 @@ pub fn covered(params: &Params, drift: &Drift, script: &Script) -> Result<(), Ga
     }
 }
 
+#[tactic(auto, unfolding(crate::specs::Coverage::first_gap))]
 fn first_gap(params: &Params, drift: &Drift, script: &Script) -> Option<Gap>
     ensures { result ≡ first_gap params.now drift.now script.now }
 {
@@ -43,7 +44,6 @@ fn first_gap(params: &Params, drift: &Drift, script: &Script) -> Option<Gap>
         params,
         drift,
         script,
-        nodes,
     };
     if let Some(gap) = failing_check(params) {
         return Some(gap);
@@ -57,10 +57,18 @@ fn first_gap(params: &Params, drift: &Drift, script: &Script) -> Option<Gap>
     if let Some(gap) = first_among(nodes, &Changes(run)) {
         return Some(gap);
     }
-    if let Some(gap) = first_among(nodes, &Delays(run)) {
-        return Some(gap);
+    first_of_pairs(run)
+}
+
+fn first_of_pairs(run: Run<'_>) -> Option<Gap>
+    ensures { result ≡ pairs_gap run.entry.params.now run.entry.drift.now run.entry.script.now }
+{
+    let params = run.params;
+    let nodes = &params.nodes;
+    match first_among(nodes, &Delays(run)) {
+        Some(gap) => Some(gap),
+        None => first_among(nodes, &Links(run)),
     }
-    first_among(nodes, &Links(run))
 }
 
 fn failing_check(params: &Params) -> Option<Gap>
@@ -129,13 +137,12 @@ fn is_counted(script: &Script, arbitrary: bool, node: &NodeSpec) -> bool
     node.key.is_some() && script.arbitrary(node.id) == arbitrary
 }
 
-/// What a run is made of, with the nodes of its parameters.
+/// What a run is made of.
 #[derive(Clone, Copy)]
 struct Run<'a> {
     params: &'a Params,
     drift: &'a Drift,
     script: &'a Script,
-    nodes: &'a NodeList,
 }
 
 /// Looks for lengths.
@@ -175,11 +182,12 @@ impl Search for Changes<'_> {
 struct Delays<'a>(Run<'a>);
 
 impl Search for Delays<'_> {
-    ghost found = { λ a node. first_in (delays_gap a.0.params.now a.0.drift.now a.0.script.now node) a.0.nodes.now };
+    ghost found = { λ a node. first_in (delays_gap a.0.params.now a.0.drift.now a.0.script.now node) a.0.params.now.nodes };
 
     fn find(&self, node: &NodeSpec) -> Option<Gap> {
         let run = self.0;
-        first_among(run.nodes, &DelaysFrom { run, sender: node })
+        let params = run.params;
+        first_among(&params.nodes, &DelaysFrom { run, sender: node })
     }
 }
 
@@ -225,11 +233,12 @@ fn delay_on(
 struct Links<'a>(Run<'a>);
 
 impl Search for Links<'_> {
-    ghost found = { λ a node. first_in (links_gap a.0.drift.now a.0.script.now node) a.0.nodes.now };
+    ghost found = { λ a node. first_in (links_gap a.0.drift.now a.0.script.now node) a.0.params.now.nodes };
 
     fn find(&self, node: &NodeSpec) -> Option<Gap> {
         let run = self.0;
-        first_among(run.nodes, &LinksFrom { run, sender: node })
+        let params = run.params;
+        first_among(&params.nodes, &LinksFrom { run, sender: node })
     }
 }
 

@@ -83,13 +83,7 @@ impl Script {
     /// The first cycle from `cycle` on, before `end`, in which the script does anything to the frames of a sender
     /// at a receiver, or `end`.
     #[tactic(auto, unfolding(crate::specs::View::deed_of))]
-    pub(crate) fn next_deed(
-        &self,
-        sender: NodeId,
-        receiver: NodeId,
-        cycle: u32,
-        end: u32,
-    ) -> u32
+    pub(crate) fn next_deed(&self, sender: NodeId, receiver: NodeId, cycle: u32, end: u32) -> u32
         requires { cycle ≤ end }
         ensures from { cycle ≤ result }
         ensures to { result ≤ end }

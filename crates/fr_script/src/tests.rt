@@ -1,4 +1,4 @@
-use crate::{Event, Script, ScriptFault, read};
+use crate::{Event, Gap, Script, ScriptFault, covered, read};
 use fr_base::{Channel, NodeId, Reason};
 use fr_params::Params;
 use std::alloc::{AllocError, Global};
@@ -85,19 +85,13 @@ const BEHIND: &[(&[u8], Option<(u64, Reason)>)] = &[
     (b"say,0,4,1,A,x,z", Some((3, Reason::NotNumber))),
     (b"say,0,4,1,A,1000000000000,", None),
     (b"say,0,4,1,A,-1000000000000,", None),
-    (
-        b"say,0,4,1,A,1000000000001,",
-        Some((3, Reason::OutOfRange)),
-    ),
+    (b"say,0,4,1,A,1000000000001,", Some((3, Reason::OutOfRange))),
     (
         b"say,0,4,1,A,-1000000000001,",
         Some((3, Reason::OutOfRange)),
     ),
     (b"say,0,4,1,A,0,\narbitrary,2,,,,,", Some((4, Reason::Role))),
-    (
-        b"lose,0,1,2,A,,\narbitrary,4,,,,,",
-        Some((4, Reason::Role)),
-    ),
+    (b"lose,0,1,2,A,,\narbitrary,4,,,,,", Some((4, Reason::Role))),
     (
         b"say,0,4,1,A,0,\nsay,1,4,1,A,0,\nsay,0,4,1,A,5,z",
         Some((5, Reason::NotHex)),
@@ -180,7 +174,11 @@ fn event(script: &Script, cycle: u32, sender: u8, receiver: u8) -> Event<'_> {
 fn finds_the_least_reason(rt: HostRuntime) -> Result<(), Fail> {
     let params = cluster(rt.alloc(), NODES)?;
     for (text, want) in REFUSALS {
-        assert_eq!(rt; fault_of(rt.alloc(), &params, text), row(*want), "at {text:?}");
+        assert_eq!(rt;
+            fault_of(rt.alloc(), &params, text),
+            row(*want),
+            "at {text:?}"
+        );
     }
     Ok(())
 }
@@ -190,7 +188,11 @@ fn looks_at_earlier_records(rt: HostRuntime) -> Result<(), Fail> {
     let params = cluster(rt.alloc(), NODES)?;
     for (text, want) in BEHIND {
         let bytes = joined(rt.alloc(), b"arbitrary,4,,,,,\narbitrary,3,,,,,\n", text)?;
-        assert_eq!(rt; fault_of(rt.alloc(), &params, &bytes), row(*want), "at {text:?}");
+        assert_eq!(rt;
+            fault_of(rt.alloc(), &params, &bytes),
+            row(*want),
+            "at {text:?}"
+        );
     }
     Ok(())
 }
@@ -204,7 +206,11 @@ fn counts_digits_whatever_they_are(rt: HostRuntime) -> Result<(), Fail> {
             bytes.push(*digit)?;
         }
         let want = row(why.map(|reason| (2, reason)));
-        assert_eq!(rt; fault_of(rt.alloc(), &params, &bytes), want, "at {count} {digit}");
+        assert_eq!(rt;
+            fault_of(rt.alloc(), &params, &bytes),
+            want,
+            "at {count} {digit}"
+        );
     }
     Ok(())
 }
@@ -214,8 +220,24 @@ fn says_to_each_its_own(rt: HostRuntime) -> Result<(), Fail> {
     let params = cluster(rt.alloc(), NODES)?;
     let script = read(rt.alloc(), &params, TWO_FACED)?;
     assert!(rt; script.arbitrary(NodeId(4)) && !script.arbitrary(NodeId(1)));
-    assert!(rt; matches!(event(&script, 0, 4, 1), Event::Say { shift: 100_000_000, bytes: None }));
-    assert!(rt; matches!(event(&script, 1, 4, 2), Event::Say { shift: -100_000_000, bytes: None }));
+    assert!(rt;
+        matches!(
+            event(&script, 0, 4, 1),
+            Event::Say {
+                shift: 100_000_000,
+                bytes: None
+            }
+        )
+    );
+    assert!(rt;
+        matches!(
+            event(&script, 1, 4, 2),
+            Event::Say {
+                shift: -100_000_000,
+                bytes: None
+            }
+        )
+    );
     assert!(rt; matches!(event(&script, 0, 4, 3), Event::Silent));
     assert!(rt; matches!(event(&script, 2, 4, 1), Event::Silent));
     assert!(rt; matches!(event(&script, 0, 1, 2), Event::Regular));
@@ -239,6 +261,149 @@ fn tells_what_becomes_of_frames(rt: HostRuntime) -> Result<(), Fail> {
             assert_eq!(rt; bytes, [0x0a, 0xff].as_slice());
         }
         _ => assert!(rt; false),
+    }
+    Ok(())
+}
+
+/// Two nodes on channel A.
+const PAIR: &[u8] = b"node,1,1,A,1\nnode,2,2,A,1\n";
+
+/// The same on both channels.
+const WIDE_PAIR: &[u8] = b"node,1,1,AB,1\nnode,2,2,AB,1\n";
+
+/// Nodes, rows of a drift file and a script, and the gap of the run with its numbers, if it has one.
+const GAPS: &[(&[u8], &[u8], &[u8], &[u8])] = &[
+    (PAIR, b"doubles,1,,,,", b"", b""),
+    (
+        PAIR,
+        b"doubles,1,,,,\nlength,1,0,1000201,,",
+        b"",
+        b"length 1 0 1000201",
+    ),
+    (
+        PAIR,
+        b"doubles,1,,,,\nlength,1,1,1000001,,",
+        b"",
+        b"change 1 1 1",
+    ),
+    (
+        PAIR,
+        b"doubles,1,,,,\ndelay,1,2,A,0,500001",
+        b"",
+        b"delay 1 2 A 0 500001",
+    ),
+    (PAIR, b"doubles,1,,,,\ndelay,1,2,A,2,500001", b"", b""),
+    (PAIR, b"doubles,1,,,,\nlength,1,2,999999,,", b"", b""),
+    (
+        PAIR,
+        b"doubles,2,,,,\nlength,2,3,999799,,\nlength,2,1,999999,,",
+        b"",
+        b"length 2 3 999799",
+    ),
+    (
+        PAIR,
+        b"doubles,2,,,,\nlength,2,3,999998,,\nlength,2,1,999999,,",
+        b"lose,0,1,2,A,,",
+        b"change 2 1 -1",
+    ),
+    (
+        b"node,1,1,A,1\nnode,2,2,A,1\nnode,3,3,A,1\n",
+        b"doubles,1,,,,",
+        b"arbitrary,3,,,,,",
+        b"count 2 1",
+    ),
+    (
+        PAIR,
+        b"doubles,1,,,,",
+        b"arbitrary,1,,,,,\narbitrary,2,,,,,",
+        b"count 0 2",
+    ),
+    (
+        b"node,1,1,A,1\nnode,2,2,A,1\nnode,3,3,A,1\nnode,4,4,A,1\n",
+        b"doubles,1,,,,\nlength,4,0,500000,,\ndelay,4,1,A,0,9",
+        TWO_FACED,
+        b"",
+    ),
+    (
+        PAIR,
+        b"doubles,2,,,,\nstart,2,2500000,0,,",
+        b"lose,3,1,2,A,,",
+        b"link 1 2 1",
+    ),
+    (
+        PAIR,
+        b"doubles,2,,,,\nstart,2,2500000,0,,",
+        b"flip,3,1,2,A,0,",
+        b"link 1 2 1",
+    ),
+    (
+        WIDE_PAIR,
+        b"doubles,2,,,,\nstart,2,2500000,0,,",
+        b"lose,3,1,2,A,,",
+        b"",
+    ),
+    (
+        WIDE_PAIR,
+        b"doubles,2,,,,",
+        b"lose,3,1,2,A,,\nlose,2,1,2,B,,",
+        b"link 1 2 1",
+    ),
+    (PAIR, b"doubles,1,,,,", b"lose,2,1,2,A,,", b""),
+    (
+        b"node,1,1,A,1\nnode,2,2,A,1\nnode,9,,B,0\n",
+        b"doubles,1,,,,",
+        b"",
+        b"link 1 9 0",
+    ),
+];
+
+fn told(alloc: Global, gap: Gap) -> Result<String, AllocError> {
+    match gap {
+        Gap::Check {
+            number,
+            left,
+            right,
+        } => format!(in alloc; "check {number} {left} {right}"),
+        Gap::Count { correct, arbitrary } => format!(in alloc; "count {correct} {arbitrary}"),
+        Gap::Length { node, cycle, ticks } => {
+            format!(in alloc; "length {} {cycle} {ticks}", node.0)
+        }
+        Gap::Change { node, cycle, ticks } => {
+            format!(in alloc; "change {} {cycle} {ticks}", node.0)
+        }
+        Gap::Delay {
+            sender,
+            receiver,
+            channel,
+            cycle,
+            ticks,
+        } => format!(in alloc;
+            "delay {} {} {channel:?} {cycle} {ticks}",
+            sender.0, receiver.0
+        ),
+        Gap::Link {
+            sender,
+            receiver,
+            double,
+        } => format!(in alloc; "link {} {} {double}", sender.0, receiver.0),
+    }
+}
+
+fn gap_of(alloc: Global, nodes: &[u8], drift: &[u8], script: &[u8]) -> Result<String, Fail> {
+    let params = cluster(alloc, nodes)?;
+    let drift = fr_drift::read(alloc, &params, drift)?;
+    let script = read(alloc, &params, script)?;
+    match covered(&params, &drift, &script) {
+        Ok(()) => Ok(String::new(alloc)),
+        Err(gap) => Ok(told(alloc, gap)?),
+    }
+}
+
+#[test]
+fn finds_the_first_gap(rt: HostRuntime) -> Result<(), Fail> {
+    for (nodes, drift, script, want) in GAPS {
+        let gap = gap_of(rt.alloc(), nodes, drift, script)?;
+        assert_eq!(rt; gap.as_bytes(), *want, "at {nodes:?} {drift:?} {script:?}");
     }
     Ok(())
 }
