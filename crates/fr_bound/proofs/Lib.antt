@@ -2,3 +2,4 @@ pub mod Uncut
 pub mod Failing
 pub mod Rows
 pub mod Sync
+pub mod Spread

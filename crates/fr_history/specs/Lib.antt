@@ -1,5 +1,6 @@
 pub mod Setting
 pub mod History
+pub mod Recorded
 pub mod Offers
 pub mod Kinds
 pub mod Terms
