@@ -1,5 +1,5 @@
 -- Rows of a drift file and the answers of a drift, computed.
-use Rattle.std.proofs.Common.{◌≡◌, ℕ, pos, negsuc, List, [], ◌∷◌, Some, None, Ok, Err, true, refl}
+use Rattle.std.proofs.Common.{◌≡◌, pos, negsuc, [], ◌∷◌, None, Ok, Err, true, refl}
 use Rattle.std.specs.Prelude.{codes}
 use Rattle.std.specs.FinMap.{is_sorted}
 use Rattle.fr_base.specs.declared.channel.Channel.TheVariants as channel
