@@ -246,16 +246,16 @@ links-least p d s ascend =
     (least-in (λ a. Among (OfLinks d s a) p.nodes) (λ a. first_in (links_gap d s a) p.nodes) p.nodes (λ a. from_sender a)
     (in-order (λ a. Among (OfLinks d s a) p.nodes) p.nodes ascend (λ a b lt g h w x before. links-apart p d s a b lt g h w x before)))
     (λ g w. record {
-        sender = w.0;
-        receiver = w.2.0;
-        sender_there = w.1;
-        receiver_there = w.2.1;
-        link = w.2.2.0;
-        double = w.2.2.1.0;
-        within = w.2.2.1.1;
-        broken = w.2.2.1.2.0;
-        told = w.2.2.1.2.1;
-      })
+      sender = w.0;
+      receiver = w.2.0;
+      sender_there = w.1;
+      receiver_there = w.2.1;
+      link = w.2.2.0;
+      double = w.2.2.1.0;
+      within = w.2.2.1.1;
+      broken = w.2.2.1.2.0;
+      told = w.2.2.1.2.1;
+    })
     (λ g r. (r.sender, r.sender_there, (r.receiver, r.receiver_there, (r.link, (r.double, r.within, (r.broken, r.told))))))
   where
     of : (a b : NodeSpec) → IsLeast (OfLinks d s a b) (links_gap d s a b)

@@ -4,7 +4,7 @@ use fr_params::Params;
 use std::alloc::{AllocError, Global};
 use std::test::Fail;
 
-/// A cycle of 5 ms at a microtick of 25 ns; frames have 64 bits.
+/// A cycle of 5 ms at a microtick of 25 ns, without the limit of the offset term; frames have 64 bits.
 const CLUSTER: &[&[u8]] = &[
     b"param,gMacroPerCycle,5000,,",
     b"param,pMicroPerCycle,200000,,",
@@ -19,13 +19,15 @@ const CLUSTER: &[&[u8]] = &[
     b"param,pAllowHaltDueToClock,1,,",
     b"param,pAllowPassiveToActive,2,,",
     b"param,pClusterDriftDamping,4,,",
-    b"param,pOffsetCorrectionOut,254,,",
     b"param,pRateCorrectionOut,81,,",
     b"param,pDelayCompensation,0,,",
     b"param,xRateBound,200,,",
     b"param,xChangeBound,0,,",
     b"param,xDelayError,500000,,",
 ];
+
+/// A limit of the offset term that is just enough.
+const LIMIT: &[u8] = b"param,pOffsetCorrectionOut,254,,\n";
 
 /// Nodes 1 and 2 on channel A, 3 and 4 on both, 5 on both without a key slot, 6 on channel B without one.
 const NODES: &[u8] =
@@ -134,13 +136,18 @@ say,0,4,2,A,-100000000,
 say,1,4,2,A,-100000000,
 ";
 
-/// The parameters of the cluster with these nodes.
 fn cluster(alloc: Global, nodes: &[u8]) -> Result<Params, Fail> {
+    limited(alloc, LIMIT, nodes)
+}
+
+/// The parameters of the cluster with this limit of the offset term and these nodes.
+fn limited(alloc: Global, limit: &[u8], nodes: &[u8]) -> Result<Params, Fail> {
     let mut bytes = Vec::new(alloc);
     for line in CLUSTER {
         bytes.extend_from_slice(line)?;
         bytes.push(b'\n')?;
     }
+    bytes.extend_from_slice(limit)?;
     bytes.extend_from_slice(nodes)?;
     Ok(fr_params::read(alloc, &bytes)?)
 }
@@ -389,11 +396,10 @@ fn told(alloc: Global, gap: Gap) -> Result<String, AllocError> {
     }
 }
 
-fn gap_of(alloc: Global, nodes: &[u8], drift: &[u8], script: &[u8]) -> Result<String, Fail> {
-    let params = cluster(alloc, nodes)?;
-    let drift = fr_drift::read(alloc, &params, drift)?;
-    let script = read(alloc, &params, script)?;
-    match covered(&params, &drift, &script) {
+fn gap_of(alloc: Global, params: &Params, drift: &[u8], script: &[u8]) -> Result<String, Fail> {
+    let drift = fr_drift::read(alloc, params, drift)?;
+    let script = read(alloc, params, script)?;
+    match covered(params, &drift, &script) {
         Ok(()) => Ok(String::new(alloc)),
         Err(gap) => Ok(told(alloc, gap)?),
     }
@@ -402,8 +408,17 @@ fn gap_of(alloc: Global, nodes: &[u8], drift: &[u8], script: &[u8]) -> Result<St
 #[test]
 fn finds_the_first_gap(rt: HostRuntime) -> Result<(), Fail> {
     for (nodes, drift, script, want) in GAPS {
-        let gap = gap_of(rt.alloc(), nodes, drift, script)?;
+        let params = cluster(rt.alloc(), nodes)?;
+        let gap = gap_of(rt.alloc(), &params, drift, script)?;
         assert_eq!(rt; gap.as_bytes(), *want, "at {nodes:?} {drift:?} {script:?}");
     }
+    Ok(())
+}
+
+#[test]
+fn names_the_failing_check_first(rt: HostRuntime) -> Result<(), Fail> {
+    let params = limited(rt.alloc(), b"param,pOffsetCorrectionOut,253,,\n", PAIR)?;
+    let gap = gap_of(rt.alloc(), &params, b"doubles,1,,,,", b"arbitrary,1,,,,,")?;
+    assert_eq!(rt; gap.as_bytes(), b"check 3 252949400 253543800".as_slice());
     Ok(())
 }
