@@ -324,9 +324,9 @@ impl Node {
         ensures cut { result.cut ≡ 0 }
     {
         sane(params);
-        let row = self.row();
-        self.pass(params, &row, row.rate);
-        row
+        let plain = self.row();
+        self.pass(params, &plain, plain.rate);
+        plain
     }
 }
 
