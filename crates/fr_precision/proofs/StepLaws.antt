@@ -1,18 +1,17 @@
 -- The law of the step, from those of rates, offsets and instants.
-use Rattle.std.proofs.Common.{◌≡◌, ℕ, ◌+◌, ◌*◌, ◌≤◌, true, ℤ, pos, List, length, All, arith}
-use Rattle.std.specs.Prelude.{◌+ℤ◌, ◌-ℤ◌, ◌*ℤ◌, ◌≤ℤ◌}
+use Rattle.std.proofs.Common.{ℕ, ◌+◌, ◌*◌, ◌≤◌, true, ℤ, pos, List, length, arith}
+use Rattle.std.specs.Prelude.{◌+ℤ◌, ◌-ℤ◌, ◌≤ℤ◌}
 use Rattle.std.proofs.lemmas.Int.{ints}
 use Rattle.fr_base.specs.declared.node_row.NodeRow.{NodeRow}
 use Rattle.fr_params.specs.Values.{Values}
 use Rattle.fr_params.specs.Sane.{IsSane}
 use Rattle.fr_midpoint.specs.Within.{IsWithin}
 use Rattle.fr_bound.specs.Bounds.{lambda_of, longest_micro, pi_of, precision_of}
-use Rattle.fr_bound.specs.Checks.{holds_of}
 use Rattle.fr_bound.specs.Sync.{cycle_length_of}
 use Rattle.fr_precision.specs.Rows.{Sender}
-use Rattle.fr_precision.specs.Instants.{gap_of, LieNear, Runs}
+use Rattle.fr_precision.specs.Instants.{gap_of, Runs}
 use Rattle.fr_precision.specs.Offsets.{IsSending, NearAll, ReachAll}
-use Rattle.fr_precision.specs.Step.{AreSynced, Member, SendersAreSynced, StaySynced, SyncIsKept, TakesPart}
+use Rattle.fr_precision.specs.Step.{AreSynced, Member, SendersAreSynced, SyncIsKept, TakesPart}
 use Rattle.fr_precision.proofs.InstantLaws.{macroticks_stay_near_lem, precision_holds_lem, wider}
 use Rattle.fr_precision.proofs.OffsetLaws.{ends_stay_together, offset_terms_are_uncut, third_check_suffices}
 use Rattle.fr_precision.proofs.RateLaws.{lengths_stay_in_range_lem, lengths_stay_together, rate_terms_are_uncut}
