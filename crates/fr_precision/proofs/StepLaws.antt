@@ -1,17 +1,18 @@
 -- The law of the step, from those of rates, offsets and instants.
-use Rattle.std.proofs.Common.{ℕ, ◌+◌, ◌*◌, ◌≤◌, true, ℤ, pos, List, length, arith}
-use Rattle.std.specs.Prelude.{◌+ℤ◌, ◌-ℤ◌, ◌≤ℤ◌}
+use Rattle.std.proofs.Common.{◌≡◌, ℕ, ◌+◌, ◌*◌, ◌≤◌, true, ℤ, pos, List, [], ◌∷◌, length, map, All, refl, ap, subst, arith}
+use Rattle.std.specs.Prelude.{◌+ℤ◌, ◌-ℤ◌, ◌≤ℤ◌, Contains}
 use Rattle.std.proofs.lemmas.Int.{ints}
+use Rattle.std.proofs.lemmas.List.Elements.{All-cons, All-contains, All-head, All-nil, All-tail}
 use Rattle.fr_base.specs.declared.node_row.NodeRow.{NodeRow}
 use Rattle.fr_params.specs.Values.{Values}
 use Rattle.fr_params.specs.Sane.{IsSane}
 use Rattle.fr_midpoint.specs.Within.{IsWithin}
 use Rattle.fr_bound.specs.Bounds.{lambda_of, longest_micro, pi_of, precision_of}
-use Rattle.fr_bound.specs.Sync.{cycle_length_of}
+use Rattle.fr_bound.specs.Sync.{cycle_length_of, IsInSync, IsProperLength}
 use Rattle.fr_precision.specs.Rows.{Sender}
 use Rattle.fr_precision.specs.Instants.{gap_of, Runs}
 use Rattle.fr_precision.specs.Offsets.{IsSending, NearAll, ReachAll}
-use Rattle.fr_precision.specs.Step.{AreSynced, Member, SendersAreSynced, SyncIsKept, TakesPart}
+use Rattle.fr_precision.specs.Step.{AreSynced, ComputesTerms, IsAmong, Member, SendersAreSynced, StaySynced, SyncIsKept, SyncOfAllIsKept, TakesPart}
 use Rattle.fr_precision.proofs.InstantLaws.{macroticks_stay_near_lem, precision_holds_lem, wider}
 use Rattle.fr_precision.proofs.OffsetLaws.{ends_stay_together, offset_terms_are_uncut, third_check_suffices}
 use Rattle.fr_precision.proofs.RateLaws.{lengths_stay_in_range_lem, lengths_stay_together, rate_terms_are_uncut}
@@ -64,3 +65,118 @@ sync_is_kept_lem p senders one other sane first second third synced part other_p
           lengths_stay_together p senders one.odd other.odd one.rates other.rates one.rate_term other.rate_term even odd other_even other_odd sane first second synced.proper synced.near.by_odd
           part.by_rate other_part.by_rate keep_rates next other_next;
     }
+
+-- what holds of a list of what some have holds of them
+unmapped : {X Y : Type 0} (P : Y → Type 0) (f : X → Y) (xs : List X) → All P (map f xs) → All (λ x. P (f x)) xs
+unmapped P f [] all = All-nil (λ x. P (f x))
+unmapped P f (x ∷ xs) all = All-cons (λ y. P (f y)) x xs (All-head P (f x) (map f xs) all) (unmapped P f xs (All-tail P (f x) (map f xs) all))
+
+-- any two of a list lie as near as it says
+no_more : {X : Type 0} (f : X → ℤ) (bound : ℤ) (xs : List X) (x y : X) → All (λ a. All (λ b. (a -ℤ b) ≤ℤ bound) (map f xs)) (map f xs)
+    → Contains xs x → Contains xs y → (f x -ℤ f y) ≤ℤ bound
+no_more f bound xs x y all here there =
+    let from_x : All (λ b. (f x -ℤ b) ≤ℤ bound) (map f xs) =
+    All-contains (λ x. All (λ b. (f x -ℤ b) ≤ℤ bound) (map f xs)) xs x (unmapped (λ a. All (λ b. (a -ℤ b) ≤ℤ bound) (map f xs)) f xs all) here in
+    All-contains (λ y. (f x -ℤ f y) ≤ℤ bound) xs y (unmapped (λ b. (f x -ℤ b) ≤ℤ bound) f xs from_x) there
+
+both_ways : (bound x y : ℤ) → (x -ℤ y) ≤ℤ bound → (y -ℤ x) ≤ℤ bound → IsWithin bound (x -ℤ y)
+both_ways bound x y up down = record { low = omega (arith, ints); high = omega (arith, ints) }
+
+any_two : {X : Type 0} (f : X → ℤ) (bound : ℤ) (xs : List X) (x y : X) → All (λ a. All (λ b. (a -ℤ b) ≤ℤ bound) (map f xs)) (map f xs)
+    → Contains xs x → Contains xs y → IsWithin bound (f x -ℤ f y)
+any_two f bound xs x y all here there = both_ways bound (f x) (f y) (no_more f bound xs x y all here there) (no_more f bound xs y x all there here)
+
+mapped_twice : {X Y : Type 0} (g : Y → ℤ) (f : X → Y) (xs : List X) → map g (map f xs) ≡ map (λ x. g (f x)) xs
+mapped_twice g f [] = refl
+mapped_twice g f (x ∷ xs) = ap (λ (rest : List ℤ). g (f x) ∷ rest) (mapped_twice g f xs)
+
+-- two nodes of a list whose rows are in sync are in sync
+nodes_synced : (p : Values) (nodes : List Member) (one other : Member) → IsInSync p (map (λ (node : Member). node.even) nodes) (map (λ (node : Member). node.odd) nodes)
+    → Contains nodes one → Contains nodes other → AreSynced p one.even one.odd other.even other.odd
+nodes_synced p nodes one other sync here there =
+    let Near : ℤ → List ℤ → Type 0 = λ bound xs. All (λ a. All (λ b. (a -ℤ b) ≤ℤ bound) xs) xs in
+    let even : Member → NodeRow = λ node. node.even in
+    let odd : Member → NodeRow = λ node. node.odd in
+    let starts = subst (Near (pos (pi_of p))) (mapped_twice (λ (row : NodeRow). row.start) even nodes) sync.starts in
+    let evens = subst (Near (pos (lambda_of p))) (mapped_twice (cycle_length_of p) even nodes) sync.even_lengths in
+    let odds = subst (Near (pos (lambda_of p))) (mapped_twice (cycle_length_of p) odd nodes) sync.odd_lengths in
+    record {
+      by_start = any_two (λ (node : Member). node.even.start) (pos (pi_of p)) nodes one other starts here there;
+      by_even = any_two (λ (node : Member). cycle_length_of p node.even) (pos (lambda_of p)) nodes one other evens here there;
+      by_odd = any_two (λ (node : Member). cycle_length_of p node.odd) (pos (lambda_of p)) nodes one other odds here there;
+    }
+
+-- a sender is in sync with each node, and with each sender
+sender_synced : (p : Values) (nodes : List Member) (sender : Sender) (even odd : NodeRow) → IsAmong nodes sender
+    → ((node : Member) → Contains nodes node → AreSynced p node.even node.odd even odd) → AreSynced p sender.even sender.odd even odd
+sender_synced p nodes sender even odd (node, here, same_even, same_odd) synced =
+    let At : NodeRow → Type 0 = λ row. AreSynced p row node.odd even odd in
+    let Also : NodeRow → Type 0 = λ row. AreSynced p sender.even row even odd in
+    subst Also same_odd (subst At same_even (synced node here))
+
+synced_turned : (p : Values) (even odd other_even other_odd : NodeRow) → AreSynced p even odd other_even other_odd → AreSynced p other_even other_odd even odd
+synced_turned p even odd other_even other_odd near = record {
+  by_start = turned (pos (pi_of p)) even.start other_even.start near.by_start;
+  by_even = turned (pos (lambda_of p)) (cycle_length_of p even) (cycle_length_of p other_even) near.by_even;
+  by_odd = turned (pos (lambda_of p)) (cycle_length_of p odd) (cycle_length_of p other_odd) near.by_odd;
+}
+
+senders_synced : (p : Values) (senders : List Sender) (nodes : List Member) → IsInSync p (map (λ (node : Member). node.even) nodes) (map (λ (node : Member). node.odd) nodes)
+    → All (IsSending p) senders → All (IsAmong nodes) senders → All (ComputesTerms p senders) nodes → SendersAreSynced p senders
+senders_synced p senders nodes sync sending among computes =
+    let to_node = λ (sender : Sender) (is : IsAmong nodes sender) (node : Member) (here : Contains nodes node).
+    sender_synced p nodes sender node.even node.odd is (λ one there. nodes_synced p nodes one node sync there here) in
+    let pair = λ (one other : Sender) (is : IsAmong nodes one) (also : IsAmong nodes other).
+    sender_synced p nodes one other.even other.odd is
+    (λ node here. synced_turned p other.even other.odd node.even node.odd (to_node other also node here)) in
+    record {
+      sending = sending;
+      run = All-along (IsAmong nodes) (λ sender. Runs p sender.even sender.odd) senders (λ sender is. runs_of sender is) among;
+      near = record {
+        by_start =
+            All-along (IsAmong nodes) (λ one. All (λ (other : Sender). IsWithin (pos (pi_of p)) (one.even.start -ℤ other.even.start)) senders) senders
+                (λ one is. All-along (IsAmong nodes) (λ other. IsWithin (pos (pi_of p)) (one.even.start -ℤ other.even.start)) senders (λ other also. (pair one other is also).by_start) among) among;
+        by_even =
+            All-along (IsAmong nodes) (λ one. All (λ (other : Sender). IsWithin (pos (lambda_of p)) (cycle_length_of p one.even -ℤ cycle_length_of p other.even)) senders) senders
+                (λ one is. All-along (IsAmong nodes) (λ other. IsWithin (pos (lambda_of p)) (cycle_length_of p one.even -ℤ cycle_length_of p other.even)) senders (λ other also. (pair one other is also).by_even) among) among;
+        by_odd =
+            All-along (IsAmong nodes) (λ one. All (λ (other : Sender). IsWithin (pos (lambda_of p)) (cycle_length_of p one.odd -ℤ cycle_length_of p other.odd)) senders) senders
+                (λ one is. All-along (IsAmong nodes) (λ other. IsWithin (pos (lambda_of p)) (cycle_length_of p one.odd -ℤ cycle_length_of p other.odd)) senders (λ other also. (pair one other is also).by_odd) among) among;
+      };
+      proper = All-along (IsAmong nodes) (λ sender. IsProperLength p (cycle_length_of p sender.odd)) senders (λ sender is. proper_of sender is) among;
+    }
+  where
+    runs_of : (sender : Sender) → IsAmong nodes sender → Runs p sender.even sender.odd
+    runs_of sender (node, here, same_even, same_odd) =
+        let At : NodeRow → Type 0 = λ row. Runs p row node.odd in
+        let Also : NodeRow → Type 0 = λ row. Runs p sender.even row in
+        subst Also same_odd (subst At same_even (All-contains (ComputesTerms p senders) nodes node computes here).runs)
+    proper_of : (sender : Sender) → IsAmong nodes sender → IsProperLength p (cycle_length_of p sender.odd)
+    proper_of sender (node, here, same_even, same_odd) =
+        let At : NodeRow → Type 0 = λ row. IsProperLength p (cycle_length_of p row) in
+        subst At same_odd
+        (All-contains (λ (node : Member). IsProperLength p (cycle_length_of p node.odd)) nodes node (unmapped (λ row. IsProperLength p (cycle_length_of p row)) (λ (node : Member). node.odd) nodes sync.odd_proper) here)
+
+takes_part : (p : Values) (senders : List Sender) (nodes : List Member) (node : Member) → IsInSync p (map (λ (node : Member). node.even) nodes) (map (λ (node : Member). node.odd) nodes)
+    → All (IsAmong nodes) senders → All (ComputesTerms p senders) nodes → Contains nodes node → TakesPart p senders node
+takes_part p senders nodes node sync among computes here =
+    let own = All-contains (ComputesTerms p senders) nodes node computes here in
+    record {
+      runs = own.runs;
+      near =
+          All-along (IsAmong nodes) (λ sender. AreSynced p sender.even sender.odd node.even node.odd) senders
+              (λ sender is. sender_synced p nodes sender node.even node.odd is (λ one there. nodes_synced p nodes one node sync there here)) among;
+      by_offset = own.by_offset;
+      by_rate = own.by_rate;
+    }
+
+pub sync_of_all_is_kept : SyncOfAllIsKept
+sync_of_all_is_kept p senders nodes sane first second third sync sending among computes keep one other here there =
+    let kept = keep one other here there in
+    sync_is_kept_lem p senders one other sane first second third
+    (senders_synced p senders nodes sync sending among computes)
+    (takes_part p senders nodes one sync among computes here)
+    (takes_part p senders nodes other sync among computes there)
+    (nodes_synced p nodes one other sync here there)
+    kept.0
+    kept.1
