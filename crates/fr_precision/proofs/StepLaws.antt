@@ -12,7 +12,7 @@ use Rattle.fr_bound.specs.Sync.{cycle_length_of, IsInSync, IsProperLength}
 use Rattle.fr_precision.specs.Rows.{Sender}
 use Rattle.fr_precision.specs.Instants.{gap_of, Runs}
 use Rattle.fr_precision.specs.Offsets.{IsSending, NearAll, ReachAll}
-use Rattle.fr_precision.specs.Step.{AreSynced, ComputesTerms, IsAmong, Member, SendersAreSynced, StaySynced, SyncIsKept, SyncOfAllIsKept, TakesPart}
+use Rattle.fr_precision.specs.Step.{AreSynced, ComputesTerms, IsAmong, Member, SendersAreSynced, SyncIsKept, SyncOfAllIsKept, TakesPart}
 use Rattle.fr_precision.proofs.InstantLaws.{macroticks_stay_near_lem, precision_holds_lem, wider}
 use Rattle.fr_precision.proofs.OffsetLaws.{ends_stay_together, offset_terms_are_uncut, third_check_suffices}
 use Rattle.fr_precision.proofs.RateLaws.{lengths_stay_in_range_lem, lengths_stay_together, rate_terms_are_uncut}
@@ -135,13 +135,13 @@ senders_synced p senders nodes sync sending among computes =
       near = record {
         by_start =
             All-along (IsAmong nodes) (λ one. All (λ (other : Sender). IsWithin (pos (pi_of p)) (one.even.start -ℤ other.even.start)) senders) senders
-                (λ one is. All-along (IsAmong nodes) (λ other. IsWithin (pos (pi_of p)) (one.even.start -ℤ other.even.start)) senders (λ other also. (pair one other is also).by_start) among) among;
+            (λ one is. All-along (IsAmong nodes) (λ other. IsWithin (pos (pi_of p)) (one.even.start -ℤ other.even.start)) senders (λ other also. (pair one other is also).by_start) among) among;
         by_even =
             All-along (IsAmong nodes) (λ one. All (λ (other : Sender). IsWithin (pos (lambda_of p)) (cycle_length_of p one.even -ℤ cycle_length_of p other.even)) senders) senders
-                (λ one is. All-along (IsAmong nodes) (λ other. IsWithin (pos (lambda_of p)) (cycle_length_of p one.even -ℤ cycle_length_of p other.even)) senders (λ other also. (pair one other is also).by_even) among) among;
+            (λ one is. All-along (IsAmong nodes) (λ other. IsWithin (pos (lambda_of p)) (cycle_length_of p one.even -ℤ cycle_length_of p other.even)) senders (λ other also. (pair one other is also).by_even) among) among;
         by_odd =
             All-along (IsAmong nodes) (λ one. All (λ (other : Sender). IsWithin (pos (lambda_of p)) (cycle_length_of p one.odd -ℤ cycle_length_of p other.odd)) senders) senders
-                (λ one is. All-along (IsAmong nodes) (λ other. IsWithin (pos (lambda_of p)) (cycle_length_of p one.odd -ℤ cycle_length_of p other.odd)) senders (λ other also. (pair one other is also).by_odd) among) among;
+            (λ one is. All-along (IsAmong nodes) (λ other. IsWithin (pos (lambda_of p)) (cycle_length_of p one.odd -ℤ cycle_length_of p other.odd)) senders (λ other also. (pair one other is also).by_odd) among) among;
       };
       proper = All-along (IsAmong nodes) (λ sender. IsProperLength p (cycle_length_of p sender.odd)) senders (λ sender is. proper_of sender is) among;
     }
@@ -151,6 +151,7 @@ senders_synced p senders nodes sync sending among computes =
         let At : NodeRow → Type 0 = λ row. Runs p row node.odd in
         let Also : NodeRow → Type 0 = λ row. Runs p sender.even row in
         subst Also same_odd (subst At same_even (All-contains (ComputesTerms p senders) nodes node computes here).runs)
+
     proper_of : (sender : Sender) → IsAmong nodes sender → IsProperLength p (cycle_length_of p sender.odd)
     proper_of sender (node, here, same_even, same_odd) =
         let At : NodeRow → Type 0 = λ row. IsProperLength p (cycle_length_of p row) in
@@ -165,7 +166,7 @@ takes_part p senders nodes node sync among computes here =
       runs = own.runs;
       near =
           All-along (IsAmong nodes) (λ sender. AreSynced p sender.even sender.odd node.even node.odd) senders
-              (λ sender is. sender_synced p nodes sender node.even node.odd is (λ one there. nodes_synced p nodes one node sync there here)) among;
+          (λ sender is. sender_synced p nodes sender node.even node.odd is (λ one there. nodes_synced p nodes one node sync there here)) among;
       by_offset = own.by_offset;
       by_rate = own.by_rate;
     }
