@@ -1,22 +1,23 @@
 -- The law of the step, from those of rates, offsets and instants.
-use Rattle.std.proofs.Common.{◌≡◌, ℕ, ◌+◌, ◌*◌, ◌≤◌, true, ℤ, pos, List, [], ◌∷◌, length, map, All, refl, ap, subst, arith}
+use Rattle.std.proofs.Common.{◌≡◌, ℕ, ◌+◌, ◌*◌, ◌≤◌, true, ℤ, pos, List, [], ◌∷◌, length, map, All, refl, ap, sym, subst, arith}
 use Rattle.std.specs.Prelude.{◌+ℤ◌, ◌-ℤ◌, ◌≤ℤ◌, Contains}
 use Rattle.std.proofs.lemmas.Int.{ints}
-use Rattle.std.proofs.lemmas.List.Elements.{All-cons, All-contains, All-head, All-nil, All-tail}
+use Rattle.std.proofs.lemmas.List.Elements.{All-cons, All-contains, All-contains_itself, All-head, All-map, All-nil, All-tail}
 use Rattle.fr_base.specs.declared.node_row.NodeRow.{NodeRow}
+use Rattle.fr_base.specs.declared.state.State.TheVariants.{Active}
 use Rattle.fr_params.specs.Values.{Values}
 use Rattle.fr_params.specs.Sane.{IsSane}
 use Rattle.fr_midpoint.specs.Within.{IsWithin}
 use Rattle.fr_bound.specs.Bounds.{lambda_of, longest_micro, pi_of, precision_of}
-use Rattle.fr_bound.specs.Sync.{cycle_length_of, IsInSync, IsProperLength}
-use Rattle.fr_precision.specs.Rows.{Sender}
+use Rattle.fr_bound.specs.Sync.{cycle_length_of, IsInSync, IsProperLength, LieWithin}
+use Rattle.fr_precision.specs.Rows.{corrected_end_of, Sender}
 use Rattle.fr_precision.specs.Instants.{gap_of, Runs}
 use Rattle.fr_precision.specs.Offsets.{IsSending, NearAll, ReachAll}
-use Rattle.fr_precision.specs.Step.{AreSynced, ComputesTerms, IsAmong, Member, SendersAreSynced, SyncIsKept, SyncOfAllIsKept, TakesPart}
+use Rattle.fr_precision.specs.Step.{AreSynced, ComputesTerms, IsAmong, IsFollowed, Member, NextIsInSync, SendersAreSynced, SyncIsKept, SyncOfAllIsKept, TakesPart}
 use Rattle.fr_precision.proofs.InstantLaws.{macroticks_stay_near_lem, precision_holds_lem, wider}
 use Rattle.fr_precision.proofs.OffsetLaws.{ends_stay_together, offset_terms_are_uncut, third_check_suffices}
 use Rattle.fr_precision.proofs.RateLaws.{lengths_stay_in_range_lem, lengths_stay_together, rate_terms_are_uncut}
-use Rattle.fr_precision.proofs.Senders.{All-along, All-both}
+use Rattle.fr_precision.proofs.Senders.{lie_within, All-along, All-both}
 
 -- in sync, the action points of two nodes lie within the precision
 in_reach : (p : Values) (sender : Sender) (even odd : NodeRow) → IsSane p → IsSending p sender → Runs p sender.even sender.odd → Runs p even odd
@@ -181,3 +182,59 @@ sync_of_all_is_kept p senders nodes sane first second third sync sending among c
     (nodes_synced p nodes one other sync here there)
     kept.0
     kept.1
+
+-- a list lies as near as any two of it
+all_lie : (g : Member → ℤ) (bound : ℤ) (nodes : List Member)
+    → ((one other : Member) → Contains nodes one → Contains nodes other → IsWithin bound (g one -ℤ g other))
+    → LieWithin bound (map g nodes)
+all_lie g bound nodes near =
+    lie_within g bound nodes
+    (
+    All-along (Contains nodes) (λ one. All (λ other. IsWithin bound (g one -ℤ g other)) nodes) nodes
+    (λ one here. All-along (Contains nodes) (λ other. IsWithin bound (g one -ℤ g other)) nodes (λ other there. near one other here there) (All-contains_itself nodes))
+    (All-contains_itself nodes)
+    )
+
+same_apart : (bound a b x y : ℤ) → a ≡ x → b ≡ y → IsWithin bound (x -ℤ y) → IsWithin bound (a -ℤ b)
+same_apart bound a b x y e g within = record { low = omega (arith, ints, within.low); high = omega (arith, ints, within.high) }
+
+pub next_is_in_sync : NextIsInSync
+next_is_in_sync p senders nodes next_even next_odd sane first second third sync sending among computes keep followed =
+    let kept = λ (one other : Member) (here : Contains nodes one) (there : Contains nodes other).
+    sync_of_all_is_kept p senders nodes sane first second third sync sending among computes keep one other here there in
+    let Followed : Member → Type 0 = λ node. IsFollowed p node (next_even node) (next_odd node) in
+    let follows = λ (node : Member) (here : Contains nodes node). All-contains Followed nodes node followed here in
+    let Near : ℤ → List ℤ → Type 0 = LieWithin in
+    let proper = λ (node : Member) (here : Contains nodes node). (kept node node here here).proper (next_even node) (next_odd node) (follows node here).next in
+    record {
+      active_even = All-map (λ (row : NodeRow). row.state ≡ Active) next_even nodes (All-along Followed (λ node. (next_even node).state ≡ Active) nodes (λ node is. is.active_even) followed);
+      active_odd = All-map (λ (row : NodeRow). row.state ≡ Active) next_odd nodes (All-along Followed (λ node. (next_odd node).state ≡ Active) nodes (λ node is. is.active_odd) followed);
+      starts =
+          subst (Near (pos (pi_of p))) (sym (mapped_twice (λ (row : NodeRow). row.start) next_even nodes))
+          (
+          all_lie (λ node. (next_even node).start) (pos (pi_of p)) nodes
+          (λ one other here there.
+          same_apart (pos (pi_of p)) (next_even one).start (next_even other).start (corrected_end_of p one.odd) (corrected_end_of p other.odd)
+          (follows one here).start (follows other there).start (kept one other here there).starts)
+          );
+      even_lengths =
+          subst (Near (pos (lambda_of p))) (sym (mapped_twice (cycle_length_of p) next_even nodes))
+          (
+          all_lie (λ node. cycle_length_of p (next_even node)) (pos (lambda_of p)) nodes
+          (λ one other here there.
+          ((kept one other here there).lengths (next_even one) (next_odd one) (next_even other) (next_odd other) (follows one here).next (follows other there).next).0)
+          );
+      odd_lengths =
+          subst (Near (pos (lambda_of p))) (sym (mapped_twice (cycle_length_of p) next_odd nodes))
+          (
+          all_lie (λ node. cycle_length_of p (next_odd node)) (pos (lambda_of p)) nodes
+          (λ one other here there.
+          ((kept one other here there).lengths (next_even one) (next_odd one) (next_even other) (next_odd other) (follows one here).next (follows other there).next).1)
+          );
+      even_proper =
+          All-map (λ (row : NodeRow). IsProperLength p (cycle_length_of p row)) next_even nodes
+          (All-along (Contains nodes) (λ node. IsProperLength p (cycle_length_of p (next_even node))) nodes (λ node here. (proper node here).0) (All-contains_itself nodes));
+      odd_proper =
+          All-map (λ (row : NodeRow). IsProperLength p (cycle_length_of p row)) next_odd nodes
+          (All-along (Contains nodes) (λ node. IsProperLength p (cycle_length_of p (next_odd node))) nodes (λ node here. (proper node here).1) (All-contains_itself nodes));
+    }

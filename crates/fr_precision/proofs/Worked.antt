@@ -2,7 +2,7 @@
 -- starts 2,500,000 ticks behind node 1; node 1 measures 2 microticks and node 2 measures -3, and their offset terms are
 -- 1 and -1.
 use Rattle.std.proofs.Common.{◌≡◌, ℕ, ◌≤◌, true, false, ℤ, pos, negsuc, List, [], ◌∷◌, Some, All, refl, inr, lit≤, lit<, rules, arith, length}
-use Rattle.std.specs.Prelude.{◌≢◌, ◌<◌, ◌+◌, ◌*◌, ◌+ℤ◌, ◌-ℤ◌, ◌*ℤ◌, ◌≤ℤ◌, ◌<ℤ◌, AllPairs, Contains}
+use Rattle.std.specs.Prelude.{◌≢◌, ◌<◌, ◌+◌, ◌*◌, ◌+ℤ◌, ◌-ℤ◌, ◌*ℤ◌, ◌≤ℤ◌, ◌<ℤ◌, AllPairs, Contains, nat_abs}
 use Rattle.std.proofs.lemmas.List.Elements.{All-cons, All-contains, All-nil}
 use Rattle.std.proofs.lemmas.List.Kept.{AllPairs-cons}
 use Rattle.std.proofs.lemmas.List.Sorted.{IsPermutation-refl}
@@ -31,8 +31,8 @@ use Rattle.fr_precision.specs.Placement.{IsRegular}
 use Rattle.fr_time.specs.Position.{grid_for}
 use Rattle.fr_time.specs.Instant.{instant_of}
 use Rattle.fr_precision.proofs.DeviationLaws.{counted_is_deviation, recorded_is_deviation}
-use Rattle.fr_precision.specs.Step.{AllKeepOne, AreSynced, ComputesTerms, IsAmong, Member, SendersAreSynced, StaySynced, TakesPart}
-use Rattle.fr_precision.proofs.StepLaws.{sync_is_kept_lem, sync_of_all_is_kept}
+use Rattle.fr_precision.specs.Step.{AllKeepOne, AreSynced, ComputesTerms, IsAmong, IsFollowed, Member, SendersAreSynced, StaySynced, TakesPart}
+use Rattle.fr_precision.proofs.StepLaws.{next_is_in_sync, sync_is_kept_lem, sync_of_all_is_kept}
 use Rattle.fr_precision.specs.Rates.{IsNext, IsRateRound, PlacesLength}
 use Rattle.fr_precision.proofs.InstantLaws.{precision_holds_lem}
 use Rattle.fr_precision.proofs.OffsetLaws.{ends_stay_together, offset_terms_are_uncut, third_check_suffices}
@@ -540,3 +540,23 @@ stay_synced_by_lists =
     (record { runs = runs_first; by_offset = offsets_of_first; by_rate = rates_of_first })
     (record { runs = runs_second; by_offset = offsets_of_second; by_rate = rates_of_second }))
     keep_one second_member first_member (1, lit< tt, refl) (0, lit< tt, refl)
+
+-- the next double cycle begins at the corrected ends, with the same microticks
+abbrev next_even : Member → NodeRow
+next_even member = row member.even.node (nat_abs (corrected_end_of cluster member.odd)) (pos 0)
+
+abbrev next_odd : Member → NodeRow
+next_odd member = row member.even.node (nat_abs (corrected_end_of cluster member.odd) + 200_000_000_000) (pos 0)
+
+next_in_sync : IsInSync cluster (next_even first_member ∷ next_even second_member ∷ []) (next_odd first_member ∷ next_odd second_member ∷ [])
+next_in_sync =
+    next_is_in_sync cluster both members next_even next_odd is_sane refl refl refl rows_in_sync
+    (two (IsSending cluster) first second sending_first sending_second)
+    (two (IsAmong members) first second (first_member, (0, lit< tt, refl), refl, refl) (second_member, (1, lit< tt, refl), refl, refl))
+    (two (ComputesTerms cluster both) first_member second_member
+    (record { runs = runs_first; by_offset = offsets_of_first; by_rate = rates_of_first })
+    (record { runs = runs_second; by_offset = offsets_of_second; by_rate = rates_of_second }))
+    keep_one
+    (two (λ member. IsFollowed cluster member (next_even member) (next_odd member)) first_member second_member
+    (record { start = refl; next = next_first; active_even = refl; active_odd = refl })
+    (record { start = refl; next = next_second; active_even = refl; active_odd = refl }))

@@ -2,6 +2,7 @@
 use Rattle.std.specs.Prelude.{◌≡◌, true, Bool, ℤ, pos, ◌-ℤ◌, ◌≤ℤ◌, List, All, map, Contains}
 use Rattle.fr_base.specs.declared.node_row.NodeRow.{NodeRow}
 use Rattle.fr_base.specs.declared.state.Outcome.TheVariants.{Within}
+use Rattle.fr_base.specs.declared.state.State.TheVariants.{Active}
 use Rattle.fr_params.specs.Values.{Values}
 use Rattle.fr_params.specs.Sane.{IsSane}
 use Rattle.fr_midpoint.specs.Within.{IsWithin}
@@ -94,3 +95,21 @@ SyncOfAllIsKept =
     → IsInSync p (map (λ node. node.even) nodes) (map (λ node. node.odd) nodes)
     → All (IsSending p) senders → All (IsAmong nodes) senders → All (ComputesTerms p senders) nodes → AllKeepOne senders nodes
     → (one other : Member) → Contains nodes one → Contains nodes other → StaySynced p one other
+
+-- what follows the double cycle at a node: the next one starts at the corrected end, its cycles have the rate term, the
+-- microtick changes little, and the node stays active, as operation control says of one with no term cut
+pub record IsFollowed (p : Values) (node : Member) (even odd : NodeRow) : Type 0 where
+  pub start : even.start ≡ corrected_end_of p node.odd
+  pub next : IsNext p node.odd node.rate_term even odd
+  pub active_even : even.state ≡ Active
+  pub active_odd : odd.state ≡ Active
+
+-- and then the rows of the next double cycle are in sync
+abbrev pub NextIsInSync : Type 0
+NextIsInSync =
+    (p : Values) (senders : List Sender) (nodes : List Member) (next_even next_odd : Member → NodeRow)
+    → IsSane p → holds_of 1 p ≡ true → holds_of 2 p ≡ true → holds_of 3 p ≡ true
+    → IsInSync p (map (λ node. node.even) nodes) (map (λ node. node.odd) nodes)
+    → All (IsSending p) senders → All (IsAmong nodes) senders → All (ComputesTerms p senders) nodes → AllKeepOne senders nodes
+    → All (λ node. IsFollowed p node (next_even node) (next_odd node)) nodes
+    → IsInSync p (map next_even nodes) (map next_odd nodes)
