@@ -170,3 +170,29 @@ reached = (refl, refl)
 -- so are five beside two: a list of seven discards one at each end, though two are arbitrary
 too_few : (discarded (2 + 1) + discarded (2 + 1) + 1 ≡ 3) × (discarded (5 + 2) ≡ 1)
 too_few = (refl, refl)
+
+-- then the bound does not hold: each receiver has the two correct positions, 0 and 10, and one arbitrary value, which
+-- leaves the one of them or the other
+moved_down : IsMidpoint (pos 0 ∷ pos 10 ∷ negsuc 99 ∷ []) (pos 0)
+moved_down = record {
+  low = pos 0;
+  high = pos 0;
+  least = record { few_below = lit≤ tt; more_up_to = lit< tt };
+  greatest = record { few_above = lit≤ tt; more_from = lit< tt };
+  half = refl;
+}
+
+moved_up : IsMidpoint (pos 0 ∷ pos 10 ∷ pos 100 ∷ []) (pos 10)
+moved_up = record {
+  low = pos 10;
+  high = pos 10;
+  least = record { few_below = lit≤ tt; more_up_to = lit< tt };
+  greatest = record { few_above = lit≤ tt; more_from = lit< tt };
+  half = refl;
+}
+
+-- twice their distance is above the spread of 10 and two units
+passed :
+    (pos 2 *ℤ (place_of (pos 0) (pos 1) (pos 10) -ℤ place_of (pos 0) (pos 1) (pos 0)) ≡ pos 20)
+    × (pos 10 +ℤ (pos 2 *ℤ (pos 0 +ℤ pos 0)) +ℤ (pos 2 *ℤ pos 1) ≡ pos 12)
+passed = (refl, refl)

@@ -1,6 +1,6 @@
 -- Where deviations come from.
 use Rattle.std.proofs.Common.{◌≡◌, ℕ, ◌+◌, ◌-◌, ◌*◌, ◌<◌, ◌≤◌, Bool, true, false, ℤ, pos, refl, ap, sym, ◌∙◌, subst, arith}
-use Rattle.std.specs.Prelude.{neg_ℤ, ◌+ℤ◌, ◌-ℤ◌, ◌*ℤ◌, ◌≤ℤ◌, ◌<ℤ◌, nat_abs}
+use Rattle.std.specs.Prelude.{◌+ℤ◌, ◌-ℤ◌, ◌*ℤ◌, ◌≤ℤ◌, ◌<ℤ◌, nat_abs}
 use Rattle.std.specs.Int.{int_max}
 use Rattle.std.proofs.lemmas.Int.{ints, clamps}
 use Rattle.fr_base.specs.declared.channel.Channel.{Channel}
@@ -16,12 +16,10 @@ use Rattle.fr_time.specs.Position.{even_position, floor_of, grid_for}
 use Rattle.fr_time.specs.Instant.{instant_of}
 use Rattle.fr_time.specs.Slots.{action_point_of}
 use Rattle.fr_time.proofs.Placing.{action_point_lt}
-use Rattle.fr_bound.specs.Bounds.{arrival_error, longest_micro, nominal, shortest_micro, widest}
-use Rattle.fr_precision.specs.Rows.{HasProperMicro, Lasts}
+use Rattle.fr_bound.specs.Bounds.{arrival_error, nominal, widest}
+use Rattle.fr_precision.specs.Rows.{HasProperMicro}
 use Rattle.fr_precision.specs.Instants.{gap_of}
-use Rattle.fr_precision.specs.Offsets.{IsDeviation}
-use Rattle.fr_precision.specs.Reception.{IsDelay}
-use Rattle.fr_precision.specs.Deviations.{counted_of, CountedIsDeviation, RecordedIsDeviation}
+use Rattle.fr_precision.specs.Deviations.{CountedIsDeviation, RecordedIsDeviation}
 use Rattle.fr_precision.proofs.InstantLaws.{before_correction}
 use Rattle.fr_precision.proofs.Lines.{rest_of}
 use Rattle.fr_precision.proofs.OffsetLaws.{micro_lasts}
@@ -48,6 +46,7 @@ micro_within p row sane micro =
   where
     most : (d : ℤ) → pos 0 ≤ℤ d → d ≤ℤ pos 1500 → nat_abs d ≤ 1500
     most d from to = omega (arith, ints)
+
     step : (d : ℕ) (t : ℤ) → d ≤ 1500 → pos (1_000_000 - d) ≤ℤ t → t ≤ℤ pos (1_000_000 + d) → IsWithin (pos d) (pos 1_000_000 -ℤ t)
     step d t a b c = record { low = omega (arith, ints); high = omega (arith, ints) }
 
@@ -86,6 +85,7 @@ counted_is_deviation p delay slot ch is_odd row sender sane static some micro ne
   where
     sooner : (a hi : ℕ) (o : ℤ) → a < hi → pos hi ≤ℤ o → pos a ≤ℤ o
     sooner a hi o less le = omega (arith, ints)
+
     spread : (f u g t : ℤ) → ((f -ℤ u) -ℤ g) *ℤ t ≡ ((f *ℤ t) -ℤ (u *ℤ t)) -ℤ (g *ℤ t)
     spread f u g t = subz-mulz (f -ℤ u) g t ∙ ap (λ x. x -ℤ (g *ℤ t)) (subz-mulz f u t)
 

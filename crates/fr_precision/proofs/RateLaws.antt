@@ -198,8 +198,7 @@ proper_next : (p : Values) (row : NodeRow) (values : List ℤ) (term : Term) (ne
     → IsProperLength p (cycle_length_of p next)
 proper_next p row values term next sane first second round same micro steady =
     let is = next_length p row values term next sane first second round same micro steady in
-    let b = damped p.damping (row.rate +ℤ round.mid) in
-    (
+    let b = damped p.damping (row.rate +ℤ round.mid) in (
       low (pos (shortest_cycle p)) (p.micros *ℤ pos (shortest_micro p)) ((p.micros +ℤ b) *ℤ next.length) (cycle_length_of p next) (shortest_is p sane) is.0 is.1.least,
       high (pos (longest_cycle p)) (p.micros *ℤ pos (longest_micro p)) ((p.micros +ℤ b) *ℤ next.length) (cycle_length_of p next) (longest_is p sane) is.0 is.1.most,
     )

@@ -1,14 +1,15 @@
 -- The law of the step: nodes that are in sync in a double cycle are in sync in the next one.
-use Rattle.std.specs.Prelude.{◌≡◌, true, Bool, ℤ, pos, ◌-ℤ◌, ◌≤ℤ◌, List, All}
+use Rattle.std.specs.Prelude.{◌≡◌, true, Bool, ℤ, pos, ◌-ℤ◌, ◌≤ℤ◌, List, All, map, Contains}
 use Rattle.fr_base.specs.declared.node_row.NodeRow.{NodeRow}
 use Rattle.fr_base.specs.declared.state.Outcome.TheVariants.{Within}
+use Rattle.fr_base.specs.declared.state.State.TheVariants.{Active}
 use Rattle.fr_params.specs.Values.{Values}
 use Rattle.fr_params.specs.Sane.{IsSane}
 use Rattle.fr_midpoint.specs.Within.{IsWithin}
 use Rattle.fr_correct.specs.declared.term.Term.{Term}
 use Rattle.fr_bound.specs.Bounds.{lambda_of, pi_of, precision_of}
 use Rattle.fr_bound.specs.Checks.{holds_of}
-use Rattle.fr_bound.specs.Sync.{cycle_length_of, IsProperLength}
+use Rattle.fr_bound.specs.Sync.{cycle_length_of, IsInSync, IsProperLength}
 use Rattle.fr_precision.specs.Rows.{corrected_end_of, KeepOne, Sender}
 use Rattle.fr_precision.specs.Instants.{gap_of, row_in, LieNear, Runs}
 use Rattle.fr_precision.specs.Offsets.{IsOffsetRound, IsSending, SendersLieNear}
@@ -69,3 +70,46 @@ SyncIsKept =
     → AreSynced p one.even one.odd other.even other.odd
     → KeepOne one.offsets other.offsets senders → KeepOne one.rates other.rates senders
     → StaySynced p one other
+
+-- a node's cycles follow each other, and it has its values of every sender and computes its terms from them
+pub record ComputesTerms (p : Values) (senders : List Sender) (node : Member) : Type 0 where
+  pub runs : Runs p node.even node.odd
+  pub by_offset : IsOffsetRound p senders node.odd node.offsets node.offset_term
+  pub by_rate : IsRateRound p senders node.odd node.rates node.rate_term
+
+-- a sender is one of some nodes
+abbrev pub IsAmong : List Member → Sender → Type 0
+IsAmong nodes sender = (node : Member) × Contains nodes node × (node.even ≡ sender.even) × (node.odd ≡ sender.odd)
+
+-- any two lists of some nodes keep one sender in common
+abbrev pub AllKeepOne : List Sender → List Member → Type 0
+AllKeepOne senders nodes =
+    (one other : Member) → Contains nodes one → Contains nodes other
+    → KeepOne one.offsets other.offsets senders × KeepOne one.rates other.rates senders
+
+-- nodes whose rows are in sync stay so, any two of them
+abbrev pub SyncOfAllIsKept : Type 0
+SyncOfAllIsKept =
+    (p : Values) (senders : List Sender) (nodes : List Member)
+    → IsSane p → holds_of 1 p ≡ true → holds_of 2 p ≡ true → holds_of 3 p ≡ true
+    → IsInSync p (map (λ node. node.even) nodes) (map (λ node. node.odd) nodes)
+    → All (IsSending p) senders → All (IsAmong nodes) senders → All (ComputesTerms p senders) nodes → AllKeepOne senders nodes
+    → (one other : Member) → Contains nodes one → Contains nodes other → StaySynced p one other
+
+-- what follows the double cycle at a node: the next one starts at the corrected end, its cycles have the rate term, the
+-- microtick changes little, and the node stays active, as operation control says of one with no term cut
+pub record IsFollowed (p : Values) (node : Member) (even odd : NodeRow) : Type 0 where
+  pub start : even.start ≡ corrected_end_of p node.odd
+  pub next : IsNext p node.odd node.rate_term even odd
+  pub active_even : even.state ≡ Active
+  pub active_odd : odd.state ≡ Active
+
+-- and then the rows of the next double cycle are in sync
+abbrev pub NextIsInSync : Type 0
+NextIsInSync =
+    (p : Values) (senders : List Sender) (nodes : List Member) (next_even next_odd : Member → NodeRow)
+    → IsSane p → holds_of 1 p ≡ true → holds_of 2 p ≡ true → holds_of 3 p ≡ true
+    → IsInSync p (map (λ node. node.even) nodes) (map (λ node. node.odd) nodes)
+    → All (IsSending p) senders → All (IsAmong nodes) senders → All (ComputesTerms p senders) nodes → AllKeepOne senders nodes
+    → All (λ node. IsFollowed p node (next_even node) (next_odd node)) nodes
+    → IsInSync p (map next_even nodes) (map next_odd nodes)
