@@ -6,5 +6,6 @@ pub mod MemorySink
 pub mod Number
 pub mod Reason
 pub mod Rows
+pub mod States
 pub mod StreamSink
 pub mod SureShelf

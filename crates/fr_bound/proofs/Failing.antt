@@ -1,5 +1,5 @@
 -- The first check that fails.
-use Rattle.std.proofs.Common.{◌≡◌, ℕ, ◌<◌, inl, inr, sym, ◌∙◌, true, false, arith}
+use Rattle.std.proofs.Common.{◌≡◌, ℕ, inl, inr, true, false}
 use Rattle.std.proofs.lemmas.Bool.{cases_order}
 use Rattle.fr_params.specs.Values.{Values}
 use Rattle.fr_bound.specs.Checks.{holds_of, FirstFailing, AllChecksHold}

@@ -1,3 +1,5 @@
 pub mod Uncut
 pub mod Failing
 pub mod Rows
+pub mod Sync
+pub mod Spread

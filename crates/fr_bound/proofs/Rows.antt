@@ -1,8 +1,8 @@
 -- The bounds and checks of worked clusters, computed.
-use Rattle.std.proofs.Common.{◌≡◌, ℕ, suc, zero, pos, List, [], true, false, refl}
+use Rattle.std.proofs.Common.{◌≡◌, ℕ, pos, [], true, false, refl}
 use Rattle.fr_params.specs.Values.{Values}
 use Rattle.fr_bound.specs.Bounds.{y1_of, lambda_of, pi_of, precision_of}
-use Rattle.fr_bound.specs.Checks.{left_of, right_of, holds_of, FirstFailing}
+use Rattle.fr_bound.specs.Checks.{left_of, right_of, holds_of}
 
 -- a cycle of 5 ms at a microtick of 25 ns, with this damping, offset limit, rate limit, action point offset and
 -- change bound; nodes and slots do not matter here

@@ -1,14 +1,13 @@
 -- No difference in the bounds and checks is below 0.
-use Rattle.std.proofs.Common.{◌≡◌, ℕ, ℤ, pos, ◌+◌, ◌-◌, ◌*◌, ◌<◌, ◌≤◌, inl, inr, subst, arith}
+use Rattle.std.proofs.Common.{◌≡◌, ℕ, ℤ, pos, ◌+◌, ◌*◌, ◌<◌, ◌≤◌, inl, inr, subst, arith}
 use Rattle.std.specs.Prelude.{◌≤ℤ◌, nat_abs}
 use Rattle.std.proofs.lemmas.Bool.{cases_lt}
 use Rattle.std.proofs.lemmas.Int.{ints}
 use Rattle.std.proofs.Math.Nat.{mul-add, mul-le-mul_left, mul-le-mul_right}
 use Rattle.fr_params.specs.Values.{Values, amount}
 use Rattle.fr_params.specs.Sane.{IsSane}
-use Rattle.fr_params.specs.Constraints.{correction_macros, least_micros}
+use Rattle.fr_params.specs.Constraints.{correction_macros}
 use Rattle.fr_params.specs.declared.names.ParamName.TheVariants as name
-use Rattle.fr_bound.specs.Bounds.{nominal}
 use Rattle.fr_bound.specs.Checks.{IsUncut, least_cycle, behind_action}
 
 -- where so many macroticks of the correction and more fit into its microticks, a cycle has more microticks than macroticks

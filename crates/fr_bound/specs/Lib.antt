@@ -1,2 +1,4 @@
 pub mod Bounds
 pub mod Checks
+pub mod Sync
+pub mod Ranges

@@ -1,7 +1,9 @@
-ghost use Rattle.std.specs.Prelude.{◌≡◌, ℕ};
+ghost use Rattle.std.specs.Prelude.{◌≡◌, ◌↔◌, ℕ, List, true};
+ghost use Rattle.fr_base.specs.declared.node_row.NodeRow.{NodeRow};
 ghost use Rattle.fr_params.specs.Values.{Values};
 ghost use Rattle.fr_params.specs.Sane.{IsSane};
 ghost use Rattle.fr_bound.specs.Checks.{IsUncut, FirstFailing, AllChecksHold};
+ghost use Rattle.fr_bound.specs.Sync.{IsInSync, is_in_sync};
 
 /// A law: of the parameters of a cluster, no difference in the bounds and checks is below 0, so none is cut
 /// off there.
@@ -13,4 +15,10 @@ pub fn nothing_is_cut()
 pub fn one_first_failing()
     ensures one { (p : Values) (number other : ℕ) → FirstFailing number p → FirstFailing other p → number ≡ other }
     ensures none { (p : Values) (number : ℕ) → FirstFailing number p → AllChecksHold p → ⊥ }
+{}
+
+/// A law: the test of two lists of rows tells whether they are in sync.
+pub fn in_sync_is_tested()
+    ensures { (p : Values) (even odd : List NodeRow) →
+        (is_in_sync p even odd ≡ true) ↔ IsInSync p even odd }
 {}

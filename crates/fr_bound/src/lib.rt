@@ -5,9 +5,11 @@
 mod bounding;
 mod checking;
 mod laws;
+mod syncing;
 #[cfg(test)]
 mod tests;
 
 pub use bounding::{BoundValues, bounds};
 pub use checking::{CheckSides, checks, side};
-pub use laws::{nothing_is_cut, one_first_failing};
+pub use laws::{in_sync_is_tested, nothing_is_cut, one_first_failing};
+pub use syncing::in_sync;

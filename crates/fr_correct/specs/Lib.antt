@@ -1,1 +1,2 @@
+pub mod Damping
 pub mod Terms

@@ -3,20 +3,12 @@ use Rattle.std.proofs.Common.{◌≡◌, ℕ, ◌+◌, ◌-◌, ◌*◌, ◌^◌
 use Rattle.std.specs.Int.{bit_at}
 use Rattle.std.proofs.lemmas.Nat.Bits.{bit_at_cat_low, bit_at_cat_high}
 use Rattle.fr_base.specs.declared.channel.Channel.{Channel}
-use Rattle.fr_crc.specs.Bits.{bits, message_of}
+use Rattle.fr_crc.specs.Bits.{bits, message_of, one_of, number_of}
 use Rattle.fr_crc.specs.Crc.{IsCrc, IsHeaderCrc, IsFrameCrc, header_generator, header_start, header_message, frame_generator, frame_start}
 use Rattle.fr_crc.specs.Register.{after}
+use Rattle.fr_crc.specs.Computed.{header_crc_of, frame_crc_of}
 use Rattle.fr_crc.proofs.Division.{divides}
 use Rattle.fr_crc.proofs.Remainders.{bits_first, bits_none, bits_same, length-bits}
-
-abbrev one_of : Bool → ℕ
-one_of false = 0
-one_of true = 1
-
--- the number of a list of bits
-abbrev number_of : List Bool → ℕ
-number_of [] = 0
-number_of (b ∷ bs) = one_of b * 2 ^ length bs + number_of bs
 
 pow-double : (n : ℕ) → 2 ^ suc n ≡ 2 * 2 ^ n
 pow-double n = omega arith
@@ -48,8 +40,9 @@ bits-number_of (b ∷ bs) =
 pub a_remainder : (generator start message : List Bool) → 0 < length generator → length start ≡ length generator → (remainder : List Bool) × IsCrc generator start message remainder
 a_remainder generator start message some width = (after generator start message, divides generator start message some width)
 
--- a remainder as a number
-numbered : (w terms start : ℕ) (message : List Bool) → 0 < w → (crc : ℕ) × (crc < 2 ^ w) × IsCrc (bits w terms) (bits w start) message (bits w crc)
+-- the number of a remainder has its bits
+numbered : (w terms start : ℕ) (message : List Bool) → 0 < w →
+    (number_of (after (bits w terms) (bits w start) message) < 2 ^ w) × IsCrc (bits w terms) (bits w start) message (bits w (number_of (after (bits w terms) (bits w start) message)))
 numbered w terms start message some =
     let g : List Bool = bits w terms in
     let s : List Bool = bits w start in
@@ -60,14 +53,20 @@ numbered w terms start message some =
     let back : r ≡ bits w (number_of r) = sym (bits-number_of r) ∙ ap (λ (n : ℕ). bits n (number_of r)) long in
     let P : List Bool → Type 0 = λ (xs : List Bool). IsCrc g s message xs in
     let Q : ℕ → Type 0 = λ (n : ℕ). number_of r < 2 ^ n in
-    (number_of r, subst Q long (number_of-lt r), subst P back is)
+    (subst Q long (number_of-lt r), subst P back is)
 
-pub a_header_crc : (sync startup : Bool) (id words : ℕ) → (crc : ℕ) × IsHeaderCrc sync startup id words crc
+-- the CRCs that the register ends with are those of the definition
+pub a_header_crc : (sync startup : Bool) (id words : ℕ) → IsHeaderCrc sync startup id words (header_crc_of sync startup id words)
+unfolding header_crc_of
 a_header_crc sync startup id words =
-    let found : (crc : ℕ) × (crc < 2 ^ 11) × IsCrc header_generator header_start (header_message sync startup id words) (bits 11 crc) = numbered 11 0x385 0x01A (header_message sync startup id words) (lit< tt) in
-    (found.0, record { fits = found.1; remainder = found.2 })
+    let m : List Bool = header_message sync startup id words in
+    let crc : ℕ = number_of (after header_generator header_start m) in
+    let found : (crc < 2 ^ 11) × IsCrc header_generator header_start m (bits 11 crc) = numbered 11 0x385 0x01A m (lit< tt) in
+    record { fits = found.0; remainder = found.1 }
 
-pub a_frame_crc : (channel : Channel) (body : List ℕ) → (crc : ℕ) × IsFrameCrc channel body crc
+pub a_frame_crc : (channel : Channel) (body : List ℕ) → IsFrameCrc channel body (frame_crc_of channel body)
+unfolding frame_crc_of
 a_frame_crc channel body =
-    let found : (crc : ℕ) × (crc < 2 ^ 24) × IsCrc frame_generator (bits 24 (frame_start channel)) (message_of body) (bits 24 crc) = numbered 24 0x5D6DCB (frame_start channel) (message_of body) (lit< tt) in
-    (found.0, record { fits = found.1; remainder = found.2 })
+    let crc : ℕ = number_of (after frame_generator (bits 24 (frame_start channel)) (message_of body)) in
+    let found : (crc < 2 ^ 24) × IsCrc frame_generator (bits 24 (frame_start channel)) (message_of body) (bits 24 crc) = numbered 24 0x5D6DCB (frame_start channel) (message_of body) (lit< tt) in
+    record { fits = found.0; remainder = found.1 }

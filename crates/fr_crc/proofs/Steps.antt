@@ -32,13 +32,13 @@ remainder_of w terms start message r some same =
     let P : List Bool → Type 0 = λ (xs : List Bool). IsCrc (bits w terms) (bits w start) message xs in
     subst P (sym same) (divides (bits w terms) (bits w start) message wide (length-bits w start ∙ sym (length-bits w terms)))
 
-pub header_crc_of : (sync startup : Bool) (id words first second third last : ℕ) → last < 2 ^ 11 →
+pub header_crc_after : (sync startup : Bool) (id words first second third last : ℕ) → last < 2 ^ 11 →
     bits 11 first ≡ stepped header_generator header_start sync →
     bits 11 second ≡ stepped header_generator (bits 11 first) startup →
     bits 11 third ≡ after header_generator (bits 11 second) (bits 11 id) →
     bits 11 last ≡ after header_generator (bits 11 third) (bits 7 words) →
     IsHeaderCrc sync startup id words last
-header_crc_of sync startup id words first second third last fits one two three four =
+header_crc_after sync startup id words first second third last fits one two three four =
     let g : List Bool = header_generator in
     let whole : bits 11 last ≡ after g header_start (header_message sync startup id words) =
     four
@@ -47,9 +47,9 @@ header_crc_of sync startup id words first second third last fits one two three f
     ∙ sym (after-append g (stepped g (stepped g header_start sync) startup) (bits 11 id) (bits 7 words)) in
     record { fits = fits; remainder = remainder_of 11 0x385 0x01A (header_message sync startup id words) (bits 11 last) (lit< tt) whole }
 
-pub frame_crc_of : (channel : Channel) (body : List ℕ) (start crc : ℕ) → crc < 2 ^ 24 → start ≡ frame_start channel →
+pub frame_crc_after : (channel : Channel) (body : List ℕ) (start crc : ℕ) → crc < 2 ^ 24 → start ≡ frame_start channel →
     bits 24 crc ≡ after frame_generator (bits 24 start) (message_of body) → IsFrameCrc channel body crc
-frame_crc_of channel body start crc fits from whole =
+frame_crc_after channel body start crc fits from whole =
     let told : bits 24 crc ≡ after frame_generator (bits 24 (frame_start channel)) (message_of body) =
     whole ∙ ap (λ (s : ℕ). after frame_generator (bits 24 s) (message_of body)) from in
     record { fits = fits; remainder = remainder_of 24 0x5D6DCB (frame_start channel) (message_of body) (bits 24 crc) (lit< tt) told }

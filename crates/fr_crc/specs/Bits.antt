@@ -1,5 +1,5 @@
 -- Bits in the order in which they are sent, the most significant first, and their arithmetic without carry.
-use Rattle.std.specs.Prelude.{ℕ, zero, suc, Bool, true, false, List, [], ◌∷◌, ◌++◌, length, ◌==◌}
+use Rattle.std.specs.Prelude.{ℕ, zero, suc, ◌+◌, ◌*◌, ◌^◌, Bool, true, false, List, [], ◌∷◌, ◌++◌, length, ◌==◌}
 use Rattle.std.specs.Int.{bit_at}
 use Rattle.std.specs.List.{flat_map}
 
@@ -35,6 +35,16 @@ mul (b ∷ q) g = xor (times_bit b g ++ zeros (length q)) (false ∷ mul q g)
 unfoldable pub bits : ℕ → ℕ → List Bool
 bits zero n = []
 bits (suc k) n = (bit_at n k == 1) ∷ bits k n
+
+-- a bit as a number
+abbrev pub one_of : Bool → ℕ
+one_of false = 0
+one_of true = 1
+
+-- the number that bits write, the most significant first
+abbrev pub number_of : List Bool → ℕ
+number_of [] = 0
+number_of (b ∷ bs) = one_of b * 2 ^ length bs + number_of bs
 
 -- the bits of bytes
 abbrev pub message_of : List ℕ → List Bool

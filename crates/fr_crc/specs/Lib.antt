@@ -1,3 +1,4 @@
 pub mod Bits
 pub mod Crc
 pub mod Register
+pub mod Computed

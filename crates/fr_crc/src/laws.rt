@@ -1,6 +1,7 @@
 ghost use Rattle.std.specs.Prelude.{◌≡◌, ◌<◌, ℕ, Bool, List, length};
 ghost use Rattle.fr_base.specs.declared.channel.Channel.{Channel};
 ghost use Rattle.fr_crc.specs.Crc.{IsCrc, IsHeaderCrc, IsFrameCrc};
+ghost use Rattle.fr_crc.specs.Computed.{header_crc_of, frame_crc_of};
 
 /// A law: a message has a remainder at each generator and start value of its width.
 pub fn a_remainder()
@@ -16,10 +17,10 @@ pub fn one_remainder()
         first ≡ second }
 {}
 
-/// A law: the fields of a header have a header CRC.
+/// A law: the fields of a header have a header CRC, the one that the register ends with.
 pub fn a_header_crc()
     ensures { (sync startup : Bool) (id words : ℕ) →
-        (crc : ℕ) × IsHeaderCrc sync startup id words crc }
+        IsHeaderCrc sync startup id words (header_crc_of sync startup id words) }
 {}
 
 /// A law: the fields of a header have no two header CRCs.
@@ -29,9 +30,10 @@ pub fn one_header_crc()
         first ≡ second }
 {}
 
-/// A law: bytes have a frame CRC on each channel.
+/// A law: bytes have a frame CRC on each channel, the one that the register ends with.
 pub fn a_frame_crc()
-    ensures { (channel : Channel) (body : List ℕ) → (crc : ℕ) × IsFrameCrc channel body crc }
+    ensures { (channel : Channel) (body : List ℕ) →
+        IsFrameCrc channel body (frame_crc_of channel body) }
 {}
 
 /// A law: bytes have no two frame CRCs on one channel.

@@ -4,3 +4,5 @@ pub mod Making
 pub mod Lines
 pub mod Limits
 pub mod Outcomes
+pub mod Existence
+pub mod Worked

@@ -1,17 +1,15 @@
 -- Keys of one node or one link, and the row that holds.
-use Rattle.std.proofs.Common.{◌≡◌, ℕ, ℤ, zero, suc, ◌+◌, ◌-◌, ◌<◌, ◌≤◌, Bool, true, false, Option, Some, None, ap, sym, ◌∙◌, refl, arith, inl, inr, ◌⊎◌}
+use Rattle.std.proofs.Common.{◌≡◌, ℕ, ℤ, zero, suc, ◌+◌, ◌-◌, ◌<◌, ◌≤◌, false, Option, Some, None, ap, sym, ◌∙◌, refl, arith}
 use Rattle.std.specs.Prelude.{IfSome, IsSome}
 use Rattle.std.specs.declared.cmp.Ordering.{Ordering}
 use Rattle.std.specs.declared.cmp.Ordering.TheVariants.{Less, Equal, Greater}
 use Rattle.std.specs.Ordering.{nat_cmp, ordering_then, is_gt, is_lt}
-use Rattle.std.proofs.lemmas.Bool.{cases_eq}
 use Rattle.std.proofs.lemmas.Bool.Decides.{nat_tests}
 use Rattle.std.proofs.lemmas.Cmp.{nat_cmp_total, tied_itself}
 use Rattle.fr_params.specs.Reasons.{or_else}
 use Rattle.fr_drift.specs.Keys.{delay_cmp, delay_key, length_cmp, length_key}
-use Rattle.fr_drift.specs.Spans.{IsFromTo, IsLastIn, IsLastRow, IsFirstIn, IsFirstRow}
+use Rattle.fr_drift.specs.Spans.{IsFromTo, IsLastRow, IsFirstRow}
 use Rattle.fr_drift.specs.Held.{held, IsNextRow}
-use Rattle.fr_drift.specs.declared.keys.LengthKey.{LengthKey}
 use Rattle.fr_drift.specs.declared.keys.DelayKey.{DelayKey}
 
 -- keys that stand by cycles, with none of another kind between them
@@ -97,12 +95,12 @@ held-stays rows a (suc n) none =
     ap (λ (c : ℕ). held rows c) step ∙ held-over rows (a + n) here ∙ held-stays rows a n (λ c low high. none c low (omega arith))
 
 -- where no row stands none holds
-held-none : (rows : ℕ → Option ℤ) (n : ℕ) → ((c : ℕ) → c ≤ n → rows c ≡ None) → held rows n ≡ None
+pub held-none : (rows : ℕ → Option ℤ) (n : ℕ) → ((c : ℕ) → c ≤ n → rows c ≡ None) → held rows n ≡ None
 unfolding held
 held-none rows zero none = none 0 (omega arith)
 held-none rows (suc n) none = rw (none (suc n) (omega arith)) (held-none rows n (λ c high. none c (omega arith)))
 
-held-last : (rows : ℕ → Option ℤ) (k n : ℕ) (v : ℤ) → k ≤ n → rows k ≡ Some v → ((c : ℕ) → k < c → c ≤ n → rows c ≡ None) → held rows n ≡ Some v
+pub held-last : (rows : ℕ → Option ℤ) (k n : ℕ) (v : ℤ) → k ≤ n → rows k ≡ Some v → ((c : ℕ) → k < c → c ≤ n → rows c ≡ None) → held rows n ≡ Some v
 held-last rows k n v high there behind =
     let whole : k + (n - k) ≡ n = omega arith in
     ap (λ (c : ℕ). held rows c) (sym whole) ∙ held-stays rows k (n - k) (λ c low to. behind c low (omega (arith, whole))) ∙ held-here rows k v there
@@ -115,11 +113,11 @@ module _ {K : Type 0} {cmp : K → K → Ordering} {at : ℕ → K} (line : IsLi
       let high = up-to place.0 n (rw (place.1, line.ordered place.0 n) at h.inside.to) in
       held-last (λ c. rows (at c)) place.0 n ticks high (rw place.1 at h.there)
       (λ c low to.
-          none-or-some (rows (at c))
-          (λ some.
-              let ahead = rw (place.1, line.ordered place.0 c) at (h.behind (at c) (inside line 0 n c (omega arith) to) some) in
-              let no : c ≤ place.0 = not-less place.0 c ahead in
-              absurd (omega arith)))
+      none-or-some (rows (at c))
+      (λ some.
+      let ahead = rw (place.1, line.ordered place.0 c) at (h.behind (at c) (inside line 0 n c (omega arith) to) some) in
+      let no : c ≤ place.0 = not-less place.0 c ahead in
+      absurd (omega arith)))
 
   pub last-none : (n : ℕ) → ((key : K) → IsFromTo cmp (at 0) (at n) key → rows key ≡ None) → held (λ c. rows (at c)) n ≡ None
   last-none n none = held-none (λ c. rows (at c)) n (λ c to. none (at c) (inside line 0 n c (omega arith) to))
@@ -138,9 +136,9 @@ module _ {K : Type 0} {cmp : K → K → Ordering} {at : ℕ → K} (line : IsLi
           quiet = λ c from to.
               none-or-some (rows (at c))
               (λ some.
-                  let after = rw (place.1, line.ordered place.0 c) at (h.before (at c) (inside line (cycle + 1) end c (omega arith) (omega arith)) some) in
-                  let no : place.0 ≤ c = up-to place.0 c after in
-                  absurd (omega arith));
+              let after = rw (place.1, line.ordered place.0 c) at (h.before (at c) (inside line (cycle + 1) end c (omega arith) (omega arith)) some) in
+              let no : place.0 ≤ c = up-to place.0 c after in
+              absurd (omega arith));
           stands = λ _. rw place.1 at h.there;
         },
       )

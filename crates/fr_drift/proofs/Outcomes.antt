@@ -1,35 +1,22 @@
 -- What reading a file may answer is one answer, but for want of memory.
-use Rattle.std.proofs.Common.{◌≡◌, ◌≢◌, ℕ, ℤ, Bool, true, false, cond, List, [], ◌∷◌, Option, Some, None, Result, Ok, Err, ap, sym, ◌∙◌, refl, ◌⊎◌, inl, inr}
-use Rattle.std.specs.Prelude.{◌==◌, ◌&&◌, if◌then◌else◌}
-use Rattle.std.specs.Cmp.{IsTotalOrder, eq_by_cmp_equiv}
-use Rattle.std.specs.Ordering.{nat_cmp, eq_by_cmp}
-use Rattle.std.specs.declared.cmp.Ordering.{Ordering}
-use Rattle.std.specs.FinMap as map
-use Rattle.std.specs.FinMap.{FinMap, IsAntisymmetric, nat_cmp-IsAntisymmetric, same_map, get-empty, get-insert}
+use Rattle.std.proofs.Common.{◌≡◌, ◌≢◌, ℕ, List, Some, None, Result, Ok, Err, ap, sym, ◌∙◌, refl}
+use Rattle.std.specs.Ordering.{nat_cmp}
+use Rattle.std.specs.FinMap.{IsAntisymmetric, nat_cmp-IsAntisymmetric}
 use Rattle.std.proofs.lemmas.Cmp.{nat_cmp_total}
 use Rattle.std.proofs.lemmas.Map.Lookups.{exact_pairs, exact_unsigned}
-use Rattle.fr_base.specs.declared.channel.Channel.{Channel}
 use Rattle.fr_base.specs.declared.channel.Channel.TheVariants as channel
 use Rattle.fr_base.specs.declared.reason.Reason.{Reason}
 use Rattle.fr_records.specs.Records.{Record, records_of}
 use Rattle.fr_records.specs.Refusal.{NoneRefused, FirstRefused}
-use Rattle.fr_records.proofs.Cuts.{first-same, none-or-first-refused}
+use Rattle.fr_records.proofs.Cuts.{first-same}
 use Rattle.fr_params.specs.Values.{Values}
-use Rattle.fr_params.specs.Questions.{compensation_of}
-use Rattle.fr_params.specs.Reasons.{or_else, looked_up}
-use Rattle.fr_drift.specs.Keys.{delay_cmp, delay_key, length_cmp, length_key}
-use Rattle.fr_drift.specs.Rows.{row_of}
-use Rattle.fr_drift.specs.Reasons.{reason_after, doubles_at, start_at, length_at, delay_at, start_in, length_in, delay_in}
+use Rattle.fr_drift.specs.Keys.{delay_cmp, length_cmp, length_key}
+use Rattle.fr_drift.specs.Reasons.{reason_after, doubles_at}
 use Rattle.fr_drift.specs.View.{DriftView}
-use Rattle.fr_drift.specs.Files.{StandsFor, IsFileOf, LacksDoubles, Reads}
-use Rattle.fr_drift.specs.declared.keys.LengthKey.{LengthKey}
-use Rattle.fr_drift.specs.declared.keys.DelayKey.{DelayKey}
-use Rattle.fr_drift.specs.declared.rows.Start.{Start}
-use Rattle.fr_drift.specs.declared.rows.Row.{Row}
-use Rattle.fr_drift.specs.declared.rows.Row.TheVariants as row
+use Rattle.fr_drift.specs.Files.{StandsFor, Reads}
 use Rattle.fr_drift.specs.declared.fault.DriftFault.{DriftFault}
 use Rattle.fr_drift.specs.declared.fault.DriftFault.TheVariants as fault
-use Rattle.fr_drift.proofs.Making.{delay_total, length_total}
+use Rattle.fr_drift.proofs.Making.{delay_total, length_total, same-rows}
 
 some-same : {A : Type 0} (x y : A) → Some x ≡ Some y → x ≡ y
 some-same x y e = cc e
@@ -70,19 +57,19 @@ stands-same p d e records f g = λ i. record {
     b = f.compensation channel.B ∙ sym (g.compensation channel.B)
 
     starts : d.starts ≡ e.starts
-    starts = same_map nat_cmp_total nat_cmp-IsAntisymmetric d.starts e.starts (λ node. f.starts node ∙ sym (g.starts node))
+    starts = same-rows nat_cmp_total nat_cmp-IsAntisymmetric d.starts e.starts f.order.starts g.order.starts (λ node. f.starts node ∙ sym (g.starts node))
 
     lengths : d.lengths ≡ e.lengths
-    lengths = same_map length_total length_exact d.lengths e.lengths (λ key. f.lengths key.node key.from ∙ sym (g.lengths key.node key.from))
+    lengths = same-rows length_total length_exact d.lengths e.lengths f.order.lengths g.order.lengths (λ key. f.lengths key.node key.from ∙ sym (g.lengths key.node key.from))
 
     delays_a : d.delays_a ≡ e.delays_a
     delays_a =
-        same_map delay_total delay_exact d.delays_a e.delays_a
+        same-rows delay_total delay_exact d.delays_a e.delays_a f.order.delays_a g.order.delays_a
         (λ key. f.delays key.sender key.receiver channel.A key.from ∙ sym (g.delays key.sender key.receiver channel.A key.from))
 
     delays_b : d.delays_b ≡ e.delays_b
     delays_b =
-        same_map delay_total delay_exact d.delays_b e.delays_b
+        same-rows delay_total delay_exact d.delays_b e.delays_b f.order.delays_b g.order.delays_b
         (λ key. f.delays key.sender key.receiver channel.B key.from ∙ sym (g.delays key.sender key.receiver channel.B key.from))
 
 refused-none : (p : Values) (records : List Record) (n : ℕ) (why : Reason) → FirstRefused (reason_after p) records n why → NoneRefused (reason_after p) records → ⊥
@@ -106,30 +93,3 @@ reads-same p bytes (Err fault.MissingDoubles) (Err (fault.Row n why)) na nb f g 
 reads-same p bytes (Err fault.MissingDoubles) (Err fault.MissingDoubles) na nb f g = refl
 reads-same p bytes (Err fault.MissingDoubles) (Err fault.NoMemory) na nb f g = absurd (nb refl)
 reads-same p bytes (Err fault.NoMemory) b na nb f g = absurd (na refl)
-
--- what the records say of each key, as a finite map: a record says something of one key at most
-module _ {K V : Type 0} {R : K → K → Ordering} (total : IsTotalOrder R) (said : K → Result Row Reason → Option V) (one : Result Row Reason → Option (K × V))
-  (says : (key : K) (x : Result Row Reason) → said key x ≡ (elim (one x) [ None ↦ None | Some e ↦ cond (eq_by_cmp R key e.0) (Some e.1) None ])) where
-  with : Option (K × V) → FinMap R V → FinMap R V
-  with None m = m
-  with (Some e) m = map.insert m e.0 e.1
-
-  gathered : List Record → FinMap R V
-  gathered [] = map.empty
-  gathered (r ∷ rest) = with (one (row_of r)) (gathered rest)
-
-  get-with : (o : Option (K × V)) (m : FinMap R V) (key : K) → map.get (with o m) key ≡ or_else (elim o [ None ↦ None | Some e ↦ cond (eq_by_cmp R key e.0) (Some e.1) None ]) (map.get m key)
-  unfolding with
-  get-with None m key = refl
-  get-with (Some e) m key = get-insert total m e.0 e.1 key ∙ chosen (eq_by_cmp R key e.0) e.1 (map.get m key)
-    where
-      chosen : (b : Bool) (v : V) (o : Option V) → cond b (Some v) o ≡ or_else (cond b (Some v) None) o
-      chosen true v o = refl
-      chosen false v o = refl
-
-  get-gathered : (records : List Record) (key : K) → map.get (gathered records) key ≡ looked_up (λ r. said key (row_of r)) records
-  unfolding gathered looked_up
-  get-gathered [] key = get-empty R key
-  get-gathered (r ∷ rest) key =
-      get-with (one (row_of r)) (gathered rest) key
-      ∙ (λ i. or_else (sym (says key (row_of r)) i) (get-gathered rest key i))

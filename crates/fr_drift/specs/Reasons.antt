@@ -1,6 +1,6 @@
 -- Why a record of a drift file is refused behind the records before it: what the earlier records say is
 -- looked up in their list.
-use Rattle.std.specs.Prelude.{ℕ, ℤ, neg_ℤ, int_lt, Bool, true, false, not, ◌==◌, ◌&&◌, ◌||◌, List, Option, Some, None, is_some, is_none, Result, Ok, Err, if◌then◌else◌}
+use Rattle.std.specs.Prelude.{ℕ, ℤ, neg_ℤ, int_lt, Bool, true, false, not, ◌==◌, ◌&&◌, ◌||◌, List, Option, Some, None, is_some, Result, Ok, Err, if◌then◌else◌}
 use Rattle.fr_base.specs.declared.channel.Channel.{Channel}
 use Rattle.fr_base.specs.declared.channel.Channel.TheVariants as channel
 use Rattle.fr_base.specs.declared.reason.Reason.{Reason}

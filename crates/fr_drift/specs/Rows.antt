@@ -1,5 +1,5 @@
 -- What a record of a drift file says by itself.
-use Rattle.std.specs.Prelude.{ℕ, ℤ, ◌≤◌, ◌≤ℤ◌, pos, negsuc, Bool, not, ◌==◌, ◌&&◌, ◌||◌, List, length, Result, Ok, Err, Option, codes, if◌then◌else◌}
+use Rattle.std.specs.Prelude.{ℕ, ℤ, ◌≤◌, ◌≤ℤ◌, pos, negsuc, ◌==◌, ◌&&◌, List, length, Result, Ok, Err, Option, codes, if◌then◌else◌}
 use Rattle.std.specs.Str.{bytes_eq}
 use Rattle.fr_base.specs.Number.{number_of, within}
 use Rattle.fr_base.specs.declared.channel.Channel.{Channel}
@@ -10,9 +10,6 @@ use Rattle.fr_records.specs.Records.{Record}
 use Rattle.fr_records.specs.Fields.{natural_of, both_of, channel_of}
 use Rattle.fr_params.specs.Rows.{is_blank, or_reason, field_of}
 use Rattle.fr_drift.specs.declared.rows.Start.{Start}
-use Rattle.fr_drift.specs.declared.rows.StartRow.{StartRow}
-use Rattle.fr_drift.specs.declared.rows.LengthRow.{LengthRow}
-use Rattle.fr_drift.specs.declared.rows.DelayRow.{DelayRow}
 use Rattle.fr_drift.specs.declared.rows.Row.{Row}
 use Rattle.fr_drift.specs.declared.rows.Row.TheVariants as row
 

@@ -1,5 +1,5 @@
 -- Rows that stand under keys in an order: the last and the first of a span of keys.
-use Rattle.std.specs.Prelude.{◌≡◌, Bool, false, ℤ, Option, Some, None, IsSome, MatchOption}
+use Rattle.std.specs.Prelude.{◌≡◌, false, ℤ, Option, Some, None, IsSome, MatchOption}
 use Rattle.std.specs.declared.cmp.Ordering.{Ordering}
 use Rattle.std.specs.Ordering.{is_gt, is_lt}
 

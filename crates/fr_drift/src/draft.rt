@@ -51,7 +51,11 @@ impl Draft {
         None
     }
 
-    pub(crate) fn take_start(&mut self, params: &Params, row: StartRow) -> Result<Option<Reason>, AllocError>
+    pub(crate) fn take_start(
+        &mut self,
+        params: &Params,
+        row: StartRow,
+    ) -> Result<Option<Reason>, AllocError>
         requires { IsProperStart row.start }
         ensures why { (done : List Record) → IsDraftOf self.old done → IfOk result (λ why. why ≡ row_reason params.now done (Ok (said.Start row))) }
         ensures adds { (done : List Record) (r : Record) → IsDraftOf self.old done → row_of r ≡ Ok (said.Start row) → IfOk result (λ why. why ≡ None → IsDraftOf self.new (done ++ r ∷ [])) }
@@ -65,7 +69,11 @@ impl Draft {
         put(&mut self.starts, row.node, row.start)
     }
 
-    pub(crate) fn take_length(&mut self, params: &Params, row: LengthRow) -> Result<Option<Reason>, AllocError>
+    pub(crate) fn take_length(
+        &mut self,
+        params: &Params,
+        row: LengthRow,
+    ) -> Result<Option<Reason>, AllocError>
         requires { IsProperLength row.ticks }
         ensures why { (done : List Record) → IsDraftOf self.old done → IfOk result (λ why. why ≡ row_reason params.now done (Ok (said.Length row))) }
         ensures adds { (done : List Record) (r : Record) → IsDraftOf self.old done → row_of r ≡ Ok (said.Length row) → IfOk result (λ why. why ≡ None → IsDraftOf self.new (done ++ r ∷ [])) }
@@ -80,7 +88,11 @@ impl Draft {
         put(&mut self.lengths, key, row.ticks)
     }
 
-    pub(crate) fn take_delay(&mut self, params: &Params, row: DelayRow) -> Result<Option<Reason>, AllocError>
+    pub(crate) fn take_delay(
+        &mut self,
+        params: &Params,
+        row: DelayRow,
+    ) -> Result<Option<Reason>, AllocError>
         requires { IsProperDelay row.ticks }
         ensures why { (done : List Record) → IsDraftOf self.old done → IfOk result (λ why. why ≡ row_reason params.now done (Ok (said.Delay row))) }
         ensures adds { (done : List Record) (r : Record) → IsDraftOf self.old done → row_of r ≡ Ok (said.Delay row) → IfOk result (λ why. why ≡ None → IsDraftOf self.new (done ++ r ∷ [])) }

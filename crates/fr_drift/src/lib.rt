@@ -10,8 +10,10 @@ mod laws;
 mod reading;
 mod rows;
 mod spans;
+#[cfg(test)]
+mod tests;
 
 pub use drift::Drift;
 pub use fault::DriftFault;
-pub use laws::one_answer;
+pub use laws::{a_row_holds_until_the_next, one_answer, some_answer};
 pub use reading::read;

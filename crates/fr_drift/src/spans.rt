@@ -32,11 +32,7 @@ fn first_in<K: Ord + Copy>(rows: &BTreeMap<K, i64>, first: K, last: K) -> Option
 }
 
 /// The length of a node's microtick that holds in a cycle, None where no row holds.
-pub(crate) fn held_length(
-    rows: &BTreeMap<LengthKey, i64>,
-    node: NodeId,
-    cycle: u32,
-) -> Option<i64>
+pub(crate) fn held_length(rows: &BTreeMap<LengthKey, i64>, node: NodeId, cycle: u32) -> Option<i64>
     ensures { result ≡ held (λ from. get length_cmp rows.now (length_key node from)) cycle }
 {
     let first = LengthKey { node, from: 0 };

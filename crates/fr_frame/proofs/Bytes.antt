@@ -20,7 +20,7 @@ flag : (n k : ℕ) → bit (not (nat_eq (bit_and n (2 ^ k)) 0)) ≡ n / 2 ^ k % 
 flag n k = rw (and_pow n k) (flag_of (bit_at n k) (2 ^ k) (bit_at-lt n k) (pow_pos k))
 
 -- a list of five, and one of three
-five : (xs : List ℕ) → length xs ≡ 5 → xs ≡ get_or xs 0 0 ∷ get_or xs 1 0 ∷ get_or xs 2 0 ∷ get_or xs 3 0 ∷ get_or xs 4 0 ∷ []
+pub five : (xs : List ℕ) → length xs ≡ 5 → xs ≡ get_or xs 0 0 ∷ get_or xs 1 0 ∷ get_or xs 2 0 ∷ get_or xs 3 0 ∷ get_or xs 4 0 ∷ []
 five [] long = absurd (omega arith)
 five (a ∷ []) long = absurd (omega arith)
 five (a ∷ b ∷ []) long = absurd (omega arith)
@@ -29,7 +29,7 @@ five (a ∷ b ∷ c ∷ d ∷ []) long = absurd (omega arith)
 five (a ∷ b ∷ c ∷ d ∷ e ∷ []) long = refl
 five (a ∷ b ∷ c ∷ d ∷ e ∷ f ∷ xs) long = absurd (omega arith)
 
-three : (xs : List ℕ) → length xs ≡ 3 → xs ≡ get_or xs 0 0 ∷ get_or xs 1 0 ∷ get_or xs 2 0 ∷ []
+pub three : (xs : List ℕ) → length xs ≡ 3 → xs ≡ get_or xs 0 0 ∷ get_or xs 1 0 ∷ get_or xs 2 0 ∷ []
 three [] long = absurd (omega arith)
 three (a ∷ []) long = absurd (omega arith)
 three (a ∷ b ∷ []) long = absurd (omega arith)
@@ -78,13 +78,6 @@ kept_in b2 b3 b4 = bit_or (bit_or (bit_and b2 1 * 1024 % 65536) (b3 * 4 % 65536)
 
 pub kept-lt : (b2 b3 b4 : ℕ) → b3 < 256 → b4 < 256 → kept_in b2 b3 b4 < 2048
 kept-lt b2 b3 b4 small below = rw (kept_is b2 b3 b4 small below) (omega arith)
-
--- the header's numbers are in their ranges
-pub header_id-le : (b0 b1 b2 b4 : ℕ) → b1 < 256 → (header_in b0 b1 b2 b4).id ≤ 2047
-header_id-le b0 b1 b2 b4 small = rw (id_is b0 b1 small) (omega arith)
-
-pub header_cycle-le : (b4 : ℕ) → bit_and b4 63 ≤ 63
-header_cycle-le b4 = let e : bit_and b4 63 ≡ b4 % 64 = and_mask b4 6 in rw e (omega arith)
 
 -- five bytes are the spelling of what they hold
 spelled : (b0 b1 b2 b3 b4 : ℕ) → b0 < 256 → b1 < 256 → b2 < 256 → b3 < 256 → b4 < 256 →
@@ -139,7 +132,7 @@ same_indicator false true same = absurd (omega arith)
 same_indicator true false same = absurd (omega arith)
 same_indicator true true same = refl
 
-bit-lt : (a : Bool) → bit a < 2
+pub bit-lt : (a : Bool) → bit a < 2
 bit-lt false = lit< tt
 bit-lt true = lit< tt
 

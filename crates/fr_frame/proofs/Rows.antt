@@ -1,11 +1,14 @@
 -- Worked rows, computed from their definitions: two frames, and a first fault of each kind.
-use Rattle.std.proofs.Common.{true, false, [], ◌∷◌, refl, lit<, lit≤, arith}
+use Rattle.std.proofs.Common.{◌≡◌, Ok, Err, true, false, [], ◌∷◌, refl, lit<, lit≤, arith}
 use Rattle.fr_base.specs.declared.channel.Channel.TheVariants.{A, B}
 use Rattle.fr_crc.proofs.Rows.{header_crc-sync_frame, header_crc-one_word, header_crc-sync_frame_of_one_word, header_crc-zero_id, header_crc-startup_alone, frame_crc-sync_frame_on_a, frame_crc-sync_frame_on_b, frame_crc-one_word_on_a, frame_crc-zero_id_on_a, frame_crc-startup_alone_on_a}
 use Rattle.fr_frame.specs.declared.header.Header.{Header}
 use Rattle.fr_frame.specs.declared.fault.FrameFault.TheVariants.{Short, HeaderCrc, Length, FrameCrc, ZeroId, StartupNotSync}
 use Rattle.fr_frame.specs.Frame.{IsFrameWith}
 use Rattle.fr_frame.specs.Fault.{IsFirstFault}
+use Rattle.fr_frame.specs.Reading.{frame_of, read_as}
+use Rattle.fr_crc.specs.Bits.{bits}
+use Rattle.fr_crc.specs.Computed.{header_crc_of, frame_crc_of}
 
 abbrev sync_frame : Header
 sync_frame = record { reserved = false; preamble = false; null_bit = false; sync = true; startup = true; id = 1; words = 0; cycle = 0 }
@@ -124,3 +127,20 @@ IsFirstFault-startup_not_sync = record {
   startup = refl;
   no_sync = refl;
 }
+
+-- ---- the same as functions
+pub frame_of-sync_frame : frame_of A sync_frame [] ≡ 0x18 ∷ 0x01 ∷ 0x00 ∷ 0x6F ∷ 0x00 ∷ 0x9A ∷ 0xE5 ∷ 0x25 ∷ []
+unfolding frame_of header_crc_of frame_crc_of bits
+frame_of-sync_frame = refl
+
+pub frame_of-one_word : frame_of A one_word (0x12 ∷ 0x34 ∷ []) ≡ 0x20 ∷ 0x05 ∷ 0x02 ∷ 0xB3 ∷ 0x89 ∷ 0x12 ∷ 0x34 ∷ 0x75 ∷ 0x12 ∷ 0x6B ∷ []
+unfolding frame_of header_crc_of frame_crc_of bits
+frame_of-one_word = refl
+
+pub read_as-sync_frame : read_as A (0x18 ∷ 0x01 ∷ 0x00 ∷ 0x6F ∷ 0x00 ∷ 0x9A ∷ 0xE5 ∷ 0x25 ∷ []) ≡ Ok sync_frame
+unfolding read_as header_crc_of frame_crc_of bits
+read_as-sync_frame = refl
+
+pub read_as-other_channel : read_as B (0x18 ∷ 0x01 ∷ 0x00 ∷ 0x6F ∷ 0x00 ∷ 0x9A ∷ 0xE5 ∷ 0x25 ∷ []) ≡ Err (FrameCrc 0x9AE525 0x716B40)
+unfolding read_as header_crc_of frame_crc_of bits
+read_as-other_channel = refl

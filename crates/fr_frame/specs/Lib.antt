@@ -1,3 +1,4 @@
 pub mod Frame
 pub mod Fault
 pub mod Refusal
+pub mod Reading

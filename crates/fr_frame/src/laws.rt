@@ -1,4 +1,4 @@
-ghost use Rattle.std.specs.Prelude.{◌≡◌, ℕ, ◌+◌, ◌*◌, ◌^◌, ◌<◌, ◌≤◌, List, All, length};
+ghost use Rattle.std.specs.Prelude.{◌≡◌, ℕ, ◌+◌, ◌*◌, ◌^◌, ◌<◌, ◌≤◌, Ok, Err, List, All, length};
 ghost use Rattle.fr_base.specs.declared.channel.Channel.{Channel};
 ghost use Rattle.fr_frame.specs.declared.header.Header.{Header};
 ghost use Rattle.fr_frame.specs.declared.fault.FrameFault.{FrameFault};
@@ -6,6 +6,7 @@ ghost use Rattle.fr_frame.specs.declared.fault.EncodeFault.{EncodeFault};
 ghost use Rattle.fr_frame.specs.Refusal.{IsAccepted, IsFirstRefusal};
 ghost use Rattle.fr_frame.specs.Frame.{IsFrame, IsNoFrame};
 ghost use Rattle.fr_frame.specs.Fault.{IsFirstFault};
+ghost use Rattle.fr_frame.specs.Reading.{frame_of, payload_of, read_as};
 
 /// A law: on one channel equal headers and payloads have equal bytes.
 pub fn one_spelling()
@@ -57,4 +58,43 @@ pub fn one_first_refusal()
     ensures { (header : Header) (payload room : ℕ) (first second : EncodeFault) →
         IsFirstRefusal header payload room first → IsFirstRefusal header payload room second →
         first ≡ second }
+{}
+
+/// A law: the bytes of a header and payload against which no reason stands are a frame.
+pub fn a_frame()
+    ensures { (channel : Channel) (header : Header) (payload : List ℕ) (room : ℕ) →
+        IsAccepted header (length payload) room →
+        IsFrame channel header payload (frame_of channel header payload) }
+{}
+
+/// A law: a frame is the bytes of its header and payload.
+pub fn a_frame_is_spelled()
+    ensures { (channel : Channel) (header : Header) (payload bytes : List ℕ) →
+        IsFrame channel header payload bytes → bytes ≡ frame_of channel header payload }
+{}
+
+/// A law: a frame whose payload is made of bytes is made of bytes.
+pub fn a_frame_is_of_bytes()
+    ensures { (channel : Channel) (header : Header) (payload bytes : List ℕ) →
+        IsFrame channel header payload bytes →
+        All (λ b. b < 2 ^ 8) payload → All (λ b. b < 2 ^ 8) bytes }
+{}
+
+/// A law: a frame is read as its header, and bytes that have a first fault are read as that fault.
+pub fn what_is_there_is_read()
+    ensures frame { (channel : Channel) (header : Header) (payload bytes : List ℕ) →
+        IsFrame channel header payload bytes → read_as channel bytes ≡ Ok header }
+    ensures fault { (channel : Channel) (bytes : List ℕ) (fault : FrameFault) →
+        IsFirstFault channel bytes fault → read_as channel bytes ≡ Err fault }
+{}
+
+/// A law: bytes that are read as a header are a frame with it, and bytes that are read as a fault have it
+/// first.
+pub fn what_is_read_is_there()
+    ensures frame { (channel : Channel) (bytes : List ℕ) (header : Header) →
+        All (λ b. b < 2 ^ 8) bytes → read_as channel bytes ≡ Ok header →
+        IsFrame channel header (payload_of header bytes) bytes }
+    ensures fault { (channel : Channel) (bytes : List ℕ) (fault : FrameFault) →
+        All (λ b. b < 2 ^ 8) bytes → read_as channel bytes ≡ Err fault →
+        IsFirstFault channel bytes fault }
 {}

@@ -3,4 +3,7 @@ pub mod Ascending
 pub mod MidpointLemmas
 pub mod Found
 pub mod ReadBack
+pub mod Products
+pub mod Agreement
+mod Receiving
 mod Rows

@@ -1,2 +1,3 @@
 pub mod Midpoint
+pub mod Receivers
 pub mod Within

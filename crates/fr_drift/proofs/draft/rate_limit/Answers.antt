@@ -1,4 +1,4 @@
-use Rattle.std.proofs.Common.{arith, pos}
+use Rattle.std.proofs.Common.{arith}
 use Rattle.std.proofs.lemmas.Int.{ints, to_z-of_z}
 use Rattle.fr_params.specs.declared.names.ParamName.TheVariants as name
 use Rattle.fr_drift.proofs.draft.rate_limit.Goals as goal

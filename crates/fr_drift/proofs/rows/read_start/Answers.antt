@@ -1,7 +1,6 @@
-use Rattle.std.proofs.Common.{◌≡◌, ◌∙◌, sym, rules, Ok, arith}
-use mir.Val.{to_z, of_z}
+use Rattle.std.proofs.Common.{◌≡◌, ◌∙◌, sym, rules, Ok}
 use mir.Syntax.{w32, w64}
-use Rattle.std.proofs.lemmas.Int.{ints, to_z-of_z}
+use Rattle.std.proofs.lemmas.Int.{to_z-of_z}
 use Rattle.fr_drift.proofs.RowFacts.{both-first, both-second}
 use Rattle.fr_drift.proofs.rows.read_start.Goals as goal
 

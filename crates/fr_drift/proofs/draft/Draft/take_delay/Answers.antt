@@ -12,10 +12,10 @@ returns-in-A-clause-adds c = λ done r h e.
     let back : to_z w64 (of_z w64 c.args.row.ticks) ≡ c.args.row.ticks = to_z-of_z w64 c.args.row.ticks (search rules) in
     if_ok-map c.put.result _ _
     (λ why puts none.
-        let put : IsPut delay_cmp c.args.self.now.delays_a c.put.new.rows (delay_key c.args.row.sender c.args.row.receiver c.args.row.from) (to_z w64 (of_z w64 c.args.row.ticks)) =
-        puts none
-        in
-        draft-delay_a c.args.self.now c.put.new.rows done r c.args.row h e (c.in-Some.is ∙ ap Some c.in-A.is) c.requires (rw back at put))
+    let put : IsPut delay_cmp c.args.self.now.delays_a c.put.new.rows (delay_key c.args.row.sender c.args.row.receiver c.args.row.from) (to_z w64 (of_z w64 c.args.row.ticks)) =
+    puts none
+    in
+    draft-delay_a c.args.self.now c.put.new.rows done r c.args.row h e (c.in-Some.is ∙ ap Some c.in-A.is) c.requires (rw back at put))
     c.put.ensures.puts
 
 pub returns-in-B-clause-adds : goal.returns-in-B-clause-adds
@@ -23,8 +23,8 @@ returns-in-B-clause-adds c = λ done r h e.
     let back : to_z w64 (of_z w64 c.args.row.ticks) ≡ c.args.row.ticks = to_z-of_z w64 c.args.row.ticks (search rules) in
     if_ok-map c.put-in-B.result _ _
     (λ why puts none.
-        let put : IsPut delay_cmp c.args.self.now.delays_b c.put-in-B.new.rows (delay_key c.args.row.sender c.args.row.receiver c.args.row.from) (to_z w64 (of_z w64 c.args.row.ticks)) =
-        puts none
-        in
-        draft-delay_b c.args.self.now c.put-in-B.new.rows done r c.args.row h e (c.in-Some.is ∙ ap Some c.in-B.is) c.requires (rw back at put))
+    let put : IsPut delay_cmp c.args.self.now.delays_b c.put-in-B.new.rows (delay_key c.args.row.sender c.args.row.receiver c.args.row.from) (to_z w64 (of_z w64 c.args.row.ticks)) =
+    puts none
+    in
+    draft-delay_b c.args.self.now c.put-in-B.new.rows done r c.args.row h e (c.in-Some.is ∙ ap Some c.in-B.is) c.requires (rw back at put))
     c.put-in-B.ensures.puts

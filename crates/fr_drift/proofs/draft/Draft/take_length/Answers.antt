@@ -12,6 +12,6 @@ returns-clause-adds c = λ done r h e.
     let back : to_z w64 (of_z w64 c.args.row.ticks) ≡ c.args.row.ticks = to_z-of_z w64 c.args.row.ticks (search rules) in
     if_ok-map c.put.result _ _
     (λ why puts none.
-        let put : IsPut length_cmp c.args.self.now.lengths c.put.new.rows (length_key c.args.row.node c.args.row.from) (to_z w64 (of_z w64 c.args.row.ticks)) = puts none in
-        draft-length c.args.self.now c.put.new.rows done r c.args.row h e c.requires (rw back at put))
+    let put : IsPut length_cmp c.args.self.now.lengths c.put.new.rows (length_key c.args.row.node c.args.row.from) (to_z w64 (of_z w64 c.args.row.ticks)) = puts none in
+    draft-length c.args.self.now c.put.new.rows done r c.args.row h e c.requires (rw back at put))
     c.put.ensures.puts

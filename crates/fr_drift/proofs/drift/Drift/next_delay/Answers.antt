@@ -1,4 +1,4 @@
-use Rattle.std.proofs.Common.{◌≡◌, ℕ, ℤ, pos, Option, ap}
+use Rattle.std.proofs.Common.{ℤ, pos, Option, ap}
 use Rattle.std.specs.Prelude.{◌*ℤ◌, unwrap_or}
 use Rattle.std.specs.BTreeMap.{get}
 use Rattle.fr_drift.specs.Keys.{delay_cmp, delay_key}

@@ -1,0 +1,24 @@
+-- States of operation control and outcomes of corrections, as tests and numbers.
+use Rattle.std.specs.Prelude.{ℕ, Bool, true, false}
+use Rattle.fr_base.specs.declared.state.State.{State}
+use Rattle.fr_base.specs.declared.state.State.TheVariants.{Active, Passive, Halt}
+use Rattle.fr_base.specs.declared.state.Outcome.{Outcome}
+use Rattle.fr_base.specs.declared.state.Outcome.TheVariants.{Within, Missing, Exceeded}
+
+-- whether a node sends
+abbrev pub is_active : State → Bool
+is_active Active = true
+is_active Passive = false
+is_active Halt = false
+
+-- whether it neither sends nor receives
+abbrev pub is_halted : State → Bool
+is_halted Active = false
+is_halted Passive = false
+is_halted Halt = true
+
+-- one for a correction term that was cut
+abbrev pub cut_of : Outcome → ℕ
+cut_of Within = 0
+cut_of Missing = 0
+cut_of Exceeded = 1

@@ -1,0 +1,34 @@
+-- A history of a cluster: a finished list of records, one a cycle.
+use Rattle.std.specs.Prelude.{◌≡◌, ℕ, ◌==◌, Bool, true, false, List, [], ◌∷◌, ◌++◌, length, Option, Some, None, find, if◌then◌else◌}
+use Rattle.fr_base.specs.declared.cycle_row.Counts.{Counts}
+use Rattle.fr_base.specs.declared.dev.Dev.{Dev}
+use Rattle.fr_base.specs.declared.node_row.NodeRow.{NodeRow}
+
+-- The record of a cycle: a row for each correct node, in ascending order of node; the deviations that were stored, in
+-- ascending order of receiver, slot and channel; and what became of the frames.
+pub record Record : Type 0 where
+  pub rows : List NodeRow
+  pub devs : List Dev
+  pub counts : Counts
+
+-- The records of cycles from 0 on, the latest first. So the number of a record's cycle is how many records stand behind
+-- it in the list, which are those of the cycles before it; "behind a history" means: in the cycle that follows it. A
+-- history with records taken off at the head is a history too.
+abbrev pub History : Type 0
+History = List Record
+
+-- a record is that of this cycle in a history
+pub record IsRecordOf (h : History) (cycle : ℕ) (r : Record) : Type 0 where
+  pub later : History
+  pub earlier : History
+  pub parted : h ≡ later ++ r ∷ earlier
+  pub counted : length earlier ≡ cycle
+
+-- the record of a cycle, if the history has it
+unfoldable pub record_at : History → ℕ → Option Record
+record_at [] cycle = None
+record_at (r ∷ h) cycle = if length h == cycle then Some r else record_at h cycle
+
+-- the row of a node, if it has one
+abbrev pub row_of : List NodeRow → ℕ → Option NodeRow
+row_of rows node = find (λ row. row.node == node) rows

@@ -1,0 +1,10 @@
+pub mod Setting
+pub mod History
+pub mod Recorded
+pub mod Offers
+pub mod Kinds
+pub mod Terms
+pub mod Lawful
+pub mod Next
+pub mod Skew
+pub mod Sync

@@ -1,0 +1,73 @@
+-- The one lawful history, as a function of the setting and the number of cycles: the record that follows a history.
+use Rattle.std.specs.Prelude.{ℕ, zero, suc, ◌*◌, pos, List, [], ◌∷◌, length, map, count_by}
+use Rattle.fr_base.specs.declared.channel.Channel.TheVariants.{A, B}
+use Rattle.fr_base.specs.declared.cycle_row.Counts.{Counts}
+use Rattle.fr_base.specs.declared.dev.Dev.{Dev}
+use Rattle.fr_base.specs.declared.node_row.NodeRow.{NodeRow}
+use Rattle.fr_history.specs.Setting.{Setting, correct_nodes}
+use Rattle.fr_history.specs.History.{History, Record}
+use Rattle.fr_history.specs.Offers.{Reception, devs_among, frames_on, receptions_among}
+use Rattle.fr_history.specs.Kinds.{is_stored, is_outside, is_damaged, is_wrong_id, is_wrong_cycle, is_wrong_length, is_plain}
+use Rattle.fr_history.specs.Terms.{status_in}
+use Rattle.fr_history.specs.Lawful.{crcs_sum, cut_behind, offset_behind, rate_behind, start_behind}
+
+-- the row of a node in the next cycle, before its corrections
+unfoldable pub early_row : Setting → History → ℕ → NodeRow
+early_row x h node = record {
+  node = node;
+  start = start_behind x h node;
+  length = x.microtick node (length h);
+  rate = rate_behind x h node;
+  offset = pos 0;
+  state = (status_in x h node).state;
+  cut = 0;
+}
+
+-- the rows of all correct nodes
+abbrev pub early_rows : Setting → History → List NodeRow
+early_rows x h = map (λ node. early_row x h node.id) (correct_nodes x)
+
+-- what they hear
+abbrev pub next_receptions : Setting → History → List Reception
+next_receptions x h = receptions_among x (length h) (early_rows x h)
+
+-- the deviations that they store
+unfoldable pub next_devs : Setting → History → List Dev
+next_devs x h = devs_among (next_receptions x h)
+
+-- what became of the frames
+unfoldable pub next_counts : Setting → History → Counts
+next_counts x h = record {
+  sent_a = length (frames_on x (length h) (early_rows x h) A);
+  sent_b = length (frames_on x (length h) (early_rows x h) B);
+  xor_a = crcs_sum (frames_on x (length h) (early_rows x h) A);
+  xor_b = crcs_sum (frames_on x (length h) (early_rows x h) B);
+  stored = count_by (λ reception. is_stored reception.heard) (next_receptions x h);
+  outside = count_by (λ reception. is_outside reception.heard) (next_receptions x h);
+  damaged = count_by (λ reception. is_damaged reception.heard) (next_receptions x h);
+  wrong_id = count_by (λ reception. is_wrong_id reception.heard) (next_receptions x h);
+  wrong_cycle = count_by (λ reception. is_wrong_cycle reception.heard) (next_receptions x h);
+  wrong_length = count_by (λ reception. is_wrong_length reception.heard) (next_receptions x h);
+  plain = count_by (λ reception. is_plain reception.heard) (next_receptions x h);
+}
+
+-- a row with its corrections
+abbrev pub ended_row : Setting → History → Record → NodeRow → NodeRow
+ended_row x h r row = record row { offset = offset_behind x h r row; cut = cut_behind x h r row }
+
+-- the record before the corrections
+abbrev pub early_record : Setting → History → Record
+early_record x h = record { rows = early_rows x h; devs = next_devs x h; counts = next_counts x h }
+
+-- the record that follows a history
+unfoldable pub next_record : Setting → History → Record
+next_record x h = let early : Record = early_record x h in record early { rows = map (ended_row x h early) early.rows }
+
+-- the history of so many cycles, also beyond the end of the run
+unfoldable pub history_of : Setting → ℕ → History
+history_of x zero = []
+history_of x (suc n) = let h : History = history_of x n in next_record x h ∷ h
+
+-- the history of the whole run
+abbrev pub whole_history : Setting → History
+whole_history x = history_of x (2 * x.doubles)

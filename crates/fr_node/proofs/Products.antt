@@ -1,0 +1,39 @@
+-- Products of microticks and their length.
+use Rattle.std.proofs.Common.{ℤ, pos, negsuc, ◌*◌, ◌≤◌, arith}
+use Rattle.std.specs.Prelude.{◌≤ℤ◌, ◌<ℤ◌, ◌+ℤ◌, ◌*ℤ◌}
+use Rattle.std.proofs.lemmas.Int.{ints}
+use Rattle.std.proofs.Math.Nat.{mul-le-mul_right}
+use Rattle.fr_params.specs.Values.{Values}
+use Rattle.fr_time.specs.Position.{even_position, floor_of, grid_for, IsPlaceable}
+
+-- more microticks last longer
+pub product-le : (a b length : ℤ) → pos 0 ≤ℤ a → a ≤ℤ b → pos 0 ≤ℤ length → (a *ℤ length) ≤ℤ (b *ℤ length)
+product-le (pos a) (pos b) (pos length) from to positive =
+    let more : a * length ≤ b * length = mul-le-mul_right length (omega (arith, ints)) in omega (arith, ints)
+product-le (negsuc a) b length from to positive = absurd (omega (arith, ints))
+product-le (pos a) (negsuc b) length from to positive = absurd (omega (arith, ints))
+product-le (pos a) (pos b) (negsuc length) from to positive = absurd (omega (arith, ints))
+
+pub product_from : (a length : ℤ) → pos 0 ≤ℤ a → pos 0 ≤ℤ length → pos 0 ≤ℤ (a *ℤ length)
+product_from (pos a) (pos length) from positive = omega (arith, ints)
+product_from (negsuc a) length from positive = absurd (omega (arith, ints))
+product_from (pos a) (negsuc length) from positive = absurd (omega (arith, ints))
+
+pub floor_from : (a b : ℤ) → pos 0 ≤ℤ a → pos 1 ≤ℤ b → pos 0 ≤ℤ floor_of a b
+floor_from (pos a) (pos b) from some = omega (arith, ints)
+floor_from (negsuc a) b from some = absurd (omega (arith, ints))
+floor_from (pos a) (negsuc b) from some = absurd (omega (arith, ints))
+
+-- a cycle has microticks left where its offset correction starts, and so has no fewer than none
+pub cycle_from : (p : Values) (rate offset : ℤ) → IsPlaceable (grid_for p) rate offset → pos 0 ≤ℤ (p.micros +ℤ rate +ℤ offset)
+cycle_from p rate offset can =
+    let correction : pos 1 ≤ℤ p.correction = can.is_grid.correction_from in
+    let macros : p.correction <ℤ p.macros = can.is_grid.correction_to in
+    let length : pos 0 ≤ℤ (p.micros +ℤ rate) = omega (arith, ints, can.micros_from, correction, macros) in
+    let count : pos 0 ≤ℤ (p.correction *ℤ (p.micros +ℤ rate)) = product_from p.correction (p.micros +ℤ rate) (omega (arith, ints, correction)) length in
+    let before : pos 0 ≤ℤ even_position (grid_for p) rate p.correction = floor_from (p.correction *ℤ (p.micros +ℤ rate)) p.macros count (omega (arith, ints, correction, macros)) in
+    let reaches : even_position (grid_for p) rate p.correction ≤ℤ (p.micros +ℤ rate +ℤ offset) = can.reaches_correction in
+    last (even_position (grid_for p) rate p.correction) (p.micros +ℤ rate +ℤ offset) before reaches
+  where
+    last : (a b : ℤ) → pos 0 ≤ℤ a → a ≤ℤ b → pos 0 ≤ℤ b
+    last a b from to = omega (arith, ints)

@@ -1,0 +1,4 @@
+pub mod View
+pub mod Fits
+pub mod Cycle
+pub mod Arrivals

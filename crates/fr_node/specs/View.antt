@@ -1,0 +1,52 @@
+-- What contracts see of a node.
+use Rattle.std.specs.Prelude.{ℕ, ◌+◌, ◌*◌, ◌<◌, ◌≤◌, ℤ, pos, ◌≤ℤ◌, Option, IsSome, unwrap_or}
+use Rattle.std.specs.Option.{ForSome}
+use Rattle.fr_base.specs.declared.node_row.NodeRow.{NodeRow}
+use Rattle.fr_midpoint.specs.Within.{IsWithin}
+use Rattle.fr_measure.specs.Readings.{Readings}
+use Rattle.fr_poc.specs.Control.{Control}
+
+-- A node: its number, the cycle that is under way or comes next, the length of a microtick in the one that is under
+-- way, that cycle's start in ticks and its rate term, the deviations of its double cycle, and its operation control.
+pub record NodeView : Type 0 where
+  pub id : ℕ
+  pub cycle : ℕ
+  pub length : Option ℤ
+  pub start : ℤ
+  pub rate : ℤ
+  pub table : Readings
+  pub control : Control
+
+-- the row of the cycle that is under way, before its end: no offset term is there yet, and nothing was cut
+abbrev pub row_of : NodeView → NodeRow
+row_of node = record {
+  node = node.id;
+  start = node.start;
+  length = unwrap_or node.length (pos 0);
+  rate = node.rate;
+  offset = pos 0;
+  state = node.control.status.state;
+  cut = 0;
+}
+
+-- a microtick may last from a half to one and a half of its nominal length
+pub record IsLength (length : ℤ) : Type 0 where
+  pub from : pos 500_000 ≤ℤ length
+  pub to : length ≤ℤ pos 1_500_000
+
+-- the numbers of a node: no cycle takes more than a million million ticks
+pub record IsNode (node : NodeView) : Type 0 where
+  pub few : node.cycle ≤ 200_000
+  pub in_run : IsSome node.length → node.cycle < 200_000
+  pub start_from : pos 0 ≤ℤ node.start
+  pub start_to : node.start ≤ℤ pos (1_000_000_000_000 * (node.cycle + 1))
+  pub rate : IsWithin (pos 2000) node.rate
+  pub length : ForSome node.length IsLength
+
+-- the numbers of a row lie where instants can be computed
+pub record IsProperRow (row : NodeRow) : Type 0 where
+  pub rate : IsWithin (pos 2000) row.rate
+  pub start_from : pos 0 ≤ℤ row.start
+  pub start_to : row.start ≤ℤ pos 900_000_000_000_000_000
+  pub length_from : pos 500_000 ≤ℤ row.length
+  pub length_to : row.length ≤ℤ pos 1_500_000

@@ -1,0 +1,16 @@
+//! One node of the cluster: it receives frames as bytes, measures their deviations, and corrects its clock
+//! at the end of each double cycle (chapters 2, 4, 5 and 8 of the standard).
+#![tactic(auto)]
+
+mod answers;
+mod corrections;
+mod frames;
+mod node;
+mod own;
+#[cfg(test)]
+mod tests;
+mod times;
+
+pub use fr_reception::{Heard, Ignored};
+pub use frames::frame_of;
+pub use node::Node;

@@ -1,0 +1,340 @@
+ghost use Rattle.std.specs.Prelude.{◌≡◌, ◌≢◌, ◌<◌, ◌≤◌, ◌≤ℤ◌, pos, neg_ℤ, IsTrue, IsSome, IsNone, Some, if◌then◌else◌};
+ghost use Rattle.fr_midpoint.specs.Within.{IsWithin};
+ghost use Rattle.fr_measure.specs.Readings.{no_readings, reading};
+ghost use Rattle.fr_time.specs.Cycles.{is_odd};
+ghost use Rattle.fr_params.specs.Questions.{has_channel, node_of};
+ghost use Rattle.fr_params.specs.Values.{Values, amount};
+ghost use Rattle.fr_params.specs.declared.names.ParamName.TheVariants as name;
+ghost use Rattle.fr_poc.specs.Control.{stepped};
+ghost use Rattle.fr_reception.specs.Answers.{answer_of};
+
+use crate::answers::{Arrival, answer};
+use crate::corrections::{cut_count, offset_term_from, rate_term_from};
+use crate::own::{key_index, own_key_index, poc_limits, sane};
+use crate::times::cycle_ticks;
+use fr_base::{Channel, NodeId, NodeRow, Outcome, Slot, State};
+use fr_correct::Term;
+use fr_measure::Table;
+use fr_params::Params;
+use fr_poc::Poc;
+use fr_reception::Heard;
+use std::marker::Model;
+
+/// One node of the cluster, from the start of its first cycle on.
+#[derive(Debug, Drop)]
+pub struct Node {
+    id: NodeId,
+    // The cycle that is under way or comes next.
+    cycle: u32,
+    // The length of a microtick in the cycle that is under way, in ticks.
+    length: Option<i64>,
+    // The start of that cycle, in ticks.
+    start: i64,
+    // Its rate term, in microticks.
+    rate: i32,
+    table: Table,
+    control: Poc,
+}
+
+impl Model for Node {
+    ghost use Rattle.fr_node.specs.View.{IsNode, NodeView};
+
+    ghost Value = { NodeView };
+
+    ghost view = { λ node. record { id = node.id; cycle = node.cycle; length = node.length; start = node.start; rate = node.rate; table = node.table; control = node.control } };
+
+    ghost invariant = { λ node. IsNode (record { id = node.id; cycle = node.cycle; length = node.length; start = node.start; rate = node.rate; table = node.table; control = node.control }) };
+}
+
+impl Node {
+    ghost use Rattle.fr_node.specs.View.{row_of, IsProperRow};
+    ghost use Rattle.fr_reception.specs.Own.{own_key};
+    ghost use Rattle.fr_node.specs.Fits.{Fits};
+    ghost use Rattle.fr_node.specs.Cycle.{after_hearing, begun, corrected_row, corrects, ended, ended_row, fresh, offset_term_in, passed, rate_term_in};
+    ghost use Rattle.fr_node.specs.Arrivals.{IfStored};
+
+    /// A node before cycle 0: active, with no deviation. The start of cycle 0 is in ticks, the rate term in
+    /// microticks.
+    pub fn new(params: &Params, id: NodeId, start: i64, rate: i32) -> Node
+        requires known { IsSome (node_of params.now id) }
+        requires start_from { pos 0 ≤ℤ start }
+        requires start_to { start ≤ℤ pos 1_000_000_000_000 }
+        requires rate { IsWithin params.now.rate_limit rate }
+        ensures value { result ≡ fresh params.now id start rate }
+        ensures fits { Fits params.now result }
+    {
+        sane(params);
+        Node {
+            id,
+            cycle: 0,
+            length: None,
+            start,
+            rate,
+            table: Table::new(),
+            control: Poc::new(poc_limits(params)),
+        }
+    }
+
+    /// Begins the next cycle, in which a microtick lasts `length` ticks. An even cycle begins with no
+    /// deviation.
+    pub fn begin(&mut self, cycle: u32, length: i64)
+        requires between { IsNone self.old.length }
+        requires next { cycle ≡ self.old.cycle }
+        requires in_run { cycle < 200_000 }
+        requires length_from { pos 500_000 ≤ℤ length }
+        requires length_to { length ≤ℤ pos 1_500_000 }
+        ensures value { self.new ≡ begun self.old length }
+        ensures fits { (p : Values) → Fits p self.old → Fits p self.new }
+    {
+        keep_in_odd(&mut self.table, cycle);
+        self.length = Some(length);
+    }
+
+    /// Receives a frame in a static slot on a channel, at an instant in ticks, and answers what it makes of
+    /// it: the deviation that it stores, or the first reason to ignore it (sections 4.2 to 4.5 and 8.5).
+    pub fn hear(
+        &mut self,
+        params: &Params,
+        slot: Slot,
+        channel: Channel,
+        arrival: i64,
+        bytes: &[u8],
+    ) -> Heard
+        requires fits { Fits params.now self.old }
+        requires under_way { IsSome self.old.length }
+        requires receives { self.old.control.status.state ≢ State.Halt }
+        requires channel { IsTrue (has_channel (node_of params.now self.old.id) channel) }
+        requires slot { slot ≤ amount params.now name.gNumberOfStaticSlots }
+        requires not_itself { own_key params.now self.old.id ≢ Some slot }
+        requires arrival_from { neg_ℤ (pos 4_000_000_000_000_000_000) ≤ℤ arrival }
+        requires arrival_to { arrival ≤ℤ pos 4_000_000_000_000_000_000 }
+        ensures answer { result ≡ answer_of params.now self.old.cycle (row_of self.old) (record { slot = slot; channel = channel; arrival = arrival; bytes = bytes.now }) }
+        ensures after { self.new ≡ after_hearing params.now self.old slot channel result }
+        ensures rest { self.new ≡ record self.old { table = self.new.table } }
+        ensures fits { Fits params.now self.new }
+    {
+        let heard = self.answer_to(params, slot, channel, arrival, bytes);
+        self.keep(params, slot, channel, &heard);
+        heard
+    }
+
+    /// Ends the cycle, and answers its row: an odd one with the offset term that its deviations give, after
+    /// which the rate term and one step of operation control hold from the next cycle on, unless the node
+    /// is halted (chapter 2, sections 8.6.2 and 8.6.3).
+    pub fn end(&mut self, params: &Params) -> NodeRow
+        requires fits { Fits params.now self.old }
+        requires under_way { IsSome self.old.length }
+        ensures row { result ≡ ended_row params.now self.old }
+        ensures after { self.new ≡ ended params.now self.old }
+        ensures fits { Fits params.now self.new }
+        ensures proper { IsProperRow result }
+        ensures rate { IsWithin params.now.rate_limit result.rate }
+        ensures offset { IsWithin params.now.offset_limit result.offset }
+        ensures cut { result.cut ≤ 2 }
+    {
+        if self.corrects() {
+            self.end_corrected(params)
+        } else {
+            self.end_plain(params)
+        }
+    }
+
+    /// The row of the cycle that is under way, before its end: with offset 0, and nothing cut.
+    pub fn row(&self) -> NodeRow
+        requires { IsSome self.now.length }
+        ensures value { result ≡ row_of self.now }
+        ensures proper { IsProperRow result }
+    {
+        NodeRow {
+            node: self.id,
+            start: self.start,
+            length: self.length.unwrap(),
+            rate: self.rate,
+            offset: 0,
+            state: self.control.state(),
+            cut: 0,
+        }
+    }
+
+    /// The deviation of a key index in the even or the odd cycle of the last double cycle on a channel, in
+    /// microticks; None exactly where nothing is stored.
+    pub fn deviation(&self, index: usize, odd: bool, channel: Channel) -> Option<i32>
+        requires { index < 15 }
+        ensures { result ≡ reading self.now.table index odd channel }
+    {
+        self.table.get(index, odd, channel)
+    }
+
+    /// The start of the next cycle, in ticks.
+    pub fn next_start(&self) -> i64
+        requires { IsNone self.now.length }
+        ensures value { result ≡ self.now.start }
+        ensures from { pos 0 ≤ℤ result }
+        ensures to { result ≤ℤ pos 900_000_000_000_000_000 }
+    {
+        self.start
+    }
+
+    /// The rate term of the next cycle, in microticks.
+    pub fn next_rate(&self) -> i32
+        requires { IsNone self.now.length }
+        ensures value { result ≡ self.now.rate }
+        ensures within { IsWithin (pos 2000) result }
+    {
+        self.rate
+    }
+
+    /// The state in the next cycle.
+    pub fn next_state(&self) -> State
+        requires { IsNone self.now.length }
+        ensures { result ≡ self.now.control.status.state }
+    {
+        self.control.state()
+    }
+
+    // The answer to a frame.
+    fn answer_to(
+        &self,
+        params: &Params,
+        slot: Slot,
+        channel: Channel,
+        at: i64,
+        bytes: &[u8],
+    ) -> Heard
+        requires rate { IsWithin params.now.rate_limit self.now.rate }
+        requires under_way { IsSome self.now.length }
+        requires slot { slot ≤ amount params.now name.gNumberOfStaticSlots }
+        ensures answer { result ≡ answer_of params.now self.now.cycle (row_of self.now) (record { slot = slot; channel = channel; arrival = at; bytes = bytes.now }) }
+        ensures within { IfStored result (IsWithin (pos 1000000)) }
+    {
+        let row = self.row();
+        answer(
+            params,
+            self.cycle,
+            &row,
+            Arrival { slot, channel, at },
+            bytes,
+        )
+    }
+
+    // Keeps the deviation that an answer stores.
+    fn keep(&mut self, params: &Params, slot: Slot, channel: Channel, heard: &Heard)
+        requires fits { Fits params.now self.old }
+        requires not_itself { own_key params.now self.old.id ≢ Some slot }
+        requires within { IfStored heard.now (IsWithin (pos 1000000)) }
+        ensures value { self.new ≡ after_hearing params.now self.old slot channel heard.now }
+        ensures rest { self.new ≡ record self.old { table = self.new.table } }
+        ensures fits { Fits params.now self.new }
+    {
+        if let Heard::Stored(value) = *heard
+            && let Some(index) = key_index(params, slot)
+        {
+            self.table.store(index, self.cycle % 2 == 1, channel, value);
+        }
+    }
+
+    // Whether the clock is corrected at the end of the cycle.
+    fn corrects(&self) -> bool
+        ensures { result ≡ corrects self.now }
+    {
+        self.cycle % 2 == 1 && !matches!(self.control.state(), State::Halt)
+    }
+
+    fn offset_term(&self, params: &Params) -> Term
+        ensures value { result ≡ offset_term_in params.now self.now }
+        ensures within { IsWithin params.now.offset_limit result.value }
+    {
+        offset_term_from(params, &self.table, own_key_index(params, self.id))
+    }
+
+    fn rate_term(&self, params: &Params) -> Term
+        requires { IsWithin params.now.rate_limit self.now.rate }
+        ensures value { result ≡ rate_term_in params.now self.now }
+        ensures within { IsWithin params.now.rate_limit result.value }
+    {
+        rate_term_from(
+            params,
+            &self.table,
+            own_key_index(params, self.id),
+            self.rate,
+        )
+    }
+
+    // One step of operation control.
+    fn step(&mut self, offset: Outcome, rate: Outcome)
+        ensures value { self.new ≡ record self.old { control = stepped self.old.control offset rate } }
+        ensures fits { (p : Values) → Fits p self.old → Fits p self.new }
+    {
+        self.control.step(offset, rate);
+    }
+
+    // Goes on to the cycle that follows one with this row.
+    fn pass(&mut self, params: &Params, row: &NodeRow, rate: i32)
+        requires fits { Fits params.now self.old }
+        requires under_way { IsSome self.old.length }
+        requires start { row.now.start ≡ self.old.start }
+        requires proper { IsProperRow row.now }
+        requires offset { IsWithin params.now.offset_limit row.now.offset }
+        requires row_rate { IsWithin params.now.rate_limit row.now.rate }
+        requires rate { IsWithin params.now.rate_limit rate }
+        ensures value { self.new ≡ passed params.now self.old row.now rate }
+        ensures fits { Fits params.now self.new }
+    {
+        sane(params);
+        self.start += cycle_ticks(params, row);
+        self.cycle += 1;
+        self.length = None;
+        self.rate = rate;
+    }
+
+    // The end of a cycle with a correction.
+    fn end_corrected(&mut self, params: &Params) -> NodeRow
+        requires fits { Fits params.now self.old }
+        requires under_way { IsSome self.old.length }
+        ensures row { result ≡ corrected_row params.now self.old }
+        ensures after { self.new ≡ record (passed params.now self.old (corrected_row params.now self.old) (rate_term_in params.now self.old).value) { control = stepped self.old.control (offset_term_in params.now self.old).outcome (rate_term_in params.now self.old).outcome } }
+        ensures fits { Fits params.now self.new }
+        ensures proper { IsProperRow result }
+        ensures rate { IsWithin params.now.rate_limit result.rate }
+        ensures offset { IsWithin params.now.offset_limit result.offset }
+        ensures cut { result.cut ≤ 2 }
+    {
+        let offset = self.offset_term(params);
+        let rate = self.rate_term(params);
+        let row = NodeRow {
+            offset: offset.value,
+            cut: cut_count(offset.outcome) + cut_count(rate.outcome),
+            ..self.row()
+        };
+        self.step(offset.outcome, rate.outcome);
+        self.pass(params, &row, rate.value);
+        row
+    }
+
+    // The end of a cycle without one.
+    fn end_plain(&mut self, params: &Params) -> NodeRow
+        requires fits { Fits params.now self.old }
+        requires under_way { IsSome self.old.length }
+        ensures row { result ≡ row_of self.old }
+        ensures after { self.new ≡ passed params.now self.old (row_of self.old) self.old.rate }
+        ensures fits { Fits params.now self.new }
+        ensures proper { IsProperRow result }
+        ensures rate { IsWithin params.now.rate_limit result.rate }
+        ensures offset { IsWithin params.now.offset_limit result.offset }
+        ensures cut { result.cut ≡ 0 }
+    {
+        sane(params);
+        let row = self.row();
+        self.pass(params, &row, row.rate);
+        row
+    }
+}
+
+// Removes the deviations as an even cycle begins.
+fn keep_in_odd(table: &mut Table, cycle: u32)
+    ensures { table.new ≡ (if is_odd cycle then table.old else no_readings) }
+{
+    if cycle % 2 == 0 {
+        table.clear();
+    }
+}

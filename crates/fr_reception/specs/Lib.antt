@@ -1,0 +1,4 @@
+pub mod Regular
+pub mod Offers
+pub mod Answers
+pub mod Own

@@ -1,0 +1,15 @@
+//! The report of a run as a text: what is said of a history, line by line. Definitions and their law; nothing
+//! here runs.
+#![tactic(auto)]
+
+ghost use Rattle.std.specs.Prelude.{Option};
+ghost use Rattle.fr_history.specs.Setting.{Setting};
+ghost use Rattle.fr_history.specs.History.{History};
+ghost use Rattle.fr_script.specs.declared.gap.Gap.{Gap};
+ghost use Rattle.fr_report.specs.Ended.{IsEnded};
+ghost use Rattle.fr_report.specs.Text.{report_of};
+
+/// A law: the report ends with a line feed.
+pub fn a_report_ends_its_last_line()
+    ensures { (x : Setting) (gap : Option Gap) (h : History) → IsEnded (report_of x gap h) }
+{}

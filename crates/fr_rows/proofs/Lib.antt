@@ -1,0 +1,10 @@
+pub mod Computing
+pub mod Offset
+pub mod Rates
+pub mod OneArbitrary
+pub mod Quiet
+pub mod Lost
+pub mod TwoArbitrary
+pub mod Gaps
+pub mod Sane
+pub mod Settings

@@ -1,0 +1,54 @@
+-- How the nodes of a world stand behind a history.
+use Rattle.std.specs.Prelude.{ℕ, ℤ, Bool, List, [], ◌∷◌, length, map, Option, None, option_and_then, if◌then◌else◌}
+use Rattle.std.specs.List.{range_with_len}
+use Rattle.fr_base.specs.declared.channel.Channel.{Channel}
+use Rattle.fr_base.specs.declared.channel.Channel.TheVariants.{A, B}
+use Rattle.fr_base.specs.declared.dev.Dev.{Dev}
+use Rattle.fr_params.specs.Values.{Values}
+use Rattle.fr_time.specs.Cycles.{is_odd}
+use Rattle.fr_measure.specs.Readings.{Readings, no_readings}
+use Rattle.fr_node.specs.Fits.{limits_of}
+use Rattle.fr_node.specs.View.{NodeView}
+use Rattle.fr_history.specs.Setting.{Setting, correct_nodes}
+use Rattle.fr_history.specs.History.{History}
+use Rattle.fr_history.specs.Lawful.{rate_behind, start_behind}
+use Rattle.fr_history.specs.Terms.{dev_in, key_slot_of, latest_devs, status_in}
+
+-- the deviation that a list records of a node at a key index on a channel
+abbrev pub recorded_at : Values → List Dev → ℕ → Channel → ℕ → Option ℤ
+recorded_at p devs node channel index = option_and_then (λ slot. dev_in devs node slot channel) (key_slot_of p index)
+
+-- a column of a node's table, as a list records it
+abbrev pub column_of : Values → List Dev → ℕ → Channel → List (Option ℤ)
+column_of p devs node channel = map (recorded_at p devs node channel) (range_with_len 0 15)
+
+-- a node's table, as the lists of the two cycles of a double cycle record it
+unfoldable pub readings_of : Values → List Dev → List Dev → ℕ → Readings
+readings_of p evens odds node = record {
+  even_a = column_of p evens node A;
+  even_b = column_of p evens node B;
+  odd_a = column_of p odds node A;
+  odd_b = column_of p odds node B;
+}
+
+-- the table behind a history: it has the deviations of the double cycle of its latest cycle
+unfoldable pub readings_behind : Setting → History → ℕ → Readings
+readings_behind x [] node = no_readings
+readings_behind x (r ∷ h) node =
+    if is_odd (length h) then readings_of x.params (latest_devs h) r.devs node else readings_of x.params r.devs [] node
+
+-- a node behind a history, before its next cycle
+unfoldable pub node_behind : Setting → History → ℕ → NodeView
+node_behind x h node = record {
+  id = node;
+  cycle = length h;
+  length = None;
+  start = start_behind x h node;
+  rate = rate_behind x h node;
+  table = readings_behind x h node;
+  control = record { limits = limits_of x.params; status = status_in x h node };
+}
+
+-- the correct nodes behind a history, in ascending order
+abbrev pub nodes_behind : Setting → History → List NodeView
+nodes_behind x h = map (λ node. node_behind x h node.id) (correct_nodes x)
