@@ -1,7 +1,6 @@
 -- The gaps of each kind, and all of them.
-use Rattle.std.proofs.Common.{◌≡◌, ℕ, zero, suc, ◌+◌, ◌-◌, ◌<◌, ◌≤◌, Bool, true, false, List, [], ◌∷◌, Option, Some, None, ap, sym, ◌∙◌, refl, arith, ◌⊎◌, inl, inr, subst}
+use Rattle.std.proofs.Common.{◌≡◌, ℕ, zero, suc, ◌-◌, ◌<◌, ◌≤◌, true, false, List, [], ◌∷◌, Some, None, ap, sym, ◌∙◌, refl, arith, ◌⊎◌, inl, inr}
 use Rattle.std.specs.Prelude.{pos, ◌-ℤ◌, AllPairs, Contains}
-use Rattle.std.specs.Option.{option_or}
 use Rattle.fr_base.specs.Rows.{rank_of}
 use Rattle.fr_base.specs.declared.channel.Channel.{Channel}
 use Rattle.fr_base.specs.declared.channel.Channel.TheVariants as channel
@@ -14,11 +13,11 @@ use Rattle.fr_drift.specs.Questions.{doubles_of, length_of, delay_of}
 use Rattle.fr_script.specs.View.{ScriptView, is_arbitrary}
 use Rattle.fr_script.specs.First.{first_in}
 use Rattle.fr_script.specs.Links.{is_link, shares, is_carried, link_gap}
-use Rattle.fr_script.specs.Coverage.{cycles_of, check_gap, checks_gap, count_of, outweighs, count_gap, is_off, length_gap, lengths_gap, has_jumped, change_gap, changes_gap, is_wrong, delay_gap, channel_gap, delays_gap, links_gap, first_of_nodes, first_of_pairs, pairs_gap, first_gap}
+use Rattle.fr_script.specs.Coverage.{cycles_of, check_gap, checks_gap, count_of, outweighs, count_gap, is_off, length_gap, lengths_gap, has_jumped, change_gap, changes_gap, is_wrong, delay_gap, channel_gap, delays_gap, links_gap, first_of_nodes, first_of_pairs, first_gap}
 use Rattle.fr_script.specs.Order.{place_of, IsBefore, IsCheckGap, IsCountGap, IsLengthGap, IsChangeGap, IsDelayGap, IsLinkGap, IsGap, IsFirstGap}
 use Rattle.fr_script.specs.declared.gap.Gap.{Gap}
 use Rattle.fr_script.specs.declared.gap.Gap.TheVariants as gap
-use Rattle.fr_script.proofs.Least.{IsLeast, AreApart, Below, Among, AreInOrder, least-same, least-or, least-if, least-unless, least-where, least-where-not, least-below, least-in, in-order, later, under, at-places}
+use Rattle.fr_script.proofs.Least.{IsLeast, AreApart, Below, Among, least-same, least-or, least-if, least-unless, least-where, least-where-not, least-below, least-in, in-order, later, under, at-places}
 use Rattle.fr_script.proofs.Stretches.{stands-still}
 
 -- 1

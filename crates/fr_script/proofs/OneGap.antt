@@ -1,5 +1,5 @@
 -- One gap stands at a place, so the first is the one that is found.
-use Rattle.std.proofs.Common.{◌≡◌, ℕ, ◌<◌, List, [], ◌∷◌, Option, Some, None, ap, sym, ◌∙◌, refl, arith, ◌⊎◌, inl, inr}
+use Rattle.std.proofs.Common.{◌≡◌, Option, Some, None, ap, sym, ◌∙◌, refl, arith, inl, inr}
 use Rattle.std.specs.declared.cmp.Ordering.{Ordering}
 use Rattle.std.specs.declared.cmp.Ordering.TheVariants.{Less, Equal, Greater}
 use Rattle.std.specs.Ordering.{nat_cmp, ordering_reverse}
@@ -14,10 +14,10 @@ use Rattle.fr_params.specs.Sane.{IsSane}
 use Rattle.fr_drift.specs.View.{DriftView}
 use Rattle.fr_script.specs.View.{ScriptView}
 use Rattle.fr_script.specs.Coverage.{first_gap}
-use Rattle.fr_script.specs.Order.{place_of, IsCheckGap, IsCountGap, IsLengthGap, IsChangeGap, IsDelayGap, IsLinkGap, IsGap, IsFirstGap}
+use Rattle.fr_script.specs.Order.{place_of, IsCheckGap, IsLengthGap, IsChangeGap, IsDelayGap, IsLinkGap, IsGap, IsFirstGap}
 use Rattle.fr_script.specs.declared.gap.Gap.{Gap}
 use Rattle.fr_script.proofs.Least.{IsLeast}
-use Rattle.fr_script.proofs.GapParts.{gaps-least, kind_of, numbers_of, place-split, FromCount, FromLength, FromChange, FromDelay, from_count, from_length, from_change, from_delay}
+use Rattle.fr_script.proofs.GapParts.{gaps-least, kind_of, place-split, FromCount, FromLength, FromChange, FromDelay, from_count, from_length, from_change, from_delay}
 
 one-channel : (a b : Channel) → rank_of a ≡ rank_of b → a ≡ b
 one-channel channel.A channel.A e = refl

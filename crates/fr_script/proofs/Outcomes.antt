@@ -27,7 +27,7 @@ use Rattle.fr_params.specs.Questions.{node_of}
 use Rattle.fr_params.specs.Reasons.{or_else, looked_up}
 use Rattle.fr_script.specs.Deeds.{deed_in, passage_cmp, AreAscending, passage_of}
 use Rattle.fr_script.specs.Rows.{row_of}
-use Rattle.fr_script.specs.Reasons.{names, is_named, has_acted, key_slot, node_reason, row_reason, reason_after, acts, bits_of, deed_said, is_on, is_same, is_behind_frame}
+use Rattle.fr_script.specs.Reasons.{names, is_named, has_acted, key_slot, node_reason, row_reason, reason_after, bits_of, deed_said, is_on, is_same, is_behind_frame}
 use Rattle.fr_script.specs.View.{ScriptView, is_arbitrary, deeds_on, deed_of}
 use Rattle.fr_base.specs.Event as event
 use Rattle.fr_script.specs.Events.{event_by, event_of}
