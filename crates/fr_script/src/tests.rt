@@ -71,6 +71,13 @@ const REFUSALS: &[(&[u8], Option<(u64, Reason)>)] = &[
     (b"flip,0,1,2,A,-1,", Some((1, Reason::OutOfRange))),
 ];
 
+/// Accepted records that no refusal of the table has to do with.
+const OTHERS: &[&[u8]] = &[
+    b"lose,9,1,2,A,,\n",
+    b"lose,8,1,2,A,,\n",
+    b"flip,7,2,1,A,0,\n",
+];
+
 /// Records behind `arbitrary,4` and `arbitrary,3`, and the record that is refused with its reason.
 const BEHIND: &[(&[u8], Option<(u64, Reason)>)] = &[
     (b"arbitrary,4,,,,,", Some((3, Reason::Repeated))),
@@ -170,6 +177,28 @@ fn joined(alloc: Global, head: &[u8], tail: &[u8]) -> Result<Vec<u8>, AllocError
     Ok(bytes)
 }
 
+/// The accepted records with a further one at a place, counted from 0.
+fn with_record(alloc: Global, place: usize, record: &[u8]) -> Result<Vec<u8>, AllocError> {
+    let mut bytes = Vec::new(alloc);
+    for (at, line) in OTHERS.iter().enumerate() {
+        if at == place {
+            bytes.extend_from_slice(record)?;
+            bytes.push(b'\n')?;
+        }
+        bytes.extend_from_slice(line)?;
+    }
+    if place == OTHERS.len() {
+        bytes.extend_from_slice(record)?;
+    }
+    Ok(bytes)
+}
+
+/// The refusal with so many accepted records before it.
+fn row_behind(place: usize, refusal: Option<(u64, Reason)>) -> Option<ScriptFault> {
+    let (number, reason) = refusal?;
+    row(Some((number + place as u64, reason)))
+}
+
 fn event(script: &Script, cycle: u32, sender: u8, receiver: u8) -> Event<'_> {
     if sender < 1 || 64 < sender || receiver < 1 || 64 < receiver {
         return Event::Regular;
@@ -181,11 +210,14 @@ fn event(script: &Script, cycle: u32, sender: u8, receiver: u8) -> Event<'_> {
 fn finds_the_least_reason(rt: HostRuntime) -> Result<(), Fail> {
     let params = cluster(rt.alloc(), NODES)?;
     for (text, want) in REFUSALS {
-        assert_eq!(rt;
-            fault_of(rt.alloc(), &params, text),
-            row(*want),
-            "at {text:?}"
-        );
+        for place in [0, 2, 3] {
+            let bytes = with_record(rt.alloc(), place, text)?;
+            assert_eq!(rt;
+                fault_of(rt.alloc(), &params, &bytes),
+                row_behind(place, *want),
+                "at {place} {text:?}"
+            );
+        }
     }
     Ok(())
 }
@@ -194,12 +226,15 @@ fn finds_the_least_reason(rt: HostRuntime) -> Result<(), Fail> {
 fn looks_at_earlier_records(rt: HostRuntime) -> Result<(), Fail> {
     let params = cluster(rt.alloc(), NODES)?;
     for (text, want) in BEHIND {
-        let bytes = joined(rt.alloc(), b"arbitrary,4,,,,,\narbitrary,3,,,,,\n", text)?;
-        assert_eq!(rt;
-            fault_of(rt.alloc(), &params, &bytes),
-            row(*want),
-            "at {text:?}"
-        );
+        let last = joined(rt.alloc(), b"arbitrary,4,,,,,\narbitrary,3,,,,,\n", text)?;
+        let middle = joined(rt.alloc(), &last, b"\nlose,199999,1,2,A,,")?;
+        for bytes in [last, middle] {
+            assert_eq!(rt;
+                fault_of(rt.alloc(), &params, &bytes),
+                row(*want),
+                "at {text:?}"
+            );
+        }
     }
     Ok(())
 }
