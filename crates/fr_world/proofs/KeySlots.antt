@@ -37,9 +37,9 @@ not_found p (y ∷ xs) x none is = by_test (p y) refl is (not_found p xs x)
   where
     by_test : (b : Bool) → p y ≡ b → (x ≡ y) ⊎ Among x xs → (find p xs ≡ None → Among x xs → p x ≡ false) → p x ≡ false
     by_test true passes any rest =
-      let here : find p (y ∷ xs) ≡ Some y = rw passes refl in
-      let found : Some y ≡ None = sym here ∙ none in
-      absurd (cc)
+        let here : find p (y ∷ xs) ≡ Some y = rw passes refl in
+        let found : Some y ≡ None = sym here ∙ none in
+        absurd (cc)
     by_test false fails (inl same) rest = ap p same ∙ fails
     by_test false fails (inr there) rest = let e : find p (y ∷ xs) ≡ find p xs = rw fails refl in rest (sym e ∙ none) there
 

@@ -118,8 +118,9 @@ empty_slot p odd node slot none = by_key (key_index_of p slot) none
   where
     at : Option ℕ → Channel → List Dev
     at k c = option_to_list (option_map (dev_with node.id slot c) (option_and_then (λ index. reading node.table index odd c) k))
+
     by_key : (k : Option ℕ) → is_some k ≡ false →
-      flat_map (λ c. option_to_list (option_map (dev_with node.id slot c) (option_and_then (λ index. reading node.table index odd c) k))) channels ≡ []
+        flat_map (λ c. option_to_list (option_map (dev_with node.id slot c) (option_and_then (λ index. reading node.table index odd c) k))) channels ≡ []
     by_key None is = refl
     by_key (Some index) is = absurd (cc)
 
@@ -131,10 +132,10 @@ node_lists x sane h node is =
     ∙ flat_map_same (λ slot. flat_map (listed_at x.params (is_odd (length h)) (heard_node x h node.id) slot) channels)
     (λ slot. flat_map (stored_at x (length h) (early_rows x h) (early_row x h node.id) slot) channels) (slots_of x)
     (λ slot there.
-      let low : 1 ≤ slot = range_from 1 (amount x.params name.gNumberOfStaticSlots) slot there in
-      let high : slot < 1 + amount x.params name.gNumberOfStaticSlots = range_to 1 (amount x.params name.gNumberOfStaticSlots) slot there in
-      flat_map_same (listed_at x.params (is_odd (length h)) (heard_node x h node.id) slot) (stored_at x (length h) (early_rows x h) (early_row x h node.id) slot) channels
-      (λ c _. listed_is_stored x sane h node is slot c low (omega arith)))
+    let low : 1 ≤ slot = range_from 1 (amount x.params name.gNumberOfStaticSlots) slot there in
+    let high : slot < 1 + amount x.params name.gNumberOfStaticSlots = range_to 1 (amount x.params name.gNumberOfStaticSlots) slot there in
+    flat_map_same (listed_at x.params (is_odd (length h)) (heard_node x h node.id) slot) (stored_at x (length h) (early_rows x h) (early_row x h node.id) slot) channels
+    (λ c _. listed_is_stored x sane h node is slot c low (omega arith)))
 
 -- the deviations that the nodes list are those of the next record
 pub all_listed : (x : Setting) → IsSane x.params → (h : History) → listed_among x.params (is_odd (length h)) (ordered_keys x) (map (λ node. heard_node x h node.id) (correct_nodes x)) ≡ next_devs x h

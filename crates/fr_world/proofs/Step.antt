@@ -68,16 +68,16 @@ find_row e own [] node is = absurd is
 find_row e own (spec ∷ nodes) node is = by_test ((e spec.id).node == node.id) refl is (find_row e own nodes node)
   where
     by_test : (b : Bool) → ((e spec.id).node == node.id) ≡ b → (node ≡ spec) ⊎ Among node nodes → (Among node nodes → find (λ row. row.node == node.id) (map (λ s. e s.id) nodes) ≡ Some (e node.id)) →
-      cond b (Some (e spec.id)) (find (λ row. row.node == node.id) (map (λ s. e s.id) nodes)) ≡ Some (e node.id)
+        cond b (Some (e spec.id)) (find (λ row. row.node == node.id) (map (λ s. e s.id) nodes)) ≡ Some (e node.id)
     by_test true same any rest =
-      let n : (e spec.id).node ≡ node.id = grind arith in
-      let id : spec.id ≡ node.id = sym (own spec.id) ∙ n in
-      ap (λ (k : ℕ). Some (e k)) id
+        let n : (e spec.id).node ≡ node.id = grind arith in
+        let id : spec.id ≡ node.id = sym (own spec.id) ∙ n in
+        ap (λ (k : ℕ). Some (e k)) id
     by_test false other (inl same) rest =
-      let id : (e spec.id).node ≡ node.id = own spec.id ∙ ap (λ (s : NodeSpec). s.id) (sym same) in
-      let equal : ((e spec.id).node == node.id) ≡ true = grind arith in
-      let wrong : true ≡ false = sym equal ∙ other in
-      absurd (cc)
+        let id : (e spec.id).node ≡ node.id = own spec.id ∙ ap (λ (s : NodeSpec). s.id) (sym same) in
+        let equal : ((e spec.id).node == node.id) ≡ true = grind arith in
+        let wrong : true ≡ false = sym equal ∙ other in
+        absurd (cc)
     by_test false other (inr there) rest = rest there
 
 -- a row of the next record
