@@ -1,1 +1,4 @@
 pub mod Lines
+pub mod Skews
+pub mod Holding
+pub mod Ascending

@@ -4,3 +4,6 @@ pub mod Words
 pub mod Covered
 pub mod Text
 pub mod Ended
+pub mod Instants
+pub mod Totals
+pub mod Held

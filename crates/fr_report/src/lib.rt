@@ -2,6 +2,14 @@
 //! here runs.
 #![tactic(auto)]
 
+mod extent;
+mod report;
+mod rows;
+mod sums;
+mod sweep;
+
+pub use report::Report;
+
 ghost use Rattle.std.specs.Prelude.{Option};
 ghost use Rattle.fr_history.specs.Setting.{Setting};
 ghost use Rattle.fr_history.specs.History.{History};
