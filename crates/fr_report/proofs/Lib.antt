@@ -2,3 +2,4 @@ pub mod Lines
 pub mod Skews
 pub mod Holding
 pub mod Ascending
+pub mod Crcs

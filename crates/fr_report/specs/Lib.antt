@@ -7,3 +7,4 @@ pub mod Ended
 pub mod Instants
 pub mod Totals
 pub mod Held
+pub mod Puts

@@ -1,5 +1,6 @@
 -- Sums of counts, added up cycle by cycle.
-use Rattle.std.specs.Prelude.{ℕ, ◌+◌, ◌≤◌, bit_xor}
+use Rattle.std.specs.Prelude.{ℕ, ◌+◌, ◌≤◌, ◌++◌, List, bit_xor, codes}
+use Rattle.std.specs.Fmt.{decimal}
 use Rattle.fr_base.specs.declared.cycle_row.Counts.{Counts}
 use Rattle.fr_history.specs.History.{History}
 use Rattle.fr_report.specs.Sums.{total_of, xor_of}
@@ -47,3 +48,14 @@ pub record AreWithin (most : ℕ) (counts : Counts) : Type 0 where
   pub wrong_cycle : counts.wrong_cycle ≤ most
   pub wrong_length : counts.wrong_length ≤ most
   pub plain : counts.plain ≤ most
+
+-- what receivers made of so many frames
+abbrev pub heard_words : Counts → List ℕ
+heard_words sums =
+    codes "heard stored " ++ decimal sums.stored
+    ++ codes " outside " ++ decimal sums.outside
+    ++ codes " damaged " ++ decimal sums.damaged
+    ++ codes " id " ++ decimal sums.wrong_id
+    ++ codes " cycle " ++ decimal sums.wrong_cycle
+    ++ codes " length " ++ decimal sums.wrong_length
+    ++ codes " plain " ++ decimal sums.plain

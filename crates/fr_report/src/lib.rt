@@ -3,8 +3,12 @@
 #![tactic(auto)]
 
 mod extent;
+mod frame_lines;
+mod node_lines;
+mod number;
 mod report;
 mod rows;
+mod run_lines;
 mod sums;
 mod sweep;
 
