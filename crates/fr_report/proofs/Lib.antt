@@ -3,3 +3,5 @@ pub mod Skews
 pub mod Holding
 pub mod Ascending
 pub mod Crcs
+pub mod Putting
+pub mod KeySlots

@@ -8,3 +8,4 @@ pub mod Instants
 pub mod Totals
 pub mod Held
 pub mod Puts
+pub mod Cluster

@@ -2,6 +2,7 @@
 //! here runs.
 #![tactic(auto)]
 
+mod counting;
 mod extent;
 mod frame_lines;
 mod node_lines;
@@ -11,6 +12,7 @@ mod rows;
 mod run_lines;
 mod sums;
 mod sweep;
+mod writing;
 
 pub use report::Report;
 
