@@ -5,3 +5,5 @@ pub mod Ascending
 pub mod Crcs
 pub mod Putting
 pub mod KeySlots
+pub mod ClockLines
+pub mod Telling

@@ -9,3 +9,5 @@ pub mod Totals
 pub mod Held
 pub mod Puts
 pub mod Cluster
+pub mod Clocks
+pub mod Told

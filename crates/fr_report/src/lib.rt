@@ -2,6 +2,7 @@
 //! here runs.
 #![tactic(auto)]
 
+mod clocks;
 mod counting;
 mod extent;
 mod frame_lines;
@@ -14,6 +15,7 @@ mod sums;
 mod sweep;
 mod writing;
 
+pub use clocks::{Clock, Clocks};
 pub use report::Report;
 
 ghost use Rattle.std.specs.Prelude.{Option};

@@ -1,14 +1,22 @@
 ghost use Rattle.std.specs.Prelude.{◌≡◌, ◌≤◌, ◌+◌, ◌++◌, length, codes};
 ghost use Rattle.std.specs.Fmt.{decimal, signed_decimal};
+ghost use Rattle.fr_report.specs.Clocks.{clock_text};
 ghost use Rattle.fr_report.specs.Words.{line, state_text};
 
+use crate::clocks::Clock;
 use crate::number::{show_number, show_signed};
 use fr_base::{LINE_ROOM, Line, NodeId, State};
 
 /// A correct node: the state, the start in ticks and the rate term in microticks that hold for its next
 /// cycle, and the offset term of the last odd one in microticks.
-pub(crate) fn node_line(id: NodeId, state: State, start: i64, rate: i32, offset: i32) -> Line
-    ensures { result ≡ line (codes "node " ++ decimal id ++ codes " " ++ state_text state ++ codes " next " ++ signed_decimal start ++ codes " rate " ++ signed_decimal rate ++ codes " offset " ++ signed_decimal offset) }
+pub(crate) fn node_line(id: NodeId, clock: Clock, offset: i32) -> Line
+    ensures { result ≡ line (clock_text id clock offset) }
+{
+    line_of(id, clock.state, clock.start, clock.rate, offset)
+}
+
+fn line_of(id: NodeId, state: State, start: i64, rate: i32, offset: i32) -> Line
+    ensures { result ≡ line (clock_text id (record { state = state; start = start; rate = rate }) offset) }
 {
     let mut line = Line::new();
     show_state(&mut line, id, state);

@@ -7,16 +7,25 @@ ghost use Rattle.fr_history.specs.History.{History};
 ghost use Rattle.fr_history.specs.Recorded.{recorded};
 ghost use Rattle.fr_history.specs.Skew.{IsGreatestSkew};
 ghost use Rattle.fr_history.specs.Sync.{IsFirstInSync, IsInSyncAt};
+ghost use Rattle.fr_history.specs.Setting.{Setting};
+ghost use Rattle.fr_report.specs.Clocks.{AreBehind, IsRunOf};
+ghost use Rattle.fr_report.specs.Covered.{gap_of};
+ghost use Rattle.fr_report.specs.Puts.{sunk, Puts};
+ghost use Rattle.fr_report.specs.Text.{report_of};
+ghost use Rattle.fr_report.specs.Told.{told_text};
 ghost use Rattle.fr_report.specs.Held.{next_sync, Holds};
 ghost use Rattle.fr_report.specs.Instants.{IsPlacedRow};
 ghost use Rattle.fr_report.specs.Totals.{AreWithin};
 
+use crate::clocks::{Clocks, put_nodes};
 use crate::rows::{is_odd, keep};
 use crate::sums::{NO_COUNTS, cuts, sum};
 use crate::sweep::{Peak, swept};
-use fr_base::{Counts, CycleRow, RowList};
+use crate::writing::{put_clocks, put_cluster, put_frames};
+use fr_base::{Counts, CycleRow, PutFault, RowList, Sink};
 use fr_bound::in_sync;
 use fr_params::Params;
+use fr_script::{Gap, Script};
 use std::marker::Model;
 
 /// What is told of a run, gathered cycle by cycle: it keeps no history.
@@ -75,6 +84,42 @@ impl Report {
         self.sums = sum(&self.sums, &row.counts);
         self.cut += cuts(rows);
         self.added += 1;
+    }
+
+    /// Writes the report of a run of these parameters and this script over so many double cycles, whose history
+    /// it holds: with its first gap, if it is not covered, and with the clocks behind it. Each line is one put.
+    /// A fault comes only where the sink counted it, and then a front of the text was put.
+    pub fn write_run<C: Clocks, O: Sink>(
+        &self,
+        params: &Params,
+        script: &Script,
+        doubles: u32,
+        gap: &Result<(), Gap>,
+        clocks: &C,
+        out: &mut O,
+    ) -> Result<(), PutFault>
+        ensures { (x : Setting) (h : History) → IsRunOf x params.now script.now doubles → AreBehind x h (C.clock clocks.now) → Holds params.now self.now h →
+            Puts result (sunk (O.written out.old) (O.faults out.old)) (sunk (O.written out.new) (O.faults out.new)) (report_of x (gap_of gap.now) h) }
+    {
+        self.put_all(params, script, doubles, gap, clocks, out)
+    }
+
+    fn put_all<C: Clocks, O: Sink>(
+        &self,
+        params: &Params,
+        script: &Script,
+        doubles: u32,
+        gap: &Result<(), Gap>,
+        clocks: &C,
+        out: &mut O,
+    ) -> Result<(), PutFault>
+        ensures { Puts result (sunk (O.written out.old) (O.faults out.old)) (sunk (O.written out.new) (O.faults out.new))
+            (told_text params.now script.now doubles (gap_of gap.now) self.now (C.clock clocks.now)) }
+    {
+        put_cluster(params, script, doubles, gap, out)?;
+        put_clocks(self.synced, self.greatest, out)?;
+        put_frames(&self.sums, self.cut, out)?;
+        put_nodes(params, clocks, &self.odd, out)
     }
 
     /// The greatest skew so far in ticks, and the cycle and the macrotick at which it first occurs.
