@@ -1,5 +1,4 @@
-//! The report of a run as a text: what is said of a history, line by line. Definitions and their law; nothing
-//! here runs.
+//! The report of a run: what is told of a history as a text, line by line, and what gathers it cycle by cycle.
 #![tactic(auto)]
 
 mod clocks;
