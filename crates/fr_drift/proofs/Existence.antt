@@ -16,7 +16,7 @@ use Rattle.fr_records.proofs.Cuts.{none-or-first-refused}
 use Rattle.fr_params.specs.Values.{Values}
 use Rattle.fr_params.specs.Questions.{compensation_of}
 use Rattle.fr_params.specs.Reasons.{or_else, looked_up}
-use Rattle.fr_drift.specs.Keys.{delay_cmp, delay_key, length_cmp, length_key}
+use Rattle.fr_drift.specs.Keys.{delay_cmp, delay_key, found_at, length_cmp, length_key}
 use Rattle.fr_drift.specs.Rows.{row_of}
 use Rattle.fr_drift.specs.Reasons.{reason_after, doubles_at, delay_at, start_in, length_in, delay_in, is_channel, is_delay_of}
 use Rattle.fr_drift.specs.View.{DriftView, compensation_on, delay_rows}
@@ -30,7 +30,7 @@ use Rattle.fr_drift.specs.declared.rows.Row.TheVariants as row
 use Rattle.fr_drift.specs.declared.fault.DriftFault.{DriftFault}
 use Rattle.fr_drift.specs.declared.fault.DriftFault.TheVariants as fault
 use Rattle.fr_drift.proofs.Tables.{delay-ties, length-ties, start-ties}
-use Rattle.fr_drift.proofs.Making.{delay_total, length_total}
+use Rattle.fr_drift.proofs.Making.{delay_total, found-entries, length_total, sorted-entries}
 
 -- what the records say of each key, as a finite map: a record says something of one key at most
 module _ {K V : Type 0} {R : K → K → Ordering} (total : IsTotalOrder R) (said : K → Result Row Reason → Option V) (one : Result Row Reason → Option (K × V))
@@ -123,37 +123,58 @@ delay-says ch key (Ok (row.Length l)) = refl
 delay-says ch key (Ok (row.Delay d)) = delay-says-if (is_channel ch d.channel) d key
 delay-says ch key (Err why) = refl
 
+-- what the records say, as finite maps
+starts_told : List Record → FinMap nat_cmp Start
+starts_told records = gathered nat_cmp_total start_in start_entry start-says records
+
+lengths_told : List Record → FinMap length_cmp ℤ
+lengths_told records = gathered length_total (λ key x. length_in key.node key.from x) length_entry length-says records
+
+delays_told : Channel → List Record → FinMap delay_cmp ℤ
+delays_told ch records = gathered delay_total (λ key x. delay_in key.sender key.receiver ch key.from x) (delay_entry ch) (delay-says ch) records
+
 -- the drift that records stand for
 drift_told : Values → ℕ → List Record → DriftView
 drift_told p n records = record {
   doubles = n;
   compensation_a = compensation_of p channel.A;
   compensation_b = compensation_of p channel.B;
-  starts = gathered nat_cmp_total start_in start_entry start-says records;
-  lengths = gathered length_total (λ key x. length_in key.node key.from x) length_entry length-says records;
-  delays_a = gathered delay_total (λ key x. delay_in key.sender key.receiver channel.A key.from x) (delay_entry channel.A) (delay-says channel.A) records;
-  delays_b = gathered delay_total (λ key x. delay_in key.sender key.receiver channel.B key.from x) (delay_entry channel.B) (delay-says channel.B) records;
+  starts = map.entries (starts_told records);
+  lengths = map.entries (lengths_told records);
+  delays_a = map.entries (delays_told channel.A records);
+  delays_b = map.entries (delays_told channel.B records);
 }
 
 stands-told : (p : Values) (n : ℕ) (records : List Record) → doubles_at records ≡ Some n → StandsFor p (drift_told p n records) records
-unfolding drift_told
+unfolding drift_told starts_told lengths_told delays_told
 stands-told p n records e = record {
   doubles = e;
   compensation = λ ch. compensations ch;
-  starts = λ node. get-gathered nat_cmp_total start_in start_entry start-says records node;
-  lengths = λ node from. get-gathered length_total (λ key x. length_in key.node key.from x) length_entry length-says records (length_key node from);
+  starts = λ node. found-entries (starts_told records) node ∙ get-gathered nat_cmp_total start_in start_entry start-says records node;
+  lengths = λ node from.
+      found-entries (lengths_told records) (length_key node from)
+      ∙ get-gathered length_total (λ key x. length_in key.node key.from x) length_entry length-says records (length_key node from);
   delays = λ sender receiver ch from. delays sender receiver ch from;
+  order = record {
+    starts = sorted-entries (starts_told records);
+    lengths = sorted-entries (lengths_told records);
+    delays_a = sorted-entries (delays_told channel.A records);
+    delays_b = sorted-entries (delays_told channel.B records);
+  };
 }
   where
     compensations : (ch : Channel) → compensation_on (drift_told p n records) ch ≡ compensation_of p ch
     compensations channel.A = refl
     compensations channel.B = refl
 
+    told : (ch : Channel) (sender receiver from : ℕ) → found_at delay_cmp (map.entries (delays_told ch records)) (delay_key sender receiver from) ≡ delay_at sender receiver ch from records
+    told ch sender receiver from =
+        found-entries (delays_told ch records) (delay_key sender receiver from)
+        ∙ get-gathered delay_total (λ key x. delay_in key.sender key.receiver ch key.from x) (delay_entry ch) (delay-says ch) records (delay_key sender receiver from)
+
     delays : (sender receiver : ℕ) (ch : Channel) (from : ℕ) → delay_rows (drift_told p n records) sender receiver ch from ≡ delay_at sender receiver ch from records
-    delays sender receiver channel.A from =
-        get-gathered delay_total (λ key x. delay_in key.sender key.receiver channel.A key.from x) (delay_entry channel.A) (delay-says channel.A) records (delay_key sender receiver from)
-    delays sender receiver channel.B from =
-        get-gathered delay_total (λ key x. delay_in key.sender key.receiver channel.B key.from x) (delay_entry channel.B) (delay-says channel.B) records (delay_key sender receiver from)
+    delays sender receiver channel.A from = told channel.A sender receiver from
+    delays sender receiver channel.B from = told channel.B sender receiver from
 
 -- a file is accepted, or it is refused for a cause
 pub reads-some : (p : Values) (bytes : List ℕ) → (answer : Result DriftView DriftFault) × (answer ≢ Err fault.NoMemory) × Reads p bytes answer

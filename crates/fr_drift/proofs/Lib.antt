@@ -5,3 +5,4 @@ pub mod Lines
 pub mod Limits
 pub mod Outcomes
 pub mod Existence
+pub mod Worked

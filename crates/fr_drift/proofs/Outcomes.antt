@@ -1,7 +1,7 @@
 -- What reading a file may answer is one answer, but for want of memory.
 use Rattle.std.proofs.Common.{◌≡◌, ◌≢◌, ℕ, List, Some, None, Result, Ok, Err, ap, sym, ◌∙◌, refl}
 use Rattle.std.specs.Ordering.{nat_cmp}
-use Rattle.std.specs.FinMap.{IsAntisymmetric, nat_cmp-IsAntisymmetric, same_map}
+use Rattle.std.specs.FinMap.{IsAntisymmetric, nat_cmp-IsAntisymmetric}
 use Rattle.std.proofs.lemmas.Cmp.{nat_cmp_total}
 use Rattle.std.proofs.lemmas.Map.Lookups.{exact_pairs, exact_unsigned}
 use Rattle.fr_base.specs.declared.channel.Channel.TheVariants as channel
@@ -16,7 +16,7 @@ use Rattle.fr_drift.specs.View.{DriftView}
 use Rattle.fr_drift.specs.Files.{StandsFor, Reads}
 use Rattle.fr_drift.specs.declared.fault.DriftFault.{DriftFault}
 use Rattle.fr_drift.specs.declared.fault.DriftFault.TheVariants as fault
-use Rattle.fr_drift.proofs.Making.{delay_total, length_total}
+use Rattle.fr_drift.proofs.Making.{delay_total, length_total, same-rows}
 
 some-same : {A : Type 0} (x y : A) → Some x ≡ Some y → x ≡ y
 some-same x y e = cc e
@@ -57,19 +57,19 @@ stands-same p d e records f g = λ i. record {
     b = f.compensation channel.B ∙ sym (g.compensation channel.B)
 
     starts : d.starts ≡ e.starts
-    starts = same_map nat_cmp_total nat_cmp-IsAntisymmetric d.starts e.starts (λ node. f.starts node ∙ sym (g.starts node))
+    starts = same-rows nat_cmp_total nat_cmp-IsAntisymmetric d.starts e.starts f.order.starts g.order.starts (λ node. f.starts node ∙ sym (g.starts node))
 
     lengths : d.lengths ≡ e.lengths
-    lengths = same_map length_total length_exact d.lengths e.lengths (λ key. f.lengths key.node key.from ∙ sym (g.lengths key.node key.from))
+    lengths = same-rows length_total length_exact d.lengths e.lengths f.order.lengths g.order.lengths (λ key. f.lengths key.node key.from ∙ sym (g.lengths key.node key.from))
 
     delays_a : d.delays_a ≡ e.delays_a
     delays_a =
-        same_map delay_total delay_exact d.delays_a e.delays_a
+        same-rows delay_total delay_exact d.delays_a e.delays_a f.order.delays_a g.order.delays_a
         (λ key. f.delays key.sender key.receiver channel.A key.from ∙ sym (g.delays key.sender key.receiver channel.A key.from))
 
     delays_b : d.delays_b ≡ e.delays_b
     delays_b =
-        same_map delay_total delay_exact d.delays_b e.delays_b
+        same-rows delay_total delay_exact d.delays_b e.delays_b f.order.delays_b g.order.delays_b
         (λ key. f.delays key.sender key.receiver channel.B key.from ∙ sym (g.delays key.sender key.receiver channel.B key.from))
 
 refused-none : (p : Values) (records : List Record) (n : ℕ) (why : Reason) → FirstRefused (reason_after p) records n why → NoneRefused (reason_after p) records → ⊥

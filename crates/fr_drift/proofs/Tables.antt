@@ -4,7 +4,7 @@ use Rattle.std.specs.Prelude.{◌==◌, ◌&&◌, IfOk, IfSome}
 use Rattle.std.specs.Ordering.{nat_cmp, ordering_then, is_eq}
 use Rattle.std.specs.declared.cmp.Ordering.{Ordering}
 use Rattle.std.specs.declared.cmp.Ordering.TheVariants.{Less, Equal, Greater}
-use Rattle.std.specs.BTreeMap.{BTreeMap, get, is_at}
+use Rattle.std.specs.BTreeMap.{BTreeMap, IsOrdered, get, is_at}
 use Rattle.std.proofs.lemmas.Bool.Decides.{nat_tests}
 use Rattle.fr_base.specs.declared.channel.Channel.{Channel}
 use Rattle.fr_base.specs.declared.channel.Channel.TheVariants as channel
@@ -117,6 +117,10 @@ draft-doubles d done r n h e proper empty = record {
     lengths = h.proper.lengths;
     delays_a = h.proper.delays_a;
     delays_b = h.proper.delays_b;
+    starts_ordered = h.proper.starts_ordered;
+    lengths_ordered = h.proper.lengths_ordered;
+    delays_a_ordered = h.proper.delays_a_ordered;
+    delays_b_ordered = h.proper.delays_b_ordered;
   };
 }
 
@@ -138,6 +142,10 @@ draft-start d new done r s h e proper put = record {
     lengths = h.proper.lengths;
     delays_a = h.proper.delays_a;
     delays_b = h.proper.delays_b;
+    starts_ordered = put.ordered;
+    lengths_ordered = h.proper.lengths_ordered;
+    delays_a_ordered = h.proper.delays_a_ordered;
+    delays_b_ordered = h.proper.delays_b_ordered;
   };
 }
   where
@@ -164,6 +172,10 @@ draft-length d new done r l h e proper put = record {
         still IsProperLength ((l.node == key.node) && (l.from == key.from)) l.ticks (get length_cmp new key) (get length_cmp d.lengths key) (value key.node key.from) proper (h.proper.lengths key);
     delays_a = h.proper.delays_a;
     delays_b = h.proper.delays_b;
+    starts_ordered = h.proper.starts_ordered;
+    lengths_ordered = put.ordered;
+    delays_a_ordered = h.proper.delays_a_ordered;
+    delays_b_ordered = h.proper.delays_b_ordered;
   };
 }
   where
@@ -231,6 +243,10 @@ draft-delay_a t new done r d h e on proper put = record {
     lengths = h.proper.lengths;
     delays_a = λ key. put-proper channel.A t.delays_a new done r d h.delays_a put proper key (h.proper.delays_a key);
     delays_b = h.proper.delays_b;
+    starts_ordered = h.proper.starts_ordered;
+    lengths_ordered = h.proper.lengths_ordered;
+    delays_a_ordered = put.ordered;
+    delays_b_ordered = h.proper.delays_b_ordered;
   };
 }
 
@@ -255,12 +271,17 @@ draft-delay_b t new done r d h e on proper put = record {
     lengths = h.proper.lengths;
     delays_a = h.proper.delays_a;
     delays_b = λ key. put-proper channel.B t.delays_b new done r d h.delays_b put proper key (h.proper.delays_b key);
+    starts_ordered = h.proper.starts_ordered;
+    lengths_ordered = h.proper.lengths_ordered;
+    delays_a_ordered = h.proper.delays_a_ordered;
+    delays_b_ordered = put.ordered;
   };
 }
 
 -- tables of nothing
-pub draft-nil : (d : Draft) → d.doubles ≡ None → d.starts.entries ≡ [] → d.lengths.entries ≡ [] → d.delays_a.entries ≡ [] → d.delays_b.entries ≡ [] → IsDraftOf d []
-draft-nil d n s l a b = record {
+pub draft-nil : (d : Draft) → d.doubles ≡ None → d.starts.entries ≡ [] → d.lengths.entries ≡ [] → d.delays_a.entries ≡ [] → d.delays_b.entries ≡ []
+    → IsOrdered nat_cmp d.starts → IsOrdered length_cmp d.lengths → IsOrdered delay_cmp d.delays_a → IsOrdered delay_cmp d.delays_b → IsDraftOf d []
+draft-nil d n s l a b so lo ao bo = record {
   doubles = n ∙ sym (looked_up-nil (λ q. doubles_in (row_of q)));
   starts = λ node. rw s (sym (looked_up-nil (λ q. start_in node (row_of q))));
   lengths = λ node from. rw l (sym (looked_up-nil (λ q. length_in node from (row_of q))));
@@ -272,6 +293,10 @@ draft-nil d n s l a b = record {
     lengths = λ key. rw l tt;
     delays_a = λ key. rw a tt;
     delays_b = λ key. rw b tt;
+    starts_ordered = so;
+    lengths_ordered = lo;
+    delays_a_ordered = ao;
+    delays_b_ordered = bo;
   };
 }
 

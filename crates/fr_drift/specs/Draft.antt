@@ -2,7 +2,7 @@
 use Rattle.std.specs.Prelude.{ℕ, ◌≡◌, List, Some, None, IfSome, if◌then◌else◌}
 use Rattle.std.specs.declared.cmp.Ordering.{Ordering}
 use Rattle.std.specs.Ordering.{nat_cmp}
-use Rattle.std.specs.BTreeMap.{BTreeMap, get, is_at}
+use Rattle.std.specs.BTreeMap.{BTreeMap, IsOrdered, get, is_at}
 use Rattle.fr_base.specs.declared.channel.Channel.TheVariants as channel
 use Rattle.fr_records.specs.Records.{Record}
 use Rattle.fr_drift.specs.Keys.{delay_cmp, delay_key, length_cmp, length_key}
@@ -15,15 +15,20 @@ use Rattle.fr_drift.specs.declared.keys.LengthKey.{LengthKey}
 -- a value is put under a key that had none, and all else stays
 pub record IsPut {K V : Type 0} (cmp : K → K → Ordering) (old new : BTreeMap K V) (key : K) (value : V) : Type 0 where
   pub empty : get cmp old key ≡ None
+  pub ordered : IsOrdered cmp new
   pub filled : (q : K) → get cmp new q ≡ (if is_at (cmp key) q then Some value else get cmp old q)
 
--- nothing in the tables is out of range
+-- nothing in the tables is out of range or out of order
 pub record AreProper (draft : Draft) : Type 0 where
   pub count : IfSome draft.doubles IsProperCount
   pub starts : (node : ℕ) → IfSome (get nat_cmp draft.starts node) IsProperStart
   pub lengths : (key : LengthKey) → IfSome (get length_cmp draft.lengths key) IsProperLength
   pub delays_a : (key : DelayKey) → IfSome (get delay_cmp draft.delays_a key) IsProperDelay
   pub delays_b : (key : DelayKey) → IfSome (get delay_cmp draft.delays_b key) IsProperDelay
+  pub starts_ordered : IsOrdered nat_cmp draft.starts
+  pub lengths_ordered : IsOrdered length_cmp draft.lengths
+  pub delays_a_ordered : IsOrdered delay_cmp draft.delays_a
+  pub delays_b_ordered : IsOrdered delay_cmp draft.delays_b
 
 -- the tables hold what the records say, and nothing out of range
 pub record IsDraftOf (draft : Draft) (records : List Record) : Type 0 where

@@ -1,24 +1,35 @@
 -- What a drift file stands for, and why it is refused.
-use Rattle.std.specs.Prelude.{ℕ, ℤ, neg_ℤ, ◌≤ℤ◌, ◌≡◌, List, Some, None, Result, Ok, Err, ⊤}
-use Rattle.std.specs.FinMap as map
+use Rattle.std.specs.Prelude.{ℕ, ℤ, neg_ℤ, ◌≤ℤ◌, ◌≡◌, List, true, Some, None, Result, Ok, Err, ⊤}
+use Rattle.std.specs.FinMap.{is_sorted}
+use Rattle.std.specs.Ordering.{nat_cmp}
 use Rattle.fr_base.specs.declared.channel.Channel.{Channel}
 use Rattle.fr_records.specs.Records.{Record, records_of}
 use Rattle.fr_records.specs.Refusal.{NoneRefused, FirstRefused}
 use Rattle.fr_params.specs.Values.{Values}
 use Rattle.fr_params.specs.Questions.{compensation_of}
+use Rattle.fr_drift.specs.Keys.{delay_cmp, length_cmp}
 use Rattle.fr_drift.specs.Reasons.{doubles_at, start_at, length_at, delay_at, reason_after}
-use Rattle.fr_drift.specs.View.{DriftView, compensation_on, length_rows, delay_rows}
+use Rattle.fr_drift.specs.View.{DriftView, compensation_on, delay_rows, length_rows, start_rows}
 use Rattle.fr_drift.specs.declared.fault.DriftFault.{DriftFault}
 use Rattle.fr_drift.specs.declared.fault.DriftFault.TheVariants as fault
 
+-- the rows stand in the order of their keys, each once
+pub record AreInOrder (d : DriftView) : Type 0 where
+  pub starts : is_sorted nat_cmp d.starts ≡ true
+  pub lengths : is_sorted length_cmp d.lengths ≡ true
+  pub delays_a : is_sorted delay_cmp d.delays_a ≡ true
+  pub delays_b : is_sorted delay_cmp d.delays_b ≡ true
+
 -- the drift is what the records say: its number of double cycles is that of their one row, its starts, lengths and delays
--- are those of their rows, and it keeps the compensation that these parameters answer for each channel
+-- are those of their rows, in the order of their keys, and it keeps the compensation that these parameters answer for each
+-- channel
 pub record StandsFor (p : Values) (d : DriftView) (records : List Record) : Type 0 where
   pub doubles : doubles_at records ≡ Some d.doubles
   pub compensation : (ch : Channel) → compensation_on d ch ≡ compensation_of p ch
-  pub starts : (node : ℕ) → map.get d.starts node ≡ start_at node records
+  pub starts : (node : ℕ) → start_rows d node ≡ start_at node records
   pub lengths : (node from : ℕ) → length_rows d node from ≡ length_at node from records
   pub delays : (sender receiver : ℕ) (ch : Channel) (from : ℕ) → delay_rows d sender receiver ch from ≡ delay_at sender receiver ch from records
+  pub order : AreInOrder d
 
 -- a drift fits parameters where there is a list of records that is accepted against them and that stands for it
 pub record Fits (p : Values) (d : DriftView) : Type 0 where

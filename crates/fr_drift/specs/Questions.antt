@@ -1,10 +1,9 @@
 -- What the questions to a drift file answer.
 use Rattle.std.specs.Prelude.{ℕ, ℤ, pos, ◌*ℤ◌, unwrap_or}
 use Rattle.std.specs.Option.{option_map_or}
-use Rattle.std.specs.FinMap as map
 use Rattle.fr_base.specs.declared.channel.Channel.{Channel}
 use Rattle.fr_drift.specs.Held.{held}
-use Rattle.fr_drift.specs.View.{DriftView, compensation_on, delay_rows, length_rows}
+use Rattle.fr_drift.specs.View.{DriftView, compensation_on, delay_rows, length_rows, start_rows}
 
 -- how many double cycles the run has
 unfoldable pub doubles_of : DriftView → ℕ
@@ -12,11 +11,11 @@ doubles_of d = d.doubles
 
 -- the tick at which a node's first cycle starts, 0 where no row says it
 unfoldable pub start_of : DriftView → ℕ → ℤ
-start_of d node = option_map_or (λ s. s.ticks) (map.get d.starts node) (pos 0)
+start_of d node = option_map_or (λ s. s.ticks) (start_rows d node) (pos 0)
 
 -- its first rate term in microticks, 0 where no row says it
 unfoldable pub rate_of : DriftView → ℕ → ℤ
-rate_of d node = option_map_or (λ s. s.rate) (map.get d.starts node) (pos 0)
+rate_of d node = option_map_or (λ s. s.rate) (start_rows d node) (pos 0)
 
 -- how many ticks a node's microtick lasts in a cycle: by the row that holds, and nominal where none does
 unfoldable pub length_of : DriftView → ℕ → ℕ → ℤ

@@ -1,11 +1,10 @@
 ghost use Rattle.std.specs.Prelude.{◌≡◌, ◌≤◌, ◌<◌, ◌≤ℤ◌, ℕ, pos, negsuc, List, Some, IsSome, IfSome};
 ghost use Rattle.std.specs.BTreeMap.{get};
-ghost use Rattle.std.specs.FinMap as map;
 ghost use Rattle.fr_records.specs.Records.{Record};
 ghost use Rattle.fr_params.specs.Values.{Values};
 ghost use Rattle.fr_params.specs.Sane.{IsSane};
 ghost use Rattle.fr_drift.specs.Keys.{delay_cmp, delay_key};
-ghost use Rattle.fr_drift.specs.View.{compensation_on, delay_rows, length_rows};
+ghost use Rattle.fr_drift.specs.View.{compensation_on, delay_rows, length_rows, start_rows};
 ghost use Rattle.fr_drift.specs.declared.keys.DelayKey.{DelayKey as Key};
 ghost use Rattle.fr_drift.specs.Held.{held};
 ghost use Rattle.fr_drift.specs.Rows.{IsProperDelay, IsProperLength, IsProperStart};
@@ -172,7 +171,7 @@ impl Drift {
     }
 
     fn start_row(&self, node: NodeId) -> Option<Start>
-        ensures told { result ≡ map.get self.now.starts node }
+        ensures told { result ≡ start_rows self.now node }
         ensures proper { IfSome result IsProperStart }
     {
         match self.starts.get(&node) {

@@ -1,13 +1,13 @@
 -- The law of two receivers, both sides computed: six correct nodes and two arbitrary ones, of which one receiver hears
 -- one alone. It has seven values and discards one at each end, the other has eight and discards two.
-use Rattle.std.proofs.Common.{◌≡◌, ℤ, pos, negsuc, List, [], ◌∷◌, ◌++◌, refl, lit≤, lit<}
+use Rattle.std.proofs.Common.{◌≡◌, ◌+◌, ℤ, pos, negsuc, List, [], ◌∷◌, ◌++◌, refl, lit≤, lit<}
 use Rattle.std.specs.Prelude.{All, ◌+ℤ◌, ◌-ℤ◌, ◌*ℤ◌, ◌≤ℤ◌}
 use Rattle.std.proofs.lemmas.Int.{ints}
 use Rattle.std.proofs.Common.{arith}
 use Rattle.std.proofs.lemmas.List.Elements.{All-replicate}
 use Rattle.std.proofs.lemmas.List.Sorted.{IsPermutation-refl}
 use Rattle.fr_midpoint.specs.Within.{IsWithin}
-use Rattle.fr_midpoint.specs.Midpoint.{IsMidpoint}
+use Rattle.fr_midpoint.specs.Midpoint.{discarded, IsMidpoint}
 use Rattle.fr_midpoint.specs.Receivers.{place_at, place_of, IsPlaced, Receiver, Receives, ShareOne}
 use Rattle.fr_midpoint.proofs.Agreement.{two_receivers_lem, one_receiver_lem}
 
@@ -165,3 +165,34 @@ reached :
     (pos 2 *ℤ (place_at late (negsuc 0) -ℤ place_at early (pos 3)) ≡ pos 4)
     × (pos 2 +ℤ (pos 2 *ℤ (pos 0 +ℤ pos 0)) +ℤ (pos 2 *ℤ pos 1) ≡ pos 4)
 reached = (refl, refl)
+
+-- two correct nodes beside an arbitrary one are too few: two lists of three values may keep no correct one in common; and
+-- so are five beside two: a list of seven discards one at each end, though two are arbitrary
+too_few : (discarded (2 + 1) + discarded (2 + 1) + 1 ≡ 3) × (discarded (5 + 2) ≡ 1)
+too_few = (refl, refl)
+
+-- then the bound does not hold: each receiver has the two correct positions, 0 and 10, and one arbitrary value, which
+-- leaves the one of them or the other
+moved_down : IsMidpoint (pos 0 ∷ pos 10 ∷ negsuc 99 ∷ []) (pos 0)
+moved_down = record {
+  low = pos 0;
+  high = pos 0;
+  least = record { few_below = lit≤ tt; more_up_to = lit< tt };
+  greatest = record { few_above = lit≤ tt; more_from = lit< tt };
+  half = refl;
+}
+
+moved_up : IsMidpoint (pos 0 ∷ pos 10 ∷ pos 100 ∷ []) (pos 10)
+moved_up = record {
+  low = pos 10;
+  high = pos 10;
+  least = record { few_below = lit≤ tt; more_up_to = lit< tt };
+  greatest = record { few_above = lit≤ tt; more_from = lit< tt };
+  half = refl;
+}
+
+-- twice their distance is above the spread of 10 and two units
+passed :
+    (pos 2 *ℤ (place_of (pos 0) (pos 1) (pos 10) -ℤ place_of (pos 0) (pos 1) (pos 0)) ≡ pos 20)
+    × (pos 10 +ℤ (pos 2 *ℤ (pos 0 +ℤ pos 0)) +ℤ (pos 2 *ℤ pos 1) ≡ pos 12)
+passed = (refl, refl)

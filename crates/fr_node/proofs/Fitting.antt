@@ -8,7 +8,7 @@ use Rattle.fr_params.specs.Values.{Values}
 use Rattle.fr_params.specs.Questions.{key_index_of}
 use Rattle.fr_time.specs.Cycles.{is_odd}
 use Rattle.fr_measure.specs.Readings.{Readings, no_readings, reading}
-use Rattle.fr_node.specs.Own.{index_in, own_index, own_key}
+use Rattle.fr_reception.specs.Own.{index_in, own_index, own_key}
 use Rattle.fr_node.proofs.KeyIndexes.{index_is_own}
 
 -- a column with nothing in it

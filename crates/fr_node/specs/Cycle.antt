@@ -1,11 +1,8 @@
 -- What the calls make of a node: one cycle of one node (chapters 2 and 8).
-use Rattle.std.specs.Prelude.{ℕ, ◌+◌, ℤ, Bool, true, false, not, ◌&&◌, if◌then◌else◌, Option, Some, None}
+use Rattle.std.specs.Prelude.{ℕ, ◌+◌, ℤ, Bool, not, ◌&&◌, if◌then◌else◌, Option, Some, None}
+use Rattle.fr_base.specs.States.{cut_of, is_halted}
 use Rattle.fr_base.specs.declared.channel.Channel.{Channel}
 use Rattle.fr_base.specs.declared.node_row.NodeRow.{NodeRow}
-use Rattle.fr_base.specs.declared.State.{State}
-use Rattle.fr_base.specs.declared.State.TheVariants.{Active, Passive, Halt}
-use Rattle.fr_base.specs.declared.Outcome.{Outcome}
-use Rattle.fr_base.specs.declared.Outcome.TheVariants.{Within, Missing, Exceeded}
 use Rattle.fr_params.specs.Values.{Values}
 use Rattle.fr_params.specs.Questions.{key_index_of}
 use Rattle.fr_time.specs.Cycles.{is_odd}
@@ -17,10 +14,11 @@ use Rattle.fr_correct.specs.declared.term.Term.{Term}
 use Rattle.fr_correct.specs.Terms.{offset_term_of, rate_term_of}
 use Rattle.fr_poc.specs.Control.{Control, stepped}
 use Rattle.fr_poc.specs.Control as control
+use Rattle.fr_reception.specs.Own.{own_index}
 use Rattle.fr_reception.specs.declared.heard.Heard.{Heard}
 use Rattle.fr_reception.specs.declared.heard.Heard.TheVariants.{Stored, Ignored}
 use Rattle.fr_node.specs.View.{NodeView, row_of}
-use Rattle.fr_node.specs.Own.{limits_of, own_index}
+use Rattle.fr_node.specs.Fits.{limits_of}
 
 -- before cycle 0
 abbrev pub fresh : Values → ℕ → ℤ → ℤ → NodeView
@@ -58,27 +56,15 @@ offset_term_in p node = offset_term_of p.offset_limit (values_of (offset_at (rea
 abbrev pub rate_term_in : Values → NodeView → Term
 rate_term_in p node = rate_term_of node.rate p.damping p.rate_limit (values_of (rate_at (reading node.table) (own_index p node.id)))
 
--- whether a state is Halt
-abbrev pub is_halted : State → Bool
-is_halted Active = false
-is_halted Passive = false
-is_halted Halt = true
-
 -- a node corrects its clock at the end of an odd cycle, unless it is halted
 abbrev pub corrects : NodeView → Bool
 corrects node = is_odd node.cycle && not (is_halted node.control.status.state)
-
--- how many terms an outcome says to be cut
-abbrev pub cut_by : Outcome → ℕ
-cut_by Within = 0
-cut_by Missing = 0
-cut_by Exceeded = 1
 
 -- its row where it corrects: the offset term belongs to the cycle that ends
 abbrev pub corrected_row : Values → NodeView → NodeRow
 corrected_row p node = record (row_of node) {
   offset = (offset_term_in p node).value;
-  cut = cut_by (offset_term_in p node).outcome + cut_by (rate_term_in p node).outcome;
+  cut = cut_of (offset_term_in p node).outcome + cut_of (rate_term_in p node).outcome;
 }
 
 -- the row of the cycle at its end

@@ -1,4 +1,4 @@
 pub mod View
-pub mod Own
+pub mod Fits
 pub mod Cycle
 pub mod Arrivals

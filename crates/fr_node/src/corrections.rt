@@ -3,7 +3,7 @@ ghost use Rattle.fr_correct.specs.Terms.{offset_term_of, rate_term_of};
 ghost use Rattle.fr_measure.specs.Readings.{reading};
 ghost use Rattle.fr_measure.specs.Values.{offset_at, rate_at, values_of};
 ghost use Rattle.fr_midpoint.specs.Within.{IsWithin};
-ghost use Rattle.fr_node.specs.Cycle.{cut_by};
+ghost use Rattle.fr_base.specs.States.{cut_of};
 
 use crate::own::number;
 use fr_base::Outcome;
@@ -22,7 +22,7 @@ fn offset_limit(params: &Params) -> i32
 }
 
 // The limit of the rate term.
-fn rate_limit(params: &Params) -> i32
+pub(crate) fn rate_limit(params: &Params) -> i32
     ensures value { result ≡ params.now.rate_limit }
     ensures from { pos 1 ≤ℤ result }
     ensures to { result ≤ℤ pos 2000 }
@@ -64,7 +64,7 @@ pub(crate) fn rate_term_from(params: &Params, table: &Table, own: Option<usize>,
 
 // How many terms an outcome says to be cut.
 pub(crate) fn cut_count(outcome: Outcome) -> u8
-    ensures value { result ≡ cut_by outcome }
+    ensures value { result ≡ cut_of outcome }
     ensures most { result ≤ 1 }
 {
     match outcome {

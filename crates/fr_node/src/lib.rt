@@ -7,6 +7,8 @@ mod corrections;
 mod frames;
 mod node;
 mod own;
+#[cfg(test)]
+mod tests;
 mod times;
 
 pub use fr_reception::{Heard, Ignored};

@@ -48,7 +48,8 @@ impl Model for Node {
 
 impl Node {
     ghost use Rattle.fr_node.specs.View.{row_of, IsProperRow};
-    ghost use Rattle.fr_node.specs.Own.{own_key, Fits};
+    ghost use Rattle.fr_reception.specs.Own.{own_key};
+    ghost use Rattle.fr_node.specs.Fits.{Fits};
     ghost use Rattle.fr_node.specs.Cycle.{after_hearing, begun, corrected_row, corrects, ended, ended_row, fresh, offset_term_in, passed, rate_term_in};
     ghost use Rattle.fr_node.specs.Arrivals.{IfStored};
 
@@ -109,6 +110,7 @@ impl Node {
         requires arrival_to { arrival ≤ℤ pos 4_000_000_000_000_000_000 }
         ensures answer { result ≡ answer_of params.now self.old.cycle (row_of self.old) (record { slot = slot; channel = channel; arrival = arrival; bytes = bytes.now }) }
         ensures after { self.new ≡ after_hearing params.now self.old slot channel result }
+        ensures rest { self.new ≡ record self.old { table = self.new.table } }
         ensures fits { Fits params.now self.new }
     {
         let heard = self.answer_to(params, slot, channel, arrival, bytes);
@@ -221,6 +223,7 @@ impl Node {
         requires not_itself { own_key params.now self.old.id ≢ Some slot }
         requires within { IfStored heard.now (IsWithin (pos 1000000)) }
         ensures value { self.new ≡ after_hearing params.now self.old slot channel heard.now }
+        ensures rest { self.new ≡ record self.old { table = self.new.table } }
         ensures fits { Fits params.now self.new }
     {
         if let Heard::Stored(value) = *heard
@@ -321,9 +324,9 @@ impl Node {
         ensures cut { result.cut ≡ 0 }
     {
         sane(params);
-        let row = self.row();
-        self.pass(params, &row, row.rate);
-        row
+        let plain = self.row();
+        self.pass(params, &plain, plain.rate);
+        plain
     }
 }
 

@@ -3,7 +3,8 @@ ghost use Rattle.fr_params.specs.Names.{greatest, least};
 ghost use Rattle.fr_params.specs.Values.{figure};
 ghost use Rattle.fr_params.specs.Questions.{key_index_of};
 ghost use Rattle.fr_params.specs.Sane.{IsSane};
-ghost use Rattle.fr_node.specs.Own.{limits_of, own_index};
+ghost use Rattle.fr_reception.specs.Own.{own_index};
+ghost use Rattle.fr_node.specs.Fits.{limits_of};
 
 use fr_base::{NodeId, Slot};
 use fr_params::{ParamName, Params};

@@ -11,7 +11,8 @@ use Rattle.fr_time.specs.Position.{corrected_micros, even_position, floor_of, gr
 use Rattle.fr_time.specs.Instant.{instant_of}
 use Rattle.fr_time.proofs.Placing.{is_grid_lem}
 use Rattle.fr_bound.specs.Bounds.{lambda_of, longest_micro, pi_of}
-use Rattle.fr_precision.specs.Rows.{corrected_end_of, end_of, length_of, Lasts, IsDoubleCycle}
+use Rattle.fr_bound.specs.Sync.{cycle_length_of}
+use Rattle.fr_precision.specs.Rows.{corrected_end_of, end_of, Lasts, IsDoubleCycle}
 use Rattle.fr_precision.specs.Instants.{gap_of, LieNear, MacroticksLieBetween, MacroticksStayNear, PrecisionHolds, Runs}
 use Rattle.fr_precision.proofs.Lines.{lines_between, lines_near, on_line, OnLine}
 
@@ -31,15 +32,15 @@ before_correction p row macrotick to = rw (int_lt_false p.correction macrotick t
 
 -- an instant by the rule of even cycles lies on the way over the whole cycle
 pub even_on_line : (p : Values) (row : NodeRow) (macrotick : ℤ) → IsSane p → Lasts p row
-    → OnLine row.start (length_of p row) row.length macrotick p.macros (pos (longest_micro p)) (instant_of (grid_for p) row false macrotick)
+    → OnLine row.start (cycle_length_of p row) row.length macrotick p.macros (pos (longest_micro p)) (instant_of (grid_for p) row false macrotick)
 even_on_line p row macrotick sane lasts =
     let grid = is_grid_lem p sane in
     on_line row.start row.length macrotick (p.micros +ℤ row.rate) p.macros (pos (longest_micro p)) (omega (arith, ints, grid.correction_from, grid.correction_to)) lasts.some lasts.most
 
 pub early_on_line : (p : Values) (row : NodeRow) (macrotick : ℤ) → IsSane p → Lasts p row → macrotick ≤ℤ p.correction
-    → OnLine row.start (length_of p row) row.length macrotick p.macros (pos (longest_micro p)) (instant_of (grid_for p) row true macrotick)
+    → OnLine row.start (cycle_length_of p row) row.length macrotick p.macros (pos (longest_micro p)) (instant_of (grid_for p) row true macrotick)
 early_on_line p row macrotick sane lasts to =
-    let On : ℤ → Type 0 = OnLine row.start (length_of p row) row.length macrotick p.macros (pos (longest_micro p)) in
+    let On : ℤ → Type 0 = OnLine row.start (cycle_length_of p row) row.length macrotick p.macros (pos (longest_micro p)) in
     subst On (sym (before_correction p row macrotick to)) (even_on_line p row macrotick sane lasts)
 
 -- from the offset correction on it lies on the way to the corrected end
@@ -99,7 +100,7 @@ odd_start_is p even odd double =
     none : (n r o : ℤ) → o ≡ pos 0 → n +ℤ r +ℤ o ≡ n +ℤ r
     none n r o e = omega (arith, ints)
 
-wider : (a b x : ℤ) → a ≤ℤ b → IsWithin a x → IsWithin b x
+pub wider : (a b x : ℤ) → a ≤ℤ b → IsWithin a x → IsWithin b x
 wider a b x le within = record { low = omega (arith, ints, within.low); high = omega (arith, ints, within.high) }
 
 -- the odd cycles' starts lie no further apart than the even ones' and their lengths
@@ -107,7 +108,7 @@ odd_starts : (p : Values) (starts even_lengths odd_lengths : ℤ) (even odd othe
     → Runs p even odd → Runs p other_even other_odd → LieNear p starts even_lengths odd_lengths even odd other_even other_odd
     → IsWithin (starts +ℤ even_lengths) (odd.start -ℤ other_odd.start)
 odd_starts p starts even_lengths odd_lengths even odd other_even other_odd runs other_runs near =
-    sum starts even_lengths even.start other_even.start (length_of p even) (length_of p other_even) odd.start other_odd.start
+    sum starts even_lengths even.start other_even.start (cycle_length_of p even) (cycle_length_of p other_even) odd.start other_odd.start
     (odd_start_is p even odd runs.double) (odd_start_is p other_even other_odd other_runs.double) near.by_start near.by_even
   where
     sum : (a b s s' l l' x y : ℤ) → x ≡ s +ℤ l → y ≡ s' +ℤ l' → IsWithin a (s -ℤ s') → IsWithin b (l -ℤ l') → IsWithin (a +ℤ b) (x -ℤ y)
@@ -122,12 +123,12 @@ macroticks_stay_near_lem p starts even_lengths odd_lengths macrotick even odd ot
     let some : pos 0 <ℤ p.macros = omega (arith, ints, grid.correction_from, grid.correction_to) in
     let most = pos (longest_micro p) in (
       λ to.
-          lines_near even.start other_even.start (length_of p even) (length_of p other_even) even.length other_even.length macrotick p.macros most
+          lines_near even.start other_even.start (cycle_length_of p even) (cycle_length_of p other_even) even.length other_even.length macrotick p.macros most
           (instant_of (grid_for p) even false macrotick) (instant_of (grid_for p) other_even false macrotick) starts even_lengths
           (even_on_line p even macrotick sane runs.even_lasts) (even_on_line p other_even macrotick sane other_runs.even_lasts)
           some (no_less (longest_micro p)) from to near.by_start near.by_even,
       λ to.
-          lines_near odd.start other_odd.start (length_of p odd) (length_of p other_odd) odd.length other_odd.length macrotick p.macros most
+          lines_near odd.start other_odd.start (cycle_length_of p odd) (cycle_length_of p other_odd) odd.length other_odd.length macrotick p.macros most
           (instant_of (grid_for p) odd true macrotick) (instant_of (grid_for p) other_odd true macrotick) (starts +ℤ even_lengths) odd_lengths
           (early_on_line p odd macrotick sane runs.odd_lasts to) (early_on_line p other_odd macrotick sane other_runs.odd_lasts to)
           some (no_less (longest_micro p)) from (within_cycle macrotick p.correction p.macros to grid.correction_to)
@@ -154,7 +155,7 @@ late_between p starts lengths macrotick even odd other_even other_odd sane runs 
     let other_rest = corrected_micros (grid_for p) other_odd.rate other_odd.offset *ℤ other_odd.length in
     let close : IsWithin bound ((start +ℤ rest) -ℤ (other_start +ℤ other_rest)) =
     at_ends starts bound (start +ℤ rest) (corrected_end_of p odd) (other_start +ℤ other_rest) (corrected_end_of p other_odd) (corrected_end_is p odd) (corrected_end_is p other_odd)
-    (no_closer starts lengths (longest_micro p) (length_of p even -ℤ length_of p other_even) near.by_even) ends in
+    (no_closer starts lengths (longest_micro p) (cycle_length_of p even -ℤ cycle_length_of p other_even) near.by_even) ends in
     lines_between start other_start rest other_rest odd.length other_odd.length (macrotick -ℤ p.correction) (p.macros -ℤ p.correction) most
     (instant_of (grid_for p) odd true macrotick) (instant_of (grid_for p) other_odd true macrotick) bound
     (late_on_line p odd macrotick sane runs.odd_lasts from) (late_on_line p other_odd macrotick sane other_runs.odd_lasts from)
@@ -182,7 +183,7 @@ late_between p starts lengths macrotick even odd other_even other_odd sane runs 
 pub macroticks_lie_between : MacroticksLieBetween
 macroticks_lie_between p starts lengths macrotick false even odd other_even other_odd sane runs other_runs near ends from to =
     wider (starts +ℤ lengths +ℤ pos (longest_micro p)) (starts +ℤ (pos 2 *ℤ lengths) +ℤ (pos 2 *ℤ pos (longest_micro p))) (gap_of p false macrotick even other_even)
-    (more starts lengths (longest_micro p) (length_of p even -ℤ length_of p other_even) near.by_even)
+    (more starts lengths (longest_micro p) (cycle_length_of p even -ℤ cycle_length_of p other_even) near.by_even)
     ((macroticks_stay_near_lem p starts lengths lengths macrotick even odd other_even other_odd sane runs other_runs near from).0 to)
   where
     more : (s l : ℤ) (q : ℕ) (x : ℤ) → IsWithin l x → (s +ℤ l +ℤ pos q) ≤ℤ (s +ℤ (pos 2 *ℤ l) +ℤ (pos 2 *ℤ pos q))

@@ -8,4 +8,6 @@ pub mod InstantLaws
 pub mod OffsetLaws
 pub mod PlacementLaws
 pub mod ReceptionLaws
+pub mod DeviationLaws
+pub mod StepLaws
 mod Worked

@@ -19,7 +19,8 @@ use Rattle.fr_time.specs.Instant.{instant_of}
 use Rattle.fr_time.proofs.Placing.{is_grid_lem}
 use Rattle.fr_bound.specs.Bounds.{arrival_error, lambda_of, longest_micro, pi_of, precision_of, shortest_micro}
 use Rattle.fr_bound.specs.Checks.{left_of}
-use Rattle.fr_precision.specs.Rows.{corrected_end_of, end_of, length_of, AreNear, HasProperMicro, Lasts, Sender}
+use Rattle.fr_bound.specs.Sync.{cycle_length_of}
+use Rattle.fr_precision.specs.Rows.{corrected_end_of, end_of, AreNear, HasProperMicro, Lasts, Sender}
 use Rattle.fr_precision.specs.Instants.{gap_of}
 use Rattle.fr_precision.specs.Offsets.{CorrectedEndLiesAmong, EndsDrawTogether, EndsStayTogether, IsDeviation, IsOffsetRound, IsSending, LimitSuffices, NearAll, OffsetTermsAreUncut, OwnValueIsDeviation, ReachAll, SendersLieNear, ThirdCheckSuffices}
 use Rattle.fr_precision.proofs.Figures.{nat_le-true, times_natural}
@@ -142,7 +143,7 @@ behind_end p lengths = lengths +ℤ pos (arrival_error p + longest_micro p)
 
 -- an offset value, counted from the receiver's end, places the sender's
 end_placed : (p : Values) (lengths : ℤ) (row : NodeRow) (sender : Sender) (value : ℤ) → IsSane p → HasProperMicro p row → IsSending p sender
-    → IsWithin lengths (length_of p row -ℤ length_of p sender.odd) → IsDeviation p true sender.action row sender.odd value
+    → IsWithin lengths (cycle_length_of p row -ℤ cycle_length_of p sender.odd) → IsDeviation p true sender.action row sender.odd value
     → IsPlaced (end_of p row) row.length (before_end p lengths) (behind_end p lengths) (end_of p sender.odd) value
 end_placed p lengths row sender value sane micro sending near dev =
     let grid = is_grid_lem p sane in
@@ -150,7 +151,7 @@ end_placed p lengths row sender value sane micro sending near dev =
     let at = instant_of (grid_for p) row true sender.action in
     let other_at = instant_of (grid_for p) sender.odd true sender.action in
     let left =
-    lines_end row.start sender.odd.start (length_of p row) (length_of p sender.odd) row.length sender.odd.length sender.action p.macros (pos (longest_micro p)) at other_at lengths
+    lines_end row.start sender.odd.start (cycle_length_of p row) (cycle_length_of p sender.odd) row.length sender.odd.length sender.action p.macros (pos (longest_micro p)) at other_at lengths
     (early_on_line p row sender.action sane lasts sending.acts_to) (early_on_line p sender.odd sender.action sane sending.lasts sending.acts_to)
     (some p.correction p.macros grid.correction_from grid.correction_to) (no_less (longest_micro p)) sending.acts_from (within_cycle sender.action p.correction p.macros sending.acts_to grid.correction_to) near in
     let both =
@@ -183,8 +184,8 @@ receives_ends : (p : Values) (senders : List Sender) (lengths : ℤ) (row : Node
     → IsSane p → All (IsSending p) senders → NearAll p lengths senders row → IsOffsetRound p senders row values term
     → Receives (before_end p lengths) (behind_end p lengths) (odd_ends p senders) (ends_at p row values)
 receives_ends p senders lengths row values term sane sending near round =
-    let Near : Sender → Type 0 = λ sender. IsWithin lengths (length_of p row -ℤ length_of p sender.odd) in
-    let Both : Sender → Type 0 = λ sender. IsSending p sender × IsWithin lengths (length_of p row -ℤ length_of p sender.odd) in
+    let Near : Sender → Type 0 = λ sender. IsWithin lengths (cycle_length_of p row -ℤ cycle_length_of p sender.odd) in
+    let Both : Sender → Type 0 = λ sender. IsSending p sender × IsWithin lengths (cycle_length_of p row -ℤ cycle_length_of p sender.odd) in
     let lasts = micro_lasts p row sane round.micro in
     record {
       lasts = lasts.some;
@@ -232,8 +233,8 @@ ends_near : (p : Values) (starts lengths : ℤ) (senders : List Sender) → All 
     → AreNear (λ sender. end_of p sender.odd) (starts +ℤ (pos 2 *ℤ lengths)) senders
 ends_near p starts lengths senders sending near =
     let Start : Sender → Sender → Type 0 = λ one other. IsWithin starts (one.even.start -ℤ other.even.start) in
-    let Even : Sender → Sender → Type 0 = λ one other. IsWithin lengths (length_of p one.even -ℤ length_of p other.even) in
-    let Odd : Sender → Sender → Type 0 = λ one other. IsWithin lengths (length_of p one.odd -ℤ length_of p other.odd) in
+    let Even : Sender → Sender → Type 0 = λ one other. IsWithin lengths (cycle_length_of p one.even -ℤ cycle_length_of p other.even) in
+    let Odd : Sender → Sender → Type 0 = λ one other. IsWithin lengths (cycle_length_of p one.odd -ℤ cycle_length_of p other.odd) in
     let End : Sender → Sender → Type 0 = λ one other. IsWithin (starts +ℤ (pos 2 *ℤ lengths)) (end_of p one.odd -ℤ end_of p other.odd) in
     let Whole : Sender → Type 0 = λ one. IsSending p one × All (Start one) senders in
     let Lengths : Sender → Type 0 = λ one. All (Even one) senders × All (Odd one) senders in
@@ -251,10 +252,10 @@ ends_near p starts lengths senders sending near =
     step s l x x' e e' y y' o o' a b c d f = record { low = omega (arith, ints, c.low, d.low, f.low); high = omega (arith, ints, c.high, d.high, f.high) }
 
     pair : (one other : Sender) → IsSending p one → IsSending p other → IsWithin starts (one.even.start -ℤ other.even.start)
-        → IsWithin lengths (length_of p one.even -ℤ length_of p other.even) → IsWithin lengths (length_of p one.odd -ℤ length_of p other.odd)
+        → IsWithin lengths (cycle_length_of p one.even -ℤ cycle_length_of p other.even) → IsWithin lengths (cycle_length_of p one.odd -ℤ cycle_length_of p other.odd)
         → IsWithin (starts +ℤ (pos 2 *ℤ lengths)) (end_of p one.odd -ℤ end_of p other.odd)
     pair one other a b c d e =
-        step starts lengths one.even.start other.even.start (length_of p one.even) (length_of p other.even) one.odd.start other.odd.start (length_of p one.odd) (length_of p other.odd)
+        step starts lengths one.even.start other.even.start (cycle_length_of p one.even) (cycle_length_of p other.even) one.odd.start other.odd.start (cycle_length_of p one.odd) (cycle_length_of p other.odd)
         (odd_start_is p one.even one.odd a.double) (odd_start_is p other.even other.odd b.double) c d e
 
 pub ends_draw_together : EndsDrawTogether

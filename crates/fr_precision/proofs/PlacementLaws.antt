@@ -18,7 +18,8 @@ use Rattle.fr_time.proofs.Floors.{share_le}
 use Rattle.fr_time.proofs.Placing.{is_grid_lem}
 use Rattle.fr_bound.specs.Bounds.{arrival_error, cycle_change, longest_micro, y1_of}
 use Rattle.fr_bound.proofs.Uncut.{uncut_lem}
-use Rattle.fr_precision.specs.Rows.{length_of, IsSteady, Sender}
+use Rattle.fr_bound.specs.Sync.{cycle_length_of}
+use Rattle.fr_precision.specs.Rows.{IsSteady, Sender}
 use Rattle.fr_precision.specs.Rates.{PlacesLength}
 use Rattle.fr_precision.specs.Placement.{DifferencePlaces, HalfPlaces, IsRegular, OwnValuePlaces}
 use Rattle.fr_precision.proofs.Figures.{change_is, natural}
@@ -115,7 +116,7 @@ steady_within p even odd sane steady =
 record Step (p : Values) (even odd : NodeRow) (macrotick : ℤ) : Type 0 where
   change : ℤ
   near : IsWithin (pos (cycle_change p)) change
-  is : instant_of (grid_for p) odd true macrotick -ℤ instant_of (grid_for p) even false macrotick ≡ length_of p odd -ℤ change
+  is : instant_of (grid_for p) odd true macrotick -ℤ instant_of (grid_for p) even false macrotick ≡ cycle_length_of p odd -ℤ change
 
 step_of : (p : Values) (even odd : NodeRow) (macrotick : ℤ) → IsSane p → IsRegular p even odd → pos 0 ≤ℤ macrotick → macrotick ≤ℤ p.correction → Step p even odd macrotick
 step_of p even odd macrotick sane regular from to =
@@ -138,7 +139,7 @@ step_of p even odd macrotick sane regular from to =
       near = turned ((p.micros +ℤ p.rate_limit) *ℤ p.change_bound) (pos (cycle_change p)) (rest *ℤ change) (change_of p sane) product;
       is =
           ap (λ x. x -ℤ instant_of (grid_for p) even false macrotick) (before_correction p odd macrotick to)
-          ∙ sum odd.start even.start (at *ℤ odd.length) (even_position (grid_for p) even.rate macrotick *ℤ even.length) (at *ℤ even.length) (length_of p even) (whole *ℤ even.length) (length_of p odd)
+          ∙ sum odd.start even.start (at *ℤ odd.length) (even_position (grid_for p) even.rate macrotick *ℤ even.length) (at *ℤ even.length) (cycle_length_of p even) (whole *ℤ even.length) (cycle_length_of p odd)
           (rest *ℤ change) (whole *ℤ change) (at *ℤ change)
           (odd_start_is p even odd regular.double) (ap (λ x. x *ℤ even.length) same)
           (ap (λ r. (p.micros +ℤ r) *ℤ even.length) (sym regular.double.same_rate))
@@ -196,7 +197,7 @@ difference_places p reach sender even odd early late sane suffices regular other
     let within = within_cycle p early sane (deviation_within p reach false sender.action even sender.even early sane suffices regular.even_micro devs.near devs.by_even) in
     let product = product_within early (odd.length -ℤ even.length) (p.micros +ℤ p.rate_limit) p.change_bound within (steady_within p even odd sane regular.steady) in
     sum (instant_of (grid_for p) even false sender.action) (instant_of (grid_for p) odd true sender.action) (instant_of (grid_for p) sender.even false sender.action) (instant_of (grid_for p) sender.odd true sender.action)
-    (length_of p odd) (length_of p sender.odd) step.change other.change even.length odd.length
+    (cycle_length_of p odd) (cycle_length_of p sender.odd) step.change other.change even.length odd.length
     (early *ℤ even.length) (early *ℤ odd.length) (late *ℤ odd.length) ((late -ℤ early) *ℤ odd.length) (early *ℤ (odd.length -ℤ even.length)) ((p.micros +ℤ p.rate_limit) *ℤ p.change_bound)
     (arrival_error p) (longest_micro p) (cycle_change p)
     step.is other.is (subz-mulz late early odd.length) (mulz-subz odd.length even.length early) (change_of p sane) step.near other.near product
@@ -213,7 +214,7 @@ between_places : (p : Values) (sender : Sender) (row : NodeRow) (low value high 
     → PlacesLength p row sender low → PlacesLength p row sender high → PlacesLength p row sender value
 between_places p sender row low value high lasts up down from to =
     let t_from : pos 0 ≤ℤ row.length = omega (arith, ints, lasts) in
-    squeeze (pos (y1_of p)) (length_of p row) (length_of p sender.odd) (low *ℤ row.length) (value *ℤ row.length) (high *ℤ row.length)
+    squeeze (pos (y1_of p)) (cycle_length_of p row) (cycle_length_of p sender.odd) (low *ℤ row.length) (value *ℤ row.length) (high *ℤ row.length)
     (mulz-lez low value row.length up t_from) (mulz-lez value high row.length down t_from) from.low to.high
   where
     squeeze : (y l m a b c : ℤ) → a ≤ℤ b → b ≤ℤ c → neg_ℤ y ≤ℤ ((l +ℤ a) -ℤ m) → ((l +ℤ c) -ℤ m) ≤ℤ y → IsWithin y ((l +ℤ b) -ℤ m)
@@ -234,7 +235,7 @@ half_places p sender row one other sane micro from to =
     weaker a b less = omega (arith, ints)
 
 pub own_value_places : OwnValuePlaces
-own_value_places p sender = none (y1_of p) (length_of p sender.odd) sender.odd.length
+own_value_places p sender = none (y1_of p) (cycle_length_of p sender.odd) sender.odd.length
   where
     none : (y : ℕ) (l t : ℤ) → IsWithin (pos y) ((l +ℤ (pos 0 *ℤ t)) -ℤ l)
     none y l t = record { low = omega (arith, ints); high = omega (arith, ints) }

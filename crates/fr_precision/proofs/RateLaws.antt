@@ -17,8 +17,9 @@ use Rattle.fr_correct.specs.declared.term.Term.{Term}
 use Rattle.fr_correct.specs.Terms.{damped, limited, missing_term, term_of}
 use Rattle.fr_bound.specs.Bounds.{cycle_change, lambda_of, longest_micro, shortest_micro, y1_of}
 use Rattle.fr_bound.specs.Checks.{holds_of}
-use Rattle.fr_precision.specs.Rows.{length_of, longest_cycle, shortest_cycle, HasProperLength, HasProperMicro, IsSteady, KeepOne, Sender}
-use Rattle.fr_precision.specs.Rates.{near_length, IsRateRound, LengthsDrawTogether, LengthsStayInRange, LengthsStayNear, LengthsStayTogether, LengthsWithin, PlacesLength, RateTermsAreUncut}
+use Rattle.fr_bound.specs.Sync.{cycle_length_of, IsProperLength}
+use Rattle.fr_precision.specs.Rows.{longest_cycle, shortest_cycle, HasProperMicro, IsSteady, KeepOne, Sender}
+use Rattle.fr_precision.specs.Rates.{near_length, IsRateRound, LengthsDrawTogether, LengthsStayInRange, LengthsStayNear, LengthsStayTogether, LengthsWithin, NearLengthIsBelowLambda, PlacesLength, RateTermsAreUncut}
 use Rattle.fr_precision.proofs.Figures.{figures_of, longest_is, natural, shortest_is, times_natural}
 use Rattle.fr_precision.proofs.Moves.{damped_near, moved, Moved}
 use Rattle.fr_precision.proofs.Ranges.{ranged, Ranged}
@@ -26,11 +27,11 @@ use Rattle.fr_precision.proofs.Senders.{heard_all, hears_mapped, length_mapped, 
 
 -- the receiver of rate values that an odd row is
 abbrev rates_at : Values → NodeRow → List ℤ → Receiver
-rates_at p row values = record { base = length_of p row; unit = row.length; values = values }
+rates_at p row values = record { base = cycle_length_of p row; unit = row.length; values = values }
 
 -- the lengths of the senders' odd cycles
 abbrev odd_lengths : Values → List Sender → List ℤ
-odd_lengths p senders = map (λ (sender : Sender). length_of p sender.odd) senders
+odd_lengths p senders = map (λ (sender : Sender). cycle_length_of p sender.odd) senders
 
 is_placed : (base unit bound position value : ℤ) → IsWithin bound ((base +ℤ (value *ℤ unit)) -ℤ position) → IsPlaced base unit bound bound position value
 is_placed base unit bound position value within =
@@ -75,11 +76,11 @@ receives_lengths p senders row values sane micro hears lasts = record {
       hears_mapped
       (λ (sender : Sender). Unit {0})
       (PlacesLength p row)
-      (IsPlaced (length_of p row) row.length (pos (y1_of p)) (pos (y1_of p)))
-      (λ (sender : Sender). length_of p sender.odd)
+      (IsPlaced (cycle_length_of p row) row.length (pos (y1_of p)) (pos (y1_of p)))
+      (λ (sender : Sender). cycle_length_of p sender.odd)
       senders
       values
-      (λ sender value all says. is_placed (length_of p row) row.length (pos (y1_of p)) (length_of p sender.odd) value says)
+      (λ sender value all says. is_placed (cycle_length_of p row) row.length (pos (y1_of p)) (cycle_length_of p sender.odd) value says)
       (everywhere senders)
       hears;
 }
@@ -98,7 +99,7 @@ lasting p row sane first second micro =
 
 round_at : (p : Values) (senders : List Sender) (row : NodeRow) (values : List ℤ) (term : Term) (mid : ℤ)
     → IsSane p → holds_of 1 p ≡ true → holds_of 2 p ≡ true
-    → All (λ (sender : Sender). HasProperLength p sender.odd) senders → HasProperMicro p row → Hears Sender (PlacesLength p row) senders values
+    → All (λ (sender : Sender). IsProperLength p (cycle_length_of p sender.odd)) senders → HasProperMicro p row → Hears Sender (PlacesLength p row) senders values
     → IsMidpoint values mid → term ≡ term_of p.rate_limit (damped p.damping (row.rate +ℤ mid)) → Round p row values term
 round_at p senders row values term mid sane first second proper micro hears middle is =
     let f = figures_of p sane first second in
@@ -107,13 +108,13 @@ round_at p senders row values term mid sane first second proper micro hears midd
     let lengths = odd_lengths p senders in
     let among =
     one_receiver_lem lengths (pos (shortest_cycle p)) (pos (longest_cycle p)) (pos (y1_of p)) (pos (y1_of p)) (rates_at p row values) mid
-    (All-mapped (λ (sender : Sender). HasProperLength p sender.odd) (λ x. pos (shortest_cycle p) ≤ℤ x) (λ (sender : Sender). length_of p sender.odd) senders (λ sender is. is.least) proper)
-    (All-mapped (λ (sender : Sender). HasProperLength p sender.odd) (λ x. x ≤ℤ pos (longest_cycle p)) (λ (sender : Sender). length_of p sender.odd) senders (λ sender is. is.most) proper)
+    (All-mapped (λ (sender : Sender). IsProperLength p (cycle_length_of p sender.odd)) (λ x. pos (shortest_cycle p) ≤ℤ x) (λ (sender : Sender). cycle_length_of p sender.odd) senders (λ sender is. is.0) proper)
+    (All-mapped (λ (sender : Sender). IsProperLength p (cycle_length_of p sender.odd)) (λ x. x ≤ℤ pos (longest_cycle p)) (λ (sender : Sender). cycle_length_of p sender.odd) senders (λ sender is. is.1) proper)
     receives
     middle in
     let same = undamped p.micros row.rate mid row.length in
-    let from = moved_low (pos (shortest_cycle p)) (p.micros *ℤ pos (shortest_micro p)) (pos (y1_of p)) (place_of (length_of p row) row.length mid) ((p.micros +ℤ (row.rate +ℤ mid)) *ℤ row.length) (shortest_is p sane) same among.0 in
-    let to = moved_high (pos (longest_cycle p)) (p.micros *ℤ pos (longest_micro p)) (pos (y1_of p)) (place_of (length_of p row) row.length mid) ((p.micros +ℤ (row.rate +ℤ mid)) *ℤ row.length) (longest_is p sane) same among.1 in
+    let from = moved_low (pos (shortest_cycle p)) (p.micros *ℤ pos (shortest_micro p)) (pos (y1_of p)) (place_of (cycle_length_of p row) row.length mid) ((p.micros +ℤ (row.rate +ℤ mid)) *ℤ row.length) (shortest_is p sane) same among.0 in
+    let to = moved_high (pos (longest_cycle p)) (p.micros *ℤ pos (longest_micro p)) (pos (y1_of p)) (place_of (cycle_length_of p row) row.length mid) ((p.micros +ℤ (row.rate +ℤ mid)) *ℤ row.length) (longest_is p sane) same among.1 in
     let range =
     ranged p.micros p.damping p.rate_limit p.change_bound (pos (shortest_micro p)) (pos (longest_micro p)) (pos (y1_of p)) (pos (cycle_change p)) row.length (row.rate +ℤ mid)
     f micro.least micro.most from to in
@@ -133,7 +134,7 @@ round_at p senders row values term mid sane first second proper micro hears midd
 
 round_of : (p : Values) (senders : List Sender) (row : NodeRow) (values : List ℤ) (term : Term)
     → IsSane p → holds_of 1 p ≡ true → holds_of 2 p ≡ true → 1 ≤ length senders
-    → All (λ (sender : Sender). HasProperLength p sender.odd) senders → IsRateRound p senders row values term → Round p row values term
+    → All (λ (sender : Sender). IsProperLength p (cycle_length_of p sender.odd)) senders → IsRateRound p senders row values term → Round p row values term
 round_of p senders row values term sane first second some proper round = by_term round.is_term
   where
     by_term : ((values ≡ []) × (term ≡ missing_term row.rate)) ⊎ ((mid : ℤ) × IsMidpoint values mid × (term ≡ term_of p.rate_limit (damped p.damping (row.rate +ℤ mid)))) → Round p row values term
@@ -161,8 +162,7 @@ rate_terms_are_uncut p senders row values term sane first second some proper is 
     record {
       uncut = round.uncut;
       limit = r.limit;
-      least = turned_low (pos (shortest_cycle p)) low length shortest r.least;
-      most = turned_high (pos (longest_cycle p)) high length longest r.most;
+      proper = (turned_low (pos (shortest_cycle p)) low length shortest r.least, turned_high (pos (longest_cycle p)) high length longest r.most);
       room_above = λ up. more_high (longest_cycle p) (cycle_change p) high length longest (r.room_above up);
       room_below = λ down. more_low (shortest_cycle p) (cycle_change p) low length shortest (r.room_below down);
     }
@@ -183,7 +183,7 @@ rate_terms_are_uncut p senders row values term sane first second some proper is 
 next_length : (p : Values) (row : NodeRow) (values : List ℤ) (term : Term) (next : NodeRow)
     → IsSane p → holds_of 1 p ≡ true → holds_of 2 p ≡ true → (round : Round p row values term)
     → next.rate ≡ term.value → HasProperMicro p next → IsWithin (p.change_bound +ℤ p.change_bound) (next.length -ℤ row.length)
-    → (length_of p next ≡ (p.micros +ℤ damped p.damping (row.rate +ℤ round.mid)) *ℤ next.length)
+    → (cycle_length_of p next ≡ (p.micros +ℤ damped p.damping (row.rate +ℤ round.mid)) *ℤ next.length)
     × Moved p.micros (pos (shortest_micro p)) (pos (longest_micro p)) (pos (cycle_change p)) row.length next.length (damped p.damping (row.rate +ℤ round.mid))
 next_length p row values term next sane first second round same micro steady =
     let b = damped p.damping (row.rate +ℤ round.mid) in (
@@ -195,14 +195,13 @@ next_length p row values term next sane first second round same micro steady =
 proper_next : (p : Values) (row : NodeRow) (values : List ℤ) (term : Term) (next : NodeRow)
     → IsSane p → holds_of 1 p ≡ true → holds_of 2 p ≡ true → (round : Round p row values term)
     → next.rate ≡ term.value → HasProperMicro p next → IsWithin (p.change_bound +ℤ p.change_bound) (next.length -ℤ row.length)
-    → HasProperLength p next
+    → IsProperLength p (cycle_length_of p next)
 proper_next p row values term next sane first second round same micro steady =
     let is = next_length p row values term next sane first second round same micro steady in
-    let b = damped p.damping (row.rate +ℤ round.mid) in
-    record {
-      least = low (pos (shortest_cycle p)) (p.micros *ℤ pos (shortest_micro p)) ((p.micros +ℤ b) *ℤ next.length) (length_of p next) (shortest_is p sane) is.0 is.1.least;
-      most = high (pos (longest_cycle p)) (p.micros *ℤ pos (longest_micro p)) ((p.micros +ℤ b) *ℤ next.length) (length_of p next) (longest_is p sane) is.0 is.1.most;
-    }
+    let b = damped p.damping (row.rate +ℤ round.mid) in (
+      low (pos (shortest_cycle p)) (p.micros *ℤ pos (shortest_micro p)) ((p.micros +ℤ b) *ℤ next.length) (cycle_length_of p next) (shortest_is p sane) is.0 is.1.least,
+      high (pos (longest_cycle p)) (p.micros *ℤ pos (longest_micro p)) ((p.micros +ℤ b) *ℤ next.length) (cycle_length_of p next) (longest_is p sane) is.0 is.1.most,
+    )
   where
     low : (a b x y : ℤ) → a ≡ b → y ≡ x → b ≤ℤ x → a ≤ℤ y
     low a b x y e g le = omega (arith, ints)
@@ -242,7 +241,7 @@ lengths_stay_in_range_lem p senders row values term even odd sane first second s
 record Near (p : Values) (row : NodeRow) (values : List ℤ) (term : Term) (round : Round p row values term) (next : NodeRow) : Type 0 where
   damped_length : ℤ
   damping : IsWithin (p.damping *ℤ pos (longest_micro p)) (place_at (rates_at p row values) round.mid -ℤ damped_length)
-  change : IsWithin (pos 2 *ℤ pos (cycle_change p)) (length_of p next -ℤ damped_length)
+  change : IsWithin (pos 2 *ℤ pos (cycle_change p)) (cycle_length_of p next -ℤ damped_length)
 
 near_next : (p : Values) (row : NodeRow) (values : List ℤ) (term : Term) (next : NodeRow)
     → IsSane p → holds_of 1 p ≡ true → holds_of 2 p ≡ true → (round : Round p row values term) → HasProperMicro p row
@@ -261,7 +260,7 @@ near_next p row values term next sane first second round at same micro steady =
       damping =
           moved_left (p.damping *ℤ pos (longest_micro p)) ((p.micros +ℤ z) *ℤ row.length) (place_at (rates_at p row values) round.mid) ((p.micros +ℤ b) *ℤ row.length)
           (undamped p.micros row.rate round.mid row.length) taken;
-      change = turned (pos 2 *ℤ pos (cycle_change p)) ((p.micros +ℤ b) *ℤ next.length) (length_of p next) ((p.micros +ℤ b) *ℤ row.length) is.0 is.1.near;
+      change = turned (pos 2 *ℤ pos (cycle_change p)) ((p.micros +ℤ b) *ℤ next.length) (cycle_length_of p next) ((p.micros +ℤ b) *ℤ row.length) is.0 is.1.near;
     }
   where
     moved_left : (bound x y z : ℤ) → x ≡ y → IsWithin bound (x -ℤ z) → IsWithin bound (y -ℤ z)
@@ -285,7 +284,7 @@ draw_together : (p : Values) (senders : List Sender) (spread : ℤ) (row other_r
     → IsRateRound p senders row values term → IsRateRound p senders other_row other_values other_term → KeepOne values other_values senders
     → (round : Round p row values term) → (other_round : Round p other_row other_values other_term)
     → Near p row values term round next → Near p other_row other_values other_term other_round other_next
-    → IsWithin (spread +ℤ pos (lambda_of p)) (pos 2 *ℤ (length_of p next -ℤ length_of p other_next))
+    → IsWithin (spread +ℤ pos (lambda_of p)) (pos 2 *ℤ (cycle_length_of p next -ℤ cycle_length_of p other_next))
 draw_together p senders spread row other_row values other_values term other_term next other_next sane first second within is also keep round other_round near other_near =
     let one = rates_at p row values in
     let other = rates_at p other_row other_values in
@@ -293,14 +292,14 @@ draw_together p senders spread row other_row values other_values term other_term
     let other_receives = receives_lengths p senders other_row other_values sane also.micro also.hears (lasting p other_row sane first second also.micro) in
     let apart =
     two_receivers_lem (odd_lengths p senders) spread (pos (y1_of p)) (pos (y1_of p)) (pos (longest_micro p)) one other round.mid other_round.mid
-    (lie_within (λ (sender : Sender). length_of p sender.odd) spread senders within)
+    (lie_within (λ (sender : Sender). cycle_length_of p sender.odd) spread senders within)
     receives other_receives is.micro.most also.micro.most
-    (omega (arith, keep, length_mapped (λ (sender : Sender). length_of p sender.odd) senders))
+    (omega (arith, keep, length_mapped (λ (sender : Sender). cycle_length_of p sender.odd) senders))
     round.middle other_round.middle in
     let damping = sane.ranges name.pClusterDriftDamping in
     let from : pos 0 ≤ℤ p.damping = omega (arith, ints, damping.0) in
     halved spread (p.damping *ℤ pos (longest_micro p)) (y1_of p) (longest_micro p) (cycle_change p) (amount p name.pClusterDriftDamping * longest_micro p)
-    (place_at one round.mid) near.damped_length (length_of p next) (place_at other other_round.mid) other_near.damped_length (length_of p other_next)
+    (place_at one round.mid) near.damped_length (cycle_length_of p next) (place_at other other_round.mid) other_near.damped_length (cycle_length_of p other_next)
     (times_natural p.damping (longest_micro p) from) apart near.damping near.change other_near.damping other_near.change
 
 pub lengths_draw_together_lem : LengthsDrawTogether
@@ -324,27 +323,27 @@ half_within bound x within = record { low = omega (arith, ints, within.low); hig
 pub lengths_stay_together : LengthsStayTogether
 lengths_stay_together p senders row other_row values other_values term other_term even odd other_even other_odd sane first second proper within is also keep next other_next =
     let both = lengths_draw_together_lem p senders (pos (lambda_of p)) row other_row values other_values term other_term even odd other_even other_odd sane first second proper within is also keep next other_next in (
-      half_within (pos (lambda_of p)) (length_of p even -ℤ length_of p other_even) both.0,
-      half_within (pos (lambda_of p)) (length_of p odd -ℤ length_of p other_odd) both.1,
+      half_within (pos (lambda_of p)) (cycle_length_of p even -ℤ cycle_length_of p other_even) both.0,
+      half_within (pos (lambda_of p)) (cycle_length_of p odd -ℤ cycle_length_of p other_odd) both.1,
     )
 
 -- from one sender's odd length
 near_sender : (p : Values) (senders : List Sender) (spread : ℤ) (row : NodeRow) (values : List ℤ) (term : Term) (next : NodeRow) (length : ℤ)
-    → IsSane p → holds_of 1 p ≡ true → holds_of 2 p ≡ true → All (λ (other : Sender). IsWithin spread (length -ℤ length_of p other.odd)) senders
+    → IsSane p → holds_of 1 p ≡ true → holds_of 2 p ≡ true → All (λ (other : Sender). IsWithin spread (length -ℤ cycle_length_of p other.odd)) senders
     → IsRateRound p senders row values term → (round : Round p row values term) → Near p row values term round next
-    → IsWithin (spread +ℤ pos (near_length p)) (length_of p next -ℤ length)
+    → IsWithin (spread +ℤ pos (near_length p)) (cycle_length_of p next -ℤ length)
 near_sender p senders spread row values term next length sane first second near is round close =
     let receives = receives_lengths p senders row values sane is.micro is.hears (lasting p row sane first second is.micro) in
-    let f = λ (sender : Sender). length_of p sender.odd in
+    let f = λ (sender : Sender). cycle_length_of p sender.odd in
     let among =
     one_receiver_lem (odd_lengths p senders) (length -ℤ spread) (length +ℤ spread) (pos (y1_of p)) (pos (y1_of p)) (rates_at p row values) round.mid
-    (All-mapped (λ (other : Sender). IsWithin spread (length -ℤ length_of p other.odd)) (λ x. (length -ℤ spread) ≤ℤ x) f senders (λ other h. from_low length (length_of p other.odd) spread h) near)
-    (All-mapped (λ (other : Sender). IsWithin spread (length -ℤ length_of p other.odd)) (λ x. x ≤ℤ (length +ℤ spread)) f senders (λ other h. from_high length (length_of p other.odd) spread h) near)
+    (All-mapped (λ (other : Sender). IsWithin spread (length -ℤ cycle_length_of p other.odd)) (λ x. (length -ℤ spread) ≤ℤ x) f senders (λ other h. from_low length (cycle_length_of p other.odd) spread h) near)
+    (All-mapped (λ (other : Sender). IsWithin spread (length -ℤ cycle_length_of p other.odd)) (λ x. x ≤ℤ (length +ℤ spread)) f senders (λ other h. from_high length (cycle_length_of p other.odd) spread h) near)
     receives round.middle in
     let damping = sane.ranges name.pClusterDriftDamping in
     let from : pos 0 ≤ℤ p.damping = omega (arith, ints, damping.0) in
     sum spread (p.damping *ℤ pos (longest_micro p)) (y1_of p) (amount p name.pClusterDriftDamping * longest_micro p) (cycle_change p)
-    (place_at (rates_at p row values) round.mid) close.damped_length (length_of p next) length (times_natural p.damping (longest_micro p) from) among.0 among.1 close.damping close.change
+    (place_at (rates_at p row values) round.mid) close.damped_length (cycle_length_of p next) length (times_natural p.damping (longest_micro p) from) among.0 among.1 close.damping close.change
   where
     from_low : (a b s : ℤ) → IsWithin s (a -ℤ b) → (a -ℤ s) ≤ℤ b
     from_low a b s h = omega (arith, ints, h.high)
@@ -366,11 +365,17 @@ lengths_stay_near p senders spread row values term even odd sane first second so
     let even_near = near_next p row values term even sane first second round is.micro next.even_rate next.even_micro s.once in
     let odd_near = near_next p row values term odd sane first second round is.micro next.odd_rate next.odd_micro s.twice in
     All-along
-    (λ (one : Sender). All (λ (other : Sender). IsWithin spread (length_of p one.odd -ℤ length_of p other.odd)) senders)
-    (λ (one : Sender). IsWithin (spread +ℤ pos (near_length p)) (length_of p even -ℤ length_of p one.odd) × IsWithin (spread +ℤ pos (near_length p)) (length_of p odd -ℤ length_of p one.odd))
+    (λ (one : Sender). All (λ (other : Sender). IsWithin spread (cycle_length_of p one.odd -ℤ cycle_length_of p other.odd)) senders)
+    (λ (one : Sender). IsWithin (spread +ℤ pos (near_length p)) (cycle_length_of p even -ℤ cycle_length_of p one.odd) × IsWithin (spread +ℤ pos (near_length p)) (cycle_length_of p odd -ℤ cycle_length_of p one.odd))
     senders
     (λ one near. (
-      near_sender p senders spread row values term even (length_of p one.odd) sane first second near is round even_near,
-      near_sender p senders spread row values term odd (length_of p one.odd) sane first second near is round odd_near,
+      near_sender p senders spread row values term even (cycle_length_of p one.odd) sane first second near is round even_near,
+      near_sender p senders spread row values term odd (cycle_length_of p one.odd) sane first second near is round odd_near,
     ))
     within
+
+pub near_length_is_below_lambda : NearLengthIsBelowLambda
+near_length_is_below_lambda p = step (y1_of p) (longest_micro p) (cycle_change p) (amount p name.pClusterDriftDamping * longest_micro p)
+  where
+    step : (y1 qp j cqp : ℕ) → y1 + cqp + 2 * j ≤ 4 * y1 + 2 * qp + 4 * cqp + 8 * j
+    step y1 qp j cqp = omega arith

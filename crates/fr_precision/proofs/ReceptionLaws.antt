@@ -19,7 +19,7 @@ use Rattle.fr_time.proofs.Placing.{action_point_lt, is_grid_lem, slot_end_lt, sl
 use Rattle.fr_bound.specs.Bounds.{nominal, precision_of, shortest_micro, widest}
 use Rattle.fr_bound.specs.Checks.{behind_action, clear_micros, least_cycle, left_of}
 use Rattle.fr_bound.proofs.Uncut.{uncut_lem}
-use Rattle.fr_precision.specs.Rows.{length_of}
+use Rattle.fr_bound.specs.Sync.{cycle_length_of}
 use Rattle.fr_precision.specs.Reception.{ArrivesInSlot, IsDelay, RoomChecksSuffice}
 use Rattle.fr_precision.proofs.Figures.{nat_le-true, natural, times_natural}
 use Rattle.fr_precision.proofs.InstantLaws.{before_correction}
@@ -48,7 +48,7 @@ room_checks_suffice p sane fourth fifth =
 
 -- an instant up to the offset correction on its way, with the receiver's own microtick as the greatest
 even_line : (p : Values) (row : NodeRow) (macrotick : ℤ) → IsSane p → pos 0 <ℤ row.length
-    → OnLine row.start (length_of p row) row.length macrotick p.macros row.length (instant_of (grid_for p) row false macrotick)
+    → OnLine row.start (cycle_length_of p row) row.length macrotick p.macros row.length (instant_of (grid_for p) row false macrotick)
 even_line p row macrotick sane lasts =
     let grid = is_grid_lem p sane in
     on_line row.start row.length macrotick (p.micros +ℤ row.rate) p.macros row.length (omega (arith, ints, grid.correction_from, grid.correction_to)) lasts (itself row.length)
@@ -57,10 +57,10 @@ even_line p row macrotick sane lasts =
     itself a = omega (arith, ints)
 
 slot_line : (p : Values) (row : NodeRow) (is_odd : Bool) (macrotick : ℤ) → IsSane p → pos 0 <ℤ row.length → macrotick ≤ℤ p.correction
-    → OnLine row.start (length_of p row) row.length macrotick p.macros row.length (instant_of (grid_for p) row is_odd macrotick)
+    → OnLine row.start (cycle_length_of p row) row.length macrotick p.macros row.length (instant_of (grid_for p) row is_odd macrotick)
 slot_line p row false macrotick sane lasts to = even_line p row macrotick sane lasts
 slot_line p row true macrotick sane lasts to =
-    let On : ℤ → Type 0 = OnLine row.start (length_of p row) row.length macrotick p.macros row.length in
+    let On : ℤ → Type 0 = OnLine row.start (cycle_length_of p row) row.length macrotick p.macros row.length in
     subst On (sym (before_correction p row macrotick to)) (even_line p row macrotick sane lasts)
 
 spanned : (c m n n' a b pt tp t s x y w k k' : ℤ)
@@ -157,7 +157,7 @@ delay_range p channel.A delay sane near = let range = sane.ranges name.pDelayCom
 delay_range p channel.B delay sane near = let range = sane.ranges name.pDelayCompensation in compensated p.compensation (amount p name.xDelayError) delay range.0 near
 
 -- a slot and its end before the offset correction
-ends_before : (p : Values) (slot : ℕ) → IsSane p → slot ≤ amount p name.gNumberOfStaticSlots → pos (slot_end_of p slot) ≤ℤ p.correction
+pub ends_before : (p : Values) (slot : ℕ) → IsSane p → slot ≤ amount p name.gNumberOfStaticSlots → pos (slot_end_of p slot) ≤ℤ p.correction
 ends_before p slot sane static =
     let range = sane.ranges name.gOffsetCorrectionStart in
     let behind = slot_end_lt p slot sane static in

@@ -1,9 +1,9 @@
 -- The premises of the laws are met: two nodes of a worked cluster, each with the values that it has of the other. Node 2
 -- starts 2,500,000 ticks behind node 1; node 1 measures 2 microticks and node 2 measures -3, and their offset terms are
 -- 1 and -1.
-use Rattle.std.proofs.Common.{◌≡◌, ℕ, ◌≤◌, true, false, ℤ, pos, negsuc, List, [], ◌∷◌, Some, All, refl, inr, lit≤, lit<, rules, arith}
-use Rattle.std.specs.Prelude.{◌≢◌, ◌<◌, ◌+◌, ◌*◌, ◌+ℤ◌, ◌-ℤ◌, ◌*ℤ◌, ◌≤ℤ◌, ◌<ℤ◌, AllPairs, Contains}
-use Rattle.std.proofs.lemmas.List.Elements.{All-cons, All-nil}
+use Rattle.std.proofs.Common.{◌≡◌, ℕ, ◌≤◌, true, false, ℤ, pos, negsuc, List, [], ◌∷◌, Some, All, refl, inr, lit≤, lit<, rules, arith, length}
+use Rattle.std.specs.Prelude.{◌≢◌, ◌<◌, ◌+◌, ◌*◌, ◌+ℤ◌, ◌-ℤ◌, ◌*ℤ◌, ◌≤ℤ◌, ◌<ℤ◌, AllPairs, Contains, nat_abs}
+use Rattle.std.proofs.lemmas.List.Elements.{All-cons, All-contains, All-nil}
 use Rattle.std.proofs.lemmas.List.Kept.{AllPairs-cons}
 use Rattle.std.proofs.lemmas.List.Sorted.{IsPermutation-refl}
 use Rattle.fr_base.specs.declared.node_row.NodeRow.{NodeRow}
@@ -18,14 +18,21 @@ use Rattle.fr_params.specs.declared.names.ParamName.TheVariants as name
 use Rattle.fr_params.specs.declared.rows.NodeSpec.{NodeSpec}
 use Rattle.fr_params.specs.declared.rows.SlotSpec.{SlotSpec}
 use Rattle.fr_midpoint.specs.Within.{IsWithin}
-use Rattle.fr_midpoint.specs.Midpoint.{IsMidpoint}
+use Rattle.fr_midpoint.specs.Midpoint.{discarded, IsMidpoint}
 use Rattle.fr_correct.specs.declared.term.Term.{Term}
 use Rattle.fr_base.specs.declared.channel.Channel.TheVariants.{A}
 use Rattle.fr_bound.specs.Bounds.{arrival_error, lambda_of, longest_micro, pi_of, precision_of}
-use Rattle.fr_precision.specs.Rows.{corrected_end_of, length_of, AreNear, HasProperLength, HasProperMicro, Lasts, Sender}
+use Rattle.fr_bound.specs.Sync.{cycle_length_of, IsInSync, IsProperLength, LieWithin}
+use Rattle.fr_precision.specs.Rows.{corrected_end_of, AreNear, HasProperMicro, Lasts, Sender}
 use Rattle.fr_precision.specs.Instants.{gap_of, Runs}
 use Rattle.fr_precision.specs.Offsets.{IsDeviation, IsOffsetRound, IsSending, LimitSuffices, NearAll, ReachAll}
+use Rattle.fr_precision.specs.Deviations.{counted_of}
 use Rattle.fr_precision.specs.Placement.{IsRegular}
+use Rattle.fr_time.specs.Position.{grid_for}
+use Rattle.fr_time.specs.Instant.{instant_of}
+use Rattle.fr_precision.proofs.DeviationLaws.{counted_is_deviation, recorded_is_deviation}
+use Rattle.fr_precision.specs.Step.{AllKeepOne, AreSynced, ComputesTerms, IsAmong, IsFollowed, Member, SendersAreSynced, StaySynced, TakesPart}
+use Rattle.fr_precision.proofs.StepLaws.{next_is_in_sync, sync_is_kept_lem, sync_of_all_is_kept}
 use Rattle.fr_precision.specs.Rates.{IsNext, IsRateRound, PlacesLength}
 use Rattle.fr_precision.proofs.InstantLaws.{precision_holds_lem}
 use Rattle.fr_precision.proofs.OffsetLaws.{ends_stay_together, offset_terms_are_uncut, third_check_suffices}
@@ -200,6 +207,22 @@ own_of_second = record { low = record { lt = tt }; high = record { le = tt } }
 not_four : IsDeviation cluster true (pos 37) first.odd second.odd (pos 4) → ⊥
 not_four dev = absurd (dev.high.le)
 
+-- these are what they count where frames come without a delay
+counted :
+    (counted_of cluster first.odd 2 A (instant_of (grid_for cluster) second.odd true (pos 37) +ℤ pos 0) ≡ pos 2)
+    × (counted_of cluster second.odd 1 A (instant_of (grid_for cluster) first.odd true (pos 7) +ℤ pos 0) ≡ negsuc 2)
+counted = (refl, refl)
+
+also_first_of_second : IsDeviation cluster true (pos 37) first.odd second.odd (pos 2)
+also_first_of_second =
+    counted_is_deviation cluster (pos 0) 2 A true first.odd second.odd is_sane (lit≤ tt) (lit≤ tt) (micro 1 200_000_000_000 (pos 1))
+    (record { low = record { le = tt }; high = record { le = tt } })
+
+-- and they lie in the range that the gap of both instants gives
+recorded_first_of_second : IsDeviation cluster true (pos 37) first.odd second.odd (pos 2)
+recorded_first_of_second =
+    recorded_is_deviation cluster true (pos 37) (pos 2) first.odd second.odd (lasts 1 200_000_000_000 (pos 1)) (record { le = tt }) (record { le = tt })
+
 offsets_of_first : IsOffsetRound cluster both first.odd first_values first_term
 offsets_of_first = record {
   micro = micro 1 200_000_000_000 (pos 1);
@@ -234,17 +257,17 @@ starts_near =
     (two (λ (other : Sender). IsWithin (pos (pi_of cluster)) (first.even.start -ℤ other.even.start)) first second (record { low = record { le = tt }; high = record { le = tt } }) (record { low = record { le = tt }; high = record { le = tt } }))
     (two (λ (other : Sender). IsWithin (pos (pi_of cluster)) (second.even.start -ℤ other.even.start)) first second (record { low = record { le = tt }; high = record { le = tt } }) (record { low = record { le = tt }; high = record { le = tt } }))
 
-even_near : AreNear (λ sender. length_of cluster sender.even) (pos (lambda_of cluster)) both
+even_near : AreNear (λ sender. cycle_length_of cluster sender.even) (pos (lambda_of cluster)) both
 even_near =
-    two (λ (one : Sender). All (λ (other : Sender). IsWithin (pos (lambda_of cluster)) (length_of cluster one.even -ℤ length_of cluster other.even)) both) first second
-    (two (λ (other : Sender). IsWithin (pos (lambda_of cluster)) (length_of cluster first.even -ℤ length_of cluster other.even)) first second (record { low = record { le = tt }; high = record { le = tt } }) (record { low = record { le = tt }; high = record { le = tt } }))
-    (two (λ (other : Sender). IsWithin (pos (lambda_of cluster)) (length_of cluster second.even -ℤ length_of cluster other.even)) first second (record { low = record { le = tt }; high = record { le = tt } }) (record { low = record { le = tt }; high = record { le = tt } }))
+    two (λ (one : Sender). All (λ (other : Sender). IsWithin (pos (lambda_of cluster)) (cycle_length_of cluster one.even -ℤ cycle_length_of cluster other.even)) both) first second
+    (two (λ (other : Sender). IsWithin (pos (lambda_of cluster)) (cycle_length_of cluster first.even -ℤ cycle_length_of cluster other.even)) first second (record { low = record { le = tt }; high = record { le = tt } }) (record { low = record { le = tt }; high = record { le = tt } }))
+    (two (λ (other : Sender). IsWithin (pos (lambda_of cluster)) (cycle_length_of cluster second.even -ℤ cycle_length_of cluster other.even)) first second (record { low = record { le = tt }; high = record { le = tt } }) (record { low = record { le = tt }; high = record { le = tt } }))
 
-odd_near : AreNear (λ sender. length_of cluster sender.odd) (pos (lambda_of cluster)) both
+odd_near : AreNear (λ sender. cycle_length_of cluster sender.odd) (pos (lambda_of cluster)) both
 odd_near =
-    two (λ (one : Sender). All (λ (other : Sender). IsWithin (pos (lambda_of cluster)) (length_of cluster one.odd -ℤ length_of cluster other.odd)) both) first second
-    (two (λ (other : Sender). IsWithin (pos (lambda_of cluster)) (length_of cluster first.odd -ℤ length_of cluster other.odd)) first second (record { low = record { le = tt }; high = record { le = tt } }) (record { low = record { le = tt }; high = record { le = tt } }))
-    (two (λ (other : Sender). IsWithin (pos (lambda_of cluster)) (length_of cluster second.odd -ℤ length_of cluster other.odd)) first second (record { low = record { le = tt }; high = record { le = tt } }) (record { low = record { le = tt }; high = record { le = tt } }))
+    two (λ (one : Sender). All (λ (other : Sender). IsWithin (pos (lambda_of cluster)) (cycle_length_of cluster one.odd -ℤ cycle_length_of cluster other.odd)) both) first second
+    (two (λ (other : Sender). IsWithin (pos (lambda_of cluster)) (cycle_length_of cluster first.odd -ℤ cycle_length_of cluster other.odd)) first second (record { low = record { le = tt }; high = record { le = tt } }) (record { low = record { le = tt }; high = record { le = tt } }))
+    (two (λ (other : Sender). IsWithin (pos (lambda_of cluster)) (cycle_length_of cluster second.odd -ℤ cycle_length_of cluster other.odd)) first second (record { low = record { le = tt }; high = record { le = tt } }) (record { low = record { le = tt }; high = record { le = tt } }))
 
 -- the limit suffices for the precision, and each node is within reach of the other
 suffices : LimitSuffices cluster (pos (precision_of cluster))
@@ -264,13 +287,13 @@ reach_second =
 
 near_first : NearAll cluster (pos (lambda_of cluster)) both first.odd
 near_first =
-    two (λ (sender : Sender). IsWithin (pos (lambda_of cluster)) (length_of cluster first.odd -ℤ length_of cluster sender.odd)) first second
+    two (λ (sender : Sender). IsWithin (pos (lambda_of cluster)) (cycle_length_of cluster first.odd -ℤ cycle_length_of cluster sender.odd)) first second
     (record { low = record { le = tt }; high = record { le = tt } })
     (record { low = record { le = tt }; high = record { le = tt } })
 
 near_second : NearAll cluster (pos (lambda_of cluster)) both second.odd
 near_second =
-    two (λ (sender : Sender). IsWithin (pos (lambda_of cluster)) (length_of cluster second.odd -ℤ length_of cluster sender.odd)) first second
+    two (λ (sender : Sender). IsWithin (pos (lambda_of cluster)) (cycle_length_of cluster second.odd -ℤ cycle_length_of cluster sender.odd)) first second
     (record { low = record { le = tt }; high = record { le = tt } })
     (record { low = record { le = tt }; high = record { le = tt } })
 
@@ -333,11 +356,9 @@ rates_of_second = record {
   is_term = inr (pos 0, middle_of_zeros, refl);
 }
 
-proper : All (λ sender. HasProperLength cluster sender.odd) both
+proper : All (λ sender. IsProperLength cluster (cycle_length_of cluster sender.odd)) both
 proper =
-    two (λ (sender : Sender). HasProperLength cluster sender.odd) first second
-    (record { least = record { le = tt }; most = record { le = tt } })
-    (record { least = record { le = tt }; most = record { le = tt } })
+    two (λ (sender : Sender). IsProperLength cluster (cycle_length_of cluster sender.odd)) first second (record { le = tt }, record { le = tt }) (record { le = tt }, record { le = tt })
 
 next_first : IsNext cluster first.odd zero_term (row 1 400_001_000_000 (pos 0)) (row 1 600_001_000_000 (pos 0))
 next_first = record {
@@ -415,3 +436,127 @@ arrives =
     arrives_in_slot cluster (pos (precision_of cluster)) (pos 0) 2 A false first.even second.even is_sane (room_checks_suffice cluster is_sane refl refl) (lit≤ tt) (lit≤ tt)
     (record { low = record { le = tt }; high = record { le = tt } }) (record { le = tt })
     (record { low = record { le = tt }; high = record { le = tt } }) (record { low = record { le = tt }; high = record { le = tt } })
+
+-- both take part, and stay in sync
+abbrev first_member : Member
+first_member = record {
+  even = first.even;
+  odd = first.odd;
+  offsets = first_values;
+  rates = zeros;
+  offset_term = first_term;
+  rate_term = zero_term;
+}
+
+abbrev second_member : Member
+second_member = record {
+  even = second.even;
+  odd = second.odd;
+  offsets = second_values;
+  rates = zeros;
+  offset_term = second_term;
+  rate_term = zero_term;
+}
+
+synced : (one other : Sender) → IsWithin (pos (pi_of cluster)) (one.even.start -ℤ other.even.start)
+    → IsWithin (pos (lambda_of cluster)) (cycle_length_of cluster one.even -ℤ cycle_length_of cluster other.even)
+    → IsWithin (pos (lambda_of cluster)) (cycle_length_of cluster one.odd -ℤ cycle_length_of cluster other.odd)
+    → AreSynced cluster one.even one.odd other.even other.odd
+synced one other start even odd = record { by_start = start; by_even = even; by_odd = odd }
+
+senders_synced : SendersAreSynced cluster both
+senders_synced = record {
+  sending = two (IsSending cluster) first second sending_first sending_second;
+  run = two (λ (sender : Sender). Runs cluster sender.even sender.odd) first second runs_first runs_second;
+  near = record { by_start = starts_near; by_even = even_near; by_odd = odd_near };
+  proper = proper;
+}
+
+first_takes_part : TakesPart cluster both first_member
+first_takes_part = record {
+  runs = runs_first;
+  near =
+      two (λ (sender : Sender). AreSynced cluster sender.even sender.odd first.even first.odd) first second
+      (synced first first (record { low = record { le = tt }; high = record { le = tt } }) (record { low = record { le = tt }; high = record { le = tt } }) (record { low = record { le = tt }; high = record { le = tt } }))
+      (synced second first (record { low = record { le = tt }; high = record { le = tt } }) (record { low = record { le = tt }; high = record { le = tt } }) (record { low = record { le = tt }; high = record { le = tt } }));
+  by_offset = offsets_of_first;
+  by_rate = rates_of_first;
+}
+
+second_takes_part : TakesPart cluster both second_member
+second_takes_part = record {
+  runs = runs_second;
+  near =
+      two (λ (sender : Sender). AreSynced cluster sender.even sender.odd second.even second.odd) first second
+      (synced first second (record { low = record { le = tt }; high = record { le = tt } }) (record { low = record { le = tt }; high = record { le = tt } }) (record { low = record { le = tt }; high = record { le = tt } }))
+      (synced second second (record { low = record { le = tt }; high = record { le = tt } }) (record { low = record { le = tt }; high = record { le = tt } }) (record { low = record { le = tt }; high = record { le = tt } }));
+  by_offset = offsets_of_second;
+  by_rate = rates_of_second;
+}
+
+stay_synced : StaySynced cluster first_member second_member
+stay_synced =
+    sync_is_kept_lem cluster both first_member second_member is_sane refl refl refl senders_synced first_takes_part second_takes_part
+    (synced first second (record { low = record { le = tt }; high = record { le = tt } }) (record { low = record { le = tt }; high = record { le = tt } }) (record { low = record { le = tt }; high = record { le = tt } }))
+    (lit≤ tt) (lit≤ tt)
+
+-- the same from their rows as lists
+lie_two : (bound a b : ℤ) → (a -ℤ a) ≤ℤ bound → (a -ℤ b) ≤ℤ bound → (b -ℤ a) ≤ℤ bound → (b -ℤ b) ≤ℤ bound → LieWithin bound (a ∷ b ∷ [])
+lie_two bound a b aa ab ba bb =
+    two (λ x. All (λ y. (x -ℤ y) ≤ℤ bound) (a ∷ b ∷ [])) a b (two (λ y. (a -ℤ y) ≤ℤ bound) a b aa ab) (two (λ y. (b -ℤ y) ≤ℤ bound) a b ba bb)
+
+rows_in_sync : IsInSync cluster (first.even ∷ second.even ∷ []) (first.odd ∷ second.odd ∷ [])
+rows_in_sync = record {
+  active_even = two (λ (row : NodeRow). row.state ≡ Active) first.even second.even refl refl;
+  active_odd = two (λ (row : NodeRow). row.state ≡ Active) first.odd second.odd refl refl;
+  starts = lie_two (pos (pi_of cluster)) first.even.start second.even.start (record { le = tt }) (record { le = tt }) (record { le = tt }) (record { le = tt });
+  even_lengths = lie_two (pos (lambda_of cluster)) (cycle_length_of cluster first.even) (cycle_length_of cluster second.even) (record { le = tt }) (record { le = tt }) (record { le = tt }) (record { le = tt });
+  odd_lengths = lie_two (pos (lambda_of cluster)) (cycle_length_of cluster first.odd) (cycle_length_of cluster second.odd) (record { le = tt }) (record { le = tt }) (record { le = tt }) (record { le = tt });
+  even_proper = two (λ (row : NodeRow). IsProperLength cluster (cycle_length_of cluster row)) first.even second.even (record { le = tt }, record { le = tt }) (record { le = tt }, record { le = tt });
+  odd_proper = two (λ (row : NodeRow). IsProperLength cluster (cycle_length_of cluster row)) first.odd second.odd (record { le = tt }, record { le = tt }) (record { le = tt }, record { le = tt });
+}
+
+abbrev members : List Member
+members = first_member ∷ second_member ∷ []
+
+two_values : All (λ member. (length member.offsets ≡ 2) × (length member.rates ≡ 2)) members
+two_values = two (λ (member : Member). (length member.offsets ≡ 2) × (length member.rates ≡ 2)) first_member second_member (refl, refl) (refl, refl)
+
+keep_one : AllKeepOne both members
+keep_one one other here there =
+    let of_one = All-contains (λ (member : Member). (length member.offsets ≡ 2) × (length member.rates ≡ 2)) members one two_values here in
+    let of_other = All-contains (λ (member : Member). (length member.offsets ≡ 2) × (length member.rates ≡ 2)) members other two_values there in
+    (of_two (length one.offsets) (length other.offsets) of_one.0 of_other.0, of_two (length one.rates) (length other.rates) of_one.1 of_other.1)
+  where
+    of_two : (m n : ℕ) → m ≡ 2 → n ≡ 2 → discarded m + discarded n + 1 ≤ 2
+    of_two m n e g = rw (e, g) (lit≤ tt)
+
+stay_synced_by_lists : StaySynced cluster second_member first_member
+stay_synced_by_lists =
+    sync_of_all_is_kept cluster both members is_sane refl refl refl rows_in_sync
+    (two (IsSending cluster) first second sending_first sending_second)
+    (two (IsAmong members) first second (first_member, (0, lit< tt, refl), refl, refl) (second_member, (1, lit< tt, refl), refl, refl))
+    (two (ComputesTerms cluster both) first_member second_member
+    (record { runs = runs_first; by_offset = offsets_of_first; by_rate = rates_of_first })
+    (record { runs = runs_second; by_offset = offsets_of_second; by_rate = rates_of_second }))
+    keep_one second_member first_member (1, lit< tt, refl) (0, lit< tt, refl)
+
+-- the next double cycle begins at the corrected ends, with the same microticks
+abbrev next_even : Member → NodeRow
+next_even member = row member.even.node (nat_abs (corrected_end_of cluster member.odd)) (pos 0)
+
+abbrev next_odd : Member → NodeRow
+next_odd member = row member.even.node (nat_abs (corrected_end_of cluster member.odd) + 200_000_000_000) (pos 0)
+
+next_in_sync : IsInSync cluster (next_even first_member ∷ next_even second_member ∷ []) (next_odd first_member ∷ next_odd second_member ∷ [])
+next_in_sync =
+    next_is_in_sync cluster both members next_even next_odd is_sane refl refl refl rows_in_sync
+    (two (IsSending cluster) first second sending_first sending_second)
+    (two (IsAmong members) first second (first_member, (0, lit< tt, refl), refl, refl) (second_member, (1, lit< tt, refl), refl, refl))
+    (two (ComputesTerms cluster both) first_member second_member
+    (record { runs = runs_first; by_offset = offsets_of_first; by_rate = rates_of_first })
+    (record { runs = runs_second; by_offset = offsets_of_second; by_rate = rates_of_second }))
+    keep_one
+    (two (λ member. IsFollowed cluster member (next_even member) (next_odd member)) first_member second_member
+    (record { start = refl; next = next_first; active_even = refl; active_odd = refl })
+    (record { start = refl; next = next_second; active_even = refl; active_odd = refl }))

@@ -7,7 +7,8 @@ use Rattle.fr_midpoint.specs.Within.{IsWithin}
 use Rattle.fr_time.specs.Position.{grid_for}
 use Rattle.fr_time.specs.Instant.{instant_of}
 use Rattle.fr_bound.specs.Bounds.{lambda_of, longest_micro, pi_of, precision_of}
-use Rattle.fr_precision.specs.Rows.{corrected_end_of, length_of, Lasts, IsDoubleCycle}
+use Rattle.fr_bound.specs.Sync.{cycle_length_of}
+use Rattle.fr_precision.specs.Rows.{corrected_end_of, Lasts, IsDoubleCycle}
 
 -- a node in a double cycle: its two rows follow each other, and every microtick lasts
 pub record Runs (p : Values) (even odd : NodeRow) : Type 0 where
@@ -22,8 +23,8 @@ gap_of p is_odd macrotick row other = instant_of (grid_for p) row is_odd macroti
 -- two nodes' starts of a double cycle lie at most so far apart, and so do the lengths of their even and their odd cycles
 pub record LieNear (p : Values) (starts even_lengths odd_lengths : ℤ) (even odd other_even other_odd : NodeRow) : Type 0 where
   pub by_start : IsWithin starts (even.start -ℤ other_even.start)
-  pub by_even : IsWithin even_lengths (length_of p even -ℤ length_of p other_even)
-  pub by_odd : IsWithin odd_lengths (length_of p odd -ℤ length_of p other_odd)
+  pub by_even : IsWithin even_lengths (cycle_length_of p even -ℤ cycle_length_of p other_even)
+  pub by_odd : IsWithin odd_lengths (cycle_length_of p odd -ℤ cycle_length_of p other_odd)
 
 -- up to the start of the offset correction, macroticks lie no further apart than starts and lengths together, and a
 -- microtick; in the even cycle all do, since it has no offset correction

@@ -1,6 +1,8 @@
+pub mod Deviations
 pub mod Instants
 pub mod Offsets
 pub mod Placement
 pub mod Rates
 pub mod Reception
 pub mod Rows
+pub mod Step

@@ -10,7 +10,8 @@ use Rattle.fr_correct.specs.declared.term.Term.{Term}
 use Rattle.fr_correct.specs.Terms.{IsOffsetTerm}
 use Rattle.fr_bound.specs.Bounds.{arrival_error, lambda_of, longest_micro, pi_of, precision_of}
 use Rattle.fr_bound.specs.Checks.{holds_of, left_of}
-use Rattle.fr_precision.specs.Rows.{corrected_end_of, end_of, length_of, AreNear, HasProperMicro, IsDoubleCycle, KeepOne, Lasts, Sender}
+use Rattle.fr_bound.specs.Sync.{cycle_length_of}
+use Rattle.fr_precision.specs.Rows.{corrected_end_of, end_of, AreNear, HasProperMicro, IsDoubleCycle, KeepOne, Lasts, Sender}
 use Rattle.fr_precision.specs.Instants.{gap_of}
 
 -- a deviation that a receiver may have of a sender's frame, sent at a macrotick of a cycle: counted in the receiver's
@@ -44,7 +45,7 @@ ReachAll p reach senders row = All (λ sender. IsWithin reach (gap_of p true sen
 
 -- the length of each sender's odd cycle lies at most so far from the receiver's
 abbrev pub NearAll : Values → ℤ → List Sender → NodeRow → Type 0
-NearAll p lengths senders row = All (λ sender. IsWithin lengths (length_of p row -ℤ length_of p sender.odd)) senders
+NearAll p lengths senders row = All (λ sender. IsWithin lengths (cycle_length_of p row -ℤ cycle_length_of p sender.odd)) senders
 
 -- no offset term is cut
 abbrev pub OffsetTermsAreUncut : Type 0
@@ -71,8 +72,8 @@ CorrectedEndLiesAmong =
 -- any two senders' starts of the double cycle lie at most so far apart, and so do the lengths of both cycles
 pub record SendersLieNear (p : Values) (starts lengths : ℤ) (senders : List Sender) : Type 0 where
   pub by_start : AreNear (λ sender. sender.even.start) starts senders
-  pub by_even : AreNear (λ sender. length_of p sender.even) lengths senders
-  pub by_odd : AreNear (λ sender. length_of p sender.odd) lengths senders
+  pub by_even : AreNear (λ sender. cycle_length_of p sender.even) lengths senders
+  pub by_odd : AreNear (λ sender. cycle_length_of p sender.odd) lengths senders
 
 -- the corrected ends of two receivers lie half as far apart as the senders' starts, and some
 abbrev pub EndsDrawTogether : Type 0

@@ -1,5 +1,5 @@
 -- A double cycle of a node, as the laws of precision see it: the rows of its even and its odd cycle.
-use Rattle.std.specs.Prelude.{◌≡◌, ℕ, ◌+◌, ◌*◌, ◌≤◌, ℤ, pos, ◌+ℤ◌, ◌-ℤ◌, ◌*ℤ◌, ◌≤ℤ◌, ◌<ℤ◌, List, length, All}
+use Rattle.std.specs.Prelude.{◌≡◌, ℕ, ◌+◌, ◌*◌, ◌≤◌, ℤ, pos, ◌+ℤ◌, ◌-ℤ◌, ◌≤ℤ◌, ◌<ℤ◌, List, length, All}
 use Rattle.fr_base.specs.declared.node_row.NodeRow.{NodeRow}
 use Rattle.fr_params.specs.Values.{Values, amount}
 use Rattle.fr_params.specs.declared.names.ParamName.TheVariants as name
@@ -8,6 +8,7 @@ use Rattle.fr_midpoint.specs.Midpoint.{discarded}
 use Rattle.fr_time.specs.Position.{grid_for}
 use Rattle.fr_time.specs.Instant.{next_start_of}
 use Rattle.fr_bound.specs.Bounds.{longest_micro, shortest_micro}
+use Rattle.fr_bound.specs.Sync.{cycle_length_of}
 
 -- a correct sync node in a double cycle: its two rows, and the macrotick at which it sends
 pub record Sender : Type 0 where
@@ -15,13 +16,9 @@ pub record Sender : Type 0 where
   pub odd : NodeRow
   pub action : ℤ
 
--- the length of a cycle before its offset term, in ticks
-abbrev pub length_of : Values → NodeRow → ℤ
-length_of p row = (p.micros +ℤ row.rate) *ℤ row.length
-
 -- the end of a cycle before its offset term
 abbrev pub end_of : Values → NodeRow → ℤ
-end_of p row = row.start +ℤ length_of p row
+end_of p row = row.start +ℤ cycle_length_of p row
 
 -- the end of a cycle as its offset term corrects it: the start of the next one
 abbrev pub corrected_end_of : Values → NodeRow → ℤ
@@ -43,11 +40,6 @@ pub record Lasts (p : Values) (row : NodeRow) : Type 0 where
 pub record HasProperMicro (p : Values) (row : NodeRow) : Type 0 where
   pub least : pos (shortest_micro p) ≤ℤ row.length
   pub most : row.length ≤ℤ pos (longest_micro p)
-
--- a cycle is no shorter than the shortest, and no longer than the longest
-pub record HasProperLength (p : Values) (row : NodeRow) : Type 0 where
-  pub least : pos (shortest_cycle p) ≤ℤ length_of p row
-  pub most : length_of p row ≤ℤ pos (longest_cycle p)
 
 -- the microtick changes from one cycle to another by no more than the change bound
 abbrev pub IsSteady : Values → NodeRow → NodeRow → Type 0

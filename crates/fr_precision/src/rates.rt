@@ -1,4 +1,4 @@
-ghost use Rattle.fr_precision.specs.Rates.{LengthsDrawTogether, LengthsStayInRange, LengthsStayNear, LengthsStayTogether, RateTermsAreUncut};
+ghost use Rattle.fr_precision.specs.Rates.{LengthsDrawTogether, LengthsStayInRange, LengthsStayNear, LengthsStayTogether, NearLengthIsBelowLambda, RateTermsAreUncut};
 
 /// The law of the range: where the first two checks hold, no node's rate term is cut, and the lengths of its
 /// next cycles stay in their range, in ticks.
@@ -13,4 +13,5 @@ pub fn lengths_draw_together()
     ensures together { LengthsDrawTogether }
     ensures fixed { LengthsStayTogether }
     ensures near { LengthsStayNear }
+    ensures bounded { NearLengthIsBelowLambda }
 {}

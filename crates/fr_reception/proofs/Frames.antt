@@ -10,6 +10,7 @@ use Rattle.std.proofs.lemmas.List.{length-replicate}
 use Rattle.std.proofs.lemmas.List.FromFn.{length-map-range_with_len}
 use Rattle.std.proofs.lemmas.List.Elements.{All-head, All-tail, All-replicate, All-map}
 use Rattle.fr_base.specs.declared.channel.Channel.{Channel}
+use Rattle.fr_frame.proofs.Exact.{lengths_fit}
 use Rattle.fr_frame.specs.Frame.{IsFrame}
 use Rattle.fr_frame.specs.Refusal.{IsAccepted}
 use Rattle.fr_frame.proofs.Exact.{accepted_frame}
@@ -100,3 +101,8 @@ pub regular_is_of_bytes : (p : Values) (sending : Sending) (slot cycle : ℕ) (c
 regular_is_of_bytes p sending slot cycle channel sane sends =
     frame_small channel (regular_header p sending slot cycle) (regular_payload p sending slot cycle) (regular_frame p sending slot cycle channel)
     (regular_is_frame p sending slot cycle channel sane sends) (payload_of-small (has_payload sending.kind) (payload_length p) slot cycle)
+
+pub length-regular_frame : (p : Values) (sending : Sending) (slot cycle : ℕ) (channel : Channel) → IsSane p → sender_of p slot cycle ≡ Some sending →
+    length (regular_frame p sending slot cycle channel) ≡ 8 + payload_length p
+length-regular_frame p sending slot cycle channel sane sends =
+    (lengths_fit channel (regular_header p sending slot cycle) (regular_payload p sending slot cycle) (regular_frame p sending slot cycle channel) (regular_is_frame p sending slot cycle channel sane sends)).0

@@ -1,3 +1,4 @@
 pub mod Answers
 pub mod Frames
 pub mod Early
+pub mod Carried

@@ -1,7 +1,8 @@
-ghost use Rattle.std.specs.Prelude.{◌≡◌, ◌^◌, ◌<◌, ◌≤◌, ℕ, Bool, List, All, Some, length, pos};
+ghost use Rattle.std.specs.Prelude.{◌≡◌, ◌+◌, ◌^◌, ◌<◌, ◌≤◌, ℕ, Bool, List, All, Some, length, pos};
 ghost use Rattle.fr_base.specs.declared.channel.Channel.{Channel};
 ghost use Rattle.fr_base.specs.declared.node_row.NodeRow.{NodeRow};
-ghost use Rattle.fr_frame.specs.Frame.{IsFrame};
+ghost use Rattle.fr_frame.specs.Frame.{IsFrame, IsFrameWith};
+ghost use Rattle.fr_frame.specs.declared.header.Header.{Header};
 ghost use Rattle.fr_params.specs.Values.{Values, amount};
 ghost use Rattle.fr_params.specs.Sane.{IsSane};
 ghost use Rattle.fr_params.specs.declared.names.ParamName.TheVariants as name;
@@ -13,7 +14,7 @@ ghost use Rattle.fr_time.specs.declared.senders.Sending.{Sending};
 ghost use Rattle.fr_reception.specs.declared.heard.Heard.{Heard};
 ghost use Rattle.fr_reception.specs.Answers.{IsAnswer, answer_of};
 ghost use Rattle.fr_reception.specs.Offers.{Offer, early_instant};
-ghost use Rattle.fr_reception.specs.Regular.{payload_length, regular_frame, regular_header, regular_payload};
+ghost use Rattle.fr_reception.specs.Regular.{carried_crc, payload_length, regular_frame, regular_header, regular_payload};
 
 /// A law: the function of an offer gives an answer, where the offer is made of bytes.
 pub fn an_answer()
@@ -34,8 +35,8 @@ pub fn one_answer()
         IsAnswer p cycle row offer first → IsAnswer p cycle row offer second → first ≡ second }
 {}
 
-/// A law: in a cluster the regular frame of a slot is the frame of its header and payload, and has as many
-/// bytes as each static frame.
+/// A law: in a cluster the regular frame of a slot is the frame of its header and payload, is made of bytes,
+/// and has as many of them as each static frame.
 pub fn a_regular_frame()
     ensures frame { (p : Values) (sending : Sending) (slot cycle : ℕ) (channel : Channel) →
         IsSane p → sender_of p slot cycle ≡ Some sending →
@@ -44,6 +45,16 @@ pub fn a_regular_frame()
     ensures bytes { (p : Values) (sending : Sending) (slot cycle : ℕ) (channel : Channel) →
         IsSane p → sender_of p slot cycle ≡ Some sending →
         All (λ byte. byte < 2 ^ 8) (regular_frame p sending slot cycle channel) }
+    ensures long { (p : Values) (sending : Sending) (slot cycle : ℕ) (channel : Channel) →
+        IsSane p → sender_of p slot cycle ≡ Some sending →
+        length (regular_frame p sending slot cycle channel) ≡ 8 + payload_length p }
+{}
+
+/// A law: a frame carries its frame CRC in its last three bytes.
+pub fn a_frame_carries_its_crc()
+    ensures { (channel : Channel) (header : Header) (payload bytes : List ℕ) (header_crc frame_crc : ℕ) →
+        IsFrameWith channel header payload header_crc frame_crc bytes →
+        carried_crc bytes ≡ frame_crc }
 {}
 
 /// A law: the static slots of a cluster lie before the start of the offset correction, so that the offset

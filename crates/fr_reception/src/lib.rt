@@ -7,5 +7,6 @@ mod laws;
 
 pub use heard::{Heard, Ignored};
 pub use laws::{
-    a_regular_frame, an_answer, one_answer, slots_lie_before_the_correction, the_answer_is_found,
+    a_frame_carries_its_crc, a_regular_frame, an_answer, one_answer,
+    slots_lie_before_the_correction, the_answer_is_found,
 };

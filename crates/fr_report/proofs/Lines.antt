@@ -1,5 +1,5 @@
 -- Texts that end with a line feed.
-use Rattle.std.proofs.Common.{◌≡◌, ℕ, List, Option, [], ◌∷◌, ◌++◌, refl, append_assoc, append-nil}
+use Rattle.std.proofs.Common.{ℕ, List, Option, [], ◌∷◌, ◌++◌, refl, append_assoc, append-nil}
 use Rattle.std.specs.List.{flat_map}
 use Rattle.fr_history.specs.Setting.{Setting, correct_nodes}
 use Rattle.fr_history.specs.History.{History}

@@ -1,5 +1,5 @@
 -- Sums over a history.
-use Rattle.std.specs.Prelude.{ℕ, ◌+◌, List, [], ◌∷◌, bit_xor}
+use Rattle.std.specs.Prelude.{ℕ, ◌+◌, [], ◌∷◌, bit_xor}
 use Rattle.std.specs.List.{sum_by}
 use Rattle.fr_base.specs.declared.cycle_row.Counts.{Counts}
 use Rattle.fr_history.specs.History.{History, Record}

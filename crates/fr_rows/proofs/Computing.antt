@@ -17,6 +17,8 @@ use Rattle.fr_midpoint.specs.Midpoint.{midpoint_by_ranks}
 use Rattle.fr_reception.specs.Answers.{answer_of}
 use Rattle.fr_reception.specs.Offers.{flipped}
 use Rattle.fr_reception.specs.Regular.{carried_crc, regular_frame}
+use Rattle.fr_script.specs.Coverage.{first_gap}
+use Rattle.fr_script.specs.First.{first_below, first_in}
 use Rattle.fr_report.specs.After.{last_offset_of}
 use Rattle.fr_report.specs.Sums.{cuts_of, total_of, xor_of}
 use Rattle.fr_report.specs.Text.{report_of}
@@ -45,3 +47,8 @@ on_sums = tt
 unfoldable pub on_reports : ⊤
 unfolding on_histories on_sums outcomes_in values_of midpoint_by_ranks last_offset_of digits hexadecimal report_of
 on_reports = tt
+
+-- the first gap of a run
+unfoldable pub on_gaps : ⊤
+unfolding first_gap first_below first_in
+on_gaps = tt

@@ -5,3 +5,6 @@ pub mod OneArbitrary
 pub mod Quiet
 pub mod Lost
 pub mod TwoArbitrary
+pub mod Gaps
+pub mod Sane
+pub mod Settings

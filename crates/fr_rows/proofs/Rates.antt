@@ -1,10 +1,15 @@
 -- The run of two nodes whose oscillators lie apart, cycle by cycle.
 use Rattle.std.proofs.Common.{◌≡◌, [], ◌∷◌, None, Some, pos, refl}
+use Rattle.fr_drift.specs.View.{DriftView}
+use Rattle.fr_script.specs.Coverage.{first_gap}
+use Rattle.fr_script.specs.View.{ScriptView}
 use Rattle.fr_history.specs.Next.{history_of, next_record}
 use Rattle.fr_history.specs.Skew.{greatest_skew_of}
 use Rattle.fr_history.specs.Sync.{first_sync_of}
 use Rattle.fr_report.specs.Text.{report_of}
-use Rattle.fr_rows.proofs.Computing.{on_histories, on_records, on_reports}
+use Rattle.fr_rows.proofs.Computing.{on_gaps, on_histories, on_records, on_reports}
+use Rattle.fr_rows.proofs.Gaps.{delays_decided, doubles_decided, events_decided, lengths_decided, nodes_decided}
+use Rattle.fr_rows.specs.Files.{run_of}
 use Rattle.fr_rows.specs.Rates.{rates_cycle_0, rates_cycle_1, rates_cycle_2, rates_cycle_3, rates_history, rates_report, rates_run}
 
 cycle_0_is : next_record rates_run [] ≡ rates_cycle_0
@@ -38,3 +43,14 @@ rates_sync_is = refl
 pub rates_report_is : report_of rates_run None rates_history ≡ rates_report
 unfolding on_reports
 rates_report_is = refl
+
+pub rates_gap_is : (d : DriftView) (s : ScriptView) → run_of rates_run.params d s ≡ rates_run → first_gap rates_run.params d s ≡ None
+unfolding on_gaps
+rates_gap_is d s same =
+    Prim.simp (
+      doubles_decided rates_run.params d s rates_run same,
+      nodes_decided rates_run.params d s rates_run same,
+      lengths_decided rates_run.params d s rates_run same,
+      delays_decided rates_run.params d s rates_run same,
+      events_decided rates_run.params d s rates_run same,
+    ) refl

@@ -1,10 +1,15 @@
 -- The run with two arbitrary nodes, cycle by cycle.
 use Rattle.std.proofs.Common.{◌≡◌, [], ◌∷◌, None, Some, pos, refl}
+use Rattle.fr_drift.specs.View.{DriftView}
+use Rattle.fr_script.specs.Coverage.{first_gap}
+use Rattle.fr_script.specs.View.{ScriptView}
 use Rattle.fr_history.specs.Next.{history_of, next_record}
 use Rattle.fr_history.specs.Skew.{greatest_skew_of}
 use Rattle.fr_history.specs.Sync.{first_sync_of}
 use Rattle.fr_report.specs.Text.{report_of}
-use Rattle.fr_rows.proofs.Computing.{on_histories, on_records, on_reports}
+use Rattle.fr_rows.proofs.Computing.{on_gaps, on_histories, on_records, on_reports}
+use Rattle.fr_rows.proofs.Gaps.{delays_decided, doubles_decided, events_decided, lengths_decided, nodes_decided}
+use Rattle.fr_rows.specs.Files.{run_of}
 use Rattle.fr_rows.specs.TwoArbitrary.{two_arbitrary_cycle_0, two_arbitrary_cycle_1, two_arbitrary_history, two_arbitrary_report, two_arbitrary_run}
 
 cycle_0_is : next_record two_arbitrary_run [] ≡ two_arbitrary_cycle_0
@@ -30,3 +35,14 @@ two_arbitrary_sync_is = refl
 pub two_arbitrary_report_is : report_of two_arbitrary_run None two_arbitrary_history ≡ two_arbitrary_report
 unfolding on_reports
 two_arbitrary_report_is = refl
+
+pub two_arbitrary_gap_is : (d : DriftView) (s : ScriptView) → run_of two_arbitrary_run.params d s ≡ two_arbitrary_run → first_gap two_arbitrary_run.params d s ≡ None
+unfolding on_gaps
+two_arbitrary_gap_is d s same =
+    Prim.simp (
+      doubles_decided two_arbitrary_run.params d s two_arbitrary_run same,
+      nodes_decided two_arbitrary_run.params d s two_arbitrary_run same,
+      lengths_decided two_arbitrary_run.params d s two_arbitrary_run same,
+      delays_decided two_arbitrary_run.params d s two_arbitrary_run same,
+      events_decided two_arbitrary_run.params d s two_arbitrary_run same,
+    ) refl

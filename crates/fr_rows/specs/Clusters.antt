@@ -1,5 +1,5 @@
 -- The clusters of the worked runs: a cycle of 5 ms at a microtick of 25 ns.
-use Rattle.std.specs.Prelude.{ℕ, pos, Bool, true, false, List, [], Some}
+use Rattle.std.specs.Prelude.{ℕ, pos, true, false, List, [], Some}
 use Rattle.fr_params.specs.Values.{Values}
 use Rattle.fr_params.specs.declared.rows.NodeSpec.{NodeSpec}
 

@@ -1,8 +1,10 @@
 pub mod Clusters
 pub mod Entries
+pub mod Files
 pub mod Offset
 pub mod Rates
 pub mod OneArbitrary
 pub mod TwoArbitrary
 pub mod Quiet
 pub mod Lost
+pub mod Positions

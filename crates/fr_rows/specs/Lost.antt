@@ -9,17 +9,13 @@ use Rattle.fr_history.specs.Setting.{Setting}
 use Rattle.fr_history.specs.History.{History, Record}
 use Rattle.fr_rows.specs.Clusters.{cluster_of, on_both}
 use Rattle.fr_rows.specs.Entries.{all_stored, dev_with}
+use Rattle.fr_rows.specs.Files.{only_on_a}
 use Rattle.fr_rows.specs.Offset.{offset_cycle_0, offset_cycle_1, offset_cycle_2, offset_cycle_3, offset_run}
-
--- an event on channel A alone
-abbrev pub only_on_a : Event → Channel → Event
-only_on_a event A = event
-only_on_a event B = Regular
 
 -- an event of the one frame that is hit
 abbrev pub hit_by : Event → ℕ → ℕ → ℕ → Channel → Event
 hit_by event cycle sender receiver channel =
-    if (cycle == 3) && (sender == 1) && (receiver == 2) then only_on_a event channel else Regular
+    if (cycle == 3) && (sender == 1) && (receiver == 2) then only_on_a event Regular channel else Regular
 
 -- ---- the frame is lost
 

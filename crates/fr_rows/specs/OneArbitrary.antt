@@ -1,13 +1,13 @@
 -- A run of four nodes, one of which is arbitrary and says different things.
-use Rattle.std.specs.Prelude.{ℕ, ◌==◌, ℤ, pos, negsuc, List, [], ◌∷◌, ◌++◌, None, if◌then◌else◌, codes}
+use Rattle.std.specs.Prelude.{ℕ, ◌==◌, pos, negsuc, List, [], ◌∷◌, ◌++◌, None, if◌then◌else◌, codes}
 use Rattle.fr_base.specs.Event.{Event}
 use Rattle.fr_base.specs.Event.Event.{Regular, Silent, Say}
 use Rattle.fr_base.specs.declared.dev.Dev.{Dev}
-use Rattle.fr_base.specs.declared.node_row.NodeRow.{NodeRow}
 use Rattle.fr_history.specs.Setting.{Setting}
 use Rattle.fr_history.specs.History.{History, Record}
 use Rattle.fr_rows.specs.Clusters.{cluster_of, on_a}
 use Rattle.fr_rows.specs.Entries.{all_stored, measured, steady_rows}
+use Rattle.fr_rows.specs.Files.{said_first}
 
 -- what node 4 says: that it is 100 microticks late, as much early, or nothing
 abbrev pub said_to : ℕ → Event
@@ -26,7 +26,7 @@ one_arbitrary_run = record {
   microtick = λ _ _. pos 1_000_000;
   delay = λ _ _ _ _. pos 0;
   is_arbitrary = λ node. node == 4;
-  event = λ _ sender receiver _. if sender == 4 then said_to receiver else Regular;
+  event = λ cycle sender receiver channel. if sender == 4 then said_first (said_to receiver) cycle channel else Regular;
 }
 
 -- the deviations of each cycle

@@ -14,7 +14,7 @@ rates_run = record {
   doubles = 2;
   start = λ _. pos 0;
   rate = λ _. pos 0;
-  microtick = λ node _. if node == 1 then pos 1_000_100 else pos 999_900;
+  microtick = λ node _. if node == 1 then pos 1_000_100 else if node == 2 then pos 999_900 else pos 1_000_000;
   delay = λ _ _ _ _. pos 0;
   is_arbitrary = λ _. false;
   event = λ _ _ _ _. Regular;

@@ -1,5 +1,5 @@
 -- A run of eight nodes, two of which are arbitrary.
-use Rattle.std.specs.Prelude.{ℕ, ◌==◌, ◌||◌, pos, negsuc, List, [], ◌∷◌, ◌++◌, None, if◌then◌else◌, codes}
+use Rattle.std.specs.Prelude.{ℕ, ◌==◌, nat_lt, Bool, not, ◌&&◌, ◌||◌, pos, negsuc, List, [], ◌∷◌, ◌++◌, None, if◌then◌else◌, codes}
 use Rattle.fr_base.specs.Event.{Event}
 use Rattle.fr_base.specs.Event.Event.{Regular, Silent, Say}
 use Rattle.fr_base.specs.declared.dev.Dev.{Dev}
@@ -7,12 +7,21 @@ use Rattle.fr_history.specs.Setting.{Setting}
 use Rattle.fr_history.specs.History.{History, Record}
 use Rattle.fr_rows.specs.Clusters.{cluster_of, on_a}
 use Rattle.fr_rows.specs.Entries.{all_stored, measured, steady_rows}
+use Rattle.fr_rows.specs.Files.{said_first}
 
--- node 8 says that it is 100 microticks early, but to node 2 it says nothing
+-- the correct nodes
+abbrev pub is_among_six : ℕ → Bool
+is_among_six node = nat_lt 0 node && nat_lt node 7
+
+-- node 7 says to them that it is 100 microticks late
+abbrev pub said_late_to : ℕ → Event
+said_late_to receiver = if is_among_six receiver then Say (pos 100_000_000) None else Silent
+
+-- node 8 says that it is as much early, but to node 2 it says nothing
 abbrev pub said_early_to : ℕ → Event
-said_early_to receiver = if receiver == 2 then Silent else Say (negsuc 99_999_999) None
+said_early_to receiver = if is_among_six receiver && not (receiver == 2) then Say (negsuc 99_999_999) None else Silent
 
--- one double cycle; all clocks run alike; node 7 says to everyone that it is 100 microticks late
+-- one double cycle; all clocks run alike
 abbrev pub two_arbitrary_run : Setting
 two_arbitrary_run = record {
   params = cluster_of (on_a 1 ∷ on_a 2 ∷ on_a 3 ∷ on_a 4 ∷ on_a 5 ∷ on_a 6 ∷ on_a 7 ∷ on_a 8 ∷ []);
@@ -22,9 +31,9 @@ two_arbitrary_run = record {
   microtick = λ _ _. pos 1_000_000;
   delay = λ _ _ _ _. pos 0;
   is_arbitrary = λ node. (node == 7) || (node == 8);
-  event = λ _ sender receiver _.
-      if sender == 7 then Say (pos 100_000_000) None
-      else if sender == 8 then said_early_to receiver
+  event = λ cycle sender receiver channel.
+      if sender == 7 then said_first (said_late_to receiver) cycle channel
+      else if sender == 8 then said_first (said_early_to receiver) cycle channel
       else Regular;
 }
 

@@ -1,10 +1,9 @@
 -- The first check that fails, as a gap.
-use Rattle.std.proofs.Common.{◌≡◌, ℕ, zero, suc, ◌<◌, ◌≤◌, true, false, Bool, Option, Some, None, refl, arith, ap, sym, ◌∙◌}
+use Rattle.std.proofs.Common.{◌≡◌, ℕ, zero, suc, true, false, Bool, Some, None, arith, ap}
 use Rattle.std.specs.Prelude.{pos, if◌then◌else◌}
 use Rattle.fr_params.specs.Values.{Values}
 use Rattle.fr_bound.specs.Checks.{left_of, right_of, holds_of, FirstFailing, AllChecksHold}
 use Rattle.fr_script.specs.Coverage.{check_gap, checks_gap}
-use Rattle.fr_script.specs.declared.gap.Gap.{Gap}
 use Rattle.fr_script.specs.declared.gap.Gap.TheVariants as gap
 use Rattle.fr_script.proofs.First.{below-zero, below-skip, below-found}
 

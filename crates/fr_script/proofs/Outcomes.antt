@@ -1,6 +1,6 @@
 -- What reading a script may answer is one answer, but for want of memory; and what fits has its key slots.
-use Rattle.std.proofs.Common.{◌≡◌, ◌≢◌, ℕ, ◌≤◌, List, [], ◌∷◌, ◌++◌, Option, Some, None, Result, Ok, Err, ap, sym, ◌∙◌, refl, arith, true, false, Bool}
-use Rattle.std.specs.Prelude.{IsSome, cond, slice_index_or, nat_lt, ◌||◌, ◌&&◌, ◌==◌, T, is_none, if◌then◌else◌}
+use Rattle.std.proofs.Common.{◌≡◌, ◌≢◌, ℕ, ◌<◌, ◌≤◌, List, [], ◌∷◌, ◌++◌, Option, Some, None, Result, Ok, Err, ap, sym, ◌∙◌, refl, arith, true, false, Bool}
+use Rattle.std.specs.Prelude.{IsSome, cond, slice_index_or, nat_lt, ◌||◌, ◌&&◌, ◌==◌, T, is_none, if◌then◌else◌, nat_le}
 use Rattle.std.specs.declared.cmp.Ordering.{Ordering}
 use Rattle.std.specs.declared.cmp.Ordering.TheVariants.{Less, Equal}
 use Rattle.std.specs.Ordering.{is_eq, is_lt}
@@ -24,13 +24,17 @@ use Rattle.fr_records.specs.Refusal.{NoneRefused, FirstRefused}
 use Rattle.fr_records.proofs.Cuts.{first-same}
 use Rattle.fr_params.specs.Values.{Values}
 use Rattle.fr_params.specs.Questions.{node_of}
-use Rattle.fr_script.specs.Deeds.{deed_in, passage_cmp, AreAscending}
+use Rattle.fr_params.specs.Reasons.{or_else, looked_up}
+use Rattle.fr_script.specs.Deeds.{deed_in, passage_cmp, AreAscending, passage_of}
 use Rattle.fr_script.specs.Rows.{row_of}
-use Rattle.fr_script.specs.Reasons.{names, is_named, has_acted, key_slot, node_reason, row_reason, reason_after}
-use Rattle.fr_script.specs.View.{ScriptView, is_arbitrary, deeds_on}
+use Rattle.fr_script.specs.Reasons.{names, is_named, has_acted, key_slot, node_reason, row_reason, reason_after, bits_of, deed_said, is_on, is_same, is_behind_frame}
+use Rattle.fr_script.specs.View.{ScriptView, is_arbitrary, deeds_on, deed_of}
+use Rattle.fr_base.specs.Event as event
+use Rattle.fr_script.specs.Events.{event_by, event_of}
 use Rattle.fr_script.specs.Files.{StandsFor, Fits, Reads}
 use Rattle.fr_script.specs.declared.deeds.Passage.{Passage}
 use Rattle.fr_script.specs.declared.deeds.Deed.{Deed}
+use Rattle.fr_script.specs.declared.deeds.Deed.TheVariants as deed
 use Rattle.fr_script.specs.declared.rows.Row.{Row}
 use Rattle.fr_script.specs.declared.rows.Row.TheVariants as row
 use Rattle.fr_script.specs.declared.fault.ScriptFault.{ScriptFault}
@@ -163,3 +167,71 @@ fits-key p s node f h = by (nat_lt node 65) refl
         let high = ltb-false node 65 e in
         let past : slice_index_or s.arbitrary node false ≡ false = get_or_past s.arbitrary node false (omega (arith, f.stands.long)) in
         cc (sym past ∙ h)
+
+-- what is looked up stands in a record behind those before it
+pub record IsTold {A : Type 0} (what : Record → Option A) (records : List Record) (x : A) : Type 0 where
+  pub before : List Record
+  pub told : Record
+  pub behind : List Record
+  pub cut : records ≡ before ++ told ∷ behind
+  pub says : what told ≡ Some x
+
+told-cons : {A : Type 0} (what : Record → Option A) (r : Record) (rest : List Record) (x : A) → IsTold what rest x → IsTold what (r ∷ rest) x
+told-cons what r rest x later = record {
+  before = r ∷ later.before;
+  told = later.told;
+  behind = later.behind;
+  cut = ap (λ (xs : List Record). r ∷ xs) later.cut;
+  says = later.says;
+}
+
+told-head : {A : Type 0} (what : Record → Option A) (r : Record) (rest : List Record) (x : A) (o : Option A) → what r ≡ o → or_else o (looked_up what rest) ≡ Some x
+    → (looked_up what rest ≡ Some x → IsTold what rest x) → IsTold what (r ∷ rest) x
+told-head what r rest x (Some y) e h later = record { before = []; told = r; behind = rest; cut = refl; says = e ∙ h }
+told-head what r rest x None e h later = told-cons what r rest x (later h)
+
+told-look : {A : Type 0} (what : Record → Option A) (records : List Record) (x : A) → looked_up what records ≡ Some x → IsTold what records x
+unfolding looked_up
+told-look what [] x h = cc h
+told-look what (r ∷ rest) x h = told-head what r rest x (what r) refl h (λ e. told-look what rest x e)
+
+chosen : (b : Bool) (o : Option Deed) (x : Deed) → (if b then o else None) ≡ Some x → o ≡ Some x
+chosen true o x h = h
+chosen false o x h = cc h
+
+not-refused : (b : Bool) (why : Reason) (o : Option Reason) → (if b then Some why else o) ≡ None → b ≡ false
+not-refused true why o h = cc h
+not-refused false why o h = refl
+
+below-not : (bits bit : ℕ) → nat_le bits bit ≡ false → bit < bits
+below-not bits bit h = grind (arith, nat_tests)
+
+-- a row that inverts a bit and is not refused inverts one of a frame
+flip-row : (p : Values) (before : List Record) (ch : Channel) (passage : Passage) (bit : ℕ) (x : Result Row Reason) → deed_said ch passage x ≡ Some (deed.Flip bit)
+    → row_reason p before x ≡ None → bit < bits_of p
+flip-row p before ch passage bit (Ok (row.Arbitrary node)) says none = cc says
+flip-row p before ch passage bit (Err why) says none = cc says
+flip-row p before ch passage bit (Ok (row.Deed d)) says none =
+    let what = chosen (is_on ch d.channel && is_same d.passage passage) d.deed (deed.Flip bit) says in
+    let fits = not-refused (is_behind_frame p d.deed) reason.OutOfRange _ none in
+    below-not (bits_of p) bit (sym (ap (is_behind_frame p) what) ∙ fits)
+
+-- only a deed that inverts a bit inverts one
+flip-deed : (b : Bool) (o : Option Deed) (bit : ℕ) → event_by b o ≡ event.Flip bit → o ≡ Some (deed.Flip bit)
+flip-deed true None bit h = cc h
+flip-deed true (Some deed.Lose) bit h = cc h
+flip-deed true (Some (deed.Flip other)) bit h = cc h
+flip-deed true (Some (deed.Say shift bytes)) bit h = cc h
+flip-deed false None bit h = cc h
+flip-deed false (Some deed.Lose) bit h = cc h
+flip-deed false (Some (deed.Flip other)) bit h = cc h
+flip-deed false (Some (deed.Say shift bytes)) bit h = cc h
+
+-- a bit that a script inverts is one of a frame of the parameters that it fits
+pub fits-flip : (p : Values) (s : ScriptView) (cycle sender receiver : ℕ) (ch : Channel) (bit : ℕ) → Fits p s → event_of s cycle sender receiver ch ≡ event.Flip bit → bit < bits_of p
+unfolding event_of deed_of
+fits-flip p s cycle sender receiver ch bit f h =
+    let what = flip-deed (is_arbitrary s sender) (deed_of s cycle sender receiver ch) bit h in
+    let passage = passage_of sender receiver cycle in
+    let cut = told-look (λ r. deed_said ch passage (row_of r)) f.records (deed.Flip bit) (sym (f.stands.deeds ch passage) ∙ what) in
+    flip-row p cut.before ch passage bit (row_of cut.told) cut.says (f.none_refused cut.before cut.told cut.behind cut.cut)

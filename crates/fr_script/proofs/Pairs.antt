@@ -1,5 +1,5 @@
 -- The gaps of pairs of nodes, one kind behind the other.
-use Rattle.std.proofs.Common.{◌≡◌, List, Option, None, ap, sym, ◌∙◌, refl}
+use Rattle.std.proofs.Common.{◌≡◌, List, Option, None, ap, sym, ◌∙◌}
 use Rattle.std.specs.Option.{option_or}
 use Rattle.fr_params.specs.Values.{Values}
 use Rattle.fr_params.specs.declared.rows.NodeSpec.{NodeSpec}

@@ -1,5 +1,5 @@
 -- Gaps along the cycles of a run, where lengths and delays stay from one row to the next.
-use Rattle.std.proofs.Common.{◌≡◌, ℕ, ℤ, ◌+◌, ◌-◌, ◌<◌, ◌≤◌, Bool, true, false, Option, Some, None, ap, sym, ◌∙◌, refl, arith, ◌⊎◌, inl, inr, subst}
+use Rattle.std.proofs.Common.{◌≡◌, ℕ, ℤ, ◌-◌, ◌<◌, ◌≤◌, Bool, true, false, Some, None, ap, sym, ◌∙◌, refl, arith, ◌⊎◌, inl, inr, subst}
 use Rattle.std.specs.Prelude.{◌-ℤ◌, ◌+ℤ◌, int_lt, pos, if◌then◌else◌, ◌||◌}
 use Rattle.std.proofs.lemmas.Int.{ints}
 use Rattle.std.proofs.lemmas.Bool.{cases_eq}
@@ -41,7 +41,7 @@ not-above : (w : ℕ) (t : ℤ) → int_lt (t +ℤ pos w) t ≡ false
 not-above w t = grind (arith, ints)
 
 -- nothing has jumped from itself
-stands-still : (p : Values) (t : ℤ) → has_jumped p t t ≡ false
+pub stands-still : (p : Values) (t : ℤ) → has_jumped p t t ≡ false
 stands-still p t =
     let up = not-above (amount p name.xChangeBound) t in
     ap (λ (b : Bool). b || int_lt (t +ℤ pos (amount p name.xChangeBound)) t) up ∙ up

@@ -10,3 +10,4 @@ pub mod Files
 pub mod First
 pub mod Links
 pub mod Coverage
+pub mod Order

@@ -4,7 +4,7 @@ use fr_params::Params;
 use std::alloc::{AllocError, Global};
 use std::test::Fail;
 
-/// A cycle of 5 ms at a microtick of 25 ns; frames have 64 bits.
+/// A cycle of 5 ms at a microtick of 25 ns, without the limit of the offset term; frames have 64 bits.
 const CLUSTER: &[&[u8]] = &[
     b"param,gMacroPerCycle,5000,,",
     b"param,pMicroPerCycle,200000,,",
@@ -19,13 +19,15 @@ const CLUSTER: &[&[u8]] = &[
     b"param,pAllowHaltDueToClock,1,,",
     b"param,pAllowPassiveToActive,2,,",
     b"param,pClusterDriftDamping,4,,",
-    b"param,pOffsetCorrectionOut,254,,",
     b"param,pRateCorrectionOut,81,,",
     b"param,pDelayCompensation,0,,",
     b"param,xRateBound,200,,",
     b"param,xChangeBound,0,,",
     b"param,xDelayError,500000,,",
 ];
+
+/// A limit of the offset term that is just enough.
+const LIMIT: &[u8] = b"param,pOffsetCorrectionOut,254,,\n";
 
 /// Nodes 1 and 2 on channel A, 3 and 4 on both, 5 on both without a key slot, 6 on channel B without one.
 const NODES: &[u8] =
@@ -67,6 +69,13 @@ const REFUSALS: &[(&[u8], Option<(u64, Reason)>)] = &[
     (b"flip,0,1,2,A,2096,", Some((1, Reason::OutOfRange))),
     (b"flip,0,1,2,A,-0,", None),
     (b"flip,0,1,2,A,-1,", Some((1, Reason::OutOfRange))),
+];
+
+/// Accepted records that no refusal of the table has to do with.
+const OTHERS: &[&[u8]] = &[
+    b"lose,9,1,2,A,,\n",
+    b"lose,8,1,2,A,,\n",
+    b"flip,7,2,1,A,0,\n",
 ];
 
 /// Records behind `arbitrary,4` and `arbitrary,3`, and the record that is refused with its reason.
@@ -134,13 +143,18 @@ say,0,4,2,A,-100000000,
 say,1,4,2,A,-100000000,
 ";
 
-/// The parameters of the cluster with these nodes.
 fn cluster(alloc: Global, nodes: &[u8]) -> Result<Params, Fail> {
+    limited(alloc, LIMIT, nodes)
+}
+
+/// The parameters of the cluster with this limit of the offset term and these nodes.
+fn limited(alloc: Global, limit: &[u8], nodes: &[u8]) -> Result<Params, Fail> {
     let mut bytes = Vec::new(alloc);
     for line in CLUSTER {
         bytes.extend_from_slice(line)?;
         bytes.push(b'\n')?;
     }
+    bytes.extend_from_slice(limit)?;
     bytes.extend_from_slice(nodes)?;
     Ok(fr_params::read(alloc, &bytes)?)
 }
@@ -163,6 +177,28 @@ fn joined(alloc: Global, head: &[u8], tail: &[u8]) -> Result<Vec<u8>, AllocError
     Ok(bytes)
 }
 
+/// The accepted records with a further one at a place, counted from 0.
+fn with_record(alloc: Global, place: usize, record: &[u8]) -> Result<Vec<u8>, AllocError> {
+    let mut bytes = Vec::new(alloc);
+    for (at, line) in OTHERS.iter().enumerate() {
+        if at == place {
+            bytes.extend_from_slice(record)?;
+            bytes.push(b'\n')?;
+        }
+        bytes.extend_from_slice(line)?;
+    }
+    if place == OTHERS.len() {
+        bytes.extend_from_slice(record)?;
+    }
+    Ok(bytes)
+}
+
+/// The refusal with so many accepted records before it.
+fn row_behind(place: usize, refusal: Option<(u64, Reason)>) -> Option<ScriptFault> {
+    let (number, reason) = refusal?;
+    row(Some((number + place as u64, reason)))
+}
+
 fn event(script: &Script, cycle: u32, sender: u8, receiver: u8) -> Event<'_> {
     if sender < 1 || 64 < sender || receiver < 1 || 64 < receiver {
         return Event::Regular;
@@ -174,11 +210,14 @@ fn event(script: &Script, cycle: u32, sender: u8, receiver: u8) -> Event<'_> {
 fn finds_the_least_reason(rt: HostRuntime) -> Result<(), Fail> {
     let params = cluster(rt.alloc(), NODES)?;
     for (text, want) in REFUSALS {
-        assert_eq!(rt;
-            fault_of(rt.alloc(), &params, text),
-            row(*want),
-            "at {text:?}"
-        );
+        for place in [0, 2, 3] {
+            let bytes = with_record(rt.alloc(), place, text)?;
+            assert_eq!(rt;
+                fault_of(rt.alloc(), &params, &bytes),
+                row_behind(place, *want),
+                "at {place} {text:?}"
+            );
+        }
     }
     Ok(())
 }
@@ -187,12 +226,15 @@ fn finds_the_least_reason(rt: HostRuntime) -> Result<(), Fail> {
 fn looks_at_earlier_records(rt: HostRuntime) -> Result<(), Fail> {
     let params = cluster(rt.alloc(), NODES)?;
     for (text, want) in BEHIND {
-        let bytes = joined(rt.alloc(), b"arbitrary,4,,,,,\narbitrary,3,,,,,\n", text)?;
-        assert_eq!(rt;
-            fault_of(rt.alloc(), &params, &bytes),
-            row(*want),
-            "at {text:?}"
-        );
+        let last = joined(rt.alloc(), b"arbitrary,4,,,,,\narbitrary,3,,,,,\n", text)?;
+        let middle = joined(rt.alloc(), &last, b"\nlose,199999,1,2,A,,")?;
+        for bytes in [last, middle] {
+            assert_eq!(rt;
+                fault_of(rt.alloc(), &params, &bytes),
+                row(*want),
+                "at {text:?}"
+            );
+        }
     }
     Ok(())
 }
@@ -389,11 +431,10 @@ fn told(alloc: Global, gap: Gap) -> Result<String, AllocError> {
     }
 }
 
-fn gap_of(alloc: Global, nodes: &[u8], drift: &[u8], script: &[u8]) -> Result<String, Fail> {
-    let params = cluster(alloc, nodes)?;
-    let drift = fr_drift::read(alloc, &params, drift)?;
-    let script = read(alloc, &params, script)?;
-    match covered(&params, &drift, &script) {
+fn gap_of(alloc: Global, params: &Params, drift: &[u8], script: &[u8]) -> Result<String, Fail> {
+    let drift = fr_drift::read(alloc, params, drift)?;
+    let script = read(alloc, params, script)?;
+    match covered(params, &drift, &script) {
         Ok(()) => Ok(String::new(alloc)),
         Err(gap) => Ok(told(alloc, gap)?),
     }
@@ -402,8 +443,17 @@ fn gap_of(alloc: Global, nodes: &[u8], drift: &[u8], script: &[u8]) -> Result<St
 #[test]
 fn finds_the_first_gap(rt: HostRuntime) -> Result<(), Fail> {
     for (nodes, drift, script, want) in GAPS {
-        let gap = gap_of(rt.alloc(), nodes, drift, script)?;
+        let params = cluster(rt.alloc(), nodes)?;
+        let gap = gap_of(rt.alloc(), &params, drift, script)?;
         assert_eq!(rt; gap.as_bytes(), *want, "at {nodes:?} {drift:?} {script:?}");
     }
+    Ok(())
+}
+
+#[test]
+fn names_the_failing_check_first(rt: HostRuntime) -> Result<(), Fail> {
+    let params = limited(rt.alloc(), b"param,pOffsetCorrectionOut,253,,\n", PAIR)?;
+    let gap = gap_of(rt.alloc(), &params, b"doubles,1,,,,", b"arbitrary,1,,,,,")?;
+    assert_eq!(rt; gap.as_bytes(), b"check 3 252949400 253543800".as_slice());
     Ok(())
 }

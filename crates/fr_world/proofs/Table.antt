@@ -110,7 +110,7 @@ slot_table x cycle rows row odd slot t =
     (table_with (key_index_of x.params slot) odd A (stored_in x cycle rows row slot A) t)
 
 -- and what so many slots do
-pub table_after : Setting → ℕ → List NodeRow → NodeRow → Bool → ℕ → Readings → Readings
+unfoldable pub table_after : Setting → ℕ → List NodeRow → NodeRow → Bool → ℕ → Readings → Readings
 table_after x cycle rows row odd zero t = t
 table_after x cycle rows row odd (suc earlier) t = slot_table x cycle rows row odd (suc earlier) (table_after x cycle rows row odd earlier t)
 

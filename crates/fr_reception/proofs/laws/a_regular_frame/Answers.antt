@@ -1,5 +1,5 @@
-use Rattle.fr_reception.proofs.Frames.{regular_is_frame, regular_is_of_bytes}
+use Rattle.fr_reception.proofs.Frames.{length-regular_frame, regular_is_frame, regular_is_of_bytes}
 use Rattle.fr_reception.proofs.laws.a_regular_frame.Goals as goal
 
 pub returns : goal.returns
-returns c = record { frame = regular_is_frame; bytes = regular_is_of_bytes }
+returns c = record { frame = regular_is_frame; bytes = regular_is_of_bytes; long = length-regular_frame }

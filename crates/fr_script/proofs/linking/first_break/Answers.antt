@@ -1,5 +1,5 @@
-use Rattle.std.proofs.Common.{◌≡◌, ◌+◌, ◌*◌, ◌<◌, ◌≤◌, ◌/◌, arith, rules, sym, None}
-use Rattle.fr_script.specs.Links.{link_gap, is_carried}
+use Rattle.std.proofs.Common.{◌+◌, ◌*◌, ◌≤◌, ◌/◌, arith, rules, sym}
+use Rattle.fr_script.specs.Links.{link_gap}
 use Rattle.fr_script.proofs.First.{below-zero, below-found, below-skip}
 use Rattle.fr_script.proofs.Breaks.{broken, unbroken}
 use Rattle.fr_script.proofs.linking.first_break.Goals as goal

@@ -1,4 +1,4 @@
-use Rattle.std.proofs.Common.{◌≡◌, ◌<◌, arith, length, None, sym, add-one}
+use Rattle.std.proofs.Common.{arith, length, sym, add-one}
 use borrow.Author.Tests.{ltb-true, ltb-false}
 use Rattle.fr_script.proofs.First.{in-nil, in-more, in-hit}
 use Rattle.fr_script.proofs.search.first_among.Goals as goal

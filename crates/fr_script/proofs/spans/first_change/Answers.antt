@@ -1,4 +1,4 @@
-use Rattle.std.proofs.Common.{◌≡◌, ◌-◌, ◌<◌, ◌≤◌, arith, rules, sym, ap, ◌∙◌, true, false, ℕ}
+use Rattle.std.proofs.Common.{◌≡◌, ◌-◌, ◌<◌, ◌≤◌, arith, rules, sym, ap, ◌∙◌, true, false}
 use Rattle.std.specs.Prelude.{◌-ℤ◌}
 use mir.Val.{to_z, of_z}
 use mir.Syntax.{w64}

@@ -3,4 +3,4 @@ use Rattle.fr_drift.proofs.Tables.{draft-nil}
 use Rattle.fr_drift.proofs.draft.Draft.new.Goals as goal
 
 pub returns : goal.returns
-returns c = draft-nil _ refl c.new.ensures.empty c.new-2.ensures.empty c.new-3.ensures.empty c.new-4.ensures.empty
+returns c = draft-nil _ refl c.new.ensures.empty c.new-2.ensures.empty c.new-3.ensures.empty c.new-4.ensures.empty c.new.ensures.ordered c.new-2.ensures.ordered c.new-3.ensures.ordered c.new-4.ensures.ordered

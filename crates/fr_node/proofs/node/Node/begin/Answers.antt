@@ -1,5 +1,5 @@
 use Rattle.std.proofs.Common.{sym, subst}
-use Rattle.fr_node.specs.Own.{Fits}
+use Rattle.fr_node.specs.Fits.{Fits}
 use Rattle.fr_node.specs.View.{NodeView}
 use Rattle.fr_node.proofs.Fitting.{still_none}
 use Rattle.fr_node.proofs.node.Node.begin.Goals as goal

@@ -1,5 +1,6 @@
 use Rattle.std.proofs.Common.{◌≡◌, ◌≢◌, Some, ap, sym, ◌∙◌, subst, inl}
-use Rattle.fr_node.specs.Own.{Fits, own_key}
+use Rattle.fr_reception.specs.Own.{own_key}
+use Rattle.fr_node.specs.Fits.{Fits}
 use Rattle.fr_node.specs.View.{NodeView}
 use Rattle.fr_node.proofs.Fitting.{other_index}
 use Rattle.fr_node.proofs.node.Node.keep.Goals as goal

@@ -2,7 +2,7 @@ use Rattle.std.proofs.Common.{◌≡◌, ◌<◌, ◌≤◌, ◌+◌, ◌*◌, p
 use Rattle.std.specs.Prelude.{IsSome, ◌≤ℤ◌, ◌+ℤ◌}
 use Rattle.std.proofs.lemmas.Int.{ints, to_z-of_z}
 use Rattle.fr_params.specs.declared.names.ParamName.TheVariants as name
-use Rattle.fr_node.specs.Own.{Fits}
+use Rattle.fr_node.specs.Fits.{Fits}
 use Rattle.fr_node.specs.View.{NodeView}
 use Rattle.fr_node.specs.Cycle.{passed}
 use Rattle.fr_base.specs.declared.node_row.NodeRow.{NodeRow}

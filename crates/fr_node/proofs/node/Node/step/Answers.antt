@@ -1,6 +1,6 @@
 use Rattle.std.proofs.Common.{ap, sym, ◌∙◌, subst}
 use Rattle.fr_poc.specs.Control.{Control}
-use Rattle.fr_node.specs.Own.{Fits}
+use Rattle.fr_node.specs.Fits.{Fits}
 use Rattle.fr_node.specs.View.{NodeView}
 use Rattle.fr_node.proofs.node.Node.step.Goals as goal
 

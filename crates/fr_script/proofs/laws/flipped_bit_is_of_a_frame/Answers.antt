@@ -1,0 +1,5 @@
+use Rattle.fr_script.proofs.Outcomes.{fits-flip}
+use Rattle.fr_script.proofs.laws.flipped_bit_is_of_a_frame.Goals as goal
+
+pub returns : goal.returns
+returns c = fits-flip

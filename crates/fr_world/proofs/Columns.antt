@@ -1,0 +1,223 @@
+-- The tables of the nodes after the slots of a cycle are as the history records them.
+use Rattle.std.proofs.Common.{◌≡◌, ◌≢◌, ◌⊎◌, ℕ, zero, suc, ◌+◌, ◌<◌, ◌≤◌, ◌==◌, ◌%◌, ℤ, Bool, true, false, not, Option, Some, None, List, [], ◌∷◌, map, length, get_or, replicate, refl, ap, ap₂, sym, ◌∙◌, subst, inl, inr, arith, if◌then◌else◌}
+use Rattle.std.proofs.lemmas.List.{length-replicate}
+use Rattle.std.specs.Prelude.{option_and_then}
+use Rattle.std.specs.List.{cons_option, filter_map, range_with_len}
+use Rattle.fr_base.specs.declared.channel.Channel.{Channel}
+use Rattle.fr_base.specs.declared.channel.Channel.TheVariants.{A, B}
+use Rattle.fr_base.specs.declared.dev.Dev.{Dev}
+use Rattle.fr_base.specs.declared.node_row.NodeRow.{NodeRow}
+use Rattle.fr_params.specs.Sane.{IsSane}
+use Rattle.fr_params.specs.Values.{Values, amount}
+use Rattle.fr_params.specs.Questions.{key_index_of}
+use Rattle.fr_params.specs.declared.names.ParamName.TheVariants as name
+use Rattle.fr_params.specs.declared.rows.NodeSpec.{NodeSpec}
+use Rattle.fr_time.specs.Cycles.{is_odd}
+use Rattle.fr_measure.specs.Readings.{Readings, column, no_readings, reading}
+use Rattle.fr_measure.specs.Values.{change_of, least_of, mean_of, offset_at, own_value_or, rate_at, values_of}
+use Rattle.fr_node.proofs.KeyIndexes.{index_is_own}
+use Rattle.fr_history.specs.Setting.{Setting, correct_nodes}
+use Rattle.fr_history.specs.History.{History, Record}
+use Rattle.fr_history.specs.Next.{early_row, early_rows, next_devs, next_record}
+use Rattle.fr_history.specs.Terms.{dev_in, deviations_of, key_slot_of, latest_devs}
+use Rattle.fr_world.specs.Hearing.{stored_in}
+use Rattle.fr_world.specs.Standing.{column_of, readings_behind, readings_of, recorded_at}
+use Rattle.fr_world.proofs.Devs.{dev_in-next}
+use Rattle.fr_world.proofs.Flat.{Among, get_or-map-range, length-map-range, same_lists}
+use Rattle.fr_world.proofs.KeySlots.{key_slot-index, key_slot-within, no_key_slot}
+use Rattle.fr_world.proofs.Store.{IsTable}
+use Rattle.fr_world.proofs.Table.{AreOneToOne, other_column, table_after, table_after-table, unkeyed_reading, used_reading}
+
+pub one_to_one : (p : Values) → AreOneToOne p
+one_to_one p = λ slot other index one same. index_is_own p slot other index one same
+
+pub length-column : (t : Readings) (odd : Bool) (c : Channel) → IsTable t → length (column t odd c) ≡ 15
+length-column t false A is = is.even_a
+length-column t false B is = is.even_b
+length-column t true A is = is.odd_a
+length-column t true B is = is.odd_b
+
+zero_plus : (n : ℕ) → 0 + n ≡ n
+zero_plus n = omega arith
+
+-- the whole hearing of a cycle
+abbrev pub heard_table : Setting → History → ℕ → Bool → Readings → Readings
+heard_table x h node odd t = table_after x (length h) (early_rows x h) (early_row x h node) odd (amount x.params name.gNumberOfStaticSlots) t
+
+-- ---- the column of the cycle
+
+-- at each key index is what the list of the cycle records
+reading_by : (x : Setting) → IsSane x.params → (h : History) (node : NodeSpec) → Among node (correct_nodes x) → (odd : Bool) (t : Readings) → IsTable t → (index : ℕ) (c : Channel) → index < 15 →
+    reading t index odd c ≡ None → (o : Option ℕ) → key_slot_of x.params index ≡ o → reading (heard_table x h node.id odd t) index odd c ≡ option_and_then (λ slot. dev_in (next_devs x h) node.id slot c) o
+reading_by x sane h node is odd t table index c below none None lacks =
+    unkeyed_reading x (length h) (early_rows x h) (early_row x h node.id) odd t index odd c (amount x.params name.gNumberOfStaticSlots) (no_key_slot x.params index lacks) ∙ none
+reading_by x sane h node is odd t table index c below none (Some slot) has =
+    let key : (key_index_of x.params slot ≡ Some index) × Among slot _ = key_slot-index x.params index slot has in
+    let within : (1 ≤ slot) × (slot ≤ amount x.params name.gNumberOfStaticSlots) = key_slot-within x.params slot sane key.1 in
+    used_reading x (one_to_one x.params) (length h) (early_rows x h) (early_row x h node.id) odd t table index slot c below key.0 none (amount x.params name.gNumberOfStaticSlots) within.0 within.1
+    ∙ sym (dev_in-next x h node slot c is within.0 within.1)
+
+heard_column : (x : Setting) → IsSane x.params → (h : History) (node : NodeSpec) → Among node (correct_nodes x) → (odd : Bool) (t : Readings) → IsTable t → (c : Channel) →
+    ((index : ℕ) → reading t index odd c ≡ None) → column (heard_table x h node.id odd t) odd c ≡ column_of x.params (next_devs x h) node.id c
+heard_column x sane h node is odd t table c none =
+    let heard : Readings = heard_table x h node.id odd t in
+    let long : length (column heard odd c) ≡ 15 = length-column heard odd c (table_after-table x (length h) (early_rows x h) (early_row x h node.id) odd (amount x.params name.gNumberOfStaticSlots) t table) in
+    let other : length (column_of x.params (next_devs x h) node.id c) ≡ 15 = length-map-range (recorded_at x.params (next_devs x h) node.id c) 0 15 in
+    same_lists None (column heard odd c) (column_of x.params (next_devs x h) node.id c) (long ∙ sym other)
+    (λ index below.
+      let small : index < 15 = omega (arith, long) in
+      reading_by x sane h node is odd t table index c small (none index) (key_slot_of x.params index) refl
+      ∙ sym (get_or-map-range (recorded_at x.params (next_devs x h) node.id c) None 0 15 index small ∙ ap (recorded_at x.params (next_devs x h) node.id c) (zero_plus index)))
+
+-- ---- the column of the other cycle
+
+none_at : (n index : ℕ) → get_or (replicate n (let o : Option ℤ = None in o)) index None ≡ None
+none_at zero index = refl
+none_at (suc n) zero = refl
+none_at (suc n) (suc index) = none_at n index
+
+none_recorded : (p : Values) (node : ℕ) (c : Channel) (index : ℕ) → recorded_at p [] node c index ≡ None
+none_recorded p node c index = by_key (key_slot_of p index)
+  where
+    by_key : (o : Option ℕ) → option_and_then (λ slot. dev_in [] node slot c) o ≡ None
+    by_key None = refl
+    by_key (Some slot) = refl
+
+empty_column : (p : Values) (node : ℕ) (c : Channel) → replicate 15 None ≡ column_of p [] node c
+empty_column p node c =
+    let long : length (column_of p [] node c) ≡ 15 = length-map-range (recorded_at p [] node c) 0 15 in
+    let wide : length (replicate 15 (let o : Option ℤ = None in o)) ≡ 15 = length-replicate 15 (let o : Option ℤ = None in o) in
+    same_lists None (replicate 15 None) (column_of p [] node c) (wide ∙ sym long)
+    (λ index below.
+      let small : index < 15 = omega (arith, wide) in
+      none_at 15 index ∙ sym (get_or-map-range (recorded_at p [] node c) None 0 15 index small ∙ none_recorded p node c (0 + index)))
+
+-- ---- tables by their columns
+
+abbrev made_of : List (Option ℤ) → List (Option ℤ) → List (Option ℤ) → List (Option ℤ) → Readings
+made_of a b c d = record { even_a = a; even_b = b; odd_a = c; odd_b = d }
+
+made_same : (a e b f c g d i : List (Option ℤ)) → a ≡ e → b ≡ f → c ≡ g → d ≡ i → made_of a b c d ≡ made_of e f g i
+made_same a e b f c g d i p q r s = cc
+
+readings_same : (t u : Readings) → ((odd : Bool) (c : Channel) → column t odd c ≡ column u odd c) → t ≡ u
+readings_same t u same = made_same t.even_a u.even_a t.even_b u.even_b t.odd_a u.odd_a t.odd_b u.odd_b (same false A) (same false B) (same true A) (same true B)
+
+pub empty-table : IsTable no_readings
+empty-table = record { even_a = refl; even_b = refl; odd_a = refl; odd_b = refl }
+
+pub empty_reading : (index : ℕ) (odd : Bool) (c : Channel) → reading no_readings index odd c ≡ None
+empty_reading index odd c = column_none odd c
+  where
+    none : get_or (replicate 15 (let o : Option ℤ = None in o)) index None ≡ None
+    none = none_at 15 index
+    column_none : (o : Bool) (d : Channel) → get_or (column no_readings o d) index None ≡ None
+    column_none false A = none
+    column_none false B = none
+    column_none true A = none
+    column_none true B = none
+
+pub recorded-table : (p : Values) (evens odds : List Dev) (node : ℕ) → IsTable (readings_of p evens odds node)
+unfolding readings_of
+recorded-table p evens odds node = record {
+  even_a = length-map-range (recorded_at p evens node A) 0 15;
+  even_b = length-map-range (recorded_at p evens node B) 0 15;
+  odd_a = length-map-range (recorded_at p odds node A) 0 15;
+  odd_b = length-map-range (recorded_at p odds node B) 0 15;
+}
+
+-- what is there of the odd cycle before it
+pub no_odd_reading : (p : Values) (evens : List Dev) (node index : ℕ) (c : Channel) → reading (readings_of p evens [] node) index true c ≡ None
+unfolding readings_of
+no_odd_reading p evens node index A = ap (λ (xs : List (Option ℤ)). get_or xs index None) (sym (empty_column p node A)) ∙ none_at 15 index
+no_odd_reading p evens node index B = ap (λ (xs : List (Option ℤ)). get_or xs index None) (sym (empty_column p node B)) ∙ none_at 15 index
+
+-- ---- the tables of an even and of an odd cycle
+
+heard_even : (x : Setting) → IsSane x.params → (h : History) (node : NodeSpec) → Among node (correct_nodes x) → heard_table x h node.id false no_readings ≡ readings_of x.params (next_devs x h) [] node.id
+unfolding readings_of
+heard_even x sane h node is = readings_same (heard_table x h node.id false no_readings) (record { even_a = column_of x.params (next_devs x h) node.id A; even_b = column_of x.params (next_devs x h) node.id B; odd_a = column_of x.params [] node.id A; odd_b = column_of x.params [] node.id B }) by_column
+  where
+    here : (c : Channel) → column (heard_table x h node.id false no_readings) false c ≡ column_of x.params (next_devs x h) node.id c
+    here c = heard_column x sane h node is false no_readings empty-table c (λ index. empty_reading index false c)
+    there : (c : Channel) → column (heard_table x h node.id false no_readings) true c ≡ column no_readings true c
+    there c = other_column x (length h) (early_rows x h) (early_row x h node.id) false no_readings c (amount x.params name.gNumberOfStaticSlots)
+    by_column : (odd : Bool) (c : Channel) → column (heard_table x h node.id false no_readings) odd c
+      ≡ column (record { even_a = column_of x.params (next_devs x h) node.id A; even_b = column_of x.params (next_devs x h) node.id B; odd_a = column_of x.params [] node.id A; odd_b = column_of x.params [] node.id B }) odd c
+    by_column false A = here A
+    by_column false B = here B
+    by_column true A = there A ∙ empty_column x.params node.id A
+    by_column true B = there B ∙ empty_column x.params node.id B
+
+odd_columns : (x : Setting) → IsSane x.params → (h : History) (node : NodeSpec) → Among node (correct_nodes x) → (evens : List Dev) (odd : Bool) (c : Channel) →
+    column (heard_table x h node.id true (readings_of x.params evens [] node.id)) odd c ≡ column (readings_of x.params evens (next_devs x h) node.id) odd c
+unfolding readings_of
+odd_columns x sane h node is evens true A = heard_column x sane h node is true (readings_of x.params evens [] node.id) (recorded-table x.params evens [] node.id) A (λ index. no_odd_reading x.params evens node.id index A)
+odd_columns x sane h node is evens true B = heard_column x sane h node is true (readings_of x.params evens [] node.id) (recorded-table x.params evens [] node.id) B (λ index. no_odd_reading x.params evens node.id index B)
+odd_columns x sane h node is evens false A = other_column x (length h) (early_rows x h) (early_row x h node.id) true (readings_of x.params evens [] node.id) A (amount x.params name.gNumberOfStaticSlots)
+odd_columns x sane h node is evens false B = other_column x (length h) (early_rows x h) (early_row x h node.id) true (readings_of x.params evens [] node.id) B (amount x.params name.gNumberOfStaticSlots)
+
+heard_odd : (x : Setting) → IsSane x.params → (h : History) (node : NodeSpec) → Among node (correct_nodes x) → (evens : List Dev) → heard_table x h node.id true (readings_of x.params evens [] node.id) ≡ readings_of x.params evens (next_devs x h) node.id
+heard_odd x sane h node is evens = readings_same (heard_table x h node.id true (readings_of x.params evens [] node.id)) (readings_of x.params evens (next_devs x h) node.id) (odd_columns x sane h node is evens)
+
+-- ---- the table of a node behind a history, begun and heard, is that behind the next record
+
+-- what a node begins a cycle with
+abbrev pub begun_table : Setting → History → ℕ → Readings
+begun_table x h node = if is_odd (length h) then readings_behind x h node else no_readings
+
+odd_after_even : (n : ℕ) → is_odd (suc n) ≡ true → is_odd n ≡ false
+odd_after_even n is = let e : suc n % 2 ≡ 1 = grind arith in let m : n % 2 ≡ 0 = omega (arith, e) in rw m refl
+
+-- behind an even cycle the table has its deviations alone
+pub begun_odd : (x : Setting) (h : History) (node : ℕ) → is_odd (length h) ≡ true → readings_behind x h node ≡ readings_of x.params (latest_devs h) [] node
+unfolding readings_behind
+begun_odd x [] node is = absurd (cc)
+begun_odd x (r ∷ h) node is = let even : is_odd (length h) ≡ false = odd_after_even (length h) is in rw even refl
+
+next_devs_recorded : (x : Setting) (h : History) → (next_record x h).devs ≡ next_devs x h
+unfolding next_record
+next_devs_recorded x h = refl
+
+table_by : (x : Setting) → IsSane x.params → (h : History) (node : NodeSpec) → Among node (correct_nodes x) → (odd : Bool) → is_odd (length h) ≡ odd →
+    heard_table x h node.id odd (if odd then readings_behind x h node.id else no_readings) ≡ (if odd then readings_of x.params (latest_devs h) (next_devs x h) node.id else readings_of x.params (next_devs x h) [] node.id)
+table_by x sane h node is true odd = ap (heard_table x h node.id true) (begun_odd x h node.id odd) ∙ heard_odd x sane h node is (latest_devs h)
+table_by x sane h node is false odd = heard_even x sane h node is
+
+pub next_table : (x : Setting) → IsSane x.params → (h : History) (node : NodeSpec) → Among node (correct_nodes x) →
+    heard_table x h node.id (is_odd (length h)) (begun_table x h node.id) ≡ readings_behind x (next_record x h ∷ h) node.id
+unfolding readings_behind next_record
+next_table x sane h node is = table_by x sane h node is (is_odd (length h)) refl
+
+-- ---- the values at the end of an odd cycle
+
+-- the table answers what the lists record
+pub recorded_reading : (p : Values) (evens odds : List Dev) (node index : ℕ) (odd : Bool) (c : Channel) → index < 15 → reading (readings_of p evens odds node) index odd c ≡ deviations_of p evens odds node index odd c
+unfolding readings_of
+recorded_reading p evens odds node index false A below = get_or-map-range (recorded_at p evens node A) None 0 15 index below ∙ ap (recorded_at p evens node A) (zero_plus index)
+recorded_reading p evens odds node index false B below = get_or-map-range (recorded_at p evens node B) None 0 15 index below ∙ ap (recorded_at p evens node B) (zero_plus index)
+recorded_reading p evens odds node index true A below = get_or-map-range (recorded_at p odds node A) None 0 15 index below ∙ ap (recorded_at p odds node A) (zero_plus index)
+recorded_reading p evens odds node index true B below = get_or-map-range (recorded_at p odds node B) None 0 15 index below ∙ ap (recorded_at p odds node B) (zero_plus index)
+
+filter_map_range : (f g : ℕ → Option ℤ) (from count : ℕ) → ((k : ℕ) → from ≤ k → k < from + count → f k ≡ g k) → filter_map f (range_with_len from count) ≡ filter_map g (range_with_len from count)
+filter_map_range f g from zero same = refl
+filter_map_range f g from (suc count) same = ap₂ cons_option (same from (omega arith) (omega arith)) (filter_map_range f g (from + 1) count (λ k low high. same k (omega arith) (omega arith)))
+
+pub offset_values_same : (p : Values) (evens odds : List Dev) (node : ℕ) (own : Option ℕ) → values_of (offset_at (reading (readings_of p evens odds node)) own) ≡ values_of (offset_at (deviations_of p evens odds node) own)
+unfolding values_of
+offset_values_same p evens odds node own =
+    filter_map_range (offset_at (reading (readings_of p evens odds node)) own) (offset_at (deviations_of p evens odds node) own) 0 15
+    (λ index low high.
+      let small : index < 15 = omega arith in
+      ap (own_value_or own index) (ap₂ least_of (recorded_reading p evens odds node index true A small) (recorded_reading p evens odds node index true B small)))
+
+pub rate_values_same : (p : Values) (evens odds : List Dev) (node : ℕ) (own : Option ℕ) → values_of (rate_at (reading (readings_of p evens odds node)) own) ≡ values_of (rate_at (deviations_of p evens odds node) own)
+unfolding values_of
+rate_values_same p evens odds node own =
+    filter_map_range (rate_at (reading (readings_of p evens odds node)) own) (rate_at (deviations_of p evens odds node) own) 0 15
+    (λ index low high.
+      let small : index < 15 = omega arith in
+      ap (own_value_or own index)
+      (ap₂ mean_of
+      (ap₂ change_of (recorded_reading p evens odds node index false A small) (recorded_reading p evens odds node index true A small))
+      (ap₂ change_of (recorded_reading p evens odds node index false B small) (recorded_reading p evens odds node index true B small))))
