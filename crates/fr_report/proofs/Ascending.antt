@@ -1,5 +1,5 @@
 -- Rows that are copied one after the other.
-use Rattle.std.proofs.Common.{◌≡◌, ℕ, ◌<◌, List, length, take, get_or, sym, ap, ◌∙◌, arith, length-take}
+use Rattle.std.proofs.Common.{◌≡◌, ℕ, ◌<◌, List, length, take, get_or, ap, ◌∙◌, arith, length-take}
 use Rattle.std.specs.Prelude.{All}
 use Rattle.std.proofs.lemmas.List.{get_or-take, get_or_default}
 use Rattle.fr_base.specs.Rows.{AreAscendingRows}

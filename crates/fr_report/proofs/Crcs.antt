@@ -1,6 +1,6 @@
 -- The last hexadecimal digits of a number.
-use Rattle.std.proofs.Common.{◌≡◌, ℕ, zero, suc, ◌*◌, ◌/◌, ◌%◌, ◌^◌, ◌++◌, List, [], ◌∷◌, refl, ap, ◌∙◌, arith}
-use Rattle.fr_base.specs.Line.{hexadecimal, digit_of}
+use Rattle.std.proofs.Common.{◌≡◌, ℕ, suc, ◌/◌, ◌%◌, refl, arith}
+use Rattle.fr_base.specs.Line.{hexadecimal}
 
 hexadecimal-zero : (n m : ℕ) → hexadecimal 0 n ≡ hexadecimal 0 m
 unfolding hexadecimal

@@ -1,6 +1,6 @@
 -- A report that held a history holds it and one more cycle.
-use Rattle.std.proofs.Common.{◌≡◌, ℕ, zero, suc, ◌+◌, ◌*◌, ◌/◌, ◌%◌, ◌<◌, ◌≤◌, Bool, true, false, ◌&&◌, List, [], ◌∷◌, ◌++◌, length, Option, Some, None, refl, sym, ap, ◌∙◌, arith, add-one}
-use Rattle.std.specs.Prelude.{IfNone, IfSome, ◌==◌, cond, find, if◌then◌else◌}
+use Rattle.std.proofs.Common.{◌≡◌, ℕ, zero, suc, ◌+◌, ◌/◌, ◌%◌, ◌<◌, ◌≤◌, Bool, true, false, ◌&&◌, List, [], ◌∷◌, ◌++◌, length, Option, Some, None, refl, sym, ap, ◌∙◌, arith, add-one}
+use Rattle.std.specs.Prelude.{IfNone, IfSome, cond, find, if◌then◌else◌}
 use Rattle.std.specs.List.{range_with_len, sum_by}
 use Rattle.std.specs.Option.{option_or}
 use Rattle.std.proofs.lemmas.List.Folds.{find-append}
@@ -18,7 +18,7 @@ use Rattle.fr_history.proofs.Greatest.{greatest_is_found, record_behind, record_
 use Rattle.fr_history.proofs.Synced.{first_sync_is, never_in_sync}
 use Rattle.fr_report.specs.Held.{Holds, ReportView, last_even_of, last_odd_of, next_sync}
 use Rattle.fr_report.specs.Sums.{cuts_of, total_of, xor_of}
-use Rattle.fr_report.specs.Totals.{sum_of, totals_of}
+use Rattle.fr_report.specs.Totals.{sum_of}
 
 -- ---- the first of a range
 

@@ -1,9 +1,8 @@
 -- What a program tells of a run is the report of its history.
-use Rattle.std.proofs.Common.{◌≡◌, ℕ, ℤ, Bool, true, false, List, [], ◌∷◌, ◌++◌, length, All, Option, Some, None, refl, sym, ap, ◌∙◌, append_assoc}
-use Rattle.std.specs.Prelude.{filter, not}
+use Rattle.std.proofs.Common.{◌≡◌, ℕ, Bool, true, false, List, [], ◌∷◌, ◌++◌, length, All, Option, refl, ap, ◌∙◌, append_assoc}
+use Rattle.std.specs.Prelude.{filter}
 use Rattle.std.specs.List.{flat_map}
 use Rattle.std.proofs.lemmas.List.Elements.{All-head, All-tail}
-use Rattle.fr_base.specs.declared.node_row.NodeRow.{NodeRow}
 use Rattle.fr_params.specs.Values.{Values}
 use Rattle.fr_params.specs.declared.rows.NodeSpec.{NodeSpec}
 use Rattle.fr_script.specs.View.{ScriptView, is_arbitrary}
@@ -58,7 +57,7 @@ told_same : (x : Setting) (gap : Option Gap) (report : ReportView) (h : History)
 unfolding told_text report_of
 told_same x gap report h s clock arbitrary behind held =
     let nodes : clock_lines (last_odd_of h) clock x.params.nodes ≡ node_lines x h = clock_lines_are x h clock x.params.nodes behind in
-    rw (held.synced, held.greatest, held.sums, held.cut, held.odd, nodes, ← arbitrary) 
+    rw (held.synced, held.greatest, held.sums, held.cut, held.odd, nodes, ← arbitrary)
     (regroup (line (nodes_text x)) (line (precision_text x.params)) (line (covered_text gap)) (line (sync_text (first_sync_of x.params h))) (skew_line (greatest_skew_of x.params h))
     (line (sent_a_text h)) (line (sent_b_text h)) (line (heard_text h)) (line (cut_text h)) (node_lines x h))
 

@@ -80,12 +80,7 @@ fn put_clock_of<C: Clocks, O: Sink>(
     }
 }
 
-fn put_clock<O: Sink>(
-    id: NodeId,
-    clock: Clock,
-    odd: &RowList,
-    out: &mut O,
-) -> Result<(), PutFault>
+fn put_clock<O: Sink>(id: NodeId, clock: Clock, odd: &RowList, out: &mut O) -> Result<(), PutFault>
     ensures { Puts result (sunk (O.written out.old) (O.faults out.old)) (sunk (O.written out.new) (O.faults out.new)) (line (clock_text id clock (offset_by (row_of odd.now id)))) }
 {
     put_line(&node_line(id, clock, last_offset(odd.as_slice(), id)), out)

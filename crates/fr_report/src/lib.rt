@@ -14,15 +14,15 @@ mod sums;
 mod sweep;
 mod writing;
 
-pub use clocks::{Clock, Clocks};
-pub use report::Report;
-
 ghost use Rattle.std.specs.Prelude.{Option};
 ghost use Rattle.fr_history.specs.Setting.{Setting};
 ghost use Rattle.fr_history.specs.History.{History};
 ghost use Rattle.fr_script.specs.declared.gap.Gap.{Gap};
 ghost use Rattle.fr_report.specs.Ended.{IsEnded};
 ghost use Rattle.fr_report.specs.Text.{report_of};
+
+pub use clocks::{Clock, Clocks};
+pub use report::Report;
 
 /// A law: the report ends with a line feed.
 pub fn a_report_ends_its_last_line()

@@ -1,7 +1,7 @@
 use Rattle.std.proofs.Common.{◌≡◌, FitsSigned, ℤ, of_z, to_z, w64, subst, sym, ◌∙◌, arith}
 use Rattle.std.proofs.lemmas.Int.{ints, to_z-of_z}
 use Rattle.std.specs.Int.{int_max, int_min}
-use Rattle.std.specs.Prelude.{◌≤ℤ◌, IfSome, Option, Some}
+use Rattle.std.specs.Prelude.{IfSome, Option}
 use Rattle.fr_report.specs.declared.extent.Extent.{Extent}
 use Rattle.fr_report.specs.Instants.{IsExtent}
 use Rattle.fr_report.proofs.Skews.{widened_bounds}

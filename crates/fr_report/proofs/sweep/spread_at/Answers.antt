@@ -1,5 +1,4 @@
-use Rattle.std.proofs.Common.{◌≡◌, ◌-ℤ◌, ◌∙◌, FitsSigned, Some, w64, ap, sym, subst, arith}
-use Rattle.std.specs.Prelude.{IfSome}
+use Rattle.std.proofs.Common.{◌≡◌, ◌-ℤ◌, ◌∙◌, FitsSigned, w64, ap, arith}
 use Rattle.std.proofs.lemmas.Int.{ints, to_z-of_z}
 use Rattle.fr_history.specs.Skew.{spread_at}
 use Rattle.fr_report.specs.Instants.{IsExtent}

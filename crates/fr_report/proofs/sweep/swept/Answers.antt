@@ -1,6 +1,6 @@
-use Rattle.std.proofs.Common.{◌≡◌, ◌+◌, ◌≤◌, ◌∙◌, ℤ, FitsSigned, Option, Some, w64, ap, sym, arith, rules}
+use Rattle.std.proofs.Common.{◌≡◌, ◌∙◌, ℤ, FitsSigned, Option, Some, w64, ap, sym, arith, rules}
 use Rattle.std.specs.Option.{option_map}
-use Rattle.std.proofs.lemmas.Int.{ints, to_z-of_z}
+use Rattle.std.proofs.lemmas.Int.{to_z-of_z}
 use Rattle.fr_history.specs.Skew.{Place, greater_of, greatest_within, spread_at}
 use Rattle.fr_report.specs.Held.{place_of}
 use Rattle.fr_report.proofs.Skews.{greatest_within-next, greatest_within-none, swept_there}

@@ -1,4 +1,3 @@
-use Rattle.std.proofs.Common.{◌++◌}
 use Rattle.std.specs.Option.{option_map}
 use Rattle.fr_report.specs.Held.{place_of}
 use Rattle.fr_report.specs.Puts.{sunk}

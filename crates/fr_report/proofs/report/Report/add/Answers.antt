@@ -1,4 +1,4 @@
-use Rattle.std.proofs.Common.{◌≡◌, ◌+◌, ◌∙◌, ℕ, List, Option, ap}
+use Rattle.std.proofs.Common.{◌≡◌, ◌+◌, ◌∙◌, ℕ, List, ap}
 use Rattle.std.specs.Prelude.{if◌then◌else◌}
 use Rattle.std.specs.List.{sum_by}
 use Rattle.std.specs.Option.{option_map}
@@ -30,12 +30,12 @@ returns c =
     let cuts : c.cuts.result ≡ sum_by (λ node. node.cut) given = c.cuts.ensures.value in
     record {
       holds = λ h held. holds_since p c.args.self.now _ row h c.requires.next
-      (ap (λ (report : ReportView). report.added + 1) view)
-      (swept ∙ ap (λ (all : List NodeRow). greatest_within p row.cycle all (option_map place_of c.self.inside.greatest) (amount p name.gMacroPerCycle)) rows ∙ ap (λ (report : ReportView). greatest_within p row.cycle row.rows report.greatest (amount p name.gMacroPerCycle)) view)
-      (synced ∙ ap (λ (report : ReportView). next_sync p row.cycle report.even row.rows report.synced) view)
-      (even ∙ ap (λ (all : List NodeRow). if is_odd row.cycle then c.self.inside.even else all) rows ∙ ap (λ (report : ReportView). if is_odd row.cycle then report.even else row.rows) view)
-      (odd ∙ ap (λ (all : List NodeRow). if is_odd row.cycle then all else c.self.inside.odd) rows ∙ ap (λ (report : ReportView). if is_odd row.cycle then row.rows else report.odd) view)
-      (sums ∙ ap (λ (report : ReportView). sum_of report.sums row.counts) view)
-      (ap (λ (n : ℕ). c.self.inside.cut + n) cuts ∙ ap (λ (all : List NodeRow). c.self.inside.cut + sum_by (λ node. node.cut) all) rows ∙ ap (λ (report : ReportView). report.cut + sum_by (λ node. node.cut) row.rows) view)
-      held;
+          (ap (λ (report : ReportView). report.added + 1) view)
+          (swept ∙ ap (λ (all : List NodeRow). greatest_within p row.cycle all (option_map place_of c.self.inside.greatest) (amount p name.gMacroPerCycle)) rows ∙ ap (λ (report : ReportView). greatest_within p row.cycle row.rows report.greatest (amount p name.gMacroPerCycle)) view)
+          (synced ∙ ap (λ (report : ReportView). next_sync p row.cycle report.even row.rows report.synced) view)
+          (even ∙ ap (λ (all : List NodeRow). if is_odd row.cycle then c.self.inside.even else all) rows ∙ ap (λ (report : ReportView). if is_odd row.cycle then report.even else row.rows) view)
+          (odd ∙ ap (λ (all : List NodeRow). if is_odd row.cycle then all else c.self.inside.odd) rows ∙ ap (λ (report : ReportView). if is_odd row.cycle then row.rows else report.odd) view)
+          (sums ∙ ap (λ (report : ReportView). sum_of report.sums row.counts) view)
+          (ap (λ (n : ℕ). c.self.inside.cut + n) cuts ∙ ap (λ (all : List NodeRow). c.self.inside.cut + sum_by (λ node. node.cut) all) rows ∙ ap (λ (report : ReportView). report.cut + sum_by (λ node. node.cut) row.rows) view)
+          held;
     }
