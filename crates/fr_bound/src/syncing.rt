@@ -77,8 +77,7 @@ fn starts_all_near(bound: i64, rows: &[NodeRow]) -> bool
     requires { All IsTimedRow rows.now }
     ensures { result ≡ list_all (λ row. list_all (λ other. int_le (row.start -ℤ other.start) bound) rows.now) rows.now }
 {
-    rows.iter()
-        .all(|row| starts_near(bound, row.start, rows))
+    rows.iter().all(|row| starts_near(bound, row.start, rows))
 }
 
 // Whether a start lies at most so many ticks behind each start.
@@ -123,8 +122,7 @@ fn ends_near(params: &Params, bound: i64, length: i64, rows: &[NodeRow]) -> bool
     requires rows { All IsTimedRow rows.now }
     ensures { result ≡ list_all (λ other. int_le (length -ℤ cycle_length_of params.now other) bound) rows.now }
 {
-    rows.iter()
-        .all(|other| is_near(bound, length, cycle_length(params, other)))
+    rows.iter().all(|other| is_near(bound, length, cycle_length(params, other)))
 }
 
 // Whether a number is at most so much above another.
