@@ -1,5 +1,5 @@
 -- When the clocks of a cluster are in sync in a double cycle, by the rows of its two cycles.
-use Rattle.std.specs.Prelude.{◌≡◌, ◌≤ℤ◌, ◌+ℤ◌, ◌-ℤ◌, ◌*ℤ◌, ◌*◌, ℤ, pos, Bool, true, false, ◌&&◌, int_le, List, All, map}
+use Rattle.std.specs.Prelude.{◌≡◌, ◌≤ℤ◌, ◌+ℤ◌, ◌-ℤ◌, ◌*ℤ◌, ◌*◌, ℤ, pos, Bool, ◌&&◌, int_le, List, All, map}
 use Rattle.std.specs.List.{list_all}
 use Rattle.fr_base.specs.States.{is_active}
 use Rattle.fr_base.specs.declared.node_row.NodeRow.{NodeRow}

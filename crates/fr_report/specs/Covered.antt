@@ -1,5 +1,5 @@
 -- The words for a run that is covered by the precision theorem, or for the first gap of one that is not.
-use Rattle.std.specs.Prelude.{ℕ, List, ◌++◌, codes, Option, Some, None}
+use Rattle.std.specs.Prelude.{ℕ, List, ◌++◌, codes, Option, Some, None, Result, Ok, Err}
 use Rattle.std.specs.Fmt.{decimal, signed_decimal}
 use Rattle.fr_base.specs.declared.channel.Channel.{Channel}
 use Rattle.fr_base.specs.declared.channel.Channel.TheVariants.{A, B}
@@ -28,3 +28,8 @@ gap_text (Link sender receiver double) = codes "link " ++ decimal sender ++ code
 abbrev pub covered_text : Option Gap → List ℕ
 covered_text None = codes "covered yes"
 covered_text (Some gap) = codes "covered no " ++ gap_text gap
+
+-- the first gap that an answer tells
+abbrev pub gap_of : Result (Unit {0}) Gap → Option Gap
+gap_of (Ok covered) = None
+gap_of (Err gap) = Some gap

@@ -4,3 +4,10 @@ pub mod Words
 pub mod Covered
 pub mod Text
 pub mod Ended
+pub mod Instants
+pub mod Totals
+pub mod Held
+pub mod Puts
+pub mod Cluster
+pub mod Clocks
+pub mod Told

@@ -1,6 +1,18 @@
-//! The report of a run as a text: what is said of a history, line by line. Definitions and their law; nothing
-//! here runs.
+//! The report of a run: what is told of a history as a text, line by line, and what gathers it cycle by cycle.
 #![tactic(auto)]
+
+mod clocks;
+mod counting;
+mod extent;
+mod frame_lines;
+mod node_lines;
+mod number;
+mod report;
+mod rows;
+mod run_lines;
+mod sums;
+mod sweep;
+mod writing;
 
 ghost use Rattle.std.specs.Prelude.{Option};
 ghost use Rattle.fr_history.specs.Setting.{Setting};
@@ -8,6 +20,9 @@ ghost use Rattle.fr_history.specs.History.{History};
 ghost use Rattle.fr_script.specs.declared.gap.Gap.{Gap};
 ghost use Rattle.fr_report.specs.Ended.{IsEnded};
 ghost use Rattle.fr_report.specs.Text.{report_of};
+
+pub use clocks::{Clock, Clocks};
+pub use report::Report;
 
 /// A law: the report ends with a line feed.
 pub fn a_report_ends_its_last_line()
