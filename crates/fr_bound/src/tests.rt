@@ -1,3 +1,6 @@
+ghost use Rattle.std.specs.Prelude.{◌≡◌, ◌∷◌, [], map, All};
+ghost use Rattle.fr_bound.specs.Ranges.{IsTimedRow};
+
 use super::*;
 use fr_base::{NodeId, NodeRow, RowList, State};
 use fr_params::{Params, read};
@@ -37,70 +40,95 @@ fn the_first_failing_check_is_named(rt: HostRuntime) -> Result<(), Fail> {
 /// A node's row: a start and a rate term, and whether it is active.
 type Short = (i64, i32, bool);
 
-/// The rows of nodes 1 and 2 in the even and the odd cycle, and whether they are in sync.
-const ROWS: &[([Short; 2], [Short; 2], bool)] = &[
+/// The rows of nodes 1 and 2 in the even and then in the odd cycle, and whether they are in sync.
+const ROWS: &[(Short, Short, Short, Short, bool)] = &[
     (
-        [(190_032_800, 0, true), (0, 30, true)],
-        [(0, 30, true), (7, 0, true)],
+        (190_032_800, 0, true),
+        (0, 30, true),
+        (0, 30, true),
+        (7, 0, true),
         true,
     ),
     (
-        [(190_032_801, 0, true), (0, 0, true)],
-        [(0, 0, true), (0, 0, true)],
+        (190_032_801, 0, true),
+        (0, 0, true),
+        (0, 0, true),
+        (0, 0, true),
         false,
     ),
     (
-        [(0, 0, true), (190_032_801, 0, true)],
-        [(0, 0, true), (0, 0, true)],
+        (0, 0, true),
+        (190_032_801, 0, true),
+        (0, 0, true),
+        (0, 0, true),
         false,
     ),
     (
-        [(0, 0, true), (0, 0, true)],
-        [(190_032_801, 0, true), (0, 0, true)],
+        (0, 0, true),
+        (0, 0, true),
+        (190_032_801, 0, true),
+        (0, 0, true),
         true,
     ),
     (
-        [(0, 31, true), (0, 0, true)],
-        [(0, 0, true), (0, 0, true)],
+        (0, 31, true),
+        (0, 0, true),
+        (0, 0, true),
+        (0, 0, true),
         false,
     ),
     (
-        [(0, 0, true), (0, 0, true)],
-        [(0, 0, true), (0, 31, true)],
+        (0, 0, true),
+        (0, 0, true),
+        (0, 0, true),
+        (0, 31, true),
         false,
     ),
     (
-        [(0, -40, true), (0, -40, true)],
-        [(0, 40, true), (0, 40, true)],
+        (0, -40, true),
+        (0, -40, true),
+        (0, 40, true),
+        (0, 40, true),
         true,
     ),
     (
-        [(0, -41, true), (0, -41, true)],
-        [(0, 0, true), (0, 0, true)],
+        (0, -41, true),
+        (0, -41, true),
+        (0, 0, true),
+        (0, 0, true),
         false,
     ),
     (
-        [(0, 0, true), (0, 0, true)],
-        [(0, 41, true), (0, 41, true)],
+        (0, 0, true),
+        (0, 0, true),
+        (0, 41, true),
+        (0, 41, true),
         false,
     ),
     (
-        [(0, 0, false), (0, 0, true)],
-        [(0, 0, true), (0, 0, true)],
+        (0, 0, false),
+        (0, 0, true),
+        (0, 0, true),
+        (0, 0, true),
         false,
     ),
     (
-        [(0, 0, true), (0, 0, true)],
-        [(0, 0, true), (0, 0, false)],
+        (0, 0, true),
+        (0, 0, true),
+        (0, 0, true),
+        (0, 0, false),
         false,
     ),
 ];
 
-fn row_of(node: NodeId, short: Short) -> NodeRow {
+fn row_of(node: NodeId, short: Short) -> NodeRow
+    ensures node { result.node ≡ node }
+    ensures timed { IsTimedRow result }
+{
     let (start, rate, active) = short;
     NodeRow {
         node,
-        start,
+        start: start.clamp(0, 200_000_000),
         length: 1_000_000,
         rate,
         offset: 0,
@@ -113,8 +141,10 @@ fn row_of(node: NodeId, short: Short) -> NodeRow {
     }
 }
 
-fn rows_of(short: [Short; 2]) -> RowList {
-    let [first, second] = short;
+fn rows_of(first: Short, second: Short) -> RowList
+    ensures nodes { map (λ row. row.node) result ≡ 1 ∷ 2 ∷ [] }
+    ensures timed { All IsTimedRow result }
+{
     let mut rows = RowList::new();
     rows.push(row_of(NodeId(1), first));
     rows.push(row_of(NodeId(2), second));
@@ -125,8 +155,8 @@ fn rows_of(short: [Short; 2]) -> RowList {
 fn tells_whether_clocks_are_in_sync(rt: HostRuntime) -> Result<(), Fail> {
     let params = params_of(rt.alloc())?;
     assert!(rt; in_sync(&params, &RowList::new(), &RowList::new()));
-    for (even, odd, want) in ROWS {
-        let told = in_sync(&params, &rows_of(*even), &rows_of(*odd));
+    for (even, even_2, odd, odd_2, want) in ROWS {
+        let told = in_sync(&params, &rows_of(*even, *even_2), &rows_of(*odd, *odd_2));
         assert_eq!(rt; told, *want, "at {even:?} {odd:?}");
     }
     Ok(())
