@@ -1,8 +1,12 @@
 -- The bounds and checks of worked clusters, computed.
-use Rattle.std.proofs.Common.{◌≡◌, ℕ, pos, [], true, false, refl}
+use Rattle.std.proofs.Common.{◌≡◌, ℕ, ℤ, pos, negsuc, List, [], ◌∷◌, true, false, refl}
+use Rattle.fr_base.specs.declared.node_row.NodeRow.{NodeRow}
+use Rattle.fr_base.specs.declared.state.State.{State}
+use Rattle.fr_base.specs.declared.state.State.TheVariants.{Active, Passive}
 use Rattle.fr_params.specs.Values.{Values}
 use Rattle.fr_bound.specs.Bounds.{y1_of, lambda_of, pi_of, precision_of}
 use Rattle.fr_bound.specs.Checks.{left_of, right_of, holds_of}
+use Rattle.fr_bound.specs.Sync.{is_in_sync}
 
 -- a cycle of 5 ms at a microtick of 25 ns, with this damping, offset limit, rate limit, action point offset and
 -- change bound; nodes and slots do not matter here
@@ -69,3 +73,43 @@ wider = (refl, refl, refl)
 wider_holds : (holds_of 1 (cluster 5 318 81 8 1) ≡ true) × (holds_of 2 (cluster 5 318 81 8 1) ≡ true) × (holds_of 3 (cluster 5 318 81 8 1) ≡ true) × (holds_of 4 (cluster 5 318 81 8 1) ≡ true)
     × (holds_of 5 (cluster 5 318 81 8 1) ≡ true)
 wider_holds = (refl, refl, refl, refl, refl)
+
+-- ---- in sync
+
+-- a row of an active node
+abbrev active : ℕ → ℤ → ℤ → NodeRow
+active node start rate = record { node = node; start = start; length = pos 1000000; rate = rate; offset = pos 0; state = Active; cut = 0 }
+
+abbrev passive : NodeRow → NodeRow
+passive row = record row { state = Passive }
+
+-- no rows are in sync
+no_rows : is_in_sync reference [] [] ≡ true
+unfolding is_in_sync
+no_rows = refl
+
+-- starts may lie pi apart, and lengths 30 of the 30.0052 microticks of lambda
+wide : is_in_sync reference (active 1 (pos 190032800) (pos 0) ∷ active 2 (pos 0) (pos 30) ∷ []) (active 1 (pos 0) (pos 30) ∷ active 2 (pos 7) (pos 0) ∷ []) ≡ true
+unfolding is_in_sync
+wide = refl
+
+too_wide_starts : is_in_sync reference (active 1 (pos 190032801) (pos 0) ∷ active 2 (pos 0) (pos 0) ∷ []) (active 1 (pos 0) (pos 0) ∷ active 2 (pos 0) (pos 0) ∷ []) ≡ false
+unfolding is_in_sync
+too_wide_starts = refl
+
+too_wide_lengths : is_in_sync reference (active 1 (pos 0) (pos 0) ∷ active 2 (pos 0) (pos 0) ∷ []) (active 1 (pos 0) (pos 31) ∷ active 2 (pos 0) (pos 0) ∷ []) ≡ false
+unfolding is_in_sync
+too_wide_lengths = refl
+
+-- a cycle may be 40 microticks short of its nominal length, which is 0.02 percent
+short : is_in_sync reference (active 1 (pos 0) (negsuc 39) ∷ []) (active 1 (pos 0) (negsuc 39) ∷ []) ≡ true
+unfolding is_in_sync
+short = refl
+
+too_short : is_in_sync reference (active 1 (pos 0) (negsuc 40) ∷ []) (active 1 (pos 0) (pos 0) ∷ []) ≡ false
+unfolding is_in_sync
+too_short = refl
+
+one_passive : is_in_sync reference (active 1 (pos 0) (pos 0) ∷ []) (passive (active 1 (pos 0) (pos 0)) ∷ []) ≡ false
+unfolding is_in_sync
+one_passive = refl

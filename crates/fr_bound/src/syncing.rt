@@ -117,8 +117,8 @@ fn row_near(params: &Params, bound: i64, row: &NodeRow, rows: &[NodeRow]) -> boo
 
 // Whether a length lies at most so many ticks above each length.
 fn ends_near(params: &Params, bound: i64, length: i64, rows: &[NodeRow]) -> bool
-    requires from { neg_ℤ (pos 3_000_000_000) ≤ℤ length }
-    requires to { length ≤ℤ pos 1_000_000_000_000 }
+    requires from { neg_ℤ (pos 4_000_000_000_000_000) ≤ℤ length }
+    requires to { length ≤ℤ pos 4_000_000_000_000_000 }
     requires rows { All IsTimedRow rows.now }
     ensures { result ≡ list_all (λ other. int_le (length -ℤ cycle_length_of params.now other) bound) rows.now }
 {
@@ -158,19 +158,17 @@ fn is_proper_length(params: &Params, length: i64) -> bool
 fn cycle_length(params: &Params, row: &NodeRow) -> i64
     requires { IsTimedRow row.now }
     ensures value { result ≡ cycle_length_of params.now row.now }
-    ensures from { neg_ℤ (pos 3_000_000_000) ≤ℤ result }
-    ensures to { result ≤ℤ pos 1_000_000_000_000 }
+    ensures from { neg_ℤ (pos 4_000_000_000_000_000) ≤ℤ result }
+    ensures to { result ≤ℤ pos 4_000_000_000_000_000 }
 {
     ticks(cycle_micros(params, row.rate), row.length)
 }
 
 // The microticks of a node's cycle before its offset correction.
 fn cycle_micros(params: &Params, rate: i32) -> i64
-    requires from { neg_ℤ (pos 2000) ≤ℤ rate }
-    requires to { rate ≤ℤ pos 2000 }
     ensures value { result ≡ params.now.micros +ℤ rate }
-    ensures from { neg_ℤ (pos 2000) ≤ℤ result }
-    ensures to { result ≤ℤ pos 642_000 }
+    ensures from { neg_ℤ (pos 2_200_000_000) ≤ℤ result }
+    ensures to { result ≤ℤ pos 2_200_000_000 }
 {
     with_rate(nominal_micros(params), rate)
 }
@@ -203,24 +201,22 @@ fn sane(params: &Params)
 fn with_rate(micros: i64, rate: i32) -> i64
     requires micros_from { pos 0 ≤ℤ micros }
     requires micros_to { micros ≤ℤ pos 640_000 }
-    requires from { neg_ℤ (pos 2000) ≤ℤ rate }
-    requires to { rate ≤ℤ pos 2000 }
     ensures value { result ≡ micros +ℤ rate }
-    ensures from { neg_ℤ (pos 2000) ≤ℤ result }
-    ensures to { result ≤ℤ pos 642_000 }
+    ensures from { neg_ℤ (pos 2_200_000_000) ≤ℤ result }
+    ensures to { result ≤ℤ pos 2_200_000_000 }
 {
     micros + rate as i64
 }
 
 // The ticks of so many microticks.
 fn ticks(microticks: i64, length: i64) -> i64
-    requires microticks_from { neg_ℤ (pos 2000) ≤ℤ microticks }
-    requires microticks_to { microticks ≤ℤ pos 642_000 }
+    requires microticks_from { neg_ℤ (pos 2_200_000_000) ≤ℤ microticks }
+    requires microticks_to { microticks ≤ℤ pos 2_200_000_000 }
     requires length_from { pos 0 ≤ℤ length }
     requires length_to { length ≤ℤ pos 1_500_000 }
     ensures value { result ≡ microticks *ℤ length }
-    ensures from { neg_ℤ (pos 3_000_000_000) ≤ℤ result }
-    ensures to { result ≤ℤ pos 1_000_000_000_000 }
+    ensures from { neg_ℤ (pos 4_000_000_000_000_000) ≤ℤ result }
+    ensures to { result ≤ℤ pos 4_000_000_000_000_000 }
 {
     microticks * length
 }
