@@ -1,3 +1,5 @@
+ghost use Rattle.fr_params.specs.Sane.{IsSane};
+
 use fr_drift::Drift;
 use fr_params::Params;
 use fr_script::Script;
@@ -7,4 +9,11 @@ pub(crate) struct Files {
     pub(crate) params: Params,
     pub(crate) drift: Drift,
     pub(crate) script: Script,
+}
+
+// What holds of all parameters.
+pub(crate) fn sane(params: &Params)
+    ensures { IsSane params.now }
+{
+    let _nodes = &params.nodes;
 }

@@ -2,5 +2,9 @@
 #![tactic(auto)]
 
 mod files;
+mod flipping;
 mod hearing;
+mod instants;
+mod offering;
 mod tally;
+mod turn;
