@@ -8,9 +8,11 @@ use Rattle.fr_midpoint.specs.Within.{IsWithin}
 use Rattle.fr_params.specs.Questions.{compensation_of}
 use Rattle.fr_params.specs.Values.{Values}
 use Rattle.fr_reception.specs.Offers.{Offer, action_instant}
-use Rattle.fr_node.specs.View.{IsProperRow}
+use Rattle.fr_node.specs.View.{IsProperRow, NodeView, row_of}
 use Rattle.fr_history.specs.Setting.{Setting}
 use Rattle.fr_history.specs.Offers.{arrived_of, is_on, said_by}
+use Rattle.fr_world.specs.Hearing.{after_offer}
+use Rattle.fr_world.specs.declared.turn.Sender.{Sender}
 use Rattle.fr_world.specs.declared.turn.Turn.{Turn}
 
 -- a row whose instants can be computed, before its corrections
@@ -58,3 +60,8 @@ hears x receiver sender channel = not (is_halted receiver.state) && is_on x rece
 abbrev pub offer_heard : Setting → Turn → ℕ → Option NodeRow → List ℕ → NodeRow → Option Offer
 offer_heard x turn sender row frame receiver =
     if hears x receiver sender turn.channel then offer_from x turn sender row frame receiver else None
+
+-- a node after that
+abbrev pub offered : Setting → Turn → Sender → List ℕ → NodeView → NodeView
+offered x turn sender frame node =
+    after_offer x turn.cycle node (offer_heard x turn sender.node sender.row frame (row_of node))

@@ -15,10 +15,10 @@ use fr_params::Params;
 use fr_time::{Grid, action_point, grid_of, instant};
 
 // The instant at which the frame of a sender with this row comes to a receiver, in ticks.
-pub(crate) fn sent_at(files: &Files, turn: Turn, sender: &NodeRow, receiver: NodeId) -> i64
+pub(crate) fn sent_at(files: &Files, turn: &Turn, sender: &NodeRow, receiver: NodeId) -> i64
     requires row { IsEarlyRow files.now.params sender.now }
-    requires static_slot { turn.slot ≤ amount files.now.params name.gNumberOfStaticSlots }
-    ensures value { result ≡ sent_instant (setting_in files.now) turn sender.now receiver }
+    requires static_slot { turn.now.slot ≤ amount files.now.params name.gNumberOfStaticSlots }
+    ensures value { result ≡ sent_instant (setting_in files.now) turn.now sender.now receiver }
     ensures low { pos 0 ≤ℤ result }
     ensures high { result ≤ℤ pos 2_000_000_000_000_000_000 }
 {
@@ -30,12 +30,12 @@ pub(crate) fn sent_at(files: &Files, turn: Turn, sender: &NodeRow, receiver: Nod
 
 // The instant at which what is said so much later than expected comes to a receiver with this row, in
 // ticks.
-pub(crate) fn said_at(files: &Files, turn: Turn, receiver: &NodeRow, shift: i64) -> i64
+pub(crate) fn said_at(files: &Files, turn: &Turn, receiver: &NodeRow, shift: i64) -> i64
     requires row { IsEarlyRow files.now.params receiver.now }
-    requires static_slot { turn.slot ≤ amount files.now.params name.gNumberOfStaticSlots }
+    requires static_slot { turn.now.slot ≤ amount files.now.params name.gNumberOfStaticSlots }
     requires shift_from { neg_ℤ (pos 1_000_000_000_000) ≤ℤ shift }
     requires shift_to { shift ≤ℤ pos 1_000_000_000_000 }
-    ensures value { result ≡ said_instant (setting_in files.now) turn receiver.now shift }
+    ensures value { result ≡ said_instant (setting_in files.now) turn.now receiver.now shift }
     ensures low { neg_ℤ (pos 1_000_000_000_000) ≤ℤ result }
     ensures high { result ≤ℤ pos 2_000_000_000_000_000_000 }
 {

@@ -1,19 +1,20 @@
-ghost use Rattle.std.specs.Prelude.{◌≡◌, ◌≤◌, ◌≤ℤ◌, pos, neg_ℤ, length, true, Some};
+ghost use Rattle.std.specs.Prelude.{◌≡◌, ◌≤◌, ◌≤ℤ◌, pos, neg_ℤ, length, map, All, IfSome, Some};
+ghost use Rattle.std.specs.Option.{option_map};
 ghost use Rattle.fr_params.specs.Values.{amount};
 ghost use Rattle.fr_params.specs.declared.names.ParamName.TheVariants as name;
 ghost use Rattle.fr_time.specs.Senders.{sender_of};
 ghost use Rattle.fr_reception.specs.Offers.{flipped};
 ghost use Rattle.fr_node.specs.View.{row_of};
-ghost use Rattle.fr_world.specs.Counting.{counted_offer, AreAtMost};
+ghost use Rattle.fr_world.specs.Counting.{counted_offer, counted_offers, AreAtMost};
 ghost use Rattle.fr_world.specs.Hearing.{after_offer};
 ghost use Rattle.fr_world.specs.Run.{setting_in, CanHear, IsReady};
-ghost use Rattle.fr_world.specs.Sending.{hears, offer_at, offer_heard, said_with, sent_with, IsEarlyRow};
+ghost use Rattle.fr_world.specs.Sending.{hears, offer_at, offer_heard, offered, said_instant, said_with, sent_with, IsEarlyRow};
 
-use crate::files::Files;
+use crate::files::{Files, sane};
 use crate::flipping::with_flipped;
 use crate::hearing::hear_one;
 use crate::instants::{said_at, sent_at};
-use crate::turn::Turn;
+use crate::turn::{Sender, Turn};
 use fr_base::{Channel, Counts, NodeId, NodeRow, State};
 use fr_node::Node;
 use fr_script::Event;
@@ -31,23 +32,23 @@ fn hears(files: &Files, receiver: &NodeRow, sender: NodeId, channel: Channel) ->
 // Offers a frame with one bit inverted to a node.
 fn hear_flipped(
     files: &Files,
-    turn: Turn,
+    turn: &Turn,
     node: &mut Node,
     arrival: i64,
     frame: (&[u8], u32),
     counts: &mut Counts,
 )
-    requires ready { IsReady files.now turn.cycle node.old }
-    requires hears { CanHear files.now.params turn.slot turn.channel node.old }
+    requires ready { IsReady files.now turn.now.cycle node.old }
+    requires hears { CanHear files.now.params turn.now.slot turn.now.channel node.old }
     requires frame { length frame.0.now ≤ 262 }
     requires arrival_from { neg_ℤ (pos 4_000_000_000_000_000_000) ≤ℤ arrival }
     requires arrival_to { arrival ≤ℤ pos 4_000_000_000_000_000_000 }
     requires few { AreAtMost 2_000_000 counts.old }
-    ensures node { node.new ≡ after_offer (setting_in files.now) turn.cycle node.old
-        (Some (offer_at turn arrival (flipped frame.entry.1 frame.entry.0.now))) }
-    ensures ready { IsReady files.now turn.cycle node.new }
-    ensures counts { counts.new ≡ counted_offer (setting_in files.now) turn.cycle (row_of node.old)
-        (Some (offer_at turn arrival (flipped frame.entry.1 frame.entry.0.now))) counts.old }
+    ensures node { node.new ≡ after_offer (setting_in files.now) turn.now.cycle node.old
+        (Some (offer_at turn.now arrival (flipped frame.entry.1 frame.entry.0.now))) }
+    ensures ready { IsReady files.now turn.now.cycle node.new }
+    ensures counts { counts.new ≡ counted_offer (setting_in files.now) turn.now.cycle (row_of node.old)
+        (Some (offer_at turn.now arrival (flipped frame.entry.1 frame.entry.0.now))) counts.old }
 {
     let (bytes, bit) = frame;
     let count = bytes.len();
@@ -58,7 +59,7 @@ fn hear_flipped(
 // Brings the frame of a correct sender with this row to a node.
 fn send_to(
     files: &Files,
-    turn: Turn,
+    turn: &Turn,
     sender: &NodeRow,
     frame: &[u8],
     node: &mut Node,
@@ -66,14 +67,14 @@ fn send_to(
 )
     requires sender { IsEarlyRow files.now.params sender.now }
     requires frame { length frame.now ≤ 262 }
-    requires ready { IsReady files.now turn.cycle node.old }
-    requires hears { CanHear files.now.params turn.slot turn.channel node.old }
+    requires ready { IsReady files.now turn.now.cycle node.old }
+    requires hears { CanHear files.now.params turn.now.slot turn.now.channel node.old }
     requires few { AreAtMost 2_000_000 counts.old }
-    ensures node { node.new ≡ after_offer (setting_in files.now) turn.cycle node.old
-        (sent_with (setting_in files.now) turn sender.now frame.now (row_of node.old)) }
-    ensures ready { IsReady files.now turn.cycle node.new }
-    ensures counts { counts.new ≡ counted_offer (setting_in files.now) turn.cycle (row_of node.old)
-        (sent_with (setting_in files.now) turn sender.now frame.now (row_of node.old)) counts.old }
+    ensures node { node.new ≡ after_offer (setting_in files.now) turn.now.cycle node.old
+        (sent_with (setting_in files.now) turn.now sender.now frame.now (row_of node.old)) }
+    ensures ready { IsReady files.now turn.now.cycle node.new }
+    ensures counts { counts.new ≡ counted_offer (setting_in files.now) turn.now.cycle (row_of node.old)
+        (sent_with (setting_in files.now) turn.now sender.now frame.now (row_of node.old)) counts.old }
 {
     let receiver = node.row().node;
     let arrival = sent_at(files, turn, sender, receiver);
@@ -87,40 +88,59 @@ fn send_to(
     }
 }
 
+// Offers bytes that are said so many ticks later than expected to a node.
+fn say_one(
+    files: &Files,
+    turn: &Turn,
+    shift: i64,
+    bytes: &[u8],
+    node: &mut Node,
+    counts: &mut Counts,
+)
+    requires ready { IsReady files.now turn.now.cycle node.old }
+    requires hears { CanHear files.now.params turn.now.slot turn.now.channel node.old }
+    requires shift_from { neg_ℤ (pos 1_000_000_000_000) ≤ℤ shift }
+    requires shift_to { shift ≤ℤ pos 1_000_000_000_000 }
+    requires few { AreAtMost 2_000_000 counts.old }
+    ensures node { node.new ≡ after_offer (setting_in files.now) turn.now.cycle node.old
+        (Some (offer_at turn.now (said_instant (setting_in files.now) turn.now (row_of node.old) shift) bytes.now)) }
+    ensures ready { IsReady files.now turn.now.cycle node.new }
+    ensures counts { counts.new ≡ counted_offer (setting_in files.now) turn.now.cycle (row_of node.old)
+        (Some (offer_at turn.now (said_instant (setting_in files.now) turn.now (row_of node.old) shift) bytes.now)) counts.old }
+{
+    let receiver = early_row(files, node);
+    let arrival = said_at(files, turn, &receiver, shift);
+    hear_one(files, turn, node, arrival, bytes, counts);
+}
+
 // Brings what an arbitrary sender says, if it says something, to a node.
 fn say_to(
     files: &Files,
-    turn: Turn,
+    turn: &Turn,
     sender: NodeId,
     frame: &[u8],
     node: &mut Node,
     counts: &mut Counts,
 )
-    requires ready { IsReady files.now turn.cycle node.old }
-    requires hears { CanHear files.now.params turn.slot turn.channel node.old }
+    requires ready { IsReady files.now turn.now.cycle node.old }
+    requires hears { CanHear files.now.params turn.now.slot turn.now.channel node.old }
     requires few { AreAtMost 2_000_000 counts.old }
-    ensures node { node.new ≡ after_offer (setting_in files.now) turn.cycle node.old
-        (said_with (setting_in files.now) turn sender frame.now (row_of node.old)) }
-    ensures ready { IsReady files.now turn.cycle node.new }
-    ensures counts { counts.new ≡ counted_offer (setting_in files.now) turn.cycle (row_of node.old)
-        (said_with (setting_in files.now) turn sender frame.now (row_of node.old)) counts.old }
+    ensures node { node.new ≡ after_offer (setting_in files.now) turn.now.cycle node.old
+        (said_with (setting_in files.now) turn.now sender frame.now (row_of node.old)) }
+    ensures ready { IsReady files.now turn.now.cycle node.new }
+    ensures counts { counts.new ≡ counted_offer (setting_in files.now) turn.now.cycle (row_of node.old)
+        (said_with (setting_in files.now) turn.now sender frame.now (row_of node.old)) counts.old }
 {
-    let receiver = early_row(files, node);
+    let receiver = node.row().node;
     match files
         .script
-        .at(turn.cycle, sender, receiver.node, turn.channel)
+        .at(turn.cycle, sender, receiver, turn.channel)
     {
-        Event::Say { shift, bytes } => {
-            let arrival = said_at(files, turn, &receiver, shift);
-            hear_one(
-                files,
-                turn,
-                node,
-                arrival,
-                bytes.unwrap_or(frame),
-                counts,
-            );
-        }
+        Event::Say {
+            shift,
+            bytes: Some(bytes),
+        } => say_one(files, turn, shift, bytes, node, counts),
+        Event::Say { shift, bytes: None } => say_one(files, turn, shift, frame, node, counts),
         Event::Regular | Event::Silent | Event::Flip(_) => {}
     }
 }
@@ -132,4 +152,62 @@ fn early_row(files: &Files, node: &Node) -> NodeRow
     ensures early { IsEarlyRow files.now.params result }
 {
     node.row()
+}
+
+// Offers the frame of a sender to a node, where it hears the sender.
+fn offer_to(
+    files: &Files,
+    turn: &Turn,
+    sender: &Sender,
+    frame: &[u8],
+    node: &mut Node,
+    counts: &mut Counts,
+)
+    requires slot { turn.now.slot ≤ amount files.now.params name.gNumberOfStaticSlots }
+    requires sends { option_map (λ sending. sending.node) (sender_of files.now.params turn.now.slot turn.now.cycle) ≡ Some sender.now.node }
+    requires row { IfSome sender.now.row (IsEarlyRow files.now.params) }
+    requires frame { length frame.now ≤ 262 }
+    requires ready { IsReady files.now turn.now.cycle node.old }
+    requires few { AreAtMost 2_000_000 counts.old }
+    ensures node { node.new ≡ after_offer (setting_in files.now) turn.now.cycle node.old
+        (offer_heard (setting_in files.now) turn.now sender.now.node sender.now.row frame.now (row_of node.old)) }
+    ensures ready { IsReady files.now turn.now.cycle node.new }
+    ensures counts { counts.new ≡ counted_offer (setting_in files.now) turn.now.cycle (row_of node.old)
+        (offer_heard (setting_in files.now) turn.now sender.now.node sender.now.row frame.now (row_of node.old)) counts.old }
+{
+    sane(&files.params);
+    let receiver = early_row(files, node);
+    if !hears(files, &receiver, sender.node, turn.channel) {
+        return;
+    }
+    match &sender.row {
+        Some(row) => send_to(files, turn, row, frame, node, counts),
+        None => say_to(files, turn, sender.node, frame, node, counts),
+    }
+}
+
+// Offers the frame of a sender to each node that hears the sender.
+pub(crate) fn offer_to_all(
+    files: &Files,
+    turn: &Turn,
+    sender: &Sender,
+    frame: &[u8],
+    nodes: &mut [Node],
+    counts: &mut Counts,
+)
+    requires slot { turn.now.slot ≤ amount files.now.params name.gNumberOfStaticSlots }
+    requires sends { option_map (λ sending. sending.node) (sender_of files.now.params turn.now.slot turn.now.cycle) ≡ Some sender.now.node }
+    requires row { IfSome sender.now.row (IsEarlyRow files.now.params) }
+    requires frame { length frame.now ≤ 262 }
+    requires ready { All (IsReady files.now turn.now.cycle) nodes.old }
+    requires few_nodes { length nodes.old ≤ 64 }
+    requires few { AreAtMost 1_000_000 counts.old }
+    ensures nodes { nodes.new ≡ map (offered (setting_in files.now) turn.now sender.now frame.now) nodes.old }
+    ensures ready { All (IsReady files.now turn.now.cycle) nodes.new }
+    ensures counts { counts.new ≡ counted_offers (setting_in files.now) turn.now.cycle
+        (offer_heard (setting_in files.now) turn.now sender.now.node sender.now.row frame.now) (map row_of nodes.old) counts.old }
+{
+    for node in nodes.iter_mut() {
+        offer_to(files, turn, sender, frame, node, counts);
+    }
 }

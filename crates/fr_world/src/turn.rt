@@ -1,4 +1,4 @@
-use fr_base::{Channel, Slot};
+use fr_base::{Channel, NodeId, NodeRow, Slot};
 
 // A slot of a cycle on a channel.
 #[derive(Clone, Copy)]
@@ -6,4 +6,11 @@ pub(crate) struct Turn {
     pub(crate) cycle: u32,
     pub(crate) slot: Slot,
     pub(crate) channel: Channel,
+}
+
+// Who sends: a node, with its row where it is correct.
+#[derive(Clone, Copy)]
+pub(crate) struct Sender {
+    pub(crate) node: NodeId,
+    pub(crate) row: Option<NodeRow>,
 }
