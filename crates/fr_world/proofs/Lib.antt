@@ -9,3 +9,5 @@ pub mod Step
 pub mod Listed
 pub mod Sums
 pub mod Counts
+pub mod Listening
+pub mod Loops
