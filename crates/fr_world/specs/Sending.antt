@@ -1,7 +1,7 @@
 -- What comes to a receiver of a frame in a slot, once its sender is known.
 use Rattle.std.specs.Prelude.{◌≡◌, ℕ, ◌==◌, ℤ, ◌+ℤ◌, ◌*ℤ◌, pos, Bool, not, ◌&&◌, List, Option, Some, None, if◌then◌else◌}
 use Rattle.std.specs.Option.{option_map}
-use Rattle.fr_base.specs.States.{is_halted}
+use Rattle.fr_base.specs.States.{is_active, is_halted}
 use Rattle.fr_base.specs.declared.channel.Channel.{Channel}
 use Rattle.fr_base.specs.declared.node_row.NodeRow.{NodeRow}
 use Rattle.fr_midpoint.specs.Within.{IsWithin}
@@ -10,6 +10,7 @@ use Rattle.fr_params.specs.Values.{Values}
 use Rattle.fr_reception.specs.Offers.{Offer, action_instant}
 use Rattle.fr_node.specs.View.{IsProperRow, NodeView, row_of}
 use Rattle.fr_history.specs.Setting.{Setting}
+use Rattle.fr_history.specs.History.{row_of as row_in}
 use Rattle.fr_history.specs.Offers.{arrived_of, is_on, said_by}
 use Rattle.fr_world.specs.Hearing.{after_offer}
 use Rattle.fr_world.specs.declared.turn.Sender.{Sender}
@@ -65,3 +66,11 @@ offer_heard x turn sender row frame receiver =
 abbrev pub offered : Setting → Turn → Sender → List ℕ → NodeView → NodeView
 offered x turn sender frame node =
     after_offer x turn.cycle node (offer_heard x turn sender.node sender.row frame (row_of node))
+
+-- the row of a node, where it sends on a channel: it is active and has the channel
+abbrev pub sending_row_by : Setting → Option NodeRow → ℕ → Channel → Option NodeRow
+sending_row_by x None node channel = None
+sending_row_by x (Some row) node channel = if is_active row.state && is_on x node channel then Some row else None
+
+abbrev pub sending_row_in : Setting → List NodeRow → ℕ → Channel → Option NodeRow
+sending_row_in x rows node channel = sending_row_by x (row_in rows node) node channel

@@ -6,5 +6,6 @@ mod flipping;
 mod hearing;
 mod instants;
 mod offering;
+mod slots;
 mod tally;
 mod turn;

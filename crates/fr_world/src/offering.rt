@@ -1,9 +1,10 @@
-ghost use Rattle.std.specs.Prelude.{◌≡◌, ◌≤◌, ◌≤ℤ◌, pos, neg_ℤ, length, map, All, IfSome, Some};
+ghost use Rattle.std.specs.Prelude.{◌≡◌, ◌≤◌, ◌≤ℤ◌, pos, neg_ℤ, length, map, All, IfSome, IsSome, Some};
 ghost use Rattle.std.specs.Option.{option_map};
 ghost use Rattle.fr_params.specs.Values.{amount};
 ghost use Rattle.fr_params.specs.declared.names.ParamName.TheVariants as name;
 ghost use Rattle.fr_time.specs.Senders.{sender_of};
 ghost use Rattle.fr_reception.specs.Offers.{flipped};
+ghost use Rattle.fr_node.specs.Fits.{Fits};
 ghost use Rattle.fr_node.specs.View.{row_of};
 ghost use Rattle.fr_world.specs.Counting.{counted_offer, counted_offers, AreAtMost};
 ghost use Rattle.fr_world.specs.Hearing.{after_offer};
@@ -146,8 +147,9 @@ fn say_to(
 }
 
 // The row of a node whose cycle is under way.
-fn early_row(files: &Files, node: &Node) -> NodeRow
-    requires { IsReady files.now node.now.cycle node.now }
+pub(crate) fn early_row(files: &Files, node: &Node) -> NodeRow
+    requires fits { Fits files.now.params node.now }
+    requires under_way { IsSome node.now.length }
     ensures value { result ≡ row_of node.now }
     ensures early { IsEarlyRow files.now.params result }
 {
