@@ -11,3 +11,4 @@ pub mod Sums
 pub mod Counts
 pub mod Listening
 pub mod Loops
+pub mod Channels
