@@ -3,7 +3,7 @@ ghost use Rattle.std.specs.Option.{option_map, option_and_then};
 ghost use Rattle.fr_params.specs.Values.{amount};
 ghost use Rattle.fr_params.specs.declared.names.ParamName.TheVariants as name;
 ghost use Rattle.fr_time.specs.Senders.{sender_of};
-ghost use Rattle.fr_reception.specs.Regular.{regular_frame};
+ghost use Rattle.fr_reception.specs.Regular.{is_sync_frame, regular_frame};
 ghost use Rattle.fr_script.specs.View.{is_arbitrary};
 ghost use Rattle.fr_node.specs.View.{row_of};
 ghost use Rattle.fr_history.specs.History.{row_of as row_in};
@@ -94,4 +94,118 @@ fn broadcast(
         row,
     };
     offer_to_all(files, turn, &sender, frame, nodes, counts);
+}
+
+// Whether a frame is one of a key slot.
+fn is_sync(kind: Kind) -> bool
+    ensures { result ≡ is_sync_frame kind }
+{
+    matches!(kind, Kind::SyncFrame)
+}
+
+// What an arbitrary sender says in a slot on a channel is heard.
+fn hear_said(
+    files: &Files,
+    turn: &Turn,
+    sending: &Sending,
+    nodes: &mut [Node],
+    counts: &mut Counts,
+)
+    requires slot { turn.now.slot ≤ amount files.now.params name.gNumberOfStaticSlots }
+    requires sends { sender_of files.now.params turn.now.slot turn.now.cycle ≡ Some sending.now }
+    requires arbitrary { is_arbitrary files.now.script sending.now.node ≡ true }
+    requires ready { All (IsReady files.now turn.now.cycle) nodes.old }
+    requires few_nodes { length nodes.old ≤ 64 }
+    requires few { AreAtMost 500_000 counts.old }
+    ensures nodes { nodes.new ≡ map (after_channel (setting_in files.now) turn.now.cycle (map row_of nodes.old) turn.now.slot turn.now.channel) nodes.old }
+    ensures ready { All (IsReady files.now turn.now.cycle) nodes.new }
+    ensures counts { counts.new ≡ counts_on (setting_in files.now) turn.now.cycle (map row_of nodes.old) turn.now.slot turn.now.channel counts.old }
+{
+    if is_sync(sending.kind) {
+        broadcast(files, turn, sending, None, nodes, counts);
+    }
+}
+
+// What a correct sender sends in a slot on a channel is heard.
+fn hear_sent(
+    files: &Files,
+    turn: &Turn,
+    sending: &Sending,
+    nodes: &mut [Node],
+    counts: &mut Counts,
+)
+    requires slot { turn.now.slot ≤ amount files.now.params name.gNumberOfStaticSlots }
+    requires sends { sender_of files.now.params turn.now.slot turn.now.cycle ≡ Some sending.now }
+    requires correct { is_arbitrary files.now.script sending.now.node ≡ false }
+    requires ready { All (IsReady files.now turn.now.cycle) nodes.old }
+    requires few_nodes { length nodes.old ≤ 64 }
+    requires few { AreAtMost 500_000 counts.old }
+    ensures nodes { nodes.new ≡ map (after_channel (setting_in files.now) turn.now.cycle (map row_of nodes.old) turn.now.slot turn.now.channel) nodes.old }
+    ensures ready { All (IsReady files.now turn.now.cycle) nodes.new }
+    ensures counts { counts.new ≡ counts_on (setting_in files.now) turn.now.cycle (map row_of nodes.old) turn.now.slot turn.now.channel counts.old }
+{
+    if let Some(row) = sending_row(files, turn, nodes, sending.node) {
+        broadcast(files, turn, sending, Some(row), nodes, counts);
+    }
+}
+
+// The nodes hear a slot on a channel.
+fn hear_on(files: &Files, turn: &Turn, nodes: &mut [Node], counts: &mut Counts)
+    requires slot { turn.now.slot ≤ amount files.now.params name.gNumberOfStaticSlots }
+    requires ready { All (IsReady files.now turn.now.cycle) nodes.old }
+    requires few_nodes { length nodes.old ≤ 64 }
+    requires few { AreAtMost 500_000 counts.old }
+    ensures nodes { nodes.new ≡ map (after_channel (setting_in files.now) turn.now.cycle (map row_of nodes.old) turn.now.slot turn.now.channel) nodes.old }
+    ensures ready { All (IsReady files.now turn.now.cycle) nodes.new }
+    ensures counts { counts.new ≡ counts_on (setting_in files.now) turn.now.cycle (map row_of nodes.old) turn.now.slot turn.now.channel counts.old }
+{
+    if let Some(sending) = sender(&files.params, turn.slot, turn.cycle) {
+        if files.script.arbitrary(sending.node) {
+            hear_said(files, turn, &sending, nodes, counts);
+        } else {
+            hear_sent(files, turn, &sending, nodes, counts);
+        }
+    }
+}
+
+// The nodes hear a slot, first on channel A and then on channel B.
+fn hear_slot(files: &Files, cycle: u32, slot: Slot, nodes: &mut [Node], counts: &mut Counts)
+    requires slot { slot ≤ amount files.now.params name.gNumberOfStaticSlots }
+    requires ready { All (IsReady files.now cycle) nodes.old }
+    requires few_nodes { length nodes.old ≤ 64 }
+    requires few { AreAtMost 400_000 counts.old }
+    ensures nodes { nodes.new ≡ map (after_slot (setting_in files.now) cycle (map row_of nodes.old) slot) nodes.old }
+    ensures ready { All (IsReady files.now cycle) nodes.new }
+    ensures counts { counts.new ≡ counts_in (setting_in files.now) cycle (map row_of nodes.old) slot counts.old }
+{
+    let on_a = Turn {
+        cycle,
+        slot,
+        channel: Channel::A,
+    };
+    hear_on(files, &on_a, nodes, counts);
+    let on_b = Turn {
+        cycle,
+        slot,
+        channel: Channel::B,
+    };
+    hear_on(files, &on_b, nodes, counts);
+}
+
+// The nodes hear all static slots of a cycle.
+pub(crate) fn hear_all(files: &Files, cycle: u32, nodes: &mut [Node], counts: &mut Counts)
+    requires ready { All (IsReady files.now cycle) nodes.old }
+    requires few_nodes { length nodes.old ≤ 64 }
+    requires few { AreAtMost 0 counts.old }
+    ensures nodes { nodes.new ≡ map (after_slots (setting_in files.now) cycle (map row_of nodes.old)
+        (amount files.now.params name.gNumberOfStaticSlots)) nodes.old }
+    ensures ready { All (IsReady files.now cycle) nodes.new }
+    ensures counts { counts.new ≡ counts_after (setting_in files.now) cycle (map row_of nodes.old)
+        (amount files.now.params name.gNumberOfStaticSlots) counts.old }
+{
+    let slots = files.params.natural(ParamName::gNumberOfStaticSlots);
+    for earlier in 0..slots {
+        let slot = Slot(earlier as u16 + 1);
+        hear_slot(files, cycle, slot, nodes, counts);
+    }
 }
