@@ -302,3 +302,9 @@ arbitrary-frame f turn nodes sending sends ready arbitrary =
     sender-frame (setting_in f) turn (map row_of nodes) sending sends
     ∙ ap (λ (row : Option NodeRow). option_map (λ r. regular_frame f.params sending turn.slot turn.cycle turn.channel) (sending_row_by (setting_in f) row sending.node turn.channel))
     (arbitrary-row f turn.cycle nodes sending.node ready arbitrary)
+
+-- before the first slot
+pub slots-none : (x : Setting) (cycle : ℕ) (rows : List NodeRow) (nodes : List NodeView) → nodes ≡ map (after_slots x cycle rows 0) nodes
+unfolding after_slots
+slots-none x cycle rows [] = refl
+slots-none x cycle rows (n ∷ ns) = ap (λ (ms : List NodeView). n ∷ ms) (slots-none x cycle rows ns)
