@@ -5,3 +5,4 @@ pub mod Listing
 pub mod Run
 pub mod Counting
 pub mod Sending
+pub mod Cycling

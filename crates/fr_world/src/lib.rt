@@ -1,6 +1,7 @@
 //! The world of a run: every node's clock over every cycle.
 #![tactic(auto)]
 
+mod cycling;
 mod files;
 mod flipping;
 mod hearing;
