@@ -12,3 +12,4 @@ pub mod Counts
 pub mod Listening
 pub mod Loops
 pub mod Channels
+pub mod Sweeps

@@ -6,6 +6,7 @@ mod files;
 mod flipping;
 mod hearing;
 mod instants;
+mod listing;
 mod offering;
 mod slots;
 mod tally;
