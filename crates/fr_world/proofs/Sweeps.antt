@@ -3,7 +3,7 @@ use Rattle.std.proofs.Common.{◌≡◌, ◌⊎◌, ℕ, ◌+◌, ◌<◌, ◌�
 use Rattle.std.specs.Prelude.{All, AllPairs, option_and_then}
 use Rattle.std.specs.List.{flat_map}
 use Rattle.std.specs.Option.{option_map, option_to_list}
-use Rattle.std.proofs.lemmas.List.{append-nil, flat_map_more, get_or-take, get_or_default, length-take, take_more_set}
+use Rattle.std.proofs.lemmas.List.{append-nil, flat_map_more, take_more, get_or-take, get_or_default, length-take, take_more_set}
 use Rattle.std.proofs.lemmas.List.Concat.{flat_map-cons}
 use Rattle.std.proofs.lemmas.List.Elements.{All-append, All-head, All-map, All-nil, All-push, All-tail, All-weaker, All-cons}
 use Rattle.fr_base.specs.Rows.{IsEarlierDev}
@@ -110,3 +110,12 @@ pub both-channels : (f : Channel → List Dev) (base : List Dev) → (base ++ f 
 both-channels f base =
     ap (λ (devs : List Dev). devs ++ f B) (ap (λ (devs : List Dev). devs ++ f A) (sym (append-nil base)) ∙ flat_map_more f base [] A)
     ∙ flat_map_more f base (A ∷ []) B
+
+-- one more element's list
+pub flat-more : {X : Type 0} (f : X → List Dev) (xs : List X) (i : ℕ) (x : X) (base before after : List Dev) → i < length xs → x ≡ get_or xs i x → before ≡ base ++ flat_map f (take i xs) → after ≡ before ++ f x →
+    after ≡ base ++ flat_map f (take (i + 1) xs)
+flat-more {X = X} f xs i x base before after lt at so_far now =
+    now
+    ∙ ap (λ (devs : List Dev). devs ++ f x) so_far
+    ∙ flat_map_more f base (take i xs) x
+    ∙ ap (λ (ys : List X). base ++ flat_map f ys) (ap (λ (y : X). take i xs ++ y ∷ []) at ∙ sym (take_more xs i x lt))

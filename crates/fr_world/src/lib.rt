@@ -8,6 +8,7 @@ mod hearing;
 mod instants;
 mod listing;
 mod offering;
+mod running;
 mod slots;
 mod tally;
 mod turn;

@@ -1,4 +1,4 @@
-ghost use Rattle.std.specs.Prelude.{◌≡◌, ◌+◌, ◌<◌, ◌≤◌, ◌++◌, pos, length, All, AllPairs, IfSome};
+ghost use Rattle.std.specs.Prelude.{◌≡◌, ◌+◌, ◌*◌, ◌<◌, ◌≤◌, ◌++◌, pos, length, All, AllPairs, IfSome};
 ghost use Rattle.std.specs.List.{flat_map};
 ghost use Rattle.fr_base.specs.Rows.{IsEarlierDev};
 ghost use Rattle.fr_params.specs.Questions.{key_index_of};
@@ -62,11 +62,10 @@ fn list_slot(params: &Params, odd: bool, node: &Node, slot: Slot, devs: &mut Dev
 // Lists those of a node in all key slots.
 fn list_node(params: &Params, odd: bool, keys: &[Slot], node: &Node, devs: &mut DevList)
     requires keys { AllPairs (λ a b. a < b) keys.now }
-    requires few_keys { length keys.now ≤ 15 }
-    requires room { 30 ≤ devs.old.spare }
+    requires room { 2 * length keys.now ≤ devs.old.spare }
     requires later { All (λ earlier. earlier.receiver < node.now.id) devs.old.entries }
     ensures entries { devs.new.entries ≡ devs.old.entries ++ listed_of params.now odd keys.now node.now }
-    ensures room { devs.old.spare ≤ devs.new.spare + 30 }
+    ensures room { devs.old.spare ≤ devs.new.spare + 2 * length keys.now }
     ensures kept { devs.old.spare + length devs.old.entries ≤ devs.new.spare + length devs.new.entries }
 {
     for slot in keys {
@@ -83,12 +82,11 @@ pub(crate) fn list_devs(
     devs: &mut DevList,
 )
     requires keys { AllPairs (λ a b. a < b) keys.now }
-    requires few_keys { length keys.now ≤ 15 }
     requires ascending { AreAscending nodes.now }
     requires few_nodes { length nodes.now ≤ 64 }
-    requires room { 1920 ≤ devs.old.spare + length devs.old.entries }
+    requires room { 128 * length keys.now ≤ devs.old.spare + length devs.old.entries }
     ensures entries { devs.new.entries ≡ listed_among params.now odd keys.now nodes.now }
-    ensures room { 1920 ≤ devs.new.spare + length devs.new.entries }
+    ensures room { 128 * length keys.now ≤ devs.new.spare + length devs.new.entries }
 {
     devs.clear();
     for node in nodes {

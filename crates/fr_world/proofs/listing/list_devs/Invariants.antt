@@ -6,5 +6,5 @@ use Rattle.fr_world.proofs.listing.list_devs.Given as goal
 abbrev pub invariant-loop-node : goal.invariant-loop-node
 invariant-loop-node l =
     (l.devs.entries ≡ listed_among l.params l.odd l.keys (take l.node-index l.nodes))
-    × (1920 ≤ l.devs.spare + 30 * l.node-index)
-    × (1920 ≤ l.devs.spare + length l.devs.entries)
+    × (128 * length l.keys ≤ l.devs.spare + 2 * (length l.keys * l.node-index))
+    × (128 * length l.keys ≤ l.devs.spare + length l.devs.entries)
