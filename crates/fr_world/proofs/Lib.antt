@@ -13,3 +13,4 @@ pub mod Listening
 pub mod Loops
 pub mod Channels
 pub mod Sweeps
+pub mod OneCycle

@@ -5,6 +5,7 @@ use fr_params::Params;
 use fr_script::Script;
 
 // What decides a run.
+#[derive(Drop)]
 pub(crate) struct Files {
     pub(crate) params: Params,
     pub(crate) drift: Drift,

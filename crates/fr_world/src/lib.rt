@@ -12,3 +12,4 @@ mod running;
 mod slots;
 mod tally;
 mod turn;
+
