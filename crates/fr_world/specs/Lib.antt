@@ -6,3 +6,5 @@ pub mod Run
 pub mod Counting
 pub mod Sending
 pub mod Cycling
+pub mod World
+pub mod Ends

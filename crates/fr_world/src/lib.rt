@@ -12,4 +12,7 @@ mod running;
 mod slots;
 mod tally;
 mod turn;
+mod world;
+
+pub use world::World;
 
