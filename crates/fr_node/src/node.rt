@@ -75,6 +75,13 @@ impl Node {
         }
     }
 
+    /// Which node of the cluster it is.
+    pub fn id(&self) -> NodeId
+        ensures { result ≡ self.now.id }
+    {
+        self.id
+    }
+
     /// Begins the next cycle, in which a microtick lasts `length` ticks. An even cycle begins with no
     /// deviation.
     pub fn begin(&mut self, cycle: u32, length: i64)

@@ -9,3 +9,8 @@ pub mod Step
 pub mod Listed
 pub mod Sums
 pub mod Counts
+pub mod Listening
+pub mod Loops
+pub mod Channels
+pub mod Sweeps
+pub mod OneCycle

@@ -26,7 +26,7 @@ use Rattle.fr_poc.specs.Control.{Control, Status, control_of, status_after, step
 use Rattle.fr_poc.specs.declared.control.PocLimits.{PocLimits}
 use Rattle.fr_node.specs.Cycle.{begun, corrects, ended, next_control, next_rate}
 use Rattle.fr_node.specs.Cycle as node_cycle
-use Rattle.fr_node.specs.Own.{limits_of}
+use Rattle.fr_node.specs.Fits.{limits_of}
 use Rattle.fr_node.specs.View.{NodeView}
 use Rattle.fr_node.specs.View as view
 use Rattle.fr_history.specs.Setting.{Setting, correct_nodes}

@@ -2,3 +2,9 @@ pub mod Standing
 pub mod Hearing
 pub mod Files
 pub mod Listing
+pub mod Run
+pub mod Counting
+pub mod Sending
+pub mod Cycling
+pub mod World
+pub mod Ends

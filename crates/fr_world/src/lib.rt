@@ -1,8 +1,18 @@
 //! The world of a run: every node's clock over every cycle.
 #![tactic(auto)]
 
-ghost use Rattle.std.specs.Prelude.{◌≡◌, ℕ};
+mod cycling;
+mod files;
+mod flipping;
+mod hearing;
+mod instants;
+mod listing;
+mod offering;
+mod running;
+mod slots;
+mod tally;
+mod turn;
+mod world;
 
-pub fn nothing_yet()
-    ensures { (n : ℕ) → n ≡ n }
-{}
+pub use world::World;
+

@@ -1,0 +1,76 @@
+-- What comes to a receiver of a frame in a slot, once its sender is known.
+use Rattle.std.specs.Prelude.{◌≡◌, ℕ, ◌==◌, ℤ, ◌+ℤ◌, ◌*ℤ◌, pos, Bool, not, ◌&&◌, List, Option, Some, None, if◌then◌else◌}
+use Rattle.std.specs.Option.{option_map}
+use Rattle.fr_base.specs.States.{is_active, is_halted}
+use Rattle.fr_base.specs.declared.channel.Channel.{Channel}
+use Rattle.fr_base.specs.declared.node_row.NodeRow.{NodeRow}
+use Rattle.fr_midpoint.specs.Within.{IsWithin}
+use Rattle.fr_params.specs.Questions.{compensation_of}
+use Rattle.fr_params.specs.Values.{Values}
+use Rattle.fr_reception.specs.Offers.{Offer, action_instant}
+use Rattle.fr_node.specs.View.{IsProperRow, NodeView, row_of}
+use Rattle.fr_history.specs.Setting.{Setting}
+use Rattle.fr_history.specs.History.{row_of as row_in}
+use Rattle.fr_history.specs.Offers.{arrived_of, is_on, said_by}
+use Rattle.fr_world.specs.Hearing.{after_offer}
+use Rattle.fr_world.specs.declared.turn.Sender.{Sender}
+use Rattle.fr_world.specs.declared.turn.Turn.{Turn}
+
+-- a row whose instants can be computed, before its corrections
+pub record IsEarlyRow (p : Values) (row : NodeRow) : Type 0 where
+  pub proper : IsProperRow row
+  pub rate : IsWithin p.rate_limit row.rate
+  pub offset : row.offset ≡ pos 0
+
+-- bytes that come in a turn at an instant
+abbrev pub offer_at : Turn → ℤ → List ℕ → Offer
+offer_at turn arrival bytes = record { slot = turn.slot; channel = turn.channel; arrival = arrival; bytes = bytes }
+
+-- the instant at which the frame of a correct sender with this row comes to a receiver
+abbrev pub sent_instant : Setting → Turn → NodeRow → ℕ → ℤ
+sent_instant x turn sender receiver =
+    action_instant x.params sender turn.slot +ℤ x.delay sender.node receiver turn.channel turn.cycle
+
+-- the one at which a receiver expects a frame, and what is said comes so much later
+abbrev pub said_instant : Setting → Turn → NodeRow → ℤ → ℤ
+said_instant x turn receiver shift =
+    action_instant x.params receiver turn.slot +ℤ (compensation_of x.params turn.channel *ℤ receiver.length) +ℤ shift
+
+-- what comes of the frame of a correct sender with this row
+abbrev pub sent_with : Setting → Turn → NodeRow → List ℕ → NodeRow → Option Offer
+sent_with x turn sender frame receiver =
+    option_map (λ bytes. offer_at turn (sent_instant x turn sender receiver.node) bytes)
+    (arrived_of (x.event turn.cycle sender.node receiver.node turn.channel) frame)
+
+-- what an arbitrary sender says, with this regular frame
+abbrev pub said_with : Setting → Turn → ℕ → List ℕ → NodeRow → Option Offer
+said_with x turn sender frame receiver =
+    option_map (λ said. offer_at turn (said_instant x turn receiver said.0) said.1)
+    (said_by (x.event turn.cycle sender receiver.node turn.channel) frame)
+
+-- what comes from a sender: a correct one with this row, or else an arbitrary one
+abbrev pub offer_from : Setting → Turn → ℕ → Option NodeRow → List ℕ → NodeRow → Option Offer
+offer_from x turn sender (Some row) frame receiver = sent_with x turn row frame receiver
+offer_from x turn sender None frame receiver = said_with x turn sender frame receiver
+
+-- whether a receiver hears a sender on a channel: another node, not halted, that has the channel
+abbrev pub hears : Setting → NodeRow → ℕ → Channel → Bool
+hears x receiver sender channel = not (is_halted receiver.state) && is_on x receiver.node channel && not (sender == receiver.node)
+
+-- what of that a receiver is offered
+abbrev pub offer_heard : Setting → Turn → ℕ → Option NodeRow → List ℕ → NodeRow → Option Offer
+offer_heard x turn sender row frame receiver =
+    if hears x receiver sender turn.channel then offer_from x turn sender row frame receiver else None
+
+-- a node after that
+abbrev pub offered : Setting → Turn → Sender → List ℕ → NodeView → NodeView
+offered x turn sender frame node =
+    after_offer x turn.cycle node (offer_heard x turn sender.node sender.row frame (row_of node))
+
+-- the row of a node, where it sends on a channel: it is active and has the channel
+abbrev pub sending_row_by : Setting → Option NodeRow → ℕ → Channel → Option NodeRow
+sending_row_by x None node channel = None
+sending_row_by x (Some row) node channel = if is_active row.state && is_on x node channel then Some row else None
+
+abbrev pub sending_row_in : Setting → List NodeRow → ℕ → Channel → Option NodeRow
+sending_row_in x rows node channel = sending_row_by x (row_in rows node) node channel

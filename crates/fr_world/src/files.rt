@@ -1,0 +1,20 @@
+ghost use Rattle.fr_params.specs.Sane.{IsSane};
+
+use fr_drift::Drift;
+use fr_params::Params;
+use fr_script::Script;
+
+// What decides a run.
+#[derive(Drop)]
+pub(crate) struct Files {
+    pub(crate) params: Params,
+    pub(crate) drift: Drift,
+    pub(crate) script: Script,
+}
+
+// What holds of all parameters.
+pub(crate) fn sane(params: &Params)
+    ensures { IsSane params.now }
+{
+    let _nodes = &params.nodes;
+}

@@ -1,0 +1,16 @@
+use fr_base::{Channel, NodeId, NodeRow, Slot};
+
+// A slot of a cycle on a channel.
+#[derive(Clone, Copy)]
+pub(crate) struct Turn {
+    pub(crate) cycle: u32,
+    pub(crate) slot: Slot,
+    pub(crate) channel: Channel,
+}
+
+// Who sends: a node, with its row where it is correct.
+#[derive(Clone, Copy)]
+pub(crate) struct Sender {
+    pub(crate) node: NodeId,
+    pub(crate) row: Option<NodeRow>,
+}
