@@ -1,4 +1,4 @@
--- A history of a cluster: a finished list of records, one a cycle.
+-- A history of a cluster: a finished list of records, one a cycle (this project's own; clocks by section 8.2).
 use Rattle.std.specs.Prelude.{◌≡◌, ℕ, ◌==◌, Bool, true, false, List, [], ◌∷◌, ◌++◌, length, Option, Some, None, find, if◌then◌else◌}
 use Rattle.fr_base.specs.declared.cycle_row.Counts.{Counts}
 use Rattle.fr_base.specs.declared.dev.Dev.{Dev}

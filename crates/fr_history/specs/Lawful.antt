@@ -1,4 +1,4 @@
--- Which histories are lawful: each record obeys the laws behind the records before it.
+-- Which histories are lawful: each record obeys the laws, given the records before it (chapters 2, 5 and 8).
 use Rattle.std.specs.Prelude.{◌≡◌, ℕ, ℤ, pos, Bool, not, ◌&&◌, List, [], ◌∷◌, length, map, fold, All, count_by, bit_xor, Option, Some, None, if◌then◌else◌}
 use Rattle.fr_base.specs.States.{is_halted}
 use Rattle.fr_base.specs.declared.channel.Channel.TheVariants.{A, B}

@@ -1,4 +1,4 @@
--- How far the clocks of the correct nodes lie apart.
+-- How far the clocks of the correct nodes lie apart, in ticks (sections 8.2 and 8.3; the skew is this project's own).
 use Rattle.std.specs.Prelude.{◌≡◌, ◌≢◌, ◌⊎◌, ℕ, zero, suc, ◌<◌, ℤ, pos, ◌-ℤ◌, ◌≤ℤ◌, int_lt, Bool, true, false, not, List, [], ◌∷◌, length, map, filter, fold, Option, Some, None}
 use Rattle.std.specs.Int.{int_max, int_min}
 use Rattle.std.specs.Option.{option_map_or}

@@ -1,4 +1,4 @@
--- From when on the clocks of a history are in sync.
+-- From when on the clocks of a history are in sync (this project's own).
 use Rattle.std.specs.Prelude.{◌≡◌, ℕ, ◌/◌, ◌<◌, Bool, false, length, Option, Some, None, find}
 use Rattle.std.specs.List.{range_with_len}
 use Rattle.fr_params.specs.Values.{Values}

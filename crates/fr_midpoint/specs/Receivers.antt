@@ -72,7 +72,7 @@ AreFew correct arbitrary =
     ((arbitrary ≡ 0) × (1 ≤ correct)) ⊎ ((arbitrary ≡ 1) × (3 ≤ correct)) ⊎ ((arbitrary ≡ 2) × (6 ≤ correct))
 
 -- where the arbitrary sync nodes are few, and a list has a value of each correct one and of some arbitrary ones, at each
--- end as many values are discarded as are arbitrary; and one correct value remains for two receivers
+-- end at least as many values are discarded as it has of arbitrary ones; and one correct value remains for two receivers
 abbrev pub FewAreDiscarded : Type 0
 FewAreDiscarded =
     (correct arbitrary heard other_heard : ℕ)
