@@ -1,4 +1,4 @@
-ghost use Rattle.std.specs.Prelude.{◌≡◌, ◌≤◌, ◌<◌, ◌≤ℤ◌, ℕ, pos, negsuc, List, Some, IsSome, IfSome};
+ghost use Rattle.std.specs.Prelude.{◌≡◌, ◌≤◌, ◌<◌, ◌≤ℤ◌, ℕ, pos, negsuc, List, Some, None, IsSome, IfSome};
 ghost use Rattle.std.specs.BTreeMap.{get};
 ghost use Rattle.fr_records.specs.Records.{Record};
 ghost use Rattle.fr_params.specs.Values.{Values};
@@ -131,6 +131,7 @@ impl Drift {
         ensures behind { cycle < result }
         ensures within { result ≤ end }
         ensures stays { (c : ℕ) → cycle ≤ c → c < result → length_of self.now node c ≡ length_of self.now node cycle }
+        ensures next { (c : ℕ) → cycle < c → c < result → length_rows self.now node c ≡ None }
         ensures stands { result < end → IsSome (length_rows self.now node result) }
     {
         next_length_row(&self.lengths, node, cycle, end)
@@ -165,6 +166,7 @@ impl Drift {
         ensures behind { cycle < result }
         ensures within { result ≤ end }
         ensures stays { (c : ℕ) → cycle ≤ c → c < result → delay_of self.now sender receiver channel c ≡ delay_of self.now sender receiver channel cycle }
+        ensures next { (c : ℕ) → cycle < c → c < result → delay_rows self.now sender receiver channel c ≡ None }
         ensures stands { result < end → IsSome (delay_rows self.now sender receiver channel result) }
     {
         next_delay_row(self.delays(channel), sender, receiver, cycle, end)

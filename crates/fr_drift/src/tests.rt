@@ -149,7 +149,7 @@ fn refuses_in_order(rt: HostRuntime) -> Result<(), Fail> {
 fn finds_the_least_reason(rt: HostRuntime) -> Result<(), Fail> {
     let params = params_of(rt.alloc())?;
     for (record, why) in REASONS {
-        for place in [0, 3, 5] {
+        for place in [0, 3, RECORDS.len()] {
             let bytes = with_record(rt.alloc(), place, record)?;
             let want = why.map(|reason| row(place as u64 + 1, reason));
             assert_eq!(rt;
@@ -174,6 +174,12 @@ fn refuses_what_was_said(rt: HostRuntime) -> Result<(), Fail> {
             "at {record:?}"
         );
     }
+    let middle = fault_of(
+        rt.alloc(),
+        &params,
+        b"doubles,1,,,,\ndoubles,1,,,,\nstart,1,0,0,,\n",
+    );
+    assert_eq!(rt; middle, Some(row(2, Reason::Repeated)));
     Ok(())
 }
 

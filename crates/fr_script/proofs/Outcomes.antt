@@ -41,7 +41,7 @@ use Rattle.fr_script.specs.declared.fault.ScriptFault.{ScriptFault}
 use Rattle.fr_script.specs.declared.fault.ScriptFault.TheVariants as fault
 use Rattle.fr_script.proofs.Tables.{same-passage}
 
-passages_total : IsTotalOrder passage_cmp
+pub passages_total : IsTotalOrder passage_cmp
 passages_total =
     then_total (on_total (λ (p : Passage). p.sender) nat_cmp_total)
     (then_total (on_total (λ (p : Passage). p.receiver) nat_cmp_total) (on_total (λ (p : Passage). p.cycle) nat_cmp_total))
@@ -63,7 +63,7 @@ module _ {K X : Type 0} (R : K → K → Ordering) where
   sorted-keys [] h = tt
   sorted-keys (e ∷ es) h = both_true (below_all R e.0 es) (is_sorted R es) (below-all e.0 es h.0) (sorted-keys es h.1)
 
-  find-lookup : (q : K) (es : List (K × X)) → find R q es ≡ lookup (is_at (R q)) es
+  pub find-lookup : (q : K) (es : List (K × X)) → find R q es ≡ lookup (is_at (R q)) es
   find-lookup q [] = refl
   find-lookup q (e ∷ es) = ap (cond (is_at (R q) e.0) (Some e.1)) (find-lookup q es)
 

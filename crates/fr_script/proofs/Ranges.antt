@@ -88,3 +88,18 @@ quiet-some m es rest p d s r a b h first c low high = by (get passage_cmp m (pas
         let to : p.cycle < b = here.to in
         let there : IsSome (get passage_cmp m (passage_of s r c)) = rw e refl in
         let off = not_past (past (passage_of s r c) (within s r a b c low (omega arith)) there) in cc off
+
+-- its first entry is a deed of the pair
+pub stands-some : (m : BTreeMap Passage Deed) (es rest : List (Passage × Deed)) (p : Passage) (d : Deed) (s r a b : ℕ)
+    → IsRangeOf passage_cmp (Included (passage_of s r a)) (Excluded (passage_of s r b)) m es
+    → es ≡ (p, d) ∷ rest → IsSome (get passage_cmp m (passage_of s r p.cycle))
+stands-some m es rest p d s r a b h first = rw (ap (λ (q : Passage). get passage_cmp m q) (sym same) ∙ there) refl
+  where
+    here : IsBetween s r a b p
+    here = between s r a b p (rw first at h.1).0
+
+    same : p ≡ passage_of s r p.cycle
+    same = λ i. record { sender = here.sender i; receiver = here.receiver i; cycle = p.cycle }
+
+    there : get passage_cmp m p ≡ Some d
+    there = (rw first at h.1).1

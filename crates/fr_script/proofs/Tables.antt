@@ -122,7 +122,7 @@ draft-node d done r node h low e = record {
 }
 
 -- passages compare alike exactly where their parts are the same
-is_same-at : (a b : Passage) → is_same a b ≡ is_at (passage_cmp a) b
+pub is_same-at : (a b : Passage) → is_same a b ≡ is_at (passage_cmp a) b
 is_same-at a b = grind (arith, nat_tests)
 
 equal-sender : (a b : Passage) → is_same a b ≡ true → a.sender ≡ b.sender

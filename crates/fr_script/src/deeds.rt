@@ -1,8 +1,8 @@
-ghost use Rattle.std.specs.Prelude.{◌≡◌, ◌≤◌, ◌==◌, ℕ, [], Some, OnOk, OnErr, if◌then◌else◌};
+ghost use Rattle.std.specs.Prelude.{◌≡◌, ◌≤◌, ◌<◌, ◌==◌, ℕ, [], Some, IsSome, OnOk, OnErr, if◌then◌else◌};
 ghost use Rattle.std.specs.Option.{option_copied};
 ghost use Rattle.std.specs.BTreeMap.{is_at};
 ghost use Rattle.fr_script.specs.Said.{AreSaidBytes};
-ghost use Rattle.fr_script.specs.Deeds.{AreAscending, IsQuiet, deed_in, passage_cmp};
+ghost use Rattle.fr_script.specs.Deeds.{AreAscending, IsQuiet, deed_in, passage_cmp, passage_of};
 ghost use Rattle.fr_script.specs.declared.deeds.Passage.{Passage as Way};
 
 use fr_base::NodeId;
@@ -107,6 +107,7 @@ impl DeedTable {
         ensures from { cycle ≤ result }
         ensures to { result ≤ end }
         ensures quiet { IsQuiet self.now sender receiver cycle result }
+        ensures stands { result < end → IsSome (deed_in self.now (passage_of sender receiver result)) }
     {
         let first = Passage {
             sender,

@@ -18,11 +18,12 @@ use fr_params::{NodeList, NodeSpec, Params};
 /// are looked for in this order, or else the first.
 ///
 /// `Check`: a check of the parameters fails, the one with the least number. `Count`: the correct nodes with a
-/// key slot do not outweigh the arbitrary ones. `Length`, `Change`: the microtick of a correct node is too
-/// short or too long in a cycle of the run, or changes by too much there; by node, then by cycle. `Delay`:
-/// frames of a correct node with a key slot travel too short or too long to another correct node; by sender,
-/// receiver, channel, cycle. `Link`: no channel that both have carries its frames in both cycles of a double
-/// cycle; by sender, receiver, double cycle.
+/// key slot do not outweigh the arbitrary ones: 1 suffices beside no arbitrary one, 3 beside one, 6 beside
+/// two. `Length`, `Change`: the microtick of a correct node is too short or too long in a cycle of the run, or
+/// changes by too much there; by node, then by cycle. `Delay`: frames of a correct node with a key slot travel
+/// for too short or too long a time to another correct node; by sender, receiver, channel, cycle. `Link`: no
+/// channel that both have carries its frames in both cycles of a double cycle; by sender, receiver, double
+/// cycle.
 ///
 /// It takes no memory, and time as there are rows, nodes and links, not as there are cycles.
 pub fn covered(params: &Params, drift: &Drift, script: &Script) -> Result<(), Gap>
@@ -87,7 +88,7 @@ fn failing_check(params: &Params) -> Option<Gap>
     }
 }
 
-/// The nodes with a key slot, where the correct ones do not outweigh the arbitrary ones.
+/// The gap where the correct nodes with a key slot do not outweigh the arbitrary ones.
 fn outweighed(nodes: &NodeList, script: &Script) -> Option<Gap>
     requires { length nodes.now ≤ 64 }
     ensures { result ≡ weighed nodes.now script.now }

@@ -21,6 +21,11 @@ pub fn one_answer()
     ensures { (p : Values) (bytes : List ℕ) (a b : Result ScriptView Fault) → a ≢ Err fault.NoMemory → b ≢ Err fault.NoMemory → Reads p bytes a → Reads p bytes b → a ≡ b }
 {}
 
+/// Each file has an answer that is not want of memory: it is accepted, or a record of it is refused.
+pub fn some_answer()
+    ensures { (p : Values) (bytes : List ℕ) → (answer : Result ScriptView Fault) × (answer ≢ Err fault.NoMemory) × Reads p bytes answer }
+{}
+
 /// The script of an accepted file fits the parameters with which the file is accepted.
 pub fn script_of_a_file_fits()
     ensures { (p : Values) (s : ScriptView) (bytes : List ℕ) → IsFileOf p s bytes → Fits p s }

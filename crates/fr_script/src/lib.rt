@@ -22,7 +22,7 @@ pub use gap::Gap;
 pub use gaps::covered;
 pub use laws::{
     arbitrary_node_has_key_slot, covered_run_has_no_gap, events_are_proper, first_gap_is_found,
-    flipped_bit_is_of_a_frame, found_gap_is_first, one_answer, script_of_a_file_fits,
+    flipped_bit_is_of_a_frame, found_gap_is_first, one_answer, script_of_a_file_fits, some_answer,
 };
 pub use reading::read;
 pub use script::{Event, Script};

@@ -1,6 +1,7 @@
-ghost use Rattle.std.specs.Prelude.{◌≡◌, ◌<◌, ◌≤◌, ℕ, Some, None};
+ghost use Rattle.std.specs.Prelude.{◌≡◌, ◌<◌, ◌≤◌, ◌⊎◌, ℕ, Some, None, IsSome};
 ghost use Rattle.std.specs.Option.{option_copied};
 ghost use Rattle.fr_base.specs.declared.channel.Channel.{Channel as Line};
+ghost use Rattle.fr_base.specs.declared.channel.Channel.TheVariants as line;
 ghost use Rattle.fr_script.specs.View.{IsScript, deed_of, deeds_on, is_arbitrary};
 ghost use Rattle.fr_script.specs.Events.{IsProperEvent, done_by, event_of, event_seen, said_by};
 
@@ -88,6 +89,7 @@ impl Script {
         ensures from { cycle ≤ result }
         ensures to { result ≤ end }
         ensures quiet { (c : ℕ) (channel : Line) → cycle ≤ c → c < result → deed_of self.now c sender receiver channel ≡ None }
+        ensures stands { result < end → IsSome (deed_of self.now result sender receiver line.A) ⊎ IsSome (deed_of self.now result sender receiver line.B) }
     {
         let on_a = self.on_a.next(sender, receiver, cycle, end);
         let on_b = self.on_b.next(sender, receiver, cycle, end);

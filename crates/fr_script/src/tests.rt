@@ -4,7 +4,8 @@ use fr_params::Params;
 use std::alloc::{AllocError, Global};
 use std::test::Fail;
 
-/// A cycle of 5 ms at a microtick of 25 ns, without the limit of the offset term; frames have 64 bits.
+/// A cycle of 5 ms at a microtick of 25 ns, without the limit of the offset term and the compensation of
+/// delays; frames have 64 bits.
 const CLUSTER: &[&[u8]] = &[
     b"param,gMacroPerCycle,5000,,",
     b"param,pMicroPerCycle,200000,,",
@@ -20,55 +21,60 @@ const CLUSTER: &[&[u8]] = &[
     b"param,pAllowPassiveToActive,2,,",
     b"param,pClusterDriftDamping,4,,",
     b"param,pRateCorrectionOut,81,,",
-    b"param,pDelayCompensation,0,,",
     b"param,xRateBound,200,,",
     b"param,xChangeBound,0,,",
     b"param,xDelayError,500000,,",
 ];
 
-/// A limit of the offset term that is just enough.
-const LIMIT: &[u8] = b"param,pOffsetCorrectionOut,254,,\n";
+/// A limit of the offset term that is just enough, and no compensation of delays.
+const LIMIT: &[u8] = b"param,pOffsetCorrectionOut,254,,\nparam,pDelayCompensation,0,,\n";
+
+/// The same limit, and a compensation of a microtick.
+const COMPENSATED: &[u8] = b"param,pOffsetCorrectionOut,254,,\nparam,pDelayCompensation,1,,\n";
+
+/// A limit of the offset term that is too small by a microtick.
+const TIGHT: &[u8] = b"param,pOffsetCorrectionOut,253,,\nparam,pDelayCompensation,0,,\n";
 
 /// Nodes 1 and 2 on channel A, 3 and 4 on both, 5 on both without a key slot, 6 on channel B without one.
 const NODES: &[u8] =
     b"node,1,1,A,1\nnode,2,2,A,1\nnode,3,3,AB,1\nnode,4,4,AB,1\nnode,5,,AB,0\nnode,6,,B,0\n";
 
-/// A script, and the record that is refused with its reason, if one is.
-const REFUSALS: &[(&[u8], Option<(u64, Reason)>)] = &[
+/// Records, and the reason for which the first of them is refused, None where all are accepted.
+const REFUSALS: &[(&[u8], Option<Reason>)] = &[
     (b"", None),
     (b"\n\n", None),
-    (b"say,0,1,2,A,0,", Some((1, Reason::Role))),
-    (b"arbitrary,4,,,,", Some((1, Reason::Shape))),
-    (b"arbitrary,4,,,,,,", Some((1, Reason::Shape))),
-    (b"arbitrary,4,,,,,x", Some((1, Reason::Shape))),
-    (b"arbitrary,x,x,,,,", Some((1, Reason::Shape))),
-    (b"flip,0,1,2,A,0,0", Some((1, Reason::Shape))),
-    (b"lose,0,1,2,A,0,", Some((1, Reason::Shape))),
-    (b"\"\"", Some((1, Reason::Shape))),
-    (b"join,0,1,2,,,", Some((1, Reason::UnknownName))),
-    (b"Lose,0,1,2,A,,", Some((1, Reason::UnknownName))),
-    (b"arbitrary,,,,,,", Some((1, Reason::NotNumber))),
-    (b"lose,200000,65,2,Z,,", Some((1, Reason::OutOfRange))),
-    (b"lose,200000,65,x,Z,,", Some((1, Reason::NotNumber))),
-    (b"arbitrary,0,,,,,", Some((1, Reason::OutOfRange))),
-    (b"arbitrary,65,,,,,", Some((1, Reason::OutOfRange))),
-    (b"arbitrary,7,,,,,", Some((1, Reason::UnknownNode))),
-    (b"lose,0,1,7,Z,,", Some((1, Reason::UnknownNode))),
-    (b"lose,0,7,1,Z,,", Some((1, Reason::UnknownNode))),
-    (b"lose,0,1,1,Z,,", Some((1, Reason::BadChannel))),
-    (b"lose,0,1,1,AB,,", Some((1, Reason::BadChannel))),
-    (b"lose,0,1,1,B,,", Some((1, Reason::Role))),
-    (b"lose,0,1,2,B,,", Some((1, Reason::Link))),
-    (b"lose,0,1,6,A,,", Some((1, Reason::Link))),
+    (b"say,0,1,2,A,0,", Some(Reason::Role)),
+    (b"arbitrary,4,,,,", Some(Reason::Shape)),
+    (b"arbitrary,4,,,,,,", Some(Reason::Shape)),
+    (b"arbitrary,4,,,,,x", Some(Reason::Shape)),
+    (b"arbitrary,x,x,,,,", Some(Reason::Shape)),
+    (b"flip,0,1,2,A,0,0", Some(Reason::Shape)),
+    (b"lose,0,1,2,A,0,", Some(Reason::Shape)),
+    (b"\"\"", Some(Reason::Shape)),
+    (b"join,0,1,2,,,", Some(Reason::UnknownName)),
+    (b"Lose,0,1,2,A,,", Some(Reason::UnknownName)),
+    (b"arbitrary,,,,,,", Some(Reason::NotNumber)),
+    (b"lose,200000,65,2,Z,,", Some(Reason::OutOfRange)),
+    (b"lose,200000,65,x,Z,,", Some(Reason::NotNumber)),
+    (b"arbitrary,0,,,,,", Some(Reason::OutOfRange)),
+    (b"arbitrary,65,,,,,", Some(Reason::OutOfRange)),
+    (b"arbitrary,7,,,,,", Some(Reason::UnknownNode)),
+    (b"lose,0,1,7,Z,,", Some(Reason::UnknownNode)),
+    (b"lose,0,7,1,Z,,", Some(Reason::UnknownNode)),
+    (b"lose,0,1,1,Z,,", Some(Reason::BadChannel)),
+    (b"lose,0,1,1,AB,,", Some(Reason::BadChannel)),
+    (b"lose,0,1,1,B,,", Some(Reason::Role)),
+    (b"lose,0,1,2,B,,", Some(Reason::Link)),
+    (b"lose,0,1,6,A,,", Some(Reason::Link)),
     (b"lose,0,5,6,B,,\nlose,199999,5,6,B,,", None),
-    (b"arbitrary,5,,,,,", Some((1, Reason::Role))),
+    (b"arbitrary,5,,,,,", Some(Reason::Role)),
     (b"flip,0,1,2,A,63,", None),
-    (b"flip,0,1,2,A,64,", Some((1, Reason::OutOfRange))),
-    (b"flip,0,1,7,Z,64,", Some((1, Reason::OutOfRange))),
-    (b"flip,0,x,2,A,64,", Some((1, Reason::NotNumber))),
-    (b"flip,0,1,2,A,2096,", Some((1, Reason::OutOfRange))),
+    (b"flip,0,1,2,A,64,", Some(Reason::OutOfRange)),
+    (b"flip,0,1,7,Z,64,", Some(Reason::OutOfRange)),
+    (b"flip,0,x,2,A,64,", Some(Reason::NotNumber)),
+    (b"flip,0,1,2,A,2096,", Some(Reason::OutOfRange)),
     (b"flip,0,1,2,A,-0,", None),
-    (b"flip,0,1,2,A,-1,", Some((1, Reason::OutOfRange))),
+    (b"flip,0,1,2,A,-1,", Some(Reason::OutOfRange)),
 ];
 
 /// Accepted records that no refusal of the table has to do with.
@@ -147,7 +153,7 @@ fn cluster(alloc: Global, nodes: &[u8]) -> Result<Params, Fail> {
     limited(alloc, LIMIT, nodes)
 }
 
-/// The parameters of the cluster with this limit of the offset term and these nodes.
+/// The parameters of the cluster with this limit of the offset term, this compensation and these nodes.
 fn limited(alloc: Global, limit: &[u8], nodes: &[u8]) -> Result<Params, Fail> {
     let mut bytes = Vec::new(alloc);
     for line in CLUSTER {
@@ -193,12 +199,6 @@ fn with_record(alloc: Global, place: usize, record: &[u8]) -> Result<Vec<u8>, Al
     Ok(bytes)
 }
 
-/// The refusal with so many accepted records before it.
-fn row_behind(place: usize, refusal: Option<(u64, Reason)>) -> Option<ScriptFault> {
-    let (number, reason) = refusal?;
-    row(Some((number + place as u64, reason)))
-}
-
 fn event(script: &Script, cycle: u32, sender: u8, receiver: u8) -> Event<'_> {
     if sender < 1 || 64 < sender || receiver < 1 || 64 < receiver {
         return Event::Regular;
@@ -212,9 +212,10 @@ fn finds_the_least_reason(rt: HostRuntime) -> Result<(), Fail> {
     for (text, want) in REFUSALS {
         for place in [0, 2, 3] {
             let bytes = with_record(rt.alloc(), place, text)?;
+            let fault = row(want.map(|reason| (place as u64 + 1, reason)));
             assert_eq!(rt;
                 fault_of(rt.alloc(), &params, &bytes),
-                row_behind(place, *want),
+                fault,
                 "at {place} {text:?}"
             );
         }
@@ -338,6 +339,18 @@ const GAPS: &[(&[u8], &[u8], &[u8], &[u8])] = &[
     (PAIR, b"doubles,1,,,,\nlength,1,2,999999,,", b"", b""),
     (
         PAIR,
+        b"doubles,1,,,,\nlength,2,0,1000201,,\nlength,1,1,1000201,,",
+        b"",
+        b"length 1 1 1000201",
+    ),
+    (
+        PAIR,
+        b"doubles,1,,,,\ndelay,2,1,A,0,500001\ndelay,1,2,A,1,500001",
+        b"",
+        b"delay 1 2 A 1 500001",
+    ),
+    (
+        PAIR,
         b"doubles,2,,,,\nlength,2,3,999799,,\nlength,2,1,999999,,",
         b"",
         b"length 2 3 999799",
@@ -362,7 +375,7 @@ const GAPS: &[(&[u8], &[u8], &[u8], &[u8])] = &[
     ),
     (
         b"node,1,1,A,1\nnode,2,2,A,1\nnode,3,3,A,1\nnode,4,4,A,1\n",
-        b"doubles,1,,,,\nlength,4,0,500000,,\ndelay,4,1,A,0,9",
+        b"doubles,1,,,,\nlength,4,0,500000,,\ndelay,4,1,A,0,500001\ndelay,1,4,A,0,500001",
         TWO_FACED,
         b"",
     ),
@@ -396,6 +409,43 @@ const GAPS: &[(&[u8], &[u8], &[u8], &[u8])] = &[
         b"doubles,1,,,,",
         b"",
         b"link 1 9 0",
+    ),
+];
+
+/// Nodes and rows of a drift file where delays are compensated by a microtick, and the gap of the run.
+const COMPENSATED_GAPS: &[(&[u8], &[u8], &[u8])] = &[
+    (PAIR, b"doubles,1,,,,", b""),
+    (
+        PAIR,
+        b"doubles,1,,,,\ndelay,1,2,A,0,1500001",
+        b"delay 1 2 A 0 1500001",
+    ),
+    (PAIR, b"doubles,1,,,,\ndelay,1,2,A,0,1500000", b""),
+    (
+        PAIR,
+        b"doubles,1,,,,\ndelay,1,2,A,0,499999",
+        b"delay 1 2 A 0 499999",
+    ),
+    (PAIR, b"doubles,1,,,,\ndelay,1,2,A,0,500000", b""),
+    (
+        WIDE_PAIR,
+        b"doubles,1,,,,\ndelay,1,2,B,1,499999",
+        b"delay 1 2 B 1 499999",
+    ),
+];
+
+/// Rows of a drift file of the longest run and a script, and the gap of the run in the largest cluster.
+const LARGEST_GAPS: &[(&[u8], &[u8], &[u8])] = &[
+    (b"", b"", b""),
+    (
+        b"",
+        b"lose,19999,15,64,A,,\nlose,19998,15,64,B,,",
+        b"link 15 64 9999",
+    ),
+    (
+        b"length,64,19999,1000201,,",
+        b"lose,19999,15,64,A,,\nlose,19998,15,64,B,,",
+        b"length 64 19999 1000201",
     ),
 ];
 
@@ -451,8 +501,43 @@ fn finds_the_first_gap(rt: HostRuntime) -> Result<(), Fail> {
 }
 
 #[test]
+fn compares_delays_with_the_compensation(rt: HostRuntime) -> Result<(), Fail> {
+    for (nodes, drift, want) in COMPENSATED_GAPS {
+        let params = limited(rt.alloc(), COMPENSATED, nodes)?;
+        let gap = gap_of(rt.alloc(), &params, drift, b"")?;
+        assert_eq!(rt; gap.as_bytes(), *want, "at {nodes:?} {drift:?}");
+    }
+    Ok(())
+}
+
+/// As many nodes as a cluster may have, each on both channels, those from 1 to 15 with a key slot.
+fn most_nodes(alloc: Global) -> Result<Vec<u8>, AllocError> {
+    let mut bytes = Vec::new(alloc);
+    for number in 1..16 {
+        let line = format!(in alloc; "node,{number},{number},AB,1\n")?;
+        bytes.extend_from_slice(line.as_bytes())?;
+    }
+    for number in 16..65 {
+        let line = format!(in alloc; "node,{number},,AB,0\n")?;
+        bytes.extend_from_slice(line.as_bytes())?;
+    }
+    Ok(bytes)
+}
+
+#[test]
+fn looks_through_the_largest_cluster(rt: HostRuntime) -> Result<(), Fail> {
+    let params = cluster(rt.alloc(), &most_nodes(rt.alloc())?)?;
+    for (rows, script, want) in LARGEST_GAPS {
+        let drift = joined(rt.alloc(), b"doubles,10000,,,,\n", rows)?;
+        let gap = gap_of(rt.alloc(), &params, &drift, script)?;
+        assert_eq!(rt; gap.as_bytes(), *want, "at {rows:?} {script:?}");
+    }
+    Ok(())
+}
+
+#[test]
 fn names_the_failing_check_first(rt: HostRuntime) -> Result<(), Fail> {
-    let params = limited(rt.alloc(), b"param,pOffsetCorrectionOut,253,,\n", PAIR)?;
+    let params = limited(rt.alloc(), TIGHT, PAIR)?;
     let gap = gap_of(rt.alloc(), &params, b"doubles,1,,,,", b"arbitrary,1,,,,,")?;
     assert_eq!(rt; gap.as_bytes(), b"check 3 252949400 253543800".as_slice());
     Ok(())

@@ -19,5 +19,8 @@ unfolding length_of
 returns-clause-stays c = λ k low high.
     ap (λ (o : Option ℤ). unwrap_or o (pos 1_000_000)) (next-stays (length_rows c.args.self.now c.args.node) c.args.cycle c.args.end c.next_length_row.result k (next c) low high)
 
+pub returns-clause-next : goal.returns-clause-next
+returns-clause-next c = (next c).quiet
+
 pub returns-clause-stands : goal.returns-clause-stands
 returns-clause-stands c = (next c).stands
