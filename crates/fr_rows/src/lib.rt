@@ -12,9 +12,9 @@ ghost use Rattle.fr_history.specs.Next.{history_of};
 ghost use Rattle.fr_history.specs.Skew.{greatest_skew_of};
 ghost use Rattle.fr_history.specs.Sync.{first_sync_of};
 ghost use Rattle.fr_report.specs.Text.{report_of};
-ghost use Rattle.fr_rows.specs.Files.{run_of};
+ghost use Rattle.fr_rows.specs.Files.{plain_script, run_of};
 ghost use Rattle.fr_rows.specs.Positions.{even_positions, odd_positions, positions_of, short_grid};
-ghost use Rattle.fr_rows.specs.Offset.{offset_history, offset_report, offset_run};
+ghost use Rattle.fr_rows.specs.Offset.{offset_drift, offset_history, offset_report, offset_run};
 ghost use Rattle.fr_rows.specs.Rates.{rates_history, rates_report, rates_run};
 ghost use Rattle.fr_rows.specs.OneArbitrary.{one_arbitrary_history, one_arbitrary_report, one_arbitrary_run};
 ghost use Rattle.fr_rows.specs.TwoArbitrary.{two_arbitrary_history, two_arbitrary_report, two_arbitrary_run};
@@ -40,6 +40,7 @@ pub fn a_run_with_an_offset()
     ensures skew { greatest_skew_of offset_run.params offset_history ≡
         Some (record { skew = pos 2_500_000; cycle = 0; macrotick = 0 }) }
     ensures sync { first_sync_of offset_run.params offset_history ≡ Some 0 }
+    ensures files { run_of offset_run.params offset_drift plain_script ≡ offset_run }
     ensures gap { (d : DriftView) (s : ScriptView) → run_of offset_run.params d s ≡ offset_run →
         first_gap offset_run.params d s ≡ None }
     ensures report { report_of offset_run None offset_history ≡ offset_report }
