@@ -1,9 +1,12 @@
 -- What the files of the runs answer at each argument.
-use Rattle.std.proofs.Common.{◌≡◌, ℕ, ℤ, zero, suc, pos, ◌==◌, Bool, true, false, ◌&&◌, List, [], ◌∷◌, Option, Some, None, ap, ◌∙◌, refl}
+use Rattle.std.proofs.Common.{◌≡◌, ℕ, ℤ, zero, suc, pos, ◌==◌, Bool, true, false, ◌&&◌, ◌||◌, List, [], ◌∷◌, ◌++◌, Option, Some, None, ap, sym, ◌∙◌, refl, arith, nat_lt}
 use Rattle.std.specs.Prelude.{cond, replicate, slice_index_or, unwrap_or}
 use Rattle.std.specs.declared.cmp.Ordering.{Ordering}
 use Rattle.std.specs.declared.cmp.Ordering.TheVariants.{Less, Equal, Greater}
+use Rattle.std.proofs.lemmas.Bool.Decides.{nat_tests}
+use Rattle.std.specs.BTreeMap.{is_at}
 use Rattle.std.specs.Cmp.{unsigned_tied}
+use Rattle.std.specs.List.{list_any}
 use Rattle.std.specs.Ordering.{is_eq, nat_cmp, ordering_then}
 use Rattle.fr_base.specs.Event.Event.{Regular}
 use Rattle.fr_base.specs.declared.channel.Channel.{Channel}
@@ -14,12 +17,14 @@ use Rattle.fr_drift.specs.Questions.{delay_of, doubles_of, length_of, rate_of, s
 use Rattle.fr_drift.specs.View.{DriftView, delay_rows, length_rows}
 use Rattle.fr_drift.specs.declared.rows.Start.{Start}
 use Rattle.fr_params.specs.Reasons.{or_else}
-use Rattle.fr_script.specs.Deeds.{deed_in}
+use Rattle.fr_script.specs.Deeds.{deed_in, passage_cmp, passage_of}
 use Rattle.fr_script.specs.Events.{event_by, event_of}
 use Rattle.fr_script.specs.View.{ScriptView, deed_of, is_arbitrary}
 use Rattle.fr_script.specs.declared.deeds.Deed.{Deed}
+use Rattle.fr_script.specs.declared.deeds.Deed.TheVariants.{Say}
+use Rattle.fr_script.specs.declared.deeds.Passage.{Passage}
 use Rattle.fr_history.specs.Setting.{Setting}
-use Rattle.fr_rows.specs.Files.{plain_script, run_of, steady_drift}
+use Rattle.fr_rows.specs.Files.{plain_script, run_of, says_to, steady_drift}
 
 -- each question is answered as the run has it
 pub record Answer (d : DriftView) (s : ScriptView) (x : Setting) : Type 0 where
@@ -68,6 +73,10 @@ nothing_held cycle = held_first (λ from. None) (λ earlier. refl) cycle
 pub one_start : (node at : ℕ) (start : Start) → found_at nat_cmp ((at, start) ∷ []) node ≡ cond (node == at) (Some start) None
 one_start node at start = ap (λ (b : Bool). cond b (Some start) None) (number_is node at)
 
+pub steady_doubles : (doubles : ℕ) → doubles_of (steady_drift doubles) ≡ doubles
+unfolding doubles_of
+steady_doubles doubles = refl
+
 pub steady_starts : (doubles node : ℕ) → start_of (steady_drift doubles) node ≡ pos 0
 unfolding start_of
 steady_starts doubles node = refl
@@ -103,6 +112,10 @@ pub event_is :
 unfolding event_of
 event_is s cycle sender receiver channel arbitrary deed node done i = event_by (node i) (done i)
 
+pub no_row : (asked : Passage) → deed_in [] asked ≡ None
+unfolding deed_in
+no_row asked = refl
+
 nothing_done : (cycle sender receiver : ℕ) (channel : Channel) → deed_of plain_script cycle sender receiver channel ≡ None
 unfolding deed_of deed_in
 nothing_done cycle sender receiver A = refl
@@ -111,3 +124,77 @@ nothing_done cycle sender receiver B = refl
 pub plain_events : (cycle sender receiver : ℕ) (channel : Channel) → event_of plain_script cycle sender receiver channel ≡ Regular
 plain_events cycle sender receiver channel =
     event_is plain_script cycle sender receiver channel false None (plain_nodes sender) (nothing_done cycle sender receiver channel)
+
+pub passage_is :
+    (asked row : Passage)
+    → is_at (passage_cmp asked) row ≡ ((asked.sender == row.sender) && ((asked.receiver == row.receiver) && (asked.cycle == row.cycle)))
+passage_is asked row =
+    both_are (nat_cmp asked.sender row.sender) (ordering_then (nat_cmp asked.receiver row.receiver) (nat_cmp asked.cycle row.cycle))
+    ∙ ap (λ (b : Bool). is_eq (nat_cmp asked.sender row.sender) && b) (both_are (nat_cmp asked.receiver row.receiver) (nat_cmp asked.cycle row.cycle))
+    ∙ numbers
+  where
+    numbers :
+        (is_eq (nat_cmp asked.sender row.sender) && (is_eq (nat_cmp asked.receiver row.receiver) && is_eq (nat_cmp asked.cycle row.cycle)))
+        ≡ ((asked.sender == row.sender) && ((asked.receiver == row.receiver) && (asked.cycle == row.cycle)))
+    numbers i = number_is asked.sender row.sender i && (number_is asked.receiver row.receiver i && number_is asked.cycle row.cycle i)
+
+-- a row of each cycle of the first double cycle, and the rows behind them
+two_rows :
+    {X : Type 0} (sender receiver zeroth first : Bool) (x : X) (rest : Option X)
+    → cond (sender && (receiver && zeroth)) (Some x) (cond (sender && (receiver && first)) (Some x) rest) ≡ cond (sender && (receiver && (zeroth || first))) (Some x) rest
+two_rows false receiver zeroth first x rest = refl
+two_rows true false zeroth first x rest = refl
+two_rows true true true first x rest = refl
+two_rows true true false first x rest = refl
+
+more_rows :
+    {X : Type 0} (sender receiver others early : Bool) (x : X) (rest : Option X)
+    → cond (sender && (receiver && early)) (Some x) (cond (sender && (others && early)) (Some x) rest) ≡ cond (sender && ((receiver || others) && early)) (Some x) rest
+more_rows false receiver others early x rest = refl
+more_rows true true others true x rest = refl
+more_rows true true true false x rest = refl
+more_rows true true false false x rest = refl
+more_rows true false others early x rest = refl
+
+first_two : (cycle : ℕ) → ((cycle == 0) || (cycle == 1)) ≡ nat_lt cycle 2
+first_two zero = refl
+first_two (suc zero) = refl
+first_two (suc (suc cycle)) =
+    let zeroth : (suc (suc cycle) == 0) ≡ false = grind (arith, nat_tests) in
+    let first : (suc (suc cycle) == 1) ≡ false = grind (arith, nat_tests) in
+    let late : nat_lt (suc (suc cycle)) 2 ≡ false = grind (arith, nat_tests) in
+    (λ i. zeroth i || first i) ∙ sym late
+
+-- what rows to receivers in the first double cycle say of a passage
+pub said_to :
+    (by : ℕ) (shift : ℤ) (receivers : List ℕ) (rest : List (Passage × Deed)) (cycle sender receiver : ℕ)
+    → deed_in (says_to by shift receivers ++ rest) (passage_of sender receiver cycle)
+    ≡ cond ((sender == by) && (list_any (λ r. receiver == r) receivers && nat_lt cycle 2)) (Some (Say shift None)) (deed_in rest (passage_of sender receiver cycle))
+unfolding deed_in
+said_to by shift [] rest cycle sender receiver = nobody (sender == by)
+  where
+    nobody : (b : Bool) → deed_in rest (passage_of sender receiver cycle) ≡ cond (b && false) (Some (Say shift None)) (deed_in rest (passage_of sender receiver cycle))
+    nobody true = refl
+    nobody false = refl
+said_to by shift (r ∷ receivers) rest cycle sender receiver =
+    rows
+    ∙ two_rows (sender == by) (receiver == r) (cycle == 0) (cycle == 1) (Say shift None) (deed_in (says_to by shift receivers ++ rest) (passage_of sender receiver cycle))
+    ∙ behind (said_to by shift receivers rest cycle sender receiver)
+    ∙ more_rows (sender == by) (receiver == r) (list_any (λ r. receiver == r) receivers) (nat_lt cycle 2) (Say shift None) (deed_in rest (passage_of sender receiver cycle))
+  where
+    rows :
+        deed_in (says_to by shift (r ∷ receivers) ++ rest) (passage_of sender receiver cycle)
+        ≡ cond ((sender == by) && ((receiver == r) && (cycle == 0))) (Some (Say shift None))
+        (cond ((sender == by) && ((receiver == r) && (cycle == 1))) (Some (Say shift None)) (deed_in (says_to by shift receivers ++ rest) (passage_of sender receiver cycle)))
+    rows i =
+        cond (passage_is (passage_of sender receiver cycle) (passage_of by r 0) i) (Some (Say shift None))
+        (cond (passage_is (passage_of sender receiver cycle) (passage_of by r 1) i) (Some (Say shift None)) (deed_in (says_to by shift receivers ++ rest) (passage_of sender receiver cycle)))
+
+    behind :
+        deed_in (says_to by shift receivers ++ rest) (passage_of sender receiver cycle)
+        ≡ cond ((sender == by) && (list_any (λ r. receiver == r) receivers && nat_lt cycle 2)) (Some (Say shift None)) (deed_in rest (passage_of sender receiver cycle))
+        → cond ((sender == by) && ((receiver == r) && ((cycle == 0) || (cycle == 1)))) (Some (Say shift None)) (deed_in (says_to by shift receivers ++ rest) (passage_of sender receiver cycle))
+        ≡ cond ((sender == by) && ((receiver == r) && nat_lt cycle 2)) (Some (Say shift None))
+        (cond ((sender == by) && (list_any (λ r. receiver == r) receivers && nat_lt cycle 2)) (Some (Say shift None)) (deed_in rest (passage_of sender receiver cycle)))
+    behind tail i =
+        cond ((sender == by) && ((receiver == r) && first_two cycle i)) (Some (Say shift None)) (tail i)

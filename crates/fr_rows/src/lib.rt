@@ -12,13 +12,13 @@ ghost use Rattle.fr_history.specs.Next.{history_of};
 ghost use Rattle.fr_history.specs.Skew.{greatest_skew_of};
 ghost use Rattle.fr_history.specs.Sync.{first_sync_of};
 ghost use Rattle.fr_report.specs.Text.{report_of};
-ghost use Rattle.fr_rows.specs.Files.{plain_script, run_of};
+ghost use Rattle.fr_rows.specs.Files.{plain_script, run_of, steady_drift};
 ghost use Rattle.fr_rows.specs.Positions.{even_positions, odd_positions, positions_of, short_grid};
 ghost use Rattle.fr_rows.specs.Offset.{offset_drift, offset_history, offset_report, offset_run};
 ghost use Rattle.fr_rows.specs.Rates.{rates_history, rates_report, rates_run};
-ghost use Rattle.fr_rows.specs.OneArbitrary.{one_arbitrary_history, one_arbitrary_report, one_arbitrary_run};
+ghost use Rattle.fr_rows.specs.OneArbitrary.{one_arbitrary_history, one_arbitrary_report, one_arbitrary_run, one_arbitrary_script};
 ghost use Rattle.fr_rows.specs.TwoArbitrary.{two_arbitrary_history, two_arbitrary_report, two_arbitrary_run};
-ghost use Rattle.fr_rows.specs.Quiet.{quiet_history, quiet_report, quiet_run};
+ghost use Rattle.fr_rows.specs.Quiet.{quiet_history, quiet_report, quiet_run, quiet_script};
 ghost use Rattle.fr_rows.specs.Lost.{
   flipped_history,
   flipped_report,
@@ -71,6 +71,7 @@ pub fn a_run_with_one_arbitrary_node()
     ensures skew { greatest_skew_of one_arbitrary_run.params one_arbitrary_history ≡
         Some (record { skew = pos 0; cycle = 0; macrotick = 0 }) }
     ensures sync { first_sync_of one_arbitrary_run.params one_arbitrary_history ≡ Some 0 }
+    ensures files { run_of one_arbitrary_run.params (steady_drift 1) one_arbitrary_script ≡ one_arbitrary_run }
     ensures gap { (d : DriftView) (s : ScriptView) → run_of one_arbitrary_run.params d s ≡ one_arbitrary_run →
         first_gap one_arbitrary_run.params d s ≡ None }
     ensures report { report_of one_arbitrary_run None one_arbitrary_history ≡ one_arbitrary_report }
@@ -99,6 +100,7 @@ pub fn a_run_with_a_silent_arbitrary_node()
     ensures skew { greatest_skew_of quiet_run.params quiet_history ≡
         Some (record { skew = pos 0; cycle = 0; macrotick = 0 }) }
     ensures sync { first_sync_of quiet_run.params quiet_history ≡ Some 0 }
+    ensures files { run_of quiet_run.params (steady_drift 1) quiet_script ≡ quiet_run }
     ensures gap { (d : DriftView) (s : ScriptView) → run_of quiet_run.params d s ≡ quiet_run →
         first_gap quiet_run.params d s ≡ Some (Count 2 1) }
     ensures report { report_of quiet_run (Some (Count 2 1)) quiet_history ≡ quiet_report }
