@@ -12,9 +12,10 @@ use Rattle.fr_base.specs.Event.Event.{Regular}
 use Rattle.fr_base.specs.declared.channel.Channel.{Channel}
 use Rattle.fr_base.specs.declared.channel.Channel.TheVariants.{A, B}
 use Rattle.fr_drift.specs.Held.{held}
-use Rattle.fr_drift.specs.Keys.{found_at}
+use Rattle.fr_drift.specs.Keys.{found_at, length_cmp}
 use Rattle.fr_drift.specs.Questions.{delay_of, doubles_of, length_of, rate_of, start_of}
 use Rattle.fr_drift.specs.View.{DriftView, delay_rows, length_rows}
+use Rattle.fr_drift.specs.declared.keys.LengthKey.{LengthKey}
 use Rattle.fr_drift.specs.declared.rows.Start.{Start}
 use Rattle.fr_params.specs.Reasons.{or_else}
 use Rattle.fr_script.specs.Deeds.{deed_in, passage_cmp, passage_of}
@@ -69,6 +70,12 @@ held_first rows none (suc cycle) = ap (λ (o : Option ℤ). or_else o (held rows
 
 nothing_held : (cycle : ℕ) → held (λ from. None) cycle ≡ None
 nothing_held cycle = held_first (λ from. None) (λ earlier. refl) cycle
+
+pub length_is : (asked row : LengthKey) → is_at (length_cmp asked) row ≡ ((asked.node == row.node) && (asked.from == row.from))
+length_is asked row = both_are (nat_cmp asked.node row.node) (nat_cmp asked.from row.from) ∙ numbers
+  where
+    numbers : (is_eq (nat_cmp asked.node row.node) && is_eq (nat_cmp asked.from row.from)) ≡ ((asked.node == row.node) && (asked.from == row.from))
+    numbers i = number_is asked.node row.node i && number_is asked.from row.from i
 
 pub one_start : (node at : ℕ) (start : Start) → found_at nat_cmp ((at, start) ∷ []) node ≡ cond (node == at) (Some start) None
 one_start node at start = ap (λ (b : Bool). cond b (Some start) None) (number_is node at)

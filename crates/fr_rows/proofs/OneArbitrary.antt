@@ -3,7 +3,7 @@ use Rattle.std.proofs.Common.{◌≡◌, [], ◌∷◌, None, Some, pos, refl, �
 use Rattle.std.specs.Prelude.{cond}
 use Rattle.std.proofs.lemmas.Bool.Decides.{nat_tests}
 use Rattle.fr_base.specs.Event.{Event}
-use Rattle.fr_base.specs.Event.Event as event
+use Rattle.fr_base.specs.Event as event
 use Rattle.fr_base.specs.declared.channel.Channel.{Channel}
 use Rattle.fr_base.specs.declared.channel.Channel.TheVariants.{A, B}
 use Rattle.fr_script.specs.Deeds.{deed_in, passage_of}
@@ -71,7 +71,7 @@ one_arbitrary_nodes (suc (suc (suc (suc (suc node))))) =
     let other : (suc (suc (suc (suc (suc node)))) == 4) ≡ false = grind (arith, nat_tests) in none_marked 60 node ∙ sym other
 
 -- what node 4 says, by whether it is the sender, the receiver is node 1 or node 2, and the cycle is one of the first two
-said : (by to_1 to_2 first : Bool) → Option Deed
+abbrev said : (by to_1 to_2 first : Bool) → Option Deed
 said by to_1 to_2 first =
     cond (by && ((to_1 || false) && first)) (Some (deed.Say (pos 100_000_000) None))
     (cond (by && ((to_2 || false) && first)) (Some (deed.Say (negsuc 99_999_999) None)) None)
