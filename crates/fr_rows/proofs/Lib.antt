@@ -1,4 +1,5 @@
 pub mod Computing
+pub mod Decided
 pub mod Offset
 pub mod Rates
 pub mod OneArbitrary

@@ -1,8 +1,19 @@
 -- The runs in which one frame is hit, cycle by cycle.
-use Rattle.std.proofs.Common.{◌≡◌, [], ◌∷◌, None, Some, pos, refl}
+use Rattle.std.proofs.Common.{◌≡◌, [], ◌∷◌, None, Some, pos, refl, ℕ, true, false, Bool, ◌==◌, ◌&&◌, Option, ap, ◌∙◌, if◌then◌else◌}
+use Rattle.std.specs.Prelude.{cond}
+use Rattle.fr_base.specs.Event.{Event}
+use Rattle.fr_base.specs.Event.Event.{Regular, Silent, Flip}
+use Rattle.fr_base.specs.declared.channel.Channel.{Channel}
+use Rattle.fr_base.specs.declared.channel.Channel.TheVariants.{A, B}
+use Rattle.fr_script.specs.Deeds.{deed_in, passage_of}
+use Rattle.fr_script.specs.Events.{done_by, event_of}
+use Rattle.fr_script.specs.declared.deeds.Deed.{Deed}
+use Rattle.fr_script.specs.declared.deeds.Deed.TheVariants as deed
+use Rattle.fr_rows.proofs.Decided.{Answer, decided, event_is, no_row, none_marked, passage_is}
+use Rattle.fr_rows.proofs.Offset.{offset_delays, offset_doubles, offset_lengths, offset_rates, offset_starts}
 use Rattle.fr_drift.specs.View.{DriftView}
 use Rattle.fr_script.specs.Coverage.{first_gap}
-use Rattle.fr_script.specs.View.{ScriptView}
+use Rattle.fr_script.specs.View.{ScriptView, deed_of, is_arbitrary}
 use Rattle.fr_script.specs.declared.gap.Gap.TheVariants.{Link}
 use Rattle.fr_history.specs.Next.{history_of, next_record}
 use Rattle.fr_history.specs.Skew.{greatest_skew_of}
@@ -11,8 +22,8 @@ use Rattle.fr_report.specs.Text.{report_of}
 use Rattle.fr_rows.proofs.Computing.{on_gaps, on_histories, on_records, on_reports}
 use Rattle.fr_rows.proofs.Gaps.{delays_decided, doubles_decided, events_decided, lengths_decided, nodes_decided}
 use Rattle.fr_rows.specs.Files.{run_of}
-use Rattle.fr_rows.specs.Offset.{offset_cycle_0, offset_cycle_1, offset_cycle_2}
-use Rattle.fr_rows.specs.Lost.{flipped_cycle_3, flipped_history, flipped_report, flipped_run, lost_cycle_3, lost_history, lost_on_one_cycle_0, lost_on_one_cycle_1, lost_on_one_cycle_2, lost_on_one_cycle_3, lost_on_one_history, lost_on_one_report, lost_on_one_run, lost_report, lost_run}
+use Rattle.fr_rows.specs.Offset.{offset_cycle_0, offset_cycle_1, offset_cycle_2, offset_drift}
+use Rattle.fr_rows.specs.Lost.{flipped_cycle_3, flipped_history, flipped_report, flipped_run, lost_cycle_3, lost_history, lost_on_one_cycle_0, lost_on_one_cycle_1, lost_on_one_cycle_2, lost_on_one_cycle_3, lost_on_one_history, lost_on_one_report, lost_on_one_run, lost_report, lost_run, hit_by, hit_script, lost_script, flipped_script}
 
 lost_0_is : next_record lost_run [] ≡ offset_cycle_0
 unfolding on_records
@@ -142,3 +153,75 @@ lost_on_one_gap_is d s same =
       delays_decided lost_on_one_run.params d s lost_on_one_run same,
       events_decided lost_on_one_run.params d s lost_on_one_run same,
     ) refl
+
+-- ---- what the scripts answer
+
+hit_nodes : (hit : Deed) (node : ℕ) → is_arbitrary (hit_script hit) node ≡ false
+unfolding is_arbitrary
+hit_nodes hit node = none_marked 65 node
+
+hit_on_a :
+    (hit : Deed) (cycle sender receiver : ℕ)
+    → deed_of (hit_script hit) cycle sender receiver A ≡ cond ((sender == 1) && ((receiver == 2) && (cycle == 3))) (Some hit) None
+unfolding deed_of deed_in
+hit_on_a hit cycle sender receiver i = cond (passage_is (passage_of sender receiver cycle) (passage_of 1 2 3) i) (Some hit) None
+
+hit_on_b : (hit : Deed) (cycle sender receiver : ℕ) → deed_of (hit_script hit) cycle sender receiver B ≡ None
+unfolding deed_of
+hit_on_b hit cycle sender receiver = no_row (passage_of sender receiver cycle)
+
+hit_events :
+    (hit : Deed) (event : Event) → done_by (Some hit) ≡ event
+    → (cycle sender receiver : ℕ) (channel : Channel) → event_of (hit_script hit) cycle sender receiver channel ≡ hit_by event cycle sender receiver channel
+hit_events hit event does cycle sender receiver A =
+    event_is (hit_script hit) cycle sender receiver A false (cond ((sender == 1) && ((receiver == 2) && (cycle == 3))) (Some hit) None)
+    (hit_nodes hit sender) (hit_on_a hit cycle sender receiver)
+    ∙ by (sender == 1) (receiver == 2) (cycle == 3)
+  where
+    by : (from_1 to_2 in_3 : Bool) → done_by (cond (from_1 && (to_2 && in_3)) (Some hit) None) ≡ (if in_3 && from_1 && to_2 then event else Regular)
+    by true true true = does
+    by true true false = refl
+    by true false true = refl
+    by true false false = refl
+    by false to_2 true = refl
+    by false to_2 false = refl
+hit_events hit event does cycle sender receiver B =
+    event_is (hit_script hit) cycle sender receiver B false None (hit_nodes hit sender) (hit_on_b hit cycle sender receiver)
+    ∙ by ((cycle == 3) && (sender == 1) && (receiver == 2))
+  where
+    by : (test : Bool) → Regular ≡ (if test then Regular else Regular)
+    by true = refl
+    by false = refl
+
+pub lost_files_are : run_of lost_run.params offset_drift lost_script ≡ lost_run
+lost_files_are = decided offset_drift lost_script lost_run (record {
+  doubles = offset_doubles;
+  starts = offset_starts;
+  rates = offset_rates;
+  lengths = offset_lengths;
+  delays = offset_delays;
+  nodes = hit_nodes deed.Lose;
+  events = hit_events deed.Lose Silent refl;
+})
+
+pub flipped_files_are : run_of flipped_run.params offset_drift flipped_script ≡ flipped_run
+flipped_files_are = decided offset_drift flipped_script flipped_run (record {
+  doubles = offset_doubles;
+  starts = offset_starts;
+  rates = offset_rates;
+  lengths = offset_lengths;
+  delays = offset_delays;
+  nodes = hit_nodes (deed.Flip 0);
+  events = hit_events (deed.Flip 0) (Flip 0) refl;
+})
+
+pub lost_on_one_files_are : run_of lost_on_one_run.params offset_drift lost_script ≡ lost_on_one_run
+lost_on_one_files_are = decided offset_drift lost_script lost_on_one_run (record {
+  doubles = offset_doubles;
+  starts = offset_starts;
+  rates = offset_rates;
+  lengths = offset_lengths;
+  delays = offset_delays;
+  nodes = hit_nodes deed.Lose;
+  events = hit_events deed.Lose Silent refl;
+})

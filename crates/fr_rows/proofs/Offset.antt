@@ -1,6 +1,11 @@
 -- The run of two nodes with an offset, cycle by cycle.
-use Rattle.std.proofs.Common.{◌≡◌, [], ◌∷◌, None, Some, pos, refl}
-use Rattle.fr_drift.specs.View.{DriftView}
+use Rattle.std.proofs.Common.{◌≡◌, ℕ, ◌==◌, ℤ, Bool, true, false, Option, [], ◌∷◌, None, Some, pos, ap, ◌∙◌, refl, if◌then◌else◌}
+use Rattle.std.specs.Option.{option_map_or}
+use Rattle.std.specs.Prelude.{cond}
+use Rattle.fr_base.specs.declared.channel.Channel.{Channel}
+use Rattle.fr_drift.specs.Questions.{delay_of, doubles_of, length_of, rate_of, start_of}
+use Rattle.fr_drift.specs.View.{DriftView, start_rows}
+use Rattle.fr_drift.specs.declared.rows.Start.{Start}
 use Rattle.fr_script.specs.Coverage.{first_gap}
 use Rattle.fr_script.specs.View.{ScriptView}
 use Rattle.fr_history.specs.Next.{history_of, next_record}
@@ -8,9 +13,10 @@ use Rattle.fr_history.specs.Skew.{greatest_skew_of}
 use Rattle.fr_history.specs.Sync.{first_sync_of}
 use Rattle.fr_report.specs.Text.{report_of}
 use Rattle.fr_rows.proofs.Computing.{on_gaps, on_histories, on_records, on_reports}
+use Rattle.fr_rows.proofs.Decided.{Answer, decided, one_start, plain_events, plain_nodes, steady_delays, steady_lengths}
 use Rattle.fr_rows.proofs.Gaps.{delays_decided, doubles_decided, events_decided, lengths_decided, nodes_decided}
-use Rattle.fr_rows.specs.Files.{run_of}
-use Rattle.fr_rows.specs.Offset.{offset_cycle_0, offset_cycle_1, offset_cycle_2, offset_cycle_3, offset_history, offset_report, offset_run}
+use Rattle.fr_rows.specs.Files.{plain_script, run_of, steady_drift}
+use Rattle.fr_rows.specs.Offset.{offset_cycle_0, offset_cycle_1, offset_cycle_2, offset_cycle_3, offset_drift, offset_history, offset_report, offset_run}
 
 cycle_0_is : next_record offset_run [] ≡ offset_cycle_0
 unfolding on_records
@@ -54,3 +60,51 @@ offset_gap_is d s same =
       delays_decided offset_run.params d s offset_run same,
       events_decided offset_run.params d s offset_run same,
     ) refl
+
+-- the row of a node that is node 2 or not
+abbrev start_row : Bool → Option Start
+start_row there = cond there (Some (record { ticks = pos 2_500_000; rate = pos 0 })) None
+
+-- what the drift file of the run answers
+pub offset_doubles : doubles_of offset_drift ≡ 2
+unfolding doubles_of
+offset_doubles = refl
+
+pub offset_starts : (node : ℕ) → start_of offset_drift node ≡ (if node == 2 then pos 2_500_000 else pos 0)
+unfolding start_of
+offset_starts node =
+    ap (λ (o : Option Start). option_map_or (λ (s : Start). s.ticks) o (pos 0)) (one_start node 2 (record { ticks = pos 2_500_000; rate = pos 0 }))
+    ∙ by (node == 2)
+  where
+    by : (there : Bool) → option_map_or (λ (s : Start). s.ticks) (start_row there) (pos 0) ≡ (if there then pos 2_500_000 else pos 0)
+    by true = refl
+    by false = refl
+
+pub offset_rates : (node : ℕ) → rate_of offset_drift node ≡ pos 0
+unfolding rate_of
+offset_rates node =
+    ap (λ (o : Option Start). option_map_or (λ (s : Start). s.rate) o (pos 0)) (one_start node 2 (record { ticks = pos 2_500_000; rate = pos 0 }))
+    ∙ by (node == 2)
+  where
+    by : (there : Bool) → option_map_or (λ (s : Start). s.rate) (start_row there) (pos 0) ≡ pos 0
+    by true = refl
+    by false = refl
+
+pub offset_lengths : (node cycle : ℕ) → length_of offset_drift node cycle ≡ pos 1_000_000
+unfolding length_of
+offset_lengths node cycle = steady_lengths 2 node cycle
+
+pub offset_delays : (sender receiver : ℕ) (channel : Channel) (cycle : ℕ) → delay_of offset_drift sender receiver channel cycle ≡ pos 0
+unfolding delay_of
+offset_delays sender receiver channel cycle = steady_delays 2 sender receiver channel cycle
+
+pub offset_files_are : run_of offset_run.params offset_drift plain_script ≡ offset_run
+offset_files_are = decided offset_drift plain_script offset_run (record {
+  doubles = offset_doubles;
+  starts = offset_starts;
+  rates = offset_rates;
+  lengths = offset_lengths;
+  delays = offset_delays;
+  nodes = plain_nodes;
+  events = plain_events;
+})

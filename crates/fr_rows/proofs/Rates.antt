@@ -1,6 +1,13 @@
 -- The run of two nodes whose oscillators lie apart, cycle by cycle.
-use Rattle.std.proofs.Common.{◌≡◌, [], ◌∷◌, None, Some, pos, refl}
-use Rattle.fr_drift.specs.View.{DriftView}
+use Rattle.std.proofs.Common.{◌≡◌, [], ◌∷◌, None, Some, pos, refl, ℕ, ℤ, zero, suc, true, false, Bool, ◌==◌, ◌&&◌, Option, sym, ap, ◌∙◌, arith, if◌then◌else◌}
+use Rattle.std.specs.Prelude.{cond, unwrap_or}
+use Rattle.std.proofs.lemmas.Bool.Decides.{nat_tests}
+use Rattle.std.specs.Ordering.{nat_cmp}
+use Rattle.fr_base.specs.declared.channel.Channel.{Channel}
+use Rattle.fr_drift.specs.Keys.{length_key}
+use Rattle.fr_drift.specs.Questions.{delay_of, doubles_of, length_of, rate_of, start_of}
+use Rattle.fr_rows.proofs.Decided.{Answer, both_are, decided, held_first, length_is, plain_events, plain_nodes, steady_delays, steady_rates, steady_starts}
+use Rattle.fr_drift.specs.View.{DriftView, length_rows}
 use Rattle.fr_script.specs.Coverage.{first_gap}
 use Rattle.fr_script.specs.View.{ScriptView}
 use Rattle.fr_history.specs.Next.{history_of, next_record}
@@ -9,8 +16,8 @@ use Rattle.fr_history.specs.Sync.{first_sync_of}
 use Rattle.fr_report.specs.Text.{report_of}
 use Rattle.fr_rows.proofs.Computing.{on_gaps, on_histories, on_records, on_reports}
 use Rattle.fr_rows.proofs.Gaps.{delays_decided, doubles_decided, events_decided, lengths_decided, nodes_decided}
-use Rattle.fr_rows.specs.Files.{run_of}
-use Rattle.fr_rows.specs.Rates.{rates_cycle_0, rates_cycle_1, rates_cycle_2, rates_cycle_3, rates_history, rates_report, rates_run}
+use Rattle.fr_rows.specs.Files.{run_of, plain_script}
+use Rattle.fr_rows.specs.Rates.{rates_cycle_0, rates_cycle_1, rates_cycle_2, rates_cycle_3, rates_history, rates_report, rates_run, rates_drift}
 
 cycle_0_is : next_record rates_run [] ≡ rates_cycle_0
 unfolding on_records
@@ -54,3 +61,62 @@ rates_gap_is d s same =
       delays_decided rates_run.params d s rates_run same,
       events_decided rates_run.params d s rates_run same,
     ) refl
+
+-- the row of a node, by whether it is node 1 or node 2, and whether the row asked for is that of cycle 0
+abbrev row_of : (is_1 is_2 zeroth : Bool) → Option ℤ
+row_of is_1 is_2 zeroth = cond (is_1 && zeroth) (Some (pos 1_000_100)) (cond (is_2 && zeroth) (Some (pos 999_900)) None)
+
+rows_are : (node from : ℕ) → length_rows rates_drift node from ≡ row_of (node == 1) (node == 2) (from == 0)
+rows_are node from i =
+    cond (length_is (length_key node from) (length_key 1 0) i) (Some (pos 1_000_100))
+    (cond (length_is (length_key node from) (length_key 2 0) i) (Some (pos 999_900)) None)
+
+none_later : (node cycle : ℕ) → length_rows rates_drift node (suc cycle) ≡ None
+none_later node cycle =
+    let later : (suc cycle == 0) ≡ false = grind (arith, nat_tests) in
+    rows_are node (suc cycle) ∙ ap (λ (b : Bool). row_of (node == 1) (node == 2) b) later ∙ by (node == 1) (node == 2)
+  where
+    by : (is_1 is_2 : Bool) → row_of is_1 is_2 false ≡ None
+    by true true = refl
+    by true false = refl
+    by false true = refl
+    by false false = refl
+
+-- what the drift file of the run answers
+rates_doubles : doubles_of rates_drift ≡ 2
+unfolding doubles_of
+rates_doubles = refl
+
+rates_starts : (node : ℕ) → start_of rates_drift node ≡ pos 0
+unfolding start_of
+rates_starts node = steady_starts 2 node
+
+rates_rates : (node : ℕ) → rate_of rates_drift node ≡ pos 0
+unfolding rate_of
+rates_rates node = steady_rates 2 node
+
+rates_lengths : (node cycle : ℕ) → length_of rates_drift node cycle ≡ (if node == 1 then pos 1_000_100 else if node == 2 then pos 999_900 else pos 1_000_000)
+unfolding length_of
+rates_lengths node cycle =
+    ap (λ (o : Option ℤ). unwrap_or o (pos 1_000_000)) (held_first (length_rows rates_drift node) (none_later node) cycle ∙ rows_are node 0)
+    ∙ by (node == 1) (node == 2)
+  where
+    by : (is_1 is_2 : Bool) → unwrap_or (row_of is_1 is_2 true) (pos 1_000_000) ≡ (if is_1 then pos 1_000_100 else if is_2 then pos 999_900 else pos 1_000_000)
+    by true is_2 = refl
+    by false true = refl
+    by false false = refl
+
+rates_delays : (sender receiver : ℕ) (channel : Channel) (cycle : ℕ) → delay_of rates_drift sender receiver channel cycle ≡ pos 0
+unfolding delay_of
+rates_delays sender receiver channel cycle = steady_delays 2 sender receiver channel cycle
+
+pub rates_files_are : run_of rates_run.params rates_drift plain_script ≡ rates_run
+rates_files_are = decided rates_drift plain_script rates_run (record {
+  doubles = rates_doubles;
+  starts = rates_starts;
+  rates = rates_rates;
+  lengths = rates_lengths;
+  delays = rates_delays;
+  nodes = plain_nodes;
+  events = plain_events;
+})

@@ -5,11 +5,15 @@ use Rattle.fr_base.specs.Event.Event.{Regular, Silent, Flip}
 use Rattle.fr_base.specs.declared.channel.Channel.{Channel}
 use Rattle.fr_base.specs.declared.channel.Channel.TheVariants.{A, B}
 use Rattle.fr_base.specs.declared.cycle_row.Counts.{Counts}
+use Rattle.fr_script.specs.Deeds.{passage_of}
+use Rattle.fr_script.specs.View.{ScriptView}
+use Rattle.fr_script.specs.declared.deeds.Deed.{Deed}
+use Rattle.fr_script.specs.declared.deeds.Deed.TheVariants as deed
 use Rattle.fr_history.specs.Setting.{Setting}
 use Rattle.fr_history.specs.History.{History, Record}
 use Rattle.fr_rows.specs.Clusters.{cluster_of, on_both}
 use Rattle.fr_rows.specs.Entries.{all_stored, dev_with}
-use Rattle.fr_rows.specs.Files.{only_on_a}
+use Rattle.fr_rows.specs.Files.{no_arbitrary, only_on_a}
 use Rattle.fr_rows.specs.Offset.{offset_cycle_0, offset_cycle_1, offset_cycle_2, offset_cycle_3, offset_run}
 
 -- an event of the one frame that is hit
@@ -17,10 +21,18 @@ abbrev pub hit_by : Event → ℕ → ℕ → ℕ → Channel → Event
 hit_by event cycle sender receiver channel =
     if (cycle == 3) && (sender == 1) && (receiver == 2) then only_on_a event Regular channel else Regular
 
+-- a script with one row, which says what hits it
+abbrev pub hit_script : Deed → ScriptView
+hit_script hit = record { arbitrary = no_arbitrary; on_a = (passage_of 1 2 3, hit) ∷ []; on_b = [] }
+
 -- ---- the frame is lost
 
 abbrev pub lost_run : Setting
 lost_run = let run : Setting = offset_run in record run { event = hit_by Silent }
+
+-- its script; its drift file is that of the run with an offset
+abbrev pub lost_script : ScriptView
+lost_script = hit_script deed.Lose
 
 -- node 2 measures nothing; its offset term is still 0
 abbrev pub lost_cycle_3 : Record
@@ -50,6 +62,10 @@ lost_report =
 abbrev pub flipped_run : Setting
 flipped_run = let run : Setting = offset_run in record run { event = hit_by (Flip 0) }
 
+-- its script; its drift file is that of the run with an offset
+abbrev pub flipped_script : ScriptView
+flipped_script = hit_script (deed.Flip 0)
+
 -- node 2 finds it damaged
 abbrev pub flipped_cycle_3 : Record
 flipped_cycle_3 =
@@ -74,7 +90,7 @@ flipped_report =
     ++ codes "node 1 active next 800001000000 rate 0 offset 0\n"
     ++ codes "node 2 active next 800001500000 rate 0 offset 0\n"
 
--- ---- the frame is lost, and both nodes are on both channels
+-- ---- the frame is lost, and both nodes are on both channels; the files are those of the run where it is lost
 
 abbrev pub lost_on_one_run : Setting
 lost_on_one_run = let run : Setting = lost_run in record run { params = cluster_of (on_both 1 ∷ on_both 2 ∷ []) }

@@ -2,10 +2,12 @@
 use Rattle.std.specs.Prelude.{ℕ, ◌==◌, pos, negsuc, false, List, [], ◌∷◌, ◌++◌, codes, if◌then◌else◌}
 use Rattle.fr_base.specs.Event.Event.{Regular}
 use Rattle.fr_base.specs.declared.channel.Channel.TheVariants.{A}
+use Rattle.fr_drift.specs.View.{DriftView}
 use Rattle.fr_history.specs.Setting.{Setting}
 use Rattle.fr_history.specs.History.{History, Record}
 use Rattle.fr_rows.specs.Clusters.{cluster_of, on_a}
 use Rattle.fr_rows.specs.Entries.{all_stored, dev_with, row_with}
+use Rattle.fr_rows.specs.Files.{steady_drift}
 
 -- two double cycles; node 2 starts later
 abbrev pub offset_run : Setting
@@ -19,6 +21,11 @@ offset_run = record {
   is_arbitrary = λ _. false;
   event = λ _ _ _ _. Regular;
 }
+
+-- its drift file; its script has no rows
+abbrev pub offset_drift : DriftView
+offset_drift =
+    let plain : DriftView = steady_drift 2 in record plain { starts = (2, record { ticks = pos 2_500_000; rate = pos 0 }) ∷ [] }
 
 -- node 1 measures 2 microticks, node 2 measures -3
 abbrev pub offset_cycle_0 : Record

@@ -1,13 +1,14 @@
 -- A run of four nodes, one of which is arbitrary and says different things.
-use Rattle.std.specs.Prelude.{ℕ, ◌==◌, pos, negsuc, List, [], ◌∷◌, ◌++◌, None, if◌then◌else◌, codes}
+use Rattle.std.specs.Prelude.{ℕ, ◌==◌, pos, negsuc, true, false, List, [], ◌∷◌, ◌++◌, None, replicate, if◌then◌else◌, codes}
 use Rattle.fr_base.specs.Event.{Event}
 use Rattle.fr_base.specs.Event.Event.{Regular, Silent, Say}
 use Rattle.fr_base.specs.declared.dev.Dev.{Dev}
+use Rattle.fr_script.specs.View.{ScriptView}
 use Rattle.fr_history.specs.Setting.{Setting}
 use Rattle.fr_history.specs.History.{History, Record}
 use Rattle.fr_rows.specs.Clusters.{cluster_of, on_a}
 use Rattle.fr_rows.specs.Entries.{all_stored, measured, steady_rows}
-use Rattle.fr_rows.specs.Files.{said_first}
+use Rattle.fr_rows.specs.Files.{said_first, says_to}
 
 -- what node 4 says: that it is 100 microticks late, as much early, or nothing
 abbrev pub said_to : ℕ → Event
@@ -27,6 +28,14 @@ one_arbitrary_run = record {
   delay = λ _ _ _ _. pos 0;
   is_arbitrary = λ node. node == 4;
   event = λ cycle sender receiver channel. if sender == 4 then said_first (said_to receiver) cycle channel else Regular;
+}
+
+-- its script; its drift file has no rows
+abbrev pub one_arbitrary_script : ScriptView
+one_arbitrary_script = record {
+  arbitrary = replicate 4 false ++ true ∷ replicate 60 false;
+  on_a = says_to 4 (pos 100_000_000) (1 ∷ []) ++ says_to 4 (negsuc 99_999_999) (2 ∷ []);
+  on_b = [];
 }
 
 -- the deviations of each cycle

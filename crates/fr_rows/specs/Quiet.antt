@@ -1,6 +1,7 @@
 -- A run of three nodes, one of which is arbitrary and says nothing.
-use Rattle.std.specs.Prelude.{ℕ, ◌==◌, pos, List, [], ◌∷◌, ◌++◌, if◌then◌else◌, codes}
+use Rattle.std.specs.Prelude.{ℕ, ◌==◌, pos, true, false, List, [], ◌∷◌, ◌++◌, replicate, if◌then◌else◌, codes}
 use Rattle.fr_base.specs.Event.Event.{Regular, Silent}
+use Rattle.fr_script.specs.View.{ScriptView}
 use Rattle.fr_history.specs.Setting.{Setting}
 use Rattle.fr_history.specs.History.{History, Record}
 use Rattle.fr_rows.specs.Clusters.{cluster_of, on_a}
@@ -18,6 +19,10 @@ quiet_run = record {
   is_arbitrary = λ node. node == 3;
   event = λ _ sender _ _. if sender == 3 then Silent else Regular;
 }
+
+-- its script: node 3 is arbitrary, and no row says anything; its drift file has no rows
+abbrev pub quiet_script : ScriptView
+quiet_script = record { arbitrary = replicate 3 false ++ true ∷ replicate 61 false; on_a = []; on_b = [] }
 
 abbrev pub quiet_cycle_0 : Record
 quiet_cycle_0 = record {

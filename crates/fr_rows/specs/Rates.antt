@@ -2,10 +2,13 @@
 use Rattle.std.specs.Prelude.{ℕ, ◌==◌, pos, negsuc, false, List, [], ◌∷◌, ◌++◌, codes, if◌then◌else◌}
 use Rattle.fr_base.specs.Event.Event.{Regular}
 use Rattle.fr_base.specs.declared.channel.Channel.TheVariants.{A}
+use Rattle.fr_drift.specs.Keys.{length_key}
+use Rattle.fr_drift.specs.View.{DriftView}
 use Rattle.fr_history.specs.Setting.{Setting}
 use Rattle.fr_history.specs.History.{History, Record}
 use Rattle.fr_rows.specs.Clusters.{cluster_of, on_a}
 use Rattle.fr_rows.specs.Entries.{all_stored, dev_with, row_with}
+use Rattle.fr_rows.specs.Files.{steady_drift}
 
 -- two double cycles; the microtick of node 1 is long and that of node 2 short
 abbrev pub rates_run : Setting
@@ -19,6 +22,12 @@ rates_run = record {
   is_arbitrary = λ _. false;
   event = λ _ _ _ _. Regular;
 }
+
+-- its drift file; its script has no rows
+abbrev pub rates_drift : DriftView
+rates_drift =
+    let plain : DriftView = steady_drift 2 in
+    record plain { lengths = (length_key 1 0, pos 1_000_100) ∷ (length_key 2 0, pos 999_900) ∷ [] }
 
 abbrev pub rates_cycle_0 : Record
 rates_cycle_0 = record {

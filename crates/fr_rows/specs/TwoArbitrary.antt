@@ -1,13 +1,14 @@
 -- A run of eight nodes, two of which are arbitrary.
-use Rattle.std.specs.Prelude.{ℕ, ◌==◌, nat_lt, Bool, not, ◌&&◌, ◌||◌, pos, negsuc, List, [], ◌∷◌, ◌++◌, None, if◌then◌else◌, codes}
+use Rattle.std.specs.Prelude.{ℕ, ◌==◌, nat_lt, Bool, not, ◌&&◌, ◌||◌, pos, negsuc, true, false, List, [], ◌∷◌, ◌++◌, None, replicate, if◌then◌else◌, codes}
 use Rattle.fr_base.specs.Event.{Event}
 use Rattle.fr_base.specs.Event.Event.{Regular, Silent, Say}
 use Rattle.fr_base.specs.declared.dev.Dev.{Dev}
+use Rattle.fr_script.specs.View.{ScriptView}
 use Rattle.fr_history.specs.Setting.{Setting}
 use Rattle.fr_history.specs.History.{History, Record}
 use Rattle.fr_rows.specs.Clusters.{cluster_of, on_a}
 use Rattle.fr_rows.specs.Entries.{all_stored, measured, steady_rows}
-use Rattle.fr_rows.specs.Files.{said_first}
+use Rattle.fr_rows.specs.Files.{said_first, says_to}
 
 -- the correct nodes
 abbrev pub is_among_six : ℕ → Bool
@@ -35,6 +36,16 @@ two_arbitrary_run = record {
       if sender == 7 then said_first (said_late_to receiver) cycle channel
       else if sender == 8 then said_first (said_early_to receiver) cycle channel
       else Regular;
+}
+
+-- its script; its drift file has no rows
+abbrev pub two_arbitrary_script : ScriptView
+two_arbitrary_script = record {
+  arbitrary = replicate 7 false ++ true ∷ true ∷ replicate 56 false;
+  on_a =
+      says_to 7 (pos 100_000_000) (1 ∷ 2 ∷ 3 ∷ 4 ∷ 5 ∷ 6 ∷ [])
+      ++ says_to 8 (negsuc 99_999_999) (1 ∷ 3 ∷ 4 ∷ 5 ∷ 6 ∷ []);
+  on_b = [];
 }
 
 -- the deviations of each cycle: node 2 has seven values and discards one at each end, the others have eight and discard two

@@ -12,23 +12,25 @@ ghost use Rattle.fr_history.specs.Next.{history_of};
 ghost use Rattle.fr_history.specs.Skew.{greatest_skew_of};
 ghost use Rattle.fr_history.specs.Sync.{first_sync_of};
 ghost use Rattle.fr_report.specs.Text.{report_of};
-ghost use Rattle.fr_rows.specs.Files.{run_of};
+ghost use Rattle.fr_rows.specs.Files.{plain_script, run_of, steady_drift};
 ghost use Rattle.fr_rows.specs.Positions.{even_positions, odd_positions, positions_of, short_grid};
-ghost use Rattle.fr_rows.specs.Offset.{offset_history, offset_report, offset_run};
-ghost use Rattle.fr_rows.specs.Rates.{rates_history, rates_report, rates_run};
-ghost use Rattle.fr_rows.specs.OneArbitrary.{one_arbitrary_history, one_arbitrary_report, one_arbitrary_run};
-ghost use Rattle.fr_rows.specs.TwoArbitrary.{two_arbitrary_history, two_arbitrary_report, two_arbitrary_run};
-ghost use Rattle.fr_rows.specs.Quiet.{quiet_history, quiet_report, quiet_run};
+ghost use Rattle.fr_rows.specs.Offset.{offset_drift, offset_history, offset_report, offset_run};
+ghost use Rattle.fr_rows.specs.Rates.{rates_drift, rates_history, rates_report, rates_run};
+ghost use Rattle.fr_rows.specs.OneArbitrary.{one_arbitrary_history, one_arbitrary_report, one_arbitrary_run, one_arbitrary_script};
+ghost use Rattle.fr_rows.specs.TwoArbitrary.{two_arbitrary_history, two_arbitrary_report, two_arbitrary_run, two_arbitrary_script};
+ghost use Rattle.fr_rows.specs.Quiet.{quiet_history, quiet_report, quiet_run, quiet_script};
 ghost use Rattle.fr_rows.specs.Lost.{
   flipped_history,
   flipped_report,
   flipped_run,
+  flipped_script,
   lost_history,
   lost_on_one_history,
   lost_on_one_report,
   lost_on_one_run,
   lost_report,
   lost_run,
+  lost_script,
 };
 
 use fr_history::one_lawful_history;
@@ -40,6 +42,7 @@ pub fn a_run_with_an_offset()
     ensures skew { greatest_skew_of offset_run.params offset_history ≡
         Some (record { skew = pos 2_500_000; cycle = 0; macrotick = 0 }) }
     ensures sync { first_sync_of offset_run.params offset_history ≡ Some 0 }
+    ensures files { run_of offset_run.params offset_drift plain_script ≡ offset_run }
     ensures gap { (d : DriftView) (s : ScriptView) → run_of offset_run.params d s ≡ offset_run →
         first_gap offset_run.params d s ≡ None }
     ensures report { report_of offset_run None offset_history ≡ offset_report }
@@ -55,6 +58,7 @@ pub fn a_run_with_drifting_rates()
     ensures skew { greatest_skew_of rates_run.params rates_history ≡
         Some (record { skew = pos 79_200_000; cycle = 1; macrotick = 4_900 }) }
     ensures sync { first_sync_of rates_run.params rates_history ≡ Some 1 }
+    ensures files { run_of rates_run.params rates_drift plain_script ≡ rates_run }
     ensures gap { (d : DriftView) (s : ScriptView) → run_of rates_run.params d s ≡ rates_run →
         first_gap rates_run.params d s ≡ None }
     ensures report { report_of rates_run None rates_history ≡ rates_report }
@@ -70,6 +74,7 @@ pub fn a_run_with_one_arbitrary_node()
     ensures skew { greatest_skew_of one_arbitrary_run.params one_arbitrary_history ≡
         Some (record { skew = pos 0; cycle = 0; macrotick = 0 }) }
     ensures sync { first_sync_of one_arbitrary_run.params one_arbitrary_history ≡ Some 0 }
+    ensures files { run_of one_arbitrary_run.params (steady_drift 1) one_arbitrary_script ≡ one_arbitrary_run }
     ensures gap { (d : DriftView) (s : ScriptView) → run_of one_arbitrary_run.params d s ≡ one_arbitrary_run →
         first_gap one_arbitrary_run.params d s ≡ None }
     ensures report { report_of one_arbitrary_run None one_arbitrary_history ≡ one_arbitrary_report }
@@ -84,6 +89,7 @@ pub fn a_run_with_two_arbitrary_nodes()
     ensures skew { greatest_skew_of two_arbitrary_run.params two_arbitrary_history ≡
         Some (record { skew = pos 0; cycle = 0; macrotick = 0 }) }
     ensures sync { first_sync_of two_arbitrary_run.params two_arbitrary_history ≡ Some 0 }
+    ensures files { run_of two_arbitrary_run.params (steady_drift 1) two_arbitrary_script ≡ two_arbitrary_run }
     ensures gap { (d : DriftView) (s : ScriptView) → run_of two_arbitrary_run.params d s ≡ two_arbitrary_run →
         first_gap two_arbitrary_run.params d s ≡ None }
     ensures report { report_of two_arbitrary_run None two_arbitrary_history ≡ two_arbitrary_report }
@@ -98,6 +104,7 @@ pub fn a_run_with_a_silent_arbitrary_node()
     ensures skew { greatest_skew_of quiet_run.params quiet_history ≡
         Some (record { skew = pos 0; cycle = 0; macrotick = 0 }) }
     ensures sync { first_sync_of quiet_run.params quiet_history ≡ Some 0 }
+    ensures files { run_of quiet_run.params (steady_drift 1) quiet_script ≡ quiet_run }
     ensures gap { (d : DriftView) (s : ScriptView) → run_of quiet_run.params d s ≡ quiet_run →
         first_gap quiet_run.params d s ≡ Some (Count 2 1) }
     ensures report { report_of quiet_run (Some (Count 2 1)) quiet_history ≡ quiet_report }
@@ -112,6 +119,7 @@ pub fn a_run_with_a_lost_frame()
     ensures skew { greatest_skew_of lost_run.params lost_history ≡
         Some (record { skew = pos 2_500_000; cycle = 0; macrotick = 0 }) }
     ensures sync { first_sync_of lost_run.params lost_history ≡ Some 0 }
+    ensures files { run_of lost_run.params offset_drift lost_script ≡ lost_run }
     ensures gap { (d : DriftView) (s : ScriptView) → run_of lost_run.params d s ≡ lost_run →
         first_gap lost_run.params d s ≡ Some (Link 1 2 1) }
     ensures report { report_of lost_run (Some (Link 1 2 1)) lost_history ≡ lost_report }
@@ -126,6 +134,7 @@ pub fn a_run_with_a_flipped_frame()
     ensures skew { greatest_skew_of flipped_run.params flipped_history ≡
         Some (record { skew = pos 2_500_000; cycle = 0; macrotick = 0 }) }
     ensures sync { first_sync_of flipped_run.params flipped_history ≡ Some 0 }
+    ensures files { run_of flipped_run.params offset_drift flipped_script ≡ flipped_run }
     ensures gap { (d : DriftView) (s : ScriptView) → run_of flipped_run.params d s ≡ flipped_run →
         first_gap flipped_run.params d s ≡ Some (Link 1 2 1) }
     ensures report { report_of flipped_run (Some (Link 1 2 1)) flipped_history ≡ flipped_report }
@@ -140,6 +149,7 @@ pub fn a_run_with_a_frame_lost_on_one_channel()
     ensures skew { greatest_skew_of lost_on_one_run.params lost_on_one_history ≡
         Some (record { skew = pos 2_500_000; cycle = 0; macrotick = 0 }) }
     ensures sync { first_sync_of lost_on_one_run.params lost_on_one_history ≡ Some 0 }
+    ensures files { run_of lost_on_one_run.params offset_drift lost_script ≡ lost_on_one_run }
     ensures gap { (d : DriftView) (s : ScriptView) → run_of lost_on_one_run.params d s ≡ lost_on_one_run →
         first_gap lost_on_one_run.params d s ≡ None }
     ensures report { report_of lost_on_one_run None lost_on_one_history ≡ lost_on_one_report }

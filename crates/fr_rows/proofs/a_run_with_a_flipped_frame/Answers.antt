@@ -1,6 +1,6 @@
 use Rattle.std.proofs.Common.{subst}
 use Rattle.fr_history.specs.Lawful.{IsLawful}
-use Rattle.fr_rows.proofs.Lost.{flipped_gap_is, flipped_history_is, flipped_report_is, flipped_skew_is, flipped_sync_is}
+use Rattle.fr_rows.proofs.Lost.{flipped_files_are, flipped_gap_is, flipped_history_is, flipped_report_is, flipped_skew_is, flipped_sync_is}
 use Rattle.fr_rows.proofs.Settings.{flipped_setting}
 use Rattle.fr_rows.specs.Lost.{flipped_run}
 use Rattle.fr_rows.proofs.a_run_with_a_flipped_frame.Goals as goal
@@ -16,6 +16,9 @@ returns-clause-skew c = flipped_skew_is
 
 pub returns-clause-sync : goal.returns-clause-sync
 returns-clause-sync c = flipped_sync_is
+
+pub returns-clause-files : goal.returns-clause-files
+returns-clause-files c = flipped_files_are
 
 pub returns-clause-gap : goal.returns-clause-gap
 returns-clause-gap c = flipped_gap_is

@@ -1,6 +1,6 @@
 use Rattle.std.proofs.Common.{subst}
 use Rattle.fr_history.specs.Lawful.{IsLawful}
-use Rattle.fr_rows.proofs.Rates.{rates_gap_is, rates_history_is, rates_report_is, rates_skew_is, rates_sync_is}
+use Rattle.fr_rows.proofs.Rates.{rates_files_are, rates_gap_is, rates_history_is, rates_report_is, rates_skew_is, rates_sync_is}
 use Rattle.fr_rows.proofs.Settings.{rates_setting}
 use Rattle.fr_rows.specs.Rates.{rates_run}
 use Rattle.fr_rows.proofs.a_run_with_drifting_rates.Goals as goal
@@ -16,6 +16,9 @@ returns-clause-skew c = rates_skew_is
 
 pub returns-clause-sync : goal.returns-clause-sync
 returns-clause-sync c = rates_sync_is
+
+pub returns-clause-files : goal.returns-clause-files
+returns-clause-files c = rates_files_are
 
 pub returns-clause-gap : goal.returns-clause-gap
 returns-clause-gap c = rates_gap_is
