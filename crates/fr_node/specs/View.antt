@@ -7,7 +7,8 @@ use Rattle.fr_measure.specs.Readings.{Readings}
 use Rattle.fr_poc.specs.Control.{Control}
 
 -- A node: its number, the cycle that is under way or comes next, the length of a microtick in the one that is under
--- way, that cycle's start in ticks and its rate term, the deviations of its double cycle, and its operation control.
+-- way, the start, in ticks, and the rate term, in microticks, of the cycle that is under way or comes next, the
+-- deviations of its double cycle, and its operation control.
 pub record NodeView : Type 0 where
   pub id : ℕ
   pub cycle : ℕ

@@ -28,9 +28,9 @@ pub struct Node {
     cycle: u32,
     // The length of a microtick in the cycle that is under way, in ticks.
     length: Option<i64>,
-    // The start of that cycle, in ticks.
+    // The start, in ticks, of the cycle that is under way or comes next.
     start: i64,
-    // Its rate term, in microticks.
+    // The rate term, in microticks, of the cycle that is under way or comes next.
     rate: i32,
     table: Table,
     control: Poc,
@@ -146,6 +146,13 @@ impl Node {
         }
     }
 
+    /// Which node it is.
+    pub fn id(&self) -> NodeId
+        ensures { result ≡ self.now.id }
+    {
+        self.id
+    }
+
     /// The row of the cycle that is under way, before its end: with offset 0, and nothing cut.
     pub fn row(&self) -> NodeRow
         requires { IsSome self.now.length }
@@ -163,8 +170,8 @@ impl Node {
         }
     }
 
-    /// The deviation of a key index in the even or the odd cycle of the last double cycle on a channel, in
-    /// microticks; None exactly where nothing is stored.
+    /// The deviation of a key index on a channel, in microticks, in the even or the odd cycle of the double
+    /// cycle that is under way, or between cycles of the last one; None exactly where nothing is stored.
     pub fn deviation(&self, index: usize, odd: bool, channel: Channel) -> Option<i32>
         requires { index < 15 }
         ensures { result ≡ reading self.now.table index odd channel }

@@ -10,7 +10,7 @@ use fr_base::{NodeId, Slot};
 use fr_params::{ParamName, Params};
 use fr_poc::PocLimits;
 
-// What holds of all parameters.
+// What holds of all parameters: the borrow of a field opens their invariant.
 pub(crate) fn sane(params: &Params)
     ensures { IsSane params.now }
 {

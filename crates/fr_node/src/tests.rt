@@ -38,7 +38,7 @@ node,2,2,A,1
 node,3,,A,0
 ";
 
-/// The sync frame of slot 1 in cycle 0, with a null frame indicator that says it is one.
+/// A sync frame in slot 1 of cycle 0 that is also a null frame.
 const SYNC: &[u8] = b"\x18\x01\x00\x6F\x00\x9A\xE5\x25";
 
 /// The same in cycle 1.
@@ -47,23 +47,26 @@ const SYNC_LATER: &[u8] = b"\x18\x01\x00\x6F\x01\xC7\x88\xEE";
 /// The first one with a wrong last byte.
 const DAMAGED: &[u8] = b"\x18\x01\x00\x6F\x00\x9A\xE5\x24";
 
-/// It with cycle count 63.
+/// The first one with cycle count 63.
 const LAST_COUNT: &[u8] = b"\x18\x01\x00\x6F\x3F\xBC\xED\x3E";
 
-/// It with a payload of one word.
+/// The sync frame of slot 1 in cycle 0, which is no null frame.
+const REGULAR: &[u8] = b"\x38\x01\x00\x6F\x00\x24\xD9\xEB";
+
+/// A sync frame with a payload of one word.
 const ONE_WORD: &[u8] = b"\x38\x01\x02\x8E\x40\x12\x34\x9B\x18\x2C";
 
-/// It with frame ID 3, whose slot is no key slot.
+/// The first one with frame ID 3, whose slot is no key slot.
 const SYNC_ELSEWHERE: &[u8] = b"\x18\x03\x00\x95\x80\xF9\x65\xBB";
 
-/// It without the sync indicator.
+/// A frame without the sync and startup indicators.
 const NO_SYNC: &[u8] = b"\x20\x01\x01\xA7\xC0\xD0\x5E\xEA";
 
 /// What node 2 makes of a frame.
 #[derive(Clone, Copy)]
 enum Answer {
     Stored(i32),
-    Outside,
+    Outside { from: i64, to: i64 },
     Damaged(FrameFault),
     WrongId(u16),
     WrongCycle(u8),
@@ -71,16 +74,33 @@ enum Answer {
     Plain,
 }
 
+/// Outside of slot 1, which lasts 1200 microticks.
+const FIRST_SLOT: Answer = Answer::Outside {
+    from: 0,
+    to: 1_200_000_000,
+};
+
+/// Outside of slot 3.
+const THIRD_SLOT: Answer = Answer::Outside {
+    from: 2_400_000_000,
+    to: 3_600_000_000,
+};
+
 /// A slot, an arrival in cycle 0, bytes on channel A, and the answer to them.
 const OFFERS: &[(u16, i64, &[u8], Answer)] = &[
     (1, 280_000_000, SYNC, Answer::Stored(0)),
     (1, 279_999_999, SYNC, Answer::Stored(-1)),
     (1, 1_199_999_999, SYNC, Answer::Stored(919)),
+    (1, 280_000_000, REGULAR, Answer::Stored(0)),
     (1, 0, SYNC, Answer::Stored(-280)),
-    (1, 1_200_000_000, SYNC, Answer::Outside),
-    (1, -1, SYNC, Answer::Outside),
-    (1, 4_000_000_000_000_000_000, SYNC, Answer::Outside),
-    (1, -4_000_000_000_000_000_000, SYNC, Answer::Outside),
+    (1, 1_200_000_000, SYNC, FIRST_SLOT),
+    (1, -1, SYNC, FIRST_SLOT),
+    (1, 4_000_000_000_000_000_000, SYNC, FIRST_SLOT),
+    (1, -4_000_000_000_000_000_000, SYNC, FIRST_SLOT),
+    (3, 2_399_999_999, SYNC_ELSEWHERE, THIRD_SLOT),
+    (3, 2_400_000_000, SYNC_ELSEWHERE, Answer::Plain),
+    (3, 3_599_999_999, SYNC_ELSEWHERE, Answer::Plain),
+    (3, 3_600_000_000, SYNC_ELSEWHERE, THIRD_SLOT),
     (
         1,
         280_000_000,
@@ -109,11 +129,7 @@ fn heard(slot: u16, arrival: i64, answer: Answer) -> Heard
 {
     Heard::Ignored(match answer {
         Answer::Stored(value) => return Heard::Stored(value),
-        Answer::Outside => Ignored::Outside {
-            arrival,
-            from: 0,
-            to: 1_200_000_000,
-        },
+        Answer::Outside { from, to } => Ignored::Outside { arrival, from, to },
         Answer::Damaged(fault) => Ignored::Damaged(fault),
         Answer::WrongId(id) => Ignored::WrongId {
             slot: Slot(slot),
@@ -270,6 +286,27 @@ fn corrects_a_late_start(rt: HostRuntime) -> Result<(), Fail> {
     assert_eq!(rt; (kept, cleared), (Some(-3), None));
     assert_eq!(rt; (even.offset, odd.offset, odd.cut), (0, -1, 0));
     assert_eq!(rt; (odd.start, next), (200_002_500_000, 400_001_500_000));
+    Ok(())
+}
+
+/// Both terms of a double cycle lie outside their limits: they are cut, and the node halts.
+#[test]
+fn cuts_a_wide_offset(rt: HostRuntime) -> Result<(), Fail> {
+    let params = cluster(rt.alloc())?;
+    let mut node = made(&params, 2, 0).ok_or("no node 2")?;
+    let (first, _even) = cycle_with(&params, &mut node, 0, 280_000_000, SYNC);
+    let (second, odd) = cycle_with(&params, &mut node, 1, 201_199_999_999, SYNC_LATER);
+    assert_eq!(rt; first, Some(Heard::Stored(0)));
+    assert_eq!(rt; second, Some(Heard::Stored(919)));
+    assert_eq!(rt; (odd.state, odd.offset, odd.cut), (State::Active, 254, 2));
+    assert_eq!(rt;
+        (node.next_rate(), node.next_state(), node.next_start()),
+        (81, State::Halt, 400_254_000_000)
+    );
+    node.begin(2, 1_000_000);
+    let halted = node.end(&params);
+    assert_eq!(rt; (halted.rate, halted.offset, halted.cut), (81, 0, 0));
+    assert_eq!(rt; node.next_start(), 600_335_000_000);
     Ok(())
 }
 
