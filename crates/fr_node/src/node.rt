@@ -146,13 +146,6 @@ impl Node {
         }
     }
 
-    /// Which node it is.
-    pub fn id(&self) -> NodeId
-        ensures { result ≡ self.now.id }
-    {
-        self.id
-    }
-
     /// The row of the cycle that is under way, before its end: with offset 0, and nothing cut.
     pub fn row(&self) -> NodeRow
         requires { IsSome self.now.length }
