@@ -14,3 +14,4 @@ pub mod Loops
 pub mod Channels
 pub mod Sweeps
 pub mod OneCycle
+pub mod Fresh

@@ -194,7 +194,7 @@ nodes-ascend x sane h nodes are =
       let lt : (get_or (s ∷ ss) i s).id < (get_or (s ∷ ss) j s).id = pairs i j s less (omega arith) in
       omega (arith, first, second, lt)
 
-length-kept : {X : Type 0} (p : X → Bool) (xs : List X) → length (filter p xs) ≤ length xs
+pub length-kept : {X : Type 0} (p : X → Bool) (xs : List X) → length (filter p xs) ≤ length xs
 length-kept p [] = omega arith
 length-kept p (x ∷ xs) =
     cond_both (p x) (x ∷ filter p xs) (filter p xs) (λ ys. length ys ≤ length (x ∷ xs))

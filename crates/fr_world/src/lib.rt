@@ -1,7 +1,9 @@
 //! The world of a run: every node's clock over every cycle.
 #![tactic(auto)]
 
+mod building;
 mod cycling;
+mod fault;
 mod files;
 mod flipping;
 mod hearing;
@@ -14,5 +16,6 @@ mod tally;
 mod turn;
 mod world;
 
+pub use fault::BuildFault;
 pub use world::World;
 

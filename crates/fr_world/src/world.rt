@@ -1,14 +1,19 @@
-ghost use Rattle.std.specs.Prelude.{◌≡◌, ℕ, ◌+◌, ◌*◌, ◌↔◌, IsNone, IfSome};
+ghost use Rattle.std.specs.Prelude.{◌≡◌, ℕ, ◌+◌, ◌*◌, ◌≤◌, ◌↔◌, length, IsNone, IfSome, IfOk};
 ghost use Rattle.std.specs.Borrow.{sem};
+ghost use Rattle.fr_drift.specs.Files.{Fits as DriftFits};
 ghost use Rattle.fr_drift.specs.Questions.{doubles_of};
+ghost use Rattle.fr_script.specs.Files.{Fits as ScriptFits};
 
+use crate::building::{fresh_nodes, key_slots_of};
+use crate::fault::BuildFault;
 use crate::files::Files;
-use crate::running::run_cycle;
-use fr_base::{CycleRow, Slot};
+use crate::running::{no_counts, run_cycle};
+use fr_base::{CycleRow, DevList, RowList, Slot};
 use fr_drift::Drift;
 use fr_node::Node;
 use fr_params::Params;
 use fr_script::Script;
+use std::alloc::{AllocError, Global};
 use std::marker::Model;
 
 /// A cluster in a run: every correct node's clock, cycle after cycle, as the parameters, the oscillators and
@@ -40,6 +45,35 @@ impl Model for World {
 }
 
 impl World {
+    /// A world before its first cycle, of files that fit one another: all memory of the run is taken here.
+    /// `NoMemory` where there is not enough; the files are then dropped.
+    pub fn build(
+        alloc: Global,
+        params: Params,
+        drift: Drift,
+        script: Script,
+    ) -> Result<World, BuildFault>
+        requires drift { DriftFits params drift }
+        requires script { ScriptFits params script }
+        ensures { IfOk result (λ world. world ≡ record { params = params; drift = drift; script = script; cycles = 0 }) }
+    {
+        let files = Files {
+            params,
+            drift,
+            script,
+        };
+        let keys = key_slots_of(alloc, &files.params)?;
+        let nodes = fresh_nodes(alloc, &files)?;
+        let row = blank_row(alloc, &keys)?;
+        Ok(World {
+            files,
+            keys,
+            nodes,
+            row,
+            next: 0,
+        })
+    }
+
     ghost use Rattle.fr_world.specs.World.{setting_behind, IsRowOf};
     ghost use Rattle.fr_world.specs.Ends.{Cycles};
 
@@ -96,4 +130,17 @@ impl World {
     {
         &self.files.script
     }
+}
+
+// A row with nothing in it, and room for the deviations of a cycle in these key slots.
+fn blank_row(alloc: Global, keys: &Vec<Slot>) -> Result<CycleRow, AllocError>
+    requires { length keys.now.items ≤ 1023 }
+    ensures { IfOk result (λ row. 128 * length keys.now.items ≤ row.devs.spare + length row.devs.entries) }
+{
+    Ok(CycleRow {
+        cycle: 0,
+        rows: RowList::new(),
+        devs: DevList::with_room(alloc, 128 * keys.len())?,
+        counts: no_counts(),
+    })
 }

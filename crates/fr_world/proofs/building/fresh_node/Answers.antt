@@ -1,0 +1,19 @@
+use Rattle.std.proofs.Common.{◌≡◌, ◌∙◌, ℤ, FitsSigned, w32, w64, to_z, of_z, ap, arith}
+use Rattle.std.proofs.lemmas.Int.{ints, to_z-of_z}
+use Rattle.fr_drift.specs.Questions.{start_of}
+use Rattle.fr_node.specs.Cycle.{fresh}
+use Rattle.fr_history.specs.Terms.{outcomes_in}
+use Rattle.fr_world.specs.Standing.{node_behind, readings_behind}
+use Rattle.fr_world.proofs.building.fresh_node.Goals as goal
+
+pub returns-clause-node : goal.returns-clause-node
+unfolding node_behind readings_behind outcomes_in
+returns-clause-node c =
+    let p = c.args.files.now.params in
+    let id = c.args.spec.now.id in
+    let start : FitsSigned w64 c.start-start.result = omega (arith, ints) in
+    let rate : FitsSigned w32 c.rate-rate.result = omega (arith, ints) in
+    let made : c.new.result ≡ fresh p id c.start-start.result c.rate-rate.result = simp to_z-of_z at c.new.ensures.value in
+    made
+    ∙ ap (λ (start : ℤ). fresh p id start c.rate-rate.result) c.start-start.ensures.value
+    ∙ ap (λ (rate : ℤ). fresh p id (start_of c.args.files.now.drift id) rate) c.rate-rate.ensures.value
