@@ -49,8 +49,8 @@ pub(crate) fn first_change(params: &Params, drift: &Drift, node: NodeId) -> Opti
     None
 }
 
-/// The first cycle of the run in which frames travel too short or too long over a link on a channel. It takes
-/// time as the link has rows of delays there.
+/// The first cycle of the run in which frames travel for too short or too long a time over a link on a channel.
+/// It takes time as the link has rows of delays there.
 pub(crate) fn first_delay(
     params: &Params,
     drift: &Drift,
