@@ -1,12 +1,11 @@
 -- The tables of the nodes after the slots of a cycle are as the history records them.
-use Rattle.std.proofs.Common.{◌≡◌, ◌≢◌, ◌⊎◌, ℕ, zero, suc, ◌+◌, ◌<◌, ◌≤◌, ◌==◌, ◌%◌, ℤ, Bool, true, false, not, Option, Some, None, List, [], ◌∷◌, map, length, get_or, replicate, refl, ap, ap₂, sym, ◌∙◌, subst, inl, inr, arith, if◌then◌else◌}
+use Rattle.std.proofs.Common.{◌≡◌, ℕ, zero, suc, ◌+◌, ◌<◌, ◌≤◌, ◌%◌, ℤ, Bool, true, false, Option, Some, None, List, [], ◌∷◌, length, get_or, replicate, refl, ap, ap₂, sym, ◌∙◌, arith, if◌then◌else◌}
 use Rattle.std.proofs.lemmas.List.{length-replicate}
 use Rattle.std.specs.Prelude.{option_and_then}
 use Rattle.std.specs.List.{cons_option, filter_map, range_with_len}
 use Rattle.fr_base.specs.declared.channel.Channel.{Channel}
 use Rattle.fr_base.specs.declared.channel.Channel.TheVariants.{A, B}
 use Rattle.fr_base.specs.declared.dev.Dev.{Dev}
-use Rattle.fr_base.specs.declared.node_row.NodeRow.{NodeRow}
 use Rattle.fr_params.specs.Sane.{IsSane}
 use Rattle.fr_params.specs.Values.{Values, amount}
 use Rattle.fr_params.specs.Questions.{key_index_of}
@@ -17,10 +16,9 @@ use Rattle.fr_measure.specs.Readings.{Readings, column, no_readings, reading}
 use Rattle.fr_measure.specs.Values.{change_of, least_of, mean_of, offset_at, own_value_or, rate_at, values_of}
 use Rattle.fr_node.proofs.KeyIndexes.{index_is_own}
 use Rattle.fr_history.specs.Setting.{Setting, correct_nodes}
-use Rattle.fr_history.specs.History.{History, Record}
+use Rattle.fr_history.specs.History.{History}
 use Rattle.fr_history.specs.Next.{early_row, early_rows, next_devs, next_record}
 use Rattle.fr_history.specs.Terms.{dev_in, deviations_of, key_slot_of, latest_devs}
-use Rattle.fr_world.specs.Hearing.{stored_in}
 use Rattle.fr_world.specs.Standing.{column_of, readings_behind, readings_of, recorded_at}
 use Rattle.fr_world.proofs.Devs.{dev_in-next}
 use Rattle.fr_world.proofs.Flat.{Among, get_or-map-range, length-map-range, same_lists}
@@ -65,9 +63,9 @@ heard_column x sane h node is odd t table c none =
     let other : length (column_of x.params (next_devs x h) node.id c) ≡ 15 = length-map-range (recorded_at x.params (next_devs x h) node.id c) 0 15 in
     same_lists None (column heard odd c) (column_of x.params (next_devs x h) node.id c) (long ∙ sym other)
     (λ index below.
-      let small : index < 15 = omega (arith, long) in
-      reading_by x sane h node is odd t table index c small (none index) (key_slot_of x.params index) refl
-      ∙ sym (get_or-map-range (recorded_at x.params (next_devs x h) node.id c) None 0 15 index small ∙ ap (recorded_at x.params (next_devs x h) node.id c) (zero_plus index)))
+    let small : index < 15 = omega (arith, long) in
+    reading_by x sane h node is odd t table index c small (none index) (key_slot_of x.params index) refl
+    ∙ sym (get_or-map-range (recorded_at x.params (next_devs x h) node.id c) None 0 15 index small ∙ ap (recorded_at x.params (next_devs x h) node.id c) (zero_plus index)))
 
 -- ---- the column of the other cycle
 
@@ -89,8 +87,8 @@ empty_column p node c =
     let wide : length (replicate 15 (let o : Option ℤ = None in o)) ≡ 15 = length-replicate 15 (let o : Option ℤ = None in o) in
     same_lists None (replicate 15 None) (column_of p [] node c) (wide ∙ sym long)
     (λ index below.
-      let small : index < 15 = omega (arith, wide) in
-      none_at 15 index ∙ sym (get_or-map-range (recorded_at p [] node c) None 0 15 index small ∙ none_recorded p node c (0 + index)))
+    let small : index < 15 = omega (arith, wide) in
+    none_at 15 index ∙ sym (get_or-map-range (recorded_at p [] node c) None 0 15 index small ∙ none_recorded p node c (0 + index)))
 
 -- ---- tables by their columns
 
@@ -111,6 +109,7 @@ empty_reading index odd c = column_none odd c
   where
     none : get_or (replicate 15 (let o : Option ℤ = None in o)) index None ≡ None
     none = none_at 15 index
+
     column_none : (o : Bool) (d : Channel) → get_or (column no_readings o d) index None ≡ None
     column_none false A = none
     column_none false B = none
@@ -140,10 +139,12 @@ heard_even x sane h node is = readings_same (heard_table x h node.id false no_re
   where
     here : (c : Channel) → column (heard_table x h node.id false no_readings) false c ≡ column_of x.params (next_devs x h) node.id c
     here c = heard_column x sane h node is false no_readings empty-table c (λ index. empty_reading index false c)
+
     there : (c : Channel) → column (heard_table x h node.id false no_readings) true c ≡ column no_readings true c
     there c = other_column x (length h) (early_rows x h) (early_row x h node.id) false no_readings c (amount x.params name.gNumberOfStaticSlots)
+
     by_column : (odd : Bool) (c : Channel) → column (heard_table x h node.id false no_readings) odd c
-      ≡ column (record { even_a = column_of x.params (next_devs x h) node.id A; even_b = column_of x.params (next_devs x h) node.id B; odd_a = column_of x.params [] node.id A; odd_b = column_of x.params [] node.id B }) odd c
+        ≡ column (record { even_a = column_of x.params (next_devs x h) node.id A; even_b = column_of x.params (next_devs x h) node.id B; odd_a = column_of x.params [] node.id A; odd_b = column_of x.params [] node.id B }) odd c
     by_column false A = here A
     by_column false B = here B
     by_column true A = there A ∙ empty_column x.params node.id A
@@ -208,16 +209,16 @@ unfolding values_of
 offset_values_same p evens odds node own =
     filter_map_range (offset_at (reading (readings_of p evens odds node)) own) (offset_at (deviations_of p evens odds node) own) 0 15
     (λ index low high.
-      let small : index < 15 = omega arith in
-      ap (own_value_or own index) (ap₂ least_of (recorded_reading p evens odds node index true A small) (recorded_reading p evens odds node index true B small)))
+    let small : index < 15 = omega arith in
+    ap (own_value_or own index) (ap₂ least_of (recorded_reading p evens odds node index true A small) (recorded_reading p evens odds node index true B small)))
 
 pub rate_values_same : (p : Values) (evens odds : List Dev) (node : ℕ) (own : Option ℕ) → values_of (rate_at (reading (readings_of p evens odds node)) own) ≡ values_of (rate_at (deviations_of p evens odds node) own)
 unfolding values_of
 rate_values_same p evens odds node own =
     filter_map_range (rate_at (reading (readings_of p evens odds node)) own) (rate_at (deviations_of p evens odds node) own) 0 15
     (λ index low high.
-      let small : index < 15 = omega arith in
-      ap (own_value_or own index)
-      (ap₂ mean_of
-      (ap₂ change_of (recorded_reading p evens odds node index false A small) (recorded_reading p evens odds node index true A small))
-      (ap₂ change_of (recorded_reading p evens odds node index false B small) (recorded_reading p evens odds node index true B small))))
+    let small : index < 15 = omega arith in
+    ap (own_value_or own index)
+    (ap₂ mean_of
+    (ap₂ change_of (recorded_reading p evens odds node index false A small) (recorded_reading p evens odds node index true A small))
+    (ap₂ change_of (recorded_reading p evens odds node index false B small) (recorded_reading p evens odds node index true B small))))

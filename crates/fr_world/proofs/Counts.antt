@@ -1,11 +1,11 @@
 -- The counts of a cycle, slot by slot, are those of the next record.
-use Rattle.std.proofs.Common.{◌≡◌, ℕ, zero, suc, ◌+◌, ◌<◌, ◌≤◌, Bool, true, false, cond, Option, Some, None, List, [], ◌∷◌, ◌++◌, map, length, refl, ap, ap₂, sym, ◌∙◌, arith, bit_xor, append-nil}
-use Rattle.std.specs.Prelude.{count_by, fold, option_and_then}
+use Rattle.std.proofs.Common.{◌≡◌, ℕ, zero, suc, ◌+◌, Bool, cond, Option, Some, None, List, [], ◌∷◌, ◌++◌, map, length, refl, ap, ap₂, sym, ◌∙◌, arith, bit_xor}
+use Rattle.std.specs.Prelude.{count_by, fold}
 use Rattle.std.specs.List.{cons_option, filter_map, flat_map, range_with_len, sum_by}
 use Rattle.std.specs.Option.{option_map_or, option_to_list}
 use Rattle.std.proofs.lemmas.List.{length-append}
 use Rattle.std.proofs.lemmas.List.Elements.{filter_map-append}
-use Rattle.std.proofs.lemmas.List.Sums.{fold-append, sum_by-append, sum_by-cons}
+use Rattle.std.proofs.lemmas.List.Sums.{fold-append, sum_by-cons}
 use Rattle.fr_base.specs.declared.channel.Channel.{Channel}
 use Rattle.fr_base.specs.declared.channel.Channel.TheVariants.{A, B}
 use Rattle.fr_base.specs.declared.cycle_row.Counts.{Counts}
@@ -22,10 +22,9 @@ use Rattle.fr_history.specs.Setting.{Setting}
 use Rattle.fr_history.specs.History.{History}
 use Rattle.fr_history.specs.Kinds.{is_stored, is_outside, is_damaged, is_wrong_id, is_wrong_cycle, is_wrong_length, is_plain}
 use Rattle.fr_history.specs.Lawful.{crcs_sum}
-use Rattle.fr_history.specs.Next.{early_rows, next_counts, next_receptions}
-use Rattle.fr_history.specs.Offers.{channels, frame_in, frames_on, offer_in, offers_among, offers_to, reception_of, receptions_among, slots_of}
+use Rattle.fr_history.specs.Next.{early_rows, next_counts}
+use Rattle.fr_history.specs.Offers.{channels, frame_in, offer_in, offers_among, offers_to, reception_of, receptions_among, slots_of}
 use Rattle.fr_world.specs.Counting.{counted, counted_frame, counted_offer, counted_offers, counted_sent, counts_after, counts_in, counts_on, no_counts}
-use Rattle.fr_world.proofs.Flat.{flat_map_same}
 use Rattle.fr_world.proofs.Sums.{range_more, sum_by-flat_map, sum_by-map, sum_by-more, sum_by-plus, sum_by-same, sum_by-turned}
 
 -- ---- one kind of answers
@@ -156,6 +155,7 @@ stored-kind = record { heard = by_heard; sent = by_channel; none = refl }
     by_heard (Ignored (reason.WrongCycle o g)) c = plus_none c.stored
     by_heard (Ignored (reason.WrongLength o g)) c = plus_none c.stored
     by_heard (Ignored reason.Plain) c = plus_none c.stored
+
     by_channel : (channel : Channel) (frame : List ℕ) (c : Counts) → (counted_sent channel frame c).stored ≡ c.stored
     by_channel A frame c = refl
     by_channel B frame c = refl
@@ -171,6 +171,7 @@ outside-kind = record { heard = by_heard; sent = by_channel; none = refl }
     by_heard (Ignored (reason.WrongCycle o g)) c = plus_none c.outside
     by_heard (Ignored (reason.WrongLength o g)) c = plus_none c.outside
     by_heard (Ignored reason.Plain) c = plus_none c.outside
+
     by_channel : (channel : Channel) (frame : List ℕ) (c : Counts) → (counted_sent channel frame c).outside ≡ c.outside
     by_channel A frame c = refl
     by_channel B frame c = refl
@@ -186,6 +187,7 @@ damaged-kind = record { heard = by_heard; sent = by_channel; none = refl }
     by_heard (Ignored (reason.WrongCycle o g)) c = plus_none c.damaged
     by_heard (Ignored (reason.WrongLength o g)) c = plus_none c.damaged
     by_heard (Ignored reason.Plain) c = plus_none c.damaged
+
     by_channel : (channel : Channel) (frame : List ℕ) (c : Counts) → (counted_sent channel frame c).damaged ≡ c.damaged
     by_channel A frame c = refl
     by_channel B frame c = refl
@@ -201,6 +203,7 @@ wrong_id-kind = record { heard = by_heard; sent = by_channel; none = refl }
     by_heard (Ignored (reason.WrongCycle o g)) c = plus_none c.wrong_id
     by_heard (Ignored (reason.WrongLength o g)) c = plus_none c.wrong_id
     by_heard (Ignored reason.Plain) c = plus_none c.wrong_id
+
     by_channel : (channel : Channel) (frame : List ℕ) (c : Counts) → (counted_sent channel frame c).wrong_id ≡ c.wrong_id
     by_channel A frame c = refl
     by_channel B frame c = refl
@@ -216,6 +219,7 @@ wrong_cycle-kind = record { heard = by_heard; sent = by_channel; none = refl }
     by_heard (Ignored (reason.WrongCycle o g)) c = refl
     by_heard (Ignored (reason.WrongLength o g)) c = plus_none c.wrong_cycle
     by_heard (Ignored reason.Plain) c = plus_none c.wrong_cycle
+
     by_channel : (channel : Channel) (frame : List ℕ) (c : Counts) → (counted_sent channel frame c).wrong_cycle ≡ c.wrong_cycle
     by_channel A frame c = refl
     by_channel B frame c = refl
@@ -231,6 +235,7 @@ wrong_length-kind = record { heard = by_heard; sent = by_channel; none = refl }
     by_heard (Ignored (reason.WrongCycle o g)) c = plus_none c.wrong_length
     by_heard (Ignored (reason.WrongLength o g)) c = refl
     by_heard (Ignored reason.Plain) c = plus_none c.wrong_length
+
     by_channel : (channel : Channel) (frame : List ℕ) (c : Counts) → (counted_sent channel frame c).wrong_length ≡ c.wrong_length
     by_channel A frame c = refl
     by_channel B frame c = refl
@@ -246,6 +251,7 @@ plain-kind = record { heard = by_heard; sent = by_channel; none = refl }
     by_heard (Ignored (reason.WrongCycle o g)) c = plus_none c.plain
     by_heard (Ignored (reason.WrongLength o g)) c = plus_none c.plain
     by_heard (Ignored reason.Plain) c = refl
+
     by_channel : (channel : Channel) (frame : List ℕ) (c : Counts) → (counted_sent channel frame c).plain ≡ c.plain
     by_channel A frame c = refl
     by_channel B frame c = refl
@@ -351,9 +357,10 @@ slots_sent_a x cycle rows (suc earlier) =
     let before = slots_sent_a x cycle rows earlier in
     let frames : List (List ℕ) = filter_map (λ slot. frame_in x cycle rows slot A) (range_with_len 1 earlier) in
     let more : List (List ℕ) = option_to_list (frame_in x cycle rows (suc earlier) A) in
-    let here = slot_sent_a x cycle rows (suc earlier) (counts_after x cycle rows earlier no_counts) in
-    (here.0 ∙ ap (λ (n : ℕ). n + length more) before.0 ∙ sym (length-append frames more) ∙ sym (ap length (frames_more x cycle rows A earlier)),
-     here.1 ∙ ap (λ (n : ℕ). fold (λ sum f. bit_xor sum (carried_crc f)) n more) before.1 ∙ sym (fold-append (λ (sum : ℕ) (f : List ℕ). bit_xor sum (carried_crc f)) 0 frames more) ∙ sym (ap crcs_sum (frames_more x cycle rows A earlier)))
+    let here = slot_sent_a x cycle rows (suc earlier) (counts_after x cycle rows earlier no_counts) in (
+      here.0 ∙ ap (λ (n : ℕ). n + length more) before.0 ∙ sym (length-append frames more) ∙ sym (ap length (frames_more x cycle rows A earlier)),
+      here.1 ∙ ap (λ (n : ℕ). fold (λ sum f. bit_xor sum (carried_crc f)) n more) before.1 ∙ sym (fold-append (λ (sum : ℕ) (f : List ℕ). bit_xor sum (carried_crc f)) 0 frames more) ∙ sym (ap crcs_sum (frames_more x cycle rows A earlier)),
+    )
 
 slot_sent_b : (x : Setting) (cycle : ℕ) (rows : List NodeRow) (slot : ℕ) (c : Counts) →
     ((counts_in x cycle rows slot c).sent_b ≡ c.sent_b + length (option_to_list (frame_in x cycle rows slot B)))
@@ -378,23 +385,33 @@ slots_sent_b x cycle rows (suc earlier) =
     let before = slots_sent_b x cycle rows earlier in
     let frames : List (List ℕ) = filter_map (λ slot. frame_in x cycle rows slot B) (range_with_len 1 earlier) in
     let more : List (List ℕ) = option_to_list (frame_in x cycle rows (suc earlier) B) in
-    let here = slot_sent_b x cycle rows (suc earlier) (counts_after x cycle rows earlier no_counts) in
-    (here.0 ∙ ap (λ (n : ℕ). n + length more) before.0 ∙ sym (length-append frames more) ∙ sym (ap length (frames_more x cycle rows B earlier)),
-     here.1 ∙ ap (λ (n : ℕ). fold (λ sum f. bit_xor sum (carried_crc f)) n more) before.1 ∙ sym (fold-append (λ (sum : ℕ) (f : List ℕ). bit_xor sum (carried_crc f)) 0 frames more) ∙ sym (ap crcs_sum (frames_more x cycle rows B earlier)))
+    let here = slot_sent_b x cycle rows (suc earlier) (counts_after x cycle rows earlier no_counts) in (
+      here.0 ∙ ap (λ (n : ℕ). n + length more) before.0 ∙ sym (length-append frames more) ∙ sym (ap length (frames_more x cycle rows B earlier)),
+      here.1 ∙ ap (λ (n : ℕ). fold (λ sum f. bit_xor sum (carried_crc f)) n more) before.1 ∙ sym (fold-append (λ (sum : ℕ) (f : List ℕ). bit_xor sum (carried_crc f)) 0 frames more) ∙ sym (ap crcs_sum (frames_more x cycle rows B earlier)),
+    )
 
 -- ---- all counts
 
 counts_with : ℕ → ℕ → ℕ → ℕ → ℕ → ℕ → ℕ → ℕ → ℕ → ℕ → ℕ → Counts
 counts_with sa sb xa xb stored outside damaged id cycle long plain = record {
-  sent_a = sa; sent_b = sb; xor_a = xa; xor_b = xb; stored = stored; outside = outside; damaged = damaged;
-  wrong_id = id; wrong_cycle = cycle; wrong_length = long; plain = plain;
+  sent_a = sa;
+  sent_b = sb;
+  xor_a = xa;
+  xor_b = xb;
+  stored = stored;
+  outside = outside;
+  damaged = damaged;
+  wrong_id = id;
+  wrong_cycle = cycle;
+  wrong_length = long;
+  plain = plain;
 }
 
 counts_same : (a b : Counts) → a.sent_a ≡ b.sent_a → a.sent_b ≡ b.sent_b → a.xor_a ≡ b.xor_a → a.xor_b ≡ b.xor_b → a.stored ≡ b.stored → a.outside ≡ b.outside → a.damaged ≡ b.damaged → a.wrong_id ≡ b.wrong_id → a.wrong_cycle ≡ b.wrong_cycle → a.wrong_length ≡ b.wrong_length → a.plain ≡ b.plain → a ≡ b
 unfolding counts_with
 counts_same a b h0 h1 h2 h3 h4 h5 h6 h7 h8 h9 h10 =
     let made : counts_with a.sent_a a.sent_b a.xor_a a.xor_b a.stored a.outside a.damaged a.wrong_id a.wrong_cycle a.wrong_length a.plain
-      ≡ counts_with b.sent_a b.sent_b b.xor_a b.xor_b b.stored b.outside b.damaged b.wrong_id b.wrong_cycle b.wrong_length b.plain = cc in
+    ≡ counts_with b.sent_a b.sent_b b.xor_a b.xor_b b.stored b.outside b.damaged b.wrong_id b.wrong_cycle b.wrong_length b.plain = cc in
     made
 
 pub all_counted : (x : Setting) (h : History) → counts_after x (length h) (early_rows x h) (amount x.params name.gNumberOfStaticSlots) no_counts ≡ next_counts x h

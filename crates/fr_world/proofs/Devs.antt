@@ -1,11 +1,10 @@
 -- The deviations of a cycle, part by part: what the rules list is what the nodes' rows store, slot by slot.
-use Rattle.std.proofs.Common.{◌≡◌, ◌≢◌, ◌⊎◌, ℕ, ◌<◌, ◌≤◌, ◌+◌, ◌==◌, ◌&&◌, ℤ, Bool, true, false, Option, Some, None, IfSome, List, [], ◌∷◌, map, length, refl, ap, sym, ◌∙◌, inl, inr, arith}
+use Rattle.std.proofs.Common.{◌≡◌, ◌≢◌, ◌⊎◌, ℕ, ◌≤◌, ◌==◌, ℤ, Bool, true, false, Option, Some, None, IfSome, List, map, length, refl, ap, ◌∙◌, inl, inr, arith}
 use Rattle.std.specs.Prelude.{find, option_and_then}
-use Rattle.std.specs.List.{filter_map, flat_map, range_with_len}
+use Rattle.std.specs.List.{filter_map, flat_map}
 use Rattle.std.specs.Option.{option_map, option_to_list}
 use Rattle.std.proofs.lemmas.List.Folds.{flat_map-map}
 use Rattle.std.proofs.lemmas.Bool.{ne_eqb}
-use Rattle.fr_base.specs.Rows.{rank_of}
 use Rattle.fr_base.specs.declared.channel.Channel.{Channel}
 use Rattle.fr_base.specs.declared.channel.Channel.TheVariants.{A, B}
 use Rattle.fr_base.specs.declared.dev.Dev.{Dev}
@@ -130,6 +129,7 @@ find_in_slot x cycle rows row slot A =
   where
     here : find (is_dev_of row.node slot A) (stored_at x cycle rows row slot A) ≡ option_map (dev_with row.node slot A) (stored_in x cycle rows row slot A)
     here = find_in_one (is_dev_of row.node slot A) (dev_with row.node slot A) (stored_in x cycle rows row slot A) (found_dev row.node slot A)
+
     each : (c : Channel) → Among c channels → (find (is_dev_of row.node slot A) (stored_at x cycle rows row slot c) ≡ None) ⊎ (find (is_dev_of row.node slot A) (stored_at x cycle rows row slot c) ≡ option_map (dev_with row.node slot A) (stored_in x cycle rows row slot A))
     each A is = inr (find_in_one (is_dev_of row.node slot A) (dev_with row.node slot A) (stored_in x cycle rows row slot A) (found_dev row.node slot A))
     each B is = inl (find_in_none (is_dev_of row.node slot A) (dev_with row.node slot B) (stored_in x cycle rows row slot B) (other_a row.node slot))
@@ -138,6 +138,7 @@ find_in_slot x cycle rows row slot B =
   where
     here : find (is_dev_of row.node slot B) (stored_at x cycle rows row slot B) ≡ option_map (dev_with row.node slot B) (stored_in x cycle rows row slot B)
     here = find_in_one (is_dev_of row.node slot B) (dev_with row.node slot B) (stored_in x cycle rows row slot B) (found_dev row.node slot B)
+
     each : (c : Channel) → Among c channels → (find (is_dev_of row.node slot B) (stored_at x cycle rows row slot c) ≡ None) ⊎ (find (is_dev_of row.node slot B) (stored_at x cycle rows row slot c) ≡ option_map (dev_with row.node slot B) (stored_in x cycle rows row slot B))
     each A is = inl (find_in_none (is_dev_of row.node slot B) (dev_with row.node slot A) (stored_in x cycle rows row slot A) (other_b row.node slot))
     each B is = inr (find_in_one (is_dev_of row.node slot B) (dev_with row.node slot B) (stored_in x cycle rows row slot B) (found_dev row.node slot B))
@@ -185,7 +186,7 @@ dev_in-next x h node slot channel is low high =
     ∙ wanted_value node.id slot channel (stored_in x (length h) rows (early_row x h node.id) slot channel)
   where
     by_id : (spec : NodeSpec) → (spec.id ≡ node.id) ⊎ (spec.id ≢ node.id) →
-      (find (is_dev_of node.id slot channel) (stored_of x (length h) (early_rows x h) (early_row x h spec.id)) ≡ None)
-      ⊎ (find (is_dev_of node.id slot channel) (stored_of x (length h) (early_rows x h) (early_row x h spec.id)) ≡ wanted x (length h) (early_rows x h) (early_row x h node.id) slot channel)
+        (find (is_dev_of node.id slot channel) (stored_of x (length h) (early_rows x h) (early_row x h spec.id)) ≡ None)
+        ⊎ (find (is_dev_of node.id slot channel) (stored_of x (length h) (early_rows x h) (early_row x h spec.id)) ≡ wanted x (length h) (early_rows x h) (early_row x h node.id) slot channel)
     by_id spec (inl same) = inr (ap (λ (id : ℕ). find (is_dev_of node.id slot channel) (stored_of x (length h) (early_rows x h) (early_row x h id))) same ∙ find_in_row x (length h) (early_rows x h) (early_row x h node.id) slot channel low high)
     by_id spec (inr ne) = inl (find_in_other x (length h) (early_rows x h) (early_row x h spec.id) node.id slot channel ne)

@@ -1,8 +1,8 @@
 -- Lists that are put behind one another: mapped, filtered, searched.
-use Rattle.std.proofs.Common.{◌≡◌, ◌⊎◌, ℕ, zero, suc, ◌+◌, ◌<◌, ◌≤◌, Bool, true, false, cond, Option, Some, None, List, [], ◌∷◌, ◌++◌, length, map, get_or, refl, ap, ap₂, sym, ◌∙◌, inl, inr, arith, append-nil}
+use Rattle.std.proofs.Common.{◌≡◌, ◌⊎◌, ℕ, zero, suc, ◌+◌, ◌<◌, ◌≤◌, Bool, true, false, cond, Option, Some, None, List, [], ◌∷◌, ◌++◌, length, map, get_or, refl, ap, ap₂, sym, ◌∙◌, inl, inr, arith}
 use Rattle.std.specs.Prelude.{filter, find, option_and_then}
 use Rattle.std.specs.List.{cons_option, filter_map, flat_map, range_with_len}
-use Rattle.std.specs.Option.{option_map, option_or, option_to_list}
+use Rattle.std.specs.Option.{option_or, option_to_list}
 use Rattle.std.proofs.lemmas.List.Elements.{filter_map-append}
 use Rattle.std.proofs.lemmas.List.Folds.{find-append}
 
@@ -69,6 +69,7 @@ find_within p f t (x ∷ xs) each = by_both (each x (among_here x xs)) (find_wit
   where
     joined : find p (f x ++ flat_map f xs) ≡ option_or (find p (f x)) (find p (flat_map f xs))
     joined = find-append p (f x) (flat_map f xs)
+
     by_both : (find p (f x) ≡ None) ⊎ (find p (f x) ≡ t) → (find p (flat_map f xs) ≡ None) ⊎ (find p (flat_map f xs) ≡ t) → (find p (f x ++ flat_map f xs) ≡ None) ⊎ (find p (f x ++ flat_map f xs) ≡ t)
     by_both (inl none) (inl rest) = inl (joined ∙ ap₂ option_or none rest)
     by_both (inl none) (inr rest) = inr (joined ∙ ap₂ option_or none rest)
@@ -83,8 +84,10 @@ find_found p f t (x ∷ xs) y (inl same) here each = by_rest (find_within p f t 
   where
     joined : find p (f x ++ flat_map f xs) ≡ option_or (find p (f x)) (find p (flat_map f xs))
     joined = find-append p (f x) (flat_map f xs)
+
     head : find p (f x) ≡ t
     head = ap (λ z. find p (f z)) (sym same) ∙ here
+
     by_rest : (find p (flat_map f xs) ≡ None) ⊎ (find p (flat_map f xs) ≡ t) → find p (f x ++ flat_map f xs) ≡ t
     by_rest (inl rest) = joined ∙ ap₂ option_or head rest ∙ or_none t
     by_rest (inr rest) = joined ∙ ap₂ option_or head rest ∙ or_same t
@@ -92,6 +95,7 @@ find_found p f t (x ∷ xs) y (inr is) here each = by_head (each x (inl refl)) (
   where
     joined : find p (f x ++ flat_map f xs) ≡ option_or (find p (f x)) (find p (flat_map f xs))
     joined = find-append p (f x) (flat_map f xs)
+
     by_head : (find p (f x) ≡ None) ⊎ (find p (f x) ≡ t) → find p (flat_map f xs) ≡ t → find p (f x ++ flat_map f xs) ≡ t
     by_head (inl none) rest = joined ∙ ap₂ option_or none rest
     by_head (inr head) rest = joined ∙ ap₂ option_or head rest ∙ or_same t

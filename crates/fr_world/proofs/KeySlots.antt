@@ -1,7 +1,7 @@
 -- Key slots and their indexes.
-use Rattle.std.proofs.Common.{◌≡◌, ◌≢◌, ◌⊎◌, ℕ, ◌<◌, ◌≤◌, ◌==◌, Bool, true, false, cond, ◌||◌, Option, Some, None, IfSome, List, [], ◌∷◌, All, refl, ap, sym, ◌∙◌, subst, inl, inr, arith, if◌then◌else◌}
-use Rattle.std.specs.Prelude.{find, count_by, nat_lt, is_some}
-use Rattle.std.specs.List.{cons_option, filter_map, list_any}
+use Rattle.std.proofs.Common.{◌≡◌, ◌≢◌, ◌⊎◌, ℕ, ◌≤◌, ◌==◌, Bool, true, false, ◌||◌, Option, Some, None, IfSome, List, [], ◌∷◌, All, refl, ap, sym, ◌∙◌, subst, inl, inr, arith, if◌then◌else◌}
+use Rattle.std.specs.Prelude.{find, count_by, nat_lt}
+use Rattle.std.specs.List.{cons_option, list_any}
 use Rattle.std.specs.Option.{option_map_or}
 use Rattle.std.proofs.lemmas.List.Elements.{All-head, All-tail}
 use Rattle.fr_params.specs.Values.{Values, amount}
@@ -37,9 +37,9 @@ not_found p (y ∷ xs) x none is = by_test (p y) refl is (not_found p xs x)
   where
     by_test : (b : Bool) → p y ≡ b → (x ≡ y) ⊎ Among x xs → (find p xs ≡ None → Among x xs → p x ≡ false) → p x ≡ false
     by_test true passes any rest =
-      let here : find p (y ∷ xs) ≡ Some y = rw passes refl in
-      let found : Some y ≡ None = sym here ∙ none in
-      absurd (cc)
+        let here : find p (y ∷ xs) ≡ Some y = rw passes refl in
+        let found : Some y ≡ None = sym here ∙ none in
+        absurd (cc)
     by_test false fails (inl same) rest = ap p same ∙ fails
     by_test false fails (inr there) rest = let e : find p (y ∷ xs) ≡ find p xs = rw fails refl in rest (sym e ∙ none) there
 

@@ -1,11 +1,10 @@
 -- What the tables of the nodes list after the slots of a cycle are the deviations of the next record.
-use Rattle.std.proofs.Common.{◌≡◌, ◌≢◌, ℕ, ◌≤◌, ◌<◌, ◌+◌, ◌==◌, ℤ, Bool, true, false, not, ◌||◌, Option, Some, None, IfSome, List, [], ◌∷◌, map, length, refl, ap, sym, subst, ◌∙◌, arith, if◌then◌else◌}
+use Rattle.std.proofs.Common.{◌≡◌, ℕ, ◌≤◌, ◌<◌, ◌+◌, ◌==◌, ℤ, Bool, true, false, not, ◌||◌, Option, Some, None, IfSome, List, [], ◌∷◌, map, length, refl, ap, sym, subst, ◌∙◌, arith, if◌then◌else◌}
 use Rattle.std.specs.Prelude.{int_le, int_lt, is_none, is_some, option_and_then, Result, Ok, Err}
-use Rattle.std.specs.List.{flat_map, range_with_len}
+use Rattle.std.specs.List.{flat_map}
 use Rattle.std.specs.Option.{option_map, option_to_list}
 use Rattle.std.proofs.lemmas.List.Folds.{flat_map-map}
 use Rattle.fr_base.specs.declared.channel.Channel.{Channel}
-use Rattle.fr_base.specs.declared.channel.Channel.TheVariants.{A, B}
 use Rattle.fr_base.specs.declared.dev.Dev.{Dev}
 use Rattle.fr_base.specs.declared.node_row.NodeRow.{NodeRow}
 use Rattle.fr_frame.specs.Reading.{read_as}
@@ -33,7 +32,7 @@ use Rattle.fr_history.specs.Terms.{latest_devs}
 use Rattle.fr_world.specs.Hearing.{stored_in, value_of}
 use Rattle.fr_world.specs.Listing.{dev_with, listed_among, listed_at, listed_of, ordered_keys}
 use Rattle.fr_world.specs.Standing.{node_behind, readings_behind}
-use Rattle.fr_world.proofs.Columns.{begun_odd, begun_table, empty_reading, empty-table, heard_table, next_table, no_odd_reading, one_to_one, recorded-table}
+use Rattle.fr_world.proofs.Columns.{begun_odd, begun_table, empty_reading, empty-table, next_table, no_odd_reading, one_to_one, recorded-table}
 use Rattle.fr_world.proofs.Devs.{next_devs_are, stored_at, stored_of}
 use Rattle.fr_world.proofs.Flat.{Among, flat_map-filter, flat_map_same, range_from, range_to}
 use Rattle.fr_world.proofs.Marks.{HasMarks, offer_in-marked}
@@ -118,8 +117,9 @@ empty_slot p odd node slot none = by_key (key_index_of p slot) none
   where
     at : Option ℕ → Channel → List Dev
     at k c = option_to_list (option_map (dev_with node.id slot c) (option_and_then (λ index. reading node.table index odd c) k))
+
     by_key : (k : Option ℕ) → is_some k ≡ false →
-      flat_map (λ c. option_to_list (option_map (dev_with node.id slot c) (option_and_then (λ index. reading node.table index odd c) k))) channels ≡ []
+        flat_map (λ c. option_to_list (option_map (dev_with node.id slot c) (option_and_then (λ index. reading node.table index odd c) k))) channels ≡ []
     by_key None is = refl
     by_key (Some index) is = absurd (cc)
 
@@ -131,10 +131,10 @@ node_lists x sane h node is =
     ∙ flat_map_same (λ slot. flat_map (listed_at x.params (is_odd (length h)) (heard_node x h node.id) slot) channels)
     (λ slot. flat_map (stored_at x (length h) (early_rows x h) (early_row x h node.id) slot) channels) (slots_of x)
     (λ slot there.
-      let low : 1 ≤ slot = range_from 1 (amount x.params name.gNumberOfStaticSlots) slot there in
-      let high : slot < 1 + amount x.params name.gNumberOfStaticSlots = range_to 1 (amount x.params name.gNumberOfStaticSlots) slot there in
-      flat_map_same (listed_at x.params (is_odd (length h)) (heard_node x h node.id) slot) (stored_at x (length h) (early_rows x h) (early_row x h node.id) slot) channels
-      (λ c _. listed_is_stored x sane h node is slot c low (omega arith)))
+    let low : 1 ≤ slot = range_from 1 (amount x.params name.gNumberOfStaticSlots) slot there in
+    let high : slot < 1 + amount x.params name.gNumberOfStaticSlots = range_to 1 (amount x.params name.gNumberOfStaticSlots) slot there in
+    flat_map_same (listed_at x.params (is_odd (length h)) (heard_node x h node.id) slot) (stored_at x (length h) (early_rows x h) (early_row x h node.id) slot) channels
+    (λ c _. listed_is_stored x sane h node is slot c low (omega arith)))
 
 -- the deviations that the nodes list are those of the next record
 pub all_listed : (x : Setting) → IsSane x.params → (h : History) → listed_among x.params (is_odd (length h)) (ordered_keys x) (map (λ node. heard_node x h node.id) (correct_nodes x)) ≡ next_devs x h

@@ -205,18 +205,18 @@ used_reading x one cycle rows row odd t is index slot c below same none (suc ear
     by_place (used_reading x one cycle rows row odd t is index slot c below same none earlier low) (grind arith)
   where
     by_place : (slot ≤ earlier → reading (table_after x cycle rows row odd earlier t) index odd c ≡ stored_in x cycle rows row slot c) → (slot ≤ earlier) ⊎ (slot ≡ suc earlier) →
-      reading (slot_table x cycle rows row odd (suc earlier) (table_after x cycle rows row odd earlier t)) index odd c ≡ stored_in x cycle rows row slot c
+        reading (slot_table x cycle rows row odd (suc earlier) (table_after x cycle rows row odd earlier t)) index odd c ≡ stored_in x cycle rows row slot c
     by_place before (inl less) =
-      slot_other x cycle rows row odd (suc earlier) (table_after x cycle rows row odd earlier t) index odd c
-      (λ (again : key_index_of x.params (suc earlier) ≡ Some index). let e : slot ≡ suc earlier = one slot (suc earlier) index same again in omega arith)
-      ∙ before less
+        slot_other x cycle rows row odd (suc earlier) (table_after x cycle rows row odd earlier t) index odd c
+        (λ (again : key_index_of x.params (suc earlier) ≡ Some index). let e : slot ≡ suc earlier = one slot (suc earlier) index same again in omega arith)
+        ∙ before less
     by_place before (inr here) =
-      let k : key_index_of x.params (suc earlier) ≡ Some index = ap (key_index_of x.params) (sym here) ∙ same in
-      let was : reading (table_after x cycle rows row odd earlier t) index odd c ≡ None =
-      unused_reading x cycle rows row odd t index odd c earlier
-      (λ s less (again : key_index_of x.params s ≡ Some index). let e : s ≡ slot = one s slot index again same in omega arith) ∙ none in
-      slot_here x cycle rows row odd (suc earlier) (table_after x cycle rows row odd earlier t) index c (table_after-table x cycle rows row odd earlier t is) below k was
-      ∙ ap (λ (s : ℕ). stored_in x cycle rows row s c) (sym here)
+        let k : key_index_of x.params (suc earlier) ≡ Some index = ap (key_index_of x.params) (sym here) ∙ same in
+        let was : reading (table_after x cycle rows row odd earlier t) index odd c ≡ None =
+        unused_reading x cycle rows row odd t index odd c earlier
+        (λ s less (again : key_index_of x.params s ≡ Some index). let e : s ≡ slot = one s slot index again same in omega arith) ∙ none in
+        slot_here x cycle rows row odd (suc earlier) (table_after x cycle rows row odd earlier t) index c (table_after-table x cycle rows row odd earlier t is) below k was
+        ∙ ap (λ (s : ℕ). stored_in x cycle rows row s c) (sym here)
 
 pub unkeyed_reading : (x : Setting) (cycle : ℕ) (rows : List NodeRow) (row : NodeRow) (odd : Bool) (t : Readings) (index : ℕ) (p : Bool) (c : Channel) (count : ℕ) →
     ((slot : ℕ) → key_index_of x.params slot ≢ Some index) → reading (table_after x cycle rows row odd count t) index p c ≡ reading t index p c
