@@ -1,6 +1,6 @@
 -- What is offered in a slot on a channel, by who sends there.
 use Rattle.std.proofs.Common.{◌≡◌, ℕ, Bool, true, false, not, cond, ◌&&◌, ◌||◌, ◌==◌, List, [], ◌∷◌, Option, Some, None, map, refl, ap, sym, subst, ◌∙◌, ap₂, zero, suc, ◌+◌, ◌*◌, ◌≤◌, length, ℤ, arith, add-one}
-use Rattle.std.specs.Prelude.{All, find, fold, if◌then◌else◌, option_and_then}
+use Rattle.std.specs.Prelude.{All, if◌then◌else◌, option_and_then}
 use Rattle.std.specs.Option.{option_map}
 use Rattle.std.proofs.lemmas.Bool.{eqb-true, cond_both}
 use Rattle.std.proofs.lemmas.List.Elements.{All-head, All-tail}
@@ -29,9 +29,8 @@ use Rattle.fr_history.specs.Offers.{active_frame, active_offer, frame_in, is_on,
 use Rattle.fr_world.specs.Counting.{counted_frame, counted_offer, counted_offers, counts_after, counts_in, counts_on, AreAtMost}
 use Rattle.fr_world.specs.Hearing.{after_channel, after_offer, after_slot, after_slots}
 use Rattle.fr_world.specs.Run.{setting_in, IsReady}
-use Rattle.fr_world.specs.Sending.{hears, offer_from, offer_heard, offered, sending_row_by, sending_row_in}
+use Rattle.fr_world.specs.Sending.{hears, offer_heard, sending_row_by, sending_row_in}
 use Rattle.fr_world.specs.declared.files.Files.{Files}
-use Rattle.fr_world.specs.declared.turn.Sender.{Sender}
 use Rattle.fr_world.specs.declared.turn.Turn.{Turn}
 
 -- ---- offers
@@ -90,8 +89,8 @@ active_row x turn sending None receiver row is = cc
 active_row x turn sending (Some sender) receiver row is =
     cond_both (is_active sender.state && is_on x sending.node turn.channel) (Some sender) None (λ o. o ≡ Some row → active_offer x turn.cycle sending (Some sender) receiver turn.slot turn.channel ≡ sent_offer x turn.cycle sending row receiver turn.slot turn.channel)
     (λ sends same. let e : sender ≡ row = cc in
-      ap (λ (b : Bool). cond b (sent_offer x turn.cycle sending sender receiver turn.slot turn.channel) None) sends
-      ∙ ap (λ (r : NodeRow). sent_offer x turn.cycle sending r receiver turn.slot turn.channel) e)
+    ap (λ (b : Bool). cond b (sent_offer x turn.cycle sending sender receiver turn.slot turn.channel) None) sends
+    ∙ ap (λ (r : NodeRow). sent_offer x turn.cycle sending r receiver turn.slot turn.channel) e)
     (λ quiet other. cc)
     is
 
@@ -133,6 +132,7 @@ framed x turn sending (Some row) = by (is_active row.state && is_on x sending.no
   where
     frame : List ℕ
     frame = regular_frame x.params sending turn.slot turn.cycle turn.channel
+
     by : (b : Bool) → cond b (Some frame) None ≡ option_map (λ row. frame) (cond b (Some row) None)
     by true = refl
     by false = refl
@@ -150,8 +150,8 @@ arbitrary-row f cycle [] node ready arbitrary = refl
 arbitrary-row f cycle (n ∷ ns) node ready arbitrary =
     cond_both (n.id == node) (Some (row_of n)) (row_in (map row_of ns) node) (λ o. o ≡ None)
     (λ same. let e : n.id ≡ node = eqb-true n.id node same in
-      let correct : is_arbitrary f.script node ≡ false = ap (is_arbitrary f.script) (sym e) ∙ (All-head (IsReady f cycle) n ns ready).correct in
-      cc)
+    let correct : is_arbitrary f.script node ≡ false = ap (is_arbitrary f.script) (sym e) ∙ (All-head (IsReady f cycle) n ns ready).correct in
+    cc)
     (λ other. arbitrary-row f cycle ns node (All-tail (IsReady f cycle) n ns ready) arbitrary)
 
 -- ---- all receivers

@@ -1,12 +1,11 @@
 -- The tables of the nodes after the slots of a cycle are as the history records them.
-use Rattle.std.proofs.Common.{◌≡◌, ◌≢◌, ◌⊎◌, ℕ, zero, suc, ◌+◌, ◌<◌, ◌≤◌, ◌==◌, ◌%◌, ℤ, Bool, true, false, not, Option, Some, None, List, [], ◌∷◌, map, length, get_or, replicate, refl, ap, ap₂, sym, ◌∙◌, subst, inl, inr, arith, if◌then◌else◌}
+use Rattle.std.proofs.Common.{◌≡◌, ℕ, zero, suc, ◌+◌, ◌<◌, ◌≤◌, ◌%◌, ℤ, Bool, true, false, Option, Some, None, List, [], ◌∷◌, length, get_or, replicate, refl, ap, ap₂, sym, ◌∙◌, arith, if◌then◌else◌}
 use Rattle.std.proofs.lemmas.List.{length-replicate}
 use Rattle.std.specs.Prelude.{option_and_then}
 use Rattle.std.specs.List.{cons_option, filter_map, range_with_len}
 use Rattle.fr_base.specs.declared.channel.Channel.{Channel}
 use Rattle.fr_base.specs.declared.channel.Channel.TheVariants.{A, B}
 use Rattle.fr_base.specs.declared.dev.Dev.{Dev}
-use Rattle.fr_base.specs.declared.node_row.NodeRow.{NodeRow}
 use Rattle.fr_params.specs.Sane.{IsSane}
 use Rattle.fr_params.specs.Values.{Values, amount}
 use Rattle.fr_params.specs.Questions.{key_index_of}
@@ -17,10 +16,9 @@ use Rattle.fr_measure.specs.Readings.{Readings, column, no_readings, reading}
 use Rattle.fr_measure.specs.Values.{change_of, least_of, mean_of, offset_at, own_value_or, rate_at, values_of}
 use Rattle.fr_node.proofs.KeyIndexes.{index_is_own}
 use Rattle.fr_history.specs.Setting.{Setting, correct_nodes}
-use Rattle.fr_history.specs.History.{History, Record}
+use Rattle.fr_history.specs.History.{History}
 use Rattle.fr_history.specs.Next.{early_row, early_rows, next_devs, next_record}
 use Rattle.fr_history.specs.Terms.{dev_in, deviations_of, key_slot_of, latest_devs}
-use Rattle.fr_world.specs.Hearing.{stored_in}
 use Rattle.fr_world.specs.Standing.{column_of, readings_behind, readings_of, recorded_at}
 use Rattle.fr_world.proofs.Devs.{dev_in-next}
 use Rattle.fr_world.proofs.Flat.{Among, get_or-map-range, length-map-range, same_lists}

@@ -1,11 +1,11 @@
 -- The counts of a cycle, slot by slot, are those of the next record.
-use Rattle.std.proofs.Common.{◌≡◌, ℕ, zero, suc, ◌+◌, ◌<◌, ◌≤◌, Bool, true, false, cond, Option, Some, None, List, [], ◌∷◌, ◌++◌, map, length, refl, ap, ap₂, sym, ◌∙◌, arith, bit_xor, append-nil}
-use Rattle.std.specs.Prelude.{count_by, fold, option_and_then}
+use Rattle.std.proofs.Common.{◌≡◌, ℕ, zero, suc, ◌+◌, Bool, cond, Option, Some, None, List, [], ◌∷◌, ◌++◌, map, length, refl, ap, ap₂, sym, ◌∙◌, arith, bit_xor}
+use Rattle.std.specs.Prelude.{count_by, fold}
 use Rattle.std.specs.List.{cons_option, filter_map, flat_map, range_with_len, sum_by}
 use Rattle.std.specs.Option.{option_map_or, option_to_list}
 use Rattle.std.proofs.lemmas.List.{length-append}
 use Rattle.std.proofs.lemmas.List.Elements.{filter_map-append}
-use Rattle.std.proofs.lemmas.List.Sums.{fold-append, sum_by-append, sum_by-cons}
+use Rattle.std.proofs.lemmas.List.Sums.{fold-append, sum_by-cons}
 use Rattle.fr_base.specs.declared.channel.Channel.{Channel}
 use Rattle.fr_base.specs.declared.channel.Channel.TheVariants.{A, B}
 use Rattle.fr_base.specs.declared.cycle_row.Counts.{Counts}
@@ -22,10 +22,9 @@ use Rattle.fr_history.specs.Setting.{Setting}
 use Rattle.fr_history.specs.History.{History}
 use Rattle.fr_history.specs.Kinds.{is_stored, is_outside, is_damaged, is_wrong_id, is_wrong_cycle, is_wrong_length, is_plain}
 use Rattle.fr_history.specs.Lawful.{crcs_sum}
-use Rattle.fr_history.specs.Next.{early_rows, next_counts, next_receptions}
-use Rattle.fr_history.specs.Offers.{channels, frame_in, frames_on, offer_in, offers_among, offers_to, reception_of, receptions_among, slots_of}
+use Rattle.fr_history.specs.Next.{early_rows, next_counts}
+use Rattle.fr_history.specs.Offers.{channels, frame_in, offer_in, offers_among, offers_to, reception_of, receptions_among, slots_of}
 use Rattle.fr_world.specs.Counting.{counted, counted_frame, counted_offer, counted_offers, counted_sent, counts_after, counts_in, counts_on, no_counts}
-use Rattle.fr_world.proofs.Flat.{flat_map_same}
 use Rattle.fr_world.proofs.Sums.{range_more, sum_by-flat_map, sum_by-map, sum_by-more, sum_by-plus, sum_by-same, sum_by-turned}
 
 -- ---- one kind of answers

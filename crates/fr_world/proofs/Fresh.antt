@@ -1,5 +1,5 @@
 -- Key slots and nodes as they are gathered before a run.
-use Rattle.std.proofs.Common.{◌≡◌, ℕ, zero, suc, ◌+◌, ◌<◌, ◌==◌, Bool, true, false, cond, not, List, [], ◌∷◌, ◌++◌, Option, Some, None, map, take, get_or, refl, ap, sym, ◌∙◌, arith, add-one}
+use Rattle.std.proofs.Common.{◌≡◌, ℕ, zero, suc, ◌+◌, ◌<◌, ◌==◌, Bool, true, false, cond, List, [], ◌∷◌, ◌++◌, Some, map, take, get_or, refl, ap, sym, ◌∙◌, arith}
 use Rattle.std.specs.Prelude.{IsSome, filter, find, length}
 use Rattle.std.specs.List.{range_with_len}
 use Rattle.std.proofs.lemmas.Bool.{cond_both, eq-eqb}
@@ -60,9 +60,9 @@ among-known (n ∷ ns) i node d lt at =
   where
     by : (i : ℕ) → i < length (n ∷ ns) → node ≡ get_or (n ∷ ns) i d → (n.id == node.id) ≡ false → ((k : ℕ) → k < length ns → node ≡ get_or ns k d → IsSome (find (λ m. m.id == node.id) ns)) → IsSome (find (λ m. m.id == node.id) ns)
     by zero lt at other rest =
-      let e : n.id ≡ node.id = ap (λ (m : NodeSpec). m.id) (sym at) in
-      let equal : (n.id == node.id) ≡ true = eq-eqb n.id node.id e in
-      cc
+        let e : n.id ≡ node.id = ap (λ (m : NodeSpec). m.id) (sym at) in
+        let equal : (n.id == node.id) ≡ true = eq-eqb n.id node.id e in
+        cc
     by (suc i) lt at other rest = rest i (omega arith) at
 
 -- one more element, if it passes

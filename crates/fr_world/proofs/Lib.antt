@@ -15,3 +15,4 @@ pub mod Channels
 pub mod Sweeps
 pub mod OneCycle
 pub mod Fresh
+pub mod NodeIn

@@ -1,11 +1,10 @@
 -- What the tables of the nodes list after the slots of a cycle are the deviations of the next record.
-use Rattle.std.proofs.Common.{◌≡◌, ◌≢◌, ℕ, ◌≤◌, ◌<◌, ◌+◌, ◌==◌, ℤ, Bool, true, false, not, ◌||◌, Option, Some, None, IfSome, List, [], ◌∷◌, map, length, refl, ap, sym, subst, ◌∙◌, arith, if◌then◌else◌}
+use Rattle.std.proofs.Common.{◌≡◌, ℕ, ◌≤◌, ◌<◌, ◌+◌, ◌==◌, ℤ, Bool, true, false, not, ◌||◌, Option, Some, None, IfSome, List, [], ◌∷◌, map, length, refl, ap, sym, subst, ◌∙◌, arith, if◌then◌else◌}
 use Rattle.std.specs.Prelude.{int_le, int_lt, is_none, is_some, option_and_then, Result, Ok, Err}
-use Rattle.std.specs.List.{flat_map, range_with_len}
+use Rattle.std.specs.List.{flat_map}
 use Rattle.std.specs.Option.{option_map, option_to_list}
 use Rattle.std.proofs.lemmas.List.Folds.{flat_map-map}
 use Rattle.fr_base.specs.declared.channel.Channel.{Channel}
-use Rattle.fr_base.specs.declared.channel.Channel.TheVariants.{A, B}
 use Rattle.fr_base.specs.declared.dev.Dev.{Dev}
 use Rattle.fr_base.specs.declared.node_row.NodeRow.{NodeRow}
 use Rattle.fr_frame.specs.Reading.{read_as}
@@ -33,7 +32,7 @@ use Rattle.fr_history.specs.Terms.{latest_devs}
 use Rattle.fr_world.specs.Hearing.{stored_in, value_of}
 use Rattle.fr_world.specs.Listing.{dev_with, listed_among, listed_at, listed_of, ordered_keys}
 use Rattle.fr_world.specs.Standing.{node_behind, readings_behind}
-use Rattle.fr_world.proofs.Columns.{begun_odd, begun_table, empty_reading, empty-table, heard_table, next_table, no_odd_reading, one_to_one, recorded-table}
+use Rattle.fr_world.proofs.Columns.{begun_odd, begun_table, empty_reading, empty-table, next_table, no_odd_reading, one_to_one, recorded-table}
 use Rattle.fr_world.proofs.Devs.{next_devs_are, stored_at, stored_of}
 use Rattle.fr_world.proofs.Flat.{Among, flat_map-filter, flat_map_same, range_from, range_to}
 use Rattle.fr_world.proofs.Marks.{HasMarks, offer_in-marked}

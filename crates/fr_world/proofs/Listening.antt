@@ -1,8 +1,8 @@
 -- A node that hears a sender can hear in the sender's slot.
-use Rattle.std.proofs.Common.{◌≡◌, ◌≢◌, ℕ, ◌≤◌, Bool, true, false, not, cond, ◌&&◌, ◌==◌, List, [], ◌∷◌, Option, Some, None, refl, ap, sym, subst, ◌∙◌, arith}
-use Rattle.std.specs.Prelude.{Contains, IsTrue, IsSome, find}
+use Rattle.std.proofs.Common.{◌≡◌, ◌≢◌, ℕ, ◌≤◌, Bool, true, false, not, ◌&&◌, ◌==◌, List, [], ◌∷◌, Option, Some, None, refl, ap, sym, subst, ◌∙◌}
+use Rattle.std.specs.Prelude.{Contains, find}
 use Rattle.std.specs.Option.{option_map}
-use Rattle.std.proofs.lemmas.Bool.{and_parts, cond_both, eqb-true, eq-eqb, not-true}
+use Rattle.std.proofs.lemmas.Bool.{and_parts, cond_both, eqb-true, eq-eqb}
 use Rattle.std.proofs.lemmas.List.Elements.{Contains-append_left, Contains-append_right, Contains-push}
 use Rattle.fr_base.specs.States.{is_halted}
 use Rattle.fr_base.specs.declared.channel.Channel.{Channel}
@@ -15,8 +15,7 @@ use Rattle.fr_params.specs.declared.names.ParamName.TheVariants as name
 use Rattle.fr_params.specs.declared.rows.NodeSpec.{NodeSpec}
 use Rattle.fr_reception.specs.Own.{key_in, own_key}
 use Rattle.fr_time.proofs.SoleSenders.{key_slot_sender}
-use Rattle.fr_time.specs.Senders.{sender_of, sync_sending}
-use Rattle.fr_time.specs.declared.senders.Sending.{Sending}
+use Rattle.fr_time.specs.Senders.{sender_of}
 use Rattle.fr_node.specs.View.{NodeView, row_of}
 use Rattle.fr_world.specs.Run.{setting_in, CanHear}
 use Rattle.fr_world.specs.Sending.{hears}
@@ -38,9 +37,9 @@ own_key-sender p id slot cycle sane own = among (node_of p id) refl own
     among : (node : Option NodeSpec) → node_of p id ≡ node → key_in node ≡ Some slot → option_map (λ sending. sending.node) (sender_of p slot cycle) ≡ Some id
     among None is nothing = cc
     among (Some node) is key =
-      let known : Contains p.nodes node × ((node.id == id) ≡ true) = find-holds (λ n. n.id == id) p.nodes node is in
-      let named : node.id ≡ id = eqb-true node.id id known.1 in
-      ap (option_map (λ sending. sending.node)) (key_slot_sender p slot cycle node sane known.0 key) ∙ ap Some named
+        let known : Contains p.nodes node × ((node.id == id) ≡ true) = find-holds (λ n. n.id == id) p.nodes node is in
+        let named : node.id ≡ id = eqb-true node.id id known.1 in
+        ap (option_map (λ sending. sending.node)) (key_slot_sender p slot cycle node sane known.0 key) ∙ ap Some named
 
 not_halted : (state : State) → not (is_halted state) ≡ true → state ≢ Halt
 not_halted Active is same = cc
@@ -58,9 +57,9 @@ can_hear f node sender slot cycle channel sane static_slot sends heard =
       on_channel = first.1;
       static_slot = static_slot;
       not_itself = λ (own : own_key p node.id ≡ Some slot).
-        let here : Some sender ≡ Some node.id = sym sends ∙ own_key-sender p node.id slot cycle sane own in
-        let same : sender ≡ node.id = cc in
-        let equal : (sender == node.id) ≡ true = eq-eqb sender node.id same in
-        let never : not (sender == node.id) ≡ false = ap not equal in
-        cc;
+          let here : Some sender ≡ Some node.id = sym sends ∙ own_key-sender p node.id slot cycle sane own in
+          let same : sender ≡ node.id = cc in
+          let equal : (sender == node.id) ≡ true = eq-eqb sender node.id same in
+          let never : not (sender == node.id) ≡ false = ap not equal in
+          cc;
     }

@@ -1,14 +1,13 @@
 -- A cycle of all nodes behind a history is its next record.
-use Rattle.std.proofs.Common.{◌≡◌, ℕ, suc, ◌+◌, ◌<◌, ◌≤◌, Bool, true, false, cond, not, List, [], ◌∷◌, length, map, get_or, Option, Some, None, refl, ap, ap₂, sym, subst, ◌∙◌, ℤ, arith, add-one}
+use Rattle.std.proofs.Common.{◌≡◌, ℕ, suc, ◌+◌, ◌<◌, ◌≤◌, Bool, true, false, not, List, [], ◌∷◌, length, map, get_or, Option, Some, None, refl, ap, sym, subst, ◌∙◌, ℤ, arith, add-one}
 use Rattle.std.specs.Prelude.{All, AllPairs, IsNone, filter, is_some}
 use Rattle.std.specs.List.{range_with_len}
-use Rattle.std.proofs.lemmas.Bool.{cond_both, not_from_true}
+use Rattle.std.proofs.lemmas.Bool.{cond_both}
 use Rattle.std.proofs.lemmas.List.{get_or-map, length-map}
-use Rattle.std.proofs.lemmas.List.Elements.{All-cons, All-map, All-nil}
+use Rattle.std.proofs.lemmas.List.Elements.{All-cons, All-nil}
 use Rattle.std.proofs.lemmas.List.FromFn.{get_or-range_with_len, length-range_with_len}
 use Rattle.std.proofs.lemmas.List.Kept.{AllPairs-filter}
 use Rattle.fr_base.specs.declared.cycle_row.Counts.{Counts}
-use Rattle.fr_base.specs.declared.cycle_row.CycleRow.{CycleRow}
 use Rattle.fr_base.specs.declared.dev.Dev.{Dev}
 use Rattle.fr_base.specs.declared.node_row.NodeRow.{NodeRow}
 use Rattle.fr_params.specs.Questions.{key_index_of}
@@ -36,7 +35,7 @@ use Rattle.fr_world.specs.Run.{setting_in}
 use Rattle.fr_world.specs.Standing.{node_behind, nodes_behind}
 use Rattle.fr_world.specs.declared.files.Files.{Files}
 use Rattle.fr_world.proofs.Counts.{all_counted}
-use Rattle.fr_world.proofs.Flat.{Among, map_same_among}
+use Rattle.fr_world.proofs.Flat.{map_same_among}
 use Rattle.fr_world.proofs.Listed.{all_listed}
 use Rattle.fr_world.proofs.Step.{begun_node, begun_row, ended_is, ended_row_is, heard_all, heard_node, next_row, next_rows}
 
@@ -55,7 +54,7 @@ stands f h cycle long (n ∷ ns) =
     let x : Setting = setting_in f in
     cond_both (is_correct x n.id) (n ∷ filter (λ node. is_correct x node.id) ns) (filter (λ node. is_correct x node.id) ns) (λ specs. All (StandsBetween f cycle) (map (λ node. node_behind x h node.id) specs))
     (λ correct. All-cons (StandsBetween f cycle) (node_behind x h n.id) (map (λ node. node_behind x h node.id) (filter (λ node. is_correct x node.id) ns))
-      (record { between = refl; correct = not-false (is_arbitrary f.script n.id) correct; in_cycle = long }) (stands f h cycle long ns))
+    (record { between = refl; correct = not-false (is_arbitrary f.script n.id) correct; in_cycle = long }) (stands f h cycle long ns))
     (λ arbitrary. stands f h cycle long ns)
   where
     not-false : (b : Bool) → not b ≡ true → b ≡ false
@@ -167,11 +166,11 @@ keys-ascend x keys are =
   where
     range : (n : ℕ) → AllPairs (λ a b. a < b) (range_with_len 1 n)
     range n i j d less short =
-      let long = length-range_with_len 1 n in
-      let within : j < n = omega arith in
-      let a = get_or-range_with_len 1 n i d (omega arith) in
-      let b = get_or-range_with_len 1 n j d within in
-      omega (arith, a, b)
+        let long = length-range_with_len 1 n in
+        let within : j < n = omega arith in
+        let a = get_or-range_with_len 1 n i d (omega arith) in
+        let b = get_or-range_with_len 1 n j d within in
+        omega (arith, a, b)
 
 heard-named : (x : Setting) (h : History) (node : NodeSpec) → (heard_node x h node.id).id ≡ node.id
 unfolding node_behind
@@ -185,14 +184,14 @@ nodes-ascend x sane h nodes are =
     mapped : (specs : List NodeSpec) → AllPairs (λ a b. a.id < b.id) specs → AreAscending (map (λ node. heard_node x h node.id) specs)
     mapped [] pairs i j d less short = absurd (omega arith)
     mapped (s ∷ ss) pairs i j d less short =
-      let f : NodeSpec → NodeView = λ node. heard_node x h node.id in
-      let long = length-map (s ∷ ss) f in
-      let a : get_or (map f (s ∷ ss)) i d ≡ f (get_or (s ∷ ss) i s) = get_or-map f (s ∷ ss) i s d (omega arith) in
-      let b : get_or (map f (s ∷ ss)) j d ≡ f (get_or (s ∷ ss) j s) = get_or-map f (s ∷ ss) j s d (omega arith) in
-      let first : (get_or (map f (s ∷ ss)) i d).id ≡ (get_or (s ∷ ss) i s).id = ap (λ (n : NodeView). n.id) a ∙ heard-named x h (get_or (s ∷ ss) i s) in
-      let second : (get_or (map f (s ∷ ss)) j d).id ≡ (get_or (s ∷ ss) j s).id = ap (λ (n : NodeView). n.id) b ∙ heard-named x h (get_or (s ∷ ss) j s) in
-      let lt : (get_or (s ∷ ss) i s).id < (get_or (s ∷ ss) j s).id = pairs i j s less (omega arith) in
-      omega (arith, first, second, lt)
+        let f : NodeSpec → NodeView = λ node. heard_node x h node.id in
+        let long = length-map (s ∷ ss) f in
+        let a : get_or (map f (s ∷ ss)) i d ≡ f (get_or (s ∷ ss) i s) = get_or-map f (s ∷ ss) i s d (omega arith) in
+        let b : get_or (map f (s ∷ ss)) j d ≡ f (get_or (s ∷ ss) j s) = get_or-map f (s ∷ ss) j s d (omega arith) in
+        let first : (get_or (map f (s ∷ ss)) i d).id ≡ (get_or (s ∷ ss) i s).id = ap (λ (n : NodeView). n.id) a ∙ heard-named x h (get_or (s ∷ ss) i s) in
+        let second : (get_or (map f (s ∷ ss)) j d).id ≡ (get_or (s ∷ ss) j s).id = ap (λ (n : NodeView). n.id) b ∙ heard-named x h (get_or (s ∷ ss) j s) in
+        let lt : (get_or (s ∷ ss) i s).id < (get_or (s ∷ ss) j s).id = pairs i j s less (omega arith) in
+        omega (arith, first, second, lt)
 
 pub length-kept : {X : Type 0} (p : X → Bool) (xs : List X) → length (filter p xs) ≤ length xs
 length-kept p [] = omega arith

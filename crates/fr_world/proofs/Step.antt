@@ -1,16 +1,14 @@
 -- One cycle of a node: behind the next record of the history it stands as the history says.
-use Rattle.std.proofs.Common.{◌≡◌, ◌⊎◌, ℕ, suc, ◌+◌, ◌==◌, ℤ, pos, Bool, true, false, cond, not, ◌&&◌, Option, Some, None, List, [], ◌∷◌, ◌++◌, map, length, refl, ap, ap₂, sym, ◌∙◌, subst, inl, inr, arith, append-nil, if◌then◌else◌, add-one}
-use Rattle.std.specs.Prelude.{find, fold}
+use Rattle.std.proofs.Common.{◌≡◌, ◌⊎◌, ℕ, ◌+◌, ◌==◌, ℤ, pos, Bool, true, false, cond, not, ◌&&◌, Option, Some, None, List, [], ◌∷◌, ◌++◌, map, length, refl, ap, sym, ◌∙◌, inl, inr, arith, append-nil, if◌then◌else◌, add-one}
+use Rattle.std.specs.Prelude.{find}
 use Rattle.std.proofs.lemmas.List.Sums.{fold-append}
-use Rattle.std.proofs.lemmas.Bool.{ne_eqb}
 use Rattle.fr_base.specs.States.{cut_of, is_halted}
-use Rattle.fr_base.specs.declared.dev.Dev.{Dev}
 use Rattle.fr_base.specs.declared.node_row.NodeRow.{NodeRow}
 use Rattle.fr_base.specs.declared.state.Outcome.{Outcome}
 use Rattle.fr_base.specs.declared.state.State.{State}
 use Rattle.fr_base.specs.declared.state.State.TheVariants.{Active, Passive, Halt}
 use Rattle.fr_params.specs.Sane.{IsSane}
-use Rattle.fr_params.specs.Values.{Values, amount}
+use Rattle.fr_params.specs.Values.{amount}
 use Rattle.fr_params.specs.declared.names.ParamName.TheVariants as name
 use Rattle.fr_params.specs.declared.rows.NodeSpec.{NodeSpec}
 use Rattle.fr_time.specs.Cycles.{is_odd}
@@ -30,14 +28,14 @@ use Rattle.fr_node.specs.Fits.{limits_of}
 use Rattle.fr_node.specs.View.{NodeView}
 use Rattle.fr_node.specs.View as view
 use Rattle.fr_history.specs.Setting.{Setting, correct_nodes}
-use Rattle.fr_history.specs.History.{History, Record, row_of}
-use Rattle.fr_history.specs.Lawful.{cut_behind, is_corrected, offset_behind, rate_behind, rate_by, start_behind, start_by}
+use Rattle.fr_history.specs.History.{History, row_of}
+use Rattle.fr_history.specs.Lawful.{rate_behind, rate_by, start_behind, start_by}
 use Rattle.fr_history.specs.Next.{early_record, early_row, early_rows, ended_row, next_devs, next_record}
-use Rattle.fr_history.specs.Terms.{cuts_in, latest_devs, limits_for, offset_term_in, outcomes_by, outcomes_in, rate_term_in, status_in}
+use Rattle.fr_history.specs.Terms.{cuts_in, latest_devs, offset_term_in, outcomes_by, outcomes_in, rate_term_in, status_in}
 use Rattle.fr_world.specs.Hearing.{after_slots}
 use Rattle.fr_world.specs.Standing.{node_behind, readings_behind, readings_of}
-use Rattle.fr_world.proofs.Columns.{begun_table, next_table, offset_values_same, rate_values_same}
-use Rattle.fr_world.proofs.Flat.{Among, among_there}
+use Rattle.fr_world.proofs.Columns.{next_table, offset_values_same, rate_values_same}
+use Rattle.fr_world.proofs.Flat.{Among}
 use Rattle.fr_world.proofs.Table.{slots_with_table}
 
 -- a node behind a history with its cycle begun

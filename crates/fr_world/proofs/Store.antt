@@ -1,5 +1,5 @@
 -- A stored deviation in a table.
-use Rattle.std.proofs.Common.{◌≡◌, ◌≢◌, ◌⊎◌, ℕ, ◌<◌, ◌∙◌, ℤ, Bool, true, false, Option, Some, None, List, length, get_or, set, refl, inl, inr, arith, get_or-set_same, get_or-set_other, length-set}
+use Rattle.std.proofs.Common.{◌≡◌, ◌≢◌, ℕ, ◌<◌, ◌∙◌, ℤ, Bool, true, false, Option, Some, None, List, length, get_or, set, refl, arith, get_or-set_same, get_or-set_other, length-set}
 use Rattle.fr_base.specs.declared.channel.Channel.{Channel}
 use Rattle.fr_base.specs.declared.channel.Channel.TheVariants.{A, B}
 use Rattle.fr_measure.specs.Readings.{Readings, column, reading, stored}

@@ -1,5 +1,5 @@
 -- The deviations of a cycle in the tables of nodes, as they are listed.
-use Rattle.std.specs.Prelude.{ℕ, ℤ, Bool, List, Option, option_and_then, is_some, filter}
+use Rattle.std.specs.Prelude.{ℕ, ℤ, Bool, List, option_and_then, is_some, filter}
 use Rattle.std.specs.List.{flat_map}
 use Rattle.std.specs.Option.{option_map, option_to_list}
 use Rattle.fr_base.specs.declared.channel.Channel.{Channel}

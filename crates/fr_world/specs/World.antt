@@ -1,10 +1,12 @@
 -- What contracts see of a world.
-use Rattle.std.specs.Prelude.{◌≡◌, ℕ, ◌+◌, ◌*◌, ◌≤◌, List, All, length}
+use Rattle.std.specs.Prelude.{◌≡◌, ℕ, ◌+◌, ◌*◌, ◌≤◌, List, All, length, Option, None, if◌then◌else◌}
+use Rattle.std.specs.Option.{option_map}
 use Rattle.fr_base.specs.declared.cycle_row.CycleRow.{CycleRow}
+use Rattle.fr_params.specs.Questions.{node_of}
 use Rattle.fr_params.specs.Values.{Values}
 use Rattle.fr_drift.specs.Questions.{doubles_of}
 use Rattle.fr_drift.specs.View.{DriftView}
-use Rattle.fr_script.specs.View.{ScriptView}
+use Rattle.fr_script.specs.View.{ScriptView, is_arbitrary}
 use Rattle.fr_node.specs.Fits.{Fits}
 use Rattle.fr_node.specs.View.{NodeView}
 use Rattle.fr_history.specs.Setting.{Setting}
@@ -13,7 +15,7 @@ use Rattle.fr_history.specs.Recorded.{recorded}
 use Rattle.fr_world.specs.Files.{setting_of}
 use Rattle.fr_world.specs.Listing.{ordered_keys}
 use Rattle.fr_world.specs.Run.{setting_in}
-use Rattle.fr_world.specs.Standing.{nodes_behind}
+use Rattle.fr_world.specs.Standing.{node_behind, nodes_behind}
 use Rattle.fr_world.specs.declared.files.Files.{Files}
 
 -- A world: its three files, and how many cycles it has run. They determine its history, so that nothing else is seen.
@@ -40,3 +42,9 @@ pub record IsWorld (f : Files) (keys : List ℕ) (nodes : List NodeView) (row : 
   pub in_run : next ≤ 2 * doubles_of f.drift
   pub room : 128 * length keys ≤ row.devs.spare + length row.devs.entries
   pub latest : (earlier : ℕ) → next ≡ earlier + 1 → IsRowOf (setting_in f) earlier row
+
+-- the node of a world by its number: none where it is arbitrary or unknown
+abbrev pub node_in : WorldView → ℕ → Option NodeView
+node_in w id =
+    if is_arbitrary w.script id then None
+    else option_map (λ spec. node_behind (setting_behind w) (history_of (setting_behind w) w.cycles) id) (node_of w.params id)

@@ -18,4 +18,3 @@ mod world;
 
 pub use fault::BuildFault;
 pub use world::World;
-

@@ -133,10 +133,7 @@ fn say_to(
         (said_with (setting_in files.now) turn.now sender frame.now (row_of node.old)) counts.old }
 {
     let receiver = node.row().node;
-    match files
-        .script
-        .at(turn.cycle, sender, receiver, turn.channel)
-    {
+    match files.script.at(turn.cycle, sender, receiver, turn.channel) {
         Event::Say {
             shift,
             bytes: Some(bytes),

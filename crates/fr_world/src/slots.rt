@@ -104,13 +104,7 @@ fn is_sync(kind: Kind) -> bool
 }
 
 // What an arbitrary sender says in a slot on a channel is heard.
-fn hear_said(
-    files: &Files,
-    turn: &Turn,
-    sending: &Sending,
-    nodes: &mut [Node],
-    counts: &mut Counts,
-)
+fn hear_said(files: &Files, turn: &Turn, sending: &Sending, nodes: &mut [Node], counts: &mut Counts)
     requires slot { turn.now.slot ≤ amount files.now.params name.gNumberOfStaticSlots }
     requires sends { sender_of files.now.params turn.now.slot turn.now.cycle ≡ Some sending.now }
     requires arbitrary { is_arbitrary files.now.script sending.now.node ≡ true }
@@ -127,13 +121,7 @@ fn hear_said(
 }
 
 // What a correct sender sends in a slot on a channel is heard.
-fn hear_sent(
-    files: &Files,
-    turn: &Turn,
-    sending: &Sending,
-    nodes: &mut [Node],
-    counts: &mut Counts,
-)
+fn hear_sent(files: &Files, turn: &Turn, sending: &Sending, nodes: &mut [Node], counts: &mut Counts)
     requires slot { turn.now.slot ≤ amount files.now.params name.gNumberOfStaticSlots }
     requires sends { sender_of files.now.params turn.now.slot turn.now.cycle ≡ Some sending.now }
     requires correct { is_arbitrary files.now.script sending.now.node ≡ false }

@@ -1,5 +1,6 @@
-ghost use Rattle.std.specs.Prelude.{◌≡◌, ℕ, ◌+◌, ◌*◌, ◌≤◌, ◌↔◌, length, IsNone, IfSome, IfOk};
+ghost use Rattle.std.specs.Prelude.{◌≡◌, ℕ, ◌+◌, ◌*◌, ◌≤◌, ◌↔◌, length, find, ◌==◌, IsNone, IfSome, IfOk};
 ghost use Rattle.std.specs.Borrow.{sem};
+ghost use Rattle.std.specs.Option.{option_copied};
 ghost use Rattle.fr_drift.specs.Files.{Fits as DriftFits};
 ghost use Rattle.fr_drift.specs.Questions.{doubles_of};
 ghost use Rattle.fr_script.specs.Files.{Fits as ScriptFits};
@@ -8,7 +9,7 @@ use crate::building::{fresh_nodes, key_slots_of};
 use crate::fault::BuildFault;
 use crate::files::Files;
 use crate::running::{no_counts, run_cycle};
-use fr_base::{CycleRow, DevList, RowList, Slot};
+use fr_base::{CycleRow, DevList, NodeId, RowList, Slot};
 use fr_drift::Drift;
 use fr_node::Node;
 use fr_params::Params;
@@ -74,7 +75,7 @@ impl World {
         })
     }
 
-    ghost use Rattle.fr_world.specs.World.{setting_behind, IsRowOf};
+    ghost use Rattle.fr_world.specs.World.{node_in, setting_behind, IsRowOf};
     ghost use Rattle.fr_world.specs.Ends.{Cycles};
 
     /// Runs the next cycle of every correct node, and answers its row; None exactly after the last cycle of
@@ -110,6 +111,13 @@ impl World {
         }
     }
 
+    /// A node, as it stands before the next cycle; None exactly where it is arbitrary or unknown.
+    pub fn node(&self, id: NodeId) -> Option<&Node>
+        ensures { option_copied result ≡ node_in self.now id }
+    {
+        node_among(self.nodes.as_slice(), id)
+    }
+
     /// The parameters of the cluster.
     pub fn params(&self) -> &Params
         ensures { result.now ≡ self.now.params }
@@ -143,4 +151,11 @@ fn blank_row(alloc: Global, keys: &Vec<Slot>) -> Result<CycleRow, AllocError>
         devs: DevList::with_room(alloc, 128 * keys.len())?,
         counts: no_counts(),
     })
+}
+
+// The node of a number among these.
+fn node_among(nodes: &[Node], id: NodeId) -> Option<&Node>
+    ensures { option_copied result ≡ find (λ node. node.id == id) nodes.now }
+{
+    nodes.iter().find(|node| node.id() == id)
 }

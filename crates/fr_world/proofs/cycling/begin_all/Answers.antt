@@ -1,4 +1,4 @@
-use Rattle.std.proofs.Common.{◌≡◌, ◌<◌, ◌≤◌, ◌∙◌, length, take, ap, sym, subst, arith}
+use Rattle.std.proofs.Common.{◌≡◌, ◌<◌, ◌≤◌, ◌∙◌, length, ap, sym, subst, arith}
 use Rattle.std.specs.Prelude.{All}
 use Rattle.std.proofs.lemmas.List.{take_all}
 use Rattle.fr_node.specs.View.{NodeView}
@@ -17,9 +17,10 @@ loop-node-preserved c =
     let f : NodeView → NodeView = begun_in a.files.now a.cycle in
     let lt : i < length a.nodes.now = omega arith in
     let within : i < length c.loop-node.nodes = omega arith in
-    let stepped : new ≡ f node = c.begin_one.ensures.node ∙ ap f (sym c.node-item.is) in
-    (swept-more f a.nodes.now c.loop-node.nodes i node new lt c.loop-node.invariant.0 c.node-item.is stepped,
-    all-more (IsReady a.files.now a.cycle) c.loop-node.nodes i new within c.begin_one.ensures.ready c.loop-node.invariant.1)
+    let stepped : new ≡ f node = c.begin_one.ensures.node ∙ ap f (sym c.node-item.is) in (
+      swept-more f a.nodes.now c.loop-node.nodes i node new lt c.loop-node.invariant.0 c.node-item.is stepped,
+      all-more (IsReady a.files.now a.cycle) c.loop-node.nodes i new within c.begin_one.ensures.ready c.loop-node.invariant.1,
+    )
 
 pub returns-clause-ready : goal.returns-clause-ready
 returns-clause-ready c =

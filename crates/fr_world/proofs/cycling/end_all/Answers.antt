@@ -5,7 +5,6 @@ use Rattle.std.proofs.lemmas.List.Elements.{All-set}
 use Rattle.fr_base.specs.declared.node_row.NodeRow.{NodeRow}
 use Rattle.fr_node.specs.Cycle.{ended, ended_row}
 use Rattle.fr_node.specs.Fits.{Fits}
-use Rattle.fr_node.specs.View.{NodeView}
 use Rattle.fr_world.proofs.Loops.{swept-more, swept-next}
 use Rattle.fr_world.proofs.Sweeps.{rows-below}
 use Rattle.fr_world.proofs.cycling.end_all.Goals as goal
@@ -32,7 +31,8 @@ loop-node-preserved c =
     let lt : i < length nodes = omega arith in
     let at : node ≡ get_or nodes i node = swept-next (ended p) nodes c.loop-node.nodes i node lt c.loop-node.invariant.0 c.node-item.is in
     let stepped : c.end-row.new.self ≡ ended p node = c.end-row.ensures.after ∙ ap (ended p) (sym c.node-item.is) in
-    let row : c.end-row.result ≡ ended_row p (get_or nodes i node) = c.end-row.ensures.row ∙ ap (ended_row p) (sym c.node-item.is ∙ at) in
-    (swept-more (ended p) nodes c.loop-node.nodes i node c.end-row.new.self lt c.loop-node.invariant.0 c.node-item.is stepped,
-    All-set (Fits p) c.loop-node.nodes i c.end-row.new.self c.end-row.ensures.fits c.loop-node.invariant.1,
-    c.push.ensures ∙ ap₂ (λ rows new. rows ++ new ∷ []) c.loop-node.invariant.2 row ∙ sym (map_more (ended_row p) nodes i node lt))
+    let row : c.end-row.result ≡ ended_row p (get_or nodes i node) = c.end-row.ensures.row ∙ ap (ended_row p) (sym c.node-item.is ∙ at) in (
+      swept-more (ended p) nodes c.loop-node.nodes i node c.end-row.new.self lt c.loop-node.invariant.0 c.node-item.is stepped,
+      All-set (Fits p) c.loop-node.nodes i c.end-row.new.self c.end-row.ensures.fits c.loop-node.invariant.1,
+      c.push.ensures ∙ ap₂ (λ rows new. rows ++ new ∷ []) c.loop-node.invariant.2 row ∙ sym (map_more (ended_row p) nodes i node lt),
+    )

@@ -1,4 +1,4 @@
-use Rattle.std.proofs.Common.{◌≡◌, ◌∙◌, ℤ, ◌+ℤ◌, ◌*ℤ◌, FitsSigned, w64, to_z, of_z, ap₂, arith}
+use Rattle.std.proofs.Common.{◌≡◌, ◌*ℤ◌, FitsSigned, w64, arith}
 use Rattle.std.proofs.lemmas.Int.{ints}
 use Rattle.std.proofs.lemmas.Int.{to_z-of_z}
 use Rattle.fr_params.specs.Questions.{compensation_of}

@@ -1,4 +1,4 @@
-use Rattle.std.proofs.Common.{◌≡◌, ◌+◌, ◌*◌, ◌<◌, ◌≤◌, ◌++◌, List, [], length, arith}
+use Rattle.std.proofs.Common.{◌≡◌, ◌≤◌, ◌++◌, List, [], length, arith}
 use Rattle.std.proofs.Math.Nat.{mul-le-mul_left}
 use Rattle.fr_base.specs.declared.dev.Dev.{Dev}
 use Rattle.fr_node.specs.View.{NodeView}
@@ -16,9 +16,11 @@ loop-node-preserved c =
     let a = c.args in
     let i = c.loop-node in
     let f : NodeView → List Dev = listed_of a.params.now a.odd a.keys.now in
-    let now : c.list_node.new.devs.entries ≡ i.devs.entries ++ f c.node-item.result = c.list_node.ensures.entries in
-    (flat-more f a.nodes.now i.node-index c.node-item.result [] i.devs.entries c.list_node.new.devs.entries c.loop-node-test.true c.node-item.is i.invariant.0 now,
-    omega (arith, i.invariant.1, c.list_node.ensures.room), omega (arith, i.invariant.2, c.list_node.ensures.kept))
+    let now : c.list_node.new.devs.entries ≡ i.devs.entries ++ f c.node-item.result = c.list_node.ensures.entries in (
+      flat-more f a.nodes.now i.node-index c.node-item.result [] i.devs.entries c.list_node.new.devs.entries c.loop-node-test.true c.node-item.is i.invariant.0 now,
+      omega (arith, i.invariant.1, c.list_node.ensures.room),
+      omega (arith, i.invariant.2, c.list_node.ensures.kept),
+    )
 
 pub list_node-requires-clause-room : goal.list_node-requires-clause-room
 list_node-requires-clause-room c =

@@ -1,4 +1,4 @@
-use Rattle.std.proofs.Common.{◌≡◌, ◌+◌, ◌*◌, ◌<◌, ◌≤◌, ◌++◌, ◌∙◌, ℕ, List, length, take, ap, sym, arith}
+use Rattle.std.proofs.Common.{◌≤◌, ◌++◌, ◌∙◌, ℕ, List, length, ap, sym, arith}
 use Rattle.std.specs.List.{flat_map}
 use Rattle.std.proofs.lemmas.List.{append-nil, take_all}
 use Rattle.fr_base.specs.declared.dev.Dev.{Dev}
@@ -19,9 +19,11 @@ pub loop-slot-preserved : goal.loop-slot-preserved
 loop-slot-preserved c =
     let a = c.args in
     let i = c.loop-slot in
-    let f : ℕ → List Dev = λ slot. flat_map (listed_at a.params.now a.odd a.node.now slot) channels in
-    (flat-more f a.keys.now i.slot-index c.slot-item.result a.devs.now.entries i.devs.entries c.list_slot.new.devs.entries c.loop-slot-test.true c.slot-item.is i.invariant.0 c.list_slot.ensures.entries,
-    omega (arith, i.invariant.1, c.list_slot.ensures.room), omega (arith, i.invariant.2, c.list_slot.ensures.kept))
+    let f : ℕ → List Dev = λ slot. flat_map (listed_at a.params.now a.odd a.node.now slot) channels in (
+      flat-more f a.keys.now i.slot-index c.slot-item.result a.devs.now.entries i.devs.entries c.list_slot.new.devs.entries c.loop-slot-test.true c.slot-item.is i.invariant.0 c.list_slot.ensures.entries,
+      omega (arith, i.invariant.1, c.list_slot.ensures.room),
+      omega (arith, i.invariant.2, c.list_slot.ensures.kept),
+    )
 
 pub returns-clause-entries : goal.returns-clause-entries
 returns-clause-entries c =

@@ -1,9 +1,7 @@
-use Rattle.std.proofs.Common.{◌≡◌, ◌++◌, [], ◌∷◌, List, ◌∙◌, ℤ, pos, ap, sym, subst}
+use Rattle.std.proofs.Common.{◌++◌, List, ◌∙◌, pos, ap, sym, subst}
 use Rattle.std.specs.Prelude.{All}
-use Rattle.std.specs.List.{flat_map}
-use Rattle.std.proofs.lemmas.List.{append_assoc, append-nil}
 use Rattle.fr_base.specs.Rows.{IsEarlierDev}
-use Rattle.fr_base.specs.declared.channel.Channel.TheVariants.{A, B}
+use Rattle.fr_base.specs.declared.channel.Channel.TheVariants.{B}
 use Rattle.fr_base.specs.declared.dev.Dev.{Dev}
 use Rattle.fr_world.proofs.Sweeps.{both-channels, later-b}
 use Rattle.fr_world.specs.Listing.{dev_with, listed_at}

@@ -1,5 +1,4 @@
-use Rattle.std.proofs.Common.{◌≡◌, ◌∙◌, true, ap, sym}
-use Rattle.fr_base.specs.declared.node_row.NodeRow.{NodeRow}
+use Rattle.std.proofs.Common.{◌≡◌, true}
 use Rattle.fr_node.specs.View.{row_of}
 use Rattle.fr_world.proofs.Listening.{can_hear}
 use Rattle.fr_world.specs.Run.{setting_in}

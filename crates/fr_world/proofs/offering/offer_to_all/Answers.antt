@@ -1,4 +1,4 @@
-use Rattle.std.proofs.Common.{◌≡◌, ◌∙◌, ◌+◌, ◌<◌, ◌≤◌, length, Option, refl, ap, sym, arith}
+use Rattle.std.proofs.Common.{◌≡◌, ◌∙◌, ◌<◌, length, Option, refl, ap, sym, arith}
 use Rattle.std.proofs.lemmas.List.Elements.{All-set}
 use Rattle.fr_base.specs.declared.node_row.NodeRow.{NodeRow}
 use Rattle.fr_reception.specs.Offers.{Offer}
@@ -31,7 +31,8 @@ loop-node-preserved c =
     let stepped : c.offer_to.new.node ≡ f node = c.offer_to.ensures.node ∙ ap f (sym c.node-item.is) in
     let o : NodeRow → Option Offer = offer_heard x a.turn.now a.sender.now.node a.sender.now.row a.frame.now in
     let counted : c.offer_to.new.counts ≡ counted_offer x a.turn.now.cycle (row_of node) (o (row_of node)) c.loop-node.counts =
-    c.offer_to.ensures.counts ∙ ap (λ (n : NodeView). counted_offer x a.turn.now.cycle (row_of n) (o (row_of n)) c.loop-node.counts) (sym c.node-item.is) in
-    (swept-more f a.nodes.now c.loop-node.nodes i node c.offer_to.new.node lt c.loop-node.invariant.0 c.node-item.is stepped,
-    All-set (IsReady a.files.now a.turn.now.cycle) c.loop-node.nodes i c.offer_to.new.node c.offer_to.ensures.ready c.loop-node.invariant.1,
-    counted-more x a.turn.now.cycle o a.nodes.now i node a.counts.now c.loop-node.counts c.offer_to.new.counts lt (swept-next f a.nodes.now c.loop-node.nodes i node lt c.loop-node.invariant.0 c.node-item.is) c.loop-node.invariant.2 counted)
+    c.offer_to.ensures.counts ∙ ap (λ (n : NodeView). counted_offer x a.turn.now.cycle (row_of n) (o (row_of n)) c.loop-node.counts) (sym c.node-item.is) in (
+      swept-more f a.nodes.now c.loop-node.nodes i node c.offer_to.new.node lt c.loop-node.invariant.0 c.node-item.is stepped,
+      All-set (IsReady a.files.now a.turn.now.cycle) c.loop-node.nodes i c.offer_to.new.node c.offer_to.ensures.ready c.loop-node.invariant.1,
+      counted-more x a.turn.now.cycle o a.nodes.now i node a.counts.now c.loop-node.counts c.offer_to.new.counts lt (swept-next f a.nodes.now c.loop-node.nodes i node lt c.loop-node.invariant.0 c.node-item.is) c.loop-node.invariant.2 counted,
+    )

@@ -1,5 +1,4 @@
-use Rattle.std.proofs.Common.{◌≡◌, ◌∙◌, ◌≤◌, length, map, arith}
-use Rattle.fr_node.specs.View.{NodeView}
+use Rattle.std.proofs.Common.{◌≡◌, map, arith}
 use Rattle.fr_history.specs.Setting.{Setting, correct_nodes}
 use Rattle.fr_history.specs.History.{History}
 use Rattle.fr_history.specs.Next.{history_of}

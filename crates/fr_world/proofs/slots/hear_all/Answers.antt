@@ -1,4 +1,4 @@
-use Rattle.std.proofs.Common.{◌≡◌, ◌+◌, ◌*◌, ◌≤◌, List, length, map, refl, sym, subst, arith}
+use Rattle.std.proofs.Common.{◌+◌, ◌*◌, ◌≤◌, List, length, map, refl, sym, subst, arith}
 use Rattle.std.proofs.lemmas.List.{length-map}
 use Rattle.fr_base.specs.declared.node_row.NodeRow.{NodeRow}
 use Rattle.fr_node.specs.View.{row_of}
@@ -28,7 +28,8 @@ pub loop-earlier-preserved : goal.loop-earlier-preserved
 loop-earlier-preserved c =
     let a = c.args in
     let x : Setting = setting_in a.files.now in
-    let i = c.loop-earlier in
-    (slots-more x a.cycle i.earlier a.nodes.now i.nodes c.hear_slot.new.nodes i.invariant.0 c.hear_slot.ensures.nodes,
-    c.hear_slot.ensures.ready,
-    counts-more x a.cycle i.earlier a.nodes.now i.nodes a.counts.now i.counts c.hear_slot.new.counts i.invariant.0 i.invariant.2 c.hear_slot.ensures.counts)
+    let i = c.loop-earlier in (
+      slots-more x a.cycle i.earlier a.nodes.now i.nodes c.hear_slot.new.nodes i.invariant.0 c.hear_slot.ensures.nodes,
+      c.hear_slot.ensures.ready,
+      counts-more x a.cycle i.earlier a.nodes.now i.nodes a.counts.now i.counts c.hear_slot.new.counts i.invariant.0 i.invariant.2 c.hear_slot.ensures.counts,
+    )

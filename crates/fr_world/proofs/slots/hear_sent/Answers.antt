@@ -1,10 +1,9 @@
-use Rattle.std.proofs.Common.{◌≡◌, ◌∙◌, ℕ, List, Option, Some, None, map, ap, sym}
+use Rattle.std.proofs.Common.{◌≡◌, ◌∙◌, ℕ, List, Some, None, map, ap, sym}
 use Rattle.std.specs.Option.{option_map}
 use Rattle.fr_base.specs.declared.node_row.NodeRow.{NodeRow}
 use Rattle.fr_reception.specs.Regular.{regular_frame}
 use Rattle.fr_node.specs.View.{row_of}
 use Rattle.fr_history.specs.Setting.{Setting}
-use Rattle.fr_history.specs.Offers.{frame_in}
 use Rattle.fr_world.proofs.Channels.{heard-counts, heard-nodes, sender-frame, sent-offer, silent-counts, silent-nodes, unsent-offer}
 use Rattle.fr_world.specs.Run.{setting_in}
 use Rattle.fr_world.specs.Sending.{offer_heard, sending_row_in}

@@ -1,0 +1,19 @@
+use Rattle.std.proofs.Common.{◌≡◌, ◌∙◌, List, ap, subst}
+use Rattle.std.specs.Prelude.{find, ◌==◌}
+use Rattle.std.specs.Option.{option_copied}
+use Rattle.fr_history.specs.Next.{history_of}
+use Rattle.fr_node.specs.View.{NodeView}
+use Rattle.fr_world.proofs.NodeIn.{node-found}
+use Rattle.fr_world.specs.Run.{setting_in}
+use Rattle.fr_world.specs.World.{node_in, WorldView}
+use Rattle.fr_world.proofs.world.World.node.Goals as goal
+
+pub returns : goal.returns
+returns c =
+    let f = c.self.inside.files in
+    let x = setting_in f in
+    let P : WorldView → Type 0 = λ w. option_copied c.node_among.result ≡ node_in w c.args.id in
+    subst P c.self.view_is
+    (c.node_among.ensures
+    ∙ ap (λ (nodes : List NodeView). find (λ node. node.id == c.args.id) nodes) (c.as_slice.ensures.value ∙ c.self.invariant.nodes_are)
+    ∙ node-found x (history_of x c.self.inside.next) c.args.id f.params.nodes)
