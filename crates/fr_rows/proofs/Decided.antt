@@ -14,7 +14,7 @@ use Rattle.fr_base.specs.declared.channel.Channel.TheVariants.{A, B}
 use Rattle.fr_drift.specs.Held.{held}
 use Rattle.fr_drift.specs.Keys.{found_at, length_cmp}
 use Rattle.fr_drift.specs.Questions.{delay_of, doubles_of, length_of, rate_of, start_of}
-use Rattle.fr_drift.specs.View.{DriftView, delay_rows, length_rows}
+use Rattle.fr_drift.specs.View.{DriftView}
 use Rattle.fr_drift.specs.declared.keys.LengthKey.{LengthKey}
 use Rattle.fr_drift.specs.declared.rows.Start.{Start}
 use Rattle.fr_params.specs.Reasons.{or_else}

@@ -1,16 +1,16 @@
 -- The run with one arbitrary node, cycle by cycle.
-use Rattle.std.proofs.Common.{◌≡◌, [], ◌∷◌, None, Some, pos, refl, ℕ, zero, suc, negsuc, true, false, Bool, ◌==◌, nat_lt, ◌&&◌, ◌||◌, List, Option, sym, ap, ◌∙◌, arith, if◌then◌else◌}
+use Rattle.std.proofs.Common.{◌≡◌, [], ◌∷◌, None, Some, pos, refl, ℕ, zero, suc, negsuc, true, false, Bool, ◌==◌, nat_lt, ◌&&◌, ◌||◌, Option, sym, ap, ◌∙◌, arith, if◌then◌else◌}
 use Rattle.std.specs.Prelude.{cond}
 use Rattle.std.proofs.lemmas.Bool.Decides.{nat_tests}
 use Rattle.fr_base.specs.Event.{Event}
 use Rattle.fr_base.specs.Event as event
 use Rattle.fr_base.specs.declared.channel.Channel.{Channel}
 use Rattle.fr_base.specs.declared.channel.Channel.TheVariants.{A, B}
-use Rattle.fr_script.specs.Deeds.{deed_in, passage_of}
+use Rattle.fr_script.specs.Deeds.{passage_of}
 use Rattle.fr_script.specs.Events.{event_by, event_of}
 use Rattle.fr_script.specs.declared.deeds.Deed.{Deed}
 use Rattle.fr_script.specs.declared.deeds.Deed.TheVariants as deed
-use Rattle.fr_rows.proofs.Decided.{Answer, decided, event_is, no_row, none_marked, said_to, steady_delays, steady_doubles, steady_lengths, steady_rates, steady_starts}
+use Rattle.fr_rows.proofs.Decided.{decided, event_is, no_row, none_marked, said_to, steady_delays, steady_doubles, steady_lengths, steady_rates, steady_starts}
 use Rattle.fr_drift.specs.View.{DriftView}
 use Rattle.fr_script.specs.Coverage.{first_gap}
 use Rattle.fr_script.specs.View.{ScriptView, deed_of, is_arbitrary}
