@@ -61,9 +61,12 @@ offset_gap_is d s same =
       events_decided offset_run.params d s offset_run same,
     ) refl
 
--- the row of a node that is node 2 or not
+-- the start of node 2, and the row of a node that is node 2 or not
+abbrev later : Start
+later = record { ticks = pos 2_500_000; rate = pos 0 }
+
 abbrev start_row : Bool → Option Start
-start_row there = cond there (Some (record { ticks = pos 2_500_000; rate = pos 0 })) None
+start_row there = cond there (Some later) None
 
 -- what the drift file of the run answers
 pub offset_doubles : doubles_of offset_drift ≡ 2
@@ -73,7 +76,7 @@ offset_doubles = refl
 pub offset_starts : (node : ℕ) → start_of offset_drift node ≡ (if node == 2 then pos 2_500_000 else pos 0)
 unfolding start_of
 offset_starts node =
-    ap (λ (o : Option Start). option_map_or (λ (s : Start). s.ticks) o (pos 0)) (one_start node 2 (record { ticks = pos 2_500_000; rate = pos 0 }))
+    ap (λ (o : Option Start). option_map_or (λ (s : Start). s.ticks) o (pos 0)) (one_start node 2 later)
     ∙ by (node == 2)
   where
     by : (there : Bool) → option_map_or (λ (s : Start). s.ticks) (start_row there) (pos 0) ≡ (if there then pos 2_500_000 else pos 0)
@@ -83,7 +86,7 @@ offset_starts node =
 pub offset_rates : (node : ℕ) → rate_of offset_drift node ≡ pos 0
 unfolding rate_of
 offset_rates node =
-    ap (λ (o : Option Start). option_map_or (λ (s : Start). s.rate) o (pos 0)) (one_start node 2 (record { ticks = pos 2_500_000; rate = pos 0 }))
+    ap (λ (o : Option Start). option_map_or (λ (s : Start). s.rate) o (pos 0)) (one_start node 2 later)
     ∙ by (node == 2)
   where
     by : (there : Bool) → option_map_or (λ (s : Start). s.rate) (start_row there) (pos 0) ≡ pos 0
