@@ -14,7 +14,7 @@ use Rattle.fr_base.specs.declared.channel.Channel.TheVariants.{A, B}
 use Rattle.fr_drift.specs.Held.{held}
 use Rattle.fr_drift.specs.Keys.{found_at, length_cmp}
 use Rattle.fr_drift.specs.Questions.{delay_of, doubles_of, length_of, rate_of, start_of}
-use Rattle.fr_drift.specs.View.{DriftView, delay_rows, length_rows}
+use Rattle.fr_drift.specs.View.{DriftView}
 use Rattle.fr_drift.specs.declared.keys.LengthKey.{LengthKey}
 use Rattle.fr_drift.specs.declared.rows.Start.{Start}
 use Rattle.fr_params.specs.Reasons.{or_else}
@@ -173,20 +173,20 @@ first_two (suc (suc cycle)) =
     (λ i. zeroth i || first i) ∙ sym late
 
 -- what rows to receivers in the first double cycle say of a passage
-pub said_to :
+pub rows_say :
     (by : ℕ) (shift : ℤ) (receivers : List ℕ) (rest : List (Passage × Deed)) (cycle sender receiver : ℕ)
     → deed_in (says_to by shift receivers ++ rest) (passage_of sender receiver cycle)
     ≡ cond ((sender == by) && (list_any (λ r. receiver == r) receivers && nat_lt cycle 2)) (Some (Say shift None)) (deed_in rest (passage_of sender receiver cycle))
 unfolding deed_in
-said_to by shift [] rest cycle sender receiver = nobody (sender == by)
+rows_say by shift [] rest cycle sender receiver = nobody (sender == by)
   where
     nobody : (b : Bool) → deed_in rest (passage_of sender receiver cycle) ≡ cond (b && false) (Some (Say shift None)) (deed_in rest (passage_of sender receiver cycle))
     nobody true = refl
     nobody false = refl
-said_to by shift (r ∷ receivers) rest cycle sender receiver =
+rows_say by shift (r ∷ receivers) rest cycle sender receiver =
     rows
     ∙ two_rows (sender == by) (receiver == r) (cycle == 0) (cycle == 1) (Say shift None) (deed_in (says_to by shift receivers ++ rest) (passage_of sender receiver cycle))
-    ∙ behind (said_to by shift receivers rest cycle sender receiver)
+    ∙ behind (rows_say by shift receivers rest cycle sender receiver)
     ∙ more_rows (sender == by) (receiver == r) (list_any (λ r. receiver == r) receivers) (nat_lt cycle 2) (Say shift None) (deed_in rest (passage_of sender receiver cycle))
   where
     rows :

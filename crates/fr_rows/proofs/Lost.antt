@@ -1,5 +1,5 @@
 -- The runs in which one frame is hit, cycle by cycle.
-use Rattle.std.proofs.Common.{◌≡◌, [], ◌∷◌, None, Some, pos, refl, ℕ, true, false, Bool, ◌==◌, ◌&&◌, Option, ap, ◌∙◌, if◌then◌else◌}
+use Rattle.std.proofs.Common.{◌≡◌, [], ◌∷◌, None, Some, pos, refl, ℕ, true, false, Bool, ◌==◌, ◌&&◌, ◌∙◌, if◌then◌else◌}
 use Rattle.std.specs.Prelude.{cond}
 use Rattle.fr_base.specs.Event.{Event}
 use Rattle.fr_base.specs.Event.Event.{Regular, Silent, Flip}
@@ -9,7 +9,7 @@ use Rattle.fr_script.specs.Deeds.{deed_in, passage_of}
 use Rattle.fr_script.specs.Events.{done_by, event_of}
 use Rattle.fr_script.specs.declared.deeds.Deed.{Deed}
 use Rattle.fr_script.specs.declared.deeds.Deed.TheVariants as deed
-use Rattle.fr_rows.proofs.Decided.{Answer, decided, event_is, no_row, none_marked, passage_is}
+use Rattle.fr_rows.proofs.Decided.{decided, event_is, no_row, none_marked, passage_is}
 use Rattle.fr_rows.proofs.Offset.{offset_delays, offset_doubles, offset_lengths, offset_rates, offset_starts}
 use Rattle.fr_drift.specs.View.{DriftView}
 use Rattle.fr_script.specs.Coverage.{first_gap}

@@ -1,10 +1,10 @@
 -- The run of two nodes with an offset, cycle by cycle.
-use Rattle.std.proofs.Common.{◌≡◌, ℕ, ◌==◌, ℤ, Bool, true, false, Option, [], ◌∷◌, None, Some, pos, ap, ◌∙◌, refl, if◌then◌else◌}
+use Rattle.std.proofs.Common.{◌≡◌, ℕ, ◌==◌, Bool, true, false, Option, [], ◌∷◌, None, Some, pos, ap, ◌∙◌, refl, if◌then◌else◌}
 use Rattle.std.specs.Option.{option_map_or}
 use Rattle.std.specs.Prelude.{cond}
 use Rattle.fr_base.specs.declared.channel.Channel.{Channel}
 use Rattle.fr_drift.specs.Questions.{delay_of, doubles_of, length_of, rate_of, start_of}
-use Rattle.fr_drift.specs.View.{DriftView, start_rows}
+use Rattle.fr_drift.specs.View.{DriftView}
 use Rattle.fr_drift.specs.declared.rows.Start.{Start}
 use Rattle.fr_script.specs.Coverage.{first_gap}
 use Rattle.fr_script.specs.View.{ScriptView}
@@ -13,9 +13,9 @@ use Rattle.fr_history.specs.Skew.{greatest_skew_of}
 use Rattle.fr_history.specs.Sync.{first_sync_of}
 use Rattle.fr_report.specs.Text.{report_of}
 use Rattle.fr_rows.proofs.Computing.{on_gaps, on_histories, on_records, on_reports}
-use Rattle.fr_rows.proofs.Decided.{Answer, decided, one_start, plain_events, plain_nodes, steady_delays, steady_lengths}
+use Rattle.fr_rows.proofs.Decided.{decided, one_start, plain_events, plain_nodes, steady_delays, steady_lengths}
 use Rattle.fr_rows.proofs.Gaps.{delays_decided, doubles_decided, events_decided, lengths_decided, nodes_decided}
-use Rattle.fr_rows.specs.Files.{plain_script, run_of, steady_drift}
+use Rattle.fr_rows.specs.Files.{plain_script, run_of}
 use Rattle.fr_rows.specs.Offset.{offset_cycle_0, offset_cycle_1, offset_cycle_2, offset_cycle_3, offset_drift, offset_history, offset_report, offset_run}
 
 cycle_0_is : next_record offset_run [] ≡ offset_cycle_0
@@ -61,9 +61,12 @@ offset_gap_is d s same =
       events_decided offset_run.params d s offset_run same,
     ) refl
 
--- the row of a node that is node 2 or not
+-- the start of node 2, and the row of a node that is node 2 or not
+abbrev later : Start
+later = record { ticks = pos 2_500_000; rate = pos 0 }
+
 abbrev start_row : Bool → Option Start
-start_row there = cond there (Some (record { ticks = pos 2_500_000; rate = pos 0 })) None
+start_row there = cond there (Some later) None
 
 -- what the drift file of the run answers
 pub offset_doubles : doubles_of offset_drift ≡ 2
@@ -73,7 +76,7 @@ offset_doubles = refl
 pub offset_starts : (node : ℕ) → start_of offset_drift node ≡ (if node == 2 then pos 2_500_000 else pos 0)
 unfolding start_of
 offset_starts node =
-    ap (λ (o : Option Start). option_map_or (λ (s : Start). s.ticks) o (pos 0)) (one_start node 2 (record { ticks = pos 2_500_000; rate = pos 0 }))
+    ap (λ (o : Option Start). option_map_or (λ (s : Start). s.ticks) o (pos 0)) (one_start node 2 later)
     ∙ by (node == 2)
   where
     by : (there : Bool) → option_map_or (λ (s : Start). s.ticks) (start_row there) (pos 0) ≡ (if there then pos 2_500_000 else pos 0)
@@ -83,7 +86,7 @@ offset_starts node =
 pub offset_rates : (node : ℕ) → rate_of offset_drift node ≡ pos 0
 unfolding rate_of
 offset_rates node =
-    ap (λ (o : Option Start). option_map_or (λ (s : Start). s.rate) o (pos 0)) (one_start node 2 (record { ticks = pos 2_500_000; rate = pos 0 }))
+    ap (λ (o : Option Start). option_map_or (λ (s : Start). s.rate) o (pos 0)) (one_start node 2 later)
     ∙ by (node == 2)
   where
     by : (there : Bool) → option_map_or (λ (s : Start). s.rate) (start_row there) (pos 0) ≡ pos 0

@@ -1,16 +1,16 @@
 -- The run with one arbitrary node, cycle by cycle.
-use Rattle.std.proofs.Common.{◌≡◌, [], ◌∷◌, None, Some, pos, refl, ℕ, zero, suc, negsuc, true, false, Bool, ◌==◌, nat_lt, ◌&&◌, ◌||◌, List, Option, sym, ap, ◌∙◌, arith, if◌then◌else◌}
+use Rattle.std.proofs.Common.{◌≡◌, [], ◌∷◌, None, Some, pos, refl, ℕ, zero, suc, negsuc, true, false, Bool, ◌==◌, nat_lt, ◌&&◌, ◌||◌, Option, sym, ap, ◌∙◌, arith, if◌then◌else◌}
 use Rattle.std.specs.Prelude.{cond}
 use Rattle.std.proofs.lemmas.Bool.Decides.{nat_tests}
 use Rattle.fr_base.specs.Event.{Event}
 use Rattle.fr_base.specs.Event as event
 use Rattle.fr_base.specs.declared.channel.Channel.{Channel}
 use Rattle.fr_base.specs.declared.channel.Channel.TheVariants.{A, B}
-use Rattle.fr_script.specs.Deeds.{deed_in, passage_of}
+use Rattle.fr_script.specs.Deeds.{passage_of}
 use Rattle.fr_script.specs.Events.{event_by, event_of}
 use Rattle.fr_script.specs.declared.deeds.Deed.{Deed}
 use Rattle.fr_script.specs.declared.deeds.Deed.TheVariants as deed
-use Rattle.fr_rows.proofs.Decided.{Answer, decided, event_is, no_row, none_marked, said_to, steady_delays, steady_doubles, steady_lengths, steady_rates, steady_starts}
+use Rattle.fr_rows.proofs.Decided.{decided, event_is, no_row, none_marked, rows_say, steady_delays, steady_doubles, steady_lengths, steady_rates, steady_starts}
 use Rattle.fr_drift.specs.View.{DriftView}
 use Rattle.fr_script.specs.Coverage.{first_gap}
 use Rattle.fr_script.specs.View.{ScriptView, deed_of, is_arbitrary}
@@ -21,8 +21,7 @@ use Rattle.fr_report.specs.Text.{report_of}
 use Rattle.fr_rows.proofs.Computing.{on_gaps, on_histories, on_records, on_reports}
 use Rattle.fr_rows.proofs.Gaps.{delays_decided, doubles_decided, events_decided, lengths_decided, nodes_decided}
 use Rattle.fr_rows.specs.Files.{run_of, said_first, says_to, steady_drift}
-use Rattle.fr_rows.specs.OneArbitrary as spoken
-use Rattle.fr_rows.specs.OneArbitrary.{one_arbitrary_cycle_0, one_arbitrary_cycle_1, one_arbitrary_history, one_arbitrary_report, one_arbitrary_run, one_arbitrary_script}
+use Rattle.fr_rows.specs.OneArbitrary.{one_arbitrary_cycle_0, one_arbitrary_cycle_1, one_arbitrary_history, one_arbitrary_report, one_arbitrary_run, one_arbitrary_script, said_to}
 
 cycle_0_is : next_record one_arbitrary_run [] ≡ one_arbitrary_cycle_0
 unfolding on_records
@@ -79,10 +78,10 @@ said by to_1 to_2 first =
 one_arbitrary_deeds : (cycle sender receiver : ℕ) → deed_of one_arbitrary_script cycle sender receiver A ≡ said (sender == 4) (receiver == 1) (receiver == 2) (nat_lt cycle 2)
 unfolding deed_of
 one_arbitrary_deeds cycle sender receiver =
-    said_to 4 (pos 100_000_000) (1 ∷ []) (says_to 4 (negsuc 99_999_999) (2 ∷ [])) cycle sender receiver
+    rows_say 4 (pos 100_000_000) (1 ∷ []) (says_to 4 (negsuc 99_999_999) (2 ∷ [])) cycle sender receiver
     ∙ ap
     (λ (o : Option Deed). cond ((sender == 4) && (((receiver == 1) || false) && nat_lt cycle 2)) (Some (deed.Say (pos 100_000_000) None)) o)
-    (said_to 4 (negsuc 99_999_999) (2 ∷ []) [] cycle sender receiver ∙ ap (λ (o : Option Deed). cond ((sender == 4) && (((receiver == 2) || false) && nat_lt cycle 2)) (Some (deed.Say (negsuc 99_999_999) None)) o) (no_row (passage_of sender receiver cycle)))
+    (rows_say 4 (negsuc 99_999_999) (2 ∷ []) [] cycle sender receiver ∙ ap (λ (o : Option Deed). cond ((sender == 4) && (((receiver == 2) || false) && nat_lt cycle 2)) (Some (deed.Say (negsuc 99_999_999) None)) o) (no_row (passage_of sender receiver cycle)))
 
 silent_on_b : (cycle sender receiver : ℕ) → deed_of one_arbitrary_script cycle sender receiver B ≡ None
 unfolding deed_of
@@ -90,7 +89,7 @@ silent_on_b cycle sender receiver = no_row (passage_of sender receiver cycle)
 
 one_arbitrary_events :
     (cycle sender receiver : ℕ) (channel : Channel)
-    → event_of one_arbitrary_script cycle sender receiver channel ≡ (if sender == 4 then said_first (spoken.said_to receiver) cycle channel else event.Regular)
+    → event_of one_arbitrary_script cycle sender receiver channel ≡ (if sender == 4 then said_first (said_to receiver) cycle channel else event.Regular)
 one_arbitrary_events cycle sender receiver A =
     event_is one_arbitrary_script cycle sender receiver A (sender == 4) (said (sender == 4) (receiver == 1) (receiver == 2) (nat_lt cycle 2))
     (one_arbitrary_nodes sender) (one_arbitrary_deeds cycle sender receiver)

@@ -1,12 +1,11 @@
 -- The run of two nodes whose oscillators lie apart, cycle by cycle.
-use Rattle.std.proofs.Common.{◌≡◌, [], ◌∷◌, None, Some, pos, refl, ℕ, ℤ, zero, suc, true, false, Bool, ◌==◌, ◌&&◌, Option, sym, ap, ◌∙◌, arith, if◌then◌else◌}
+use Rattle.std.proofs.Common.{◌≡◌, [], ◌∷◌, None, Some, pos, refl, ℕ, ℤ, suc, true, false, Bool, ◌==◌, ◌&&◌, Option, ap, ◌∙◌, arith, if◌then◌else◌}
 use Rattle.std.specs.Prelude.{cond, unwrap_or}
 use Rattle.std.proofs.lemmas.Bool.Decides.{nat_tests}
-use Rattle.std.specs.Ordering.{nat_cmp}
 use Rattle.fr_base.specs.declared.channel.Channel.{Channel}
 use Rattle.fr_drift.specs.Keys.{length_key}
 use Rattle.fr_drift.specs.Questions.{delay_of, doubles_of, length_of, rate_of, start_of}
-use Rattle.fr_rows.proofs.Decided.{Answer, both_are, decided, held_first, length_is, plain_events, plain_nodes, steady_delays, steady_rates, steady_starts}
+use Rattle.fr_rows.proofs.Decided.{decided, held_first, length_is, plain_events, plain_nodes, steady_delays, steady_rates, steady_starts}
 use Rattle.fr_drift.specs.View.{DriftView, length_rows}
 use Rattle.fr_script.specs.Coverage.{first_gap}
 use Rattle.fr_script.specs.View.{ScriptView}

@@ -12,7 +12,7 @@ use Rattle.fr_script.specs.Deeds.{deed_in, passage_of}
 use Rattle.fr_script.specs.Events.{event_by, event_of}
 use Rattle.fr_script.specs.declared.deeds.Deed.{Deed}
 use Rattle.fr_script.specs.declared.deeds.Deed.TheVariants as deed
-use Rattle.fr_rows.proofs.Decided.{Answer, decided, event_is, no_row, none_marked, said_to, steady_delays, steady_doubles, steady_lengths, steady_rates, steady_starts}
+use Rattle.fr_rows.proofs.Decided.{decided, event_is, no_row, none_marked, rows_say, steady_delays, steady_doubles, steady_lengths, steady_rates, steady_starts}
 use Rattle.fr_drift.specs.View.{DriftView}
 use Rattle.fr_script.specs.Coverage.{first_gap}
 use Rattle.fr_script.specs.View.{ScriptView, deed_of, is_arbitrary}
@@ -127,7 +127,7 @@ late_deeds :
     → deed_in (says_to 7 (pos 100_000_000) (1 ∷ 2 ∷ 3 ∷ 4 ∷ 5 ∷ 6 ∷ []) ++ rest) (passage_of sender receiver cycle)
     ≡ cond ((sender == 7) && (is_among_six receiver && nat_lt cycle 2)) (Some (deed.Say (pos 100_000_000) None)) (deed_in rest (passage_of sender receiver cycle))
 late_deeds rest cycle sender receiver =
-    said_to 7 (pos 100_000_000) (1 ∷ 2 ∷ 3 ∷ 4 ∷ 5 ∷ 6 ∷ []) rest cycle sender receiver
+    rows_say 7 (pos 100_000_000) (1 ∷ 2 ∷ 3 ∷ 4 ∷ 5 ∷ 6 ∷ []) rest cycle sender receiver
     ∙ ap (λ (b : Bool). cond ((sender == 7) && (b && nat_lt cycle 2)) (Some (deed.Say (pos 100_000_000) None)) (deed_in rest (passage_of sender receiver cycle))) (late_listens receiver)
 
 early_deeds :
@@ -135,7 +135,7 @@ early_deeds :
     → deed_in (says_to 8 (negsuc 99_999_999) (1 ∷ 3 ∷ 4 ∷ 5 ∷ 6 ∷ []) ++ rest) (passage_of sender receiver cycle)
     ≡ cond ((sender == 8) && ((is_among_six receiver && not (receiver == 2)) && nat_lt cycle 2)) (Some (deed.Say (negsuc 99_999_999) None)) (deed_in rest (passage_of sender receiver cycle))
 early_deeds rest cycle sender receiver =
-    said_to 8 (negsuc 99_999_999) (1 ∷ 3 ∷ 4 ∷ 5 ∷ 6 ∷ []) rest cycle sender receiver
+    rows_say 8 (negsuc 99_999_999) (1 ∷ 3 ∷ 4 ∷ 5 ∷ 6 ∷ []) rest cycle sender receiver
     ∙ ap (λ (b : Bool). cond ((sender == 8) && (b && nat_lt cycle 2)) (Some (deed.Say (negsuc 99_999_999) None)) (deed_in rest (passage_of sender receiver cycle))) (early_listens receiver)
 
 two_arbitrary_deeds :

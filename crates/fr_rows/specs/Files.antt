@@ -1,5 +1,5 @@
 -- The run that a parameter file, a drift file and a script decide.
-use Rattle.std.specs.Prelude.{ℕ, ℤ, pos, Bool, false, List, [], ◌∷◌, ◌++◌, None, flat_map, nat_lt, replicate, if◌then◌else◌}
+use Rattle.std.specs.Prelude.{ℕ, ℤ, pos, Bool, false, List, [], ◌∷◌, None, flat_map, nat_lt, replicate, if◌then◌else◌}
 use Rattle.fr_base.specs.Event.{Event}
 use Rattle.fr_base.specs.Event.Event.{Silent}
 use Rattle.fr_base.specs.declared.channel.Channel.{Channel}
