@@ -16,3 +16,4 @@ pub mod Sweeps
 pub mod OneCycle
 pub mod Fresh
 pub mod NodeIn
+pub mod Deciding

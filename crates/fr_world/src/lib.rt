@@ -8,6 +8,7 @@ mod files;
 mod flipping;
 mod hearing;
 mod instants;
+mod laws;
 mod listing;
 mod offering;
 mod running;
@@ -17,4 +18,5 @@ mod turn;
 mod world;
 
 pub use fault::BuildFault;
+pub use laws::files_decide_one_history;
 pub use world::World;
