@@ -3,7 +3,7 @@ ghost use Rattle.fr_params.specs.Values.{amount};
 ghost use Rattle.fr_params.specs.declared.names.ParamName.TheVariants as name;
 ghost use Rattle.fr_time.specs.Cycles.{cycle_count};
 ghost use Rattle.fr_time.specs.Senders.{sender_of};
-ghost use Rattle.fr_reception.specs.Regular.{has_payload, is_coldstart, is_sync_frame, payload_byte, payload_length, payload_of, regular_frame, regular_header};
+ghost use Rattle.fr_reception.specs.Regular.{has_payload, is_coldstart, is_sync_frame, payload_byte, payload_bytes, payload_of, regular_frame, regular_header};
 
 use crate::own::sane;
 use fr_base::{Channel, NodeId, Slot};
@@ -23,8 +23,8 @@ pub fn frame_of(
     out: &mut [u8],
 ) -> usize
     requires sends { sender_of params.now slot cycle ≡ Some sending.now }
-    requires room { 8 + payload_length params.now ≤ length out.old }
-    ensures count { result ≡ 8 + payload_length params.now }
+    requires room { 8 + payload_bytes params.now ≤ length out.old }
+    ensures count { result ≡ 8 + payload_bytes params.now }
     ensures written { out.new ≡
         regular_frame params.now sending.now slot cycle channel ++ drop result out.old }
 {

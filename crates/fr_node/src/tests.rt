@@ -170,7 +170,14 @@ fn is_own(params: &Params, id: NodeId, slot: Slot) -> bool
 }
 
 /// What a node makes of an offer, where it may be made one.
-fn hears(params: &Params, node: &mut Node, slot: u16, arrival: i64, bytes: &[u8]) -> Option<Heard>
+fn hears(
+    params: &Params,
+    node: &mut Node,
+    slot: u16,
+    channel: Channel,
+    arrival: i64,
+    bytes: &[u8],
+) -> Option<Heard>
     requires fits { Fits params.now node.old }
     requires under_way { IsSome node.old.length }
     requires from { 1 ≤ slot }
@@ -190,10 +197,10 @@ fn hears(params: &Params, node: &mut Node, slot: u16, arrival: i64, bytes: &[u8]
     if !within || is_own(params, id, slot) {
         return None;
     }
-    if state == State::Halt || !params.common(id, id, Channel::A) {
+    if state == State::Halt || !params.common(id, id, channel) {
         return None;
     }
-    Some(node.hear(params, slot, Channel::A, arrival, bytes))
+    Some(node.hear(params, slot, channel, arrival, bytes))
 }
 
 /// The parameters of the cluster.
@@ -220,7 +227,7 @@ fn cycle_with(
     ensures next { node.new.cycle ≡ cycle + 1 }
 {
     node.begin(cycle, 1_000_000);
-    let heard = hears(params, node, 1, arrival, bytes);
+    let heard = hears(params, node, 1, Channel::A, arrival, bytes);
     (heard, node.end(params))
 }
 
@@ -234,7 +241,7 @@ fn first_wrong(params: &Params, node: &mut Node) -> Option<usize>
             return Some(place);
         }
         let want = heard(*slot, *arrival, *answer);
-        if hears(params, node, *slot, *arrival, bytes) != Some(want) {
+        if hears(params, node, *slot, Channel::A, *arrival, bytes) != Some(want) {
             return Some(place);
         }
     }
@@ -353,6 +360,46 @@ fn halts_without_values(rt: HostRuntime) -> Result<(), Fail> {
         (halted.state, halted.offset, halted.cut),
         (State::Halt, 0, 0)
     );
+    Ok(())
+}
+
+/// The cluster of two nodes on both channels, with a delay of 40 microticks that is taken off.
+const DELAYED: &[u8] = b"param,gMacroPerCycle,5000,,
+param,pMicroPerCycle,200000,,
+param,gNumberOfStaticSlots,140,,
+param,gdStaticSlot,30,,
+param,gdActionPointOffset,7,,
+param,gdNIT,800,,
+param,gPayloadLengthStatic,0,,
+param,gOffsetCorrectionStart,4900,,
+param,gMaxWithoutClockCorrectionPassive,2,,
+param,gMaxWithoutClockCorrectionFatal,4,,
+param,pAllowHaltDueToClock,1,,
+param,pAllowPassiveToActive,2,,
+param,pClusterDriftDamping,4,,
+param,pOffsetCorrectionOut,254,,
+param,pRateCorrectionOut,81,,
+param,pDelayCompensation,40,,
+param,xRateBound,200,,
+param,xChangeBound,0,,
+param,xDelayError,500000,,
+node,1,1,AB,1
+node,2,2,AB,1
+";
+
+/// A sync frame in slot 1 of cycle 0 on channel B, which is also a null frame.
+const SYNC_ON_B: &[u8] = b"\x18\x01\x00\x6F\x00\x71\x6B\x40";
+
+#[test]
+fn takes_off_the_delay(rt: HostRuntime) -> Result<(), Fail> {
+    let params = read(rt.alloc(), DELAYED)?;
+    let mut node = made(&params, 2, 0).ok_or("no node 2")?;
+    node.begin(0, 1_000_000);
+    let heard = hears(&params, &mut node, 1, Channel::B, 321_000_000, SYNC_ON_B);
+    let on_a = node.deviation(0, false, Channel::A);
+    let on_b = node.deviation(0, false, Channel::B);
+    assert_eq!(rt; heard, Some(Heard::Stored(1)));
+    assert_eq!(rt; (on_a, on_b), (None, Some(1)));
     Ok(())
 }
 

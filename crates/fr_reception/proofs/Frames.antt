@@ -22,7 +22,7 @@ use Rattle.fr_params.specs.declared.rows.NodeSpec.{NodeSpec}
 use Rattle.fr_params.specs.declared.rows.SlotSpec.{SlotSpec}
 use Rattle.fr_time.specs.Senders.{is_key, key_node_of, further_slot_of, sync_sending, further_sending, sender_of}
 use Rattle.fr_time.specs.declared.senders.Sending.{Sending}
-use Rattle.fr_reception.specs.Regular.{has_payload, is_sync_frame, is_coldstart, payload_byte, payload_length, payload_of, regular_header, regular_payload, regular_frame}
+use Rattle.fr_reception.specs.Regular.{has_payload, is_sync_frame, is_coldstart, payload_byte, payload_bytes, payload_of, regular_header, regular_payload, regular_frame}
 
 -- what is found passes the test, and is what all elements are
 find_holds : {X : Type 0} (P : X → Type 0) (test : X → Bool) (xs : List X) (x : X) → All P xs → find test xs ≡ Some x → P x × (test x ≡ true)
@@ -74,10 +74,10 @@ payload_of-small false count slot cycle = All-replicate (λ byte. byte < 2 ^ 8) 
 
 -- ---- the frame
 pub regular_is_accepted : (p : Values) (sending : Sending) (slot cycle : ℕ) → IsSane p → sender_of p slot cycle ≡ Some sending →
-    IsAccepted (regular_header p sending slot cycle) (length (regular_payload p sending slot cycle)) (8 + payload_length p)
+    IsAccepted (regular_header p sending slot cycle) (length (regular_payload p sending slot cycle)) (8 + payload_bytes p)
 regular_is_accepted p sending slot cycle sane sends =
     let number : (1 ≤ slot) × (slot ≤ 1023) = slot_number p slot cycle sending sane sends in
-    let long : length (regular_payload p sending slot cycle) ≡ payload_length p = length-payload_of (has_payload sending.kind) (payload_length p) slot cycle in
+    let long : length (regular_payload p sending slot cycle) ≡ payload_bytes p = length-payload_of (has_payload sending.kind) (payload_bytes p) slot cycle in
     record {
       good_flags = record {
         good_payload = record {
@@ -94,15 +94,15 @@ pub regular_is_frame : (p : Values) (sending : Sending) (slot cycle : ℕ) (chan
     IsFrame channel (regular_header p sending slot cycle) (regular_payload p sending slot cycle) (regular_frame p sending slot cycle channel)
 unfolding regular_frame
 regular_is_frame p sending slot cycle channel sane sends =
-    accepted_frame channel (regular_header p sending slot cycle) (regular_payload p sending slot cycle) (8 + payload_length p) (regular_is_accepted p sending slot cycle sane sends)
+    accepted_frame channel (regular_header p sending slot cycle) (regular_payload p sending slot cycle) (8 + payload_bytes p) (regular_is_accepted p sending slot cycle sane sends)
 
 pub regular_is_of_bytes : (p : Values) (sending : Sending) (slot cycle : ℕ) (channel : Channel) → IsSane p → sender_of p slot cycle ≡ Some sending →
     All (λ byte. byte < 2 ^ 8) (regular_frame p sending slot cycle channel)
 regular_is_of_bytes p sending slot cycle channel sane sends =
     frame_small channel (regular_header p sending slot cycle) (regular_payload p sending slot cycle) (regular_frame p sending slot cycle channel)
-    (regular_is_frame p sending slot cycle channel sane sends) (payload_of-small (has_payload sending.kind) (payload_length p) slot cycle)
+    (regular_is_frame p sending slot cycle channel sane sends) (payload_of-small (has_payload sending.kind) (payload_bytes p) slot cycle)
 
 pub length-regular_frame : (p : Values) (sending : Sending) (slot cycle : ℕ) (channel : Channel) → IsSane p → sender_of p slot cycle ≡ Some sending →
-    length (regular_frame p sending slot cycle channel) ≡ 8 + payload_length p
+    length (regular_frame p sending slot cycle channel) ≡ 8 + payload_bytes p
 length-regular_frame p sending slot cycle channel sane sends =
     (lengths_fit channel (regular_header p sending slot cycle) (regular_payload p sending slot cycle) (regular_frame p sending slot cycle channel) (regular_is_frame p sending slot cycle channel sane sends)).0

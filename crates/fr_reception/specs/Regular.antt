@@ -47,8 +47,8 @@ abbrev pub payload_byte : ℕ → ℕ → ℕ → ℕ
 payload_byte slot cycle place = (7 * slot + 3 * cycle_count cycle + place) % 256
 
 -- how many bytes of payload a static frame has
-abbrev pub payload_length : Values → ℕ
-payload_length p = 2 * amount p name.gPayloadLengthStatic
+abbrev pub payload_bytes : Values → ℕ
+payload_bytes p = 2 * amount p name.gPayloadLengthStatic
 
 -- the payload: the pattern where it is valid, and else zeros
 abbrev pub payload_of : Bool → ℕ → ℕ → ℕ → List ℕ
@@ -56,7 +56,7 @@ payload_of true count slot cycle = map (payload_byte slot cycle) (range_with_len
 payload_of false count slot cycle = replicate count 0
 
 abbrev pub regular_payload : Values → Sending → ℕ → ℕ → List ℕ
-regular_payload p sending slot cycle = payload_of (has_payload sending.kind) (payload_length p) slot cycle
+regular_payload p sending slot cycle = payload_of (has_payload sending.kind) (payload_bytes p) slot cycle
 
 -- the bytes of the frame on a channel
 unfoldable pub regular_frame : Values → Sending → ℕ → ℕ → Channel → List ℕ

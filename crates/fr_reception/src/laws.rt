@@ -14,7 +14,7 @@ ghost use Rattle.fr_time.specs.declared.senders.Sending.{Sending};
 ghost use Rattle.fr_reception.specs.declared.heard.Heard.{Heard};
 ghost use Rattle.fr_reception.specs.Answers.{IsAnswer, answer_of};
 ghost use Rattle.fr_reception.specs.Offers.{Offer, early_instant};
-ghost use Rattle.fr_reception.specs.Regular.{carried_crc, payload_length, regular_frame, regular_header, regular_payload};
+ghost use Rattle.fr_reception.specs.Regular.{carried_crc, payload_bytes, regular_frame, regular_header, regular_payload};
 
 /// A law: the function of an offer gives an answer, where the offer is made of bytes.
 pub fn an_answer()
@@ -47,7 +47,7 @@ pub fn a_regular_frame()
         All (λ byte. byte < 2 ^ 8) (regular_frame p sending slot cycle channel) }
     ensures long { (p : Values) (sending : Sending) (slot cycle : ℕ) (channel : Channel) →
         IsSane p → sender_of p slot cycle ≡ Some sending →
-        length (regular_frame p sending slot cycle channel) ≡ 8 + payload_length p }
+        length (regular_frame p sending slot cycle channel) ≡ 8 + payload_bytes p }
 {}
 
 /// A law: a frame carries its frame CRC in its last three bytes.
