@@ -1,4 +1,5 @@
--- What a call of `cycle` makes of a world.
+-- What a call of `cycle` makes of a world: while its row is held (`the_row`) the world is lent, and then it is as
+-- `IsCycled` says.
 use Rattle.std.specs.Prelude.{◌≡◌, ◌+◌, ⊤, Option, Some, None}
 use Rattle.std.specs.Borrow.{follows_so, Bor, Fml, MutBor}
 use mathlib.Core.Option.{none}

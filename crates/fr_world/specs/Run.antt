@@ -1,4 +1,4 @@
--- The run of a world, and when a slot of it is on.
+-- The setting of a world's files, which nodes have a cycle under way, and which can hear.
 use Rattle.std.specs.Prelude.{◌≡◌, ◌≢◌, ℕ, ◌≤◌, false, Some, IsSome, IsTrue}
 use Rattle.fr_base.specs.declared.channel.Channel.{Channel}
 use Rattle.fr_base.specs.declared.state.State.TheVariants.{Halt}
@@ -24,7 +24,7 @@ pub record IsReady (f : Files) (cycle : ℕ) (node : NodeView) : Type 0 where
   pub correct : is_arbitrary f.script node.id ≡ false
   pub in_cycle : node.cycle ≡ cycle
 
--- a node can hear in a static slot on a channel: it is not halted, has the channel, and the slot is not its own
+-- a node can hear in a static slot on a channel: it is not halted, has the channel, and the slot is not its own key slot
 pub record CanHear (p : Values) (slot : ℕ) (channel : Channel) (node : NodeView) : Type 0 where
   pub receives : node.control.status.state ≢ Halt
   pub on_channel : IsTrue (has_channel (node_of p node.id) channel)

@@ -31,7 +31,7 @@ abbrev pub sent_instant : Setting → Turn → NodeRow → ℕ → ℤ
 sent_instant x turn sender receiver =
     action_instant x.params sender turn.slot +ℤ x.delay sender.node receiver turn.channel turn.cycle
 
--- the one at which a receiver expects a frame, and what is said comes so much later
+-- the instant at which what is said comes: so many ticks later than the receiver expects a frame
 abbrev pub said_instant : Setting → Turn → NodeRow → ℤ → ℤ
 said_instant x turn receiver shift =
     action_instant x.params receiver turn.slot +ℤ (compensation_of x.params turn.channel *ℤ receiver.length) +ℤ shift
@@ -53,7 +53,7 @@ abbrev pub offer_from : Setting → Turn → ℕ → Option NodeRow → List ℕ
 offer_from x turn sender (Some row) frame receiver = sent_with x turn row frame receiver
 offer_from x turn sender None frame receiver = said_with x turn sender frame receiver
 
--- whether a receiver hears a sender on a channel: another node, not halted, that has the channel
+-- whether a receiver hears a sender on a channel: the receiver is another node, is not halted, and has the channel
 abbrev pub hears : Setting → NodeRow → ℕ → Channel → Bool
 hears x receiver sender channel = not (is_halted receiver.state) && is_on x receiver.node channel && not (sender == receiver.node)
 

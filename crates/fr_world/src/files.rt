@@ -12,7 +12,7 @@ pub(crate) struct Files {
     pub(crate) script: Script,
 }
 
-// What holds of all parameters.
+// What holds of all parameters: the borrow of a field opens their invariant.
 pub(crate) fn sane(params: &Params)
     ensures { IsSane params.now }
 {

@@ -81,6 +81,7 @@ impl World {
     /// Runs the next cycle of every correct node, and answers its row; None exactly after the last cycle of
     /// the run, and then nothing changes. It takes no memory.
     pub fn cycle(&mut self) -> Option<&CycleRow>
+        // What the world is once the answer is let go.
         ensures* ends { sem 𝓛 (Cycles self.entry result) }
         ensures over { IsNone result ↔ (self.old.cycles ≡ 2 * doubles_of self.old.drift) }
         ensures row { IfSome result (λ row. IsRowOf (setting_behind self.old) self.old.cycles row.now) }

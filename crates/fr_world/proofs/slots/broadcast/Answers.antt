@@ -4,11 +4,11 @@ use Rattle.std.proofs.lemmas.List.{length-take}
 use Rattle.fr_params.specs.declared.names.ParamName.TheVariants as name
 use Rattle.fr_params.specs.Sane.{IsSane}
 use Rattle.fr_params.specs.Values.{Values}
-use Rattle.fr_reception.specs.Regular.{payload_length}
+use Rattle.fr_reception.specs.Regular.{payload_bytes}
 use Rattle.fr_world.proofs.slots.broadcast.Goals as goal
 
 -- a frame has at most 262 bytes
-short : (p : Values) → IsSane p → 8 + payload_length p ≤ 262
+short : (p : Values) → IsSane p → 8 + payload_bytes p ≤ 262
 short p sane = let words = sane.ranges name.gPayloadLengthStatic in omega (arith, ints, words)
 
 pub frame_of-count-requires-clause-room : goal.frame_of-count-requires-clause-room
