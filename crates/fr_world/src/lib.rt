@@ -13,6 +13,8 @@ mod offering;
 mod running;
 mod slots;
 mod tally;
+#[cfg(test)]
+mod tests;
 mod turn;
 mod world;
 
