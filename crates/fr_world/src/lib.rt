@@ -14,6 +14,8 @@ mod offering;
 mod running;
 mod slots;
 mod tally;
+#[cfg(test)]
+mod tests;
 mod turn;
 mod world;
 
