@@ -1,3 +1,4 @@
+pub mod Found
 pub mod Tables
 pub mod Listing
 pub mod Making

@@ -11,6 +11,7 @@ mod names;
 mod params;
 mod reading;
 mod rows;
+mod searches;
 #[cfg(test)]
 mod tests;
 

@@ -1,15 +1,15 @@
-ghost use Rattle.std.specs.Prelude.{pos, ◌≤ℤ◌, ◌≡◌, ◌≤◌, ◌+◌, ◌*◌, ◌==◌, ◌&&◌, nat_lt, count_by};
+ghost use Rattle.std.specs.Prelude.{pos, ◌≤ℤ◌, ◌≡◌, ◌≤◌, ◌+◌, ◌*◌, ◌&&◌, IfSome};
 ghost use Rattle.std.specs.Option.{option_copied};
-ghost use Rattle.std.specs.List.{list_any};
 ghost use Rattle.fr_params.specs.Names.{greatest, least};
 ghost use Rattle.fr_params.specs.Values.{amount, figure};
-ghost use Rattle.fr_params.specs.Constraints.{key_slots};
+ghost use Rattle.fr_params.specs.Rows.{IsProperSlot};
+ghost use Rattle.fr_params.specs.Searches.{key_node_in, slot_in};
 ghost use Rattle.fr_params.specs.Questions.{compensation_of, has_channel, key_index_of, node_of, widest_compensation_of};
 ghost use Rattle.fr_params.specs.declared.names.ParamName.TheVariants as name;
 
 use crate::lists::{NodeList, SlotList};
 use crate::names::ParamName;
-use crate::rows::NodeSpec;
+use crate::rows::{NodeSpec, SlotSpec};
 use fr_base::{Channel, NodeId, Slot};
 use std::marker::Model;
 
@@ -136,31 +136,41 @@ impl Params {
             .max(self.compensation(Channel::B))
     }
 
-    /// The node of a number; None exactly where there is none.
+    /// The node of a number; None exactly where there is none. It reads one place of a table, in
+    /// constant time and without memory.
     pub fn node(&self, id: NodeId) -> Option<&NodeSpec>
         ensures value { option_copied result ≡ node_of self.now id }
     {
-        let wanted = id.0;
-        self.nodes
-            .as_slice()
-            .iter()
-            .find(|node| node.id.0 == wanted)
+        self.nodes.with_id(id)
     }
 
     /// The place of a slot among the key slots in ascending order, from 0; None exactly where it is none.
+    /// It reads one place of a table, in constant time and without memory.
     pub fn key_index(&self, slot: Slot) -> Option<usize>
         ensures { result ≡ key_index_of self.now slot }
     {
-        let wanted = slot.0;
-        let nodes = self.nodes.as_slice();
-        if is_key_slot(nodes, wanted) {
-            Some(keys_below(nodes, wanted))
-        } else {
-            None
-        }
+        self.nodes.key_index(slot)
     }
 
-    /// Whether both nodes are there and have the channel.
+    /// The node whose key slot a slot is; None exactly where it is no key slot. It reads one place of a
+    /// table, in constant time and without memory.
+    pub fn key_node(&self, slot: Slot) -> Option<&NodeSpec>
+        ensures { option_copied result ≡ key_node_in self.now.nodes slot }
+    {
+        self.nodes.with_key(slot)
+    }
+
+    /// The further slot of a number; None exactly where there is none. It reads one place of a table, in
+    /// constant time and without memory.
+    pub fn further_slot(&self, slot: Slot) -> Option<&SlotSpec>
+        ensures value { option_copied result ≡ slot_in self.now.slots slot }
+        ensures proper { IfSome result (λ spec. IsProperSlot spec.now) }
+    {
+        self.slots.with_number(slot)
+    }
+
+    /// Whether both nodes are there and have the channel. It reads a place of a table for each, in
+    /// constant time and without memory.
     pub fn common(&self, a: NodeId, b: NodeId, channel: Channel) -> bool
         ensures { result ≡ (has_channel (node_of self.now a) channel && has_channel (node_of self.now b) channel) }
     {
@@ -186,23 +196,4 @@ fn has(node: Option<&NodeSpec>, channel: Channel) -> bool
             Channel::B => node.on_b,
         },
     }
-}
-
-fn is_key_slot(nodes: &[NodeSpec], wanted: u16) -> bool
-    ensures { result ≡ list_any (λ key. key == wanted) (key_slots nodes.now) }
-{
-    nodes
-        .iter()
-        .filter_map(|node| node.key)
-        .any(|key| key.0 == wanted)
-}
-
-fn keys_below(nodes: &[NodeSpec], wanted: u16) -> usize
-    ensures { result ≡ count_by (λ key. nat_lt key wanted) (key_slots nodes.now) }
-{
-    nodes
-        .iter()
-        .filter_map(|node| node.key)
-        .filter(|key| key.0 < wanted)
-        .count()
 }

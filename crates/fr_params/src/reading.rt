@@ -87,7 +87,7 @@ fn listed_nodes(alloc: Global, nodes: &[Option<NodeSpec>; 65]) -> Result<NodeLis
     for earlier in 0..64 {
         push_entry(&mut items, &nodes[earlier + 1])?;
     }
-    Ok(NodeList::of(items))
+    NodeList::of(alloc, items)
 }
 
 fn listed_slots(alloc: Global, slots: &[Option<SlotSpec>; 1024]) -> Result<SlotList, AllocError>
@@ -97,7 +97,7 @@ fn listed_slots(alloc: Global, slots: &[Option<SlotSpec>; 1024]) -> Result<SlotL
     for earlier in 0..1023 {
         push_entry(&mut items, &slots[earlier + 1])?;
     }
-    Ok(SlotList::of(items))
+    SlotList::of(alloc, items)
 }
 
 fn push_entry<T: Copy>(items: &mut Vec<T>, entry: &Option<T>) -> Result<(), AllocError>

@@ -1,4 +1,4 @@
-use crate::{NodeList, ParamFault, ParamName, SlotList, read};
+use crate::{NodeList, ParamFault, ParamName, Params, SlotList, read};
 use fr_base::{Channel, NodeId, Reason, Slot};
 use std::alloc::{AllocError, Global};
 use std::test::Fail;
@@ -322,6 +322,52 @@ fn knows_nodes_and_their_key_slots(rt: HostRuntime) -> Result<(), Fail> {
     assert!(rt; params.common(NodeId(1), NodeId(9), Channel::A));
     assert!(rt; !params.common(NodeId(1), NodeId(3), Channel::A));
     assert!(rt; !params.common(NodeId(1), NodeId(9), Channel::B));
+    Ok(())
+}
+
+/// A slot of `crossed`, the node whose key slot it is, its place among the key slots, and the node whose
+/// further slot it is.
+const USES: &[(u16, Option<u8>, Option<usize>, Option<u8>)] = &[
+    (1, Some(7), Some(0), None),
+    (2, None, None, None),
+    (3, None, None, Some(5)),
+    (8, None, None, Some(7)),
+    (9, Some(2), Some(1), None),
+    (10, None, None, None),
+    (139, None, None, Some(1)),
+    (140, Some(1), Some(2), None),
+    (1023, None, None, None),
+];
+
+/// The reference file with four nodes, whose key slots descend where their numbers ascend, and three further
+/// slots.
+fn crossed(alloc: Global) -> Result<Vec<u8>, AllocError> {
+    let nodes = b"node,7,1,A,1\nnode,5,,B,0\nnode,1,140,AB,0\nnode,2,9,A,1";
+    let slots = b"slot,139,1,1,2\nslot,8,7,0,1\nslot,3,5,0,2";
+    edited(alloc, 20, 21, nodes, slots)
+}
+
+fn use_of(params: &Params, slot: Slot) -> (Option<u8>, Option<usize>, Option<u8>) {
+    let key_node = params.key_node(slot).map(|node| node.id.0);
+    let further = params.further_slot(slot).map(|spec| spec.node.0);
+    (key_node, params.key_index(slot), further)
+}
+
+#[test]
+fn knows_what_each_slot_is_for(rt: HostRuntime) -> Result<(), Fail> {
+    let params = read(rt.alloc(), &crossed(rt.alloc())?)?;
+    for (number, key_node, index, further) in USES {
+        assert!(rt; *number >= 1 && *number <= 1023);
+        let slot = Slot(*number);
+        assert_eq!(rt;
+            use_of(&params, slot),
+            (*key_node, *index, *further),
+            "at {number}"
+        );
+    }
+    assert!(rt; params.common(NodeId(1), NodeId(5), Channel::B));
+    assert!(rt; !params.common(NodeId(1), NodeId(7), Channel::B));
+    assert!(rt; params.node(NodeId(6)).is_none() && params.node(NodeId(64)).is_none());
     Ok(())
 }
 

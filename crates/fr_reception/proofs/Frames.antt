@@ -20,7 +20,8 @@ use Rattle.fr_params.specs.Sane.{IsSane, IsSaneNode, IsSaneSlot}
 use Rattle.fr_params.specs.declared.names.ParamName.TheVariants as name
 use Rattle.fr_params.specs.declared.rows.NodeSpec.{NodeSpec}
 use Rattle.fr_params.specs.declared.rows.SlotSpec.{SlotSpec}
-use Rattle.fr_time.specs.Senders.{is_key, key_node_of, further_slot_of, sync_sending, further_sending, sender_of}
+use Rattle.fr_params.specs.Searches.{is_key}
+use Rattle.fr_time.specs.Senders.{key_node_of, further_slot_of, sync_sending, further_sending, sender_of}
 use Rattle.fr_time.specs.declared.senders.Sending.{Sending}
 use Rattle.fr_reception.specs.Regular.{has_payload, is_sync_frame, is_coldstart, payload_byte, payload_bytes, payload_of, regular_header, regular_payload, regular_frame}
 

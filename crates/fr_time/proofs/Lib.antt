@@ -1,7 +1,6 @@
 pub mod Floors
 pub mod Placing
 pub mod Ends
-pub mod Found
 pub mod Rows
 pub mod Unused
 pub mod SoleSenders

@@ -9,7 +9,8 @@ use Rattle.fr_params.specs.Sane.{IsSane}
 use Rattle.fr_params.specs.Constraints.{key_slots}
 use Rattle.fr_params.specs.declared.rows.NodeSpec.{NodeSpec}
 use Rattle.fr_params.specs.declared.rows.SlotSpec.{SlotSpec}
-use Rattle.fr_time.specs.Senders.{further_sending, further_slot_of, is_key, key_node_of, sender_of, sync_sending}
+use Rattle.fr_params.specs.Searches.{is_key}
+use Rattle.fr_time.specs.Senders.{further_sending, further_slot_of, key_node_of, sender_of, sync_sending}
 use Rattle.fr_time.proofs.Unused.{is_key-other, none_found}
 
 -- an element of a list is its first or one of the others

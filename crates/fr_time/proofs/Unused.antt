@@ -7,7 +7,8 @@ use Rattle.std.proofs.lemmas.List.Elements.{All-cons, All-head, All-nil, All-tai
 use Rattle.fr_params.specs.Values.{Values}
 use Rattle.fr_params.specs.declared.rows.NodeSpec.{NodeSpec}
 use Rattle.fr_params.specs.declared.rows.SlotSpec.{SlotSpec}
-use Rattle.fr_time.specs.Senders.{further_sending, further_slot_of, is_key, key_node_of, sender_of, sync_sending, IsUnused}
+use Rattle.fr_params.specs.Searches.{is_key}
+use Rattle.fr_time.specs.Senders.{further_sending, further_slot_of, key_node_of, sender_of, sync_sending, IsUnused}
 
 -- nothing is found exactly where no element passes
 none_passes : {X : Type 0} (test : X → Bool) (P : X → Type 0) → ((x : X) → test x ≡ false → P x) → (xs : List X) → find test xs ≡ None → All P xs

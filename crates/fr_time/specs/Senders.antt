@@ -1,6 +1,7 @@
 -- Who sends in a static slot of a cycle, and what kind of frame.
-use Rattle.std.specs.Prelude.{ℕ, ◌%◌, Bool, false, ◌==◌, ◌≢◌, All, Option, Some, None, find, if◌then◌else◌}
+use Rattle.std.specs.Prelude.{ℕ, ◌%◌, ◌==◌, ◌≢◌, All, Option, Some, if◌then◌else◌}
 use Rattle.std.specs.Option.{option_or, option_map}
+use Rattle.fr_params.specs.Searches.{key_node_in, slot_in}
 use Rattle.fr_params.specs.Values.{Values}
 use Rattle.fr_params.specs.declared.rows.NodeSpec.{NodeSpec}
 use Rattle.fr_params.specs.declared.rows.SlotSpec.{SlotSpec}
@@ -8,11 +9,6 @@ use Rattle.fr_time.specs.declared.senders.Sending.{Sending}
 use Rattle.fr_time.specs.declared.senders.Kind.{Kind}
 use Rattle.fr_time.specs.declared.senders.Kind.TheVariants.{SyncFrame, ValidFrame, NullFrame}
 use Rattle.fr_time.specs.Cycles.{cycle_count}
-
--- whether a key slot is this slot
-abbrev pub is_key : Option ℕ → ℕ → Bool
-is_key None slot = false
-is_key (Some key) slot = key == slot
 
 -- a node sends a sync frame in its key slot in every cycle
 abbrev pub sync_sending : NodeSpec → Sending
@@ -28,10 +24,10 @@ further_sending cycle spec = record { node = spec.node; kind = further_kind spec
 
 -- the node whose key slot a slot is, and the further slot of that number
 abbrev pub key_node_of : Values → ℕ → Option NodeSpec
-key_node_of p slot = find (λ node. is_key node.key slot) p.nodes
+key_node_of p slot = key_node_in p.nodes slot
 
 abbrev pub further_slot_of : Values → ℕ → Option SlotSpec
-further_slot_of p slot = find (λ spec. spec.slot == slot) p.slots
+further_slot_of p slot = slot_in p.slots slot
 
 -- who sends in a slot of a cycle: the node of this key slot, or that of this further slot; no slot is both
 abbrev pub sender_of : Values → ℕ → ℕ → Option Sending

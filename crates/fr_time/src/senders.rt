@@ -1,9 +1,9 @@
 ghost use Rattle.std.specs.Prelude.{◌≡◌, ◌<◌, ◌↔◌, IsNone};
-ghost use Rattle.std.specs.Option.{option_map, option_or};
-ghost use Rattle.fr_time.specs.Senders.{further_kind, further_sending, further_slot_of, is_key, key_node_of, sender_of, sync_sending, IsUnused};
+ghost use Rattle.std.specs.Option.{option_map};
+ghost use Rattle.fr_time.specs.Senders.{further_kind, further_sending, further_slot_of, sender_of, IsUnused};
 
 use fr_base::{NodeId, Slot};
-use fr_params::{NodeSpec, Params, SlotSpec};
+use fr_params::{Params, SlotSpec};
 
 /// The kind of a frame that a node sends in a static slot.
 #[derive(Clone, Copy, Debug, PartialEq, Eq)]
@@ -25,56 +25,29 @@ pub struct Sending {
 
 /// Who sends in a static slot of a cycle (chapter 5): in a key slot its node sends a sync frame in every
 /// cycle; in a further slot its node sends a frame with valid payload in the cycles whose count modulo the
-/// repetition is the base, and a null frame in all others. None exactly where the slot is neither.
+/// repetition is the base, and a null frame in all others. None exactly where the slot is neither. It reads
+/// two places of tables at most, in constant time and without memory.
 pub fn sender(params: &Params, slot: Slot, cycle: u32) -> Option<Sending>
     ensures value { result ≡ sender_of params.now slot cycle }
     ensures none { IsNone result ↔ IsUnused params.now slot }
 {
-    match key_sending(params, slot.0) {
-        None => further(params, slot.0, cycle),
-        sending => sending,
+    match params.key_node(slot) {
+        Some(node) => Some(Sending {
+            node: node.id,
+            kind: Kind::SyncFrame,
+        }),
+        None => further(params, slot, cycle),
     }
 }
 
-fn key_sending(params: &Params, slot: u16) -> Option<Sending>
-    ensures { result ≡ option_map sync_sending (key_node_of params.now slot) }
-{
-    for place in 0..params.nodes.len() {
-        if let Some(node) = params.nodes.get(place)
-            && has_key(node, slot)
-        {
-            return Some(Sending {
-                node: node.id,
-                kind: Kind::SyncFrame,
-            });
-        }
-    }
-    None
-}
-
-fn has_key(node: &NodeSpec, slot: u16) -> bool
-    ensures { result ≡ is_key node.now.key slot }
-{
-    match node.key {
-        None => false,
-        Some(key) => key.0 == slot,
-    }
-}
-
-fn further(params: &Params, slot: u16, cycle: u32) -> Option<Sending>
+fn further(params: &Params, slot: Slot, cycle: u32) -> Option<Sending>
     ensures { result ≡ option_map (further_sending cycle) (further_slot_of params.now slot) }
 {
-    for place in 0..params.slots.len() {
-        if let Some(spec) = params.slots.get(place)
-            && spec.slot.0 == slot
-        {
-            return Some(Sending {
-                node: spec.node,
-                kind: kind_in(spec, cycle),
-            });
-        }
-    }
-    None
+    let spec = params.further_slot(slot)?;
+    Some(Sending {
+        node: spec.node,
+        kind: kind_in(spec, cycle),
+    })
 }
 
 // What a further slot carries in a cycle.

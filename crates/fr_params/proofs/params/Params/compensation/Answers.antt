@@ -1,5 +1,4 @@
-use Rattle.std.proofs.Common.{arith, pos, rules}
-use Rattle.std.specs.Prelude.{◌≤ℤ◌}
+use Rattle.std.proofs.Common.{arith}
 use Rattle.std.proofs.lemmas.Int.{ints, to_z-of_z}
 use Rattle.fr_params.specs.declared.names.ParamName.TheVariants as name
 use Rattle.fr_params.proofs.params.Params.compensation.Goals as goal
