@@ -1,4 +1,4 @@
-ghost use Rattle.std.specs.Prelude.{◌≡◌, ◌≢◌, ◌<◌, ◌≤◌, ◌≤ℤ◌, pos, neg_ℤ, IsTrue, IsSome, IsNone, Some, if◌then◌else◌};
+ghost use Rattle.std.specs.Prelude.{◌≡◌, ◌≢◌, ◌<◌, ◌≤◌, ◌≤ℤ◌, ◌<ℤ◌, pos, neg_ℤ, IsTrue, IsSome, IsNone, Some, if◌then◌else◌};
 ghost use Rattle.fr_midpoint.specs.Within.{IsWithin};
 ghost use Rattle.fr_measure.specs.Readings.{no_readings, reading};
 ghost use Rattle.fr_time.specs.Cycles.{is_odd};
@@ -177,7 +177,7 @@ impl Node {
         requires { IsNone self.now.length }
         ensures value { result ≡ self.now.start }
         ensures from { pos 0 ≤ℤ result }
-        ensures to { result ≤ℤ pos 900_000_000_000_000_000 }
+        ensures to { result <ℤ pos 200_000_000_000_000_000 }
     {
         self.start
     }

@@ -37,7 +37,7 @@ pub(crate) fn cycle_ticks(params: &Params, row: &NodeRow) -> i64
     requires offset { IsWithin params.now.offset_limit row.now.offset }
     ensures value { result ≡ (params.now.micros +ℤ row.now.rate +ℤ row.now.offset) *ℤ row.now.length }
     ensures low { pos 0 ≤ℤ result }
-    ensures high { result ≤ℤ pos 1_000_000_000_000 }
+    ensures high { result ≤ℤ pos 990_000_000_000 }
 {
     product(cycle_micros(params, row.rate, row.offset), row.length)
 }
@@ -50,7 +50,7 @@ fn product(microticks: i64, length: i64) -> i64
     requires length_to { length ≤ℤ pos 1_500_000 }
     ensures value { result ≡ microticks *ℤ length }
     ensures low { pos 0 ≤ℤ result }
-    ensures high { result ≤ℤ pos 1_000_000_000_000 }
+    ensures high { result ≤ℤ pos 990_000_000_000 }
 {
     microticks * length
 }
