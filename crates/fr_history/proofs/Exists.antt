@@ -154,7 +154,8 @@ each_row x h P each =
     (All-map (λ row. P (ended_row x h (early_record x h) row)) (λ (node : NodeSpec). early_row x h node.id) (correct_nodes x)
     (All-every (λ (node : NodeSpec). P (ended_row x h (early_record x h) (early_row x h node.id))) (λ node. each node.id) (correct_nodes x)))
 
-numbers_are : (x : Setting) (h : History) → map (λ row. row.node) (next_record x h).rows ≡ map (λ node. node.id) (correct_nodes x)
+-- each record has a row for each correct node, in order
+pub numbers_are : (x : Setting) (h : History) → map (λ row. row.node) (next_record x h).rows ≡ map (λ node. node.id) (correct_nodes x)
 unfolding next_record early_row
 numbers_are x h =
     map-map (λ (row : NodeRow). row.node) (ended_row x h (early_record x h)) (early_rows x h)

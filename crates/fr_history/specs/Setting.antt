@@ -1,9 +1,8 @@
 -- What decides a run: the cluster, its oscillators, the delays of its links, and what is done to its frames.
-use Rattle.std.specs.Prelude.{ℕ, ℤ, ◌^◌, ◌<◌, Bool, not, List, All, filter}
+use Rattle.std.specs.Prelude.{ℕ, ℤ, ◌^◌, ◌<◌, Bool, not, List, All, filter, IfSome}
 use Rattle.fr_base.specs.Event.{Event}
 use Rattle.fr_base.specs.Event.Event.{Regular, Silent, Flip, Say}
 use Rattle.fr_base.specs.declared.channel.Channel.{Channel}
-use Rattle.std.specs.Prelude.{IfSome}
 use Rattle.fr_params.specs.Values.{Values}
 use Rattle.fr_params.specs.Sane.{IsSane}
 use Rattle.fr_params.specs.declared.rows.NodeSpec.{NodeSpec}

@@ -1,4 +1,4 @@
--- Where deviations come from: an arrival that is counted in microticks, or a value that a trace records.
+-- Where deviations come from: an arrival that is counted in microticks, or a value that is recorded.
 use Rattle.std.specs.Prelude.{ℕ, ◌≤◌, Bool, ℤ, pos, ◌+ℤ◌, ◌-ℤ◌, ◌≤ℤ◌}
 use Rattle.fr_base.specs.declared.channel.Channel.{Channel}
 use Rattle.fr_base.specs.declared.node_row.NodeRow.{NodeRow}

@@ -26,8 +26,9 @@ use Rattle.fr_node.specs.View.{NodeView, row_of}
 use Rattle.fr_history.specs.Setting.{Setting}
 use Rattle.fr_history.specs.History.{row_of as row_in}
 use Rattle.fr_history.specs.Offers.{active_frame, active_offer, frame_in, is_on, offer_in, said_offer, sender_offer, sent_offer, sender_frame}
-use Rattle.fr_world.specs.Counting.{counted_frame, counted_offer, counted_offers, counts_after, counts_in, counts_on, AreAtMost}
+use Rattle.fr_world.specs.Counting.{counted_frame, counted_offer, counted_offers, counts_after, counts_in, counts_on}
 use Rattle.fr_world.specs.Hearing.{after_channel, after_offer, after_slot, after_slots}
+use Rattle.fr_world.specs.Limits.{AreAtMost}
 use Rattle.fr_world.specs.Run.{setting_in, IsReady}
 use Rattle.fr_world.specs.Sending.{hears, offer_heard, sending_row_by, sending_row_in}
 use Rattle.fr_world.specs.declared.files.Files.{Files}

@@ -14,7 +14,8 @@ use Rattle.fr_reception.specs.declared.heard.Heard.TheVariants.{Stored, Ignored}
 use Rattle.fr_reception.specs.declared.heard.Ignored.TheVariants as reason
 use Rattle.fr_node.specs.View.{NodeView, row_of}
 use Rattle.fr_history.specs.Setting.{Setting}
-use Rattle.fr_world.specs.Counting.{counted, counted_frame, counted_offer, counted_offers, counted_sent, AreAtMost}
+use Rattle.fr_world.specs.Counting.{counted, counted_frame, counted_offer, counted_offers, counted_sent}
+use Rattle.fr_world.specs.Limits.{AreAtMost}
 
 -- ---- counts
 

@@ -1,13 +1,17 @@
 -- A node of a world is found among the correct nodes.
-use Rattle.std.proofs.Common.{◌≡◌, ℕ, ◌==◌, Bool, true, false, cond, not, List, [], ◌∷◌, Option, Some, None, map, refl, ap, sym, ◌∙◌}
-use Rattle.std.specs.Prelude.{filter, find}
-use Rattle.std.specs.Option.{option_map}
+use Rattle.std.proofs.Common.{◌≡◌, ℕ, ◌==◌, Bool, true, false, cond, not, List, [], ◌∷◌, Option, Some, None, map, Bor, refl, ap, subst, sym, ◌∙◌}
+use Rattle.std.specs.Prelude.{filter, find, IfSome, IsNone}
+use Rattle.std.specs.Option.{option_copied, option_map}
 use Rattle.std.proofs.lemmas.Bool.{eqb-true}
+use Rattle.fr_params.specs.Questions.{node_of}
 use Rattle.fr_params.specs.declared.rows.NodeSpec.{NodeSpec}
+use Rattle.fr_script.specs.View.{is_arbitrary}
 use Rattle.fr_node.specs.View.{NodeView}
 use Rattle.fr_history.specs.History.{History}
+use Rattle.fr_history.specs.Next.{history_of}
 use Rattle.fr_history.specs.Setting.{Setting, is_correct}
 use Rattle.fr_world.specs.Standing.{node_behind}
+use Rattle.fr_world.specs.World.{node_in, setting_behind, WorldView}
 
 abbrev nothing : Option NodeView
 nothing = None
@@ -52,3 +56,19 @@ node-found x h id (s ∷ ss) = by (s.id == id) (is_correct x s.id) refl refl (no
     by false true other correct rest =
         ap (λ (b : Bool). cond b (Some (node_behind x h s.id)) (among (filter (λ spec. is_correct x spec.id) ss))) other ∙ rest
     by false false other arbitrary rest = rest
+
+-- it stands between cycles
+pub node-between : (w : WorldView) (id : ℕ) → IfSome (node_in w id) (λ node. IsNone node.length)
+unfolding node_behind
+node-between w id = by (is_arbitrary w.script id) (node_of w.params id)
+  where
+    by : (arbitrary : Bool) (spec : Option NodeSpec) →
+        IfSome (cond arbitrary None (option_map (λ spec. node_behind (setting_behind w) (history_of (setting_behind w) w.cycles) id) spec)) (λ node. IsNone node.length)
+    by true spec = tt
+    by false None = tt
+    by false (Some s) = refl
+
+-- what holds of what is copied holds of what is lent
+pub copied_between : (lent : Option (Bor NodeView)) (copied : Option NodeView) → option_copied lent ≡ copied → IfSome copied (λ node. IsNone node.length) → IfSome lent (λ node. IsNone node.now.length)
+copied_between None copied is holds = tt
+copied_between (Some node) copied is holds = subst (λ (o : Option NodeView). IfSome o (λ node. IsNone node.length)) (sym is) holds

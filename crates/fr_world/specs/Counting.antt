@@ -1,6 +1,6 @@
 -- How the frames of a cycle are counted: slot by slot, and in each slot channel by channel, the frame that is sent and
 -- then the answers of all receivers.
-use Rattle.std.specs.Prelude.{ℕ, zero, suc, ◌+◌, ◌≤◌, bit_xor, List, fold, Option, Some, None}
+use Rattle.std.specs.Prelude.{ℕ, zero, suc, ◌+◌, bit_xor, List, fold, Option, Some, None}
 use Rattle.fr_base.specs.declared.channel.Channel.{Channel}
 use Rattle.fr_base.specs.declared.channel.Channel.TheVariants.{A, B}
 use Rattle.fr_base.specs.declared.cycle_row.Counts.{Counts}
@@ -73,15 +73,3 @@ counts_in x cycle rows slot counts = counts_on x cycle rows slot B (counts_on x 
 unfoldable pub counts_after : Setting → ℕ → List NodeRow → ℕ → Counts → Counts
 counts_after x cycle rows zero counts = counts
 counts_after x cycle rows (suc earlier) counts = counts_in x cycle rows (suc earlier) (counts_after x cycle rows earlier counts)
-
--- no number of frames or answers is above this one
-pub record AreAtMost (most : ℕ) (counts : Counts) : Type 0 where
-  pub sent_a : counts.sent_a ≤ most
-  pub sent_b : counts.sent_b ≤ most
-  pub stored : counts.stored ≤ most
-  pub outside : counts.outside ≤ most
-  pub damaged : counts.damaged ≤ most
-  pub wrong_id : counts.wrong_id ≤ most
-  pub wrong_cycle : counts.wrong_cycle ≤ most
-  pub wrong_length : counts.wrong_length ≤ most
-  pub plain : counts.plain ≤ most

@@ -3,6 +3,7 @@ pub mod Hearing
 pub mod Files
 pub mod Listing
 pub mod Run
+pub mod Limits
 pub mod Counting
 pub mod Sending
 pub mod Cycling

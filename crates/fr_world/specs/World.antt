@@ -13,6 +13,7 @@ use Rattle.fr_history.specs.Setting.{Setting}
 use Rattle.fr_history.specs.Next.{history_of, next_record}
 use Rattle.fr_history.specs.Recorded.{recorded}
 use Rattle.fr_world.specs.Files.{setting_of}
+use Rattle.fr_world.specs.Limits.{AreAtMost, IsPlacedRow}
 use Rattle.fr_world.specs.Listing.{ordered_keys}
 use Rattle.fr_world.specs.Run.{setting_in}
 use Rattle.fr_world.specs.Standing.{node_behind, nodes_behind}
@@ -29,10 +30,12 @@ pub record WorldView : Type 0 where
 abbrev pub setting_behind : WorldView → Setting
 setting_behind w = setting_of w.params w.drift w.script
 
--- a row is that of a cycle of the one lawful history
+-- a row is that of a cycle of the one lawful history, and its numbers are within limits
 pub record IsRowOf (x : Setting) (cycle : ℕ) (row : CycleRow) : Type 0 where
   pub told : recorded row ≡ next_record x (history_of x cycle)
   pub numbered : row.cycle ≡ cycle
+  pub placed : All (IsPlacedRow x.params) row.rows
+  pub few : AreAtMost 1_000_000 row.counts
 
 -- what holds of the parts of a world: the nodes stand behind the history of the cycles so far, and the row is its latest
 pub record IsWorld (f : Files) (keys : List ℕ) (nodes : List NodeView) (row : CycleRow) (next : ℕ) : Type 0 where

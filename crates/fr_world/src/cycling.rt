@@ -2,9 +2,10 @@ ghost use Rattle.std.specs.Prelude.{◌≡◌, ◌<◌, ◌≤◌, length, map, 
 ghost use Rattle.fr_node.specs.Cycle.{ended, ended_row};
 ghost use Rattle.fr_node.specs.Fits.{Fits};
 ghost use Rattle.fr_world.specs.Cycling.{begun_in, AreAscending, IsWaiting};
+ghost use Rattle.fr_world.specs.Limits.{IsPlacedRow};
 ghost use Rattle.fr_world.specs.Run.{IsReady};
 
-use crate::files::Files;
+use crate::files::{Files, sane};
 use fr_base::RowList;
 use fr_node::Node;
 
@@ -39,7 +40,9 @@ pub(crate) fn end_all(files: &Files, cycle: u32, nodes: &mut [Node], rows: &mut 
     ensures nodes { nodes.new ≡ map (ended files.now.params) nodes.old }
     ensures fits { All (Fits files.now.params) nodes.new }
     ensures rows { rows.new ≡ map (ended_row files.now.params) nodes.old }
+    ensures placed { All (IsPlacedRow files.now.params) rows.new }
 {
+    sane(&files.params);
     rows.clear();
     for node in nodes.iter_mut() {
         let row = node.end(&files.params);

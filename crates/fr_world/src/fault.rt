@@ -1,11 +1,9 @@
 use std::alloc::AllocError;
-use thiserror::Error;
 
 /// Why a world is not built.
-#[derive(Clone, Copy, Debug, PartialEq, Eq, Error)]
+#[derive(Clone, Copy, Debug, PartialEq, Eq)]
 pub enum BuildFault {
     /// Memory ran out.
-    #[error("out of memory")]
     NoMemory,
 }
 

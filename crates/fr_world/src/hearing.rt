@@ -1,7 +1,8 @@
 ghost use Rattle.std.specs.Prelude.{◌≡◌, ◌≤ℤ◌, pos, neg_ℤ, Some};
 ghost use Rattle.fr_node.specs.View.{row_of};
-ghost use Rattle.fr_world.specs.Counting.{counted_offer, AreAtMost};
+ghost use Rattle.fr_world.specs.Counting.{counted_offer};
 ghost use Rattle.fr_world.specs.Hearing.{after_offer};
+ghost use Rattle.fr_world.specs.Limits.{AreAtMost};
 ghost use Rattle.fr_world.specs.Run.{setting_in, CanHear, IsReady};
 ghost use Rattle.fr_world.specs.Sending.{offer_at};
 

@@ -6,8 +6,9 @@ ghost use Rattle.fr_time.specs.Senders.{sender_of};
 ghost use Rattle.fr_reception.specs.Offers.{flipped};
 ghost use Rattle.fr_node.specs.Fits.{Fits};
 ghost use Rattle.fr_node.specs.View.{row_of};
-ghost use Rattle.fr_world.specs.Counting.{counted_offer, counted_offers, AreAtMost};
+ghost use Rattle.fr_world.specs.Counting.{counted_offer, counted_offers};
 ghost use Rattle.fr_world.specs.Hearing.{after_offer};
+ghost use Rattle.fr_world.specs.Limits.{AreAtMost};
 ghost use Rattle.fr_world.specs.Run.{setting_in, CanHear, IsReady};
 ghost use Rattle.fr_world.specs.Sending.{hears, offer_at, offer_heard, offered, said_instant, said_with, sent_with, IsEarlyRow};
 

@@ -3,6 +3,7 @@ ghost use Rattle.fr_node.specs.Fits.{Fits};
 ghost use Rattle.fr_history.specs.Next.{history_of, next_record};
 ghost use Rattle.fr_history.specs.Recorded.{recorded};
 ghost use Rattle.fr_world.specs.Counting.{no_counts};
+ghost use Rattle.fr_world.specs.Limits.{AreAtMost, IsPlacedRow};
 ghost use Rattle.fr_world.specs.Listing.{ordered_keys};
 ghost use Rattle.fr_world.specs.Run.{setting_in};
 ghost use Rattle.fr_world.specs.Standing.{nodes_behind};
@@ -50,6 +51,8 @@ pub(crate) fn run_cycle(
     ensures fits { All (Fits files.now.params) nodes.new }
     ensures row { recorded row.new ≡ next_record (setting_in files.now) (history_of (setting_in files.now) cycle) }
     ensures cycle { row.new.cycle ≡ cycle }
+    ensures placed { All (IsPlacedRow files.now.params) row.new.rows }
+    ensures few { AreAtMost 1_000_000 row.new.counts }
     ensures room { 128 * length keys.now ≤ row.new.devs.spare + length row.new.devs.entries }
 {
     sane(&files.params);

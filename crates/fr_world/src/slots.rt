@@ -1,5 +1,5 @@
 ghost use Rattle.std.specs.Prelude.{◌≡◌, ◌≤◌, length, map, true, false, All, IfSome, None, Some};
-ghost use Rattle.std.specs.Option.{option_map, option_and_then};
+ghost use Rattle.std.specs.Option.{option_map};
 ghost use Rattle.fr_params.specs.Values.{amount};
 ghost use Rattle.fr_params.specs.declared.names.ParamName.TheVariants as name;
 ghost use Rattle.fr_time.specs.Senders.{sender_of};
@@ -7,8 +7,9 @@ ghost use Rattle.fr_reception.specs.Regular.{is_sync_frame, regular_frame};
 ghost use Rattle.fr_script.specs.View.{is_arbitrary};
 ghost use Rattle.fr_node.specs.View.{row_of};
 ghost use Rattle.fr_history.specs.History.{row_of as row_in};
-ghost use Rattle.fr_world.specs.Counting.{counted_frame, counted_offers, counts_after, counts_in, counts_on, AreAtMost};
+ghost use Rattle.fr_world.specs.Counting.{counted_frame, counted_offers, counts_after, counts_in, counts_on};
 ghost use Rattle.fr_world.specs.Hearing.{after_channel, after_slot, after_slots};
+ghost use Rattle.fr_world.specs.Limits.{AreAtMost};
 ghost use Rattle.fr_world.specs.Run.{setting_in, IsReady};
 ghost use Rattle.fr_world.specs.Sending.{offer_heard, offered, sending_row_in, IsEarlyRow};
 
@@ -190,6 +191,7 @@ pub(crate) fn hear_all(files: &Files, cycle: u32, nodes: &mut [Node], counts: &m
     ensures ready { All (IsReady files.now cycle) nodes.new }
     ensures counts { counts.new ≡ counts_after (setting_in files.now) cycle (map row_of nodes.old)
         (amount files.now.params name.gNumberOfStaticSlots) counts.old }
+    ensures at_most { AreAtMost 1_000_000 counts.new }
 {
     let slots = files.params.natural(ParamName::gNumberOfStaticSlots);
     for earlier in 0..slots {

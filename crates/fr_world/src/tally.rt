@@ -1,6 +1,7 @@
 ghost use Rattle.std.specs.Prelude.{◌≡◌, ◌≤◌, length};
 ghost use Rattle.fr_reception.specs.Regular.{carried_crc};
-ghost use Rattle.fr_world.specs.Counting.{counted, counted_sent, AreAtMost};
+ghost use Rattle.fr_world.specs.Counting.{counted, counted_sent};
+ghost use Rattle.fr_world.specs.Limits.{AreAtMost};
 
 use fr_base::{Channel, Counts};
 use fr_reception::{Heard, Ignored};

@@ -103,6 +103,7 @@ impl World {
     /// The row of the last cycle that was run; None exactly before the first.
     pub fn row(&self) -> Option<&CycleRow>
         ensures none { IsNone result ↔ (self.now.cycles ≡ 0) }
+        ensures in_run { self.now.cycles ≤ 2 * doubles_of self.now.drift }
         ensures row { IfSome result (λ row. (earlier : ℕ) → self.now.cycles ≡ earlier + 1 → IsRowOf (setting_behind self.now) earlier row.now) }
     {
         if self.next == 0 {
@@ -114,7 +115,9 @@ impl World {
 
     /// A node, as it stands before the next cycle; None exactly where it is arbitrary or unknown.
     pub fn node(&self, id: NodeId) -> Option<&Node>
-        ensures { option_copied result ≡ node_in self.now id }
+        ensures value { option_copied result ≡ node_in self.now id }
+        // What is asked of a node between cycles can be asked of it.
+        ensures between { IfSome result (λ node. IsNone node.now.length) }
     {
         node_among(self.nodes.as_slice(), id)
     }

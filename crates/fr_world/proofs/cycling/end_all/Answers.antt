@@ -1,12 +1,15 @@
 use Rattle.std.proofs.Common.{◌≡◌, ◌<◌, ◌++◌, [], ◌∷◌, ◌∙◌, List, length, map, take, get_or, ap, ap₂, sym, subst, arith}
 use Rattle.std.specs.Prelude.{All}
 use Rattle.std.proofs.lemmas.List.{map_more}
-use Rattle.std.proofs.lemmas.List.Elements.{All-set}
+use Rattle.std.proofs.lemmas.List.Elements.{All-push, All-set}
 use Rattle.fr_base.specs.declared.node_row.NodeRow.{NodeRow}
+use Rattle.fr_time.proofs.Placing.{placeable_lem}
 use Rattle.fr_node.specs.Cycle.{ended, ended_row}
 use Rattle.fr_node.specs.Fits.{Fits}
 use Rattle.fr_world.proofs.Loops.{swept-more, swept-next}
 use Rattle.fr_world.proofs.Sweeps.{rows-below}
+use Rattle.fr_world.specs.Limits.{IsPlacedRow}
+use Rattle.std.proofs.lemmas.Int.{ints}
 use Rattle.fr_world.proofs.cycling.end_all.Goals as goal
 
 pub push-requires-clause-above : goal.push-requires-clause-above
@@ -31,8 +34,18 @@ loop-node-preserved c =
     let lt : i < length nodes = omega arith in
     let at : node ≡ get_or nodes i node = swept-next (ended p) nodes c.loop-node.nodes i node lt c.loop-node.invariant.0 c.node-item.is in
     let stepped : c.end-row.new.self ≡ ended p node = c.end-row.ensures.after ∙ ap (ended p) (sym c.node-item.is) in
-    let row : c.end-row.result ≡ ended_row p (get_or nodes i node) = c.end-row.ensures.row ∙ ap (ended_row p) (sym c.node-item.is ∙ at) in (
+    let row : c.end-row.result ≡ ended_row p (get_or nodes i node) = c.end-row.ensures.row ∙ ap (ended_row p) (sym c.node-item.is ∙ at) in
+    let done = c.end-row.ensures in
+    let proper = done.proper in
+    let placed : IsPlacedRow p c.end-row.result = record {
+      placeable = placeable_lem p c.end-row.result.rate c.end-row.result.offset c.sane.ensures done.rate.low done.rate.high done.offset.low done.offset.high;
+      start_from = proper.start_from;
+      start_to = omega (arith, ints, proper.start_to);
+      length_from = proper.length_from;
+      length_to = proper.length_to;
+    } in (
       swept-more (ended p) nodes c.loop-node.nodes i node c.end-row.new.self lt c.loop-node.invariant.0 c.node-item.is stepped,
       All-set (Fits p) c.loop-node.nodes i c.end-row.new.self c.end-row.ensures.fits c.loop-node.invariant.1,
       c.push.ensures ∙ ap₂ (λ rows new. rows ++ new ∷ []) c.loop-node.invariant.2 row ∙ sym (map_more (ended_row p) nodes i node lt),
+      subst (All (IsPlacedRow p)) (sym c.push.ensures) (All-push (IsPlacedRow p) c.loop-node.rows c.end-row.result c.loop-node.invariant.3 placed),
     )

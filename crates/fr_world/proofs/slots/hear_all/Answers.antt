@@ -5,7 +5,8 @@ use Rattle.fr_node.specs.View.{row_of}
 use Rattle.fr_history.specs.Setting.{Setting}
 use Rattle.fr_world.proofs.Channels.{at_most-after, counts-more, slots-more, slots-none}
 use Rattle.fr_world.proofs.Loops.{at_most-more}
-use Rattle.fr_world.specs.Counting.{counts_after, AreAtMost}
+use Rattle.fr_world.specs.Counting.{counts_after}
+use Rattle.fr_world.specs.Limits.{AreAtMost}
 use Rattle.fr_world.specs.Run.{setting_in}
 use Rattle.fr_world.proofs.slots.hear_all.Goals as goal
 
@@ -33,3 +34,14 @@ loop-earlier-preserved c =
       c.hear_slot.ensures.ready,
       counts-more x a.cycle i.earlier a.nodes.now i.nodes a.counts.now i.counts c.hear_slot.new.counts i.invariant.0 i.invariant.2 c.hear_slot.ensures.counts,
     )
+
+pub returns-clause-at_most : goal.returns-clause-at_most
+returns-clause-at_most c =
+    let a = c.args in
+    let x : Setting = setting_in a.files.now in
+    let rows : List NodeRow = map row_of a.nodes.now in
+    let few : length rows ≤ 64 = rw length-map c.requires.few_nodes in
+    let slots = c.loop-earlier.earlier in
+    subst (AreAtMost 1000000) (sym c.loop-earlier.invariant.2)
+    (at_most-more (0 + 130 * slots) 1000000 (counts_after x a.cycle rows slots a.counts.now) (omega arith)
+    (at_most-after x a.cycle rows 0 slots a.counts.now few c.requires.few))

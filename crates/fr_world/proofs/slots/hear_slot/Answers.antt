@@ -5,7 +5,8 @@ use Rattle.fr_node.specs.View.{row_of}
 use Rattle.fr_history.specs.Setting.{Setting}
 use Rattle.fr_world.proofs.Channels.{at_most-on, slot-counts, slot-nodes}
 use Rattle.fr_world.proofs.Loops.{at_most-more}
-use Rattle.fr_world.specs.Counting.{counts_on, AreAtMost}
+use Rattle.fr_world.specs.Counting.{counts_on}
+use Rattle.fr_world.specs.Limits.{AreAtMost}
 use Rattle.fr_world.specs.Run.{setting_in}
 use Rattle.fr_world.proofs.slots.hear_slot.Goals as goal
 
