@@ -41,7 +41,7 @@ option_or-none (Some x) = refl
 
 -- ---- the double cycles of a history and of one more cycle
 
-is_odd-suc : (n : ℕ) → is_odd (suc n) ≡ true → is_odd n ≡ false
+pub is_odd-suc : (n : ℕ) → is_odd (suc n) ≡ true → is_odd n ≡ false
 is_odd-suc n odd = grind arith
 
 -- the even cycle before an odd one is the latest

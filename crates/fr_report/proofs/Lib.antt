@@ -7,3 +7,5 @@ pub mod Putting
 pub mod KeySlots
 pub mod ClockLines
 pub mod Telling
+pub mod SameNodes
+pub mod Adding

@@ -1,15 +1,13 @@
--- What is told of the clocks behind a run.
-use Rattle.std.specs.Prelude.{◌≡◌, ℕ, ℤ, List, [], ◌++◌, All, codes, Option, Some, None, if◌then◌else◌}
+-- What is told of the clocks of a world.
+use Rattle.std.specs.Prelude.{ℕ, ℤ, List, [], ◌++◌, codes, Option, Some, None}
 use Rattle.std.specs.Fmt.{decimal, signed_decimal}
 use Rattle.std.specs.List.{flat_map}
+use Rattle.std.specs.Option.{option_map}
 use Rattle.fr_base.specs.declared.node_row.NodeRow.{NodeRow}
-use Rattle.fr_params.specs.Values.{Values}
 use Rattle.fr_params.specs.declared.rows.NodeSpec.{NodeSpec}
-use Rattle.fr_script.specs.View.{ScriptView, is_arbitrary}
-use Rattle.fr_history.specs.History.{History, row_of}
-use Rattle.fr_history.specs.Lawful.{rate_behind, start_behind}
-use Rattle.fr_history.specs.Setting.{Setting}
-use Rattle.fr_history.specs.Terms.{status_in}
+use Rattle.fr_history.specs.History.{row_of}
+use Rattle.fr_node.specs.View.{NodeView}
+use Rattle.fr_world.specs.World.{WorldView, node_in}
 use Rattle.fr_report.specs.After.{offset_by}
 use Rattle.fr_report.specs.Words.{line, state_text}
 use Rattle.fr_report.specs.declared.clocks.Clock.{Clock}
@@ -29,18 +27,10 @@ clock_line odd id (Some clock) = line (clock_text id clock (offset_by (row_of od
 abbrev pub clock_lines : List NodeRow → (ℕ → Option Clock) → List NodeSpec → List ℕ
 clock_lines odd clock nodes = flat_map (λ node. clock_line odd node.id (clock node.id)) nodes
 
--- the clock of a node behind a history; an arbitrary node has none
-abbrev pub clock_behind : Setting → History → ℕ → Option Clock
-clock_behind x h node =
-    if x.is_arbitrary node then None
-    else Some (record { state = (status_in x h node).state; start = start_behind x h node; rate = rate_behind x h node })
+-- the clock of a node between cycles
+abbrev pub clock_of : NodeView → Clock
+clock_of node = record { state = node.control.status.state; start = node.start; rate = node.rate }
 
--- the clocks of all nodes are those behind a history
-abbrev pub AreBehind : Setting → History → (ℕ → Option Clock) → Type 0
-AreBehind x h clock = All (λ node. clock node.id ≡ clock_behind x h node.id) x.params.nodes
-
--- a run of these parameters, this script and so many double cycles
-pub record IsRunOf (x : Setting) (p : Values) (s : ScriptView) (count : ℕ) : Type 0 where
-  pub params : x.params ≡ p
-  pub doubles : x.doubles ≡ count
-  pub arbitrary : x.is_arbitrary ≡ is_arbitrary s
+-- that of a node of a world; an arbitrary node has none
+unfoldable pub clock_in : WorldView → ℕ → Option Clock
+clock_in w id = option_map clock_of (node_in w id)

@@ -10,8 +10,9 @@ use Rattle.fr_bound.specs.Sync.{is_in_sync}
 use Rattle.fr_history.specs.History.{History}
 use Rattle.fr_history.specs.Skew.{Place, greatest_skew_of}
 use Rattle.fr_history.specs.Sync.{first_sync_of}
+use Rattle.fr_world.specs.Limits.{AreAtMost}
 use Rattle.fr_report.specs.Sums.{cuts_of}
-use Rattle.fr_report.specs.Totals.{AreWithin, totals_of}
+use Rattle.fr_report.specs.Totals.{totals_of}
 use Rattle.fr_report.specs.declared.sweep.Peak.{Peak}
 
 -- What contracts see of a report: how many cycles were added, the greatest skew and its first place, the first double
@@ -57,5 +58,5 @@ pub record IsReport (report : ReportView) : Type 0 where
   pub few : report.added ≤ 200_000
   pub begun : 0 < report.added → IsSome report.greatest
   pub even_timed : All IsTimedRow report.even
-  pub counts : AreWithin (1_000_000 * report.added) report.sums
+  pub counts : AreAtMost (1_000_000 * report.added) report.sums
   pub cuts : report.cut ≤ 20_000 * report.added

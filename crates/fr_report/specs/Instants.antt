@@ -6,16 +6,8 @@ use Rattle.fr_base.specs.declared.node_row.NodeRow.{NodeRow}
 use Rattle.fr_params.specs.Values.{Values}
 use Rattle.fr_time.specs.Cycles.{is_odd}
 use Rattle.fr_time.specs.Instant.{instant_of}
-use Rattle.fr_time.specs.Position.{grid_for, IsPlaceable}
+use Rattle.fr_time.specs.Position.{grid_for}
 use Rattle.fr_report.specs.declared.extent.Extent.{Extent}
-
--- a row of whose cycle the instants can be computed
-pub record IsPlacedRow (p : Values) (row : NodeRow) : Type 0 where
-  pub placeable : IsPlaceable (grid_for p) row.rate row.offset
-  pub start_from : pos 0 ≤ℤ row.start
-  pub start_to : row.start ≤ℤ pos 900_000_000_000_000_000
-  pub length_from : pos 500_000 ≤ℤ row.length
-  pub length_to : row.length ≤ℤ pos 1_500_000
 
 -- the least and the greatest of some numbers and one more
 abbrev pub widened : Option Extent → ℤ → Extent

@@ -1,5 +1,5 @@
 -- Sums of counts, added up cycle by cycle.
-use Rattle.std.specs.Prelude.{ℕ, ◌+◌, ◌≤◌, ◌++◌, List, bit_xor, codes}
+use Rattle.std.specs.Prelude.{ℕ, ◌+◌, ◌++◌, List, bit_xor, codes}
 use Rattle.std.specs.Fmt.{decimal}
 use Rattle.fr_base.specs.declared.cycle_row.Counts.{Counts}
 use Rattle.fr_history.specs.History.{History}
@@ -36,18 +36,6 @@ totals_of h = record {
   wrong_length = total_of (λ counts. counts.wrong_length) h;
   plain = total_of (λ counts. counts.plain) h;
 }
-
--- each count is at most this
-pub record AreWithin (most : ℕ) (counts : Counts) : Type 0 where
-  pub sent_a : counts.sent_a ≤ most
-  pub sent_b : counts.sent_b ≤ most
-  pub stored : counts.stored ≤ most
-  pub outside : counts.outside ≤ most
-  pub damaged : counts.damaged ≤ most
-  pub wrong_id : counts.wrong_id ≤ most
-  pub wrong_cycle : counts.wrong_cycle ≤ most
-  pub wrong_length : counts.wrong_length ≤ most
-  pub plain : counts.plain ≤ most
 
 -- what receivers made of so many frames
 abbrev pub heard_words : Counts → List ℕ

@@ -4,7 +4,8 @@ ghost use Rattle.fr_base.specs.States.{is_halted};
 ghost use Rattle.fr_time.specs.Cycles.{is_odd};
 ghost use Rattle.fr_time.specs.Instant.{instant_of};
 ghost use Rattle.fr_time.specs.Position.{grid_for};
-ghost use Rattle.fr_report.specs.Instants.{widened, with_row, IsExtent, IsPlacedRow};
+ghost use Rattle.fr_world.specs.Limits.{IsPlacedRow};
+ghost use Rattle.fr_report.specs.Instants.{widened, with_row, IsExtent};
 
 use fr_base::{NodeRow, State};
 use fr_params::Params;

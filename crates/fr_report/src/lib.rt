@@ -12,6 +12,8 @@ mod rows;
 mod run_lines;
 mod sums;
 mod sweep;
+#[cfg(test)]
+mod tests;
 mod writing;
 
 ghost use Rattle.std.specs.Prelude.{Option};
@@ -21,7 +23,6 @@ ghost use Rattle.fr_script.specs.declared.gap.Gap.{Gap};
 ghost use Rattle.fr_report.specs.Ended.{IsEnded};
 ghost use Rattle.fr_report.specs.Text.{report_of};
 
-pub use clocks::{Clock, Clocks};
 pub use report::Report;
 
 /// A law: the report ends with a line feed.

@@ -1,4 +1,4 @@
-ghost use Rattle.std.specs.Prelude.{◌≡◌, ◌<◌, ◌&&◌, ℕ, true, [], ◌∷◌, map, nat_abs, All, Some, None, IfSome, IfNone, if◌then◌else◌};
+ghost use Rattle.std.specs.Prelude.{◌≡◌, ◌-◌, ◌<◌, ◌&&◌, ℕ, true, [], ◌∷◌, map, nat_abs, All, Some, None, IfSome, IfNone, if◌then◌else◌};
 ghost use Rattle.fr_params.specs.Values.{Values};
 ghost use Rattle.fr_time.specs.Cycles.{double_cycle_of, is_odd};
 ghost use Rattle.fr_bound.specs.Ranges.{IsTimedRow};
@@ -7,17 +7,16 @@ ghost use Rattle.fr_history.specs.History.{History};
 ghost use Rattle.fr_history.specs.Recorded.{recorded};
 ghost use Rattle.fr_history.specs.Skew.{IsGreatestSkew};
 ghost use Rattle.fr_history.specs.Sync.{IsFirstInSync, IsInSyncAt};
-ghost use Rattle.fr_history.specs.Setting.{Setting};
-ghost use Rattle.fr_report.specs.Clocks.{AreBehind, IsRunOf};
+ghost use Rattle.fr_history.specs.Next.{history_of};
+ghost use Rattle.fr_world.specs.Limits.{AreAtMost, IsPlacedRow};
+ghost use Rattle.fr_world.specs.World.{setting_behind};
 ghost use Rattle.fr_report.specs.Covered.{gap_of};
 ghost use Rattle.fr_report.specs.Puts.{sunk, Puts};
 ghost use Rattle.fr_report.specs.Text.{report_of};
 ghost use Rattle.fr_report.specs.Told.{told_text};
 ghost use Rattle.fr_report.specs.Held.{next_sync, Holds};
-ghost use Rattle.fr_report.specs.Instants.{IsPlacedRow};
-ghost use Rattle.fr_report.specs.Totals.{AreWithin};
 
-use crate::clocks::{Clocks, put_nodes};
+use crate::clocks::put_nodes;
 use crate::rows::{is_odd, keep};
 use crate::sums::{NO_COUNTS, cuts, sum};
 use crate::sweep::{Peak, swept};
@@ -25,7 +24,8 @@ use crate::writing::{put_clocks, put_cluster, put_frames};
 use fr_base::{Counts, CycleRow, PutFault, RowList, Sink};
 use fr_bound::in_sync;
 use fr_params::Params;
-use fr_script::{Gap, Script};
+use fr_script::Gap;
+use fr_world::World;
 use std::marker::Model;
 
 /// What is told of a run, gathered cycle by cycle: it keeps no history.
@@ -74,7 +74,7 @@ impl Report {
         requires in_run { row.now.cycle < 200_000 }
         requires same_nodes { is_odd row.now.cycle ≡ true → map (λ row. row.node) self.old.even ≡ map (λ row. row.node) row.now.rows }
         requires rows { All (IsPlacedRow params.now) row.now.rows }
-        requires counts { AreWithin 1_000_000 row.now.counts }
+        requires counts { AreAtMost 1_000_000 row.now.counts }
         ensures holds { (h : History) → Holds params.now self.old h → Holds params.now self.new (recorded row.now ∷ h) }
     {
         let rows = row.rows.as_slice();
@@ -86,40 +86,53 @@ impl Report {
         self.added += 1;
     }
 
-    /// Writes the report of a run of these parameters and this script over so many double cycles, whose history
-    /// it holds: with its first gap, if it is not covered, and with the clocks behind it. Each line is one put.
-    /// A fault comes only where the sink counted it, and then a front of the text was put.
-    pub fn write_run<C: Clocks, O: Sink>(
-        &self,
-        params: &Params,
-        script: &Script,
-        doubles: u32,
-        gap: &Result<(), Gap>,
-        clocks: &C,
-        out: &mut O,
-    ) -> Result<(), PutFault>
-        ensures { (x : Setting) (h : History) → IsRunOf x params.now script.now doubles → AreBehind x h (C.clock clocks.now) → Holds params.now self.now h →
-            Puts result (sunk (O.written out.old) (O.faults out.old)) (sunk (O.written out.new) (O.faults out.new)) (report_of x (gap_of gap.now) h) }
+    /// Adds the row of the last cycle that a world has run, one at least. Of a report that held the history of
+    /// the cycles before it, it then holds that of all that were run.
+    pub fn add_last(&mut self, world: &World)
+        requires begun { 0 < world.now.cycles }
+        requires held { Holds world.now.params self.old (history_of (setting_behind world.now) (world.now.cycles - 1)) }
+        ensures holds { Holds world.now.params self.new (history_of (setting_behind world.now) world.now.cycles) }
+        ensures counted { self.new.added ≡ world.now.cycles }
     {
-        self.put_all(params, script, doubles, gap, clocks, out)
+        // It bounds the cycles of a world.
+        let _doubles = world.drift().doubles();
+        match world.row() {
+            Some(row) => self.add(world.params(), row),
+            None => unreachable!(),
+        }
     }
 
-    fn put_all<C: Clocks, O: Sink>(
+    /// Writes the report of the cycles that a world has run, whose history it holds, with the first gap of the
+    /// run where it is not covered. Each line is one put: the numbers of the cluster, its precision, whether the
+    /// run is covered, from when on the clocks are in sync, their greatest skew (where a cycle was run), the
+    /// frames that were sent on channel A and on channel B, what receivers made of them, how many terms were
+    /// cut, and each correct node as it stands before the next cycle. A fault comes only where the sink counted
+    /// it, and then a front of the text was put.
+    pub fn write<O: Sink>(
         &self,
-        params: &Params,
-        script: &Script,
-        doubles: u32,
-        gap: &Result<(), Gap>,
-        clocks: &C,
+        world: &World,
+        gap: Result<(), Gap>,
         out: &mut O,
     ) -> Result<(), PutFault>
+        requires held { Holds world.now.params self.now (history_of (setting_behind world.now) world.now.cycles) }
         ensures { Puts result (sunk (O.written out.old) (O.faults out.old)) (sunk (O.written out.new) (O.faults out.new))
-            (told_text params.now script.now doubles (gap_of gap.now) self.now (C.clock clocks.now)) }
+            (report_of (setting_behind world.now) (gap_of gap) (history_of (setting_behind world.now) world.now.cycles)) }
     {
-        put_cluster(params, script, doubles, gap, out)?;
+        self.put_all(world, &gap, out)
+    }
+
+    fn put_all<O: Sink>(
+        &self,
+        world: &World,
+        gap: &Result<(), Gap>,
+        out: &mut O,
+    ) -> Result<(), PutFault>
+        ensures { Puts result (sunk (O.written out.old) (O.faults out.old)) (sunk (O.written out.new) (O.faults out.new)) (told_text world.now (gap_of gap.now) self.now) }
+    {
+        put_cluster(world, gap, out)?;
         put_clocks(self.synced, self.greatest, out)?;
         put_frames(&self.sums, self.cut, out)?;
-        put_nodes(params, clocks, &self.odd, out)
+        put_nodes(world, &self.odd, out)
     }
 
     /// The greatest skew so far in ticks, and the cycle and the macrotick at which it first occurs.

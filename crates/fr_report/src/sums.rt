@@ -1,6 +1,7 @@
-ghost use Rattle.std.specs.Prelude.{◌≡◌, ◌+◌, ◌*◌, ◌≤◌, ℕ, length};
+ghost use Rattle.std.specs.Prelude.{◌≡◌, ◌+◌, ◌≤◌, ℕ, length};
 ghost use Rattle.std.specs.List.{sum_by};
-ghost use Rattle.fr_report.specs.Totals.{sum_of, AreWithin};
+ghost use Rattle.fr_world.specs.Limits.{AreAtMost};
+ghost use Rattle.fr_report.specs.Totals.{sum_of};
 
 use fr_base::{Counts, NodeRow};
 
@@ -21,10 +22,10 @@ pub(crate) const NO_COUNTS: Counts = Counts {
 
 /// The counts of some cycles and of one more.
 pub(crate) fn sum(sums: &Counts, counts: &Counts) -> Counts
-    requires sums { AreWithin 200_000_000_000 sums.now }
-    requires counts { AreWithin 1_000_000 counts.now }
+    requires sums { AreAtMost 200_000_000_000 sums.now }
+    requires counts { AreAtMost 1_000_000 counts.now }
     ensures value { result ≡ sum_of sums.now counts.now }
-    ensures within { (most : ℕ) → AreWithin most sums.now → AreWithin (most + 1_000_000) result }
+    ensures within { (most : ℕ) → AreAtMost most sums.now → AreAtMost (most + 1_000_000) result }
 {
     Counts {
         sent_a: sums.sent_a + counts.sent_a,

@@ -4,7 +4,7 @@ ghost use Rattle.fr_params.specs.Values.{amount};
 ghost use Rattle.fr_params.specs.declared.names.ParamName.TheVariants as name;
 ghost use Rattle.fr_history.specs.Skew.{greater_of, greatest_within, spread_at};
 ghost use Rattle.fr_report.specs.Held.{place_of};
-ghost use Rattle.fr_report.specs.Instants.{IsPlacedRow};
+ghost use Rattle.fr_world.specs.Limits.{IsPlacedRow};
 
 use crate::extent::extent_of;
 use fr_base::NodeRow;

@@ -1,11 +1,13 @@
 ghost use Rattle.std.specs.Prelude.{◌≡◌, ◌++◌, codes};
 ghost use Rattle.std.specs.Fmt.{decimal};
 ghost use Rattle.std.specs.Option.{option_map};
+ghost use Rattle.fr_drift.specs.Questions.{doubles_of};
 ghost use Rattle.fr_report.specs.Cluster.{cluster_words};
-ghost use Rattle.fr_report.specs.Covered.{covered_text, gap_of};
+ghost use Rattle.fr_report.specs.Covered.{gap_of};
 ghost use Rattle.fr_report.specs.Held.{place_of};
 ghost use Rattle.fr_report.specs.Puts.{sunk, Puts};
-ghost use Rattle.fr_report.specs.Text.{precision_text, sent_text, skew_line, sync_text};
+ghost use Rattle.fr_report.specs.Text.{sent_text, skew_line, sync_text};
+ghost use Rattle.fr_report.specs.Told.{told_cluster};
 ghost use Rattle.fr_report.specs.Totals.{heard_words};
 ghost use Rattle.fr_report.specs.Words.{line};
 
@@ -14,8 +16,8 @@ use crate::frame_lines::{cut_line, heard_line, sent_line};
 use crate::run_lines::{covered_line, nodes_line, precision_line, skew_line, sync_line};
 use crate::sweep::Peak;
 use fr_base::{Counts, Line, PutFault, Sink};
-use fr_params::Params;
-use fr_script::{Gap, Script};
+use fr_script::Gap;
+use fr_world::World;
 
 /// Puts a line.
 pub(crate) fn put_line<O: Sink>(line: &Line, out: &mut O) -> Result<(), PutFault>
@@ -26,29 +28,26 @@ pub(crate) fn put_line<O: Sink>(line: &Line, out: &mut O) -> Result<(), PutFault
 
 /// Puts the lines of the cluster: its nodes, its precision, whether the run is covered.
 pub(crate) fn put_cluster<O: Sink>(
-    params: &Params,
-    script: &Script,
-    doubles: u32,
+    world: &World,
     gap: &Result<(), Gap>,
     out: &mut O,
 ) -> Result<(), PutFault>
-    ensures { Puts result (sunk (O.written out.old) (O.faults out.old)) (sunk (O.written out.new) (O.faults out.new))
-        (line (cluster_words params.now script.now doubles)
-        ++ (line (precision_text params.now) ++ line (covered_text (gap_of gap.now)))) }
+    ensures { Puts result (sunk (O.written out.old) (O.faults out.old)) (sunk (O.written out.new) (O.faults out.new)) (told_cluster world.now (gap_of gap.now)) }
 {
-    put_line(&cluster_line(params, script, doubles), out)?;
-    put_line(&precision_line(params), out)?;
+    put_line(&cluster_line(world), out)?;
+    put_line(&precision_line(world.params()), out)?;
     put_line(&covered_line(gap), out)
 }
 
-fn cluster_line(params: &Params, script: &Script, doubles: u32) -> Line
-    ensures { result ≡ line (cluster_words params.now script.now doubles) }
+fn cluster_line(world: &World) -> Line
+    ensures { result ≡ line (cluster_words world.now.params world.now.script (doubles_of world.now.drift)) }
 {
+    let nodes = &world.params().nodes;
     nodes_line(
-        params.nodes.len() as u64,
-        sync_count(&params.nodes) as u64,
-        arbitrary_count(&params.nodes, script) as u64,
-        u64::from(doubles),
+        nodes.len() as u64,
+        sync_count(nodes) as u64,
+        arbitrary_count(nodes, world.script()) as u64,
+        u64::from(world.drift().doubles()),
     )
 }
 

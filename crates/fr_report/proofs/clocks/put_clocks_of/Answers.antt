@@ -1,7 +1,7 @@
 use Rattle.std.proofs.Common.{◌++◌, List, ℕ, Err, refl, subst, sym, take}
 use borrow.Author.Tests.{ltb-true}
 use Rattle.fr_params.specs.declared.rows.NodeSpec.{NodeSpec}
-use Rattle.fr_report.specs.Clocks.{clock_line, clock_lines}
+use Rattle.fr_report.specs.Clocks.{clock_in, clock_line, clock_lines}
 use Rattle.fr_report.specs.Puts.{sunk, Puts}
 use Rattle.fr_report.proofs.ClockLines.{texts_split}
 use Rattle.fr_report.proofs.Putting.{puts_front, puts_then}
@@ -10,7 +10,7 @@ use Rattle.fr_report.proofs.clocks.put_clocks_of.Goals as goal
 pub returns-in-Err : goal.returns-in-Err
 returns-in-Err g c =
     let odd = c.args.odd.now in
-    let clock = g.C.Clocks.clock c.args.clocks.now in
+    let clock = clock_in c.args.world.now in
     let nodes = c.args.nodes.now in
     let place = c.loop-place.place in
     let node = c.in-Some.node.now in
