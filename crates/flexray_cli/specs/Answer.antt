@@ -3,17 +3,20 @@ use Rattle.std.specs.Prelude.{◌≡◌, ℕ, List, Option, Some, Result}
 use Rattle.fr_base.specs.Device.{Rose}
 use Rattle.flexray_cli.specs.declared.failure.Failure.{Failure}
 use Rattle.flexray_cli.specs.declared.request.Request.{Request}
-use Rattle.flexray_cli.specs.declared.request.Request.TheVariants.{Frame, Bound}
+use Rattle.flexray_cli.specs.declared.request.Request.TheVariants.{Frame, Bound, Run}
 use Rattle.flexray_cli.specs.declared.status.Status.{Status}
 use Rattle.flexray_cli.specs.Around.{Around, IsFaulty}
 use Rattle.flexray_cli.specs.Failure.{outcome_status, IsTold}
 use Rattle.flexray_cli.specs.FrameAnswer.{FrameEnds}
 use Rattle.flexray_cli.specs.BoundAnswer.{BoundEnds}
+use Rattle.flexray_cli.specs.Request.{names_of}
+use Rattle.flexray_cli.specs.RunAnswer.{RunEnds}
 
 -- how what the words ask for ends
 abbrev pub RequestEnds : Request → Around → Result (Unit {0}) Failure → Type 0
 RequestEnds (Frame channel file) around outcome = FrameEnds channel file.now around outcome
 RequestEnds (Bound file) around outcome = BoundEnds file.now around outcome
+RequestEnds (Run files) around outcome = RunEnds (names_of files) around outcome
 
 -- there is an outcome that ends the request so, and its status and line are these
 pub record IsAnswer (Ends : Result (Unit {0}) Failure → Type 0) (told_before told_after : Option (List ℕ)) (count_before count_after : ℕ) (answer : Status) : Type 0 where

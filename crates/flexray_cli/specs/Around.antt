@@ -1,8 +1,8 @@
 -- What a call found around it, and left.
-use Rattle.std.specs.Prelude.{◌≡◌, ℕ, ◌<◌, ◌≤◌, List, length, Option, Some, IfSome}
+use Rattle.std.specs.Prelude.{ℕ, List, Option}
 use Rattle.std.specs.Io.KnownBytes.{Appends}
-use Rattle.fr_base.specs.Device.{Rose, IsHeld, AppendsFront}
-use Rattle.fr_base.specs.declared.shelf.TheConstants.{MAX_FILE}
+use Rattle.fr_base.specs.Device.{Rose, AppendsFront}
+use Rattle.flexray_cli.specs.Files.{shelved, Shelved}
 
 -- the bytes that the shelf holds and the counts of their names, what was written to the first sink, and its count
 pub record Around : Type 0 where
@@ -26,18 +26,13 @@ around_of held read_before read_after written_before written_after write_before 
   write_after = write_after;
 }
 
--- a file was loaded: these are its bytes where the shelf tells them, and they are not too many
-pub record IsLoaded (around : Around) (file bytes : List ℕ) : Type 0 where
-  pub held : IsHeld (around.held file) bytes
-  pub fits : length bytes ≤ MAX_FILE
+-- what the shelf holds, and its counts
+abbrev pub shelf_of : Around → Shelved
+shelf_of around = shelved around.held around.read_before around.read_after
 
 -- a fault of the file was counted
 abbrev pub IsFaulty : Around → List ℕ → Type 0
 IsFaulty around file = Rose (around.read_before file) (around.read_after file)
-
--- a file has more bytes than a file may have, where the shelf tells them
-abbrev pub IsTooLong : Around → List ℕ → Type 0
-IsTooLong around file = IfSome (around.held file) (λ bytes. MAX_FILE < length bytes)
 
 -- a text that is defined was written whole
 pub record IsWritten (IsDefined : List ℕ → Type 0) (around : Around) : Type 0 where

@@ -1,5 +1,5 @@
 -- The nine lines of the bounds and checks of a cluster.
-use Rattle.std.specs.Prelude.{ℕ, zero, suc, Bool, true, false, List, [], ◌∷◌, ◌++◌, codes}
+use Rattle.std.specs.Prelude.{ℕ, zero, suc, Bool, true, false, List, [], ◌++◌, codes}
 use Rattle.std.specs.Fmt.{decimal}
 use Rattle.fr_params.specs.Values.{Values}
 use Rattle.fr_bound.specs.Bounds.{y1_of, lambda_of, pi_of, precision_of}

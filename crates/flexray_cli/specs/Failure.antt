@@ -10,10 +10,14 @@ use Rattle.fr_frame.specs.declared.fault.FrameFault.TheVariants.{HeaderCrc, Fram
 use Rattle.fr_params.specs.Names.{word_of}
 use Rattle.fr_params.specs.declared.fault.ParamFault.{ParamFault}
 use Rattle.fr_params.specs.declared.fault.ParamFault.TheVariants as param
+use Rattle.fr_drift.specs.declared.fault.DriftFault.{DriftFault}
+use Rattle.fr_drift.specs.declared.fault.DriftFault.TheVariants as drift
+use Rattle.fr_script.specs.declared.fault.ScriptFault.{ScriptFault}
+use Rattle.fr_script.specs.declared.fault.ScriptFault.TheVariants as script
 use Rattle.flexray_cli.specs.declared.failure.FileRole.{FileRole}
 use Rattle.flexray_cli.specs.declared.failure.FileRole.TheVariants as role
 use Rattle.flexray_cli.specs.declared.failure.Failure.{Failure}
-use Rattle.flexray_cli.specs.declared.failure.Failure.TheVariants.{Usage, ReadFault, TooLong, NoMemory, NoFrame, BadParams, WriteFault}
+use Rattle.flexray_cli.specs.declared.failure.Failure.TheVariants.{Usage, ReadFault, TooLong, NoMemory, NoFrame, BadParams, BadDrift, BadScript, WriteFault}
 use Rattle.flexray_cli.specs.declared.status.Status.{Status}
 use Rattle.flexray_cli.specs.declared.status.Status.TheVariants as status
 use Rattle.flexray_cli.specs.FrameText.{fault_text}
@@ -26,6 +30,8 @@ status_of (TooLong file) = status.TooLong
 status_of NoMemory = status.NoMemory
 status_of (NoFrame fault) = status.No
 status_of (BadParams fault) = status.Refused
+status_of (BadDrift fault) = status.Refused
+status_of (BadScript fault) = status.Refused
 status_of WriteFault = status.WriteFault
 
 -- the exit status of an outcome
@@ -37,6 +43,8 @@ outcome_status (Err failure) = status_of failure
 abbrev pub role_text : FileRole → List ℕ
 role_text role.Frame = codes "frame"
 role_text role.Params = codes "params"
+role_text role.Drift = codes "drift"
+role_text role.Script = codes "script"
 
 -- a reason as it is spelt
 abbrev pub reason_text : Reason → List ℕ
@@ -51,12 +59,26 @@ reason_text reason.Link = codes "Link"
 reason_text reason.NotHex = codes "NotHex"
 reason_text reason.Repeated = codes "Repeated"
 
--- why a parameter file is not accepted; want of memory is a failure of its own, so the last line is never shown
+-- a record that is refused, and why
+abbrev pub record_text : ℕ → Reason → List ℕ
+record_text number reason = codes "record " ++ decimal number ++ (codes ": " ++ reason_text reason)
+
+-- why a parameter file, a drift file or a script is not accepted; want of memory is a failure of its own, so that last
+-- line of each is never shown
 abbrev pub param_text : ParamFault → List ℕ
-param_text (param.Row number reason) = codes "record " ++ decimal number ++ (codes ": " ++ reason_text reason)
+param_text (param.Row number reason) = record_text number reason
 param_text (param.Missing name) = codes "missing " ++ word_of name
 param_text (param.Constraint number) = codes "constraint " ++ decimal number
 param_text param.NoMemory = codes "no memory"
+
+abbrev pub drift_text : DriftFault → List ℕ
+drift_text (drift.Row number reason) = record_text number reason
+drift_text drift.MissingDoubles = codes "missing doubles"
+drift_text drift.NoMemory = codes "no memory"
+
+abbrev pub script_text : ScriptFault → List ℕ
+script_text (script.Row number reason) = record_text number reason
+script_text script.NoMemory = codes "no memory"
 
 -- what is said of a failure
 abbrev pub failure_text : Failure → List ℕ
@@ -66,6 +88,8 @@ failure_text (TooLong file) = role_text file ++ codes ": too long"
 failure_text NoMemory = codes "no memory"
 failure_text (NoFrame fault) = codes "frame: " ++ fault_text fault
 failure_text (BadParams fault) = codes "params: " ++ param_text fault
+failure_text (BadDrift fault) = codes "drift: " ++ drift_text fault
+failure_text (BadScript fault) = codes "script: " ++ script_text fault
 failure_text WriteFault = codes "write fault"
 
 -- the line of a failure

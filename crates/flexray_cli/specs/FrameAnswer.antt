@@ -11,13 +11,14 @@ use Rattle.flexray_cli.specs.declared.failure.Failure.{Failure}
 use Rattle.flexray_cli.specs.declared.failure.Failure.TheVariants.{ReadFault, TooLong, NoMemory, NoFrame, WriteFault}
 use Rattle.flexray_cli.specs.declared.status.Status.{Status}
 use Rattle.flexray_cli.specs.declared.status.Status.TheVariants as status
-use Rattle.flexray_cli.specs.Around.{Around, IsLoaded, IsFaulty, IsTooLong, IsWritten, IsCutShort}
+use Rattle.flexray_cli.specs.Around.{Around, shelf_of, IsFaulty, IsWritten, IsCutShort}
+use Rattle.flexray_cli.specs.Files.{IsLoaded, IsLong}
 use Rattle.flexray_cli.specs.FrameText.{frame_line}
 
 -- the file is a frame on the channel, and this is its line
 pub record IsLineOf (channel : Channel) (file : List ℕ) (around : Around) (line : List ℕ) : Type 0 where
   pub bytes : List ℕ
-  pub loaded : IsLoaded around file bytes
+  pub loaded : IsLoaded around.held file bytes
   pub header : Header
   pub payload : List ℕ
   pub header_crc : ℕ
@@ -28,7 +29,7 @@ pub record IsLineOf (channel : Channel) (file : List ℕ) (around : Around) (lin
 -- the file is no frame on the channel, and this is its first fault
 pub record IsNoFrameFile (channel : Channel) (file : List ℕ) (around : Around) (fault : FrameFault) : Type 0 where
   pub bytes : List ℕ
-  pub loaded : IsLoaded around file bytes
+  pub loaded : IsLoaded around.held file bytes
   pub no_frame : IsNoFrame channel bytes
   pub first : IsFirstFault channel bytes fault
 
@@ -36,7 +37,7 @@ pub record IsNoFrameFile (channel : Channel) (file : List ℕ) (around : Around)
 abbrev pub FrameEnds : Channel → List ℕ → Around → Result (Unit {0}) Failure → Type 0
 FrameEnds channel file around (Ok done) = IsWritten (IsLineOf channel file around) around
 FrameEnds channel file around (Err (ReadFault role.Frame)) = IsFaulty around file
-FrameEnds channel file around (Err (TooLong role.Frame)) = IsTooLong around file
+FrameEnds channel file around (Err (TooLong role.Frame)) = IsLong (shelf_of around) file
 FrameEnds channel file around (Err NoMemory) = Unit {0}
 FrameEnds channel file around (Err (NoFrame fault)) = IsNoFrameFile channel file around fault
 FrameEnds channel file around (Err WriteFault) = IsCutShort (IsLineOf channel file around) around

@@ -3,7 +3,10 @@ pub mod Around
 pub mod BoundAnswer
 pub mod BoundText
 pub mod Failure
+pub mod Files
 pub mod FrameAnswer
 pub mod FrameText
 pub mod Request
+pub mod RunAnswer
+pub mod RunText
 pub mod Status

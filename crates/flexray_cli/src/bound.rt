@@ -1,4 +1,4 @@
-ghost use Rattle.std.specs.Prelude.{◌≡◌, ◌<◌, ◌≤◌, IfErr, OnOk, OnErr};
+ghost use Rattle.std.specs.Prelude.{◌≡◌, ◌<◌, IfErr, OnOk, OnErr};
 ghost use Rattle.std.specs.Io.KnownBytes.{Appends};
 ghost use Rattle.fr_base.specs.Device.{Rose, AppendsFront};
 ghost use Rattle.flexray_cli.specs.Around.{around_of};
@@ -7,10 +7,10 @@ ghost use Rattle.flexray_cli.specs.BoundText.{bound_text};
 ghost use Rattle.flexray_cli.specs.BoundAnswer.{BoundEnds};
 
 use crate::bound_line::line_at;
-use crate::failure::{Failure, FileRole};
-use crate::load::load;
+use crate::failure::Failure;
+use crate::files::params_of;
 use fr_base::{PutFault, Shelf, Sink};
-use fr_params::{ParamFault, Params, read};
+use fr_params::Params;
 use std::alloc::Global;
 
 /// Reads the parameters in the file, and writes their bounds and checks.
@@ -26,15 +26,12 @@ pub fn answer<S: Shelf, O: Sink>(
     ensures unwritten { OutcomeWritesNothing result → out.new ≡ out.old }
     ensures shown { IfErr result CanShow }
 {
-    let mut bytes = Vec::new(alloc);
-    load(shelf, FileRole::Params, file, &mut bytes)?;
-    match read(alloc, &bytes) {
+    match params_of(alloc, file, shelf) {
         Ok(params) => match print(&params, out) {
             Ok(()) => Ok(()),
             Err(_) => Err(Failure::WriteFault),
         },
-        Err(ParamFault::NoMemory) => Err(Failure::NoMemory),
-        Err(fault) => Err(Failure::BadParams(fault)),
+        Err(failure) => Err(failure),
     }
 }
 

@@ -1,16 +1,17 @@
 ghost use Rattle.std.specs.Prelude.{◌≡◌, ◌≤◌, ◌<◌, ◌+◌, ◌++◌, ◌^◌, length, codes};
-ghost use Rattle.std.specs.Fmt.{decimal};
 ghost use Rattle.fr_base.specs.Line.{hexadecimal};
 ghost use Rattle.flexray_cli.specs.declared.failure.Failure.TheVariants.{NoFrame};
-ghost use Rattle.flexray_cli.specs.Failure.{status_of, role_text, reason_text, param_text, failure_text, failure_line, CanShow};
-ghost use Rattle.fr_params.specs.Names.{word_of};
+ghost use Rattle.flexray_cli.specs.Failure.{status_of, role_text, failure_text, failure_line, CanShow};
 ghost use Rattle.flexray_cli.specs.FrameText.{fault_text};
 
 use crate::number::show_number;
+use crate::refusal::{show_drift_fault, show_param_fault, show_script_fault};
 use crate::status::Status;
-use fr_base::{LINE_ROOM, Line, Reason};
+use fr_base::{LINE_ROOM, Line};
+use fr_drift::DriftFault;
 use fr_frame::FrameFault;
-use fr_params::{ParamFault, ParamName};
+use fr_params::ParamFault;
+use fr_script::ScriptFault;
 
 /// What a file is for a request.
 #[derive(Clone, Copy, Debug, PartialEq, Eq)]
@@ -19,6 +20,10 @@ pub enum FileRole {
     Frame,
     /// The parameters of a cluster.
     Params,
+    /// Its oscillators and delays, and how long the run is.
+    Drift,
+    /// What is done to its frames.
+    Script,
 }
 
 /// Why a call did not end in `Done`.
@@ -36,6 +41,10 @@ pub enum Failure {
     NoFrame(FrameFault),
     /// The parameter file is not accepted: the first cause.
     BadParams(ParamFault),
+    /// The drift file is not accepted: the first cause.
+    BadDrift(DriftFault),
+    /// The script is not accepted: the first cause.
+    BadScript(ScriptFault),
     /// The sink failed.
     WriteFault,
 }
@@ -51,7 +60,7 @@ impl Failure {
             Failure::TooLong(_) => Status::TooLong,
             Failure::NoMemory => Status::NoMemory,
             Failure::NoFrame(_) => Status::No,
-            Failure::BadParams(_) => Status::Refused,
+            Failure::BadParams(_) | Failure::BadDrift(_) | Failure::BadScript(_) => Status::Refused,
             Failure::WriteFault => Status::WriteFault,
         }
     }
@@ -86,6 +95,14 @@ impl Failure {
                 line.text(b"params: ");
                 show_param_fault(line, fault);
             }
+            Failure::BadDrift(fault) => {
+                line.text(b"drift: ");
+                show_drift_fault(line, fault);
+            }
+            Failure::BadScript(fault) => {
+                line.text(b"script: ");
+                show_script_fault(line, fault);
+            }
             Failure::WriteFault => line.text(b"write fault"),
         }
     }
@@ -108,6 +125,8 @@ fn role_word(role: &FileRole) -> &'static [u8]
     match role {
         FileRole::Frame => b"frame",
         FileRole::Params => b"params",
+        FileRole::Drift => b"drift",
+        FileRole::Script => b"script",
     }
 }
 
@@ -154,56 +173,4 @@ fn show_checks(line: &mut Line, label: &[u8], digits: u8, kept: u32, computed: u
     line.hex(kept, digits);
     line.text(b" computed ");
     line.hex(computed, digits);
-}
-
-fn show_param_fault(line: &mut Line, fault: &ParamFault)
-    requires { length line.old + 80 ≤ LINE_ROOM }
-    ensures bytes { line.new ≡ line.old ++ param_text fault.now }
-    ensures short { length line.new ≤ length line.old + 80 }
-{
-    match *fault {
-        ParamFault::Row { number, reason } => {
-            show_number(line, b"record ", number);
-            show_reason(line, reason);
-        }
-        ParamFault::Missing(name) => show_name(line, name),
-        ParamFault::Constraint(number) => show_number(line, b"constraint ", u64::from(number)),
-        ParamFault::NoMemory => line.text(b"no memory"),
-    }
-}
-
-fn show_reason(line: &mut Line, reason: Reason)
-    requires { length line.old + 30 ≤ LINE_ROOM }
-    ensures bytes { line.new ≡ line.old ++ (codes ": " ++ reason_text reason) }
-    ensures short { length line.new ≤ length line.old + 30 }
-{
-    line.text(b": ");
-    line.text(reason_word(reason));
-}
-
-fn show_name(line: &mut Line, name: ParamName)
-    requires { length line.old + 60 ≤ LINE_ROOM }
-    ensures bytes { line.new ≡ line.old ++ (codes "missing " ++ word_of name) }
-    ensures short { length line.new ≤ length line.old + 60 }
-{
-    line.text(b"missing ");
-    line.text(name.word());
-}
-
-fn reason_word(reason: Reason) -> &'static [u8]
-    ensures value { result.now ≡ reason_text reason }
-    ensures short { length result.now ≤ 20 }
-{
-    match reason {
-        Reason::Shape => b"Shape",
-        Reason::UnknownName => b"UnknownName",
-        Reason::NotNumber => b"NotNumber",
-        Reason::OutOfRange => b"OutOfRange",
-        Reason::UnknownNode => b"UnknownNode",
-        Reason::BadChannel => b"BadChannel",
-        Reason::Role => b"Role",
-        Reason::Link => b"Link",
-        Reason::NotHex => b"NotHex",
-        Reason::Repeated => b"Repeated",
-    }
 }

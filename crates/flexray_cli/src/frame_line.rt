@@ -1,4 +1,4 @@
-ghost use Rattle.std.specs.Prelude.{◌≡◌, ◌≤◌, ◌<◌, ◌+◌, ◌*◌, ◌++◌, ◌^◌, [], length, codes, IfErr, OnOk};
+ghost use Rattle.std.specs.Prelude.{◌≡◌, ◌≤◌, ◌<◌, ◌+◌, ◌*◌, ◌++◌, ◌^◌, length};
 ghost use Rattle.std.specs.Fmt.{decimal};
 ghost use Rattle.fr_base.specs.Line.{hexadecimal};
 ghost use Rattle.flexray_cli.specs.Request.{letter};

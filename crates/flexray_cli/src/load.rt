@@ -1,5 +1,5 @@
-ghost use Rattle.std.specs.Prelude.{◌≡◌, ◌≤◌, ℕ, [], List, OnOk, OnErr, IfErr, length};
-ghost use Rattle.fr_base.specs.Device.{Rose, IsHeld};
+ghost use Rattle.std.specs.Prelude.{◌≡◌, ◌≤◌, ℕ, [], List, OnOk, IfErr, length};
+ghost use Rattle.fr_base.specs.Device.{IsHeld};
 ghost use Rattle.flexray_cli.specs.Failure.{LoadFails, CanShow};
 
 use crate::failure::{Failure, FileRole};
@@ -17,6 +17,8 @@ pub fn load<S: Shelf>(
     ensures fits { OnOk result (length into.new.items ≤ MAX_FILE) }
     ensures fails { IfErr result (LoadFails role (S.held shelf.old file.now) (S.faults shelf.old file.now) (S.faults shelf.new file.now)) }
     ensures shown { IfErr result CanShow }
+    ensures never_fall { (other : List ℕ) → S.faults shelf.old other ≤ S.faults shelf.new other }
+    ensures held_stays { (other : List ℕ) → S.held shelf.new other ≡ S.held shelf.old other }
 {
     match shelf.load(file, into) {
         Ok(()) => Ok(()),

@@ -1,15 +1,23 @@
 //! `flexray`: a FlexRay cluster in one program. `flexray frame A FILE` decodes the frame in a file,
-//! and `flexray bound FILE` computes the bounds and checks of a cluster.
+//! `flexray bound PARAMS` computes the bounds and checks of a cluster, and `flexray run PARAMS DRIFT SCRIPT`
+//! runs it.
 #![tactic(auto)]
 
 mod bound;
 mod bound_line;
 mod failure;
+mod files;
 mod frame;
 mod frame_line;
+mod laws;
 mod load;
 mod number;
+mod play;
+mod refusal;
 mod request;
+mod run;
+#[cfg(test)]
+mod run_tests;
 mod status;
 #[cfg(test)]
 mod tests;

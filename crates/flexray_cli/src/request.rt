@@ -1,4 +1,4 @@
-ghost use Rattle.std.specs.Prelude.{◌≡◌, ◌∷◌, [], List, ℕ, IfSome, IsNone};
+ghost use Rattle.std.specs.Prelude.{◌≡◌, ◌∷◌, [], IfSome, IsNone};
 ghost use Rattle.flexray_cli.specs.Request.{texts, letter, Asks, IsNoRequest};
 
 use fr_base::Channel;
@@ -10,6 +10,19 @@ pub enum Request<'a> {
     Frame { channel: Channel, file: &'a str },
     /// Print the bounds and checks of the parameters in the file.
     Bound { file: &'a str },
+    /// Run the cluster that the files decide, and print the report.
+    Run(RunFiles<'a>),
+}
+
+/// The names of the files that decide a run.
+#[derive(Clone, Copy)]
+pub struct RunFiles<'a> {
+    /// The parameters of the cluster.
+    pub params: &'a str,
+    /// Its oscillators and delays.
+    pub drift: &'a str,
+    /// What is done to its frames.
+    pub script: &'a str,
 }
 
 /// Reads the words by position. It takes no memory.
@@ -24,6 +37,14 @@ pub fn request_of(words: &[String]) -> Option<Request<'_>>
             file.as_str(),
         ),
         [command, file] => bound_request(command.as_str(), file.as_str()),
+        [command, params, drift, script] => run_request(
+            command.as_str(),
+            RunFiles {
+                params: params.as_str(),
+                drift: drift.as_str(),
+                script: script.as_str(),
+            },
+        ),
         _ => None,
     }
 }
@@ -47,6 +68,16 @@ fn bound_request<'a>(command: &str, file: &'a str) -> Option<Request<'a>>
 {
     match command {
         "bound" => Some(Request::Bound { file }),
+        _ => None,
+    }
+}
+
+fn run_request<'a>(command: &str, files: RunFiles<'a>) -> Option<Request<'a>>
+    ensures found { IfSome result (Asks (command.now ∷ files.entry.params.now ∷ files.entry.drift.now ∷ files.entry.script.now ∷ [])) }
+    ensures none { IsNone result → IsNoRequest (command.now ∷ files.entry.params.now ∷ files.entry.drift.now ∷ files.entry.script.now ∷ []) }
+{
+    match command {
+        "run" => Some(Request::Run(files)),
         _ => None,
     }
 }

@@ -9,7 +9,7 @@ const LINE: &[u8] =
 
 const FRAME: [u8; 8] = [0x18, 0x01, 0x00, 0x6F, 0x00, 0x9A, 0xE5, 0x25];
 
-fn words_of(alloc: Global, texts: &[&str]) -> Result<Vec<String>, AllocError> {
+pub(crate) fn words_of(alloc: Global, texts: &[&str]) -> Result<Vec<String>, AllocError> {
     let mut words = Vec::new(alloc);
     for text in texts {
         words.push(String::from_str(alloc, text)?)?;
@@ -112,7 +112,9 @@ fn other_words_are_no_request(rt: HostRuntime) -> Result<(), Fail> {
         &["--version"],
         &["bound"],
         &["bound", "f", "f"],
-        &["run", "p", "d", "s"],
+        &["run"],
+        &["run", "p", "d"],
+        &["run", "p", "d", "s", "s"],
         &["trace", "p", "d", "s"],
         &["check", "p", "t"],
         &["make", "1", "1"],
@@ -176,7 +178,7 @@ fn devices_fail(rt: HostRuntime) -> Result<(), Fail> {
 }
 
 // A cycle of 5 ms at a microtick of 25 ns, with two nodes.
-const PARAMS: &str = "\
+pub(crate) const PARAMS: &str = "\
 param,gMacroPerCycle,5000,,\n\
 param,pMicroPerCycle,200000,,\n\
 param,gNumberOfStaticSlots,140,,\n\
@@ -213,7 +215,11 @@ C5 holds 4592218372600 1262718000000\n\
 ";
 
 // The text with each line that begins so replaced.
-fn changed(alloc: Global, old: &str, values: &[(&str, &str)]) -> Result<String, AllocError> {
+pub(crate) fn changed(
+    alloc: Global,
+    old: &str,
+    values: &[(&str, &str)],
+) -> Result<String, AllocError> {
     let mut text = String::new(alloc);
     for line in old.lines() {
         let mut shown = line;

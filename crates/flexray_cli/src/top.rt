@@ -1,18 +1,18 @@
 ghost use Rattle.std.specs.Prelude.{◌≡◌, ◌↔◌, ℕ, List, IfErr, Err};
 ghost use Rattle.fr_base.specs.declared.channel.Channel.{Channel};
-ghost use Rattle.fr_base.specs.Device.{Rose, IsHeld};
 ghost use Rattle.flexray_cli.specs.declared.failure.Failure.TheVariants.{Usage};
-ghost use Rattle.flexray_cli.specs.Request.{texts, AsksFrame, AsksBound, IsNoRequest};
+ghost use Rattle.flexray_cli.specs.Request.{texts, AsksFrame, AsksBound, AsksRun, IsNoRequest, RunNames};
 ghost use Rattle.flexray_cli.specs.Around.{around_of};
 ghost use Rattle.flexray_cli.specs.Failure.{IsPut, WritesNothing, OutcomeWritesNothing, CanShow, failure_line};
 ghost use Rattle.flexray_cli.specs.FrameAnswer.{FrameEnds, IsFrameStatus};
 ghost use Rattle.flexray_cli.specs.BoundAnswer.{BoundEnds, IsBoundStatus};
+ghost use Rattle.flexray_cli.specs.RunAnswer.{IsRunComplete, RunEnds};
 ghost use Rattle.flexray_cli.specs.Answer.{RequestEnds, IsAnswer, IsComplete};
 
 use crate::failure::Failure;
 use crate::request::{Request, request_of};
 use crate::status::Status;
-use crate::{bound, frame};
+use crate::{bound, frame, run};
 use fr_base::{Shelf, Sink};
 use std::alloc::Global;
 
@@ -44,6 +44,11 @@ pub fn flexray<S: Shelf, O: Sink, E: Sink>(
         (around_of (S.held shelf.old) (S.faults shelf.old) (S.faults shelf.new)
         (O.written out.old) (O.written out.new) (O.faults out.old) (O.faults out.new)))
         (E.written err.old) (E.written err.new) (E.faults err.old) (E.faults err.new) result }
+    ensures run { (names : RunNames) → AsksRun (texts words.now) names →
+        IsAnswer (RunEnds names
+        (around_of (S.held shelf.old) (S.faults shelf.old) (S.faults shelf.new)
+        (O.written out.old) (O.written out.new) (O.faults out.old) (O.faults out.new)))
+        (E.written err.old) (E.written err.new) (E.faults err.old) (E.faults err.new) result }
 
     // Where the bytes of the file are told and no fault was counted, they decide the status, but for want of memory.
     ensures complete_frame { (channel : Channel) (file : List ℕ) → AsksFrame (texts words.now) channel file →
@@ -52,6 +57,10 @@ pub fn flexray<S: Shelf, O: Sink, E: Sink>(
         (O.written out.old) (O.written out.new) (O.faults out.old) (O.faults out.new)) result }
     ensures complete_bound { (file : List ℕ) → AsksBound (texts words.now) file →
         IsComplete IsBoundStatus file
+        (around_of (S.held shelf.old) (S.faults shelf.old) (S.faults shelf.new)
+        (O.written out.old) (O.written out.new) (O.faults out.old) (O.faults out.new)) result }
+    ensures complete_run { (names : RunNames) → AsksRun (texts words.now) names →
+        IsRunComplete names
         (around_of (S.held shelf.old) (S.faults shelf.old) (S.faults shelf.new)
         (O.written out.old) (O.written out.new) (O.faults out.old) (O.faults out.new)) result }
 
@@ -85,6 +94,10 @@ fn answer<S: Shelf, O: Sink>(
         BoundEnds file
         (around_of (S.held shelf.old) (S.faults shelf.old) (S.faults shelf.new)
         (O.written out.old) (O.written out.new) (O.faults out.old) (O.faults out.new)) result }
+    ensures run { (names : RunNames) → AsksRun (texts words.now) names →
+        RunEnds names
+        (around_of (S.held shelf.old) (S.faults shelf.old) (S.faults shelf.new)
+        (O.written out.old) (O.written out.new) (O.faults out.old) (O.faults out.new)) result }
     ensures unwritten { OutcomeWritesNothing result → out.new ≡ out.old }
     ensures shown { IfErr result CanShow }
 {
@@ -109,6 +122,7 @@ fn carry_out<S: Shelf, O: Sink>(
     match request {
         Request::Frame { channel, file } => frame::answer(alloc, channel, file, shelf, out),
         Request::Bound { file } => bound::answer(alloc, file, shelf, out),
+        Request::Run(files) => run::answer(alloc, files, shelf, out),
     }
 }
 

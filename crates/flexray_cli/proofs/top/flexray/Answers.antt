@@ -1,4 +1,4 @@
-use Rattle.std.proofs.Common.{◌≡◌, Ok, Err, sym, ◌∙◌, subst}
+use Rattle.std.proofs.Common.{Ok, Err, sym, ◌∙◌, subst}
 use Rattle.flexray_cli.specs.declared.failure.Failure.{Failure}
 use Rattle.flexray_cli.specs.declared.status.Status.{Status}
 use Rattle.flexray_cli.specs.Around.{Around, around_of}
@@ -6,6 +6,8 @@ use Rattle.flexray_cli.specs.Failure.{IsPut, failure_line}
 use Rattle.flexray_cli.specs.FrameAnswer.{IsFrameStatus}
 use Rattle.flexray_cli.specs.BoundAnswer.{IsBoundStatus}
 use Rattle.flexray_cli.specs.Answer.{IsComplete}
+use Rattle.flexray_cli.specs.RunAnswer.{IsRunComplete}
+use Rattle.flexray_cli.proofs.RunEndings.{run_complete}
 use Rattle.flexray_cli.proofs.Endings.{frame_complete, bound_complete, usage_only}
 use Rattle.flexray_cli.proofs.top.flexray.Goals as goal
 
@@ -14,6 +16,9 @@ returns-in-Ok-clause-complete_frame g c = λ channel file asked. frame_complete 
 
 pub returns-in-Ok-clause-complete_bound : goal.returns-in-Ok-clause-complete_bound
 returns-in-Ok-clause-complete_bound g c = λ file asked. bound_complete file _ (Ok tt) (c.in-Ok.ensures.bound file asked)
+
+pub returns-in-Ok-clause-complete_run : goal.returns-in-Ok-clause-complete_run
+returns-in-Ok-clause-complete_run g c = λ names asked. run_complete names _ (Ok tt) (c.in-Ok.ensures.run names asked)
 
 pub returns-in-Err-clause-usage_told : goal.returns-in-Err-clause-usage_told
 returns-in-Err-clause-usage_told g c = λ usage.
@@ -32,3 +37,9 @@ returns-in-Err-clause-complete_bound g c = λ file asked.
     let around : Around = around_of (g.S.Shelf.held c.args.shelf.now) (g.S.Shelf.faults c.args.shelf.now) (g.S.Shelf.faults c.answer.new.shelf) (g.O.Sink.written c.args.out.now) (g.O.Sink.written c.answer.new.out) (g.O.Sink.faults c.args.out.now) (g.O.Sink.faults c.answer.new.out) in
     let P : Status → Type 0 = IsComplete IsBoundStatus file around in
     subst P (sym c.status.ensures) (bound_complete file around (Err c.in-Err.failure) (c.in-Err.ensures.bound file asked))
+
+pub returns-in-Err-clause-complete_run : goal.returns-in-Err-clause-complete_run
+returns-in-Err-clause-complete_run g c = λ names asked.
+    let around : Around = around_of (g.S.Shelf.held c.args.shelf.now) (g.S.Shelf.faults c.args.shelf.now) (g.S.Shelf.faults c.answer.new.shelf) (g.O.Sink.written c.args.out.now) (g.O.Sink.written c.answer.new.out) (g.O.Sink.faults c.args.out.now) (g.O.Sink.faults c.answer.new.out) in
+    let P : Status → Type 0 = IsRunComplete names around in
+    subst P (sym c.status.ensures) (run_complete names around (Err c.in-Err.failure) (c.in-Err.ensures.run names asked))
