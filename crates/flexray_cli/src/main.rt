@@ -3,31 +3,15 @@
 //! runs it.
 #![tactic(auto)]
 
-mod bound;
-mod bound_line;
-mod failure;
-mod files;
-mod frame;
-mod frame_line;
-mod laws;
-mod load;
-mod number;
-mod play;
-mod refusal;
-mod request;
-mod run;
 #[cfg(test)]
 mod run_tests;
-mod status;
 #[cfg(test)]
 mod tests;
-mod top;
 
+use fr_answer::{Status, flexray};
 use fr_base::{DiskShelf, StreamSink};
-use status::Status;
 use std::env;
 use std::process::ExitCode;
-use top::flexray;
 
 fn main(rt: HostRuntime) -> ExitCode {
     let Ok(all) = env::args(&rt) else {

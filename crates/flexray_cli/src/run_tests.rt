@@ -1,7 +1,5 @@
-use crate::play::play;
-use crate::status::Status;
 use crate::tests::{PARAMS, changed, words_of};
-use crate::top::flexray;
+use fr_answer::{Status, flexray, play};
 use fr_base::{MAX_FILE, MemoryShelf, MemorySink, SureShelf, SureSink};
 use fr_world::World;
 use std::alloc::{AllocError, Global};

@@ -1,5 +1,4 @@
-use crate::status::Status;
-use crate::top::flexray;
+use fr_answer::{Status, flexray};
 use fr_base::{MAX_FILE, MemoryShelf, MemorySink, SureShelf, SureSink};
 use std::alloc::{AllocError, Global};
 use std::test::Fail;
