@@ -3,11 +3,6 @@
 //! runs it.
 #![tactic(auto)]
 
-#[cfg(test)]
-mod run_tests;
-#[cfg(test)]
-mod tests;
-
 use fr_answer::{Status, flexray};
 use fr_base::{DiskShelf, StreamSink};
 use std::env;

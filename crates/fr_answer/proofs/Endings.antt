@@ -1,191 +1,110 @@
--- What the endings of a call say of its status and of its line.
-use Rattle.std.proofs.Common.{◌≡◌, ℕ, ◌<◌, List, length, Option, Some, Result, Ok, Err, IfSome, ◌⊎◌, inl, inr, refl, sym, subst, arith}
-use Rattle.std.specs.Prelude.{OnOk, OnErr}
-use Rattle.std.specs.Io.KnownBytes.{Appends}
-use Rattle.std.proofs.lemmas.List.{take_all}
-use Rattle.fr_base.specs.Device.{Rose, IsHeld, AppendsFront}
-use Rattle.fr_base.specs.declared.sink.PutFault.{PutFault}
+-- How a request ends says which status its files define.
+use Rattle.std.proofs.Common.{◌≡◌, ℕ, List, Some, Ok, Err, ◌⊎◌, inl, inr, subst}
+use Rattle.fr_base.specs.Device.{IsFaulty, Rose, Shelved, Sunk}
 use Rattle.fr_base.specs.declared.channel.Channel.{Channel}
-use Rattle.fr_base.specs.declared.shelf.TheConstants.{MAX_FILE}
+use Rattle.fr_params.specs.Files.{params_file}
+use Rattle.fr_drift.specs.Files.{drift_file}
+use Rattle.fr_script.specs.Files.{script_file}
+use Rattle.fr_records.specs.declared.kind.Stop.TheVariants as stop
 use Rattle.fr_answer.specs.declared.failure.Failure.{Failure}
-use Rattle.fr_answer.specs.declared.failure.Failure.TheVariants.{Usage, ReadFault, TooLong, NoMemory, NoFrame, BadParams, BadDrift, BadScript, WriteFault}
-use Rattle.fr_answer.specs.declared.failure.FileRole.TheVariants as role
+use Rattle.fr_answer.specs.declared.failure.Failure.TheVariants.{Frame, Params, Drift, Script, NoMemory, WriteFault}
 use Rattle.fr_answer.specs.declared.status.Status.{Status}
 use Rattle.fr_answer.specs.declared.status.Status.TheVariants as status
-use Rattle.fr_params.specs.Values.{Values}
-use Rattle.fr_answer.specs.Around.{Around, shelf_of}
-use Rattle.fr_answer.specs.Files.{IsCounted, Shelved, StopsAtDrift, StopsAtParams, StopsAtScript}
-use Rattle.fr_answer.specs.RunAnswer.{IsDriftStatus, IsParamsStatus, IsScriptStatus}
-use Rattle.fr_answer.specs.Failure.{IsPut, outcome_status, status_of}
-use Rattle.fr_answer.specs.FrameAnswer.{FrameEnds, IsFrameStatus}
-use Rattle.fr_answer.specs.BoundAnswer.{BoundEnds, IsBoundStatus}
-use Rattle.fr_answer.specs.Answer.{IsComplete}
+use Rattle.fr_answer.specs.Answer.{Ends, IsDefinedBy}
+use Rattle.fr_answer.specs.Around.{Around, Ending, TextEnds}
+use Rattle.fr_answer.specs.BoundAnswer.{AreBoundsOf, IsBoundStatus, StopsAtParams}
+use Rattle.fr_answer.specs.Complete.{IsComplete, IsStatusOf}
+use Rattle.fr_answer.specs.Failure.{ending_status, status_of}
+use Rattle.fr_answer.specs.FrameAnswer.{IsFrameStatus, IsLineOf, StopsAtFrame}
+use Rattle.fr_answer.specs.Request.{Asked, RunNames, frame, bound, run}
+use Rattle.fr_answer.specs.RunAnswer.{AreFaultless, AreTold, DriftDecides, IsRunReport, IsRunComplete, IsRunStatus, RunBytes, ScriptDecides, StopsAtFile}
+use Rattle.fr_answer.proofs.Found.{are_bytes, same_bytes, stop_defined, too_long}
 
--- told bytes are the loaded ones
-pub same_bytes : (told : Option (List ℕ)) (bytes loaded : List ℕ) → told ≡ Some bytes → IsHeld told loaded → loaded ≡ bytes
-same_bytes told bytes loaded is held = let P : Option (List ℕ) → Type 0 = λ content. IsHeld content loaded in subst P is held
+-- a failure could not write, or has another cause
+text_stops : (IsText : List ℕ → Type 0) (Stops : Failure → Type 0) (before after : Sunk) (failure : Failure) → TextEnds IsText Stops before after (Err failure) → Rose before.faults after.faults ⊎ Stops failure
+text_stops IsText Stops before after WriteFault ends = inl ends.counted
+text_stops IsText Stops before after other ends = inr ends
 
-too_long : (told : Option (List ℕ)) (bytes : List ℕ) → told ≡ Some bytes → IfSome told (λ content. MAX_FILE < length content) → MAX_FILE < length bytes
-too_long told bytes is long = let P : Option (List ℕ) → Type 0 = λ content. IfSome content (λ all. MAX_FILE < length all) in subst P is long
+frame_stopped : (channel : Channel) (before after : Shelved) (file bytes : List ℕ) (failure : Failure) → before.held file ≡ Some bytes → (IsFaulty before after file → ⊥) → StopsAtFrame channel file before after failure → IsFrameStatus channel bytes (status_of failure)
+frame_stopped channel before after file bytes (Frame stop.ReadFault) told unread stops = absurd (unread stops)
+frame_stopped channel before after file bytes (Frame stop.TooLong) told unread stops = too_long before file bytes told stops
+frame_stopped channel before after file bytes (Frame stop.NoMemory) told unread stops = tt
+frame_stopped channel before after file bytes (Frame (stop.Refused fault)) told unread stops =
+    let same : stops.bytes ≡ bytes = same_bytes (before.held file) bytes stops.bytes told stops.loaded.told in
+    subst (λ (all : List ℕ). IsFrameStatus channel all status.No) same (stops.loaded.fits, stops.no_frame)
+frame_stopped channel before after file bytes other told unread stops = absurd stops
 
--- the status of an ending is the one that the bytes define
-pub frame_complete : (channel : Channel) (file : List ℕ) (around : Around) (outcome : Result (Unit {0}) Failure) → FrameEnds channel file around outcome → IsComplete (IsFrameStatus channel) file around (outcome_status outcome)
+frame_complete : (channel : Channel) (file : List ℕ) (around : Around) (ending : Ending) → Ends (frame channel file) around ending → IsComplete (IsFrameStatus channel) file around (ending_status ending)
 frame_complete channel file around (Ok done) ends bytes told unread unwritten =
-    let line = ends.defined in
-    let same : line.bytes ≡ bytes = same_bytes (around.held file) bytes line.bytes told line.loaded.told in
-    subst (λ (all : List ℕ). IsFrameStatus channel all status.Done) same (line.loaded.fits, (line.header, (line.payload, (line.header_crc, (line.frame_crc, line.frame)))))
-frame_complete channel file around (Err Usage) ends bytes told unread unwritten = absurd ends
-frame_complete channel file around (Err (ReadFault role.Frame)) ends bytes told unread unwritten = absurd (unread ends)
-frame_complete channel file around (Err (ReadFault role.Params)) ends bytes told unread unwritten = absurd ends
-frame_complete channel file around (Err (ReadFault role.Drift)) ends bytes told unread unwritten = absurd ends
-frame_complete channel file around (Err (ReadFault role.Script)) ends bytes told unread unwritten = absurd ends
-frame_complete channel file around (Err (TooLong role.Frame)) ends bytes told unread unwritten = too_long (around.held file) bytes told ends
-frame_complete channel file around (Err (TooLong role.Params)) ends bytes told unread unwritten = absurd ends
-frame_complete channel file around (Err (TooLong role.Drift)) ends bytes told unread unwritten = absurd ends
-frame_complete channel file around (Err (TooLong role.Script)) ends bytes told unread unwritten = absurd ends
-frame_complete channel file around (Err NoMemory) ends bytes told unread unwritten = tt
-frame_complete channel file around (Err (NoFrame fault)) ends bytes told unread unwritten =
-    let same : ends.bytes ≡ bytes = same_bytes (around.held file) bytes ends.bytes told ends.loaded.told in
-    subst (λ (all : List ℕ). IsFrameStatus channel all status.No) same (ends.loaded.fits, ends.no_frame)
-frame_complete channel file around (Err (BadParams fault)) ends bytes told unread unwritten = absurd ends
-frame_complete channel file around (Err (BadDrift fault)) ends bytes told unread unwritten = absurd ends
-frame_complete channel file around (Err (BadScript fault)) ends bytes told unread unwritten = absurd ends
-frame_complete channel file around (Err WriteFault) ends bytes told unread unwritten = absurd (unwritten ends.counted)
-
--- an answer is want of memory, or one of these
-abbrev pub IsFreeOr : (Status → Type 0) → Status → Type 0
-IsFreeOr IsDefined answer = (answer ≡ status.NoMemory) ⊎ IsDefined answer
-
--- where a request stops at its params file, the bytes of that file define the status
-pub params_status : (shelf : Shelved) (file bytes : List ℕ) (failure : Failure) → shelf.held file ≡ Some bytes → (IsCounted shelf file → ⊥) → StopsAtParams shelf file failure → IsFreeOr (IsParamsStatus bytes) (status_of failure)
-params_status shelf file bytes Usage told unread stops = absurd stops
-params_status shelf file bytes (ReadFault role.Frame) told unread stops = absurd stops
-params_status shelf file bytes (ReadFault role.Params) told unread stops = absurd (unread stops)
-params_status shelf file bytes (ReadFault role.Drift) told unread stops = absurd stops
-params_status shelf file bytes (ReadFault role.Script) told unread stops = absurd stops
-params_status shelf file bytes (TooLong role.Frame) told unread stops = absurd stops
-params_status shelf file bytes (TooLong role.Params) told unread stops = inr (too_long (shelf.held file) bytes told stops)
-params_status shelf file bytes (TooLong role.Drift) told unread stops = absurd stops
-params_status shelf file bytes (TooLong role.Script) told unread stops = absurd stops
-params_status shelf file bytes NoMemory told unread stops = inl refl
-params_status shelf file bytes (NoFrame fault) told unread stops = absurd stops
-params_status shelf file bytes (BadParams fault) told unread stops =
-    let same : stops.bytes ≡ bytes = same_bytes (shelf.held file) bytes stops.bytes told stops.loaded.told in
-    inr (subst (λ (all : List ℕ). IsParamsStatus all status.Refused) same (stops.loaded.fits, (fault, stops.refusal)))
-params_status shelf file bytes (BadDrift fault) told unread stops = absurd stops
-params_status shelf file bytes (BadScript fault) told unread stops = absurd stops
-params_status shelf file bytes WriteFault told unread stops = absurd stops
-
--- where a request stops at its drift file, the bytes of that file define the status
-pub drift_status : (shelf : Shelved) (params : Values) (file bytes : List ℕ) (failure : Failure) → shelf.held file ≡ Some bytes → (IsCounted shelf file → ⊥) → StopsAtDrift shelf params file failure → IsFreeOr (IsDriftStatus params bytes) (status_of failure)
-drift_status shelf params file bytes Usage told unread stops = absurd stops
-drift_status shelf params file bytes (ReadFault role.Frame) told unread stops = absurd stops
-drift_status shelf params file bytes (ReadFault role.Params) told unread stops = absurd stops
-drift_status shelf params file bytes (ReadFault role.Drift) told unread stops = absurd (unread stops)
-drift_status shelf params file bytes (ReadFault role.Script) told unread stops = absurd stops
-drift_status shelf params file bytes (TooLong role.Frame) told unread stops = absurd stops
-drift_status shelf params file bytes (TooLong role.Params) told unread stops = absurd stops
-drift_status shelf params file bytes (TooLong role.Drift) told unread stops = inr (too_long (shelf.held file) bytes told stops)
-drift_status shelf params file bytes (TooLong role.Script) told unread stops = absurd stops
-drift_status shelf params file bytes NoMemory told unread stops = inl refl
-drift_status shelf params file bytes (NoFrame fault) told unread stops = absurd stops
-drift_status shelf params file bytes (BadParams fault) told unread stops = absurd stops
-drift_status shelf params file bytes (BadDrift fault) told unread stops =
-    let same : stops.bytes ≡ bytes = same_bytes (shelf.held file) bytes stops.bytes told stops.loaded.told in
-    inr (subst (λ (all : List ℕ). IsDriftStatus params all status.Refused) same (stops.loaded.fits, (fault, stops.refusal)))
-drift_status shelf params file bytes (BadScript fault) told unread stops = absurd stops
-drift_status shelf params file bytes WriteFault told unread stops = absurd stops
-
--- where a request stops at its script file, the bytes of that file define the status
-pub script_status : (shelf : Shelved) (params : Values) (file bytes : List ℕ) (failure : Failure) → shelf.held file ≡ Some bytes → (IsCounted shelf file → ⊥) → StopsAtScript shelf params file failure → IsFreeOr (IsScriptStatus params bytes) (status_of failure)
-script_status shelf params file bytes Usage told unread stops = absurd stops
-script_status shelf params file bytes (ReadFault role.Frame) told unread stops = absurd stops
-script_status shelf params file bytes (ReadFault role.Params) told unread stops = absurd stops
-script_status shelf params file bytes (ReadFault role.Drift) told unread stops = absurd stops
-script_status shelf params file bytes (ReadFault role.Script) told unread stops = absurd (unread stops)
-script_status shelf params file bytes (TooLong role.Frame) told unread stops = absurd stops
-script_status shelf params file bytes (TooLong role.Params) told unread stops = absurd stops
-script_status shelf params file bytes (TooLong role.Drift) told unread stops = absurd stops
-script_status shelf params file bytes (TooLong role.Script) told unread stops = inr (too_long (shelf.held file) bytes told stops)
-script_status shelf params file bytes NoMemory told unread stops = inl refl
-script_status shelf params file bytes (NoFrame fault) told unread stops = absurd stops
-script_status shelf params file bytes (BadParams fault) told unread stops = absurd stops
-script_status shelf params file bytes (BadDrift fault) told unread stops = absurd stops
-script_status shelf params file bytes (BadScript fault) told unread stops =
-    let same : stops.bytes ≡ bytes = same_bytes (shelf.held file) bytes stops.bytes told stops.loaded.told in
-    inr (subst (λ (all : List ℕ). IsScriptStatus params all status.Refused) same (stops.loaded.fits, (fault, stops.refusal)))
-script_status shelf params file bytes WriteFault told unread stops = absurd stops
-
--- a failed request for bounds could not write, or stopped at its file
-bound_stops : (file : List ℕ) (around : Around) (failure : Failure) → BoundEnds file around (Err failure) → (Rose around.write_before around.write_after) ⊎ StopsAtParams (shelf_of around) file failure
-bound_stops file around Usage ends = inr ends
-bound_stops file around (ReadFault role) ends = inr ends
-bound_stops file around (TooLong role) ends = inr ends
-bound_stops file around NoMemory ends = inr ends
-bound_stops file around (NoFrame fault) ends = inr ends
-bound_stops file around (BadParams fault) ends = inr ends
-bound_stops file around (BadDrift fault) ends = inr ends
-bound_stops file around (BadScript fault) ends = inr ends
-bound_stops file around WriteFault ends = inl ends.counted
-
-pub bound_ends : (file : List ℕ) (around : Around) (failure : Failure) → StopsAtParams (shelf_of around) file failure → BoundEnds file around (Err failure)
-bound_ends file around Usage stops = stops
-bound_ends file around (ReadFault role) stops = stops
-bound_ends file around (TooLong role) stops = stops
-bound_ends file around NoMemory stops = stops
-bound_ends file around (NoFrame fault) stops = stops
-bound_ends file around (BadParams fault) stops = stops
-bound_ends file around (BadDrift fault) stops = stops
-bound_ends file around (BadScript fault) stops = stops
-bound_ends file around WriteFault stops = absurd stops
-
--- a status that the bytes of a parameter file define is one of a request for bounds
-bound_status : (bytes : List ℕ) (answer : Status) → IsFreeOr (IsParamsStatus bytes) answer → IsBoundStatus bytes answer
-bound_status bytes status.Done (inl free) = absurd cc
-bound_status bytes status.Done (inr defined) = absurd defined
-bound_status bytes status.No (inl free) = absurd cc
-bound_status bytes status.No (inr defined) = absurd defined
-bound_status bytes status.Usage (inl free) = absurd cc
-bound_status bytes status.Usage (inr defined) = absurd defined
-bound_status bytes status.ReadFault (inl free) = absurd cc
-bound_status bytes status.ReadFault (inr defined) = absurd defined
-bound_status bytes status.WriteFault (inl free) = absurd cc
-bound_status bytes status.WriteFault (inr defined) = absurd defined
-bound_status bytes status.Refused (inl free) = absurd cc
-bound_status bytes status.Refused (inr defined) = defined
-bound_status bytes status.NoMemory free = tt
-bound_status bytes status.TooLong (inl free) = absurd cc
-bound_status bytes status.TooLong (inr defined) = defined
-
-pub bound_complete : (file : List ℕ) (around : Around) (outcome : Result (Unit {0}) Failure) → BoundEnds file around outcome → IsComplete IsBoundStatus file around (outcome_status outcome)
-bound_complete file around (Ok done) ends bytes told unread unwritten =
-    let found = ends.defined.params_file in
-    let same : found.bytes ≡ bytes = same_bytes (around.held file) bytes found.bytes told found.loaded.told in
-    subst (λ (all : List ℕ). IsBoundStatus all status.Done) same (found.loaded.fits, (ends.defined.params, found.accepted))
-bound_complete file around (Err failure) ends bytes told unread unwritten =
-    elim (bound_stops file around failure ends) [
+    let found = ends.defined in
+    let same : found.bytes ≡ bytes = same_bytes (around.shelf_before.held file) bytes found.bytes told found.loaded.told in
+    subst (λ (all : List ℕ). IsFrameStatus channel all status.Done) same (found.loaded.fits, (found.header, (found.payload, (found.header_crc, (found.frame_crc, found.frame)))))
+frame_complete channel file around (Err failure) ends bytes told unread unwritten =
+    elim (text_stops (IsLineOf channel file around.shelf_before) (StopsAtFrame channel file around.shelf_before around.shelf_after) around.out_before around.out_after failure ends) [
       | inl counted ↦ absurd (unwritten counted)
-      | inr stops ↦ bound_status bytes (status_of failure) (params_status (shelf_of around) file bytes failure told unread stops)
+      | inr stops ↦ frame_stopped channel around.shelf_before around.shelf_after file bytes failure told unread stops
     ]
 
--- a line that was handed to a sink was put
-pub is_put : (answer : Result (Unit {0}) PutFault) (before after : Option (List ℕ)) (count_before count_after : ℕ) (line : List ℕ) → OnOk answer (Appends before after line) → OnErr answer (Rose count_before count_after) → OnErr answer (AppendsFront before after line) → IsPut before after count_before count_after line
-is_put (Ok done) before after count_before count_after line whole failed front = record {
-  front = (length line, subst (Appends before after) (sym (take_all (length line) line (omega arith))) whole);
-  whole = λ uncounted. whole;
-}
-is_put (Err fault) before after count_before count_after line whole failed front = record {
-  front = front;
-  whole = λ uncounted. absurd (uncounted failed);
-}
+bound_status : (bytes : List ℕ) (answer : Status) → IsStatusOf params_file bytes answer → IsBoundStatus bytes answer
+bound_status bytes status.Done defined = absurd defined
+bound_status bytes other defined = defined
 
-pub usage_only : (failure : Failure) → status_of failure ≡ status.Usage → failure ≡ Usage
-usage_only Usage is = refl
-usage_only (ReadFault file) is = absurd cc
-usage_only (TooLong file) is = absurd cc
-usage_only NoMemory is = absurd cc
-usage_only (NoFrame fault) is = absurd cc
-usage_only (BadParams fault) is = absurd cc
-usage_only (BadDrift fault) is = absurd cc
-usage_only (BadScript fault) is = absurd cc
-usage_only WriteFault is = absurd cc
+bound_stopped : (before after : Shelved) (file bytes : List ℕ) (failure : Failure) → before.held file ≡ Some bytes → (IsFaulty before after file → ⊥) → StopsAtParams file before after failure → IsBoundStatus bytes (status_of failure)
+bound_stopped before after file bytes (Params why) told unread stops = bound_status bytes (status_of (Params why)) (stop_defined params_file before after file bytes why told unread stops)
+bound_stopped before after file bytes other told unread stops = absurd stops
+
+bound_complete : (file : List ℕ) (around : Around) (ending : Ending) → Ends (bound file) around ending → IsComplete IsBoundStatus file around (ending_status ending)
+bound_complete file around (Ok done) ends bytes told unread unwritten = (ends.defined.params, are_bytes params_file around.shelf_before file bytes ends.defined.params told ends.defined.has_params)
+bound_complete file around (Err failure) ends bytes told unread unwritten =
+    elim (text_stops (AreBoundsOf file around.shelf_before) (StopsAtParams file around.shelf_before around.shelf_after) around.out_before around.out_after failure ends) [
+      | inl counted ↦ absurd (unwritten counted)
+      | inr stops ↦ bound_stopped around.shelf_before around.shelf_after file bytes failure told unread stops
+    ]
+
+-- the first file that is not accepted decides
+abbrev Decides : RunBytes → Status → Type 0
+Decides bytes answer = IsStatusOf params_file bytes.params answer ⊎ (DriftDecides bytes answer ⊎ ScriptDecides bytes answer)
+
+run_status : (bytes : RunBytes) (answer : Status) → Decides bytes answer → IsRunStatus bytes answer
+run_status bytes status.Done (inl decides) = absurd decides
+run_status bytes status.Done (inr (inl drift)) = absurd drift.decides
+run_status bytes status.Done (inr (inr script)) = absurd script.decides
+run_status bytes other decides = decides
+
+run_stopped : (names : RunNames) (around : Around) (bytes : RunBytes) (failure : Failure) → AreTold names around.shelf_before bytes → AreFaultless names around → StopsAtFile names around.shelf_before around.shelf_after failure → Decides bytes (status_of failure)
+run_stopped names around bytes (Params why) told faultless stops = inl (stop_defined params_file around.shelf_before around.shelf_after names.params bytes.params why told.params faultless.params stops)
+run_stopped names around bytes (Drift why) told faultless stops = inr (inl (record {
+  params = stops.params;
+  are_params = are_bytes params_file around.shelf_before names.params bytes.params stops.params told.params stops.has_params;
+  decides = stop_defined (drift_file stops.params) around.shelf_before around.shelf_after names.drift bytes.drift why told.drift faultless.drift stops.stops;
+}))
+run_stopped names around bytes (Script why) told faultless stops = inr (inr (record {
+  params = stops.params;
+  are_params = are_bytes params_file around.shelf_before names.params bytes.params stops.params told.params stops.has_params;
+  drift = stops.drift;
+  are_drift = are_bytes (drift_file stops.params) around.shelf_before names.drift bytes.drift stops.drift told.drift stops.has_drift;
+  decides = stop_defined (script_file stops.params) around.shelf_before around.shelf_after names.script bytes.script why told.script faultless.script stops.stops;
+}))
+run_stopped names around bytes NoMemory told faultless stops = inl tt
+run_stopped names around bytes other told faultless stops = absurd stops
+
+run_complete : (names : RunNames) (around : Around) (ending : Ending) → Ends (run names) around ending → IsRunComplete names around (ending_status ending)
+run_complete names around (Ok done) ends bytes told faultless =
+    let found = ends.defined in record {
+      params = found.params;
+      drift = found.drift;
+      script = found.script;
+      are_params = are_bytes params_file around.shelf_before names.params bytes.params found.params told.params found.files.has_params;
+      are_drift = are_bytes (drift_file found.params) around.shelf_before names.drift bytes.drift found.drift told.drift found.files.has_drift;
+      are_script = are_bytes (script_file found.params) around.shelf_before names.script bytes.script found.script told.script found.files.has_script;
+    }
+run_complete names around (Err failure) ends bytes told faultless =
+    elim (text_stops (IsRunReport names around.shelf_before) (StopsAtFile names around.shelf_before around.shelf_after) around.out_before around.out_after failure ends) [
+      | inl counted ↦ absurd (faultless.written counted)
+      | inr stops ↦ run_status bytes (status_of failure) (run_stopped names around bytes failure told faultless stops)
+    ]
+
+pub complete : (asked : Asked) (around : Around) (ending : Ending) → Ends asked around ending → IsDefinedBy asked around (ending_status ending)
+complete (frame channel file) around ending ends = frame_complete channel file around ending ends
+complete (bound file) around ending ends = bound_complete file around ending ends
+complete (run names) around ending ends = run_complete names around ending ends

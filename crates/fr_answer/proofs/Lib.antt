@@ -1,4 +1,6 @@
+pub mod Decided
+pub mod Earlier
 pub mod Endings
+pub mod Figures
+pub mod Found
 pub mod Requests
-pub mod RunEndings
-pub mod Writing

@@ -1,22 +1,24 @@
--- What a request excludes.
-use Rattle.std.proofs.Common.{ℕ, List, Err, inl, inr}
-use Rattle.fr_answer.specs.declared.failure.Failure.TheVariants.{Usage}
-use Rattle.fr_answer.specs.declared.request.Request.{Request}
-use Rattle.fr_answer.specs.declared.request.Request.TheVariants.{Frame, Bound, Run}
-use Rattle.fr_answer.specs.Answer.{RequestEnds}
-use Rattle.fr_answer.specs.Around.{Around}
-use Rattle.fr_answer.specs.Request.{names_of, Asks, IsNoRequest}
+-- Words ask for one thing at most.
+use Rattle.std.proofs.Common.{◌≡◌, ℕ, List, [], ◌∷◌, Option, Some, None, ap, sym, ◌∙◌}
+use Rattle.std.specs.Prelude.{codes, if◌then◌else◌, unwrap_or}
+use Rattle.std.specs.Option.{option_map}
+use Rattle.std.specs.Str.{bytes_eq}
+use Rattle.fr_base.specs.Channels.{channel_of}
+use Rattle.fr_base.specs.declared.channel.Channel.TheVariants.{A, B}
+use Rattle.fr_answer.specs.Request.{Asked, AsksFor, frame, bound, run}
 
--- no request ends as words that are none
-pub never_usage : (request : Request) (around : Around) → RequestEnds request around (Err Usage) → ⊥
-never_usage (Frame channel file) around ends = ends
-never_usage (Bound file) around ends = ends
-never_usage (Run files) around (inl stops) = stops
-never_usage (Run files) around (inr (inl behind)) = behind.stops
-never_usage (Run files) around (inr (inr behind)) = behind.stops
+-- what words ask for, read back by their number
+abbrev asked_in : List (List ℕ) → Option Asked
+asked_in (command ∷ file ∷ []) = if bytes_eq command (codes "bound") then Some (bound file) else None
+asked_in (command ∷ channel ∷ file ∷ []) = if bytes_eq command (codes "frame") then option_map (λ ch. frame ch file) (channel_of channel) else None
+asked_in (command ∷ params ∷ drift ∷ script ∷ []) = if bytes_eq command (codes "run") then Some (run (record { params = params; drift = drift; script = script })) else None
+asked_in other = None
 
--- words that ask for something are a request
-pub never_both : (words : List (List ℕ)) (request : Request) → Asks words request → IsNoRequest words → ⊥
-never_both words (Frame channel file) asks none = none.frame channel file.now asks
-never_both words (Bound file) asks none = none.bound file.now asks
-never_both words (Run files) asks none = none.run (names_of files) asks
+asked_again : (words : List (List ℕ)) (asked : Asked) → AsksFor words asked → asked_in words ≡ Some asked
+asked_again words (frame A file) asks = ap asked_in asks
+asked_again words (frame B file) asks = ap asked_in asks
+asked_again words (bound file) asks = ap asked_in asks
+asked_again words (run names) asks = ap asked_in asks
+
+pub one_asked : (words : List (List ℕ)) (asked other : Asked) → AsksFor words asked → AsksFor words other → asked ≡ other
+one_asked words asked other one two = ap (λ (found : Option Asked). unwrap_or found asked) (sym (asked_again words asked one) ∙ asked_again words other two)

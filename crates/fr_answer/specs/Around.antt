@@ -1,48 +1,56 @@
--- What a call found around it, and left.
-use Rattle.std.specs.Prelude.{ℕ, List, Option}
+-- What a call finds around it, and leaves.
+use Rattle.std.specs.Prelude.{ℕ, List, Result, Ok, Err}
 use Rattle.std.specs.Io.KnownBytes.{Appends}
-use Rattle.fr_base.specs.Device.{Rose, AppendsFront}
-use Rattle.fr_answer.specs.Files.{shelved, Shelved}
+use Rattle.fr_base.specs.Device.{AppendsFront, Puts, Rose, Shelved, Sunk}
+use Rattle.fr_base.specs.declared.sink.PutFault.{PutFault}
+use Rattle.fr_answer.specs.declared.failure.Failure.{Failure}
+use Rattle.fr_answer.specs.declared.failure.Failure.TheVariants.{Params, Drift, WriteFault}
 
--- the bytes that the shelf holds and the counts of their names, what was written to the first sink, and its count
+-- the shelf and the first sink, before and after
 pub record Around : Type 0 where
-  pub held : List ℕ → Option (List ℕ)
-  pub read_before : List ℕ → ℕ
-  pub read_after : List ℕ → ℕ
-  pub written_before : Option (List ℕ)
-  pub written_after : Option (List ℕ)
-  pub write_before : ℕ
-  pub write_after : ℕ
+  pub shelf_before : Shelved
+  pub shelf_after : Shelved
+  pub out_before : Sunk
+  pub out_after : Sunk
 
--- the same from what a shelf and a sink tell before and after: what is held, the counts of reads, what was written, the count of writes
-abbrev pub around_of : (List ℕ → Option (List ℕ)) → (List ℕ → ℕ) → (List ℕ → ℕ) → Option (List ℕ) → Option (List ℕ) → ℕ → ℕ → Around
-around_of held read_before read_after written_before written_after write_before write_after = record {
-  held = held;
-  read_before = read_before;
-  read_after = read_after;
-  written_before = written_before;
-  written_after = written_after;
-  write_before = write_before;
-  write_after = write_after;
+abbrev pub around_of : Shelved → Shelved → Sunk → Sunk → Around
+around_of shelf_before shelf_after out_before out_after = record {
+  shelf_before = shelf_before;
+  shelf_after = shelf_after;
+  out_before = out_before;
+  out_after = out_after;
 }
 
--- what the shelf holds, and its counts
-abbrev pub shelf_of : Around → Shelved
-shelf_of around = shelved around.held around.read_before around.read_after
+-- how a request ends, before its status and its line
+abbrev pub Ending : Type 0
+Ending = Result (Unit {0}) Failure
 
--- a fault of the file was counted
-abbrev pub IsFaulty : Around → List ℕ → Type 0
-IsFaulty around file = Rose (around.read_before file) (around.read_after file)
+-- how many files of a run there are up to the one at which it stops
+abbrev pub files_until : {A : Type 0} → Result A Failure → ℕ
+files_until (Ok value) = 3
+files_until (Err (Params stop)) = 1
+files_until (Err (Drift stop)) = 2
+files_until (Err other) = 3
 
 -- a text that is defined was written whole
-pub record IsWritten (IsDefined : List ℕ → Type 0) (around : Around) : Type 0 where
+pub record IsWritten (IsText : List ℕ → Type 0) (before after : Sunk) : Type 0 where
   pub text : List ℕ
-  pub defined : IsDefined text
-  pub grew : Appends around.written_before around.written_after text
+  pub defined : IsText text
+  pub grew : Appends before.written after.written text
 
 -- a front of it was written, and the sink counted a fault
-pub record IsCutShort (IsDefined : List ℕ → Type 0) (around : Around) : Type 0 where
+pub record IsCutShort (IsText : List ℕ → Type 0) (before after : Sunk) : Type 0 where
   pub text : List ℕ
-  pub defined : IsDefined text
-  pub counted : Rose around.write_before around.write_after
-  pub grew : AppendsFront around.written_before around.written_after text
+  pub defined : IsText text
+  pub counted : Rose before.faults after.faults
+  pub grew : AppendsFront before.written after.written text
+
+-- what an ending says where the text of the answer is such a one, and other failures mean this
+abbrev pub TextEnds : (List ℕ → Type 0) → (Failure → Type 0) → Sunk → Sunk → Ending → Type 0
+TextEnds IsText Stops before after (Ok done) = IsWritten IsText before after
+TextEnds IsText Stops before after (Err WriteFault) = IsCutShort IsText before after
+TextEnds IsText Stops before after (Err other) = Stops other
+
+-- a line was put, in one put
+abbrev pub IsLinePut : Sunk → Sunk → List ℕ → Type 0
+IsLinePut before after line = (result : Result (Unit {0}) PutFault) × Puts result before after line

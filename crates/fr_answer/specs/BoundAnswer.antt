@@ -1,33 +1,28 @@
 -- What each ending of a request for bounds says.
-use Rattle.std.specs.Prelude.{◌≡◌, ℕ, ◌<◌, ◌≤◌, List, length, Result, Ok, Err}
-use Rattle.fr_base.specs.declared.shelf.TheConstants.{MAX_FILE}
-use Rattle.fr_params.specs.Values.{Values}
-use Rattle.fr_params.specs.Files.{IsFileOf}
-use Rattle.fr_params.specs.declared.fault.ParamFault.{ParamFault}
+use Rattle.std.specs.Prelude.{◌≡◌, ℕ, List}
+use Rattle.fr_base.specs.Device.{Shelved}
+use Rattle.fr_cluster.specs.Values.{Values}
+use Rattle.fr_params.specs.Files.{params_file}
+use Rattle.fr_records.specs.Kind.{AreBytes, Has, StopsAt}
 use Rattle.fr_answer.specs.declared.failure.Failure.{Failure}
-use Rattle.fr_answer.specs.declared.failure.Failure.TheVariants.{WriteFault}
+use Rattle.fr_answer.specs.declared.failure.Failure.TheVariants.{Params}
 use Rattle.fr_answer.specs.declared.status.Status.{Status}
 use Rattle.fr_answer.specs.declared.status.Status.TheVariants as status
-use Rattle.fr_answer.specs.Around.{Around, shelf_of, IsWritten, IsCutShort}
-use Rattle.fr_answer.specs.Files.{HasParams, IsRefusal, StopsAtParams}
 use Rattle.fr_answer.specs.BoundText.{bound_text}
+use Rattle.fr_answer.specs.Complete.{IsStatusOf}
 
 -- the file is accepted, and these are the lines of its parameters
-pub record AreBoundsOf (file : List ℕ) (around : Around) (text : List ℕ) : Type 0 where
+pub record AreBoundsOf (file : List ℕ) (shelf : Shelved) (text : List ℕ) : Type 0 where
   pub params : Values
-  pub params_file : HasParams around.held file params
+  pub has_params : Has params_file shelf file params
   pub shown : text ≡ bound_text params
 
--- how a request for bounds ends
-abbrev pub BoundEnds : List ℕ → Around → Result (Unit {0}) Failure → Type 0
-BoundEnds file around (Ok done) = IsWritten (AreBoundsOf file around) around
-BoundEnds file around (Err WriteFault) = IsCutShort (AreBoundsOf file around) around
-BoundEnds file around (Err other) = StopsAtParams (shelf_of around) file other
+-- why a request for bounds stops
+abbrev pub StopsAtParams : List ℕ → Shelved → Shelved → Failure → Type 0
+StopsAtParams file before after (Params stop) = StopsAt params_file before after file stop
+StopsAtParams file before after other = ⊥
 
 -- the status that bytes define for a request for bounds, or want of memory
 abbrev pub IsBoundStatus : List ℕ → Status → Type 0
-IsBoundStatus bytes status.Done = (length bytes ≤ MAX_FILE) × ((params : Values) × IsFileOf params bytes)
-IsBoundStatus bytes status.Refused = (length bytes ≤ MAX_FILE) × ((fault : ParamFault) × IsRefusal bytes fault)
-IsBoundStatus bytes status.TooLong = MAX_FILE < length bytes
-IsBoundStatus bytes status.NoMemory = Unit {0}
-IsBoundStatus bytes other = ⊥
+IsBoundStatus bytes status.Done = (params : Values) × AreBytes params_file bytes params
+IsBoundStatus bytes other = IsStatusOf params_file bytes other

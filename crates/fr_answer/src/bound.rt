@@ -1,51 +1,84 @@
-ghost use Rattle.std.specs.Prelude.{◌≡◌, ◌<◌, IfErr, OnOk, OnErr};
-ghost use Rattle.std.specs.Io.KnownBytes.{Appends};
-ghost use Rattle.fr_base.specs.Device.{Rose, AppendsFront};
+ghost use Rattle.std.specs.Prelude.{◌≡◌, ◌+◌, ◌≤◌, ◌++◌, length};
+ghost use Rattle.std.specs.Fmt.{decimal};
+ghost use Rattle.fr_base.specs.Device.{Puts};
+ghost use Rattle.fr_text.specs.Lines.{joined_lines};
+ghost use Rattle.fr_text.specs.Pieces.{line};
+ghost use Rattle.fr_answer.specs.Answer.{Ends};
 ghost use Rattle.fr_answer.specs.Around.{around_of};
-ghost use Rattle.fr_answer.specs.Failure.{OutcomeWritesNothing, CanShow};
-ghost use Rattle.fr_answer.specs.BoundText.{bound_text};
-ghost use Rattle.fr_answer.specs.BoundAnswer.{BoundEnds};
+ghost use Rattle.fr_answer.specs.BoundText.{bound_text, check_line};
+ghost use Rattle.fr_answer.specs.Failure.{EndingWritesNothing};
+ghost use Rattle.fr_answer.specs.Request.{bound};
 
-use crate::bound_line::line_at;
 use crate::failure::Failure;
-use crate::files::params_of;
 use fr_base::{PutFault, Shelf, Sink};
-use fr_params::Params;
+use fr_bound::{CheckSides, bounds, side};
+use fr_cluster::Params;
+use fr_params::ParamsFile;
+use fr_records::accepted;
+use fr_text::Piece::{Natural, Word};
+use fr_text::{Line, line_of, put_lines};
 use std::alloc::Global;
 
-/// Reads the parameters in the file, and writes their bounds and checks.
-pub fn answer<S: Shelf, O: Sink>(
+// Reads the parameters in the file, and writes their bounds and checks.
+pub(crate) fn answer<S: Shelf, O: Sink>(
     alloc: Global,
     file: &str,
     shelf: &mut S,
     out: &mut O,
 ) -> Result<(), Failure>
-    ensures ends { BoundEnds file.now
-        (around_of (S.held shelf.old) (S.faults shelf.old) (S.faults shelf.new)
-        (O.written out.old) (O.written out.new) (O.faults out.old) (O.faults out.new)) result }
-    ensures unwritten { OutcomeWritesNothing result → out.new ≡ out.old }
-    ensures shown { IfErr result CanShow }
+    ensures ends { Ends (bound file.now)
+        (around_of (S.state shelf.old) (S.state shelf.new) (O.state out.old) (O.state out.new)) result }
+    ensures loads { (S.state shelf.new).loads ≤ (S.state shelf.old).loads + 1 }
+    ensures unwritten { EndingWritesNothing result → out.new ≡ out.old }
 {
-    match params_of(alloc, file, shelf) {
-        Ok(params) => match print(&params, out) {
-            Ok(()) => Ok(()),
-            Err(_) => Err(Failure::WriteFault),
-        },
-        Err(failure) => Err(failure),
-    }
+    let params = accepted(alloc, &ParamsFile {}, file, shelf)?;
+    print(&params, out)?;
+    Ok(())
 }
 
-// Writes the nine lines, one after the other.
 fn print<O: Sink>(params: &Params, out: &mut O) -> Result<(), PutFault>
-    ensures whole { OnOk result (Appends (O.written out.old) (O.written out.new) (bound_text params.now)) }
-    ensures failed { OnErr result (Rose (O.faults out.old) (O.faults out.new)) }
-    ensures front { OnErr result (AppendsFront (O.written out.old) (O.written out.new) (bound_text params.now)) }
+    ensures { Puts result (O.state out.old) (O.state out.new) (bound_text params.now) }
 {
-    for place in 0..9 {
-        match out.put(line_at(params, place).bytes()) {
-            Ok(()) => {}
-            Err(fault) => return Err(fault),
-        }
-    }
-    Ok(())
+    put_lines(&lines(params), out)
+}
+
+// The four bounds, and then the five checks.
+fn lines(params: &Params) -> [Option<Line>; 9]
+    ensures { joined_lines result ≡ bound_text params.now }
+{
+    let bounds = bounds(params);
+    [
+        Some(value_line(b"y1 ", bounds.y1 as u64)),
+        Some(value_line(b"lambda ", bounds.lambda as u64)),
+        Some(value_line(b"pi ", bounds.pi as u64)),
+        Some(value_line(b"precision ", bounds.precision as u64)),
+        Some(check_line(params, 1)),
+        Some(check_line(params, 2)),
+        Some(check_line(params, 3)),
+        Some(check_line(params, 4)),
+        Some(check_line(params, 5)),
+    ]
+}
+
+fn value_line(label: &[u8], value: u64) -> Line
+    requires { length label.now ≤ 20 }
+    ensures { result ≡ line (label.now ++ decimal value) }
+{
+    line_of(&[Word(label), Natural(value)])
+}
+
+fn check_line(params: &Params, number: u8) -> Line
+    requires from { 1 ≤ number }
+    requires to { number ≤ 5 }
+    ensures { result ≡ check_line number params.now }
+{
+    let CheckSides { left, right, holds } = side(params, number);
+    line_of(&[
+        Word(b"C"),
+        Natural(u64::from(number)),
+        Word(if holds { b" holds " } else { b" fails " }),
+        Natural(left as u64),
+        Word(b" "),
+        Natural(right as u64),
+    ])
 }

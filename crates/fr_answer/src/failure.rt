@@ -1,50 +1,34 @@
-ghost use Rattle.std.specs.Prelude.{◌≡◌, ◌≤◌, ◌<◌, ◌+◌, ◌++◌, ◌^◌, length, codes};
-ghost use Rattle.fr_base.specs.Line.{hexadecimal};
-ghost use Rattle.fr_answer.specs.declared.failure.Failure.TheVariants.{NoFrame};
-ghost use Rattle.fr_answer.specs.Failure.{status_of, role_text, failure_text, failure_line, CanShow};
-ghost use Rattle.fr_answer.specs.FrameText.{fault_text};
+ghost use Rattle.std.specs.Prelude.{◌≡◌};
+ghost use Rattle.fr_text.specs.Pieces.{line};
+ghost use Rattle.fr_answer.specs.declared.failure.Failure.TheVariants as failure;
+ghost use Rattle.fr_answer.specs.Failure.{failure_text, status_of, stop_status};
 
-use crate::number::show_number;
-use crate::refusal::{show_drift_fault, show_param_fault, show_script_fault};
+use crate::fault_line::stop_line;
 use crate::status::Status;
-use fr_base::{LINE_ROOM, Line};
+use fr_base::PutFault;
 use fr_drift::DriftFault;
 use fr_frame::FrameFault;
 use fr_params::ParamFault;
+use fr_records::Stop;
 use fr_script::ScriptFault;
-
-/// What a file is for a request.
-#[derive(Clone, Copy, Debug, PartialEq, Eq)]
-pub enum FileRole {
-    /// The bytes of a frame.
-    Frame,
-    /// The parameters of a cluster.
-    Params,
-    /// Its oscillators and delays, and how long the run is.
-    Drift,
-    /// What is done to its frames.
-    Script,
-}
+use fr_text::Piece::Word;
+use fr_text::{Line, line_of};
 
 /// Why a call did not end in `Done`.
 #[derive(Clone, Copy, Debug, PartialEq, Eq)]
 pub enum Failure {
     /// The words are no request.
     Usage,
-    /// The shelf failed at the file.
-    ReadFault(FileRole),
-    /// The file is too long.
-    TooLong(FileRole),
+    /// It stopped at the bytes of a frame.
+    Frame(Stop<FrameFault>),
+    /// It stopped at the parameters.
+    Params(Stop<ParamFault>),
+    /// It stopped at the drift file.
+    Drift(Stop<DriftFault>),
+    /// It stopped at the script.
+    Script(Stop<ScriptFault>),
     /// Memory ran out.
     NoMemory,
-    /// The bytes are no frame: their first fault.
-    NoFrame(FrameFault),
-    /// The parameter file is not accepted: the first cause.
-    BadParams(ParamFault),
-    /// The drift file is not accepted: the first cause.
-    BadDrift(DriftFault),
-    /// The script is not accepted: the first cause.
-    BadScript(ScriptFault),
     /// The sink failed.
     WriteFault,
 }
@@ -56,121 +40,71 @@ impl Failure {
     {
         match self {
             Failure::Usage => Status::Usage,
-            Failure::ReadFault(_) => Status::ReadFault,
-            Failure::TooLong(_) => Status::TooLong,
+            Failure::Frame(stop) => stop_status(Status::No, stop),
+            Failure::Params(stop) => stop_status(Status::Refused, stop),
+            Failure::Drift(stop) => stop_status(Status::Refused, stop),
+            Failure::Script(stop) => stop_status(Status::Refused, stop),
             Failure::NoMemory => Status::NoMemory,
-            Failure::NoFrame(_) => Status::No,
-            Failure::BadParams(_) | Failure::BadDrift(_) | Failure::BadScript(_) => Status::Refused,
             Failure::WriteFault => Status::WriteFault,
         }
     }
 
     /// The line that says so.
     pub fn line(&self) -> Line
-        requires { CanShow self.now }
-        ensures { result ≡ failure_line self.now }
-    {
-        let mut line = Line::new();
-        self.show(&mut line);
-        line.text(b"\n");
-        line
-    }
-
-    fn show(&self, line: &mut Line)
-        requires shown { CanShow self.now }
-        requires room { length line.old + 100 ≤ LINE_ROOM }
-        ensures bytes { line.new ≡ line.old ++ failure_text self.now }
-        ensures short { length line.new ≤ length line.old + 100 }
+        ensures { result ≡ line (failure_text self.now) }
     {
         match self {
-            Failure::Usage => line.text(b"usage: flexray COMMAND WORDS"),
-            Failure::ReadFault(role) => show_role(line, role, b": read fault"),
-            Failure::TooLong(role) => show_role(line, role, b": too long"),
-            Failure::NoMemory => line.text(b"no memory"),
-            Failure::NoFrame(fault) => {
-                line.text(b"frame: ");
-                show_fault(line, fault);
-            }
-            Failure::BadParams(fault) => {
-                line.text(b"params: ");
-                show_param_fault(line, fault);
-            }
-            Failure::BadDrift(fault) => {
-                line.text(b"drift: ");
-                show_drift_fault(line, fault);
-            }
-            Failure::BadScript(fault) => {
-                line.text(b"script: ");
-                show_script_fault(line, fault);
-            }
-            Failure::WriteFault => line.text(b"write fault"),
+            Failure::Usage => line_of(&[Word(b"usage: flexray COMMAND WORDS")]),
+            Failure::Frame(stop) => stop_line(b"frame", stop),
+            Failure::Params(stop) => stop_line(b"params", stop),
+            Failure::Drift(stop) => stop_line(b"drift", stop),
+            Failure::Script(stop) => stop_line(b"script", stop),
+            Failure::NoMemory => line_of(&[Word(b"no memory")]),
+            Failure::WriteFault => line_of(&[Word(b"write fault")]),
         }
     }
 }
 
-fn show_role(line: &mut Line, role: &FileRole, text: &[u8])
-    requires short { length text.now ≤ 20 }
-    requires room { length line.old + 30 ≤ LINE_ROOM }
-    ensures bytes { line.new ≡ line.old ++ (role_text role.now ++ text.now) }
-    ensures short { length line.new ≤ length line.old + 30 }
+// The exit status of a stop at a file, by that of one that is not accepted.
+fn stop_status<F>(broken: Status, stop: &Stop<F>) -> Status
+    ensures { result ≡ stop_status broken stop.now }
 {
-    line.text(role_word(role));
-    line.text(text);
-}
-
-fn role_word(role: &FileRole) -> &'static [u8]
-    ensures value { result.now ≡ role_text role.now }
-    ensures short { length result.now ≤ 10 }
-{
-    match role {
-        FileRole::Frame => b"frame",
-        FileRole::Params => b"params",
-        FileRole::Drift => b"drift",
-        FileRole::Script => b"script",
+    match stop {
+        Stop::ReadFault => Status::ReadFault,
+        Stop::TooLong => Status::TooLong,
+        Stop::NoMemory => Status::NoMemory,
+        Stop::Refused(_) => broken,
     }
 }
 
-fn show_fault(line: &mut Line, fault: &FrameFault)
-    requires shown { CanShow (NoFrame fault.now) }
-    requires room { length line.old + 80 ≤ LINE_ROOM }
-    ensures bytes { line.new ≡ line.old ++ fault_text fault.now }
-    ensures short { length line.new ≤ length line.old + 80 }
-{
-    match *fault {
-        FrameFault::Short { given } => show_number(line, b"short ", given as u64),
-        FrameFault::HeaderCrc { kept, computed } => {
-            show_checks(
-                line,
-                b"header crc kept ",
-                3,
-                u32::from(kept),
-                u32::from(computed),
-            );
-        }
-        FrameFault::Length { stated, given } => {
-            show_number(line, b"length stated ", stated as u64);
-            show_number(line, b" given ", given as u64);
-        }
-        FrameFault::FrameCrc { kept, computed } => {
-            show_checks(line, b"frame crc kept ", 6, kept, computed);
-        }
-        FrameFault::ZeroId => line.text(b"zero id"),
-        FrameFault::StartupNotSync => line.text(b"startup without sync"),
+impl From<Stop<ParamFault>> for Failure {
+    ghost from_gives = { λ stop made. made ≡ failure.Params stop };
+
+    fn from(stop: Stop<ParamFault>) -> Failure {
+        Failure::Params(stop)
     }
 }
 
-fn show_checks(line: &mut Line, label: &[u8], digits: u8, kept: u32, computed: u32)
-    requires short { length label.now ≤ 20 }
-    requires some { 1 ≤ digits }
-    requires most { digits ≤ 8 }
-    requires kept { kept < 16 ^ digits }
-    requires computed { computed < 16 ^ digits }
-    requires room { length line.old + 80 ≤ LINE_ROOM }
-    ensures bytes { line.new ≡ line.old ++ (label.now ++ hexadecimal digits kept ++ codes " computed " ++ hexadecimal digits computed) }
-    ensures short { length line.new ≤ length line.old + 80 }
-{
-    line.text(label);
-    line.hex(kept, digits);
-    line.text(b" computed ");
-    line.hex(computed, digits);
+impl From<Stop<DriftFault>> for Failure {
+    ghost from_gives = { λ stop made. made ≡ failure.Drift stop };
+
+    fn from(stop: Stop<DriftFault>) -> Failure {
+        Failure::Drift(stop)
+    }
+}
+
+impl From<Stop<ScriptFault>> for Failure {
+    ghost from_gives = { λ stop made. made ≡ failure.Script stop };
+
+    fn from(stop: Stop<ScriptFault>) -> Failure {
+        Failure::Script(stop)
+    }
+}
+
+impl From<PutFault> for Failure {
+    ghost from_gives = { λ _ made. made ≡ failure.WriteFault };
+
+    fn from(_fault: PutFault) -> Failure {
+        Failure::WriteFault
+    }
 }

@@ -1,36 +1,50 @@
-ghost use Rattle.std.specs.Prelude.{◌≡◌, IfErr};
+ghost use Rattle.std.specs.Prelude.{◌≡◌, ◌+◌, ◌≤◌, length};
+ghost use Rattle.fr_base.specs.Device.{Puts};
+ghost use Rattle.fr_answer.specs.Answer.{Ends};
 ghost use Rattle.fr_answer.specs.Around.{around_of};
-ghost use Rattle.fr_answer.specs.Failure.{OutcomeWritesNothing, CanShow};
-ghost use Rattle.fr_answer.specs.FrameAnswer.{FrameEnds};
+ghost use Rattle.fr_answer.specs.Failure.{EndingWritesNothing};
+ghost use Rattle.fr_answer.specs.FrameText.{frame_line};
+ghost use Rattle.fr_answer.specs.Request.{frame};
 
-use crate::failure::{Failure, FileRole};
-use crate::frame_line::line_of;
-use crate::load::load;
-use fr_base::{Channel, Shelf, Sink};
-use fr_frame::decode;
+use crate::failure::Failure;
+use crate::frame_line::frame_line;
+use fr_base::{Channel, LoadFault, PutFault, Shelf, Sink};
+use fr_frame::{Frame, decode};
+use fr_records::Stop;
 use std::alloc::Global;
 
-/// Decodes the bytes of the file as a frame on the channel, and writes its line.
-pub fn answer<S: Shelf, O: Sink>(
+// Decodes the bytes of the file as a frame on the channel, and writes its line.
+pub(crate) fn answer<S: Shelf, O: Sink>(
     alloc: Global,
     channel: Channel,
     file: &str,
     shelf: &mut S,
     out: &mut O,
 ) -> Result<(), Failure>
-    ensures ends { FrameEnds channel file.now
-        (around_of (S.held shelf.old) (S.faults shelf.old) (S.faults shelf.new)
-        (O.written out.old) (O.written out.new) (O.faults out.old) (O.faults out.new)) result }
-    ensures unwritten { OutcomeWritesNothing result → out.new ≡ out.old }
-    ensures shown { IfErr result CanShow }
+    ensures ends { Ends (frame channel file.now)
+        (around_of (S.state shelf.old) (S.state shelf.new) (O.state out.old) (O.state out.new)) result }
+    ensures loads { (S.state shelf.new).loads ≤ (S.state shelf.old).loads + 1 }
+    ensures unwritten { EndingWritesNothing result → out.new ≡ out.old }
 {
     let mut bytes = Vec::new(alloc);
-    load(shelf, FileRole::Frame, file, &mut bytes)?;
-    match decode(channel, &bytes) {
-        Ok(frame) => match out.put(line_of(channel, &frame).bytes()) {
-            Ok(()) => Ok(()),
-            Err(_) => Err(Failure::WriteFault),
+    match shelf.load(file, &mut bytes) {
+        Ok(()) => match decode(channel, &bytes) {
+            Ok(frame) => match print(channel, &frame, out) {
+                Ok(()) => Ok(()),
+                Err(_) => Err(Failure::WriteFault),
+            },
+            Err(fault) => Err(Failure::Frame(Stop::Refused(fault))),
         },
-        Err(fault) => Err(Failure::NoFrame(fault)),
+        Err(LoadFault::Failed) => Err(Failure::Frame(Stop::ReadFault)),
+        Err(LoadFault::TooLong { .. }) => Err(Failure::Frame(Stop::TooLong)),
+        Err(LoadFault::NoMemory) => Err(Failure::Frame(Stop::NoMemory)),
     }
+}
+
+fn print<O: Sink>(channel: Channel, frame: &Frame<'_>, out: &mut O) -> Result<(), PutFault>
+    requires { length frame.now.payload.now ≤ 254 }
+    ensures { Puts result (O.state out.old) (O.state out.new)
+        (frame_line channel frame.now.header frame.now.payload.now frame.now.header_crc frame.now.frame_crc) }
+{
+    out.put(frame_line(channel, frame).bytes())
 }

@@ -1,17 +1,55 @@
+ghost use Rattle.fr_base.specs.declared.channel.Channel.{Channel};
+ghost use Rattle.fr_cluster.specs.Sane.{IsSane};
+ghost use Rattle.fr_cluster.specs.Values.{Values};
+ghost use Rattle.fr_drift.specs.Files.{DriftFits};
 ghost use Rattle.fr_drift.specs.View.{DriftView};
-ghost use Rattle.fr_params.specs.Sane.{IsSane};
-ghost use Rattle.fr_params.specs.Values.{Values};
 ghost use Rattle.fr_script.specs.View.{IsScript, ScriptView};
-ghost use Rattle.fr_answer.specs.RunText.{run_text, IsRunText};
+ghost use Rattle.fr_coverage.specs.Decided.{setting_of};
+ghost use Rattle.fr_history.specs.Next.{whole_history};
+ghost use Rattle.fr_promise.specs.Files.{IsPrecise};
+ghost use Rattle.fr_answer.specs.BoundAnswer.{AreBoundsOf};
+ghost use Rattle.fr_answer.specs.Decided.{IsDecided, IsFileTold};
+ghost use Rattle.fr_answer.specs.FrameAnswer.{IsLineOf};
+ghost use Rattle.fr_answer.specs.RunAnswer.{AreTold, IsRunReport};
+ghost use Rattle.fr_answer.specs.RunText.{IsRunText, run_text};
 
-use fr_history::one_lawful_history;
+use fr_coverage::{covered_run_has_no_gap, found_gap_is_first};
+use fr_crc::{one_frame_crc, one_header_crc};
+use fr_frame::one_reading;
+use fr_history::{one_first_in_sync, one_greatest_skew, one_lawful_history};
+use fr_promise::files_keep_precision;
 use fr_world::files_decide_one_history;
 
-/// A law: the text of the run of some parameters, a drift and a script is the report of their one lawful
-/// history over all cycles. The premises are the invariants of `Params` and of `Script`.
+/// A law: the text of the run of some parameters, a drift that fits them, and a script, is the report of
+/// their one lawful history over all cycles; where the run is covered, that history keeps its precision from
+/// its first double cycle in sync on. The other premises are the invariants of `Params` and of `Script`.
 pub fn a_run_is_lawful()
-    ensures { (p : Values) (d : DriftView) (s : ScriptView) → IsSane p → IsScript s → IsRunText p d s (run_text p d s) }
+    ensures text { (p : Values) (d : DriftView) (s : ScriptView) →
+        IsSane p → DriftFits p d → IsScript s → IsRunText p d s (run_text p d s) }
+    ensures precise { (p : Values) (d : DriftView) (s : ScriptView) →
+        IsSane p → DriftFits p d → IsScript s → IsPrecise p d s (whole_history (setting_of p d s)) }
 {
     one_lawful_history();
+    files_decide_one_history();
+    found_gap_is_first();
+    covered_run_has_no_gap();
+    one_first_in_sync();
+    one_greatest_skew();
+    files_keep_precision();
+}
+
+/// A law: the bytes of the files decide what is written. Two texts that the answer's clause allows for files
+/// of the same bytes are the same.
+pub fn files_decide_the_text()
+    ensures frame { (channel : Channel) → IsDecided IsFileTold (IsLineOf channel) }
+    ensures bound { IsDecided IsFileTold AreBoundsOf }
+    ensures run { IsDecided AreTold IsRunReport }
+{
+    one_header_crc();
+    one_frame_crc();
+    one_reading();
+    fr_params::one_answer();
+    fr_drift::one_answer();
+    fr_script::one_answer();
     files_decide_one_history();
 }

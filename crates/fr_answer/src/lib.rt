@@ -2,22 +2,18 @@
 #![tactic(auto)]
 
 mod bound;
-mod bound_line;
 mod failure;
-mod files;
+mod fault_line;
 mod frame;
 mod frame_line;
 mod laws;
-mod load;
-mod number;
 mod playing;
-mod refusal;
 mod request;
 mod run;
 mod status;
 mod top;
 
-pub use laws::a_run_is_lawful;
+pub use laws::{a_run_is_lawful, files_decide_the_text};
 pub use playing::play;
 pub use status::Status;
 pub use top::flexray;

@@ -1,5 +1,5 @@
-ghost use Rattle.std.specs.Prelude.{◌≡◌, ◌∷◌, [], IfSome, IsNone};
-ghost use Rattle.fr_answer.specs.Request.{texts, letter, Asks, IsNoRequest};
+ghost use Rattle.std.specs.Prelude.{◌∷◌, []};
+ghost use Rattle.fr_answer.specs.Request.{IsRequestOf, texts};
 
 use fr_base::Channel;
 
@@ -27,8 +27,7 @@ pub struct RunFiles<'a> {
 
 /// Reads the words by position. It takes no memory.
 pub fn request_of(words: &[String]) -> Option<Request<'_>>
-    ensures found { IfSome result (Asks (texts words.now)) }
-    ensures none { IsNone result → IsNoRequest (texts words.now) }
+    ensures { IsRequestOf (texts words.now) result }
 {
     match words {
         [command, channel, file] => frame_request(
@@ -50,12 +49,11 @@ pub fn request_of(words: &[String]) -> Option<Request<'_>>
 }
 
 fn frame_request<'a>(command: &str, channel: &str, file: &'a str) -> Option<Request<'a>>
-    ensures found { IfSome result (Asks (command.now ∷ channel.now ∷ file.now ∷ [])) }
-    ensures none { IsNone result → IsNoRequest (command.now ∷ channel.now ∷ file.now ∷ []) }
+    ensures { IsRequestOf (command.now ∷ channel.now ∷ file.now ∷ []) result }
 {
     match command {
         "frame" => {
-            let channel = channel_of(channel)?;
+            let channel = Channel::spelt(channel.as_bytes())?;
             Some(Request::Frame { channel, file })
         }
         _ => None,
@@ -63,8 +61,7 @@ fn frame_request<'a>(command: &str, channel: &str, file: &'a str) -> Option<Requ
 }
 
 fn bound_request<'a>(command: &str, file: &'a str) -> Option<Request<'a>>
-    ensures found { IfSome result (Asks (command.now ∷ file.now ∷ [])) }
-    ensures none { IsNone result → IsNoRequest (command.now ∷ file.now ∷ []) }
+    ensures { IsRequestOf (command.now ∷ file.now ∷ []) result }
 {
     match command {
         "bound" => Some(Request::Bound { file }),
@@ -73,22 +70,11 @@ fn bound_request<'a>(command: &str, file: &'a str) -> Option<Request<'a>>
 }
 
 fn run_request<'a>(command: &str, files: RunFiles<'a>) -> Option<Request<'a>>
-    ensures found { IfSome result (Asks (command.now ∷ files.entry.params.now ∷ files.entry.drift.now ∷ files.entry.script.now ∷ [])) }
-    ensures none { IsNone result → IsNoRequest (command.now ∷ files.entry.params.now ∷ files.entry.drift.now ∷ files.entry.script.now ∷ []) }
+    ensures { IsRequestOf
+        (command.now ∷ files.entry.params.now ∷ files.entry.drift.now ∷ files.entry.script.now ∷ []) result }
 {
     match command {
         "run" => Some(Request::Run(files)),
-        _ => None,
-    }
-}
-
-fn channel_of(word: &str) -> Option<Channel>
-    ensures found { IfSome result (λ channel. word.now ≡ letter channel) }
-    ensures none { IsNone result → (channel : Channel) → word.now ≡ letter channel → ⊥ }
-{
-    match word {
-        "A" => Some(Channel::A),
-        "B" => Some(Channel::B),
         _ => None,
     }
 }

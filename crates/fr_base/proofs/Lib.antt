@@ -1,3 +1,3 @@
-pub mod Decimals
-pub mod Hexadecimals
+pub mod Putting
 pub mod Transfers
+pub mod Products

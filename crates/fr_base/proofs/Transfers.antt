@@ -64,11 +64,11 @@ pub record IsWritten (before now : Option (List ℕ)) (piece rest : List ℕ) (t
   pub appended : Appends before now front
   pub turns : turn + length rest ≤ length piece
 
-Appends-nil : (told : Option (List ℕ)) → Appends told told []
+pub Appends-nil : (told : Option (List ℕ)) → Appends told told []
 Appends-nil None = tt
 Appends-nil (Some bytes) = sym (append-nil bytes)
 
-Appends-trans : (a b c : Option (List ℕ)) (xs ys : List ℕ) → Appends a b xs → Appends b c ys → Appends a c (xs ++ ys)
+pub Appends-trans : (a b c : Option (List ℕ)) (xs ys : List ℕ) → Appends a b xs → Appends b c ys → Appends a c (xs ++ ys)
 Appends-trans None b c xs ys p q = tt
 Appends-trans (Some told) None c xs ys p q = absurd p
 Appends-trans (Some told) (Some next) None xs ys p q = absurd q

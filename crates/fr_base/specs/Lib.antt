@@ -1,6 +1,9 @@
+-- what the public contract cites
+pub mod Channels
+pub mod Counts
 pub mod Device
+pub mod DiskShelf
 pub mod Event
-pub mod Line
 pub mod MemoryShelf
 pub mod MemorySink
 pub mod Number
@@ -9,3 +12,5 @@ pub mod Rows
 pub mod States
 pub mod StreamSink
 pub mod SureShelf
+pub mod Within
+pub mod Timed

@@ -1,7 +1,7 @@
 -- What a sink in memory has, and which pieces it takes.
-use Rattle.std.specs.Prelude.{ℕ, ◌+◌, List, Bool, ◌==◌, ◌&&◌, length, nat_le, not}
+use Rattle.std.specs.Prelude.{◌≡◌, [], ℕ, ◌+◌, List, Bool, ◌==◌, ◌&&◌, length, nat_le, not, Some}
 use Rattle.std.specs.List.{list_any}
-use Rattle.fr_base.specs.Device.{counted}
+use Rattle.fr_base.specs.Device.{raised, Sunk}
 use Rattle.fr_base.specs.declared.memory_sink.MemorySink.{MemorySink}
 
 -- the bytes put so far
@@ -13,8 +13,12 @@ abbrev pub room_of : MemorySink → ℕ
 room_of sink = sink.room
 
 -- how many faults were counted
-abbrev pub faults_of : MemorySink → ℕ
-faults_of sink = sink.faults
+abbrev pub sink_faults : MemorySink → ℕ
+sink_faults sink = sink.faults
+
+-- its bytes, which it tells, and its count of faults
+abbrev pub sunk_in : MemorySink → Sunk
+sunk_in sink = record { written = Some (bytes_in sink); faults = sink_faults sink }
 
 -- how many puts there were
 abbrev pub puts_of : MemorySink → ℕ
@@ -26,4 +30,25 @@ failing_puts sink = sink.failing.items
 
 -- the next put takes this piece: its number is not listed, and the piece fits the room
 abbrev pub takes : MemorySink → List ℕ → Bool
-takes sink piece = not (list_any (λ number. number == counted (puts_of sink)) (failing_puts sink)) && nat_le (length (bytes_in sink) + length piece) (room_of sink)
+takes sink piece = not (list_any (λ number. number == raised (puts_of sink)) (failing_puts sink)) && nat_le (length (bytes_in sink) + length piece) (room_of sink)
+
+-- it has this room and no bytes, and nothing was counted or chosen
+pub record IsNewSink (room : ℕ) (sink : MemorySink) : Type 0 where
+  pub empty : bytes_in sink ≡ []
+  pub room_is : room_of sink ≡ room
+  pub no_faults : sink_faults sink ≡ 0
+  pub no_puts : puts_of sink ≡ 0
+  pub none_failing : failing_puts sink ≡ []
+
+-- bytes, room and counts stay
+pub record KeepsSink (before after : MemorySink) : Type 0 where
+  pub bytes : bytes_in after ≡ bytes_in before
+  pub room : room_of after ≡ room_of before
+  pub faults : sink_faults after ≡ sink_faults before
+  pub puts : puts_of after ≡ puts_of before
+
+-- it was put into once more, with the same room and choice of failing puts
+pub record IsOnePutLater (before after : MemorySink) : Type 0 where
+  pub puts : puts_of after ≡ raised (puts_of before)
+  pub room : room_of after ≡ room_of before
+  pub failing : failing_puts after ≡ failing_puts before

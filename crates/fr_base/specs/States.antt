@@ -1,5 +1,5 @@
--- States of operation control and outcomes of corrections, as tests and numbers.
-use Rattle.std.specs.Prelude.{ℕ, Bool, true, false}
+-- States of operation control and outcomes of corrections, as tests, numbers and words.
+use Rattle.std.specs.Prelude.{ℕ, Bool, true, false, List, codes}
 use Rattle.fr_base.specs.declared.state.State.{State}
 use Rattle.fr_base.specs.declared.state.State.TheVariants.{Active, Passive, Halt}
 use Rattle.fr_base.specs.declared.state.Outcome.{Outcome}
@@ -16,6 +16,12 @@ abbrev pub is_halted : State → Bool
 is_halted Active = false
 is_halted Passive = false
 is_halted Halt = true
+
+-- a state as it is spelt
+abbrev pub state_text : State → List ℕ
+state_text Active = codes "active"
+state_text Passive = codes "passive"
+state_text Halt = codes "halt"
 
 -- one for a correction term that was cut
 abbrev pub cut_of : Outcome → ℕ

@@ -1,6 +1,6 @@
-ghost use Rattle.std.specs.Prelude.{◌≡◌, ◌≤◌, ◌<◌, ◌++◌, [], None, length, take, OnOk, OnErr, IfOk, IfErr, IfSome, MatchResult, IsErrOf, IsTrue, vec_len};
+ghost use Rattle.std.specs.Prelude.{◌≡◌, ◌≤◌, ◌<◌, ◌++◌, [], length, take, OnOk, OnErr, IfOk, IfErr, IfSome, MatchResult, IsErrOf, IsTrue, vec_len};
 ghost use Rattle.std.specs.Io.KnownBytes.{Appends, Keeps};
-ghost use Rattle.fr_base.specs.Device.{AppendsFront, Rose, IsHeld, IfTooLong, IsSeen};
+ghost use Rattle.fr_base.specs.Device.{AppendsFront, IsHeld, IsLoaded, IsOneLoadLater, Puts, SeesTooLong, StopsLoad, raised};
 
 use crate::{LoadFault, MAX_FILE, PutFault, Shelf, Sink};
 use std::fs;
@@ -10,27 +10,50 @@ use std::rt::Files;
 // How many bytes are read at once.
 const CHUNK: usize = 4096;
 
-/// A shelf over the files of a runtime. It tells no content, and has one count for all names: each error
-/// of the file system is a fault of every name.
+/// A shelf over the files of a runtime. It tells no content, and has one count of faults for all names:
+/// each error of the file system is a fault of every name. Counters stay at their last value.
 #[derive(Drop)]
 pub struct DiskShelf<R: Files + Drop> {
     files: R,
     faults: u64,
+    loads: u64,
 }
 
 impl<R: Files + Drop> DiskShelf<R> {
-    /// A shelf over the files, with no fault counted.
-    pub fn new(files: R) -> DiskShelf<R> {
-        DiskShelf { files, faults: 0 }
+    ghost use Rattle.fr_base.specs.DiskShelf.{disk_faults, disk_loads};
+
+    /// A shelf over the files, with no fault and no load counted.
+    pub fn new(files: R) -> DiskShelf<R>
+        ensures no_faults { disk_faults result ≡ 0 }
+        ensures no_loads { disk_loads result ≡ 0 }
+    {
+        DiskShelf {
+            files,
+            faults: 0,
+            loads: 0,
+        }
     }
 }
 
 impl<R: Files + Drop> Shelf for DiskShelf<R> {
-    ghost held = { λ _ _. None };
+    ghost use Rattle.fr_base.specs.DiskShelf.{disk_faults, disk_state};
 
-    ghost faults = { λ shelf _. shelf.faults };
+    ghost state = { disk_state };
 
-    fn load(&mut self, name: &str, into: &mut Vec<u8>) -> Result<(), LoadFault> {
+    fn load(&mut self, name: &str, into: &mut Vec<u8>) -> Result<(), LoadFault>
+        requires { into.old.items ≡ [] }
+
+        // what every shelf promises
+        ensures loaded { OnOk result (IsLoaded (disk_state self.old) name.now into.new.items) }
+        ensures stops { IfErr result (StopsLoad (disk_state self.old) (disk_state self.new) name.now) }
+        ensures emptied { OnErr result (into.new.items ≡ []) }
+        ensures later { IsOneLoadLater (disk_state self.old) (disk_state self.new) }
+
+        // A failure is counted once, and nothing else is.
+        ensures counted { IsErrOf result LoadFault.Failed → disk_faults self.new ≡ raised (disk_faults self.old) }
+        ensures quiet { (IsErrOf result LoadFault.Failed → ⊥) → disk_faults self.new ≡ disk_faults self.old }
+    {
+        self.loads = self.loads.saturating_add(1);
         let loaded = match fs::open(&self.files, name) {
             Ok(mut file) => read_whole(&mut file, into),
             Err(_) => Err(LoadFault::Failed),
@@ -54,32 +77,35 @@ pub struct StreamSink<W: Write + Drop> {
 }
 
 impl<W: Write + Drop> StreamSink<W> {
-    ghost use Rattle.fr_base.specs.StreamSink.{stream_of, faults_of};
+    ghost use Rattle.fr_base.specs.StreamSink.{stream_of, stream_faults};
 
     /// A sink over the stream, with no fault counted.
     pub fn new(stream: W) -> StreamSink<W>
         ensures stream { stream_of result ≡ stream }
-        ensures none_counted { faults_of result ≡ 0 }
+        ensures none_counted { stream_faults result ≡ 0 }
     {
         StreamSink { stream, faults: 0 }
     }
 }
 
 impl<W: Write + Drop> Sink for StreamSink<W> {
-    ghost use Rattle.fr_base.specs.StreamSink.{stream_of, faults_of};
+    ghost use Rattle.fr_base.specs.StreamSink.{stream_of, stream_faults, stream_state};
 
-    ghost written = { λ _. None };
-
-    ghost faults = { faults_of };
+    ghost state = { stream_state };
 
     fn put(&mut self, piece: &[u8]) -> Result<(), PutFault>
         // what every sink promises that tells no bytes
-        ensures failed { OnErr result (Rose (faults_of self.old) (faults_of self.new)) }
-        ensures never_fall { faults_of self.old ≤ faults_of self.new }
+        ensures promised { Puts result (stream_state self.old) (stream_state self.new) piece.now }
+
+        // A fault is counted once, and nothing else is.
+        ensures counted { OnErr result (stream_faults self.new ≡ raised (stream_faults self.old)) }
+        ensures quiet { OnOk result (stream_faults self.new ≡ stream_faults self.old) }
 
         // Where the stream says what it holds, that grew by the piece, or by a front of it.
-        ensures whole { OnOk result (Appends (W.Write.contents (stream_of self.old)) (W.Write.contents (stream_of self.new)) piece.now) }
-        ensures front { OnErr result (AppendsFront (W.Write.contents (stream_of self.old)) (W.Write.contents (stream_of self.new)) piece.now) }
+        ensures whole { OnOk result
+            (Appends (W.Write.contents (stream_of self.old)) (W.Write.contents (stream_of self.new)) piece.now) }
+        ensures front { OnErr result
+            (AppendsFront (W.Write.contents (stream_of self.old)) (W.Write.contents (stream_of self.new)) piece.now) }
     {
         let put = write_whole(&mut self.stream, piece);
         if put.is_err() {
@@ -95,8 +121,7 @@ fn read_whole<F: Read>(file: &mut F, into: &mut Vec<u8>) -> Result<(), LoadFault
     requires { into.old.items ≡ [] }
     ensures whole { OnOk result (IsHeld (F.remaining file.old) into.new.items) }
     ensures fits { OnOk result (vec_len into.new ≤ MAX_FILE) }
-    ensures too_long { IfErr result (λ fault.
-        IfTooLong fault (λ seen. IsSeen (F.remaining file.old) MAX_FILE seen)) }
+    ensures too_long { IfErr result (SeesTooLong (F.remaining file.old)) }
 {
     let mut chunk = [0; CHUNK];
     'turns: for turn in 0..=MAX_FILE {
@@ -143,7 +168,8 @@ fn write_whole<W: Write>(stream: &mut W, piece: &[u8]) -> Result<(), PutFault>
 fn write_some<W: Write>(stream: &mut W, rest: &[u8]) -> Result<usize, PutFault>
     ensures some { IfOk result (λ count. 0 < count) }
     ensures within { IfOk result (λ count. count ≤ length rest.now) }
-    ensures taken { IfOk result (λ count. Appends (W.contents stream.old) (W.contents stream.new) (take count rest.now)) }
+    ensures taken { IfOk result (λ count.
+        Appends (W.contents stream.old) (W.contents stream.new) (take count rest.now)) }
     ensures nothing { OnErr result (Keeps (W.contents stream.old) (W.contents stream.new)) }
 {
     match stream.write(rest) {

@@ -25,10 +25,10 @@ impl Model for DevList {
 }
 
 impl DevList {
-    /// A list of no deviations with room for so many. `AllocError` where memory ran out.
+    /// A list of no deviations with room for this many. `AllocError` where memory ran out.
     pub fn with_room(alloc: Global, room: usize) -> Result<DevList, AllocError>
         ensures empty { IfOk result (λ list. list.entries ≡ []) }
-        ensures room { IfOk result (λ list. room ≤ list.spare) }
+        ensures room { IfOk result (λ list. list.spare ≡ room) }
     {
         Ok(DevList {
             devs: Vec::with_capacity(alloc, room)?,

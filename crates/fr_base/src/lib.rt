@@ -1,6 +1,6 @@
 //! What every crate of the cluster speaks of: channels, identifiers and states, exact numbers and the
-//! reasons for which records are refused, a printed line, and the two devices, a shelf that files are
-//! loaded from and a sink that text is put into.
+//! reasons for which records are refused, and the two devices, a shelf that files are loaded from and a sink
+//! that text is put into.
 #![tactic(auto)]
 
 mod adapters;
@@ -9,7 +9,6 @@ mod cycle_row;
 mod dev;
 mod dev_list;
 mod ids;
-mod line;
 mod memory_shelf;
 mod memory_sink;
 mod node_row;
@@ -20,6 +19,7 @@ mod shelf;
 mod sink;
 mod state;
 mod sure;
+mod ticks;
 
 pub use adapters::{DiskShelf, StreamSink};
 pub use channel::Channel;
@@ -27,7 +27,6 @@ pub use cycle_row::{Counts, CycleRow};
 pub use dev::Dev;
 pub use dev_list::DevList;
 pub use ids::{NodeId, Slot};
-pub use line::{LINE_ROOM, Line};
 pub use memory_shelf::MemoryShelf;
 pub use memory_sink::MemorySink;
 pub use node_row::NodeRow;
@@ -38,6 +37,7 @@ pub use shelf::{LoadFault, MAX_FILE, Shelf};
 pub use sink::{PutFault, Sink};
 pub use state::{Outcome, State};
 pub use sure::{SureShelf, SureSink};
+pub use ticks::ticks_of;
 
-#[cfg(test)]
-mod tests;
+/// The length of a microtick, in ticks, at the nominal rate of an oscillator.
+pub const NOMINAL_MICROTICK: i64 = 1_000_000;

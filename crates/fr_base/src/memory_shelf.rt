@@ -1,5 +1,5 @@
-ghost use Rattle.std.specs.Prelude.{◌≡◌, ◌≢◌, ◌≤◌, ◌↔◌, false, ◌++◌, ◌∷◌, ℕ, [], List, Some, None, OnOk, OnErr, IfErr, IsErrOf, IsTrue, IsSome, IsNone, vec_len};
-ghost use Rattle.fr_base.specs.Device.{Rose, IsHeld, IfTooLong, IsSeen, counted};
+ghost use Rattle.std.specs.Prelude.{◌≡◌, ◌≢◌, ◌≤◌, ◌↔◌, false, ◌++◌, ◌∷◌, ℕ, [], List, Some, None, OnOk, OnErr, IfErr, IsErrOf, IsTrue, IsSome, IsNone, length};
+ghost use Rattle.fr_base.specs.Device.{IsLoaded, IsOneLoadLater, SeesTooLong, StopsLoad, raised};
 
 use crate::{LoadFault, MAX_FILE, Shelf};
 use std::alloc::{AllocError, Global};
@@ -25,14 +25,11 @@ struct HeldFile {
 }
 
 impl MemoryShelf {
-    ghost use Rattle.fr_base.specs.MemoryShelf.{held_in, faults_in, loads_of, failing_loads, refuses};
+    ghost use Rattle.fr_base.specs.MemoryShelf.{held_in, failing_loads, refuses, CountsFault, IsNewShelf, KeepsCounts, OnlyCounts};
 
     /// A shelf that holds no name. It takes no memory.
     pub fn new(alloc: Global) -> MemoryShelf
-        ensures empty { (name : List ℕ) → held_in result name ≡ None }
-        ensures none_counted { (name : List ℕ) → faults_in result name ≡ 0 }
-        ensures no_loads { loads_of result ≡ 0 }
-        ensures none_failing { failing_loads result ≡ [] }
+        ensures { IsNewShelf result }
     {
         MemoryShelf {
             alloc,
@@ -47,10 +44,10 @@ impl MemoryShelf {
     /// then nothing changed.
     pub fn hold(&mut self, name: &str, bytes: &[u8]) -> Result<(), AllocError>
         ensures held { OnOk result (held_in self.new name.now ≡ Some bytes.now) }
-        ensures others { OnOk result ((other : List ℕ) → other ≢ name.now → held_in self.new other ≡ held_in self.old other) }
+        ensures others { OnOk result ((other : List ℕ) → other ≢ name.now →
+            held_in self.new other ≡ held_in self.old other) }
         ensures unchanged { OnErr result ((other : List ℕ) → held_in self.new other ≡ held_in self.old other) }
-        ensures counts { (other : List ℕ) → faults_in self.new other ≡ faults_in self.old other }
-        ensures loads { loads_of self.new ≡ loads_of self.old }
+        ensures counts { KeepsCounts self.old self.new }
         ensures failing { failing_loads self.new ≡ failing_loads self.old }
     {
         let bytes = Vec::from_slice(self.alloc, bytes)?;
@@ -71,8 +68,7 @@ impl MemoryShelf {
         ensures listed { OnOk result (failing_loads self.new ≡ failing_loads self.old ++ call ∷ []) }
         ensures unchanged { OnErr result (failing_loads self.new ≡ failing_loads self.old) }
         ensures held { (name : List ℕ) → held_in self.new name ≡ held_in self.old name }
-        ensures counts { (name : List ℕ) → faults_in self.new name ≡ faults_in self.old name }
-        ensures loads { loads_of self.new ≡ loads_of self.old }
+        ensures counts { KeepsCounts self.old self.new }
     {
         self.failing.push(call)?;
         Ok(())
@@ -88,13 +84,8 @@ impl MemoryShelf {
 
     // Counts a fault of the name.
     fn count(&mut self, name: &str)
-        ensures counted { faults_in self.new name.now ≡ counted (faults_in self.old name.now) }
-        ensures never_fall { (other : List ℕ) → faults_in self.old other ≤ faults_in self.new other }
-        ensures others { (other : List ℕ) → other ≢ name.now → IsSome (held_in self.old other) → faults_in self.new other ≡ faults_in self.old other }
-        ensures common { IsSome (held_in self.old name.now) → (other : List ℕ) → other ≢ name.now → faults_in self.new other ≡ faults_in self.old other }
-        ensures held { (other : List ℕ) → held_in self.new other ≡ held_in self.old other }
-        ensures loads { loads_of self.new ≡ loads_of self.old }
-        ensures failing { failing_loads self.new ≡ failing_loads self.old }
+        ensures counts { CountsFault self.old self.new name.now }
+        ensures only { OnlyCounts self.old self.new }
     {
         match self.files.get_mut(name) {
             Some(file) => raise(&mut file.faults),
@@ -104,32 +95,24 @@ impl MemoryShelf {
 }
 
 impl Shelf for MemoryShelf {
-    ghost use Rattle.fr_base.specs.MemoryShelf.{held_in, faults_in, loads_of, failing_loads, refuses};
+    ghost use Rattle.fr_base.specs.MemoryShelf.{faults_in, failing_loads, refuses, shelved_in, CountsFault};
 
-    ghost held = { held_in };
-
-    ghost faults = { faults_in };
+    ghost state = { shelved_in };
 
     fn load(&mut self, name: &str, into: &mut Vec<u8>) -> Result<(), LoadFault>
         requires { into.old.items ≡ [] }
 
         // what every shelf promises
-        ensures loaded { OnOk result (IsHeld (held_in self.old name.now) into.new.items) }
-        ensures fits { OnOk result (vec_len into.new ≤ MAX_FILE) }
+        ensures loaded { OnOk result (IsLoaded (shelved_in self.old) name.now into.new.items) }
+        ensures stops { IfErr result (StopsLoad (shelved_in self.old) (shelved_in self.new) name.now) }
         ensures emptied { OnErr result (into.new.items ≡ []) }
-        ensures failed { IsErrOf result LoadFault.Failed → Rose (faults_in self.old name.now) (faults_in self.new name.now) }
-        ensures too_long { IfErr result (λ fault.
-            IfTooLong fault (λ seen. IsSeen (held_in self.old name.now) MAX_FILE seen)) }
-        ensures never_fall { (other : List ℕ) → faults_in self.old other ≤ faults_in self.new other }
-        ensures held_stays { (other : List ℕ) → held_in self.new other ≡ held_in self.old other }
+        ensures later { IsOneLoadLater (shelved_in self.old) (shelved_in self.new) }
 
         // A load fails exactly where its number is listed or the name is not held, and is counted then.
         ensures refuses { IsTrue (refuses self.old name.now) ↔ IsErrOf result LoadFault.Failed }
-        ensures counted { IsTrue (refuses self.old name.now) → faults_in self.new name.now ≡ counted (faults_in self.old name.now) }
-        ensures others { (other : List ℕ) → other ≢ name.now → IsSome (held_in self.old other) → faults_in self.new other ≡ faults_in self.old other }
-        ensures common { IsSome (held_in self.old name.now) → (other : List ℕ) → other ≢ name.now → faults_in self.new other ≡ faults_in self.old other }
-        ensures quiet { (refuses self.old name.now ≡ false) → (other : List ℕ) → faults_in self.new other ≡ faults_in self.old other }
-        ensures loads { loads_of self.new ≡ counted (loads_of self.old) }
+        ensures counted { IsTrue (refuses self.old name.now) → CountsFault self.old self.new name.now }
+        ensures quiet { (refuses self.old name.now ≡ false) → (other : List ℕ) →
+            faults_in self.new other ≡ faults_in self.old other }
         ensures failing { failing_loads self.new ≡ failing_loads self.old }
     {
         let refused = self.is_refused(name);
@@ -147,21 +130,20 @@ impl Shelf for MemoryShelf {
 
 // Counts one more.
 fn raise(count: &mut u64)
-    ensures counted { count.new ≡ counted count.old }
+    ensures counted { count.new ≡ raised count.old }
     ensures never_falls { count.old ≤ count.new }
 {
     *count = count.saturating_add(1);
 }
 
-/// Copies the bytes of a file, which are not to be more than a file may have.
+// Copies the bytes of a file, which are not to be more than a file may have.
 pub(crate) fn copy_file(bytes: &[u8], into: &mut Vec<u8>) -> Result<(), LoadFault>
     requires { into.old.items ≡ [] }
     ensures copied { OnOk result (into.new.items ≡ bytes.now) }
-    ensures fits { OnOk result (vec_len into.new ≤ MAX_FILE) }
+    ensures fits { OnOk result (length bytes.now ≤ MAX_FILE) }
     ensures emptied { OnErr result (into.new.items ≡ []) }
     ensures never_failed { IsErrOf result LoadFault.Failed → ⊥ }
-    ensures too_long { IfErr result (λ fault.
-        IfTooLong fault (λ seen. IsSeen (Some bytes.now) MAX_FILE seen)) }
+    ensures too_long { IfErr result (SeesTooLong (Some bytes.now)) }
 {
     if bytes.len() > MAX_FILE {
         return Err(LoadFault::TooLong {

@@ -1,6 +1,5 @@
-ghost use Rattle.std.specs.Prelude.{◌≡◌, ◌≤◌, ◌↔◌, ◌++◌, ◌∷◌, [], false, Some, OnOk, OnErr, IfOk, IsTrue, IsOk, vec_len, vec_capacity};
-ghost use Rattle.std.specs.Io.KnownBytes.{Appends};
-ghost use Rattle.fr_base.specs.Device.{Rose, AppendsFront, counted};
+ghost use Rattle.std.specs.Prelude.{◌≡◌, ◌≤◌, ◌↔◌, ◌++◌, ◌∷◌, [], false, OnOk, OnErr, IfOk, IsTrue, IsOk, vec_len, vec_capacity};
+ghost use Rattle.fr_base.specs.Device.{Puts, raised};
 
 use crate::{PutFault, Sink};
 use std::alloc::{AllocError, Global};
@@ -19,15 +18,11 @@ pub struct MemorySink {
 }
 
 impl MemorySink {
-    ghost use Rattle.fr_base.specs.MemorySink.{bytes_in, room_of, faults_of, puts_of, failing_puts, takes};
+    ghost use Rattle.fr_base.specs.MemorySink.{bytes_in, failing_puts, takes, IsNewSink, KeepsSink};
 
     /// A sink of no bytes, with room for this many. `AllocError` where memory ran out.
     pub fn new(alloc: Global, room: usize) -> Result<MemorySink, AllocError>
-        ensures empty { IfOk result (λ sink. bytes_in sink ≡ []) }
-        ensures room { IfOk result (λ sink. room_of sink ≡ room) }
-        ensures none_counted { IfOk result (λ sink. faults_of sink ≡ 0) }
-        ensures no_puts { IfOk result (λ sink. puts_of sink ≡ 0) }
-        ensures none_failing { IfOk result (λ sink. failing_puts sink ≡ []) }
+        ensures { IfOk result (IsNewSink room) }
     {
         let bytes = Vec::with_capacity(alloc, room)?;
         Ok(MemorySink {
@@ -51,10 +46,7 @@ impl MemorySink {
     pub fn fail_at(&mut self, call: u64) -> Result<(), AllocError>
         ensures listed { OnOk result (failing_puts self.new ≡ failing_puts self.old ++ call ∷ []) }
         ensures unchanged { OnErr result (failing_puts self.new ≡ failing_puts self.old) }
-        ensures bytes { bytes_in self.new ≡ bytes_in self.old }
-        ensures room { room_of self.new ≡ room_of self.old }
-        ensures faults { faults_of self.new ≡ faults_of self.old }
-        ensures puts { puts_of self.new ≡ puts_of self.old }
+        ensures kept { KeepsSink self.old self.new }
     {
         self.failing.push(call)?;
         Ok(())
@@ -70,28 +62,21 @@ impl MemorySink {
 }
 
 impl Sink for MemorySink {
-    ghost use Rattle.fr_base.specs.MemorySink.{bytes_in, room_of, faults_of, puts_of, failing_puts, takes};
+    ghost use Rattle.fr_base.specs.MemorySink.{bytes_in, sink_faults, sunk_in, takes, IsOnePutLater};
 
-    ghost written = { λ sink. Some (bytes_in sink) };
-
-    ghost faults = { faults_of };
+    ghost state = { sunk_in };
 
     fn put(&mut self, piece: &[u8]) -> Result<(), PutFault>
         // what every sink promises
-        ensures whole { OnOk result (Appends (Some (bytes_in self.old)) (Some (bytes_in self.new)) piece.now) }
-        ensures failed { OnErr result (Rose (faults_of self.old) (faults_of self.new)) }
-        ensures front { OnErr result (AppendsFront (Some (bytes_in self.old)) (Some (bytes_in self.new)) piece.now) }
-        ensures never_fall { faults_of self.old ≤ faults_of self.new }
+        ensures promised { Puts result (sunk_in self.old) (sunk_in self.new) piece.now }
 
         // It takes a piece whole or not at all, and fails exactly where the put is listed or the piece
         // does not fit.
         ensures takes { IsTrue (takes self.old piece.now) ↔ IsOk result }
         ensures nothing { OnErr result (bytes_in self.new ≡ bytes_in self.old) }
-        ensures counted { OnErr result (faults_of self.new ≡ counted (faults_of self.old)) }
-        ensures quiet { OnOk result (faults_of self.new ≡ faults_of self.old) }
-        ensures puts { puts_of self.new ≡ counted (puts_of self.old) }
-        ensures room { room_of self.new ≡ room_of self.old }
-        ensures failing { failing_puts self.new ≡ failing_puts self.old }
+        ensures counted { OnErr result (sink_faults self.new ≡ raised (sink_faults self.old)) }
+        ensures quiet { OnOk result (sink_faults self.new ≡ sink_faults self.old) }
+        ensures later { IsOnePutLater self.old self.new }
     {
         let taken = self.is_taken(piece);
         self.puts = self.puts.saturating_add(1);

@@ -10,7 +10,7 @@ pub enum NumberFault {
     OutOfRange,
 }
 
-/// The greatest number of digits that a number has; its value then fits 60 bits.
+// The greatest number of digits that a number has; its value then fits 60 bits.
 const MOST_DIGITS: usize = 18;
 
 /// The number that a text writes: an optional `-` and then 1 to 18 decimal digits, of which the first may
@@ -56,50 +56,4 @@ fn magnitude(digits: &[u8]) -> Option<u64>
         sum = sum * 10 + u64::from(*digit - b'0');
     }
     Some(sum)
-}
-
-#[cfg(test)]
-mod tests {
-    use super::*;
-
-    #[test]
-    fn reads_what_is_a_number(rt: HostRuntime) {
-        let rows: [(&[u8], Result<i64, NumberFault>); 16] = [
-            (b"0".as_slice(), Ok(0)),
-            (b"-0".as_slice(), Ok(0)),
-            (b"007".as_slice(), Ok(7)),
-            (b"-007".as_slice(), Ok(-7)),
-            (
-                b"999999999999999999".as_slice(),
-                Ok(999_999_999_999_999_999),
-            ),
-            (b"000000000000000001".as_slice(), Ok(1)),
-            (
-                b"0000000000000000001".as_slice(),
-                Err(NumberFault::NotDigits),
-            ),
-            (
-                b"-999999999999999999".as_slice(),
-                Err(NumberFault::OutOfRange),
-            ),
-            (
-                b"-1000000000000000000".as_slice(),
-                Err(NumberFault::NotDigits),
-            ),
-            (b"-100".as_slice(), Ok(-100)),
-            (b"-101".as_slice(), Err(NumberFault::OutOfRange)),
-            (b"".as_slice(), Err(NumberFault::NotDigits)),
-            (b"-".as_slice(), Err(NumberFault::NotDigits)),
-            (b"--1".as_slice(), Err(NumberFault::NotDigits)),
-            (b"+1".as_slice(), Err(NumberFault::NotDigits)),
-            (b" 1".as_slice(), Err(NumberFault::NotDigits)),
-        ];
-        for (text, want) in rows {
-            assert_eq!(rt;
-                number(text, -100, 999_999_999_999_999_999),
-                want,
-                "at {text:?}"
-            );
-        }
-    }
 }

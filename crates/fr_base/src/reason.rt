@@ -27,12 +27,29 @@ pub enum Reason {
 }
 
 impl Reason {
-    ghost use Rattle.fr_base.specs.Reason.{rank_of};
+    ghost use Rattle.fr_base.specs.Reason.{reason_rank, reason_text};
 
     /// Its number, 1 to 10: a record is refused for the least that holds.
     pub fn rank(self) -> u8
-        ensures { result ≡ rank_of self }
+        ensures { result ≡ reason_rank self }
     {
         self as u8
+    }
+    /// Its name.
+    pub fn word(self) -> &'static [u8]
+        ensures { result.now ≡ reason_text self }
+    {
+        match self {
+            Reason::Shape => b"Shape",
+            Reason::UnknownName => b"UnknownName",
+            Reason::NotNumber => b"NotNumber",
+            Reason::OutOfRange => b"OutOfRange",
+            Reason::UnknownNode => b"UnknownNode",
+            Reason::BadChannel => b"BadChannel",
+            Reason::Role => b"Role",
+            Reason::Link => b"Link",
+            Reason::NotHex => b"NotHex",
+            Reason::Repeated => b"Repeated",
+        }
     }
 }

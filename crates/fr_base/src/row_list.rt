@@ -57,6 +57,14 @@ impl RowList {
         self.used = 0;
     }
 
+    /// Puts the rows of another list in the place of its own.
+    pub fn assign(&mut self, rows: &RowList)
+        ensures { self.new ≡ rows.now }
+    {
+        self.places.copy_from_slice(&rows.places);
+        self.used = rows.used;
+    }
+
     /// Appends a row, whose node is above those of all rows that are there.
     pub fn push(&mut self, row: NodeRow)
         requires room { length self.old < ROW_ROOM }

@@ -1,4 +1,4 @@
-ghost use Rattle.std.specs.Prelude.{◌≡◌, ◌≢◌, ℕ, List, [], Some, None, OnOk, OnErr};
+ghost use Rattle.std.specs.Prelude.{◌≡◌, ◌≢◌, ℕ, List, [], None, OnOk, OnErr};
 
 use crate::memory_shelf::copy_file;
 use crate::{LoadFault, PutFault, Shelf, Sink};
@@ -6,23 +6,26 @@ use std::alloc::{AllocError, Global};
 use std::collections::BTreeMap;
 
 /// A shelf in memory that never answers `Failed`: names with their bytes, and every other name is an empty
-/// file. Its counts are the constant 0.
+/// file. Its counts of faults are the constant 0.
 #[derive(Drop)]
 pub struct SureShelf {
     alloc: Global,
     files: BTreeMap<String, Vec<u8>>,
+    loads: u64,
 }
 
 impl SureShelf {
-    ghost use Rattle.fr_base.specs.SureShelf.{kept_in};
+    ghost use Rattle.fr_base.specs.SureShelf.{kept_in, sure_state};
 
-    /// A shelf on which every file is empty. It takes no memory.
+    /// A shelf on which every file is empty, and of which none was loaded. It takes no memory.
     pub fn new(alloc: Global) -> SureShelf
-        ensures { (name : List ℕ) → kept_in result name ≡ [] }
+        ensures empty { (name : List ℕ) → kept_in result name ≡ [] }
+        ensures unloaded { (sure_state result).loads ≡ 0 }
     {
         SureShelf {
             alloc,
             files: BTreeMap::new(alloc),
+            loads: 0,
         }
     }
 
@@ -30,8 +33,10 @@ impl SureShelf {
     /// then nothing changed.
     pub fn hold(&mut self, name: &str, bytes: &[u8]) -> Result<(), AllocError>
         ensures held { OnOk result (kept_in self.new name.now ≡ bytes.now) }
-        ensures others { OnOk result ((other : List ℕ) → other ≢ name.now → kept_in self.new other ≡ kept_in self.old other) }
+        ensures others { OnOk result ((other : List ℕ) → other ≢ name.now →
+            kept_in self.new other ≡ kept_in self.old other) }
         ensures unchanged { OnErr result ((other : List ℕ) → kept_in self.new other ≡ kept_in self.old other) }
+        ensures loads { (sure_state self.new).loads ≡ (sure_state self.old).loads }
     {
         let bytes = Vec::from_slice(self.alloc, bytes)?;
         let key = String::from_str(self.alloc, name)?;
@@ -41,13 +46,12 @@ impl SureShelf {
 }
 
 impl Shelf for SureShelf {
-    ghost use Rattle.fr_base.specs.SureShelf.{kept_in};
+    ghost use Rattle.fr_base.specs.SureShelf.{sure_state};
 
-    ghost held = { λ shelf name. Some (kept_in shelf name) };
-
-    ghost faults = { λ _ _. 0 };
+    ghost state = { sure_state };
 
     fn load(&mut self, name: &str, into: &mut Vec<u8>) -> Result<(), LoadFault> {
+        self.loads = self.loads.saturating_add(1);
         match self.files.get(name) {
             Some(bytes) => copy_file(bytes, into),
             None => Ok(()),
@@ -67,9 +71,7 @@ impl SureSink {
 }
 
 impl Sink for SureSink {
-    ghost written = { λ _. None };
-
-    ghost faults = { λ _. 0 };
+    ghost state = { λ _. record { written = None; faults = 0 } };
 
     fn put(&mut self, _piece: &[u8]) -> Result<(), PutFault> {
         Ok(())

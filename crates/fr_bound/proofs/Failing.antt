@@ -1,7 +1,7 @@
 -- The first check that fails.
 use Rattle.std.proofs.Common.{◌≡◌, ℕ, inl, inr, true, false}
 use Rattle.std.proofs.lemmas.Bool.{cases_order}
-use Rattle.fr_params.specs.Values.{Values}
+use Rattle.fr_cluster.specs.Values.{Values}
 use Rattle.fr_bound.specs.Checks.{holds_of, FirstFailing, AllChecksHold}
 
 both : (p : Values) (k : ℕ) → holds_of k p ≡ false → holds_of k p ≡ true → ⊥

@@ -2,4 +2,3 @@ pub mod Uncut
 pub mod Failing
 pub mod Rows
 pub mod Sync
-pub mod Spread

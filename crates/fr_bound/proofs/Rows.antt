@@ -3,7 +3,7 @@ use Rattle.std.proofs.Common.{◌≡◌, ℕ, ℤ, pos, negsuc, List, [], ◌∷
 use Rattle.fr_base.specs.declared.node_row.NodeRow.{NodeRow}
 use Rattle.fr_base.specs.declared.state.State.{State}
 use Rattle.fr_base.specs.declared.state.State.TheVariants.{Active, Passive}
-use Rattle.fr_params.specs.Values.{Values}
+use Rattle.fr_cluster.specs.Values.{Values}
 use Rattle.fr_bound.specs.Bounds.{y1_of, lambda_of, pi_of, precision_of}
 use Rattle.fr_bound.specs.Checks.{left_of, right_of, holds_of}
 use Rattle.fr_bound.specs.Sync.{is_in_sync}

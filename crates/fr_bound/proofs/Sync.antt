@@ -8,10 +8,11 @@ use Rattle.fr_base.specs.States.{is_active}
 use Rattle.fr_base.specs.declared.node_row.NodeRow.{NodeRow}
 use Rattle.fr_base.specs.declared.state.State.{State}
 use Rattle.fr_base.specs.declared.state.State.TheVariants.{Active, Passive, Halt}
-use Rattle.fr_params.specs.Values.{Values, amount}
-use Rattle.fr_params.specs.declared.names.ParamName.TheVariants as name
+use Rattle.fr_cluster.specs.Values.{Values, amount}
+use Rattle.fr_cluster.specs.declared.names.ParamName.TheVariants as name
 use Rattle.fr_bound.specs.Bounds.{lambda_of, longest_micro, pi_of, shortest_micro}
-use Rattle.fr_bound.specs.Sync.{IsInSync, IsProperLength, LieWithin, cycle_length_of, has_synced_rates, is_in_sync, is_proper_length, lie_within}
+use Rattle.fr_bound.specs.Sync.{IsInSync, IsCycleLength, cycle_length_of, has_synced_rates, is_in_sync, is_proper_length, lie_within}
+use Rattle.fr_base.specs.Within.{LieWithin}
 
 and_left : (a b : Bool) → (a && b) ≡ true → a ≡ true
 and_left true b is = refl
@@ -48,23 +49,23 @@ from_le a b is = grind (arith, ints)
 to_le : (a b : ℤ) → a ≤ℤ b → int_le a b ≡ true
 to_le a b is = grind (arith, ints)
 
-within_from : (bound : ℤ) (xs : List ℤ) → lie_within bound xs ≡ true → LieWithin bound xs
+pub within_from : (bound : ℤ) (xs : List ℤ) → lie_within bound xs ≡ true → LieWithin bound xs
 within_from bound xs is =
     all_from_test (λ a. list_all (λ b. int_le (a -ℤ b) bound) xs) (λ a. All (λ b. (a -ℤ b) ≤ℤ bound) xs)
     (λ a each. all_from_test (λ b. int_le (a -ℤ b) bound) (λ b. (a -ℤ b) ≤ℤ bound) (λ b le. from_le (a -ℤ b) bound le) xs each) xs is
 
-to_within : (bound : ℤ) (xs : List ℤ) → LieWithin bound xs → lie_within bound xs ≡ true
+pub to_within : (bound : ℤ) (xs : List ℤ) → LieWithin bound xs → lie_within bound xs ≡ true
 to_within bound xs is =
     test_from_all (λ a. list_all (λ b. int_le (a -ℤ b) bound) xs) (λ a. All (λ b. (a -ℤ b) ≤ℤ bound) xs)
     (λ a each. test_from_all (λ b. int_le (a -ℤ b) bound) (λ b. (a -ℤ b) ≤ℤ bound) (λ b le. to_le (a -ℤ b) bound le) xs each) xs is
 
-proper_from : (p : Values) (long : ℤ) → is_proper_length p long ≡ true → IsProperLength p long
+proper_from : (p : Values) (long : ℤ) → is_proper_length p long ≡ true → IsCycleLength p long
 proper_from p long is =
     let low : ℤ = pos (amount p name.pMicroPerCycle * shortest_micro p) in
     let high : ℤ = pos (amount p name.pMicroPerCycle * longest_micro p) in
     (from_le low long (and_left (int_le low long) (int_le long high) is), from_le long high (and_right (int_le low long) (int_le long high) is))
 
-to_proper : (p : Values) (long : ℤ) → IsProperLength p long → is_proper_length p long ≡ true
+to_proper : (p : Values) (long : ℤ) → IsCycleLength p long → is_proper_length p long ≡ true
 to_proper p long is =
     let low : ℤ = pos (amount p name.pMicroPerCycle * shortest_micro p) in
     let high : ℤ = pos (amount p name.pMicroPerCycle * longest_micro p) in
@@ -74,7 +75,7 @@ to_proper p long is =
 record HasSyncedRates (p : Values) (rows : List NodeRow) : Type 0 where
   active : All (λ row. row.state ≡ Active) rows
   lengths : LieWithin (pos (lambda_of p)) (map (cycle_length_of p) rows)
-  proper : All (λ row. IsProperLength p (cycle_length_of p row)) rows
+  proper : All (λ row. IsCycleLength p (cycle_length_of p row)) rows
 
 rates_from : (p : Values) (rows : List NodeRow) → has_synced_rates p rows ≡ true → HasSyncedRates p rows
 rates_from p rows is =
@@ -85,7 +86,7 @@ rates_from p rows is =
     record {
       active = all_from_test (λ (row : NodeRow). is_active row.state) (λ row. row.state ≡ Active) (λ row. active_from row.state) rows (and_left actives close two);
       lengths = within_from (pos (lambda_of p)) (map (cycle_length_of p) rows) (and_right actives close two);
-      proper = all_from_test (λ (row : NodeRow). is_proper_length p (cycle_length_of p row)) (λ row. IsProperLength p (cycle_length_of p row)) (λ row. proper_from p (cycle_length_of p row)) rows (and_right (actives && close) propers is);
+      proper = all_from_test (λ (row : NodeRow). is_proper_length p (cycle_length_of p row)) (λ row. IsCycleLength p (cycle_length_of p row)) (λ row. proper_from p (cycle_length_of p row)) rows (and_right (actives && close) propers is);
     }
 
 to_rates : (p : Values) (rows : List NodeRow) → HasSyncedRates p rows → has_synced_rates p rows ≡ true
@@ -96,7 +97,7 @@ to_rates p rows is =
     and_both (actives && close) propers
     (and_both actives close (test_from_all (λ (row : NodeRow). is_active row.state) (λ row. row.state ≡ Active) (λ row. to_active row.state) rows is.active)
     (to_within (pos (lambda_of p)) (map (cycle_length_of p) rows) is.lengths))
-    (test_from_all (λ (row : NodeRow). is_proper_length p (cycle_length_of p row)) (λ row. IsProperLength p (cycle_length_of p row)) (λ row. to_proper p (cycle_length_of p row)) rows is.proper)
+    (test_from_all (λ (row : NodeRow). is_proper_length p (cycle_length_of p row)) (λ row. IsCycleLength p (cycle_length_of p row)) (λ row. to_proper p (cycle_length_of p row)) rows is.proper)
 
 pub in_sync_from : (p : Values) (even odd : List NodeRow) → is_in_sync p even odd ≡ true → IsInSync p even odd
 unfolding is_in_sync

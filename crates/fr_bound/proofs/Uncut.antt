@@ -4,11 +4,11 @@ use Rattle.std.specs.Prelude.{◌≤ℤ◌, nat_abs}
 use Rattle.std.proofs.lemmas.Bool.{cases_lt}
 use Rattle.std.proofs.lemmas.Int.{ints}
 use Rattle.std.proofs.Math.Nat.{mul-add, mul-le-mul_left, mul-le-mul_right}
-use Rattle.fr_params.specs.Values.{Values, amount}
-use Rattle.fr_params.specs.Sane.{IsSane}
-use Rattle.fr_params.specs.Constraints.{correction_macros}
-use Rattle.fr_params.specs.declared.names.ParamName.TheVariants as name
-use Rattle.fr_bound.specs.Checks.{IsUncut, least_cycle, behind_action}
+use Rattle.fr_cluster.specs.Values.{Values, amount}
+use Rattle.fr_cluster.specs.Sane.{IsSane}
+use Rattle.fr_cluster.specs.Constraints.{correction_macros}
+use Rattle.fr_cluster.specs.declared.names.ParamName.TheVariants as name
+use Rattle.fr_bound.specs.Checks.{IsUncut, least_cycle, after_action}
 
 -- where so many macroticks of the correction and more fit into its microticks, a cycle has more microticks than macroticks
 more_micros : (macros micros rest more : ℕ) → 1 ≤ more → 1 ≤ macros → macros * (rest + more) ≤ micros * rest → macros < micros
@@ -40,13 +40,13 @@ uncut_lem p sane =
     let regrouped : rest + f name.pOffsetCorrectionOut + 1 ≡ rest + (f name.pOffsetCorrectionOut + 1) = omega arith in
     let Fits : ℕ → Type 0 = λ macroticks. f name.gMacroPerCycle * macroticks ≤ least_cycle p * rest in
     let micros : f name.gMacroPerCycle < least_cycle p =
-    more_micros (f name.gMacroPerCycle) (least_cycle p) (correction_macros f) (f name.pOffsetCorrectionOut + 1) (omega arith) (omega (arith, holds.corrects_behind)) (subst Fits regrouped holds.leaves_microticks) in
+    more_micros (f name.gMacroPerCycle) (least_cycle p) (correction_macros f) (f name.pOffsetCorrectionOut + 1) (omega arith) (omega (arith, holds.corrects_after)) (subst Fits regrouped holds.leaves_microticks) in
     let before : least_cycle p ≤ f name.gdActionPointOffset * least_cycle p = many (f name.gdActionPointOffset) (least_cycle p) action.0 in
-    let behind : least_cycle p ≤ behind_action p * least_cycle p = many (behind_action p) (least_cycle p) (omega (arith, holds.acts_in_slot)) in
+    let after : least_cycle p ≤ after_action p * least_cycle p = many (after_action p) (least_cycle p) (omega (arith, holds.acts_in_slot)) in
     record {
       shortest = omega (arith, rate_bound.1);
       cycle = omega (arith, micros);
-      behind = omega (arith, holds.acts_in_slot);
+      after = omega (arith, holds.acts_in_slot);
       before_action = omega (arith, micros, before);
-      behind_action = omega (arith, micros, behind);
+      after_action = omega (arith, micros, after);
     }

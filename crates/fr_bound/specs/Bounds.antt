@@ -1,8 +1,8 @@
 -- The bounds that the theory computes from the parameters of a cluster, in ticks.
 use Rattle.std.specs.Prelude.{ℕ, ◌+◌, ◌-◌, ◌*◌, nat_abs}
-use Rattle.fr_params.specs.Values.{Values, amount}
-use Rattle.fr_params.specs.Questions.{widest_compensation_of}
-use Rattle.fr_params.specs.declared.names.ParamName.TheVariants as name
+use Rattle.fr_cluster.specs.Values.{Values, amount}
+use Rattle.fr_cluster.specs.Questions.{widest_compensation_of}
+use Rattle.fr_cluster.specs.declared.names.ParamName.TheVariants as name
 
 -- the ticks of a nominal microtick
 abbrev pub nominal : ℕ

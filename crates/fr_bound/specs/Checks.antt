@@ -1,7 +1,8 @@
 -- The five checks under which the bounds hold.
-use Rattle.std.specs.Prelude.{ℕ, zero, suc, ◌≡◌, ◌+◌, ◌-◌, ◌*◌, ◌<◌, ◌≤◌, Bool, true, false, nat_le, nat_lt}
-use Rattle.fr_params.specs.Values.{Values, amount}
-use Rattle.fr_params.specs.declared.names.ParamName.TheVariants as name
+use Rattle.std.specs.Prelude.{ℕ, zero, suc, ◌≡◌, ◌+◌, ◌-◌, ◌*◌, ◌<◌, ◌≤◌, pos, Bool, true, false, nat_le, nat_lt}
+use Rattle.fr_cluster.specs.Values.{Values, amount}
+use Rattle.fr_cluster.specs.declared.names.ParamName.TheVariants as name
+use Rattle.fr_bound.specs.declared.checking.CheckSides.{CheckSides}
 use Rattle.fr_bound.specs.Bounds.{nominal, longest_micro, shortest_micro, widest, arrival_error, cycle_change, y1_of, precision_of}
 
 -- the microticks of the shortest cycle before its offset
@@ -13,8 +14,8 @@ abbrev pub clear_micros : Values → ℕ → ℕ
 clear_micros p macroticks = macroticks * least_cycle p - amount p name.gMacroPerCycle
 
 -- the macroticks from an action point to the end of its slot
-abbrev pub behind_action : Values → ℕ
-behind_action p = amount p name.gdStaticSlot - amount p name.gdActionPointOffset
+abbrev pub after_action : Values → ℕ
+after_action p = amount p name.gdStaticSlot - amount p name.gdActionPointOffset
 
 -- the left side of a check, by its number
 abbrev pub left_of : ℕ → Values → ℕ
@@ -22,7 +23,7 @@ left_of (suc zero) p = amount p name.pClusterDriftDamping * shortest_micro p
 left_of (suc (suc zero)) p = amount p name.pRateCorrectionOut * shortest_micro p
 left_of (suc (suc (suc zero))) p = amount p name.pOffsetCorrectionOut * shortest_micro p
 left_of (suc (suc (suc (suc zero)))) p = clear_micros p (amount p name.gdActionPointOffset) * shortest_micro p
-left_of (suc (suc (suc (suc (suc zero))))) p = clear_micros p (behind_action p) * shortest_micro p
+left_of (suc (suc (suc (suc (suc zero))))) p = clear_micros p (after_action p) * shortest_micro p
 left_of other p = 0
 
 -- the right side
@@ -39,6 +40,24 @@ abbrev pub holds_of : ℕ → Values → Bool
 holds_of (suc (suc (suc (suc (suc zero))))) p = nat_lt (right_of 5 p) (left_of 5 p)
 holds_of number p = nat_le (right_of number p) (left_of number p)
 
+-- the numbers of the checks
+pub record IsCheck (number : ℕ) : Type 0 where
+  pub from : 1 ≤ number
+  pub to : number ≤ 5
+
+-- both sides of a check, and whether it holds
+pub record IsCheckOf (number : ℕ) (p : Values) (sides : CheckSides) : Type 0 where
+  pub left : sides.left ≡ pos (left_of number p)
+  pub right : sides.right ≡ pos (right_of number p)
+  pub holds : sides.holds ≡ holds_of number p
+
+-- both sides as naturals, which fit
+pub record AreSides (number : ℕ) (p : Values) (left right : ℕ) : Type 0 where
+  pub left_is : left ≡ left_of number p
+  pub right_is : right ≡ right_of number p
+  pub left_fits : left ≤ 1_000_000_000_000_000_000
+  pub right_fits : right ≤ 1_000_000_000_000_000_000
+
 -- the check of this number fails, and those of lesser numbers hold
 pub record FirstFailing (number : ℕ) (p : Values) : Type 0 where
   pub from : 1 ≤ number
@@ -54,6 +73,6 @@ AllChecksHold p = (k : ℕ) → 1 ≤ k → k ≤ 5 → holds_of k p ≡ true
 pub record IsUncut (p : Values) : Type 0 where
   pub shortest : amount p name.xRateBound ≤ nominal
   pub cycle : amount p name.pRateCorrectionOut ≤ amount p name.pMicroPerCycle
-  pub behind : amount p name.gdActionPointOffset ≤ amount p name.gdStaticSlot
+  pub after : amount p name.gdActionPointOffset ≤ amount p name.gdStaticSlot
   pub before_action : amount p name.gMacroPerCycle ≤ amount p name.gdActionPointOffset * least_cycle p
-  pub behind_action : amount p name.gMacroPerCycle ≤ behind_action p * least_cycle p
+  pub after_action : amount p name.gMacroPerCycle ≤ after_action p * least_cycle p

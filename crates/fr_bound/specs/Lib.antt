@@ -1,4 +1,4 @@
+-- what the public contract cites
 pub mod Bounds
 pub mod Checks
 pub mod Sync
-pub mod Ranges

@@ -1,24 +1,21 @@
 -- When the clocks of a cluster are in sync in a double cycle, by the rows of its two cycles.
 use Rattle.std.specs.Prelude.{◌≡◌, ◌≤ℤ◌, ◌+ℤ◌, ◌-ℤ◌, ◌*ℤ◌, ◌*◌, ℤ, pos, Bool, ◌&&◌, int_le, List, All, map}
 use Rattle.std.specs.List.{list_all}
+use Rattle.fr_base.specs.Within.{LieWithin}
 use Rattle.fr_base.specs.States.{is_active}
 use Rattle.fr_base.specs.declared.node_row.NodeRow.{NodeRow}
 use Rattle.fr_base.specs.declared.state.State.TheVariants.{Active}
-use Rattle.fr_params.specs.Values.{Values, amount}
-use Rattle.fr_params.specs.declared.names.ParamName.TheVariants as name
+use Rattle.fr_cluster.specs.Values.{Values, amount}
+use Rattle.fr_cluster.specs.declared.names.ParamName.TheVariants as name
 use Rattle.fr_bound.specs.Bounds.{lambda_of, longest_micro, pi_of, shortest_micro}
 
 -- the length of a row's cycle before its offset correction, in ticks
 abbrev pub cycle_length_of : Values → NodeRow → ℤ
 cycle_length_of p row = (p.micros +ℤ row.rate) *ℤ row.length
 
--- any two of some numbers lie at most so far apart
-abbrev pub LieWithin : ℤ → List ℤ → Type 0
-LieWithin bound xs = All (λ a. All (λ b. (a -ℤ b) ≤ℤ bound) xs) xs
-
 -- a cycle is as long as its nominal microticks are, each of a length within the bounds
-abbrev pub IsProperLength : Values → ℤ → Type 0
-IsProperLength p long =
+abbrev pub IsCycleLength : Values → ℤ → Type 0
+IsCycleLength p long =
     (pos (amount p name.pMicroPerCycle * shortest_micro p) ≤ℤ long)
     × (long ≤ℤ pos (amount p name.pMicroPerCycle * longest_micro p))
 
@@ -30,8 +27,8 @@ pub record IsInSync (p : Values) (even odd : List NodeRow) : Type 0 where
   pub starts : LieWithin (pos (pi_of p)) (map (λ row. row.start) even)
   pub even_lengths : LieWithin (pos (lambda_of p)) (map (cycle_length_of p) even)
   pub odd_lengths : LieWithin (pos (lambda_of p)) (map (cycle_length_of p) odd)
-  pub even_proper : All (λ row. IsProperLength p (cycle_length_of p row)) even
-  pub odd_proper : All (λ row. IsProperLength p (cycle_length_of p row)) odd
+  pub even_proper : All (λ row. IsCycleLength p (cycle_length_of p row)) even
+  pub odd_proper : All (λ row. IsCycleLength p (cycle_length_of p row)) odd
 
 -- ---- the same as a test
 

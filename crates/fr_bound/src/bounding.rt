@@ -1,7 +1,7 @@
 ghost use Rattle.std.specs.Prelude.{◌≡◌, ◌≤◌, pos};
 ghost use Rattle.fr_bound.specs.Bounds.{longest_micro, shortest_micro, widest, arrival_error, cycle_change, y1_of, lambda_of, pi_of, precision_of};
 
-use fr_params::{ParamName, Params};
+use fr_cluster::{ParamName, Params};
 
 /// The bounds of a cluster that the theory computes, in ticks.
 #[derive(Clone, Copy, Debug, PartialEq, Eq)]

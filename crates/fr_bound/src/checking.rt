@@ -1,10 +1,10 @@
-ghost use Rattle.std.specs.Prelude.{◌≡◌, ◌≤◌, ◌*◌, pos, OnOk, IfErr};
-ghost use Rattle.fr_bound.specs.Checks.{least_cycle, clear_micros, behind_action, left_of, right_of, holds_of, FirstFailing, AllChecksHold};
+ghost use Rattle.std.specs.Prelude.{◌≡◌, ◌≤◌, ◌*◌, OnOk, IfErr};
+ghost use Rattle.fr_bound.specs.Checks.{clear_micros, AllChecksHold, AreSides, FirstFailing, IsCheck, IsCheckOf};
 
 use crate::bounding::{
     NOMINAL, arrival_error, change, compensation, longest, precision, shortest, y1,
 };
-use fr_params::{ParamName, Params};
+use fr_cluster::{ParamName, Params};
 
 /// Both sides of a check, and whether it holds. The sides are ticks, but of the last two checks ticks times
 /// the macroticks of a cycle.
@@ -19,13 +19,10 @@ pub struct CheckSides {
 }
 
 /// The sides of the check of this number, 1 to 5: damping, rate limit, offset limit, the action point
-/// behind the start of its slot, and before its end.
+/// after the start of its slot, and before its end.
 pub fn side(params: &Params, number: u8) -> CheckSides
-    requires from { 1 ≤ number }
-    requires to { number ≤ 5 }
-    ensures left { result.left ≡ pos (left_of number params.now) }
-    ensures right { result.right ≡ pos (right_of number params.now) }
-    ensures holds { result.holds ≡ holds_of number params.now }
+    requires { IsCheck number }
+    ensures { IsCheckOf number params.now result }
 {
     let (left, right) = sides(params, number);
     CheckSides {
@@ -53,12 +50,8 @@ pub fn checks(params: &Params) -> Result<(), u8>
 }
 
 fn sides(params: &Params, number: u8) -> (u64, u64)
-    requires from { 1 ≤ number }
-    requires to { number ≤ 5 }
-    ensures left { result.0 ≡ left_of number params.now }
-    ensures right { result.1 ≡ right_of number params.now }
-    ensures left_fits { result.0 ≤ 1_000_000_000_000_000_000 }
-    ensures right_fits { result.1 ≤ 1_000_000_000_000_000_000 }
+    requires { IsCheck number }
+    ensures { AreSides number params.now result.0 result.1 }
 {
     match number {
         1 => damping_sides(params),
@@ -71,10 +64,7 @@ fn sides(params: &Params, number: u8) -> (u64, u64)
 
 // The damping outweighs what a rate value may be off.
 fn damping_sides(params: &Params) -> (u64, u64)
-    ensures left { result.0 ≡ left_of 1 params.now }
-    ensures right { result.1 ≡ right_of 1 params.now }
-    ensures left_fits { result.0 ≤ 100_000_000 }
-    ensures right_fits { result.1 ≤ 5_000_000_000 }
+    ensures { AreSides 1 params.now result.0 result.1 }
 {
     (
         params.natural(ParamName::pClusterDriftDamping) * shortest(params),
@@ -84,10 +74,7 @@ fn damping_sides(params: &Params) -> (u64, u64)
 
 // The rate limit suffices for two oscillators at opposite ends.
 fn rate_sides(params: &Params) -> (u64, u64)
-    ensures left { result.0 ≡ left_of 2 params.now }
-    ensures right { result.1 ≡ right_of 2 params.now }
-    ensures left_fits { result.0 ≤ 2_000_000_000 }
-    ensures right_fits { result.1 ≤ 2_000_000_000 }
+    ensures { AreSides 2 params.now result.0 result.1 }
 {
     let drift = params.natural(ParamName::pMicroPerCycle) * params.natural(ParamName::xRateBound);
     (
@@ -98,10 +85,7 @@ fn rate_sides(params: &Params) -> (u64, u64)
 
 // The offset limit suffices for the precision and the error of an arrival.
 fn offset_sides(params: &Params) -> (u64, u64)
-    ensures left { result.0 ≡ left_of 3 params.now }
-    ensures right { result.1 ≡ right_of 3 params.now }
-    ensures left_fits { result.0 ≤ 16_000_000_000 }
-    ensures right_fits { result.1 ≤ 200_000_000_000 }
+    ensures { AreSides 3 params.now result.0 result.1 }
 {
     (
         params.natural(ParamName::pOffsetCorrectionOut) * shortest(params),
@@ -111,10 +95,7 @@ fn offset_sides(params: &Params) -> (u64, u64)
 
 // An early arrival does not fall before its slot.
 fn front_sides(params: &Params) -> (u64, u64)
-    ensures left { result.0 ≡ left_of 4 params.now }
-    ensures right { result.1 ≡ right_of 4 params.now }
-    ensures left_fits { result.0 ≤ 100_000_000_000_000 }
-    ensures right_fits { result.1 ≤ 4_000_000_000_000_000 }
+    ensures { AreSides 4 params.now result.0 result.1 }
 {
     let within = precision(params) + params.natural(ParamName::xDelayError);
     let front = params.natural(ParamName::gdActionPointOffset);
@@ -124,12 +105,9 @@ fn front_sides(params: &Params) -> (u64, u64)
     )
 }
 
-// A late arrival does not fall behind its slot.
+// A late arrival does not fall after its slot.
 fn back_sides(params: &Params) -> (u64, u64)
-    ensures left { result.0 ≡ left_of 5 params.now }
-    ensures right { result.1 ≡ right_of 5 params.now }
-    ensures left_fits { result.0 ≤ 1_000_000_000_000_000 }
-    ensures right_fits { result.1 ≤ 4_000_000_000_000_000 }
+    ensures { AreSides 5 params.now result.0 result.1 }
 {
     let delay = compensation(params) * NOMINAL;
     let within = precision(params) + delay + params.natural(ParamName::xDelayError);

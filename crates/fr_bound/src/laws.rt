@@ -1,7 +1,7 @@
 ghost use Rattle.std.specs.Prelude.{◌≡◌, ◌↔◌, ℕ, List, true};
 ghost use Rattle.fr_base.specs.declared.node_row.NodeRow.{NodeRow};
-ghost use Rattle.fr_params.specs.Values.{Values};
-ghost use Rattle.fr_params.specs.Sane.{IsSane};
+ghost use Rattle.fr_cluster.specs.Values.{Values};
+ghost use Rattle.fr_cluster.specs.Sane.{IsSane};
 ghost use Rattle.fr_bound.specs.Checks.{IsUncut, FirstFailing, AllChecksHold};
 ghost use Rattle.fr_bound.specs.Sync.{IsInSync, is_in_sync};
 

@@ -5,11 +5,7 @@
 mod bounding;
 mod checking;
 mod laws;
-mod syncing;
-#[cfg(test)]
-mod tests;
 
 pub use bounding::{BoundValues, bounds};
 pub use checking::{CheckSides, checks, side};
 pub use laws::{in_sync_is_tested, nothing_is_cut, one_first_failing};
-pub use syncing::in_sync;

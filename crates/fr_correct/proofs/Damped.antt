@@ -2,7 +2,7 @@
 use Rattle.std.proofs.Common.{◌≡◌, ◌⊎◌, ℤ, pos, inl, inr, arith}
 use Rattle.std.specs.Prelude.{neg_ℤ, ◌+ℤ◌, ◌-ℤ◌, ◌≤ℤ◌, ◌<ℤ◌}
 use Rattle.std.proofs.lemmas.Int.{ints, by_lt_z}
-use Rattle.fr_midpoint.specs.Within.{IsWithin}
+use Rattle.fr_base.specs.Within.{IsWithin}
 use Rattle.fr_correct.specs.Terms.{damped}
 use Rattle.fr_correct.specs.Damping.{DampingTakesToward, IsTakenToward, IsTakenOnce}
 

@@ -1,3 +1,4 @@
 pub mod Found
+pub mod There
 pub mod Damped
 mod Rows

@@ -1,6 +1,6 @@
 -- What damping does to a number.
 use Rattle.std.specs.Prelude.{◌≡◌, ℤ, pos, ◌+ℤ◌, ◌-ℤ◌, ◌≤ℤ◌, ◌<ℤ◌}
-use Rattle.fr_midpoint.specs.Within.{IsWithin}
+use Rattle.fr_base.specs.Within.{IsWithin}
 use Rattle.fr_correct.specs.Terms.{damped}
 
 -- one number is what another becomes that is taken toward 0 by so much, but not beyond it: it lies between 0 and the

@@ -1,6 +1,7 @@
 -- The correction terms of a double cycle (sections 8.6.2 to 8.6.4), in microticks.
-use Rattle.std.specs.Prelude.{◌≡◌, ◌⊎◌, ℤ, pos, neg_ℤ, ◌+ℤ◌, ◌-ℤ◌, ◌<ℤ◌, int_lt, ◌||◌, if◌then◌else◌, Option, Some, None, List, []}
+use Rattle.std.specs.Prelude.{◌≡◌, ◌⊎◌, ◌↔◌, ℤ, pos, neg_ℤ, ◌+ℤ◌, ◌-ℤ◌, ◌≤ℤ◌, ◌<ℤ◌, int_lt, ◌||◌, if◌then◌else◌, Option, Some, None, List, []}
 use Rattle.fr_base.specs.declared.Outcome.TheVariants.{Within, Missing, Exceeded}
+use Rattle.fr_base.specs.Within.{IsWithin}
 use Rattle.fr_midpoint.specs.Midpoint.{IsMidpoint, midpoint_of}
 use Rattle.fr_correct.specs.declared.term.Term.{Term}
 
@@ -42,6 +43,13 @@ IsRateTerm old damping limit values term =
     ((values ≡ []) × (term ≡ missing_term old))
     ⊎ ((mid : ℤ) × IsMidpoint values mid × (term ≡ term_of limit (damped damping (old +ℤ mid))))
 
+-- the outcome of a term of some values: missing exactly without any, exceeded exactly where the value before cutting lay
+-- outside the limit; and the term lies within it
+pub record TellsItsOutcome (limit : ℤ) (values : List ℤ) (term : Term) : Type 0 where
+  pub missing : (term.outcome ≡ Missing) ↔ (values ≡ [])
+  pub exceeded : (term.outcome ≡ Exceeded) ↔ IsOutside limit term.before
+  pub within : IsWithin limit term.value
+
 -- the offset term where the values have this midpoint, or none
 abbrev pub offset_term_at : ℤ → Option ℤ → Term
 offset_term_at limit None = missing_term (pos 0)
@@ -70,3 +78,15 @@ abbrev pub RateTermIsFound : Type 0
 RateTermIsFound =
     (old damping limit : ℤ) (values : List ℤ) (term : Term)
     → IsRateTerm old damping limit values term → term ≡ rate_term_of old damping limit values
+
+-- and the function gives a term of them
+abbrev pub OffsetTermIsThere : Type 0
+OffsetTermIsThere = (limit : ℤ) (values : List ℤ) → IsOffsetTerm limit values (offset_term_of limit values)
+
+abbrev pub RateTermIsThere : Type 0
+RateTermIsThere =
+    (old damping limit : ℤ) (values : List ℤ) → IsRateTerm old damping limit values (rate_term_of old damping limit values)
+
+-- a term that was cut lies within its limit
+abbrev pub TermLiesWithin : Type 0
+TermLiesWithin = (limit before : ℤ) → pos 0 ≤ℤ limit → IsWithin limit (term_of limit before).value

@@ -5,4 +5,4 @@ mod damping;
 mod term;
 
 pub use damping::damping_takes_toward_zero;
-pub use term::{Term, offset_term, rate_term, terms_are_unique};
+pub use term::{Term, offset_term, rate_term, terms_are_there, terms_are_unique, terms_lie_within};

@@ -1,6 +1,6 @@
 ghost use Rattle.std.specs.Prelude.{◌≡◌, ◌≢◌, ◌↔◌, ◌≤ℤ◌, ◌+ℤ◌, pos, [], IsPermutation};
-ghost use Rattle.fr_midpoint.specs.Within.{IsWithin};
-ghost use Rattle.fr_correct.specs.Terms.{damped, term_of, missing_term, offset_term_of, rate_term_of, IsOutside, IsOffsetTerm, IsRateTerm, OffsetTermIsFound, RateTermIsFound};
+ghost use Rattle.fr_base.specs.Within.{IsBetween, IsWithin};
+ghost use Rattle.fr_correct.specs.Terms.{damped, term_of, missing_term, offset_term_of, rate_term_of, IsOutside, IsOffsetTerm, IsRateTerm, OffsetTermIsFound, OffsetTermIsThere, RateTermIsFound, RateTermIsThere, TellsItsOutcome, TermLiesWithin};
 
 use fr_base::Outcome;
 use fr_midpoint::{List15, midpoint};
@@ -20,13 +20,10 @@ pub struct Term {
 /// `pOffsetCorrectionOut`, all in microticks (section 8.6.4); 0 and `Missing` exactly without values.
 /// The list is put into another order.
 pub fn offset_term(limit: i32, values: &mut List15) -> Term
-    requires limit_from { pos 1 ≤ℤ limit }
-    requires limit_to { limit ≤ℤ pos 16000 }
+    requires { IsBetween (pos 1) (pos 16000) limit }
     ensures term { IsOffsetTerm limit values.old result }
     ensures value { result ≡ offset_term_of limit values.old }
-    ensures missing { (result.outcome ≡ Outcome.Missing) ↔ (values.old ≡ []) }
-    ensures exceeded { (result.outcome ≡ Outcome.Exceeded) ↔ IsOutside limit result.before }
-    ensures within { IsWithin limit result.value }
+    ensures tells { TellsItsOutcome limit values.old result }
     ensures permutation { IsPermutation values.old values.new }
 {
     match midpoint(values) {
@@ -40,15 +37,11 @@ pub fn offset_term(limit: i32, values: &mut List15) -> Term
 /// (section 8.6.4); the old term and `Missing` exactly without values. The list is put into another order.
 pub fn rate_term(old: i32, damping: i32, limit: i32, values: &mut List15) -> Term
     requires old_within { IsWithin limit old }
-    requires damping_from { pos 0 ≤ℤ damping }
-    requires damping_to { damping ≤ℤ pos 100 }
-    requires limit_from { pos 1 ≤ℤ limit }
-    requires limit_to { limit ≤ℤ pos 2000 }
+    requires damping { IsBetween (pos 0) (pos 100) damping }
+    requires limit { IsBetween (pos 1) (pos 2000) limit }
     ensures term { IsRateTerm old damping limit values.old result }
     ensures value { result ≡ rate_term_of old damping limit values.old }
-    ensures missing { (result.outcome ≡ Outcome.Missing) ↔ (values.old ≡ []) }
-    ensures exceeded { (result.outcome ≡ Outcome.Exceeded) ↔ IsOutside limit result.before }
-    ensures within { IsWithin limit result.value }
+    ensures tells { TellsItsOutcome limit values.old result }
     ensures permutation { IsPermutation values.old values.new }
 {
     match midpoint(values) {
@@ -57,7 +50,7 @@ pub fn rate_term(old: i32, damping: i32, limit: i32, values: &mut List15) -> Ter
     }
 }
 
-/// The term where there are no values: the one that is kept.
+// The term where there are no values: the one that is kept.
 fn missing(kept: i32) -> Term
     ensures { result ≡ missing_term kept }
 {
@@ -68,10 +61,9 @@ fn missing(kept: i32) -> Term
     }
 }
 
-/// The term of a value before cutting.
+// The term of a value before cutting.
 fn cut(limit: i32, before: i32) -> Term
-    requires limit_from { pos 1 ≤ℤ limit }
-    requires limit_to { limit ≤ℤ pos 16000 }
+    requires { IsBetween (pos 1) (pos 16000) limit }
     ensures term { result ≡ term_of limit before }
     ensures never_missing { result.outcome ≢ Outcome.Missing }
     ensures exceeded { (result.outcome ≡ Outcome.Exceeded) ↔ IsOutside limit result.before }
@@ -98,21 +90,19 @@ fn cut(limit: i32, before: i32) -> Term
     }
 }
 
-/// The rate term before cutting: the sum of the old term and the midpoint, damped.
+// The rate term before cutting: the sum of the old term and the midpoint, damped.
 fn rate_before(old: i32, damping: i32, mid: i32) -> i32
     requires old_within { IsWithin (pos 2000) old }
-    requires damping_from { pos 0 ≤ℤ damping }
-    requires damping_to { damping ≤ℤ pos 100 }
+    requires damping { IsBetween (pos 0) (pos 100) damping }
     requires mid_within { IsWithin (pos 2000000) mid }
     ensures { result ≡ damped damping (old +ℤ mid) }
 {
     damp(damping, old + mid)
 }
 
-/// A number taken toward 0 by the damping.
+// A number taken toward 0 by the damping.
 fn damp(damping: i32, x: i32) -> i32
-    requires damping_from { pos 0 ≤ℤ damping }
-    requires damping_to { damping ≤ℤ pos 100 }
+    requires damping { IsBetween (pos 0) (pos 100) damping }
     ensures { result ≡ damped damping x }
 {
     if x > damping {
@@ -130,38 +120,14 @@ pub fn terms_are_unique()
     ensures rate { RateTermIsFound }
 {}
 
-#[cfg(test)]
-mod tests {
-    use super::*;
-    use fr_base::Outcome::{Exceeded, Missing, Within};
+/// The law that some values have an offset and a rate term (sections 8.6.2 and 8.6.3): those that the
+/// functions give.
+pub fn terms_are_there()
+    ensures offset { OffsetTermIsThere }
+    ensures rate { RateTermIsThere }
+{}
 
-    #[test]
-    fn computes_the_rows(rt: HostRuntime) {
-        for (mid, value, before, outcome) in [
-            (Some(5), 1, 1, Within),
-            (Some(4), 0, 0, Within),
-            (Some(-5), -1, -1, Within),
-            (Some(86), 81, 82, Exceeded),
-            (None, 0, 0, Missing),
-        ] {
-            let mut values = List15::new();
-            if let Some(mid) = mid {
-                values.push(mid);
-            }
-            let wanted = Term {
-                value,
-                before,
-                outcome,
-            };
-            assert_eq!(rt; rate_term(0, 4, 81, &mut values), wanted);
-        }
-        let mut values = List15::new();
-        values.push(-400);
-        let wanted = Term {
-            value: -316,
-            before: -400,
-            outcome: Exceeded,
-        };
-        assert_eq!(rt; offset_term(316, &mut values), wanted);
-    }
-}
+/// The law of cutting (section 8.6.4): a term lies within its limit.
+pub fn terms_lie_within()
+    ensures { TermLiesWithin }
+{}

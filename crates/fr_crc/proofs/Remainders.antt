@@ -7,7 +7,7 @@ use Rattle.std.proofs.lemmas.Nat.Bits.{bit_at_lowest, bit_at-suc, bit_at-lt, bit
 use mathlib.Core.Bool.{beq}
 use Rattle.fr_crc.specs.Bits.{bits, differ, xor, zeros}
 use Rattle.fr_crc.proofs.Sums.{xor_comm, xor-zeros}
-use Rattle.fr_crc.specs.Register.{stepped}
+use Rattle.fr_crc.specs.Register.{register_stepped}
 
 pub bits_first : (k n : ℕ) → bits (suc k) n ≡ (bit_at n k == 1) ∷ bits k n
 unfolding bits
@@ -105,7 +105,7 @@ bits-moved k n room fits =
 
 -- the next register, where the generator is added and where it is not
 pub bits-taken : (w terms n : ℕ) (bit : Bool) → 1 ≤ w → w ≤ 31 → n < 2 ^ w → not (beq (bit_and (n / 2 ^ (w - 1)) 1 == 1) bit) ≡ true →
-    bits w (bit_xor (bit_and (n * 2 % 4294967296) (1 * 2 ^ w % 4294967296 - 1)) terms) ≡ stepped (bits w terms) (bits w n) bit
+    bits w (bit_xor (bit_and (n * 2 % 4294967296) (1 * 2 ^ w % 4294967296 - 1)) terms) ≡ register_stepped (bits w terms) (bits w n) bit
 bits-taken zero terms n bit some room fits top = absurd (omega arith)
 bits-taken (suc k) terms n bit some room fits top =
     let e : suc k - 1 ≡ k = omega arith in
@@ -114,7 +114,7 @@ bits-taken (suc k) terms n bit some room fits top =
     rw (bits-xor, bits-moved k n room fits, bits_first k n, due)
 
 pub bits-left : (w terms n : ℕ) (bit : Bool) → 1 ≤ w → w ≤ 31 → n < 2 ^ w → not (beq (bit_and (n / 2 ^ (w - 1)) 1 == 1) bit) ≡ false →
-    bits w (bit_and (n * 2 % 4294967296) (1 * 2 ^ w % 4294967296 - 1)) ≡ stepped (bits w terms) (bits w n) bit
+    bits w (bit_and (n * 2 % 4294967296) (1 * 2 ^ w % 4294967296 - 1)) ≡ register_stepped (bits w terms) (bits w n) bit
 bits-left zero terms n bit some room fits top = absurd (omega arith)
 bits-left (suc k) terms n bit some room fits top =
     let e : suc k - 1 ≡ k = omega arith in

@@ -5,12 +5,12 @@ use Rattle.std.proofs.lemmas.List.{at_drop_more}
 use Rattle.fr_base.specs.declared.channel.Channel.{Channel}
 use Rattle.fr_crc.specs.Bits.{bits, message_of}
 use Rattle.fr_crc.specs.Crc.{IsCrc, IsHeaderCrc, IsFrameCrc, header_generator, header_start, header_message, frame_generator, frame_start}
-use Rattle.fr_crc.specs.Register.{stepped, after}
+use Rattle.fr_crc.specs.Register.{register_stepped, after}
 use Rattle.fr_crc.proofs.Division.{after-append, divides}
 use Rattle.fr_crc.proofs.Remainders.{bits_first, bits_none, length-bits}
 
 -- one bit of a number, and the lower ones
-pub after-bits_first : (g s : List Bool) (k n : ℕ) → 0 < k → after g s (bits k n) ≡ after g (stepped g s (bit_and (n / 2 ^ (k - 1)) 1 == 1)) (bits (k - 1) n)
+pub after-bits_first : (g s : List Bool) (k n : ℕ) → 0 < k → after g s (bits k n) ≡ after g (register_stepped g s (bit_and (n / 2 ^ (k - 1)) 1 == 1)) (bits (k - 1) n)
 after-bits_first g s zero n some = absurd (omega arith)
 after-bits_first g s (suc k) n some =
     let e : suc k - 1 ≡ k = omega arith in
@@ -19,7 +19,7 @@ after-bits_first g s (suc k) n some =
 pub after-bits_none : (g s : List Bool) (k n : ℕ) → k ≡ 0 → after g s (bits k n) ≡ s
 after-bits_none g s k n none = rw (none, bits_none n)
 
--- one byte, and those behind it
+-- one byte, and those after it
 pub after-message_first : (g s : List Bool) (bytes : List ℕ) (i : ℕ) → i < length bytes →
     after g s (message_of (drop i bytes)) ≡ after g (after g s (bits 8 (get_or bytes i 0))) (message_of (drop (i + 1) bytes))
 after-message_first g s bytes i below =
@@ -33,8 +33,8 @@ remainder_of w terms start message r some same =
     subst P (sym same) (divides (bits w terms) (bits w start) message wide (length-bits w start ∙ sym (length-bits w terms)))
 
 pub header_crc_after : (sync startup : Bool) (id words first second third last : ℕ) → last < 2 ^ 11 →
-    bits 11 first ≡ stepped header_generator header_start sync →
-    bits 11 second ≡ stepped header_generator (bits 11 first) startup →
+    bits 11 first ≡ register_stepped header_generator header_start sync →
+    bits 11 second ≡ register_stepped header_generator (bits 11 first) startup →
     bits 11 third ≡ after header_generator (bits 11 second) (bits 11 id) →
     bits 11 last ≡ after header_generator (bits 11 third) (bits 7 words) →
     IsHeaderCrc sync startup id words last
@@ -43,8 +43,8 @@ header_crc_after sync startup id words first second third last fits one two thre
     let whole : bits 11 last ≡ after g header_start (header_message sync startup id words) =
     four
     ∙ ap (λ (s : List Bool). after g s (bits 7 words)) three
-    ∙ ap (λ (s : List Bool). after g (after g s (bits 11 id)) (bits 7 words)) (two ∙ ap (λ (s : List Bool). stepped g s startup) one)
-    ∙ sym (after-append g (stepped g (stepped g header_start sync) startup) (bits 11 id) (bits 7 words)) in
+    ∙ ap (λ (s : List Bool). after g (after g s (bits 11 id)) (bits 7 words)) (two ∙ ap (λ (s : List Bool). register_stepped g s startup) one)
+    ∙ sym (after-append g (register_stepped g (register_stepped g header_start sync) startup) (bits 11 id) (bits 7 words)) in
     record { fits = fits; remainder = remainder_of 11 0x385 0x01A (header_message sync startup id words) (bits 11 last) (lit< tt) whole }
 
 pub frame_crc_after : (channel : Channel) (body : List ℕ) (start crc : ℕ) → crc < 2 ^ 24 → start ≡ frame_start channel →

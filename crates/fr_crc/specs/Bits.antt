@@ -42,9 +42,9 @@ one_of false = 0
 one_of true = 1
 
 -- the number that bits write, the most significant first
-abbrev pub number_of : List Bool → ℕ
-number_of [] = 0
-number_of (b ∷ bs) = one_of b * 2 ^ length bs + number_of bs
+abbrev pub number_of_bits : List Bool → ℕ
+number_of_bits [] = 0
+number_of_bits (b ∷ bs) = one_of b * 2 ^ length bs + number_of_bits bs
 
 -- the bits of bytes
 abbrev pub message_of : List ℕ → List Bool

@@ -1,3 +1,4 @@
+-- what the public contract cites
 pub mod Bits
 pub mod Crc
 pub mod Register

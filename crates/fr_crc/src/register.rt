@@ -1,6 +1,6 @@
 ghost use Rattle.std.specs.Prelude.{◌≡◌, ℕ, ◌+◌, ◌<◌, ◌≤◌, ◌^◌};
 ghost use Rattle.fr_crc.specs.Bits.{bits, message_of};
-ghost use Rattle.fr_crc.specs.Register.{stepped, after};
+ghost use Rattle.fr_crc.specs.Register.{register_stepped, after};
 
 // A generator: its degree, and its terms below the first one as a number of that many bits.
 #[derive(Clone, Copy)]
@@ -17,7 +17,7 @@ pub(crate) fn after_bit(generator: Generator, register: u32, bit: bool) -> u32
     requires { register < 2 ^ generator.width }
     ensures fits { result < 2 ^ generator.width }
     ensures next { bits generator.width result ≡
-        stepped (bits generator.width generator.terms) (bits generator.width register) bit }
+        register_stepped (bits generator.width generator.terms) (bits generator.width register) bit }
 {
     let top = (register >> (generator.width - 1)) & 1 == 1;
     let shifted = (register << 1) & ((1 << generator.width) - 1);

@@ -10,17 +10,18 @@ use Rattle.std.proofs.lemmas.Cmp.{nat_cmp_total}
 use Rattle.fr_base.specs.declared.channel.Channel.{Channel}
 use Rattle.fr_base.specs.declared.channel.Channel.TheVariants as channel
 use Rattle.fr_base.specs.declared.reason.Reason.{Reason}
-use Rattle.fr_records.specs.Records.{Record, records_of}
+use Rattle.fr_records.specs.Records.{FileRecord, records_of}
+use Rattle.fr_records.specs.Kind.{HasSomeAnswer, Reads}
 use Rattle.fr_records.specs.Refusal.{NoneRefused, FirstRefused}
 use Rattle.fr_records.proofs.Cuts.{none-or-first-refused}
-use Rattle.fr_params.specs.Values.{Values}
-use Rattle.fr_params.specs.Questions.{compensation_of}
-use Rattle.fr_params.specs.Reasons.{or_else, looked_up}
+use Rattle.fr_cluster.specs.Values.{Values}
+use Rattle.fr_cluster.specs.Questions.{compensation_of}
+use Rattle.fr_records.specs.Fields.{is_channel, or_else, looked_up}
 use Rattle.fr_drift.specs.Keys.{delay_cmp, delay_key, found_at, length_cmp, length_key}
-use Rattle.fr_drift.specs.Rows.{row_of}
-use Rattle.fr_drift.specs.Reasons.{reason_after, doubles_at, delay_at, start_in, length_in, delay_in, is_channel, is_delay_of}
+use Rattle.fr_drift.specs.Rows.{drift_row_of}
+use Rattle.fr_drift.specs.Reasons.{drift_reason_after, doubles_at, delay_at, start_in, length_in, delay_in, is_delay_of}
 use Rattle.fr_drift.specs.View.{DriftView, compensation_on, delay_rows}
-use Rattle.fr_drift.specs.Files.{StandsFor, Reads}
+use Rattle.fr_drift.specs.Files.{DriftStandsFor, drift_file}
 use Rattle.fr_drift.specs.declared.keys.LengthKey.{LengthKey}
 use Rattle.fr_drift.specs.declared.keys.DelayKey.{DelayKey}
 use Rattle.fr_drift.specs.declared.rows.Start.{Start}
@@ -39,9 +40,9 @@ module _ {K V : Type 0} {R : K → K → Ordering} (total : IsTotalOrder R) (sai
   with None m = m
   with (Some e) m = map.insert m e.0 e.1
 
-  pub gathered : List Record → FinMap R V
+  pub gathered : List FileRecord → FinMap R V
   gathered [] = map.empty
-  gathered (r ∷ rest) = with (one (row_of r)) (gathered rest)
+  gathered (r ∷ rest) = with (one (drift_row_of r)) (gathered rest)
 
   get-with : (o : Option (K × V)) (m : FinMap R V) (key : K) → map.get (with o m) key ≡ or_else (elim o [ None ↦ None | Some e ↦ cond (eq_by_cmp R key e.0) (Some e.1) None ]) (map.get m key)
   unfolding with
@@ -52,12 +53,12 @@ module _ {K V : Type 0} {R : K → K → Ordering} (total : IsTotalOrder R) (sai
       chosen true v o = refl
       chosen false v o = refl
 
-  pub get-gathered : (records : List Record) (key : K) → map.get (gathered records) key ≡ looked_up (λ r. said key (row_of r)) records
+  pub get-gathered : (records : List FileRecord) (key : K) → map.get (gathered records) key ≡ looked_up (λ r. said key (drift_row_of r)) records
   unfolding gathered looked_up
   get-gathered [] key = get-empty R key
   get-gathered (r ∷ rest) key =
-      get-with (one (row_of r)) (gathered rest) key
-      ∙ (λ i. or_else (sym (says key (row_of r)) i) (get-gathered rest key i))
+      get-with (one (drift_row_of r)) (gathered rest) key
+      ∙ (λ i. or_else (sym (says key (drift_row_of r)) i) (get-gathered rest key i))
 
 -- the start that a row says, with its node
 start_entry : Result Row Reason → Option (ℕ × Start)
@@ -124,17 +125,17 @@ delay-says ch key (Ok (row.Delay d)) = delay-says-if (is_channel ch d.channel) d
 delay-says ch key (Err why) = refl
 
 -- what the records say, as finite maps
-starts_told : List Record → FinMap nat_cmp Start
+starts_told : List FileRecord → FinMap nat_cmp Start
 starts_told records = gathered nat_cmp_total start_in start_entry start-says records
 
-lengths_told : List Record → FinMap length_cmp ℤ
+lengths_told : List FileRecord → FinMap length_cmp ℤ
 lengths_told records = gathered length_total (λ key x. length_in key.node key.from x) length_entry length-says records
 
-delays_told : Channel → List Record → FinMap delay_cmp ℤ
+delays_told : Channel → List FileRecord → FinMap delay_cmp ℤ
 delays_told ch records = gathered delay_total (λ key x. delay_in key.sender key.receiver ch key.from x) (delay_entry ch) (delay-says ch) records
 
 -- the drift that records stand for
-drift_told : Values → ℕ → List Record → DriftView
+drift_told : Values → ℕ → List FileRecord → DriftView
 drift_told p n records = record {
   doubles = n;
   compensation_a = compensation_of p channel.A;
@@ -145,7 +146,7 @@ drift_told p n records = record {
   delays_b = map.entries (delays_told channel.B records);
 }
 
-stands-told : (p : Values) (n : ℕ) (records : List Record) → doubles_at records ≡ Some n → StandsFor p (drift_told p n records) records
+stands-told : (p : Values) (n : ℕ) (records : List FileRecord) → doubles_at records ≡ Some n → DriftStandsFor p (drift_told p n records) records
 unfolding drift_told starts_told lengths_told delays_told
 stands-told p n records e = record {
   doubles = e;
@@ -177,15 +178,15 @@ stands-told p n records e = record {
     delays sender receiver channel.B from = told channel.B sender receiver from
 
 -- a file is accepted, or it is refused for a cause
-pub reads-some : (p : Values) (bytes : List ℕ) → (answer : Result DriftView DriftFault) × (answer ≢ Err fault.NoMemory) × Reads p bytes answer
-reads-some p bytes = by (none-or-first-refused (reason_after p) (records_of bytes))
+pub reads-some : (p : Values) → HasSomeAnswer (drift_file p)
+reads-some p bytes = by (none-or-first-refused (drift_reason_after p) (records_of bytes))
   where
-    told : NoneRefused (reason_after p) (records_of bytes) → (o : Option ℕ) → doubles_at (records_of bytes) ≡ o
-        → (answer : Result DriftView DriftFault) × (answer ≢ Err fault.NoMemory) × Reads p bytes answer
+    told : NoneRefused (drift_reason_after p) (records_of bytes) → (o : Option ℕ) → doubles_at (records_of bytes) ≡ o
+        → (answer : Result DriftView DriftFault) × (answer ≢ Err fault.NoMemory) × Reads (drift_file p) bytes answer
     told none None e = (Err fault.MissingDoubles, λ same. cc same, record { none_refused = none; missing = e })
     told none (Some n) e = (Ok (drift_told p n (records_of bytes)), λ same. cc same, record { none_refused = none; stands = stands-told p n (records_of bytes) e })
 
-    by : NoneRefused (reason_after p) (records_of bytes) ⊎ ((n : ℕ) × ((why : Reason) × FirstRefused (reason_after p) (records_of bytes) n why))
-        → (answer : Result DriftView DriftFault) × (answer ≢ Err fault.NoMemory) × Reads p bytes answer
+    by : NoneRefused (drift_reason_after p) (records_of bytes) ⊎ ((n : ℕ) × ((why : Reason) × FirstRefused (drift_reason_after p) (records_of bytes) n why))
+        → (answer : Result DriftView DriftFault) × (answer ≢ Err fault.NoMemory) × Reads (drift_file p) bytes answer
     by (inl none) = told none (doubles_at (records_of bytes)) refl
     by (inr first) = (Err (fault.Row first.0 first.1.0), λ same. cc same, first.1.1)

@@ -6,3 +6,4 @@ pub mod Limits
 pub mod Outcomes
 pub mod Existence
 pub mod Worked
+pub mod LeastReason

@@ -4,14 +4,14 @@ use Rattle.std.specs.Prelude.{neg_ℤ, not, ◌==◌, if◌then◌else◌}
 use Rattle.std.proofs.lemmas.Int.{ints}
 use Rattle.fr_base.specs.declared.reason.Reason.{Reason}
 use Rattle.fr_base.specs.declared.reason.Reason.TheVariants as reason
-use Rattle.fr_records.specs.Records.{Record}
+use Rattle.fr_records.specs.Records.{FileRecord}
 use Rattle.fr_records.specs.Refusal.{NoneRefused}
-use Rattle.fr_params.specs.Values.{Values}
-use Rattle.fr_params.specs.Sane.{IsSane}
-use Rattle.fr_params.specs.Reasons.{or_else, looked_up}
-use Rattle.fr_params.specs.declared.names.ParamName.TheVariants as name
-use Rattle.fr_drift.specs.Rows.{row_of}
-use Rattle.fr_drift.specs.Reasons.{is_within, reason_after, row_reason, start_at, start_in}
+use Rattle.fr_cluster.specs.Values.{Values}
+use Rattle.fr_cluster.specs.Sane.{IsSane}
+use Rattle.fr_records.specs.Fields.{or_else, looked_up}
+use Rattle.fr_cluster.specs.declared.names.ParamName.TheVariants as name
+use Rattle.fr_drift.specs.Rows.{drift_row_of}
+use Rattle.fr_drift.specs.Reasons.{is_within, drift_reason_after, drift_row_reason, start_at, start_in}
 use Rattle.fr_drift.specs.Files.{IsRateWithin}
 use Rattle.fr_drift.specs.declared.rows.Start.{Start}
 use Rattle.fr_drift.specs.declared.rows.StartRow.{StartRow}
@@ -25,36 +25,36 @@ passed : (b : Bool) (rest : Option Reason) → (if not b then Some reason.OutOfR
 passed true rest e = refl
 passed false rest e = cc e
 
--- a start that a record says behind records, of which none is refused, has a rate term within the limit
-within-behind : (p : Values) (node : ℕ) (s : Start) (before rest : List Record) → NoneRefused (reason_after p) (before ++ rest)
-    → looked_up (λ r. start_in node (row_of r)) rest ≡ Some s → is_within p.rate_limit s.rate ≡ true
+-- a start that a record says after records, of which none is refused, has a rate term within the limit
+within-after : (p : Values) (node : ℕ) (s : Start) (before rest : List FileRecord) → NoneRefused (drift_reason_after p) (before ++ rest)
+    → looked_up (λ r. start_in node (drift_row_of r)) rest ≡ Some s → is_within p.rate_limit s.rate ≡ true
 unfolding looked_up
-within-behind p node s before [] none e = cc e
-within-behind p node s before (r ∷ rest) none e =
-    by (row_of r) refl (λ further. within-behind p node s (before ++ r ∷ []) rest (rw (append_assoc before (r ∷ []) rest) none) further)
+within-after p node s before [] none e = cc e
+within-after p node s before (r ∷ rest) none e =
+    by (drift_row_of r) refl (λ further. within-after p node s (before ++ r ∷ []) rest (rw (append_assoc before (r ∷ []) rest) none) further)
   where
-    hit : (t : StartRow) (b : Bool) → row_of r ≡ Ok (row.Start t)
-        → (looked_up (λ q. start_in node (row_of q)) rest ≡ Some s → is_within p.rate_limit s.rate ≡ true)
-        → or_else (if b then Some t.start else None) (looked_up (λ q. start_in node (row_of q)) rest) ≡ Some s → is_within p.rate_limit s.rate ≡ true
+    hit : (t : StartRow) (b : Bool) → drift_row_of r ≡ Ok (row.Start t)
+        → (looked_up (λ q. start_in node (drift_row_of q)) rest ≡ Some s → is_within p.rate_limit s.rate ≡ true)
+        → or_else (if b then Some t.start else None) (looked_up (λ q. start_in node (drift_row_of q)) rest) ≡ Some s → is_within p.rate_limit s.rate ≡ true
     hit t true is more found =
         let same : t.start ≡ s = some-same t.start s found in
-        let fine : row_reason p before (Ok (row.Start t)) ≡ None = ap (λ (x : Result Row Reason). row_reason p before x) (sym is) ∙ none before r rest refl in
+        let fine : drift_row_reason p before (Ok (row.Start t)) ≡ None = ap (λ (x : Result Row Reason). drift_row_reason p before x) (sym is) ∙ none before r rest refl in
         rw (← same) (passed (is_within p.rate_limit t.start.rate) _ fine)
     hit t false is more found = more found
 
-    by : (x : Result Row Reason) → row_of r ≡ x → (looked_up (λ q. start_in node (row_of q)) rest ≡ Some s → is_within p.rate_limit s.rate ≡ true) → is_within p.rate_limit s.rate ≡ true
-    by (Err why) is more = more (sym (ap (λ (x : Result Row Reason). or_else (start_in node x) (looked_up (λ q. start_in node (row_of q)) rest)) is) ∙ e)
-    by (Ok (row.Doubles n)) is more = more (sym (ap (λ (x : Result Row Reason). or_else (start_in node x) (looked_up (λ q. start_in node (row_of q)) rest)) is) ∙ e)
-    by (Ok (row.Length l)) is more = more (sym (ap (λ (x : Result Row Reason). or_else (start_in node x) (looked_up (λ q. start_in node (row_of q)) rest)) is) ∙ e)
-    by (Ok (row.Delay d)) is more = more (sym (ap (λ (x : Result Row Reason). or_else (start_in node x) (looked_up (λ q. start_in node (row_of q)) rest)) is) ∙ e)
+    by : (x : Result Row Reason) → drift_row_of r ≡ x → (looked_up (λ q. start_in node (drift_row_of q)) rest ≡ Some s → is_within p.rate_limit s.rate ≡ true) → is_within p.rate_limit s.rate ≡ true
+    by (Err why) is more = more (sym (ap (λ (x : Result Row Reason). or_else (start_in node x) (looked_up (λ q. start_in node (drift_row_of q)) rest)) is) ∙ e)
+    by (Ok (row.Doubles n)) is more = more (sym (ap (λ (x : Result Row Reason). or_else (start_in node x) (looked_up (λ q. start_in node (drift_row_of q)) rest)) is) ∙ e)
+    by (Ok (row.Length l)) is more = more (sym (ap (λ (x : Result Row Reason). or_else (start_in node x) (looked_up (λ q. start_in node (drift_row_of q)) rest)) is) ∙ e)
+    by (Ok (row.Delay d)) is more = more (sym (ap (λ (x : Result Row Reason). or_else (start_in node x) (looked_up (λ q. start_in node (drift_row_of q)) rest)) is) ∙ e)
     by (Ok (row.Start t)) is more =
-        hit t (t.node == node) is more (sym (ap (λ (x : Result Row Reason). or_else (start_in node x) (looked_up (λ q. start_in node (row_of q)) rest)) is) ∙ e)
+        hit t (t.node == node) is more (sym (ap (λ (x : Result Row Reason). or_else (start_in node x) (looked_up (λ q. start_in node (drift_row_of q)) rest)) is) ∙ e)
 
 is-within : (p : Values) (rate : ℤ) → is_within p.rate_limit rate ≡ true → IsRateWithin p rate
 is-within p rate e = record { from = grind (arith, ints, e); to = grind (arith, ints, e) }
 
-pub start-within : (p : Values) (node : ℕ) (s : Start) (records : List Record) → NoneRefused (reason_after p) records → start_at node records ≡ Some s → IsRateWithin p s.rate
-start-within p node s records none e = is-within p s.rate (within-behind p node s [] records none e)
+pub start-within : (p : Values) (node : ℕ) (s : Start) (records : List FileRecord) → NoneRefused (drift_reason_after p) records → start_at node records ≡ Some s → IsRateWithin p s.rate
+start-within p node s records none e = is-within p s.rate (within-after p node s [] records none e)
 
 -- and 0 lies within it
 below_none : (limit : ℤ) → pos 1 ≤ℤ limit → neg_ℤ limit ≤ℤ pos 0

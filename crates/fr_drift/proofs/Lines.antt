@@ -6,7 +6,7 @@ use Rattle.std.specs.declared.cmp.Ordering.TheVariants.{Less, Equal, Greater}
 use Rattle.std.specs.Ordering.{nat_cmp, ordering_then, is_gt, is_lt}
 use Rattle.std.proofs.lemmas.Bool.Decides.{nat_tests}
 use Rattle.std.proofs.lemmas.Cmp.{nat_cmp_total, tied_itself}
-use Rattle.fr_params.specs.Reasons.{or_else}
+use Rattle.fr_records.specs.Fields.{or_else}
 use Rattle.fr_drift.specs.Keys.{delay_cmp, delay_key, length_cmp, length_key}
 use Rattle.fr_drift.specs.Spans.{IsFromTo, IsLastRow, IsFirstRow}
 use Rattle.fr_drift.specs.Held.{held, IsNextRow}
@@ -34,8 +34,8 @@ both-ways a b e f = grind (arith, nat_tests)
 up-to : (a b : ℕ) → is_gt (nat_cmp a b) ≡ false → a ≤ b
 up-to a b e = grind (arith, nat_tests)
 
-not-behind : (a b : ℕ) → a ≤ b → is_gt (nat_cmp a b) ≡ false
-not-behind a b e = grind (arith, nat_tests)
+not-later : (a b : ℕ) → a ≤ b → is_gt (nat_cmp a b) ≡ false
+not-later a b e = grind (arith, nat_tests)
 
 not-less : (a b : ℕ) → is_lt (nat_cmp a b) ≡ false → b ≤ a
 not-less a b e = grind (arith, nat_tests)
@@ -70,7 +70,7 @@ delay-line sender receiver = record {
 
 -- what lies between two cycles of a line
 pub inside : {K : Type 0} {cmp : K → K → Ordering} {at : ℕ → K} → IsLine cmp at → (a b c : ℕ) → a ≤ c → c ≤ b → IsFromTo cmp (at a) (at b) (at c)
-inside line a b c low high = record { from = rw (line.ordered a c) (not-behind a c low); to = rw (line.ordered c b) (not-behind c b high) }
+inside line a b c low high = record { from = rw (line.ordered a c) (not-later a c low); to = rw (line.ordered c b) (not-later c b high) }
 
 none-or-some : {A : Type 0} (o : Option A) → (IsSome o → ⊥) → o ≡ None
 none-or-some None never = refl
@@ -86,7 +86,7 @@ held-over : (rows : ℕ → Option ℤ) (c : ℕ) → rows (suc c) ≡ None → 
 unfolding held
 held-over rows c e = rw e refl
 
--- rows behind which none stands still hold
+-- rows after which none stands still hold
 pub held-stays : (rows : ℕ → Option ℤ) (a n : ℕ) → ((c : ℕ) → a < c → c ≤ a + n → rows c ≡ None) → held rows (a + n) ≡ held rows a
 held-stays rows a zero none = ap (λ (c : ℕ). held rows c) (omega arith)
 held-stays rows a (suc n) none =
@@ -101,9 +101,9 @@ held-none rows zero none = none 0 (omega arith)
 held-none rows (suc n) none = rw (none (suc n) (omega arith)) (held-none rows n (λ c high. none c (omega arith)))
 
 pub held-last : (rows : ℕ → Option ℤ) (k n : ℕ) (v : ℤ) → k ≤ n → rows k ≡ Some v → ((c : ℕ) → k < c → c ≤ n → rows c ≡ None) → held rows n ≡ Some v
-held-last rows k n v high there behind =
+held-last rows k n v high there later =
     let whole : k + (n - k) ≡ n = omega arith in
-    ap (λ (c : ℕ). held rows c) (sym whole) ∙ held-stays rows k (n - k) (λ c low to. behind c low (omega (arith, whole))) ∙ held-here rows k v there
+    ap (λ (c : ℕ). held rows c) (sym whole) ∙ held-stays rows k (n - k) (λ c low to. later c low (omega (arith, whole))) ∙ held-here rows k v there
 
 module _ {K : Type 0} {cmp : K → K → Ordering} {at : ℕ → K} (line : IsLine cmp at) (rows : K → Option ℤ) where
   -- the last row up to a cycle is the one that holds
@@ -115,14 +115,14 @@ module _ {K : Type 0} {cmp : K → K → Ordering} {at : ℕ → K} (line : IsLi
       (λ c low to.
       none-or-some (rows (at c))
       (λ some.
-      let ahead = rw (place.1, line.ordered place.0 c) at (h.behind (at c) (inside line 0 n c (omega arith) to) some) in
+      let ahead = rw (place.1, line.ordered place.0 c) at (h.after (at c) (inside line 0 n c (omega arith) to) some) in
       let no : c ≤ place.0 = not-less place.0 c ahead in
       absurd (omega arith)))
 
   pub last-none : (n : ℕ) → ((key : K) → IsFromTo cmp (at 0) (at n) key → rows key ≡ None) → held (λ c. rows (at c)) n ≡ None
   last-none n none = held-none (λ c. rows (at c)) n (λ c to. none (at c) (inside line 0 n c (omega arith) to))
 
-  -- the first row behind a cycle is the next
+  -- the first row after a cycle is the next
   pub first-next : (cycle end : ℕ) (key : K) → IsFirstRow cmp rows (at (cycle + 1)) (at end) key → (c : ℕ) × (key ≡ at c) × IsNextRow (λ c. rows (at c)) cycle end c
   first-next cycle end key h =
       let place = line.between (cycle + 1) end key h.inside in
@@ -131,7 +131,7 @@ module _ {K : Type 0} {cmp : K → K → Ordering} {at : ℕ → K} (line : IsLi
         place.0,
         place.1,
         record {
-          behind = omega arith;
+          after = omega arith;
           within = high;
           quiet = λ c from to.
               none-or-some (rows (at c))
@@ -145,7 +145,7 @@ module _ {K : Type 0} {cmp : K → K → Ordering} {at : ℕ → K} (line : IsLi
 
   pub first-none : (cycle end : ℕ) → cycle < end → ((key : K) → IsFromTo cmp (at (cycle + 1)) (at end) key → rows key ≡ None) → IsNextRow (λ c. rows (at c)) cycle end end
   first-none cycle end lt none = record {
-    behind = lt;
+    after = lt;
     within = omega arith;
     quiet = λ c from to. none (at c) (inside line (cycle + 1) end c (omega arith) (omega arith));
     stands = λ past. absurd (omega arith);
@@ -174,7 +174,7 @@ next-stays rows cycle end found c h low high =
 -- rows that are the same have the same next row
 pub next-same : (f g : ℕ → Option ℤ) (cycle end found : ℕ) → ((c : ℕ) → f c ≡ g c) → IsNextRow f cycle end found → IsNextRow g cycle end found
 next-same f g cycle end found e h = record {
-  behind = h.behind;
+  after = h.after;
   within = h.within;
   quiet = λ c from to. sym (e c) ∙ h.quiet c from to;
   stands = λ before. rw (← e found) (h.stands before);

@@ -15,15 +15,15 @@ use Rattle.std.specs.FinMap.Entries.{below_all}
 use Rattle.std.proofs.lemmas.Cmp.{nat_cmp_total, on_total, then_total}
 use Rattle.fr_base.specs.declared.channel.Channel.{Channel}
 use Rattle.fr_base.specs.declared.channel.Channel.TheVariants as channel
-use Rattle.fr_records.specs.Records.{Record}
-use Rattle.fr_params.specs.Values.{Values}
-use Rattle.fr_params.specs.Questions.{compensation_of}
+use Rattle.fr_records.specs.Records.{FileRecord}
+use Rattle.fr_cluster.specs.Values.{Values}
+use Rattle.fr_cluster.specs.Questions.{compensation_of}
 use Rattle.fr_drift.specs.Keys.{delay_cmp, found_at, length_cmp}
 use Rattle.fr_drift.specs.Rows.{IsProperDelay}
 use Rattle.fr_drift.specs.View.{DriftView, compensation_on, delay_rows, delays_on}
 use Rattle.fr_drift.specs.Sane.{IsDrift, IsProperCompensation}
-use Rattle.fr_drift.specs.Draft.{AreProper, IsDraftOf}
-use Rattle.fr_drift.specs.Files.{StandsFor}
+use Rattle.fr_drift.specs.Draft.{AreProper, IsDriftDraft}
+use Rattle.fr_drift.specs.Files.{DriftStandsFor}
 use Rattle.fr_drift.specs.Reasons.{delay_at}
 use Rattle.fr_drift.specs.declared.draft.Draft.{Draft}
 use Rattle.fr_drift.specs.declared.keys.LengthKey.{LengthKey}
@@ -111,8 +111,8 @@ sane-made doubles a b draft h told on_a on_b = record {
     delays channel.B key = (h.delays_b key)
 
 -- and stand for the records that the tables hold
-pub stands-made : (p : Values) (doubles : ℕ) (a b : ℤ) (draft : Draft) (records : List Record) → IsDraftOf draft records → draft.doubles ≡ Some doubles
-    → a ≡ compensation_of p channel.A → b ≡ compensation_of p channel.B → StandsFor p (made doubles a b draft) records
+pub stands-made : (p : Values) (doubles : ℕ) (a b : ℤ) (draft : Draft) (records : List FileRecord) → IsDriftDraft draft records → draft.doubles ≡ Some doubles
+    → a ≡ compensation_of p channel.A → b ≡ compensation_of p channel.B → DriftStandsFor p (made doubles a b draft) records
 unfolding made
 stands-made p doubles a b draft records h told on_a on_b = record {
   doubles = sym h.doubles ∙ told;

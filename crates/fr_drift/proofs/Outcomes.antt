@@ -1,20 +1,18 @@
 -- What reading a file may answer is one answer, but for want of memory.
-use Rattle.std.proofs.Common.{◌≡◌, ◌≢◌, ℕ, List, Some, None, Result, Ok, Err, ap, sym, ◌∙◌, refl}
+use Rattle.std.proofs.Common.{◌≡◌, ℕ, List, Some, None, Ok, Err, ap, sym, ◌∙◌, refl}
 use Rattle.std.specs.Ordering.{nat_cmp}
 use Rattle.std.specs.FinMap.{IsAntisymmetric, nat_cmp-IsAntisymmetric}
 use Rattle.std.proofs.lemmas.Cmp.{nat_cmp_total}
 use Rattle.std.proofs.lemmas.Map.Lookups.{exact_pairs, exact_unsigned}
 use Rattle.fr_base.specs.declared.channel.Channel.TheVariants as channel
-use Rattle.fr_base.specs.declared.reason.Reason.{Reason}
-use Rattle.fr_records.specs.Records.{Record, records_of}
-use Rattle.fr_records.specs.Refusal.{NoneRefused, FirstRefused}
-use Rattle.fr_records.proofs.Cuts.{first-same}
-use Rattle.fr_params.specs.Values.{Values}
+use Rattle.fr_records.specs.Records.{FileRecord, records_of}
+use Rattle.fr_records.specs.Kind.{HasOneAnswer}
+use Rattle.fr_records.proofs.Cuts.{first-same, refused-none}
+use Rattle.fr_cluster.specs.Values.{Values}
 use Rattle.fr_drift.specs.Keys.{delay_cmp, length_cmp, length_key}
-use Rattle.fr_drift.specs.Reasons.{reason_after, doubles_at}
+use Rattle.fr_drift.specs.Reasons.{drift_reason_after, doubles_at}
 use Rattle.fr_drift.specs.View.{DriftView}
-use Rattle.fr_drift.specs.Files.{StandsFor, Reads}
-use Rattle.fr_drift.specs.declared.fault.DriftFault.{DriftFault}
+use Rattle.fr_drift.specs.Files.{DriftStandsFor, drift_file}
 use Rattle.fr_drift.specs.declared.fault.DriftFault.TheVariants as fault
 use Rattle.fr_drift.proofs.Making.{delay_total, length_total, same-rows}
 
@@ -36,7 +34,7 @@ delay_exact a b h =
     λ i. record { sender = (pair i).0; receiver = (pair i).1.0; from = (pair i).1.1 }
 
 -- records stand for one drift against the same parameters
-stands-same : (p : Values) (d e : DriftView) (records : List Record) → StandsFor p d records → StandsFor p e records → d ≡ e
+stands-same : (p : Values) (d e : DriftView) (records : List FileRecord) → DriftStandsFor p d records → DriftStandsFor p e records → d ≡ e
 stands-same p d e records f g = λ i. record {
   doubles = doubles i;
   compensation_a = a i;
@@ -72,24 +70,21 @@ stands-same p d e records f g = λ i. record {
         same-rows delay_total delay_exact d.delays_b e.delays_b f.order.delays_b g.order.delays_b
         (λ key. f.delays key.sender key.receiver channel.B key.from ∙ sym (g.delays key.sender key.receiver channel.B key.from))
 
-refused-none : (p : Values) (records : List Record) (n : ℕ) (why : Reason) → FirstRefused (reason_after p) records n why → NoneRefused (reason_after p) records → ⊥
-refused-none p records n why f none = let a = none f.before f.record_at f.behind f.cut in let b = f.refused in cc
-
-stands-missing : (p : Values) (d : DriftView) (records : List Record) → StandsFor p d records → doubles_at records ≡ None → ⊥
+stands-missing : (p : Values) (d : DriftView) (records : List FileRecord) → DriftStandsFor p d records → doubles_at records ≡ None → ⊥
 stands-missing p d records f none = let there = f.doubles in cc
 
 -- two answers to one file are the same, but for want of memory
-pub reads-same : (p : Values) (bytes : List ℕ) (a b : Result DriftView DriftFault) → a ≢ Err fault.NoMemory → b ≢ Err fault.NoMemory → Reads p bytes a → Reads p bytes b → a ≡ b
+pub reads-same : (p : Values) → HasOneAnswer (drift_file p)
 reads-same p bytes (Ok d) (Ok e) na nb f g = ap (λ (v : DriftView). Ok v) (stands-same p d e (records_of bytes) f.stands g.stands)
-reads-same p bytes (Ok d) (Err (fault.Row n why)) na nb f g = absurd (refused-none p (records_of bytes) n why g f.none_refused)
+reads-same p bytes (Ok d) (Err (fault.Row n why)) na nb f g = absurd (refused-none (drift_reason_after p) (records_of bytes) n why g f.none_refused)
 reads-same p bytes (Ok d) (Err fault.MissingDoubles) na nb f g = absurd (stands-missing p d (records_of bytes) f.stands g.missing)
 reads-same p bytes (Ok d) (Err fault.NoMemory) na nb f g = absurd (nb refl)
-reads-same p bytes (Err (fault.Row n why)) (Ok e) na nb f g = absurd (refused-none p (records_of bytes) n why f g.none_refused)
-reads-same p bytes (Err (fault.Row n why)) (Err (fault.Row m other)) na nb f g = let same = first-same (reason_after p) (records_of bytes) n m why other f g in cc
-reads-same p bytes (Err (fault.Row n why)) (Err fault.MissingDoubles) na nb f g = absurd (refused-none p (records_of bytes) n why f g.none_refused)
+reads-same p bytes (Err (fault.Row n why)) (Ok e) na nb f g = absurd (refused-none (drift_reason_after p) (records_of bytes) n why f g.none_refused)
+reads-same p bytes (Err (fault.Row n why)) (Err (fault.Row m other)) na nb f g = let same = first-same (drift_reason_after p) (records_of bytes) n m why other f g in cc
+reads-same p bytes (Err (fault.Row n why)) (Err fault.MissingDoubles) na nb f g = absurd (refused-none (drift_reason_after p) (records_of bytes) n why f g.none_refused)
 reads-same p bytes (Err (fault.Row n why)) (Err fault.NoMemory) na nb f g = absurd (nb refl)
 reads-same p bytes (Err fault.MissingDoubles) (Ok e) na nb f g = absurd (stands-missing p e (records_of bytes) g.stands f.missing)
-reads-same p bytes (Err fault.MissingDoubles) (Err (fault.Row n why)) na nb f g = absurd (refused-none p (records_of bytes) n why g f.none_refused)
+reads-same p bytes (Err fault.MissingDoubles) (Err (fault.Row n why)) na nb f g = absurd (refused-none (drift_reason_after p) (records_of bytes) n why g f.none_refused)
 reads-same p bytes (Err fault.MissingDoubles) (Err fault.MissingDoubles) na nb f g = refl
 reads-same p bytes (Err fault.MissingDoubles) (Err fault.NoMemory) na nb f g = absurd (nb refl)
 reads-same p bytes (Err fault.NoMemory) b na nb f g = absurd (na refl)

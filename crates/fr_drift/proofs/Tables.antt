@@ -9,12 +9,13 @@ use Rattle.std.proofs.lemmas.Bool.Decides.{nat_tests}
 use Rattle.fr_base.specs.declared.channel.Channel.{Channel}
 use Rattle.fr_base.specs.declared.channel.Channel.TheVariants as channel
 use Rattle.fr_base.specs.declared.reason.Reason.{Reason}
-use Rattle.fr_records.specs.Records.{Record}
-use Rattle.fr_params.specs.Reasons.{or_else, looked_up}
+use Rattle.fr_records.specs.Records.{FileRecord}
+use Rattle.fr_records.specs.Fields.{or_else}
+use Rattle.fr_records.proofs.Lookups.{looked_up-more, looked_up-nil, or_else-none}
 use Rattle.fr_drift.specs.Keys.{delay_cmp, delay_key, length_cmp, length_key}
-use Rattle.fr_drift.specs.Rows.{IsProperCount, IsProperDelay, IsProperLength, IsProperStart, row_of}
-use Rattle.fr_drift.specs.Reasons.{doubles_in, start_in, length_in, delay_in, doubles_at, start_at, length_at, delay_at}
-use Rattle.fr_drift.specs.Draft.{IsDraftOf, IsPut}
+use Rattle.fr_drift.specs.Rows.{IsProperCount, IsProperDelay, IsMicrotickLength, IsProperStart, drift_row_of}
+use Rattle.fr_drift.specs.Reasons.{doubles_in, start_in, length_in, delay_in, doubles_at, start_at, length_said_at, delay_at}
+use Rattle.fr_drift.specs.Draft.{IsDriftDraft, IsEntryPut}
 use Rattle.fr_drift.specs.declared.draft.Draft.{Draft}
 use Rattle.fr_drift.specs.declared.keys.LengthKey.{LengthKey}
 use Rattle.fr_drift.specs.declared.keys.DelayKey.{DelayKey}
@@ -25,42 +26,20 @@ use Rattle.fr_drift.specs.declared.rows.DelayRow.{DelayRow}
 use Rattle.fr_drift.specs.declared.rows.Row.{Row}
 use Rattle.fr_drift.specs.declared.rows.Row.TheVariants as row
 
-or_else-none : {A : Type 0} (o : Option A) → or_else o None ≡ o
-or_else-none None = refl
-or_else-none (Some x) = refl
+doubles_at-more : (done : List FileRecord) (r : FileRecord) (x : Result Row Reason) → drift_row_of r ≡ x → doubles_at (done ++ r ∷ []) ≡ or_else (doubles_at done) (doubles_in x)
+doubles_at-more done r x e = looked_up-more doubles_in drift_row_of done r x e
 
-or_else_assoc : {A : Type 0} (a b c : Option A) → or_else a (or_else b c) ≡ or_else (or_else a b) c
-or_else_assoc None b c = refl
-or_else_assoc (Some x) b c = refl
-
--- one record more to look in
-pub looked_up-more : {A : Type 0} (what : Record → Option A) (records : List Record) (r : Record) → looked_up what (records ++ r ∷ []) ≡ or_else (looked_up what records) (what r)
-unfolding looked_up
-looked_up-more what [] r = or_else-none (what r)
-looked_up-more {A} what (x ∷ xs) r =
-    ap (λ (o : Option A). or_else (what x) o) (looked_up-more what xs r) ∙ or_else_assoc (what x) (looked_up what xs) (what r)
-
-pub looked_up-nil : {A : Type 0} (what : Record → Option A) → looked_up what [] ≡ None
-unfolding looked_up
-looked_up-nil what = refl
-
-doubles_at-more : (done : List Record) (r : Record) (x : Result Row Reason) → row_of r ≡ x → doubles_at (done ++ r ∷ []) ≡ or_else (doubles_at done) (doubles_in x)
-doubles_at-more done r x e = looked_up-more (λ q. doubles_in (row_of q)) done r ∙ ap (λ (y : Result Row Reason). or_else (doubles_at done) (doubles_in y)) e
-
-start_at-more : (node : ℕ) (done : List Record) (r : Record) (x : Result Row Reason) → row_of r ≡ x
+start_at-more : (node : ℕ) (done : List FileRecord) (r : FileRecord) (x : Result Row Reason) → drift_row_of r ≡ x
     → start_at node (done ++ r ∷ []) ≡ or_else (start_at node done) (start_in node x)
-start_at-more node done r x e = looked_up-more (λ q. start_in node (row_of q)) done r ∙ ap (λ (y : Result Row Reason). or_else (start_at node done) (start_in node y)) e
+start_at-more node done r x e = looked_up-more (start_in node) drift_row_of done r x e
 
-length_at-more : (node from : ℕ) (done : List Record) (r : Record) (x : Result Row Reason) → row_of r ≡ x
-    → length_at node from (done ++ r ∷ []) ≡ or_else (length_at node from done) (length_in node from x)
-length_at-more node from done r x e =
-    looked_up-more (λ q. length_in node from (row_of q)) done r ∙ ap (λ (y : Result Row Reason). or_else (length_at node from done) (length_in node from y)) e
+length_at-more : (node from : ℕ) (done : List FileRecord) (r : FileRecord) (x : Result Row Reason) → drift_row_of r ≡ x
+    → length_said_at node from (done ++ r ∷ []) ≡ or_else (length_said_at node from done) (length_in node from x)
+length_at-more node from done r x e = looked_up-more (length_in node from) drift_row_of done r x e
 
-delay_at-more : (sender receiver : ℕ) (ch : Channel) (from : ℕ) (done : List Record) (r : Record) (x : Result Row Reason) → row_of r ≡ x
+delay_at-more : (sender receiver : ℕ) (ch : Channel) (from : ℕ) (done : List FileRecord) (r : FileRecord) (x : Result Row Reason) → drift_row_of r ≡ x
     → delay_at sender receiver ch from (done ++ r ∷ []) ≡ or_else (delay_at sender receiver ch from done) (delay_in sender receiver ch from x)
-delay_at-more sender receiver ch from done r x e =
-    looked_up-more (λ q. delay_in sender receiver ch from (row_of q)) done r
-    ∙ ap (λ (y : Result Row Reason). or_else (delay_at sender receiver ch from done) (delay_in sender receiver ch from y)) e
+delay_at-more sender receiver ch from done r x e = looked_up-more (delay_in sender receiver ch from) drift_row_of done r x e
 
 -- a record that says something where nothing stood
 filled : {A : Type 0} (b : Bool) (x : A) (new old before after : Option A) → new ≡ cond b (Some x) old → after ≡ or_else before (cond b (Some x) None)
@@ -103,12 +82,12 @@ three-same : (a c b d f g : ℕ) → ((a == c) && ((b == d) && (f == g))) ≡ tr
 three-same a c b d f g e = (grind (arith, nat_tests), grind (arith, nat_tests), grind (arith, nat_tests))
 
 -- the number of double cycles that was not there is taken
-pub draft-doubles : (d : Draft) (done : List Record) (r : Record) (n : ℕ) → IsDraftOf d done → row_of r ≡ Ok (row.Doubles n)
-    → IsProperCount n → d.doubles ≡ None → IsDraftOf (record d { doubles = Some n }) (done ++ r ∷ [])
+pub draft-doubles : (d : Draft) (done : List FileRecord) (r : FileRecord) (n : ℕ) → IsDriftDraft d done → drift_row_of r ≡ Ok (row.Doubles n)
+    → IsProperCount n → d.doubles ≡ None → IsDriftDraft (record d { doubles = Some n }) (done ++ r ∷ [])
 draft-doubles d done r n h e proper empty = record {
   doubles = sym (doubles_at-more done r _ e ∙ rw (sym h.doubles ∙ empty) refl);
   starts = λ node. kept (get nat_cmp d.starts node) (start_at node done) _ (h.starts node) (start_at-more node done r _ e);
-  lengths = λ node from. kept (get length_cmp d.lengths (length_key node from)) (length_at node from done) _ (h.lengths node from) (length_at-more node from done r _ e);
+  lengths = λ node from. kept (get length_cmp d.lengths (length_key node from)) (length_said_at node from done) _ (h.lengths node from) (length_at-more node from done r _ e);
   delays_a = λ s t from. kept (get delay_cmp d.delays_a (delay_key s t from)) (delay_at s t channel.A from done) _ (h.delays_a s t from) (delay_at-more s t channel.A from done r _ e);
   delays_b = λ s t from. kept (get delay_cmp d.delays_b (delay_key s t from)) (delay_at s t channel.B from done) _ (h.delays_b s t from) (delay_at-more s t channel.B from done r _ e);
   proper = record {
@@ -125,15 +104,15 @@ draft-doubles d done r n h e proper empty = record {
 }
 
 -- a start that was not there is taken
-pub draft-start : (d : Draft) (new : BTreeMap ℕ Start) (done : List Record) (r : Record) (s : StartRow) → IsDraftOf d done
-    → row_of r ≡ Ok (row.Start s) → IsProperStart s.start → IsPut nat_cmp d.starts new s.node s.start
-    → IsDraftOf (record d { starts = new }) (done ++ r ∷ [])
+pub draft-start : (d : Draft) (new : BTreeMap ℕ Start) (done : List FileRecord) (r : FileRecord) (s : StartRow) → IsDriftDraft d done
+    → drift_row_of r ≡ Ok (row.Start s) → IsProperStart s.start → IsEntryPut nat_cmp d.starts new s.node s.start
+    → IsDriftDraft (record d { starts = new }) (done ++ r ∷ [])
 draft-start d new done r s h e proper put = record {
   doubles = kept d.doubles (doubles_at done) _ h.doubles (doubles_at-more done r _ e);
   starts = λ node.
       filled (s.node == node) s.start (get nat_cmp new node) (get nat_cmp d.starts node) (start_at node done) _ (value node) (start_at-more node done r _ e) (h.starts node)
       (λ yes. sym (h.starts node) ∙ rw (one-same s.node node yes) put.empty);
-  lengths = λ node from. kept (get length_cmp d.lengths (length_key node from)) (length_at node from done) _ (h.lengths node from) (length_at-more node from done r _ e);
+  lengths = λ node from. kept (get length_cmp d.lengths (length_key node from)) (length_said_at node from done) _ (h.lengths node from) (length_at-more node from done r _ e);
   delays_a = λ a b from. kept (get delay_cmp d.delays_a (delay_key a b from)) (delay_at a b channel.A from done) _ (h.delays_a a b from) (delay_at-more a b channel.A from done r _ e);
   delays_b = λ a b from. kept (get delay_cmp d.delays_b (delay_key a b from)) (delay_at a b channel.B from done) _ (h.delays_b a b from) (delay_at-more a b channel.B from done r _ e);
   proper = record {
@@ -153,14 +132,14 @@ draft-start d new done r s h e proper put = record {
     value node = put.filled node ∙ ap (λ (b : Bool). cond b (Some s.start) (get nat_cmp d.starts node)) (start-ties s.node node)
 
 -- a length that was not there is taken
-pub draft-length : (d : Draft) (new : BTreeMap LengthKey ℤ) (done : List Record) (r : Record) (l : LengthRow) → IsDraftOf d done
-    → row_of r ≡ Ok (row.Length l) → IsProperLength l.ticks → IsPut length_cmp d.lengths new (length_key l.node l.from) l.ticks
-    → IsDraftOf (record d { lengths = new }) (done ++ r ∷ [])
+pub draft-length : (d : Draft) (new : BTreeMap LengthKey ℤ) (done : List FileRecord) (r : FileRecord) (l : LengthRow) → IsDriftDraft d done
+    → drift_row_of r ≡ Ok (row.Length l) → IsMicrotickLength l.ticks → IsEntryPut length_cmp d.lengths new (length_key l.node l.from) l.ticks
+    → IsDriftDraft (record d { lengths = new }) (done ++ r ∷ [])
 draft-length d new done r l h e proper put = record {
   doubles = kept d.doubles (doubles_at done) _ h.doubles (doubles_at-more done r _ e);
   starts = λ node. kept (get nat_cmp d.starts node) (start_at node done) _ (h.starts node) (start_at-more node done r _ e);
   lengths = λ node from.
-      filled ((l.node == node) && (l.from == from)) l.ticks (get length_cmp new (length_key node from)) (get length_cmp d.lengths (length_key node from)) (length_at node from done) _
+      filled ((l.node == node) && (l.from == from)) l.ticks (get length_cmp new (length_key node from)) (get length_cmp d.lengths (length_key node from)) (length_said_at node from done) _
       (value node from) (length_at-more node from done r _ e) (h.lengths node from)
       (λ yes. let same = two-same l.node node l.from from yes in sym (h.lengths node from) ∙ rw (same.0, same.1) put.empty);
   delays_a = λ a b from. kept (get delay_cmp d.delays_a (delay_key a b from)) (delay_at a b channel.A from done) _ (h.delays_a a b from) (delay_at-more a b channel.A from done r _ e);
@@ -169,7 +148,7 @@ draft-length d new done r l h e proper put = record {
     count = h.proper.count;
     starts = h.proper.starts;
     lengths = λ key.
-        still IsProperLength ((l.node == key.node) && (l.from == key.from)) l.ticks (get length_cmp new key) (get length_cmp d.lengths key) (value key.node key.from) proper (h.proper.lengths key);
+        still IsMicrotickLength ((l.node == key.node) && (l.from == key.from)) l.ticks (get length_cmp new key) (get length_cmp d.lengths key) (value key.node key.from) proper (h.proper.lengths key);
     delays_a = h.proper.delays_a;
     delays_b = h.proper.delays_b;
     starts_ordered = h.proper.starts_ordered;
@@ -185,9 +164,9 @@ draft-length d new done r l h e proper put = record {
         ∙ ap (λ (b : Bool). cond b (Some l.ticks) (get length_cmp d.lengths (length_key node from))) (length-ties l.node l.from node from)
 
 -- the row of a delay on a channel, in a table of that channel that was empty there
-module _ (ch : Channel) (old new : BTreeMap DelayKey ℤ) (done : List Record) (r : Record) (d : DelayRow)
+module _ (ch : Channel) (old new : BTreeMap DelayKey ℤ) (done : List FileRecord) (r : FileRecord) (d : DelayRow)
     (same : (a b from : ℕ) → get delay_cmp old (delay_key a b from) ≡ delay_at a b ch from done)
-    (put : IsPut delay_cmp old new (delay_key d.sender d.receiver d.from) d.ticks) where
+    (put : IsEntryPut delay_cmp old new (delay_key d.sender d.receiver d.from) d.ticks) where
   hits : ℕ → ℕ → ℕ → Bool
   hits a b from = (d.sender == a) && ((d.receiver == b) && (d.from == from))
 
@@ -222,15 +201,15 @@ b_not_a : (d : DelayRow) (a b from : ℕ) → d.channel ≡ Some channel.B → d
 b_not_a d a b from e = rw e refl
 
 -- a delay that was not there is taken
-pub draft-delay_a : (t : Draft) (new : BTreeMap DelayKey ℤ) (done : List Record) (r : Record) (d : DelayRow) → IsDraftOf t done
-    → row_of r ≡ Ok (row.Delay d) → d.channel ≡ Some channel.A → IsProperDelay d.ticks
-    → IsPut delay_cmp t.delays_a new (delay_key d.sender d.receiver d.from) d.ticks
-    → IsDraftOf (record t { delays_a = new }) (done ++ r ∷ [])
+pub draft-delay_a : (t : Draft) (new : BTreeMap DelayKey ℤ) (done : List FileRecord) (r : FileRecord) (d : DelayRow) → IsDriftDraft t done
+    → drift_row_of r ≡ Ok (row.Delay d) → d.channel ≡ Some channel.A → IsProperDelay d.ticks
+    → IsEntryPut delay_cmp t.delays_a new (delay_key d.sender d.receiver d.from) d.ticks
+    → IsDriftDraft (record t { delays_a = new }) (done ++ r ∷ [])
 unfolding hits
 draft-delay_a t new done r d h e on proper put = record {
   doubles = kept t.doubles (doubles_at done) _ h.doubles (doubles_at-more done r _ e);
   starts = λ node. kept (get nat_cmp t.starts node) (start_at node done) _ (h.starts node) (start_at-more node done r _ e);
-  lengths = λ node from. kept (get length_cmp t.lengths (length_key node from)) (length_at node from done) _ (h.lengths node from) (length_at-more node from done r _ e);
+  lengths = λ node from. kept (get length_cmp t.lengths (length_key node from)) (length_said_at node from done) _ (h.lengths node from) (length_at-more node from done r _ e);
   delays_a = λ a b from.
       put-delay channel.A t.delays_a new done r d h.delays_a put a b from _
       (delay_at-more a b channel.A from done r _ e ∙ ap (λ (o : Option ℤ). or_else (delay_at a b channel.A from done) o) (on_own channel.A d a b from on));
@@ -250,15 +229,15 @@ draft-delay_a t new done r d h e on proper put = record {
   };
 }
 
-pub draft-delay_b : (t : Draft) (new : BTreeMap DelayKey ℤ) (done : List Record) (r : Record) (d : DelayRow) → IsDraftOf t done
-    → row_of r ≡ Ok (row.Delay d) → d.channel ≡ Some channel.B → IsProperDelay d.ticks
-    → IsPut delay_cmp t.delays_b new (delay_key d.sender d.receiver d.from) d.ticks
-    → IsDraftOf (record t { delays_b = new }) (done ++ r ∷ [])
+pub draft-delay_b : (t : Draft) (new : BTreeMap DelayKey ℤ) (done : List FileRecord) (r : FileRecord) (d : DelayRow) → IsDriftDraft t done
+    → drift_row_of r ≡ Ok (row.Delay d) → d.channel ≡ Some channel.B → IsProperDelay d.ticks
+    → IsEntryPut delay_cmp t.delays_b new (delay_key d.sender d.receiver d.from) d.ticks
+    → IsDriftDraft (record t { delays_b = new }) (done ++ r ∷ [])
 unfolding hits
 draft-delay_b t new done r d h e on proper put = record {
   doubles = kept t.doubles (doubles_at done) _ h.doubles (doubles_at-more done r _ e);
   starts = λ node. kept (get nat_cmp t.starts node) (start_at node done) _ (h.starts node) (start_at-more node done r _ e);
-  lengths = λ node from. kept (get length_cmp t.lengths (length_key node from)) (length_at node from done) _ (h.lengths node from) (length_at-more node from done r _ e);
+  lengths = λ node from. kept (get length_cmp t.lengths (length_key node from)) (length_said_at node from done) _ (h.lengths node from) (length_at-more node from done r _ e);
   delays_a = λ a b from.
       kept (get delay_cmp t.delays_a (delay_key a b from)) (delay_at a b channel.A from done) _ (h.delays_a a b from)
       (delay_at-more a b channel.A from done r _ e ∙ ap (λ (o : Option ℤ). or_else (delay_at a b channel.A from done) o) (b_not_a d a b from on));
@@ -280,13 +259,13 @@ draft-delay_b t new done r d h e on proper put = record {
 
 -- tables of nothing
 pub draft-nil : (d : Draft) → d.doubles ≡ None → d.starts.entries ≡ [] → d.lengths.entries ≡ [] → d.delays_a.entries ≡ [] → d.delays_b.entries ≡ []
-    → IsOrdered nat_cmp d.starts → IsOrdered length_cmp d.lengths → IsOrdered delay_cmp d.delays_a → IsOrdered delay_cmp d.delays_b → IsDraftOf d []
+    → IsOrdered nat_cmp d.starts → IsOrdered length_cmp d.lengths → IsOrdered delay_cmp d.delays_a → IsOrdered delay_cmp d.delays_b → IsDriftDraft d []
 draft-nil d n s l a b so lo ao bo = record {
-  doubles = n ∙ sym (looked_up-nil (λ q. doubles_in (row_of q)));
-  starts = λ node. rw s (sym (looked_up-nil (λ q. start_in node (row_of q))));
-  lengths = λ node from. rw l (sym (looked_up-nil (λ q. length_in node from (row_of q))));
-  delays_a = λ i j from. rw a (sym (looked_up-nil (λ q. delay_in i j channel.A from (row_of q))));
-  delays_b = λ i j from. rw b (sym (looked_up-nil (λ q. delay_in i j channel.B from (row_of q))));
+  doubles = n ∙ sym (looked_up-nil (λ q. doubles_in (drift_row_of q)));
+  starts = λ node. rw s (sym (looked_up-nil (λ q. start_in node (drift_row_of q))));
+  lengths = λ node from. rw l (sym (looked_up-nil (λ q. length_in node from (drift_row_of q))));
+  delays_a = λ i j from. rw a (sym (looked_up-nil (λ q. delay_in i j channel.A from (drift_row_of q))));
+  delays_b = λ i j from. rw b (sym (looked_up-nil (λ q. delay_in i j channel.B from (drift_row_of q))));
   proper = record {
     count = rw n tt;
     starts = λ node. rw s tt;

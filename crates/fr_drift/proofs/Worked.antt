@@ -6,27 +6,27 @@ use Rattle.fr_base.specs.declared.channel.Channel.TheVariants as channel
 use Rattle.fr_base.specs.declared.reason.Reason.TheVariants as reason
 use Rattle.fr_drift.specs.Keys.{delay_key, length_cmp, length_key}
 use Rattle.fr_drift.specs.Held.{held}
-use Rattle.fr_drift.specs.Rows.{rate_in, row_of}
+use Rattle.fr_drift.specs.Rows.{rate_in, drift_row_of}
 use Rattle.fr_drift.specs.View.{DriftView}
 use Rattle.fr_drift.specs.Questions.{doubles_of, start_of, rate_of, length_of, delay_of}
 use Rattle.fr_drift.specs.declared.rows.Row.TheVariants as row
 
 -- a start, and a rate term that no cluster allows
-a_start : row_of (codes "start" ∷ codes "2" ∷ codes "2500000" ∷ codes "-7" ∷ [] ∷ [] ∷ []) ≡ Ok (row.Start (record { node = 2; start = record { ticks = pos 2_500_000; rate = negsuc 6 } }))
-unfolding row_of rate_in
+a_start : drift_row_of (codes "start" ∷ codes "2" ∷ codes "2500000" ∷ codes "-7" ∷ [] ∷ [] ∷ []) ≡ Ok (row.Start (record { node = 2; start = record { ticks = pos 2_500_000; rate = negsuc 6 } }))
+unfolding drift_row_of rate_in
 a_start = refl
 
-a_wide_rate : row_of (codes "start" ∷ codes "2" ∷ codes "0" ∷ codes "2001" ∷ [] ∷ [] ∷ []) ≡ Err reason.OutOfRange
-unfolding row_of rate_in
+a_wide_rate : drift_row_of (codes "start" ∷ codes "2" ∷ codes "0" ∷ codes "2001" ∷ [] ∷ [] ∷ []) ≡ Err reason.OutOfRange
+unfolding drift_row_of rate_in
 a_wide_rate = refl
 
 -- a channel that is none is said, and not refused by itself
-a_delay : row_of (codes "delay" ∷ codes "1" ∷ codes "2" ∷ codes "C" ∷ codes "0" ∷ codes "500001" ∷ []) ≡ Ok (row.Delay (record { sender = 1; receiver = 2; channel = None; from = 0; ticks = pos 500_001 }))
-unfolding row_of
+a_delay : drift_row_of (codes "delay" ∷ codes "1" ∷ codes "2" ∷ codes "C" ∷ codes "0" ∷ codes "500001" ∷ []) ≡ Ok (row.Delay (record { sender = 1; receiver = 2; channel = None; from = 0; ticks = pos 500_001 }))
+unfolding drift_row_of
 a_delay = refl
 
-a_long_record : row_of (codes "doubles" ∷ codes "1" ∷ [] ∷ [] ∷ [] ∷ codes "0" ∷ []) ≡ Err reason.Shape
-unfolding row_of
+a_long_record : drift_row_of (codes "doubles" ∷ codes "1" ∷ [] ∷ [] ∷ [] ∷ codes "0" ∷ []) ≡ Err reason.Shape
+unfolding drift_row_of
 a_long_record = refl
 
 -- a drift of two rows of a node and two of a link

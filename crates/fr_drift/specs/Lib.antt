@@ -1,5 +1,5 @@
+-- what the public contract cites
 pub mod Keys
-pub mod Spans
 pub mod Held
 pub mod Rows
 pub mod Reasons
@@ -9,3 +9,6 @@ pub mod Sane
 pub mod Questions
 pub mod Draft
 pub mod Files
+pub mod Holding
+-- what only functions inside cite
+pub mod Spans

@@ -1,5 +1,5 @@
 -- What the questions to a drift file answer.
-use Rattle.std.specs.Prelude.{ℕ, ℤ, pos, ◌*ℤ◌, unwrap_or}
+use Rattle.std.specs.Prelude.{ℕ, ℤ, pos, ◌*ℤ◌, ◌≡◌, ◌<◌, ◌≤◌, Option, Some, None, unwrap_or}
 use Rattle.std.specs.Option.{option_map_or}
 use Rattle.fr_base.specs.declared.channel.Channel.{Channel}
 use Rattle.fr_drift.specs.Held.{held}
@@ -25,3 +25,8 @@ length_of d node cycle = unwrap_or (held (length_rows d node) cycle) (pos 1_000_
 -- compensation of the channel
 unfoldable pub delay_of : DriftView → ℕ → ℕ → Channel → ℕ → ℤ
 delay_of d sender receiver ch cycle = unwrap_or (held (delay_rows d sender receiver ch) cycle) (compensation_on d ch *ℤ pos 1_000_000)
+
+-- the value of each cycle is that of the last row at that cycle or before it, and this one where there is none
+pub record FollowsRows (rows : ℕ → Option ℤ) (value : ℕ → ℤ) (otherwise : ℤ) : Type 0 where
+  pub held : (from cycle : ℕ) (ticks : ℤ) → rows from ≡ Some ticks → from ≤ cycle → ((c : ℕ) → from < c → c ≤ cycle → rows c ≡ None) → value cycle ≡ ticks
+  pub none : (cycle : ℕ) → ((c : ℕ) → c ≤ cycle → rows c ≡ None) → value cycle ≡ otherwise

@@ -1,15 +1,14 @@
--- Why a record of a drift file is refused behind the records before it: what the earlier records say is
+-- Why a record of a drift file is refused after the records before it: what the earlier records say is
 -- looked up in their list.
-use Rattle.std.specs.Prelude.{ℕ, ℤ, neg_ℤ, int_lt, Bool, true, false, not, ◌==◌, ◌&&◌, ◌||◌, List, Option, Some, None, is_some, Result, Ok, Err, if◌then◌else◌}
+use Rattle.std.specs.Prelude.{ℕ, ℤ, neg_ℤ, int_lt, Bool, not, ◌==◌, ◌&&◌, ◌||◌, List, Option, Some, None, is_some, Result, Ok, Err, if◌then◌else◌}
 use Rattle.fr_base.specs.declared.channel.Channel.{Channel}
-use Rattle.fr_base.specs.declared.channel.Channel.TheVariants as channel
 use Rattle.fr_base.specs.declared.reason.Reason.{Reason}
 use Rattle.fr_base.specs.declared.reason.Reason.TheVariants as reason
-use Rattle.fr_records.specs.Records.{Record}
-use Rattle.fr_params.specs.Values.{Values}
-use Rattle.fr_params.specs.Reasons.{looked_up}
-use Rattle.fr_params.specs.Questions.{has_channel, node_of}
-use Rattle.fr_drift.specs.Rows.{row_of}
+use Rattle.fr_records.specs.Records.{FileRecord}
+use Rattle.fr_cluster.specs.Values.{Values}
+use Rattle.fr_records.specs.Fields.{is_channel, looked_up}
+use Rattle.fr_cluster.specs.Questions.{is_common, node_of}
+use Rattle.fr_drift.specs.Rows.{drift_row_of}
 use Rattle.fr_drift.specs.declared.rows.Start.{Start}
 use Rattle.fr_drift.specs.declared.rows.StartRow.{StartRow}
 use Rattle.fr_drift.specs.declared.rows.LengthRow.{LengthRow}
@@ -41,14 +40,6 @@ length_in node from (Ok (row.Length l)) = if (l.node == node) && (l.from == from
 length_in node from (Ok (row.Delay d)) = None
 length_in node from (Err why) = None
 
--- whether a field names this channel
-abbrev pub is_channel : Channel → Option Channel → Bool
-is_channel ch None = false
-is_channel channel.A (Some channel.A) = true
-is_channel channel.A (Some channel.B) = false
-is_channel channel.B (Some channel.A) = false
-is_channel channel.B (Some channel.B) = true
-
 -- whether a row is about this link from exactly this cycle on
 abbrev pub is_delay_of : ℕ → ℕ → ℕ → DelayRow → Bool
 is_delay_of sender receiver from d = (d.sender == sender) && ((d.receiver == receiver) && (d.from == from))
@@ -63,32 +54,28 @@ delay_in sender receiver ch from (Err why) = None
 
 -- what the records say: of the run, of a node, of a node from a cycle on, of a link from a
 -- cycle on
-abbrev pub doubles_at : List Record → Option ℕ
-doubles_at records = looked_up (λ r. doubles_in (row_of r)) records
+abbrev pub doubles_at : List FileRecord → Option ℕ
+doubles_at records = looked_up (λ r. doubles_in (drift_row_of r)) records
 
-abbrev pub start_at : ℕ → List Record → Option Start
-start_at node records = looked_up (λ r. start_in node (row_of r)) records
+abbrev pub start_at : ℕ → List FileRecord → Option Start
+start_at node records = looked_up (λ r. start_in node (drift_row_of r)) records
 
-abbrev pub length_at : ℕ → ℕ → List Record → Option ℤ
-length_at node from records = looked_up (λ r. length_in node from (row_of r)) records
+abbrev pub length_said_at : ℕ → ℕ → List FileRecord → Option ℤ
+length_said_at node from records = looked_up (λ r. length_in node from (drift_row_of r)) records
 
-abbrev pub delay_at : ℕ → ℕ → Channel → ℕ → List Record → Option ℤ
-delay_at sender receiver ch from records = looked_up (λ r. delay_in sender receiver ch from (row_of r)) records
+abbrev pub delay_at : ℕ → ℕ → Channel → ℕ → List FileRecord → Option ℤ
+delay_at sender receiver ch from records = looked_up (λ r. delay_in sender receiver ch from (drift_row_of r)) records
 
 -- whether the cluster has a node of this number
 abbrev pub is_known : Values → ℕ → Bool
 is_known p node = is_some (node_of p node)
-
--- whether both nodes have the channel
-abbrev pub is_common : Values → ℕ → ℕ → Channel → Bool
-is_common p a b ch = has_channel (node_of p a) ch && has_channel (node_of p b) ch
 
 -- whether a rate term lies within a limit of 0
 abbrev pub is_within : ℤ → ℤ → Bool
 is_within limit rate = not (int_lt rate (neg_ℤ limit) || int_lt limit rate)
 
 -- the least reason of a row about a start
-abbrev pub start_reason : Values → List Record → StartRow → Option Reason
+abbrev pub start_reason : Values → List FileRecord → StartRow → Option Reason
 start_reason p records s =
     if not (is_within p.rate_limit s.start.rate) then Some reason.OutOfRange
     else if not (is_known p s.node) then Some reason.UnknownNode
@@ -96,14 +83,14 @@ start_reason p records s =
     else None
 
 -- of one about a length
-abbrev pub length_reason : Values → List Record → LengthRow → Option Reason
+abbrev pub length_reason : Values → List FileRecord → LengthRow → Option Reason
 length_reason p records l =
     if not (is_known p l.node) then Some reason.UnknownNode
-    else if is_some (length_at l.node l.from records) then Some reason.Repeated
+    else if is_some (length_said_at l.node l.from records) then Some reason.Repeated
     else None
 
 -- of one about a delay between nodes that are known, by its channel
-abbrev pub link_reason : Values → List Record → DelayRow → Option Channel → Option Reason
+abbrev pub link_reason : Values → List FileRecord → DelayRow → Option Channel → Option Reason
 link_reason p records d None = Some reason.BadChannel
 link_reason p records d (Some ch) =
     if d.sender == d.receiver then Some reason.Role
@@ -111,19 +98,19 @@ link_reason p records d (Some ch) =
     else if is_some (delay_at d.sender d.receiver ch d.from records) then Some reason.Repeated
     else None
 
-abbrev pub delay_reason : Values → List Record → DelayRow → Option Reason
+abbrev pub delay_reason : Values → List FileRecord → DelayRow → Option Reason
 delay_reason p records d =
     if not (is_known p d.sender && is_known p d.receiver) then Some reason.UnknownNode
     else link_reason p records d d.channel
 
--- the least reason behind these records, of what a record says or shows by itself
-abbrev pub row_reason : Values → List Record → Result Row Reason → Option Reason
-row_reason p records (Err why) = Some why
-row_reason p records (Ok (row.Doubles n)) = if is_some (doubles_at records) then Some reason.Repeated else None
-row_reason p records (Ok (row.Start s)) = start_reason p records s
-row_reason p records (Ok (row.Length l)) = length_reason p records l
-row_reason p records (Ok (row.Delay d)) = delay_reason p records d
+-- the least reason after these records, of what a record says or shows by itself
+abbrev pub drift_row_reason : Values → List FileRecord → Result Row Reason → Option Reason
+drift_row_reason p records (Err why) = Some why
+drift_row_reason p records (Ok (row.Doubles n)) = if is_some (doubles_at records) then Some reason.Repeated else None
+drift_row_reason p records (Ok (row.Start s)) = start_reason p records s
+drift_row_reason p records (Ok (row.Length l)) = length_reason p records l
+drift_row_reason p records (Ok (row.Delay d)) = delay_reason p records d
 
--- why a record is refused behind the records before it, if it is
-abbrev pub reason_after : Values → List Record → Record → Option Reason
-reason_after p records r = row_reason p records (row_of r)
+-- why a record is refused after the records before it, if it is
+abbrev pub drift_reason_after : Values → List FileRecord → FileRecord → Option Reason
+drift_reason_after p records r = drift_row_reason p records (drift_row_of r)

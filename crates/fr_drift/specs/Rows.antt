@@ -6,9 +6,10 @@ use Rattle.fr_base.specs.declared.channel.Channel.{Channel}
 use Rattle.fr_base.specs.declared.numbers.NumberFault.{NumberFault}
 use Rattle.fr_base.specs.declared.reason.Reason.{Reason}
 use Rattle.fr_base.specs.declared.reason.Reason.TheVariants as reason
-use Rattle.fr_records.specs.Records.{Record}
-use Rattle.fr_records.specs.Fields.{natural_of, both_of, channel_of}
-use Rattle.fr_params.specs.Rows.{is_blank, or_reason, field_of}
+use Rattle.fr_records.specs.Records.{FileRecord}
+use Rattle.fr_base.specs.Channels.{channel_of}
+use Rattle.fr_records.specs.Fields.{natural_of, both_of}
+use Rattle.fr_records.specs.Fields.{is_blank, or_reason, field_of}
 use Rattle.fr_drift.specs.declared.rows.Start.{Start}
 use Rattle.fr_drift.specs.declared.rows.Row.{Row}
 use Rattle.fr_drift.specs.declared.rows.Row.TheVariants as row
@@ -52,8 +53,8 @@ abbrev pub short_row : List ℕ → List ℕ → Result Row Reason → Result Ro
 short_row fourth fifth said = if is_blank fourth && is_blank fifth then said else Err reason.Shape
 
 -- what a record of six fields says, by its kind
-abbrev pub kind_row : List ℕ → List ℕ → List ℕ → List ℕ → List ℕ → List ℕ → Result Row Reason
-kind_row kind first second third fourth fifth =
+abbrev pub drift_file_row : List ℕ → List ℕ → List ℕ → List ℕ → List ℕ → List ℕ → Result Row Reason
+drift_file_row kind first second third fourth fifth =
     if bytes_eq kind (codes "doubles") then short_row second third (short_row fourth fifth (doubles_row first))
     else if bytes_eq kind (codes "start") then short_row fourth fifth (start_row first second third)
     else if bytes_eq kind (codes "length") then short_row fourth fifth (length_row first second third)
@@ -61,9 +62,9 @@ kind_row kind first second third fourth fifth =
     else Err reason.UnknownName
 
 -- what a record says, or the least of the reasons that it shows by itself
-unfoldable pub row_of : Record → Result Row Reason
-row_of fields =
-    if length fields == 6 then kind_row (field_of fields 0) (field_of fields 1) (field_of fields 2) (field_of fields 3) (field_of fields 4) (field_of fields 5)
+unfoldable pub drift_row_of : FileRecord → Result Row Reason
+drift_row_of fields =
+    if length fields == 6 then drift_file_row (field_of fields 0) (field_of fields 1) (field_of fields 2) (field_of fields 3) (field_of fields 4) (field_of fields 5)
     else Err reason.Shape
 
 -- a start is 0 to 1,000,000,000,000 ticks, its rate term within 2000 microticks of 0
@@ -74,7 +75,7 @@ pub record IsProperStart (start : Start) : Type 0 where
   pub rate_to : start.rate ≤ℤ pos 2000
 
 -- a microtick lasts 500,000 to 1,500,000 ticks
-pub record IsProperLength (ticks : ℤ) : Type 0 where
+pub record IsMicrotickLength (ticks : ℤ) : Type 0 where
   pub from : pos 500_000 ≤ℤ ticks
   pub to : ticks ≤ℤ pos 1_500_000
 
@@ -89,8 +90,8 @@ pub record IsProperCount (doubles : ℕ) : Type 0 where
   pub to : doubles ≤ 10_000
 
 -- the numbers of a row lie in their ranges
-abbrev pub IsProperRow : Row → Type 0
-IsProperRow (row.Doubles n) = IsProperCount n
-IsProperRow (row.Start s) = IsProperStart s.start
-IsProperRow (row.Length l) = IsProperLength l.ticks
-IsProperRow (row.Delay d) = IsProperDelay d.ticks
+abbrev pub IsProperDriftRow : Row → Type 0
+IsProperDriftRow (row.Doubles n) = IsProperCount n
+IsProperDriftRow (row.Start s) = IsProperStart s.start
+IsProperDriftRow (row.Length l) = IsMicrotickLength l.ticks
+IsProperDriftRow (row.Delay d) = IsProperDelay d.ticks

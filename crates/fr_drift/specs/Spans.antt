@@ -9,11 +9,11 @@ module _ {K : Type 0} (cmp : K → K → Ordering) where
     pub from : is_gt (cmp first key) ≡ false
     pub to : is_gt (cmp key last) ≡ false
 
-  -- the row is there, and none of the span stands behind it
+  -- the row is there, and none of the span stands after it
   pub record IsLastRow (at : K → Option ℤ) (first last : K) (row : K × ℤ) : Type 0 where
     pub inside : IsFromTo first last row.0
     pub there : at row.0 ≡ Some row.1
-    pub behind : (key : K) → IsFromTo first last key → IsSome (at key) → is_lt (cmp row.0 key) ≡ false
+    pub after : (key : K) → IsFromTo first last key → IsSome (at key) → is_lt (cmp row.0 key) ≡ false
 
   -- the last row of a span of keys, None where it has none
   abbrev pub IsLastIn : (K → Option ℤ) → K → K → Option (K × ℤ) → Type 0

@@ -1,22 +1,21 @@
-ghost use Rattle.std.specs.Prelude.{◌≡◌, ◌≤ℤ◌, pos, ◌++◌, ◌∷◌, [], List, Ok, Some, None, ◌&&◌, IfOk, is_some, if◌then◌else◌};
+ghost use Rattle.std.specs.Prelude.{◌≡◌, [], Some, None, ◌&&◌, IfOk, is_some, if◌then◌else◌};
 ghost use Rattle.std.specs.BTreeMap.{get};
 ghost use Rattle.fr_base.specs.declared.reason.Reason.TheVariants as reason;
-ghost use Rattle.fr_records.specs.Records.{Record};
-ghost use Rattle.fr_params.specs.Values.{Values};
-ghost use Rattle.fr_drift.specs.Rows.{IsProperCount, IsProperDelay, IsProperLength, IsProperStart, row_of};
-ghost use Rattle.fr_drift.specs.Reasons.{is_known, is_within, row_reason};
-ghost use Rattle.fr_drift.specs.Draft.{IsDraftOf, IsPut};
+ghost use Rattle.fr_cluster.specs.Values.{Values};
+ghost use Rattle.fr_drift.specs.Rows.{IsProperCount, IsProperDelay, IsMicrotickLength, IsProperStart};
+ghost use Rattle.fr_drift.specs.Reasons.{is_known, is_within};
+ghost use Rattle.fr_drift.specs.Draft.{IsDriftDraft, IsEntryPut, TakesDriftRow, TakesDriftRowAtOnce};
 ghost use Rattle.fr_drift.specs.declared.rows.Row.TheVariants as said;
 
 use crate::keys::{DelayKey, LengthKey};
 use crate::rows::{DelayRow, LengthRow, Start, StartRow};
 use fr_base::{Channel, NodeId, Reason};
-use fr_params::Params;
+use fr_cluster::{ParamName, Params};
 use std::alloc::{AllocError, Global};
 use std::collections::BTreeMap;
 
-/// What the records so far say: how many double cycles the run has, the starts by node, and the rows of
-/// lengths and of the delays of each channel by what they are about and the cycle from which on they hold.
+// What the records so far say: how many double cycles the run has, the starts by node, and the rows of
+// lengths and of the delays of each channel by what they are about and the cycle from which on they hold.
 #[derive(Drop)]
 pub(crate) struct Draft {
     pub(crate) doubles: Option<u32>,
@@ -28,7 +27,7 @@ pub(crate) struct Draft {
 
 impl Draft {
     pub(crate) fn new(alloc: Global) -> Draft
-        ensures { IsDraftOf result [] }
+        ensures { IsDriftDraft result [] }
     {
         Draft {
             doubles: None,
@@ -41,8 +40,7 @@ impl Draft {
 
     pub(crate) fn take_doubles(&mut self, count: u32) -> Option<Reason>
         requires { IsProperCount count }
-        ensures why { (p : Values) (done : List Record) → IsDraftOf self.old done → result ≡ row_reason p done (Ok (said.Doubles count)) }
-        ensures adds { (done : List Record) (r : Record) → IsDraftOf self.old done → row_of r ≡ Ok (said.Doubles count) → result ≡ None → IsDraftOf self.new (done ++ r ∷ []) }
+        ensures { (p : Values) → TakesDriftRowAtOnce p self.old self.new (said.Doubles count) result }
     {
         if self.doubles.is_some() {
             return Some(Reason::Repeated);
@@ -57,8 +55,7 @@ impl Draft {
         row: StartRow,
     ) -> Result<Option<Reason>, AllocError>
         requires { IsProperStart row.start }
-        ensures why { (done : List Record) → IsDraftOf self.old done → IfOk result (λ why. why ≡ row_reason params.now done (Ok (said.Start row))) }
-        ensures adds { (done : List Record) (r : Record) → IsDraftOf self.old done → row_of r ≡ Ok (said.Start row) → IfOk result (λ why. why ≡ None → IsDraftOf self.new (done ++ r ∷ [])) }
+        ensures { TakesDriftRow params.now self.old self.new (said.Start row) result }
     {
         if !is_rate(params, row.start.rate) {
             return Ok(Some(Reason::OutOfRange));
@@ -74,9 +71,8 @@ impl Draft {
         params: &Params,
         row: LengthRow,
     ) -> Result<Option<Reason>, AllocError>
-        requires { IsProperLength row.ticks }
-        ensures why { (done : List Record) → IsDraftOf self.old done → IfOk result (λ why. why ≡ row_reason params.now done (Ok (said.Length row))) }
-        ensures adds { (done : List Record) (r : Record) → IsDraftOf self.old done → row_of r ≡ Ok (said.Length row) → IfOk result (λ why. why ≡ None → IsDraftOf self.new (done ++ r ∷ [])) }
+        requires { IsMicrotickLength row.ticks }
+        ensures { TakesDriftRow params.now self.old self.new (said.Length row) result }
     {
         if !is_node(params, row.node) {
             return Ok(Some(Reason::UnknownNode));
@@ -94,8 +90,7 @@ impl Draft {
         row: DelayRow,
     ) -> Result<Option<Reason>, AllocError>
         requires { IsProperDelay row.ticks }
-        ensures why { (done : List Record) → IsDraftOf self.old done → IfOk result (λ why. why ≡ row_reason params.now done (Ok (said.Delay row))) }
-        ensures adds { (done : List Record) (r : Record) → IsDraftOf self.old done → row_of r ≡ Ok (said.Delay row) → IfOk result (λ why. why ≡ None → IsDraftOf self.new (done ++ r ∷ [])) }
+        ensures { TakesDriftRow params.now self.old self.new (said.Delay row) result }
     {
         if !are_nodes(params, row.sender, row.receiver) {
             return Ok(Some(Reason::UnknownNode));
@@ -121,14 +116,14 @@ impl Draft {
     }
 }
 
-/// Puts a value under a key, or answers `Repeated` where the key has one.
+// Puts a value under a key, or answers `Repeated` where the key has one.
 fn put<K: Ord + Copy, V: Drop>(
     rows: &mut BTreeMap<K, V>,
     key: K,
     value: V,
 ) -> Result<Option<Reason>, AllocError>
     ensures why { IfOk result (λ why. why ≡ (if is_some (get K.cmp rows.old key) then Some reason.Repeated else None)) }
-    ensures puts { IfOk result (λ why. why ≡ None → IsPut K.cmp rows.old rows.new key value) }
+    ensures puts { IfOk result (λ why. why ≡ None → IsEntryPut K.cmp rows.old rows.new key value) }
 {
     if rows.contains_key(&key) {
         return Ok(Some(Reason::Repeated));
@@ -140,17 +135,9 @@ fn put<K: Ord + Copy, V: Drop>(
 fn is_rate(params: &Params, rate: i32) -> bool
     ensures { result ≡ is_within params.now.rate_limit rate }
 {
-    let limit = rate_limit(params);
+    let limit = params.value(ParamName::pRateCorrectionOut);
     let rate = i64::from(rate);
     !(rate < -limit || limit < rate)
-}
-
-fn rate_limit(params: &Params) -> i64
-    ensures value { result ≡ params.now.rate_limit }
-    ensures from { pos 1 ≤ℤ result }
-    ensures to { result ≤ℤ pos 2000 }
-{
-    params.rate_limit
 }
 
 fn are_nodes(params: &Params, sender: NodeId, receiver: NodeId) -> bool

@@ -1,27 +1,27 @@
 ghost use Rattle.std.specs.Prelude.{◌≡◌, ◌≤◌, ◌<◌, ◌≤ℤ◌, ℕ, pos, negsuc, List, Some, None, IsSome, IfSome};
 ghost use Rattle.std.specs.BTreeMap.{get};
-ghost use Rattle.fr_records.specs.Records.{Record};
-ghost use Rattle.fr_params.specs.Values.{Values};
-ghost use Rattle.fr_params.specs.Sane.{IsSane};
+ghost use Rattle.fr_records.specs.Records.{FileRecord};
+ghost use Rattle.fr_cluster.specs.Values.{Values};
+ghost use Rattle.fr_cluster.specs.Sane.{IsSane};
 ghost use Rattle.fr_drift.specs.Keys.{delay_cmp, delay_key};
 ghost use Rattle.fr_drift.specs.View.{compensation_on, delay_rows, length_rows, start_rows};
 ghost use Rattle.fr_drift.specs.declared.keys.DelayKey.{DelayKey as Key};
-ghost use Rattle.fr_drift.specs.Held.{held};
-ghost use Rattle.fr_drift.specs.Rows.{IsProperDelay, IsProperLength, IsProperStart};
+ghost use Rattle.fr_drift.specs.Held.{IsNextChange, held};
+ghost use Rattle.fr_drift.specs.Rows.{IsProperDelay, IsMicrotickLength, IsProperStart};
 ghost use Rattle.fr_drift.specs.Questions.{delay_of, doubles_of, length_of, rate_of, start_of};
-ghost use Rattle.fr_drift.specs.Draft.{AreProper, IsDraftOf};
-ghost use Rattle.fr_drift.specs.Files.{Fits, IsRateWithin, StandsFor};
+ghost use Rattle.fr_drift.specs.Draft.{AreDelaysOn, AreProper, IsDriftDraft};
+ghost use Rattle.fr_drift.specs.Files.{DriftFits, IsRateWithin, DriftStandsFor};
 
 use crate::draft::Draft;
 use crate::keys::{DelayKey, LengthKey};
 use crate::rows::Start;
 use crate::spans::{held_delay, held_length, next_delay_row, next_length_row};
 use fr_base::{Channel, NodeId};
-use fr_params::Params;
+use fr_cluster::Params;
 use std::collections::BTreeMap;
 use std::marker::Model;
 
-/// The nominal length of a microtick, in ticks.
+// The nominal length of a microtick, in ticks.
 const NOMINAL: i64 = 1_000_000;
 
 /// What a drift file says of a cluster: how many double cycles a run has, where each node's clock starts,
@@ -54,11 +54,11 @@ impl Model for Drift {
     ghost invariant = { λ a. IsDrift (view_of a) };
 }
 
-/// What the tables stand for against these parameters.
+// What the tables stand for against these parameters.
 pub(crate) fn drift_of(params: &Params, draft: Draft, doubles: u32) -> Drift
     requires proper { AreProper draft }
     requires told { draft.doubles ≡ Some doubles }
-    ensures { (records : List Record) → IsDraftOf draft records → StandsFor params.now result records }
+    ensures { (records : List FileRecord) → IsDriftDraft draft records → DriftStandsFor params.now result records }
 {
     Drift {
         doubles,
@@ -102,7 +102,7 @@ impl Drift {
         ensures value { result ≡ rate_of self.now node }
         ensures from { negsuc 1999 ≤ℤ result }
         ensures to { result ≤ℤ pos 2000 }
-        ensures limited { (p : Values) → IsSane p → Fits p self.now → IsRateWithin p result }
+        ensures limited { (p : Values) → IsSane p → DriftFits p self.now → IsRateWithin p result }
     {
         match self.start_row(node) {
             Some(start) => start.rate,
@@ -128,11 +128,7 @@ impl Drift {
     /// next row, `end` where there is none before it.
     pub fn next_length(&self, node: NodeId, cycle: u32, end: u32) -> u32
         requires { cycle < end }
-        ensures behind { cycle < result }
-        ensures within { result ≤ end }
-        ensures stays { (c : ℕ) → cycle ≤ c → c < result → length_of self.now node c ≡ length_of self.now node cycle }
-        ensures next { (c : ℕ) → cycle < c → c < result → length_rows self.now node c ≡ None }
-        ensures stands { result < end → IsSome (length_rows self.now node result) }
+        ensures { IsNextChange (length_rows self.now node) (length_of self.now node) cycle end result }
     {
         next_length_row(&self.lengths, node, cycle, end)
     }
@@ -163,11 +159,10 @@ impl Drift {
         end: u32,
     ) -> u32
         requires { cycle < end }
-        ensures behind { cycle < result }
-        ensures within { result ≤ end }
-        ensures stays { (c : ℕ) → cycle ≤ c → c < result → delay_of self.now sender receiver channel c ≡ delay_of self.now sender receiver channel cycle }
-        ensures next { (c : ℕ) → cycle < c → c < result → delay_rows self.now sender receiver channel c ≡ None }
-        ensures stands { result < end → IsSome (delay_rows self.now sender receiver channel result) }
+        ensures { IsNextChange
+            (delay_rows self.now sender receiver channel)
+            (delay_of self.now sender receiver channel)
+            cycle end result }
     {
         next_delay_row(self.delays(channel), sender, receiver, cycle, end)
     }
@@ -184,7 +179,7 @@ impl Drift {
 
     fn length_row(&self, node: NodeId, cycle: u32) -> Option<i64>
         ensures told { result ≡ held (length_rows self.now node) cycle }
-        ensures proper { IfSome result IsProperLength }
+        ensures proper { IfSome result IsMicrotickLength }
     {
         held_length(&self.lengths, node, cycle)
     }
@@ -214,8 +209,7 @@ impl Drift {
     }
 
     fn delays(&self, channel: Channel) -> &BTreeMap<DelayKey, i64>
-        ensures same { (sender receiver from : ℕ) → get delay_cmp result.now (delay_key sender receiver from) ≡ delay_rows self.now sender receiver channel from }
-        ensures proper { (key : Key) → IfSome (get delay_cmp result.now key) IsProperDelay }
+        ensures { AreDelaysOn self.now channel result.now }
     {
         match channel {
             Channel::A => &self.delays_a,

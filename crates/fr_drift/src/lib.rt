@@ -6,14 +6,14 @@ mod draft;
 mod drift;
 mod fault;
 mod keys;
+mod kind;
 mod laws;
 mod reading;
 mod rows;
 mod spans;
-#[cfg(test)]
-mod tests;
 
 pub use drift::Drift;
 pub use fault::DriftFault;
-pub use laws::{a_row_holds_until_the_next, one_answer, some_answer};
+pub use kind::DriftFile;
+pub use laws::{a_row_holds_until_the_next, one_answer, refused_for_the_least_reason, some_answer};
 pub use reading::read;

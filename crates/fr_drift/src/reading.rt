@@ -1,7 +1,8 @@
-ghost use Rattle.std.specs.Prelude.{IfOk, IfErr};
-ghost use Rattle.fr_drift.specs.Reasons.{reason_after};
-ghost use Rattle.fr_drift.specs.Draft.{IsDraftOf};
-ghost use Rattle.fr_drift.specs.Files.{Fits, IsFileOf, Refuses};
+ghost use Rattle.std.specs.Prelude.{IfOk};
+ghost use Rattle.fr_records.specs.Kind.{Reads};
+ghost use Rattle.fr_drift.specs.Reasons.{drift_reason_after};
+ghost use Rattle.fr_drift.specs.Draft.{IsDriftDraft};
+ghost use Rattle.fr_drift.specs.Files.{DriftFits, drift_file};
 
 use crate::draft::Draft;
 use crate::drift::{Drift, drift_of};
@@ -9,11 +10,11 @@ use crate::fault::DriftFault;
 use crate::rows::{Row, read_row};
 use csv::ByteRecord;
 use fr_base::{Channel, Reason};
-use fr_params::Params;
+use fr_cluster::Params;
 use fr_records::{RowFault, Table, read_all};
 use std::alloc::{AllocError, Global};
 
-/// The tables under construction, with the parameters against which the records are read.
+// The tables under construction, with the parameters against which the records are read.
 #[derive(Drop)]
 struct Reading<'a> {
     params: &'a Params,
@@ -21,9 +22,9 @@ struct Reading<'a> {
 }
 
 impl<'a> Table for Reading<'a> {
-    ghost reason = { λ reading. reason_after reading.params.now };
+    ghost reason = { λ reading. drift_reason_after reading.params.now };
 
-    ghost holds = { λ reading records. IsDraftOf reading.draft records };
+    ghost holds = { λ reading records. IsDriftDraft reading.draft records };
 
     fn add(&mut self, row: &ByteRecord) -> Result<Option<Reason>, AllocError> {
         let params = self.params;
@@ -44,9 +45,8 @@ impl<'a> Table for Reading<'a> {
 /// with the least reason that holds; `MissingDoubles`, where no record says how many double cycles the run
 /// has. `NoMemory` comes where memory ran out.
 pub fn read(alloc: Global, params: &Params, bytes: &[u8]) -> Result<Drift, DriftFault>
-    ensures accepted { IfOk result (λ drift. IsFileOf params.now drift bytes.now) }
-    ensures fits { IfOk result (λ drift. Fits params.now drift) }
-    ensures refused { IfErr result (λ fault. Refuses params.now bytes.now fault) }
+    ensures reads { Reads (drift_file params.now) bytes.now result }
+    ensures fits { IfOk result (DriftFits params.now) }
 {
     let mut reading = Reading {
         params,

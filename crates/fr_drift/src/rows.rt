@@ -1,11 +1,11 @@
 ghost use Rattle.std.specs.Prelude.{◌≡◌, ◌≤ℤ◌, ◌&&◌, pos, negsuc, IfOk};
 ghost use Rattle.csv.specs.Records.{fields_of};
-ghost use Rattle.fr_params.specs.Rows.{is_blank};
-ghost use Rattle.fr_drift.specs.Rows.{IsProperRow, delay_row, doubles_row, kind_row, length_row, rate_in, row_of, start_row};
+ghost use Rattle.fr_records.specs.Fields.{is_blank};
+ghost use Rattle.fr_drift.specs.Rows.{IsProperDriftRow, delay_row, doubles_row, drift_file_row, length_row, rate_in, drift_row_of, start_row};
 
 use csv::ByteRecord;
 use fr_base::{Channel, NodeId, NumberFault, Reason, number};
-use fr_records::{both, channel_of, field, natural, reason_of};
+use fr_records::{both, field, natural, reason_of};
 
 /// Where a node's clock starts, in ticks, and its first rate term, in microticks.
 #[derive(Clone, Copy, Debug, PartialEq, Eq)]
@@ -56,8 +56,8 @@ pub enum Row {
 /// What a record says, or the least of the reasons that it shows by itself: Shape, UnknownName,
 /// NotNumber, OutOfRange.
 pub fn read_row(row: &ByteRecord) -> Result<Row, Reason>
-    ensures said { result ≡ row_of (fields_of row.now) }
-    ensures proper { IfOk result (λ said. IsProperRow said) }
+    ensures said { result ≡ drift_row_of (fields_of row.now) }
+    ensures proper { IfOk result (λ said. IsProperDriftRow said) }
 {
     if row.len() != 6 {
         return Err(Reason::Shape);
@@ -80,8 +80,8 @@ fn read_kind(
     fourth: &[u8],
     fifth: &[u8],
 ) -> Result<Row, Reason>
-    ensures said { result ≡ kind_row kind.now first.now second.now third.now fourth.now fifth.now }
-    ensures proper { IfOk result (λ said. IsProperRow said) }
+    ensures said { result ≡ drift_file_row kind.now first.now second.now third.now fourth.now fifth.now }
+    ensures proper { IfOk result (λ said. IsProperDriftRow said) }
 {
     if kind == b"doubles".as_slice() {
         if !are_empty(second, third) || !are_empty(fourth, fifth) {
@@ -113,7 +113,7 @@ fn are_empty(first: &[u8], second: &[u8]) -> bool
 
 fn read_doubles(count: &[u8]) -> Result<Row, Reason>
     ensures said { result ≡ doubles_row count.now }
-    ensures proper { IfOk result (λ said. IsProperRow said) }
+    ensures proper { IfOk result (λ said. IsProperDriftRow said) }
 {
     match natural(count, 1, 10_000) {
         Ok(count) => Ok(Row::Doubles(count as u32)),
@@ -132,7 +132,7 @@ fn read_rate(text: &[u8]) -> Result<i32, NumberFault>
 
 fn read_start(node: &[u8], ticks: &[u8], rate: &[u8]) -> Result<Row, Reason>
     ensures said { result ≡ start_row node.now ticks.now rate.now }
-    ensures proper { IfOk result (λ said. IsProperRow said) }
+    ensures proper { IfOk result (λ said. IsProperDriftRow said) }
 {
     match both(
         natural(node, 1, 64),
@@ -148,7 +148,7 @@ fn read_start(node: &[u8], ticks: &[u8], rate: &[u8]) -> Result<Row, Reason>
 
 fn read_length(node: &[u8], from: &[u8], ticks: &[u8]) -> Result<Row, Reason>
     ensures said { result ≡ length_row node.now from.now ticks.now }
-    ensures proper { IfOk result (λ said. IsProperRow said) }
+    ensures proper { IfOk result (λ said. IsProperDriftRow said) }
 {
     match both(
         natural(node, 1, 64),
@@ -171,7 +171,7 @@ fn read_delay(
     ticks: &[u8],
 ) -> Result<Row, Reason>
     ensures said { result ≡ delay_row sender.now receiver.now channel.now from.now ticks.now }
-    ensures proper { IfOk result (λ said. IsProperRow said) }
+    ensures proper { IfOk result (λ said. IsProperDriftRow said) }
 {
     match both(
         both(natural(sender, 1, 64), natural(receiver, 1, 64)),
@@ -181,7 +181,7 @@ fn read_delay(
         Ok(((sender, receiver), (from, ticks))) => Ok(Row::Delay(DelayRow {
             sender: NodeId(sender as u8),
             receiver: NodeId(receiver as u8),
-            channel: channel_of(channel),
+            channel: Channel::spelt(channel),
             from: from as u32,
             ticks,
         })),

@@ -9,7 +9,7 @@ use crate::keys::{DelayKey, LengthKey};
 use fr_base::NodeId;
 use std::collections::BTreeMap;
 
-/// The last key from `first` to `last` that has a number, with it.
+// The last key from `first` to `last` that has a number, with it.
 fn last_in<K: Ord + Copy>(rows: &BTreeMap<K, i64>, first: K, last: K) -> Option<(K, i64)>
     requires { is_gt (K.cmp first last) ≡ false }
     ensures { IsLastIn K.cmp (get K.cmp rows.now) first last result }
@@ -20,7 +20,7 @@ fn last_in<K: Ord + Copy>(rows: &BTreeMap<K, i64>, first: K, last: K) -> Option<
     }
 }
 
-/// The first key from `first` to `last` that has a number.
+// The first key from `first` to `last` that has a number.
 fn first_in<K: Ord + Copy>(rows: &BTreeMap<K, i64>, first: K, last: K) -> Option<K>
     requires { is_gt (K.cmp first last) ≡ false }
     ensures { IsFirstIn K.cmp (get K.cmp rows.now) first last result }
@@ -31,7 +31,7 @@ fn first_in<K: Ord + Copy>(rows: &BTreeMap<K, i64>, first: K, last: K) -> Option
     }
 }
 
-/// The length of a node's microtick that holds in a cycle, None where no row holds.
+// The length of a node's microtick that holds in a cycle, None where no row holds.
 pub(crate) fn held_length(rows: &BTreeMap<LengthKey, i64>, node: NodeId, cycle: u32) -> Option<i64>
     ensures { result ≡ held (λ from. get length_cmp rows.now (length_key node from)) cycle }
 {
@@ -43,7 +43,7 @@ pub(crate) fn held_length(rows: &BTreeMap<LengthKey, i64>, node: NodeId, cycle: 
     }
 }
 
-/// The delay of a link that holds in a cycle, None where no row holds.
+// The delay of a link that holds in a cycle, None where no row holds.
 pub(crate) fn held_delay(
     rows: &BTreeMap<DelayKey, i64>,
     sender: NodeId,
@@ -68,7 +68,7 @@ pub(crate) fn held_delay(
     }
 }
 
-/// The first cycle behind `cycle` and before `end` at which a row of the node stands, else `end`.
+// The first cycle after `cycle` and before `end` at which a row of the node stands, else `end`.
 pub(crate) fn next_length_row(
     rows: &BTreeMap<LengthKey, i64>,
     node: NodeId,
@@ -89,7 +89,7 @@ pub(crate) fn next_length_row(
     }
 }
 
-/// The first cycle behind `cycle` and before `end` at which a row of the link stands, else `end`.
+// The first cycle after `cycle` and before `end` at which a row of the link stands, else `end`.
 pub(crate) fn next_delay_row(
     rows: &BTreeMap<DelayKey, i64>,
     sender: NodeId,

@@ -12,7 +12,7 @@ use Rattle.fr_frame.specs.declared.fault.FrameFault.{FrameFault}
 use Rattle.fr_frame.specs.Frame.{header_bytes, trailer_bytes, IsFrameWith, IsFrame, IsNoFrame}
 use Rattle.fr_frame.specs.Fault.{IsFirstFault}
 use Rattle.fr_frame.specs.Refusal.{HasGoodPayload, IsAccepted}
-use Rattle.fr_frame.specs.Reading.{crc_of, body_from, frame_of, payload_of, read_as}
+use Rattle.fr_frame.specs.Reading.{crc_of, body_from, frame_of, payload_in, read_as}
 use Rattle.fr_frame.proofs.Parts.{header_is_one, frame-length, frame_checks}
 use Rattle.fr_frame.proofs.Reading.{Reads, reads}
 
@@ -26,7 +26,7 @@ spelling_is_one channel h payload first second (a, (b, one)) (c, (d, other)) =
     ∙ ap (λ (x : ℕ). header_bytes h c ++ payload ++ trailer_bytes x) frame_crc
     ∙ sym other.spelled
 
--- the payload stands behind the header
+-- the payload stands after the header
 pub frame_payload : (channel : Channel) (h : Header) (payload : List ℕ) (a b : ℕ) (bytes : List ℕ) → IsFrameWith channel h payload a b bytes → payload ≡ take (2 * h.words) (drop 5 bytes)
 frame_payload channel h payload a b bytes is =
     let front : List ℕ = header_bytes h a in
@@ -47,7 +47,7 @@ lengths_fit channel h payload bytes (a, (b, is)) =
 -- ---- what bytes are read as
 
 -- bytes that are read as a header are a frame with it
-pub read_frame : (channel : Channel) (bytes : List ℕ) (h : Header) → All (λ b. b < 2 ^ 8) bytes → read_as channel bytes ≡ Ok h → IsFrame channel h (payload_of h bytes) bytes
+pub read_frame : (channel : Channel) (bytes : List ℕ) (h : Header) → All (λ b. b < 2 ^ 8) bytes → read_as channel bytes ≡ Ok h → IsFrame channel h (payload_in h bytes) bytes
 read_frame channel bytes h small is =
     let P : Result Header FrameFault → Type 0 = λ (r : Result Header FrameFault). Reads channel bytes r in
     subst P is (reads channel bytes small)
@@ -63,7 +63,7 @@ pub no_frame_has_fault : (channel : Channel) (bytes : List ℕ) → All (λ b. b
 no_frame_has_fault channel bytes small none = found (read_as channel bytes) (reads channel bytes small)
   where
     found : (r : Result Header FrameFault) → Reads channel bytes r → (fault : FrameFault) × IsFirstFault channel bytes fault
-    found (Ok h) frame = absurd (none h (payload_of h bytes) frame)
+    found (Ok h) frame = absurd (none h (payload_in h bytes) frame)
     found (Err fault) first = (fault, first)
 
 -- ---- the bytes of a header and a payload

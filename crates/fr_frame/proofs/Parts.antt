@@ -27,7 +27,7 @@ whole_is_one channel bytes h g a b same one other =
     let P : Header → Type 0 = λ (x : Header). IsFrameCrc channel (body_of x bytes) a in
     frame_crc_is_one channel (body_of g bytes) a b (subst P same one) other
 
--- so is the one that stands behind them
+-- so is the one that stands after them
 pub trailer_is_one : (bytes : List ℕ) (h g : Header) (a b : ℕ) → h ≡ g → trailer_of h bytes ≡ trailer_bytes a → trailer_of g bytes ≡ trailer_bytes b → a ≡ b
 trailer_is_one bytes h g a b same one other =
     trailer_is_told a b (sym one ∙ ap (λ (x : Header). trailer_of x bytes) same ∙ other)
@@ -99,7 +99,7 @@ read_length bytes h kept computed n enough id words cycle fits spelled right sam
       long = omega arith;
     }
 
--- what stands behind header and payload, as the reader takes it
+-- what stands after header and payload, as the reader takes it
 pub read_trailer : (bytes : List ℕ) (h : Header) (n kept : ℕ) → n ≡ h.words → take (length bytes - (5 + 2 * n)) (drop (5 + 2 * n) bytes) ≡ trailer_bytes kept → trailer_of h bytes ≡ trailer_bytes kept
 read_trailer bytes h n kept counted spelled =
     ap (λ (m : ℕ). drop (5 + 2 * m) bytes) (sym counted) ∙ sym (take_rest bytes (5 + 2 * n)) ∙ spelled

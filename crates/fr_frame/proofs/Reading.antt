@@ -14,7 +14,7 @@ use Rattle.fr_frame.specs.declared.fault.FrameFault.{FrameFault}
 use Rattle.fr_frame.specs.declared.fault.FrameFault.TheVariants.{Short, HeaderCrc, Length, FrameCrc, ZeroId, StartupNotSync}
 use Rattle.fr_frame.specs.Frame.{bit, header_bytes, trailer_bytes, IsFrame}
 use Rattle.fr_frame.specs.Fault.{HasHeader, HasRightHeader, HasRightLength, HasRightChecks, IsFirstFault, body_of, trailer_of}
-use Rattle.fr_frame.specs.Reading.{crc_of, header_of, header_crc_in, frame_crc_in, payload_of, read_checked, read_long, read_right, read_enough, read_as}
+use Rattle.fr_frame.specs.Reading.{crc_of, header_of, header_crc_in, frame_crc_in, payload_in, read_checked, read_long, read_right, read_enough, read_as}
 use Rattle.fr_frame.proofs.Bytes.{five, three}
 use Rattle.fr_frame.proofs.Parts.{checks_frame}
 
@@ -95,7 +95,7 @@ trailer_held back long small =
 
 -- ---- what the bytes are, where they are read as this
 abbrev pub Reads : Channel → List ℕ → Result Header FrameFault → Type 0
-Reads channel bytes (Ok header) = IsFrame channel header (payload_of header bytes) bytes
+Reads channel bytes (Ok header) = IsFrame channel header (payload_in header bytes) bytes
 Reads channel bytes (Err fault) = IsFirstFault channel bytes fault
 
 reads_checked : (channel : Channel) (bytes : List ℕ) (h : Header) (a b : ℕ) → HasRightChecks channel bytes h a b → Reads channel bytes (read_checked h)
@@ -106,7 +106,7 @@ reads_checked channel bytes h a b checks =
     cond_both (h.startup && not h.sync) (Err StartupNotSync) (Ok h) (Reads channel bytes)
     (λ alone. let parts : (h.startup ≡ true) × (not h.sync ≡ true) = and_parts h.startup (not h.sync) alone in
     record { header = h; header_crc = a; frame_crc = b; checks_right = checks; id_some = some; startup = parts.0; no_sync = not-true h.sync parts.1 })
-    (λ together. (a, (b, checks_frame channel bytes (payload_of h bytes) h a b checks some (in_sync together) refl))))
+    (λ together. (a, (b, checks_frame channel bytes (payload_in h bytes) h a b checks some (in_sync together) refl))))
   where
     named : Result Header FrameFault
     named = cond (h.startup && not h.sync) (Err StartupNotSync) (Ok h)

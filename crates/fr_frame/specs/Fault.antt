@@ -19,7 +19,7 @@ pub record HasHeader (bytes : List ℕ) (header : Header) (kept : ℕ) : Type 0 
 abbrev pub body_of : Header → List ℕ → List ℕ
 body_of header bytes = take (5 + 2 * header.words) bytes
 
--- what stands behind them
+-- what stands after them
 abbrev pub trailer_of : Header → List ℕ → List ℕ
 trailer_of header bytes = drop (5 + 2 * header.words) bytes
 

@@ -44,7 +44,7 @@ IsFrame channel header payload bytes = (header_crc : ℕ) × ((frame_crc : ℕ) 
 abbrev pub IsNoFrame : Channel → List ℕ → Type 0
 IsNoFrame channel bytes = (header : Header) (payload : List ℕ) → IsFrame channel header payload bytes → ⊥
 
--- the one slice is a part of the other: it lies in the same memory, so many bytes behind its start
+-- the one slice is a part of the other: it lies in the same memory, so many bytes after its start
 pub record IsPartAt (part whole : Bor (List ℕ)) (skipped : ℕ) : Type 0 where
   pub memory : part.ref_ptr.0 ≡ whole.ref_ptr.0
   pub place : part.ref_ptr.1 ≡ whole.ref_ptr.1 + skipped

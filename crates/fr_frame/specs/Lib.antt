@@ -1,3 +1,4 @@
+-- what the public contract cites
 pub mod Frame
 pub mod Fault
 pub mod Refusal

@@ -48,8 +48,8 @@ abbrev pub frame_crc_in : List ℕ → ℕ
 frame_crc_in bytes = slice_index bytes 0 * 65536 + slice_index bytes 1 * 256 + slice_index bytes 2
 
 -- the bytes of the payload, as many as the header states
-abbrev pub payload_of : Header → List ℕ → List ℕ
-payload_of header bytes = take (2 * header.words) (drop 5 bytes)
+abbrev pub payload_in : Header → List ℕ → List ℕ
+payload_in header bytes = take (2 * header.words) (drop 5 bytes)
 
 -- with both CRCs right
 abbrev pub read_checked : Header → Result Header FrameFault

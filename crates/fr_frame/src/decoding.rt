@@ -37,7 +37,7 @@ pub fn decode(channel: Channel, bytes: &[u8]) -> Result<Frame<'_>, FrameFault>
     // The frame is that of the bytes, with both its CRCs.
     ensures found { IfOk result (λ f.
         IsFrameWith channel f.header f.payload.now f.header_crc f.frame_crc bytes.now) }
-    // The payload is the bytes' own part behind the header.
+    // The payload is the bytes' own part after the header.
     ensures part { IfOk result (λ f. IsPartAt f.payload bytes.entry 5) }
     // Only what is no frame is refused.
     ensures only { OnErr result (IsNoFrame channel bytes.now) }

@@ -6,7 +6,7 @@ ghost use Rattle.fr_frame.specs.declared.fault.EncodeFault.{EncodeFault};
 ghost use Rattle.fr_frame.specs.Refusal.{IsAccepted, IsFirstRefusal};
 ghost use Rattle.fr_frame.specs.Frame.{IsFrame, IsNoFrame};
 ghost use Rattle.fr_frame.specs.Fault.{IsFirstFault};
-ghost use Rattle.fr_frame.specs.Reading.{frame_of, payload_of, read_as};
+ghost use Rattle.fr_frame.specs.Reading.{frame_of, payload_in, read_as};
 
 /// A law: on one channel equal headers and payloads have equal bytes.
 pub fn one_spelling()
@@ -93,7 +93,7 @@ pub fn what_is_there_is_read()
 pub fn what_is_read_is_there()
     ensures frame { (channel : Channel) (bytes : List ℕ) (header : Header) →
         All (λ b. b < 2 ^ 8) bytes → read_as channel bytes ≡ Ok header →
-        IsFrame channel header (payload_of header bytes) bytes }
+        IsFrame channel header (payload_in header bytes) bytes }
     ensures fault { (channel : Channel) (bytes : List ℕ) (fault : FrameFault) →
         All (λ b. b < 2 ^ 8) bytes → read_as channel bytes ≡ Err fault →
         IsFirstFault channel bytes fault }

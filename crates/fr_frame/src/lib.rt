@@ -7,8 +7,6 @@ mod encoding;
 mod fault;
 mod header;
 mod laws;
-#[cfg(test)]
-mod tests;
 
 pub use decoding::{Frame, decode};
 pub use encoding::encode;

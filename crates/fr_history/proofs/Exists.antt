@@ -11,19 +11,19 @@ use Rattle.fr_base.specs.Event.{Event}
 use Rattle.fr_base.specs.Event.Event.{Regular, Silent, Flip, Say}
 use Rattle.fr_base.specs.declared.channel.Channel.{Channel}
 use Rattle.fr_base.specs.declared.node_row.NodeRow.{NodeRow}
-use Rattle.fr_params.specs.Sane.{IsSane}
-use Rattle.fr_params.specs.Values.{Values}
-use Rattle.fr_params.specs.declared.rows.NodeSpec.{NodeSpec}
+use Rattle.fr_cluster.specs.Sane.{IsSane}
+use Rattle.fr_cluster.specs.Values.{Values}
+use Rattle.fr_cluster.specs.declared.nodes.NodeSpec.{NodeSpec}
 use Rattle.fr_time.specs.Senders.{sender_of}
 use Rattle.fr_time.specs.declared.senders.Sending.{Sending}
 use Rattle.fr_reception.specs.Answers.{IsAnswer, answer_of}
 use Rattle.fr_reception.specs.Offers.{Offer, flipped}
 use Rattle.fr_reception.specs.Regular.{is_sync_frame, regular_frame}
-use Rattle.fr_history.specs.Setting.{IsSetting, SaysBytes, Setting, correct_nodes}
+use Rattle.fr_cluster.specs.Setting.{IsSetting, SaysBytes, Setting, correct_nodes}
 use Rattle.fr_history.specs.History.{History, row_of}
-use Rattle.fr_history.specs.Offers.{AreReceptions, IsProper, active_offer, is_on, arrived_of, offer_in, offered, offers_among, offers_to, reception_of, receptions_among, said_by, said_offer, sender_offer, sent_offer, channels, slots_of}
+use Rattle.fr_history.specs.Offers.{AreReceptions, IsProper, active_offer, is_on, arrived_of, offer_in, offer_pair, offers_among, offers_to, reception_of, receptions_among, said_in_event, said_offer, sender_offer, sent_offer, channels, static_slots_of}
 use Rattle.fr_history.specs.Terms.{status_in}
-use Rattle.fr_history.specs.Lawful.{AreCounts, IsLawful, Obeys, cut_behind, offset_behind, rate_behind, start_behind, uncorrected}
+use Rattle.fr_history.specs.Lawful.{AreCounts, IsLawful, Obeys, cut_after, offset_after, rate_after, start_after, uncorrected}
 use Rattle.fr_history.specs.Next.{early_record, early_row, early_rows, ended_row, history_of, next_counts, next_devs, next_receptions, next_record}
 use Rattle.fr_history.proofs.Lists.{All-every, All-flat_map, map-map, map_left}
 
@@ -68,7 +68,7 @@ left-bytes Silent frame small = tt
 left-bytes (Flip bit) frame small = flipped-bytes bit frame small
 left-bytes (Say shift bytes) frame small = tt
 
-said-bytes : (event : Event) (frame : List ℕ) → SaysBytes event → AreBytes frame → IfSome (said_by event frame) (λ said. AreBytes said.1)
+said-bytes : (event : Event) (frame : List ℕ) → SaysBytes event → AreBytes frame → IfSome (said_in_event event frame) (λ said. AreBytes said.1)
 said-bytes Regular frame says small = tt
 said-bytes Silent frame says small = tt
 said-bytes (Flip bit) frame says small = tt
@@ -94,7 +94,7 @@ sent-good x cycle sending sender receiver slot channel small =
 
 said-good : (x : Setting) → IsSetting x → (cycle : ℕ) (sending : Sending) (receiver : NodeRow) (slot : ℕ) (channel : Channel) → AreBytes (regular_frame x.params sending slot cycle channel) → IsGood (said_offer x cycle sending receiver slot channel)
 said-good x setting cycle sending receiver slot channel small =
-    option_map-good (λ (said : ℤ × List ℕ). AreBytes said.1) _ (λ said is. is) (said_by (x.event cycle sending.node receiver.node channel) (regular_frame x.params sending slot cycle channel))
+    option_map-good (λ (said : ℤ × List ℕ). AreBytes said.1) _ (λ said is. is) (said_in_event (x.event cycle sending.node receiver.node channel) (regular_frame x.params sending slot cycle channel))
     (said-bytes (x.event cycle sending.node receiver.node channel) (regular_frame x.params sending slot cycle channel) (setting.bytes cycle sending.node receiver.node channel) small)
 
 active-good : (x : Setting) (cycle : ℕ) (sending : Sending) (sender : Option NodeRow) (receiver : NodeRow) (slot : ℕ) (channel : Channel) → AreBytes (regular_frame x.params sending slot cycle channel) → IsGood (active_offer x cycle sending sender receiver slot channel)
@@ -129,7 +129,7 @@ offers-good frames x setting cycle rows =
     (All-flat_map IsOfBytes (λ slot. flat_map (λ channel. option_to_list (offer_in x cycle rows receiver slot channel)) channels)
     (λ slot. All-flat_map IsOfBytes (λ channel. option_to_list (offer_in x cycle rows receiver slot channel))
     (λ channel. listed-good (offer_in x cycle rows receiver slot channel) (offer-good frames x setting cycle rows receiver slot channel)) channels)
-    (slots_of x)))
+    (static_slots_of x)))
     rows
 
 -- ---- the receptions that the function gives are those of the laws
@@ -138,7 +138,7 @@ pub receptions_are : AnswersExist → FramesAreBytes → (x : Setting) → IsSet
 receptions_are answers frames x setting cycle rows =
     let pairs : List (NodeRow × Offer) = offers_among x cycle rows in
     record {
-      whole = map-map offered (reception_of x cycle) pairs ∙ map_left (λ pair. offered (reception_of x cycle pair)) pairs (All-every (λ pair. offered (reception_of x cycle pair) ≡ pair) (λ pair. refl) pairs);
+      whole = map-map offer_pair (reception_of x cycle) pairs ∙ map_left (λ pair. offer_pair (reception_of x cycle pair)) pairs (All-every (λ pair. offer_pair (reception_of x cycle pair) ≡ pair) (λ pair. refl) pairs);
       answered = All-map (IsProper x cycle) (reception_of x cycle) pairs
           (All-weaker (λ (pair : NodeRow × Offer). IsOfBytes pair.1) (λ pair. IsProper x cycle (reception_of x cycle pair))
           (λ pair small. answers x.params cycle pair.0 pair.1 small) pairs (offers-good frames x setting cycle rows));
@@ -174,13 +174,15 @@ record_obeys answers frames x setting h =
     let Heard : List NodeRow → Type 0 = λ rs. AreReceptions x (length h) rs (next_receptions x h) in
     let Counted : List NodeRow → Type 0 = λ rs. AreCounts x (length h) rs (next_receptions x h) (next_counts x h) in
     record {
-      nodes = numbers_are x h;
-      starts = each_row x h (λ row. row.start ≡ start_behind x h row.node) (λ node. refl);
-      lengths = each_row x h (λ row. row.length ≡ x.microtick row.node (length h)) (λ node. refl);
-      rates = each_row x h (λ row. row.rate ≡ rate_behind x h row.node) (λ node. refl);
-      states = each_row x h (λ row. row.state ≡ (status_in x h row.node).state) (λ node. refl);
-      offsets = each_row x h (λ row. row.offset ≡ offset_behind x h (next_record x h) row) (λ node. refl);
-      cuts = each_row x h (λ row. row.cut ≡ cut_behind x h (next_record x h) row) (λ node. refl);
+      clocks = record {
+        nodes = numbers_are x h;
+        starts = each_row x h (λ row. row.start ≡ start_after x h row.node) (λ node. refl);
+        lengths = each_row x h (λ row. row.length ≡ x.microtick row.node (length h)) (λ node. refl);
+        rates = each_row x h (λ row. row.rate ≡ rate_after x h row.node) (λ node. refl);
+        states = each_row x h (λ row. row.state ≡ (status_in x.params h row.node).state) (λ node. refl);
+        offsets = each_row x h (λ row. row.offset ≡ offset_after x.params h (next_record x h) row) (λ node. refl);
+      };
+      cuts = each_row x h (λ row. row.cut ≡ cut_after x.params h (next_record x h) row) (λ node. refl);
       receptions = next_receptions x h;
       received = subst Heard (sym rows) (receptions_are answers frames x setting (length h) (early_rows x h));
       devs = refl;

@@ -4,3 +4,9 @@ pub mod Exists
 pub mod Greatest
 pub mod Synced
 pub mod Parts
+pub mod Flat
+pub mod Marks
+pub mod Devs
+pub mod KeySlots
+pub mod Rows
+pub mod Gauged

@@ -30,7 +30,7 @@ pub All-every : {A : Type 0} (P : A → Type 0) → ((x : A) → P x) → (xs : 
 All-every P each [] = All-nil P
 All-every P each (x ∷ xs) = All-cons P x xs (each x) (All-every P each xs)
 
--- a fact of each element of the lists that are put behind one another
+-- a fact of each element of the lists that are put after one another
 pub All-flat_map : {A B : Type 0} (P : B → Type 0) (f : A → List B) → ((x : A) → All P (f x)) → (xs : List A) → All P (flat_map f xs)
 All-flat_map P f each [] = All-nil P
 All-flat_map P f each (x ∷ xs) = rw (flat_map-cons f x xs) (All-append P (f x) (flat_map f xs) (each x) (All-flat_map P f each xs))

@@ -1,10 +1,10 @@
 -- The history of fewer cycles is a part of that of more.
 use Rattle.std.proofs.Common.{◌≡◌, ◌⊎◌, ℕ, zero, suc, ◌+◌, ◌<◌, Some, drop, length, refl, sym, ◌∙◌, ap, inl, inr, arith, ◌∷◌}
-use Rattle.fr_history.specs.Setting.{Setting}
+use Rattle.fr_cluster.specs.Setting.{Setting}
 use Rattle.fr_history.specs.History.{record_at}
 use Rattle.fr_history.specs.Next.{history_of, next_record}
 use Rattle.fr_history.proofs.Exists.{length-history_of}
-use Rattle.fr_history.proofs.Greatest.{record_behind, record_here}
+use Rattle.fr_history.proofs.Greatest.{record_after, record_here}
 
 history_of-suc : (x : Setting) (n : ℕ) → history_of x (suc n) ≡ next_record x (history_of x n) ∷ history_of x n
 unfolding history_of
@@ -21,9 +21,9 @@ record_at-history_of x cycle zero below = absurd (omega arith)
 record_at-history_of x cycle (suc n) below = by_place (record_at-history_of x cycle n) (grind arith)
   where
     by_place : (cycle < n → record_at (history_of x n) cycle ≡ Some (next_record x (history_of x cycle))) → (cycle ≡ n) ⊎ (cycle < n) → record_at (history_of x (suc n)) cycle ≡ Some (next_record x (history_of x cycle))
-    by_place behind (inl same) =
+    by_place after (inl same) =
         let long : length (history_of x n) ≡ n = length-history_of x n in
         rw (history_of-suc x n, same) (ap (record_at (next_record x (history_of x n) ∷ history_of x n)) (sym long) ∙ record_here (next_record x (history_of x n)) (history_of x n))
-    by_place behind (inr less) =
+    by_place after (inr less) =
         let long : length (history_of x n) ≡ n = length-history_of x n in
-        rw (history_of-suc x n) (record_behind (next_record x (history_of x n)) (history_of x n) cycle (omega (arith, long)) ∙ behind less)
+        rw (history_of-suc x n) (record_after (next_record x (history_of x n)) (history_of x n) cycle (omega (arith, long)) ∙ after less)

@@ -3,21 +3,21 @@ use Rattle.std.proofs.Common.{◌≡◌, ◌⊎◌, ℕ, zero, suc, ◌+◌, ◌
 use Rattle.std.specs.Prelude.{find}
 use Rattle.std.specs.List.{range_with_len}
 use Rattle.std.proofs.lemmas.List.{length-append}
-use Rattle.fr_params.specs.Values.{Values}
+use Rattle.fr_cluster.specs.Values.{Values}
 use Rattle.fr_bound.proofs.Sync.{in_sync_from, to_in_sync}
 use Rattle.fr_time.specs.Cycles.{even_cycle, odd_cycle}
 use Rattle.fr_history.specs.History.{History, IsRecordOf, Record, record_at}
 use Rattle.fr_history.specs.Sync.{IsFirstInSync, IsInSyncAt, first_sync_of, is_sync_at, is_sync_by}
-use Rattle.fr_history.proofs.Greatest.{record_behind, record_here}
+use Rattle.fr_history.proofs.Greatest.{record_after, record_here}
 
 -- ---- the record of a cycle
 
 record_at-lt_by : (s : Record) (h : History) (n : ℕ) (r : Record) (b : Bool) → (length h == n) ≡ b → (record_at h n ≡ Some r → n < length h) → record_at (s ∷ h) n ≡ Some r → n < suc (length h)
 unfolding record_at
-record_at-lt_by s h n r true same behind is = let e : length h ≡ n = grind arith in omega arith
-record_at-lt_by s h n r false other behind is =
+record_at-lt_by s h n r true same after is = let e : length h ≡ n = grind arith in omega arith
+record_at-lt_by s h n r false other after is =
     let moved : record_at (s ∷ h) n ≡ record_at h n = rw other refl in
-    let below : n < length h = behind (sym moved ∙ is) in
+    let below : n < length h = after (sym moved ∙ is) in
     omega arith
 
 pub record_at-lt : (h : History) (n : ℕ) (r : Record) → record_at h n ≡ Some r → n < length h
@@ -29,7 +29,7 @@ record_at-lt (s ∷ h) n r is = record_at-lt_by s h n r (length h == n) refl (re
 pub record_of_cut : (later earlier : History) (r : Record) → record_at (later ++ r ∷ earlier) (length earlier) ≡ Some r
 record_of_cut [] earlier r = record_here r earlier
 record_of_cut (s ∷ later) earlier r =
-    record_behind s (later ++ r ∷ earlier) (length earlier) (let e : length (later ++ r ∷ earlier) ≡ length later + suc (length earlier) = length-append later (r ∷ earlier) in omega (arith, e))
+    record_after s (later ++ r ∷ earlier) (length earlier) (let e : length (later ++ r ∷ earlier) ≡ length later + suc (length earlier) = length-append later (r ∷ earlier) in omega (arith, e))
     ∙ record_of_cut later earlier r
 
 pub record_of_part : (h : History) (n : ℕ) (r : Record) → IsRecordOf h n r → record_at h n ≡ Some r
@@ -37,15 +37,15 @@ record_of_part h n r is = rw (is.parted, ← is.counted) (record_of_cut is.later
 
 cut_of_record_by : (s : Record) (h : History) (n : ℕ) (r : Record) (b : Bool) → (length h == n) ≡ b → (record_at h n ≡ Some r → IsRecordOf h n r) → record_at (s ∷ h) n ≡ Some r → IsRecordOf (s ∷ h) n r
 unfolding record_at
-cut_of_record_by s h n r true same behind is =
+cut_of_record_by s h n r true same after is =
     let e : length h ≡ n = grind arith in
     let here : record_at (s ∷ h) n ≡ Some s = rw same refl in
     let found : Some s ≡ Some r = sym here ∙ is in
     let one : s ≡ r = cc in
     record { later = []; earlier = h; parted = ap (λ (t : Record). t ∷ h) one; counted = e }
-cut_of_record_by s h n r false other behind is =
+cut_of_record_by s h n r false other after is =
     let moved : record_at (s ∷ h) n ≡ record_at h n = rw other refl in
-    let cut : IsRecordOf h n r = behind (sym moved ∙ is) in
+    let cut : IsRecordOf h n r = after (sym moved ∙ is) in
     record { later = s ∷ cut.later; earlier = cut.earlier; parted = ap (λ (t : History). s ∷ t) cut.parted; counted = cut.counted }
 
 pub cut_of_record : (h : History) (n : ℕ) (r : Record) → record_at h n ≡ Some r → IsRecordOf h n r
@@ -66,14 +66,14 @@ earlier_in test from count k fails rest j (inl same) high = ap test same ∙ fai
 earlier_in test from count k fails rest j (inr above) high = rest.earlier j above high
 
 found_first_by : (test : ℕ → Bool) (from count k : ℕ) (b : Bool) → test from ≡ b → (find test (range_with_len (from + 1) count) ≡ Some k → IsFirstOf test (from + 1) count k) → find test (range_with_len from (suc count)) ≡ Some k → IsFirstOf test from (suc count) k
-found_first_by test from count k true passes behind is =
+found_first_by test from count k true passes after is =
     let here : find test (range_with_len from (suc count)) ≡ Some from = rw passes refl in
     let found : Some from ≡ Some k = sym here ∙ is in
     let one : from ≡ k = cc in
     record { from_below = omega arith; within = omega arith; passes = ap test (sym one) ∙ passes; earlier = λ j low high. absurd (omega arith) }
-found_first_by test from count k false fails behind is =
+found_first_by test from count k false fails after is =
     let moved : find test (range_with_len from (suc count)) ≡ find test (range_with_len (from + 1) count) = rw fails refl in
-    let rest : IsFirstOf test (from + 1) count k = behind (sym moved ∙ is) in
+    let rest : IsFirstOf test (from + 1) count k = after (sym moved ∙ is) in
     record {
       from_below = omega (arith, rest.from_below);
       within = omega (arith, rest.within);
@@ -87,14 +87,14 @@ found_first test from (suc count) k is = found_first_by test from count k (test 
 
 none_passes_by : (test : ℕ → Bool) (from count : ℕ) (b : Bool) → test from ≡ b → (find test (range_with_len (from + 1) count) ≡ None → (j : ℕ) → from + 1 ≤ j → j < from + 1 + count → test j ≡ false) →
     find test (range_with_len from (suc count)) ≡ None → (j : ℕ) → from ≤ j → j < from + suc count → (j ≡ from) ⊎ (from + 1 ≤ j) → test j ≡ false
-none_passes_by test from count true passes behind is j low high place =
+none_passes_by test from count true passes after is j low high place =
     let here : find test (range_with_len from (suc count)) ≡ Some from = rw passes refl in
     let found : Some from ≡ None = sym here ∙ is in
     absurd (cc)
-none_passes_by test from count false fails behind is j low high (inl same) = ap test same ∙ fails
-none_passes_by test from count false fails behind is j low high (inr above) =
+none_passes_by test from count false fails after is j low high (inl same) = ap test same ∙ fails
+none_passes_by test from count false fails after is j low high (inr above) =
     let moved : find test (range_with_len from (suc count)) ≡ find test (range_with_len (from + 1) count) = rw fails refl in
-    behind (sym moved ∙ is) j above (omega arith)
+    after (sym moved ∙ is) j above (omega arith)
 
 none_passes : (test : ℕ → Bool) (from count : ℕ) → find test (range_with_len from count) ≡ None → (j : ℕ) → from ≤ j → j < from + count → test j ≡ false
 none_passes test from zero is j low high = absurd (omega arith)
@@ -147,8 +147,8 @@ first_sync_is_one p h k l one other = by_order (grind arith)
 -- ---- each cycle of a history has a record
 
 record_at-some_by : (s : Record) (h : History) (n : ℕ) → n < suc (length h) → (n < length h → IsSome (record_at h n)) → (n ≡ length h) ⊎ (n < length h) → IsSome (record_at (s ∷ h) n)
-record_at-some_by s h n below behind (inl same) = rw (same, record_here s h) refl
-record_at-some_by s h n below behind (inr less) = rw (record_behind s h n less) (behind less)
+record_at-some_by s h n below after (inl same) = rw (same, record_here s h) refl
+record_at-some_by s h n below after (inr less) = rw (record_after s h n less) (after less)
 
 pub record_at-some : (h : History) (n : ℕ) → n < length h → IsSome (record_at h n)
 record_at-some [] n below = absurd (omega arith)

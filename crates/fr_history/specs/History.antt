@@ -11,8 +11,8 @@ pub record Record : Type 0 where
   pub devs : List Dev
   pub counts : Counts
 
--- The records of cycles from 0 on, the latest first. So the number of a record's cycle is how many records stand behind
--- it in the list, which are those of the cycles before it; "behind a history" means: in the cycle that follows it. A
+-- The records of cycles from 0 on, the latest first. So the number of a record's cycle is how many records stand after
+-- it in the list, which are those of the cycles before it; "after a history" means: in the cycle that follows it. A
 -- history with records taken off at the head is a history too.
 abbrev pub History : Type 0
 History = List Record
@@ -32,3 +32,11 @@ record_at (r ∷ h) cycle = if length h == cycle then Some r else record_at h cy
 -- the row of a node, if it has one
 abbrev pub row_of : List NodeRow → ℕ → Option NodeRow
 row_of rows node = find (λ row. row.node == node) rows
+
+-- the row of a node whose clock follows from a record, if it has one: the clocks of a record are those of its rows
+abbrev pub clock_of : Record → ℕ → Option NodeRow
+clock_of r node = row_of r.rows node
+
+-- the deviations of the clocks of a record
+abbrev pub heard_in : Record → List Dev
+heard_in r = r.devs

@@ -4,12 +4,14 @@ use Rattle.fr_base.specs.States.{is_halted}
 use Rattle.fr_base.specs.declared.channel.Channel.TheVariants.{A, B}
 use Rattle.fr_base.specs.declared.cycle_row.Counts.{Counts}
 use Rattle.fr_base.specs.declared.node_row.NodeRow.{NodeRow}
+use Rattle.fr_cluster.specs.Values.{Values}
+use Rattle.fr_cluster.specs.declared.nodes.NodeSpec.{NodeSpec}
 use Rattle.fr_time.specs.Cycles.{is_odd}
 use Rattle.fr_time.specs.Instant.{next_start_of}
 use Rattle.fr_time.specs.Position.{grid_for}
 use Rattle.fr_reception.specs.Regular.{carried_crc}
-use Rattle.fr_history.specs.Setting.{Setting, correct_nodes}
-use Rattle.fr_history.specs.History.{History, Record, row_of}
+use Rattle.fr_cluster.specs.Setting.{Setting, correct_nodes}
+use Rattle.fr_history.specs.History.{History, Record, clock_of, heard_in}
 use Rattle.fr_history.specs.Offers.{AreReceptions, Reception, devs_among, frames_on}
 use Rattle.fr_history.specs.Kinds.{is_stored, is_outside, is_damaged, is_wrong_id, is_wrong_cycle, is_wrong_length, is_plain}
 use Rattle.fr_history.specs.Terms.{cuts_in, offset_term_in, rate_term_in, status_in}
@@ -17,38 +19,38 @@ use Rattle.fr_history.specs.Terms.{cuts_in, offset_term_in, rate_term_in, status
 -- ---- the laws of a row, each as a function of the records before it
 
 -- the start that follows from the row of the cycle before: the end of that cycle
-abbrev pub start_by : Setting → Option NodeRow → ℤ
-start_by x None = pos 0
-start_by x (Some before) = next_start_of (grid_for x.params) before
+abbrev pub start_by : Values → Option NodeRow → ℤ
+start_by p None = pos 0
+start_by p (Some before) = next_start_of (grid_for p) before
 
 -- starts: that of cycle 0 is given, and each cycle begins where the one before ends
-abbrev pub start_behind : Setting → History → ℕ → ℤ
-start_behind x [] node = x.start node
-start_behind x (r ∷ h) node = start_by x (row_of r.rows node)
+abbrev pub start_after : Setting → History → ℕ → ℤ
+start_after x [] node = x.start node
+start_after x (r ∷ h) node = start_by x.params (clock_of r node)
 
 -- whether a row's cycle ends with corrections: an odd cycle of a node that is not halted
 abbrev pub is_corrected : History → NodeRow → Bool
 is_corrected h row = is_odd (length h) && not (is_halted row.state)
 
--- the rate term that follows from the row of the cycle before: within a double cycle it stays; behind one it is the
+-- the rate term that follows from the row of the cycle before: within a double cycle it stays; after one it is the
 -- rate term of that double cycle's deviations, and a halted node keeps its own
-abbrev pub rate_by : Setting → History → Record → Option NodeRow → ℤ
-rate_by x h r None = pos 0
-rate_by x h r (Some before) =
-    if is_corrected h before then (rate_term_in x h r.devs before).value else before.rate
+abbrev pub rate_by : Values → History → Record → Option NodeRow → ℤ
+rate_by p h r None = pos 0
+rate_by p h r (Some before) =
+    if is_corrected h before then (rate_term_in p h (heard_in r) before).value else before.rate
 
 -- rates: that of cycle 0 is given
-abbrev pub rate_behind : Setting → History → ℕ → ℤ
-rate_behind x [] node = x.rate node
-rate_behind x (r ∷ h) node = rate_by x h r (row_of r.rows node)
+abbrev pub rate_after : Setting → History → ℕ → ℤ
+rate_after x [] node = x.rate node
+rate_after x (r ∷ h) node = rate_by x.params h r (clock_of r node)
 
 -- offsets: 0 in even cycles and in Halt, else the offset term
-abbrev pub offset_behind : Setting → History → Record → NodeRow → ℤ
-offset_behind x h r row = if is_corrected h row then (offset_term_in x h r.devs row.node).value else pos 0
+abbrev pub offset_after : Values → History → Record → NodeRow → ℤ
+offset_after p h r row = if is_corrected h row then (offset_term_in p h (heard_in r) row.node).value else pos 0
 
 -- cuts: none in even cycles and in Halt, else how many of the two terms were cut
-abbrev pub cut_behind : Setting → History → Record → NodeRow → ℕ
-cut_behind x h r row = if is_corrected h row then cuts_in x h r.devs row else 0
+abbrev pub cut_after : Values → History → Record → NodeRow → ℕ
+cut_after p h r row = if is_corrected h row then cuts_in p h (heard_in r) row else 0
 
 -- a row before the corrections at the end of its cycle
 abbrev pub uncorrected : NodeRow → NodeRow
@@ -76,16 +78,28 @@ pub record AreCounts (x : Setting) (cycle : ℕ) (rows : List NodeRow) (receptio
 
 -- ---- the laws of a record
 
--- a record obeys the laws behind the records before it; the number of its cycle is how many they are
-pub record Obeys (x : Setting) (h : History) (r : Record) : Type 0 where
-  -- each correct node has a row, and no other has
-  pub nodes : map (λ row. row.node) r.rows ≡ map (λ node. node.id) (correct_nodes x)
-  pub starts : All (λ row. row.start ≡ start_behind x h row.node) r.rows
+-- the nodes that have a row in the cycle after a history: all correct ones
+abbrev pub row_nodes : Setting → History → List NodeSpec
+row_nodes x h = correct_nodes x
+
+-- the clocks of a record obey the laws after the records before it, by the deviations that it has; the number of its
+-- cycle is how many they are
+pub record ClocksRun (x : Setting) (h : History) (r : Record) : Type 0 where
+  pub nodes : map (λ row. row.node) r.rows ≡ map (λ node. node.id) (row_nodes x h)
+  pub starts : All (λ row. row.start ≡ start_after x h row.node) r.rows
   pub lengths : All (λ row. row.length ≡ x.microtick row.node (length h)) r.rows
-  pub rates : All (λ row. row.rate ≡ rate_behind x h row.node) r.rows
-  pub states : All (λ row. row.state ≡ (status_in x h row.node).state) r.rows
-  pub offsets : All (λ row. row.offset ≡ offset_behind x h r row) r.rows
-  pub cuts : All (λ row. row.cut ≡ cut_behind x h r row) r.rows
+  pub rates : All (λ row. row.rate ≡ rate_after x h row.node) r.rows
+  pub states : All (λ row. row.state ≡ (status_in x.params h row.node).state) r.rows
+  pub offsets : All (λ row. row.offset ≡ offset_after x.params h r row) r.rows
+
+-- and so does what they tell of cut terms
+abbrev pub CutsRun : Setting → History → Record → Type 0
+CutsRun x h r = All (λ row. row.cut ≡ cut_after x.params h r row) r.rows
+
+-- a record obeys the laws after the records before it
+pub record Obeys (x : Setting) (h : History) (r : Record) : Type 0 where
+  pub clocks : ClocksRun x h r
+  pub cuts : CutsRun x h r
   -- each offer has its answer
   pub receptions : List Reception
   pub received : AreReceptions x (length h) (map uncorrected r.rows) receptions

@@ -1,4 +1,4 @@
-pub mod Setting
+-- what the public contract cites
 pub mod History
 pub mod Recorded
 pub mod Offers
@@ -8,3 +8,4 @@ pub mod Lawful
 pub mod Next
 pub mod Skew
 pub mod Sync
+pub mod Gauged

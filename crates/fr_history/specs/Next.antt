@@ -4,28 +4,28 @@ use Rattle.fr_base.specs.declared.channel.Channel.TheVariants.{A, B}
 use Rattle.fr_base.specs.declared.cycle_row.Counts.{Counts}
 use Rattle.fr_base.specs.declared.dev.Dev.{Dev}
 use Rattle.fr_base.specs.declared.node_row.NodeRow.{NodeRow}
-use Rattle.fr_history.specs.Setting.{Setting, correct_nodes}
+use Rattle.fr_cluster.specs.Setting.{Setting}
 use Rattle.fr_history.specs.History.{History, Record}
 use Rattle.fr_history.specs.Offers.{Reception, devs_among, frames_on, receptions_among}
 use Rattle.fr_history.specs.Kinds.{is_stored, is_outside, is_damaged, is_wrong_id, is_wrong_cycle, is_wrong_length, is_plain}
 use Rattle.fr_history.specs.Terms.{status_in}
-use Rattle.fr_history.specs.Lawful.{crcs_sum, cut_behind, offset_behind, rate_behind, start_behind}
+use Rattle.fr_history.specs.Lawful.{crcs_sum, cut_after, offset_after, rate_after, row_nodes, start_after}
 
 -- the row of a node in the next cycle, before its corrections
 unfoldable pub early_row : Setting → History → ℕ → NodeRow
 early_row x h node = record {
   node = node;
-  start = start_behind x h node;
+  start = start_after x h node;
   length = x.microtick node (length h);
-  rate = rate_behind x h node;
+  rate = rate_after x h node;
   offset = pos 0;
-  state = (status_in x h node).state;
+  state = (status_in x.params h node).state;
   cut = 0;
 }
 
--- the rows of all correct nodes
+-- the rows of all nodes that have one
 abbrev pub early_rows : Setting → History → List NodeRow
-early_rows x h = map (λ node. early_row x h node.id) (correct_nodes x)
+early_rows x h = map (λ node. early_row x h node.id) (row_nodes x h)
 
 -- what they hear
 abbrev pub next_receptions : Setting → History → List Reception
@@ -53,7 +53,7 @@ next_counts x h = record {
 
 -- a row with its corrections
 abbrev pub ended_row : Setting → History → Record → NodeRow → NodeRow
-ended_row x h r row = record row { offset = offset_behind x h r row; cut = cut_behind x h r row }
+ended_row x h r row = record row { offset = offset_after x.params h r row; cut = cut_after x.params h r row }
 
 -- the record before the corrections
 abbrev pub early_record : Setting → History → Record

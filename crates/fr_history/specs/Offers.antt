@@ -11,17 +11,18 @@ use Rattle.fr_base.specs.declared.channel.Channel.{Channel}
 use Rattle.fr_base.specs.declared.channel.Channel.TheVariants.{A, B}
 use Rattle.fr_base.specs.declared.dev.Dev.{Dev}
 use Rattle.fr_base.specs.declared.node_row.NodeRow.{NodeRow}
-use Rattle.fr_params.specs.Values.{amount}
-use Rattle.fr_params.specs.Questions.{compensation_of, has_channel, node_of}
-use Rattle.fr_params.specs.declared.names.ParamName.TheVariants as name
+use Rattle.fr_cluster.specs.Values.{amount}
+use Rattle.fr_cluster.specs.Questions.{compensation_of, has_channel, node_of}
+use Rattle.fr_cluster.specs.declared.names.ParamName.TheVariants as name
 use Rattle.fr_time.specs.Senders.{sender_of}
 use Rattle.fr_time.specs.declared.senders.Sending.{Sending}
 use Rattle.fr_reception.specs.Regular.{is_sync_frame, regular_frame}
-use Rattle.fr_reception.specs.Offers.{Offer, action_instant, flipped}
+use Rattle.fr_reception.specs.Offers.{Offer, flipped}
+use Rattle.fr_time.specs.Instant.{action_instant}
 use Rattle.fr_reception.specs.Answers.{IsAnswer, answer_of}
 use Rattle.fr_reception.specs.declared.heard.Heard.{Heard}
 use Rattle.fr_reception.specs.declared.heard.Heard.TheVariants.{Stored, Ignored}
-use Rattle.fr_history.specs.Setting.{Setting}
+use Rattle.fr_cluster.specs.Setting.{Setting}
 use Rattle.fr_history.specs.History.{row_of}
 
 -- whether a node of the cluster has a channel
@@ -36,11 +37,11 @@ arrived_of (Flip bit) frame = Some (flipped bit frame)
 arrived_of (Say shift bytes) frame = None
 
 -- what an arbitrary sender says, if it says something: a shift in ticks, and bytes, or else its regular frame
-abbrev pub said_by : Event → List ℕ → Option (ℤ × List ℕ)
-said_by Regular frame = None
-said_by Silent frame = None
-said_by (Flip bit) frame = None
-said_by (Say shift bytes) frame = Some (shift, unwrap_or bytes frame)
+abbrev pub said_in_event : Event → List ℕ → Option (ℤ × List ℕ)
+said_in_event Regular frame = None
+said_in_event Silent frame = None
+said_in_event (Flip bit) frame = None
+said_in_event (Say shift bytes) frame = Some (shift, unwrap_or bytes frame)
 
 -- the frame that a correct sender sends in its slot comes to a receiver its delay after the sender's action point
 abbrev pub sent_offer : Setting → ℕ → Sending → NodeRow → NodeRow → ℕ → Channel → Option Offer
@@ -64,7 +65,7 @@ said_offer x cycle sending receiver slot channel =
       arrival = action_instant x.params receiver slot +ℤ (compensation_of x.params channel *ℤ receiver.length) +ℤ said.0;
       bytes = said.1;
     })
-    (said_by (x.event cycle sending.node receiver.node channel) (regular_frame x.params sending slot cycle channel))
+    (said_in_event (x.event cycle sending.node receiver.node channel) (regular_frame x.params sending slot cycle channel))
 
 -- of a correct sender, where it is active and has the channel
 abbrev pub active_offer : Setting → ℕ → Sending → Option NodeRow → NodeRow → ℕ → Channel → Option Offer
@@ -86,8 +87,8 @@ offer_in x cycle rows receiver slot channel =
     else option_and_then (sender_offer x cycle rows receiver slot channel) (sender_of x.params slot cycle)
 
 -- the static slots in ascending order, and both channels
-abbrev pub slots_of : Setting → List ℕ
-slots_of x = range_with_len 1 (amount x.params name.gNumberOfStaticSlots)
+abbrev pub static_slots_of : Setting → List ℕ
+static_slots_of x = range_with_len 1 (amount x.params name.gNumberOfStaticSlots)
 
 abbrev pub channels : List Channel
 channels = A ∷ B ∷ []
@@ -95,7 +96,7 @@ channels = A ∷ B ∷ []
 -- what is offered to a receiver, in ascending order of slot and channel
 abbrev pub offers_to : Setting → ℕ → List NodeRow → NodeRow → List Offer
 offers_to x cycle rows receiver =
-    flat_map (λ slot. flat_map (λ channel. option_to_list (offer_in x cycle rows receiver slot channel)) channels) (slots_of x)
+    flat_map (λ slot. flat_map (λ channel. option_to_list (offer_in x cycle rows receiver slot channel)) channels) (static_slots_of x)
 
 -- what a receiver makes of an offer; its row is the one before its corrections
 pub record Reception : Type 0 where
@@ -108,16 +109,21 @@ abbrev pub IsProper : Setting → ℕ → Reception → Type 0
 IsProper x cycle reception = IsAnswer x.params cycle reception.receiver reception.offer reception.heard
 
 -- the receiver and the offer of a reception
-abbrev pub offered : Reception → NodeRow × Offer
-offered reception = (reception.receiver, reception.offer)
+abbrev pub offer_pair : Reception → NodeRow × Offer
+offer_pair reception = (reception.receiver, reception.offer)
 
--- all offers of a cycle, in ascending order of receiver, slot and channel
+-- what senders with these rows offer to receivers with those, in ascending order of receiver, slot and channel
+abbrev pub offers_between : Setting → ℕ → List NodeRow → List NodeRow → List (NodeRow × Offer)
+offers_between x cycle rows receivers =
+    flat_map (λ receiver. map (λ offer. (receiver, offer)) (offers_to x cycle rows receiver)) receivers
+
+-- all offers of a cycle: each node that has a row sends and receives
 abbrev pub offers_among : Setting → ℕ → List NodeRow → List (NodeRow × Offer)
-offers_among x cycle rows = flat_map (λ receiver. map (λ offer. (receiver, offer)) (offers_to x cycle rows receiver)) rows
+offers_among x cycle rows = offers_between x cycle rows rows
 
 -- the receptions of a cycle: one for each offer, in that order, each with its answer
 pub record AreReceptions (x : Setting) (cycle : ℕ) (rows : List NodeRow) (receptions : List Reception) : Type 0 where
-  pub whole : map offered receptions ≡ offers_among x cycle rows
+  pub whole : map offer_pair receptions ≡ offers_among x cycle rows
   pub answered : All (IsProper x cycle) receptions
 
 -- the same as a function of the rows
@@ -139,6 +145,16 @@ dev_of reception = dev_by reception.receiver reception.offer reception.heard
 abbrev pub devs_among : List Reception → List Dev
 devs_among receptions = filter_map dev_of receptions
 
+-- the deviation that an answer stores
+abbrev pub value_of : Heard → Option ℤ
+value_of (Stored value) = Some value
+value_of (Ignored why) = None
+
+-- the deviation that a node of this row stores in a slot on a channel, if it stores one
+unfoldable pub stored_in : Setting → ℕ → List NodeRow → NodeRow → ℕ → Channel → Option ℤ
+stored_in x cycle rows row slot channel =
+    option_and_then (λ offer. value_of (answer_of x.params cycle row offer)) (offer_in x cycle rows row slot channel)
+
 -- the frame of a sender, where it is an active correct node with the channel
 abbrev pub active_frame : Setting → ℕ → Sending → Option NodeRow → ℕ → Channel → Option (List ℕ)
 active_frame x cycle sending None slot channel = None
@@ -154,4 +170,4 @@ frame_in x cycle rows slot channel = option_and_then (sender_frame x cycle rows 
 
 -- the frames that correct nodes send on a channel, in ascending order of slot
 abbrev pub frames_on : Setting → ℕ → List NodeRow → Channel → List (List ℕ)
-frames_on x cycle rows channel = filter_map (λ slot. frame_in x cycle rows slot channel) (slots_of x)
+frames_on x cycle rows channel = filter_map (λ slot. frame_in x cycle rows slot channel) (static_slots_of x)

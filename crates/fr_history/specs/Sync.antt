@@ -1,7 +1,7 @@
 -- From when on the clocks of a history are in sync (this project's own).
 use Rattle.std.specs.Prelude.{◌≡◌, ℕ, ◌/◌, ◌<◌, Bool, false, length, Option, Some, None, find}
 use Rattle.std.specs.List.{range_with_len}
-use Rattle.fr_params.specs.Values.{Values}
+use Rattle.fr_cluster.specs.Values.{Values}
 use Rattle.fr_time.specs.Cycles.{even_cycle, odd_cycle}
 use Rattle.fr_bound.specs.Sync.{IsInSync, is_in_sync}
 use Rattle.fr_history.specs.History.{History, Record, record_at}

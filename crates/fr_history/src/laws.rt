@@ -1,11 +1,14 @@
-ghost use Rattle.std.specs.Prelude.{◌≡◌, ◌↔◌, ◌+◌, ◌<◌, ℕ, ℤ, length, drop, Some, None, IsSome};
-ghost use Rattle.fr_params.specs.Values.{Values, amount};
-ghost use Rattle.fr_params.specs.declared.names.ParamName.TheVariants as name;
-ghost use Rattle.fr_history.specs.Setting.{IsSetting, Setting};
+ghost use Rattle.std.specs.Prelude.{◌≡◌, ◌↔◌, ◌+◌, ◌<◌, ℕ, ℤ, [], ◌∷◌, length, drop, Some, None, IsSome};
+ghost use Rattle.fr_cluster.specs.Values.{Values, amount};
+ghost use Rattle.fr_cluster.specs.declared.names.ParamName.TheVariants as name;
+ghost use Rattle.fr_cluster.specs.Setting.{IsSetting, Setting};
 ghost use Rattle.fr_history.specs.History.{History, IsRecordOf, Record, record_at};
 ghost use Rattle.fr_history.specs.Lawful.{IsLawful, Obeys};
 ghost use Rattle.fr_history.specs.Next.{history_of, next_record};
-ghost use Rattle.fr_history.specs.Skew.{IsGreatestSkew, Place, greatest_skew_of};
+ghost use Rattle.fr_history.specs.Skew.{IsGreatestSkew, greatest_skew_of};
+ghost use Rattle.fr_skew.specs.Gauge.{GaugeView, fresh_gauge, gauged};
+ghost use Rattle.fr_skew.specs.declared.peak.Peak.{Peak};
+ghost use Rattle.fr_history.specs.Gauged.{GaugeHolds};
 ghost use Rattle.fr_history.specs.Sync.{IsFirstInSync, IsInSyncAt, first_sync_of};
 
 use fr_reception::{a_regular_frame, an_answer, the_answer_is_found};
@@ -23,7 +26,7 @@ pub fn one_lawful_history()
     the_answer_is_found();
 }
 
-/// A law: behind a history exactly one record obeys the laws, the one that `next_record` gives, under the
+/// A law: after a history exactly one record obeys the laws, the one that `next_record` gives, under the
 /// same premise.
 pub fn one_next_record()
     ensures obeys { (x : Setting) (h : History) → IsSetting x → Obeys x h (next_record x h) }
@@ -41,7 +44,7 @@ pub fn a_shorter_history_is_a_part()
         record_at (history_of x n) cycle ≡ Some (next_record x (history_of x cycle)) }
 {}
 
-/// A law: a history has a record of each of its cycles: of cycle n the one with n others behind it in the
+/// A law: a history has a record of each of its cycles: of cycle n the one with n others after it in the
 /// list.
 pub fn each_cycle_has_its_record()
     ensures there { (h : History) (cycle : ℕ) → cycle < length h → IsSome (record_at h cycle) }
@@ -52,9 +55,9 @@ pub fn each_cycle_has_its_record()
 /// A law: a history of a cluster has one greatest skew and one first place of it, which `greatest_skew_of`
 /// gives; only a history of no cycle has none.
 pub fn one_greatest_skew()
-    ensures found { (p : Values) (h : History) (place : Place) →
-        greatest_skew_of p h ≡ Some place →
-        IsGreatestSkew p h place.skew place.cycle place.macrotick }
+    ensures found { (p : Values) (h : History) (peak : Peak) →
+        greatest_skew_of p h ≡ Some peak →
+        IsGreatestSkew p h peak.skew peak.cycle peak.macrotick }
     ensures none { (p : Values) (h : History) → 0 < amount p name.gMacroPerCycle →
         greatest_skew_of p h ≡ None → length h ≡ 0 }
     ensures one { (p : Values) (h : History) (skew other : ℤ) (n m i j : ℕ) →
@@ -71,4 +74,12 @@ pub fn one_first_in_sync()
         (double : ℕ) → IsInSyncAt p h double → ⊥ }
     ensures one { (p : Values) (h : History) (double other : ℕ) →
         IsFirstInSync p h double → IsFirstInSync p h other → double ≡ other }
+{}
+
+/// A law: a fresh gauge holds the history of no cycle, and one that holds a history holds that and a record
+/// more once its rows are added.
+pub fn a_gauge_holds_a_history()
+    ensures none { (p : Values) → GaugeHolds p (fresh_gauge p) [] }
+    ensures more { (p : Values) (g : GaugeView) (h : History) (r : Record) →
+        GaugeHolds p g h → GaugeHolds p (gauged g r.rows) (r ∷ h) }
 {}

@@ -2,7 +2,7 @@
 use Rattle.std.proofs.Common.{◌≡◌, pos, ℤ, Some, to_z, of_z, w32, arith}
 use Rattle.std.specs.Option.{ForSome}
 use Rattle.std.proofs.lemmas.Int.{ints}
-use Rattle.fr_midpoint.specs.Within.{IsWithin}
+use Rattle.fr_base.specs.Within.{IsWithin}
 
 pub ForSome-read :
     (value : ℤ) → IsWithin (pos 1000000) value → ForSome (Some (to_z w32 (of_z w32 value))) (IsWithin (pos 1000000))

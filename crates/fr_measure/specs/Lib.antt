@@ -1,2 +1,4 @@
+-- what the public contract cites
 pub mod Readings
 pub mod Values
+pub mod Deviations

@@ -1,6 +1,6 @@
 ghost use Rattle.std.specs.Prelude.{◌≡◌, ◌<◌, pos, [], IfSome};
 ghost use Rattle.std.specs.Option.{ForSome};
-ghost use Rattle.fr_midpoint.specs.Within.{IsWithin};
+ghost use Rattle.fr_base.specs.Within.{IsWithin};
 ghost use Rattle.fr_measure.specs.Readings.{no_readings, reading, stored, IsEmpty, Stores};
 ghost use Rattle.fr_measure.specs.Values.{values_of, offset_at, rate_at, change_at};
 
@@ -22,7 +22,7 @@ pub struct Table {
 impl Model for Table {
     ghost use Rattle.std.specs.Prelude.{All, pos};
     ghost use Rattle.std.specs.Option.{ForSome};
-    ghost use Rattle.fr_midpoint.specs.Within.{IsWithin};
+    ghost use Rattle.fr_base.specs.Within.{IsWithin};
     ghost use Rattle.fr_measure.specs.Readings.{Readings};
 
     ghost Value = { Readings };
@@ -116,7 +116,7 @@ impl Table {
         }
     }
 
-    /// The offset value at a key index.
+    // The offset value at a key index.
     fn offset_value(&self, own: Option<usize>, index: usize) -> Option<i32>
         requires { index < 15 }
         ensures value { result ≡ offset_at (reading self.now) own index }
@@ -131,7 +131,7 @@ impl Table {
         )
     }
 
-    /// The rate value at a key index.
+    // The rate value at a key index.
     fn rate_value(&self, own: Option<usize>, index: usize) -> Option<i32>
         requires { index < 15 }
         ensures value { result ≡ rate_at (reading self.now) own index }
@@ -146,7 +146,7 @@ impl Table {
         )
     }
 
-    /// How far the odd cycle's deviation lies above the even one's on a channel.
+    // How far the odd cycle's deviation lies above the even one's on a channel.
     fn change_on(&self, index: usize, channel: Channel) -> Option<i32>
         requires { index < 15 }
         ensures value { result ≡ change_at (reading self.now) index channel }
@@ -156,38 +156,5 @@ impl Table {
             self.get(index, false, channel),
             self.get(index, true, channel),
         )
-    }
-}
-
-#[cfg(test)]
-mod tests {
-    use super::*;
-    use fr_base::Channel::{A, B};
-    use fr_midpoint::midpoint;
-
-    #[test]
-    fn lists_the_values(rt: HostRuntime) {
-        let mut table = Table::new();
-        table.store(3, true, A, 5);
-        table.store(3, true, B, -7);
-        assert_eq!(rt; table.get(3, true, B), Some(-7));
-        let mut offsets = List15::new();
-        table.offset_values(None, &mut offsets);
-        assert_eq!(rt; (offsets.len(), midpoint(&mut offsets)), (1, Some(-7)));
-
-        table.clear();
-        assert_eq!(rt; table.get(3, true, B), None);
-        table.store(3, false, A, 1);
-        table.store(3, true, B, 4);
-        let mut rates = List15::new();
-        table.rate_values(None, &mut rates);
-        assert_eq!(rt; rates.len(), 0);
-
-        table.store(3, true, A, 4);
-        table.store(3, false, B, 2);
-        table.store(3, true, B, -2);
-        let mut rates = List15::new();
-        table.rate_values(None, &mut rates);
-        assert_eq!(rt; (rates.len(), midpoint(&mut rates)), (1, Some(0)));
     }
 }

@@ -1,12 +1,11 @@
 ghost use Rattle.std.specs.Prelude.{◌≡◌, ◌<◌, ◌++◌, ◌-ℤ◌, pos, length, All, slice_set};
 ghost use Rattle.std.specs.Option.{ForSome, option_to_list};
-ghost use Rattle.fr_midpoint.specs.Within.{IsWithin};
-ghost use Rattle.fr_midpoint.specs.Midpoint.{half_of_sum};
+ghost use Rattle.fr_base.specs.Within.{IsWithin};
 ghost use Rattle.fr_measure.specs.Values.{least_of, change_of, mean_of, own_value_or};
 
-use fr_midpoint::List15;
+use fr_midpoint::{List15, half_sum};
 
-/// Puts a deviation into a column.
+// Puts a deviation into a column.
 pub(crate) fn put(column: &mut [Option<i32>; 15], index: usize, value: i32)
     requires index { index < 15 }
     requires within { IsWithin (pos 1000000) value }
@@ -17,7 +16,7 @@ pub(crate) fn put(column: &mut [Option<i32>; 15], index: usize, value: i32)
     column[index] = Some(value);
 }
 
-/// Appends a value, where there is one.
+// Appends a value, where there is one.
 pub(crate) fn append(values: &mut List15, value: Option<i32>)
     requires room { length values.old < 15 }
     requires within { ForSome value (IsWithin (pos 2000000)) }
@@ -28,7 +27,7 @@ pub(crate) fn append(values: &mut List15, value: Option<i32>)
     }
 }
 
-/// The least of two deviations, either of which may be missing.
+// The least of two deviations, either of which may be missing.
 pub(crate) fn least(a: Option<i32>, b: Option<i32>) -> Option<i32>
     requires a_within { ForSome a (IsWithin (pos 1000000)) }
     requires b_within { ForSome b (IsWithin (pos 1000000)) }
@@ -42,7 +41,7 @@ pub(crate) fn least(a: Option<i32>, b: Option<i32>) -> Option<i32>
     }
 }
 
-/// How far the odd cycle's deviation lies above the even one's, where both are there.
+// How far the odd cycle's deviation lies above the even one's, where both are there.
 pub(crate) fn change(even: Option<i32>, odd: Option<i32>) -> Option<i32>
     requires even_within { ForSome even (IsWithin (pos 1000000)) }
     requires odd_within { ForSome odd (IsWithin (pos 1000000)) }
@@ -55,7 +54,7 @@ pub(crate) fn change(even: Option<i32>, odd: Option<i32>) -> Option<i32>
     }
 }
 
-/// Of two changes half of the sum, truncated toward zero; of one, that one.
+// Of two changes half of the sum, truncated toward zero; of one, that one.
 pub(crate) fn mean(a: Option<i32>, b: Option<i32>) -> Option<i32>
     requires a_within { ForSome a (IsWithin (pos 2000000)) }
     requires b_within { ForSome b (IsWithin (pos 2000000)) }
@@ -69,7 +68,7 @@ pub(crate) fn mean(a: Option<i32>, b: Option<i32>) -> Option<i32>
     }
 }
 
-/// The later deviation less the earlier one.
+// The later deviation less the earlier one.
 fn difference(even: i32, odd: i32) -> i32
     requires even_within { IsWithin (pos 1000000) even }
     requires odd_within { IsWithin (pos 1000000) odd }
@@ -77,14 +76,4 @@ fn difference(even: i32, odd: i32) -> i32
     ensures within { IsWithin (pos 2000000) result }
 {
     odd - even
-}
-
-/// Half of the sum of two changes, truncated toward zero.
-fn half_sum(a: i32, b: i32) -> i32
-    requires a_within { IsWithin (pos 2000000) a }
-    requires b_within { IsWithin (pos 2000000) b }
-    ensures value { result ≡ half_of_sum a b }
-    ensures within { IsWithin (pos 2000000) result }
-{
-    (a + b) / 2
 }

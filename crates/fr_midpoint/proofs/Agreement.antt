@@ -7,9 +7,10 @@ use Rattle.std.proofs.lemmas.Int.{ints, by_lt_z}
 use Rattle.std.proofs.lemmas.List.Elements.{All-head, All-tail}
 use Rattle.std.proofs.lemmas.List.Sums.{count_by-le-length, sum_by-append, sum_by-cons}
 use Rattle.std.proofs.lemmas.List.Sorted.{sum_by-IsPermutation}
-use Rattle.fr_midpoint.specs.Within.{IsWithin}
+use Rattle.fr_base.specs.Within.{IsWithin}
 use Rattle.fr_midpoint.specs.Midpoint.{discarded, half_of_sum, IsMidpoint}
-use Rattle.fr_midpoint.specs.Receivers.{place_at, place_of, FewAreDiscarded, IsPlaced, LieWithin, OneReceiver, Receiver, Receives, ShareOne, TwoReceivers}
+use Rattle.fr_midpoint.specs.Receivers.{place_at, measured_place, FewAreDiscarded, IsPlaced, OneReceiver, Receiver, Receives, ShareOne, TwoReceivers}
+use Rattle.fr_base.specs.Within.{LieWithin}
 use Rattle.fr_midpoint.proofs.Counts.{count_by-cons_no, count_by-cons_yes}
 use Rattle.fr_midpoint.proofs.Products.{addz-mulz, mulz-lez}
 
@@ -155,7 +156,7 @@ doubled_place low high mid unit lasts half =
     back : (m l h t mm lh one more : ℤ) → mm ≡ m +ℤ m → lh ≡ l +ℤ h → more ≡ mm +ℤ one → one ≡ t → lh ≤ℤ more → (l +ℤ h) ≤ℤ ((m +ℤ m) +ℤ t)
     back m l h t mm lh one more a b c d e = omega (arith, ints)
 
-place_order : (base unit v w : ℤ) → pos 0 <ℤ unit → v ≤ℤ w → place_of base unit v ≤ℤ place_of base unit w
+place_order : (base unit v w : ℤ) → pos 0 <ℤ unit → v ≤ℤ w → measured_place base unit v ≤ℤ measured_place base unit w
 place_order base unit v w lasts le =
     let scaled : (v *ℤ unit) ≤ℤ (w *ℤ unit) = mulz-lez v w unit le (omega (arith, ints, lasts)) in
     moved base (v *ℤ unit) (w *ℤ unit) scaled
@@ -193,7 +194,7 @@ low_placed before after positions r mid P receives is all =
         let order = place_order r.base r.unit found.value is.low receives.lasts (at_most found.value is.low found.passes) in
         (found.position, found.holds, joined_low (place_at r found.value) (place_at r is.low) (found.position -ℤ before) order found.says.low)
 
--- and the greatest no further behind
+-- and the greatest no further after
 high_placed :
     (before after : ℤ) (positions : List ℤ) (r : Receiver) (mid : ℤ) (P : ℤ → Type 0)
     → Receives before after positions r → (is : IsMidpoint r.values mid) → All P positions
@@ -238,7 +239,7 @@ record Kept (before after : ℤ) (one other : ℤ) : Type 0 where
   above : one ≤ℤ (position +ℤ after)
   below : (position -ℤ before) ≤ℤ other
 
--- some position is not before the least that remains of one receiver, and not behind the greatest of the other
+-- some position is not before the least that remains of one receiver, and not after the greatest of the other
 both_keep :
     (before after : ℤ) (positions : List ℤ) (one other : Receiver) (mid other_mid : ℤ)
     → Receives before after positions one → Receives before after positions other → ShareOne one other positions
@@ -278,7 +279,7 @@ both_keep before after positions one other mid other_mid receives also_receives 
           below = joined_low (place_at other found.other) (place_at other also.high) (found.position -ℤ before) down found.says_other.low;
         }
 
--- twice how far the midpoint of one receiver lies behind that of another
+-- twice how far the midpoint of one receiver lies after that of another
 apart :
     (positions : List ℤ) (spread before after longest : ℤ) (one other : Receiver) (mid other_mid : ℤ)
     → LieWithin spread positions → Receives before after positions one → Receives before after positions other

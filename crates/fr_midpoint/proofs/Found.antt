@@ -58,7 +58,7 @@ find-is_high k xs high is =
     (λ x passes. IsHigh-unique k xs x high (is_high-IsHigh k xs x passes) is)
     (omega (arith, is.few_above, is.more_from))
 
-midpoint_by_ranks-is : (xs : List ℤ) (mid : ℤ) → IsMidpoint xs mid → midpoint_by_ranks xs ≡ mid
+pub midpoint_by_ranks-is : (xs : List ℤ) (mid : ℤ) → IsMidpoint xs mid → midpoint_by_ranks xs ≡ mid
 unfolding midpoint_by_ranks
 midpoint_by_ranks-is xs mid is =
     ap₂

@@ -2,6 +2,7 @@ pub mod Counts
 pub mod Ascending
 pub mod MidpointLemmas
 pub mod Found
+pub mod There
 pub mod ReadBack
 pub mod Products
 pub mod Agreement

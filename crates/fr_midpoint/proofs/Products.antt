@@ -3,7 +3,7 @@ use Rattle.std.proofs.Common.{◌≡◌, ℕ, ◌+◌, ◌*◌, ◌≤◌, ℤ, 
 use Rattle.std.specs.Prelude.{◌+ℤ◌, ◌-ℤ◌, ◌*ℤ◌, ◌≤ℤ◌, ◌<ℤ◌, neg_ℤ}
 use Rattle.std.proofs.lemmas.Int.{ints, by_lt_z}
 use Rattle.std.proofs.Math.Nat.{mul-le-mul_right}
-use Rattle.fr_midpoint.specs.Within.{IsWithin}
+use Rattle.fr_base.specs.Within.{IsWithin}
 use borrow.Author.Differences.{up, down, sum_is_lem, neg_is, le_out, product_is, same_in}
 
 pub mulz_comm : (a b : ℤ) → a *ℤ b ≡ b *ℤ a

@@ -3,7 +3,7 @@ use Rattle.std.proofs.Common.{◌≡◌, pos, ℤ, List, length, get_or, All, �
 use Rattle.std.proofs.lemmas.Int.{ints}
 use Rattle.std.specs.Prelude.{IsSorted, IsPermutation}
 use Rattle.std.specs.Ordering.{int_cmp}
-use Rattle.fr_midpoint.specs.Within.{IsWithin}
+use Rattle.fr_base.specs.Within.{IsWithin}
 use Rattle.fr_midpoint.specs.Midpoint.{discarded, half_of_sum, IsMidpoint}
 use Rattle.fr_midpoint.proofs.MidpointLemmas.{IsMidpoint-ascending}
 

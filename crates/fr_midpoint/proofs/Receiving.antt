@@ -6,9 +6,9 @@ use Rattle.std.proofs.lemmas.Int.{ints}
 use Rattle.std.proofs.Common.{arith}
 use Rattle.std.proofs.lemmas.List.Elements.{All-replicate}
 use Rattle.std.proofs.lemmas.List.Sorted.{IsPermutation-refl}
-use Rattle.fr_midpoint.specs.Within.{IsWithin}
+use Rattle.fr_base.specs.Within.{IsWithin}
 use Rattle.fr_midpoint.specs.Midpoint.{discarded, IsMidpoint}
-use Rattle.fr_midpoint.specs.Receivers.{place_at, place_of, IsPlaced, Receiver, Receives, ShareOne}
+use Rattle.fr_midpoint.specs.Receivers.{place_at, measured_place, IsPlaced, Receiver, Receives, ShareOne}
 use Rattle.fr_midpoint.proofs.Agreement.{two_receivers_lem, one_receiver_lem}
 
 -- the positions of the correct nodes, in ticks
@@ -112,7 +112,7 @@ early = record { base = negsuc 2; unit = pos 1; values = pos 3 ∷ pos 4 ∷ pos
 abbrev late : Receiver
 late = record { base = pos 3; unit = pos 1; values = negsuc 2 ∷ negsuc 1 ∷ negsuc 0 ∷ pos 9 ∷ [] }
 
-exactly : (base value position : ℤ) → place_of base (pos 1) value ≡ position → IsPlaced base (pos 1) (pos 0) (pos 0) position value
+exactly : (base value position : ℤ) → measured_place base (pos 1) value ≡ position → IsPlaced base (pos 1) (pos 0) (pos 0) position value
 exactly base value position is = record { low = omega (arith, ints); high = omega (arith, ints) }
 
 receives_early : Receives (pos 0) (pos 0) line early
@@ -193,6 +193,6 @@ moved_up = record {
 
 -- twice their distance is above the spread of 10 and two units
 passed :
-    (pos 2 *ℤ (place_of (pos 0) (pos 1) (pos 10) -ℤ place_of (pos 0) (pos 1) (pos 0)) ≡ pos 20)
+    (pos 2 *ℤ (measured_place (pos 0) (pos 1) (pos 10) -ℤ measured_place (pos 0) (pos 1) (pos 0)) ≡ pos 20)
     × (pos 10 +ℤ (pos 2 *ℤ (pos 0 +ℤ pos 0)) +ℤ (pos 2 *ℤ pos 1) ≡ pos 12)
 passed = (refl, refl)

@@ -1,3 +1,3 @@
+-- what the public contract cites
 pub mod Midpoint
 pub mod Receivers
-pub mod Within

@@ -53,6 +53,10 @@ midpoint_of (value ∷ values) = Some (midpoint_by_ranks (value ∷ values))
 abbrev pub MidpointIsFound : Type 0
 MidpointIsFound = (values : List ℤ) (mid : ℤ) → IsMidpoint values mid → midpoint_of values ≡ Some mid
 
+-- and a list with a value has it
+abbrev pub MidpointIsThere : Type 0
+MidpointIsThere = (value : ℤ) (values : List ℤ) → IsMidpoint (value ∷ values) (midpoint_by_ranks (value ∷ values))
+
 -- no list has two midpoints
 abbrev pub MidpointIsUnique : Type 0
 MidpointIsUnique = (values : List ℤ) (one other : ℤ) → IsMidpoint values one → IsMidpoint values other → one ≡ other

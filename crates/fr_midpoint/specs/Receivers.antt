@@ -1,17 +1,17 @@
 -- What receivers make of the values that they have of common senders, of which some others may have said anything.
 use Rattle.std.specs.Prelude.{◌≡◌, ◌⊎◌, ℕ, ◌+◌, ◌≤◌, ℤ, pos, ◌+ℤ◌, ◌-ℤ◌, ◌*ℤ◌, ◌≤ℤ◌, ◌<ℤ◌, List, ◌++◌, length, All, IsPermutation}
 use Rattle.std.specs.List.{AllZip}
-use Rattle.fr_midpoint.specs.Within.{IsWithin}
+use Rattle.fr_base.specs.Within.{IsWithin, LieWithin}
 use Rattle.fr_midpoint.specs.Midpoint.{discarded, IsMidpoint}
 
 -- where a value lies: so many units from a base
-abbrev pub place_of : ℤ → ℤ → ℤ → ℤ
-place_of base unit value = base +ℤ (value *ℤ unit)
+abbrev pub measured_place : ℤ → ℤ → ℤ → ℤ
+measured_place base unit value = base +ℤ (value *ℤ unit)
 
--- a value places a position: it lies at most so far before it and at most so far behind it
+-- a value places a position: it lies at most so far before it and at most so far after it
 pub record IsPlaced (base unit before after position value : ℤ) : Type 0 where
-  pub low : (position -ℤ before) ≤ℤ place_of base unit value
-  pub high : place_of base unit value ≤ℤ (position +ℤ after)
+  pub low : (position -ℤ before) ≤ℤ measured_place base unit value
+  pub high : measured_place base unit value ≤ℤ (position +ℤ after)
 
 -- a list has one value of each sender, at a place of its own, and at most as many further values as are discarded at
 -- each end
@@ -30,16 +30,12 @@ pub record Receiver : Type 0 where
 
 -- a number of units from a receiver's base
 abbrev pub place_at : Receiver → ℤ → ℤ
-place_at receiver value = place_of receiver.base receiver.unit value
+place_at receiver value = measured_place receiver.base receiver.unit value
 
 -- a receiver has a value of each position, and at most as many further values as are discarded at each end
 pub record Receives (before after : ℤ) (positions : List ℤ) (receiver : Receiver) : Type 0 where
   pub lasts : pos 0 <ℤ receiver.unit
   pub hears : Hears ℤ (IsPlaced receiver.base receiver.unit before after) positions receiver.values
-
--- any two of some positions lie at most so far apart
-abbrev pub LieWithin : ℤ → List ℤ → Type 0
-LieWithin spread positions = All (λ x. All (λ y. (x -ℤ y) ≤ℤ spread) positions) positions
 
 -- one position remains for both receivers, whatever each of them discards
 abbrev pub ShareOne : Receiver → Receiver → List ℤ → Type 0

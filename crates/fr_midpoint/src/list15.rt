@@ -1,5 +1,5 @@
 ghost use Rattle.std.specs.Prelude.{◌≡◌, ◌<◌, ◌≤◌, pos, [], ◌∷◌, ◌++◌, length};
-ghost use Rattle.fr_midpoint.specs.Within.{IsWithin};
+ghost use Rattle.fr_base.specs.Within.{IsWithin};
 
 use std::marker::Model;
 
@@ -12,7 +12,7 @@ pub struct List15 {
 
 impl Model for List15 {
     ghost use Rattle.std.specs.Prelude.{◌≤◌, ℤ, pos, List, take, All};
-    ghost use Rattle.fr_midpoint.specs.Within.{IsWithin};
+    ghost use Rattle.fr_base.specs.Within.{IsWithin};
 
     ghost Value = { List ℤ };
 

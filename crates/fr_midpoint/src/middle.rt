@@ -1,6 +1,6 @@
 ghost use Rattle.std.specs.Prelude.{◌≡◌, ◌↔◌, ◌+ℤ◌, ◌+◌, ◌*◌, ◌<◌, ◌≤◌, pos, [], length, All, IsNone, IfSome, IsPermutation};
-ghost use Rattle.fr_midpoint.specs.Within.{IsWithin};
-ghost use Rattle.fr_midpoint.specs.Midpoint.{discarded, half_of_sum, midpoint_of, IsMidpoint, MidpointIsUnique, MidpointIsFound};
+ghost use Rattle.fr_base.specs.Within.{IsWithin};
+ghost use Rattle.fr_midpoint.specs.Midpoint.{discarded, half_of_sum, midpoint_of, IsMidpoint, MidpointIsFound, MidpointIsThere, MidpointIsUnique};
 
 use crate::list15::List15;
 
@@ -21,7 +21,7 @@ pub fn midpoint(values: &mut List15) -> Option<i32>
     Some(middle_of(&mut values.values[..count]))
 }
 
-/// The midpoint of 1 to 15 values, which it sorts.
+// The midpoint of 1 to 15 values, which it sorts.
 fn middle_of(values: &mut [i32]) -> i32
     requires some { 0 < length values.old }
     requires most { length values.old ≤ 15 }
@@ -36,7 +36,7 @@ fn middle_of(values: &mut [i32]) -> i32
     half_sum(values[ends], values[count - 1 - ends])
 }
 
-/// How many values of so many are discarded at each end.
+// How many values of so many are discarded at each end.
 fn discarded_of(count: usize) -> usize
     ensures value { result ≡ discarded count }
     ensures some_remain { 0 < count → 2 * result + 1 ≤ count }
@@ -51,7 +51,7 @@ fn discarded_of(count: usize) -> usize
 }
 
 /// Half of the sum of two values, truncated toward zero.
-fn half_sum(low: i32, high: i32) -> i32
+pub fn half_sum(low: i32, high: i32) -> i32
     requires low { IsWithin (pos 2000000) low }
     requires high { IsWithin (pos 2000000) high }
     ensures value { result ≡ half_of_sum low high }
@@ -67,28 +67,7 @@ pub fn midpoint_is_unique()
     ensures found { MidpointIsFound }
 {}
 
-#[cfg(test)]
-mod tests {
-    use super::*;
-
-    #[test]
-    fn halves_what_remains(rt: HostRuntime) {
-        let empty: &[i32] = &[];
-        for (given, wanted) in [
-            (empty, None),
-            (&[5], Some(5)),
-            (&[-3, 4], Some(0)),
-            (&[-4, -3], Some(-3)),
-            (&[-9, 1, 30], Some(1)),
-            (&[-50, -40, 1, 2, 3, 4, 60, 70], Some(2)),
-        ] {
-            let mut values = List15::new();
-            for value in given {
-                assert!(rt; values.len() < 15);
-                values.push(*value);
-            }
-            assert_eq!(rt; values.len(), given.len());
-            assert_eq!(rt; midpoint(&mut values), wanted);
-        }
-    }
-}
+/// The law that a list with a value has its midpoint (section 8.6.1).
+pub fn midpoint_is_there()
+    ensures { MidpointIsThere }
+{}

@@ -1,15 +1,21 @@
 -- A node goes on fitting its cluster.
-use Rattle.std.proofs.Common.{◌≡◌, ◌≢◌, ℕ, Bool, true, false, cond, List, get_or, replicate, Option, Some, None, ℤ, inl, inr, refl, ap, sym, ◌∙◌}
+use Rattle.std.proofs.Common.{◌≡◌, ◌≢◌, ℕ, Bool, true, false, cond, List, get_or, replicate, Option, Some, None, ℤ, inl, inr, refl, ap, sym, ◌∙◌, pos, arith}
 use Rattle.std.proofs.lemmas.Bool.{cases_lt, cond_both}
 use Rattle.std.proofs.lemmas.List.{get_or-replicate, get_or_past}
 use Rattle.fr_base.specs.declared.channel.Channel.{Channel}
 use Rattle.fr_base.specs.declared.channel.Channel.TheVariants.{A, B}
-use Rattle.fr_params.specs.Values.{Values}
-use Rattle.fr_params.specs.Questions.{key_index_of}
+use Rattle.std.proofs.lemmas.Int.{ints}
+use Rattle.fr_base.specs.declared.node_row.NodeRow.{NodeRow}
+use Rattle.fr_base.specs.Timed.{IsTimed}
+use Rattle.fr_cluster.specs.Values.{Values}
+use Rattle.fr_cluster.specs.declared.names.ParamName.TheVariants as name
+use Rattle.fr_time.specs.Instant.{KeepsLimits}
+use Rattle.fr_node.specs.Fits.{NodeFits}
+use Rattle.fr_node.specs.View.{NodeView, node_row_of}
+use Rattle.fr_cluster.specs.Questions.{index_in, key_index_of, own_index, own_key}
 use Rattle.fr_time.specs.Cycles.{is_odd}
 use Rattle.fr_measure.specs.Readings.{Readings, no_readings, reading}
-use Rattle.fr_reception.specs.Own.{index_in, own_index, own_key}
-use Rattle.fr_node.proofs.KeyIndexes.{index_is_own}
+use Rattle.fr_cluster.proofs.KeyIndexes.{index_is_own}
 
 -- a column with nothing in it
 abbrev empty_column : List (Option ℤ)
@@ -40,3 +46,15 @@ other_index p id slot index at own there other same = among (own_key p id) refl 
     among : (key : Option ℕ) → own_key p id ≡ key → index_in p key ≡ Some index → ⊥
     among None is nothing = cc
     among (Some key) is found = other (is ∙ ap Some (index_is_own p key slot index found (there ∙ ap Some (sym same))))
+
+-- the row of a node without a correction is one of its cluster
+pub plain_row : (p : Values) (node : NodeView) (row : NodeRow) → NodeFits p node → row ≡ node_row_of node → IsTimed row → KeepsLimits p row
+plain_row p node row fits is timed =
+    let limit = fits.sane.ranges name.pOffsetCorrectionOut in
+    let none : row.offset ≡ pos 0 = ap (λ (r : NodeRow). r.offset) is in
+    let same : row.rate ≡ node.rate = ap (λ (r : NodeRow). r.rate) is in
+    record {
+      timed = timed;
+      rate = record { low = rw same fits.rate.low; high = rw same fits.rate.high };
+      offset = record { low = omega (arith, ints, none, limit.0); high = omega (arith, ints, none, limit.0) };
+    }

@@ -1,4 +1,4 @@
-pub mod KeyIndexes
 pub mod Written
-pub mod Products
 pub mod Fitting
+pub mod Floors
+pub mod Ending

@@ -24,7 +24,7 @@ payload_more true n slot cycle byte pattern zero =
 payload_more false n slot cycle byte pattern zero =
     zeros_more n ∙ ap (λ (b : ℕ). payload_of false n slot cycle ++ b ∷ []) (sym (zero refl))
 
--- what is written is the frame, and behind it what was there
+-- what is written is the frame, and after it what was there
 pub encoded : (channel : Channel) (h g : Header) (payload own before now : List ℕ) (count : ℕ) → IsEncoded channel h payload before now count → h ≡ g → payload ≡ own →
     now ≡ frame_of channel g own ++ drop count before
 encoded channel h g payload own before now count is same whole =

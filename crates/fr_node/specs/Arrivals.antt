@@ -6,8 +6,8 @@ use Rattle.fr_reception.specs.declared.heard.Heard.{Heard}
 use Rattle.fr_reception.specs.declared.heard.Heard.TheVariants.{Stored, Ignored}
 
 -- the offer of these bytes
-abbrev pub offer_of : Arrival → List ℕ → Offer
-offer_of arrival bytes = record { slot = arrival.slot; channel = arrival.channel; arrival = arrival.at; bytes = bytes }
+abbrev pub offer_with : Arrival → List ℕ → Offer
+offer_with arrival bytes = record { slot = arrival.slot; channel = arrival.channel; arrival = arrival.at; bytes = bytes }
 
 -- a fact about a deviation that is stored
 abbrev pub IfStored : Heard → (ℤ → Type 0) → Type 0

@@ -3,8 +3,8 @@ use Rattle.std.specs.Prelude.{ℕ, ◌+◌, ℤ, Bool, not, ◌&&◌, if◌then�
 use Rattle.fr_base.specs.States.{cut_of, is_halted}
 use Rattle.fr_base.specs.declared.channel.Channel.{Channel}
 use Rattle.fr_base.specs.declared.node_row.NodeRow.{NodeRow}
-use Rattle.fr_params.specs.Values.{Values}
-use Rattle.fr_params.specs.Questions.{key_index_of}
+use Rattle.fr_cluster.specs.Values.{Values}
+use Rattle.fr_cluster.specs.Questions.{key_index_of, own_index}
 use Rattle.fr_time.specs.Cycles.{is_odd}
 use Rattle.fr_time.specs.Instant.{next_start_of}
 use Rattle.fr_time.specs.Position.{grid_for}
@@ -12,13 +12,11 @@ use Rattle.fr_measure.specs.Readings.{no_readings, reading, stored}
 use Rattle.fr_measure.specs.Values.{offset_at, rate_at, values_of}
 use Rattle.fr_correct.specs.declared.term.Term.{Term}
 use Rattle.fr_correct.specs.Terms.{offset_term_of, rate_term_of}
-use Rattle.fr_poc.specs.Control.{Control, stepped}
-use Rattle.fr_poc.specs.Control as control
-use Rattle.fr_reception.specs.Own.{own_index}
+use Rattle.fr_poc.specs.Control.{Control, first_status, stepped}
 use Rattle.fr_reception.specs.declared.heard.Heard.{Heard}
 use Rattle.fr_reception.specs.declared.heard.Heard.TheVariants.{Stored, Ignored}
-use Rattle.fr_node.specs.View.{NodeView, row_of}
-use Rattle.fr_node.specs.Fits.{limits_of}
+use Rattle.fr_node.specs.View.{NodeView, node_row_of}
+use Rattle.fr_poc.specs.Limits.{limits_of}
 
 -- before cycle 0
 abbrev pub fresh : Values → ℕ → ℤ → ℤ → NodeView
@@ -29,12 +27,12 @@ fresh p id start rate = record {
   start = start;
   rate = rate;
   table = no_readings;
-  control = record { limits = limits_of p; status = control.begun };
+  control = record { limits = limits_of p; status = first_status };
 }
 
 -- its cycle is under way with this length of a microtick; an even cycle begins a new double cycle
-abbrev pub begun : NodeView → ℤ → NodeView
-begun node length = record node {
+abbrev pub in_cycle : NodeView → ℤ → NodeView
+in_cycle node length = record node {
   length = Some length;
   table = if is_odd node.cycle then node.table else no_readings;
 }
@@ -50,11 +48,11 @@ after_hearing p node slot channel (Stored value) = with_deviation node (key_inde
 after_hearing p node slot channel (Ignored why) = node
 
 -- the offset and the rate term of its deviations (sections 8.6.2 and 8.6.3)
-abbrev pub offset_term_in : Values → NodeView → Term
-offset_term_in p node = offset_term_of p.offset_limit (values_of (offset_at (reading node.table) (own_index p node.id)))
+abbrev pub offset_term_of_node : Values → NodeView → Term
+offset_term_of_node p node = offset_term_of p.offset_limit (values_of (offset_at (reading node.table) (own_index p node.id)))
 
-abbrev pub rate_term_in : Values → NodeView → Term
-rate_term_in p node = rate_term_of node.rate p.damping p.rate_limit (values_of (rate_at (reading node.table) (own_index p node.id)))
+abbrev pub rate_term_of_node : Values → NodeView → Term
+rate_term_of_node p node = rate_term_of node.rate p.damping p.rate_limit (values_of (rate_at (reading node.table) (own_index p node.id)))
 
 -- a node corrects its clock at the end of an odd cycle, unless it is halted
 abbrev pub corrects : NodeView → Bool
@@ -62,23 +60,23 @@ corrects node = is_odd node.cycle && not (is_halted node.control.status.state)
 
 -- its row where it corrects: the offset term belongs to the cycle that ends
 abbrev pub corrected_row : Values → NodeView → NodeRow
-corrected_row p node = record (row_of node) {
-  offset = (offset_term_in p node).value;
-  cut = cut_of (offset_term_in p node).outcome + cut_of (rate_term_in p node).outcome;
+corrected_row p node = record (node_row_of node) {
+  offset = (offset_term_of_node p node).value;
+  cut = cut_of (offset_term_of_node p node).outcome + cut_of (rate_term_of_node p node).outcome;
 }
 
 -- the row of the cycle at its end
-abbrev pub ended_row : Values → NodeView → NodeRow
-ended_row p node = if corrects node then corrected_row p node else row_of node
+abbrev pub ended_row_of_node : Values → NodeView → NodeRow
+ended_row_of_node p node = if corrects node then corrected_row p node else node_row_of node
 
 -- the rate term from the next cycle on
 abbrev pub next_rate : Values → NodeView → ℤ
-next_rate p node = if corrects node then (rate_term_in p node).value else node.rate
+next_rate p node = if corrects node then (rate_term_of_node p node).value else node.rate
 
 -- its operation control from the next cycle on: one step where it corrects
 abbrev pub next_control : Values → NodeView → Control
 next_control p node =
-    if corrects node then stepped node.control (offset_term_in p node).outcome (rate_term_in p node).outcome else node.control
+    if corrects node then stepped node.control (offset_term_of_node p node).outcome (rate_term_of_node p node).outcome else node.control
 
 -- before the cycle that follows one with this row
 abbrev pub passed : Values → NodeView → NodeRow → ℤ → NodeView
@@ -89,6 +87,12 @@ passed p node row rate = record node {
   rate = rate;
 }
 
+-- its cycle has ended with a correction
+abbrev pub ended_corrected : Values → NodeView → NodeView
+ended_corrected p node = record (passed p node (corrected_row p node) (rate_term_of_node p node).value) {
+  control = stepped node.control (offset_term_of_node p node).outcome (rate_term_of_node p node).outcome;
+}
+
 -- its cycle has ended
 abbrev pub ended : Values → NodeView → NodeView
-ended p node = record (passed p node (ended_row p node) (next_rate p node)) { control = next_control p node }
+ended p node = record (passed p node (ended_row_of_node p node) (next_rate p node)) { control = next_control p node }

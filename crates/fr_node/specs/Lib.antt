@@ -1,4 +1,6 @@
+-- what the public contract cites
 pub mod View
 pub mod Fits
 pub mod Cycle
+-- what only functions inside cite
 pub mod Arrivals

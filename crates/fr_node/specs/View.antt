@@ -1,8 +1,9 @@
 -- What contracts see of a node.
-use Rattle.std.specs.Prelude.{ℕ, ◌+◌, ◌*◌, ◌<◌, ◌≤◌, ℤ, pos, ◌≤ℤ◌, ◌<ℤ◌, Option, IsSome, unwrap_or}
+use Rattle.std.specs.Prelude.{ℕ, ◌+◌, ◌*◌, ◌<◌, ◌≤◌, ℤ, pos, Option, IsSome, unwrap_or}
 use Rattle.std.specs.Option.{ForSome}
 use Rattle.fr_base.specs.declared.node_row.NodeRow.{NodeRow}
-use Rattle.fr_midpoint.specs.Within.{IsWithin}
+use Rattle.fr_base.specs.Timed.{IsLength}
+use Rattle.fr_base.specs.Within.{IsBetween, IsWithin}
 use Rattle.fr_measure.specs.Readings.{Readings}
 use Rattle.fr_poc.specs.Control.{Control}
 
@@ -19,8 +20,8 @@ pub record NodeView : Type 0 where
   pub control : Control
 
 -- the row of the cycle that is under way, before its end: no offset term is there yet, and nothing was cut
-abbrev pub row_of : NodeView → NodeRow
-row_of node = record {
+abbrev pub node_row_of : NodeView → NodeRow
+node_row_of node = record {
   node = node.id;
   start = node.start;
   length = unwrap_or node.length (pos 0);
@@ -30,24 +31,10 @@ row_of node = record {
   cut = 0;
 }
 
--- a microtick may last from a half to one and a half of its nominal length
-pub record IsLength (length : ℤ) : Type 0 where
-  pub from : pos 500_000 ≤ℤ length
-  pub to : length ≤ℤ pos 1_500_000
-
 -- the numbers of a node: no cycle takes more than 990,000,000,000 ticks
 pub record IsNode (node : NodeView) : Type 0 where
   pub few : node.cycle ≤ 200_000
   pub in_run : IsSome node.length → node.cycle < 200_000
-  pub start_from : pos 0 ≤ℤ node.start
-  pub start_to : node.start ≤ℤ pos (1_000_000_000_000 + 990_000_000_000 * node.cycle)
+  pub start : IsBetween (pos 0) (pos (1_000_000_000_000 + 990_000_000_000 * node.cycle)) node.start
   pub rate : IsWithin (pos 2000) node.rate
   pub length : ForSome node.length IsLength
-
--- the numbers of a row lie where instants can be computed; no start of a run of 200,000 cycles is as large as this limit
-pub record IsProperRow (row : NodeRow) : Type 0 where
-  pub rate : IsWithin (pos 2000) row.rate
-  pub start_from : pos 0 ≤ℤ row.start
-  pub start_to : row.start <ℤ pos 200_000_000_000_000_000
-  pub length_from : pos 500_000 ≤ℤ row.length
-  pub length_to : row.length ≤ℤ pos 1_500_000

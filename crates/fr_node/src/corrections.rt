@@ -1,42 +1,38 @@
-ghost use Rattle.std.specs.Prelude.{◌≡◌, ◌≤◌, ◌≤ℤ◌, pos};
+ghost use Rattle.std.specs.Prelude.{◌≡◌, ◌≤◌, pos};
 ghost use Rattle.fr_correct.specs.Terms.{offset_term_of, rate_term_of};
 ghost use Rattle.fr_measure.specs.Readings.{reading};
 ghost use Rattle.fr_measure.specs.Values.{offset_at, rate_at, values_of};
-ghost use Rattle.fr_midpoint.specs.Within.{IsWithin};
+ghost use Rattle.fr_base.specs.Within.{IsBetween, IsWithin};
 ghost use Rattle.fr_base.specs.States.{cut_of};
 
-use crate::own::number;
 use fr_base::Outcome;
+use fr_cluster::{ParamName, Params};
 use fr_correct::{Term, offset_term, rate_term};
 use fr_measure::Table;
 use fr_midpoint::List15;
-use fr_params::{ParamName, Params};
 
 // The limit of the offset term.
 fn offset_limit(params: &Params) -> i32
     ensures value { result ≡ params.now.offset_limit }
-    ensures from { pos 1 ≤ℤ result }
-    ensures to { result ≤ℤ pos 16000 }
+    ensures within { IsBetween (pos 1) (pos 16000) result }
 {
-    number(params, ParamName::pOffsetCorrectionOut) as i32
+    params.value(ParamName::pOffsetCorrectionOut) as i32
 }
 
 // The limit of the rate term.
-pub(crate) fn rate_limit(params: &Params) -> i32
+fn rate_limit(params: &Params) -> i32
     ensures value { result ≡ params.now.rate_limit }
-    ensures from { pos 1 ≤ℤ result }
-    ensures to { result ≤ℤ pos 2000 }
+    ensures within { IsBetween (pos 1) (pos 2000) result }
 {
-    number(params, ParamName::pRateCorrectionOut) as i32
+    params.value(ParamName::pRateCorrectionOut) as i32
 }
 
 // The damping of the rate term.
 fn damping(params: &Params) -> i32
     ensures value { result ≡ params.now.damping }
-    ensures from { pos 0 ≤ℤ result }
-    ensures to { result ≤ℤ pos 100 }
+    ensures within { IsBetween (pos 0) (pos 100) result }
 {
-    number(params, ParamName::pClusterDriftDamping) as i32
+    params.value(ParamName::pClusterDriftDamping) as i32
 }
 
 // The offset term of the deviations in a table, for a node with this key index.

@@ -1,15 +1,14 @@
 ghost use Rattle.std.specs.Prelude.{◌≡◌, ◌+◌, ◌≤◌, ◌++◌, true, false, Some, length, take, drop};
-ghost use Rattle.fr_params.specs.Values.{amount};
-ghost use Rattle.fr_params.specs.declared.names.ParamName.TheVariants as name;
+ghost use Rattle.fr_cluster.specs.Values.{amount};
+ghost use Rattle.fr_cluster.specs.declared.names.ParamName.TheVariants as name;
 ghost use Rattle.fr_time.specs.Cycles.{cycle_count};
 ghost use Rattle.fr_time.specs.Senders.{sender_of};
 ghost use Rattle.fr_reception.specs.Regular.{has_payload, is_coldstart, is_sync_frame, payload_byte, payload_bytes, payload_of, regular_frame, regular_header};
 
-use crate::own::sane;
 use fr_base::{Channel, NodeId, Slot};
+use fr_cluster::{ParamName, Params};
 use fr_frame::{Header, encode};
-use fr_params::{ParamName, Params};
-use fr_time::{Kind, Sending};
+use fr_time::{Kind, Sending, cycle_count};
 
 /// Writes the regular frame of a static slot in a cycle, as its sender sends it on a channel, to the start
 /// of `out`, and leaves the rest (chapters 4 and 5). Answers how many bytes it has: as many as each frame
@@ -28,7 +27,6 @@ pub fn frame_of(
     ensures written { out.new ≡
         regular_frame params.now sending.now slot cycle channel ++ drop result out.old }
 {
-    sane(params);
     let header = header_of(params, sending, slot, cycle);
     let count = 2 * usize::from(header.words);
     let payload = payload(header.null_bit, count, slot, cycle);
@@ -52,7 +50,7 @@ fn header_of(params: &Params, sending: &Sending, slot: Slot, cycle: u32) -> Head
         startup: sync && starts(params, sending.node),
         id: slot.0,
         words: params.natural(ParamName::gPayloadLengthStatic) as u8,
-        cycle: (cycle % 64) as u8,
+        cycle: cycle_count(cycle),
     }
 }
 
@@ -95,6 +93,6 @@ fn byte_at(valid: bool, slot: Slot, cycle: u32, place: usize) -> u8
     if !valid {
         return 0;
     }
-    let count = (cycle % 64) as usize;
+    let count = usize::from(cycle_count(cycle));
     ((7 * usize::from(slot.0) + 3 * count + place) % 256) as u8
 }

@@ -7,9 +7,6 @@ mod corrections;
 mod frames;
 mod node;
 mod own;
-#[cfg(test)]
-mod tests;
-mod times;
 
 pub use fr_reception::{Heard, Ignored};
 pub use frames::frame_of;

@@ -1,23 +1,24 @@
-ghost use Rattle.std.specs.Prelude.{◌≡◌, ◌≢◌, ◌<◌, ◌≤◌, ◌≤ℤ◌, ◌<ℤ◌, pos, neg_ℤ, IsTrue, IsSome, IsNone, Some, if◌then◌else◌};
-ghost use Rattle.fr_midpoint.specs.Within.{IsWithin};
+ghost use Rattle.std.specs.Prelude.{◌≡◌, ◌<◌, pos, IsSome, IsNone, if◌then◌else◌};
+ghost use Rattle.fr_base.specs.Timed.{IsLength, IsTimed};
+ghost use Rattle.fr_base.specs.Within.{IsBetween, IsWithin};
 ghost use Rattle.fr_measure.specs.Readings.{no_readings, reading};
 ghost use Rattle.fr_time.specs.Cycles.{is_odd};
-ghost use Rattle.fr_params.specs.Questions.{has_channel, node_of};
-ghost use Rattle.fr_params.specs.Values.{Values, amount};
-ghost use Rattle.fr_params.specs.declared.names.ParamName.TheVariants as name;
+ghost use Rattle.fr_time.specs.Instant.{KeepsLimits};
+ghost use Rattle.fr_cluster.specs.Questions.{node_of};
+ghost use Rattle.fr_cluster.specs.Values.{Values};
 ghost use Rattle.fr_poc.specs.Control.{stepped};
 ghost use Rattle.fr_reception.specs.Answers.{answer_of};
 
 use crate::answers::{Arrival, answer};
 use crate::corrections::{cut_count, offset_term_from, rate_term_from};
-use crate::own::{key_index, own_key_index, poc_limits, sane};
-use crate::times::cycle_ticks;
+use crate::own::{own_key_index, poc_limits};
 use fr_base::{Channel, NodeId, NodeRow, Outcome, Slot, State};
+use fr_cluster::Params;
 use fr_correct::Term;
 use fr_measure::Table;
-use fr_params::Params;
 use fr_poc::Poc;
 use fr_reception::Heard;
+use fr_time::{is_odd, next_start};
 use std::marker::Model;
 
 /// One node of the cluster, from the start of its first cycle on.
@@ -47,23 +48,20 @@ impl Model for Node {
 }
 
 impl Node {
-    ghost use Rattle.fr_node.specs.View.{row_of, IsProperRow};
-    ghost use Rattle.fr_reception.specs.Own.{own_key};
-    ghost use Rattle.fr_node.specs.Fits.{Fits};
-    ghost use Rattle.fr_node.specs.Cycle.{after_hearing, begun, corrected_row, corrects, ended, ended_row, fresh, offset_term_in, passed, rate_term_in};
+    ghost use Rattle.fr_node.specs.View.{node_row_of};
+    ghost use Rattle.fr_node.specs.Fits.{CanBegin, CanReceive, IsEndedRow, IsUnderWay, NodeFits};
+    ghost use Rattle.fr_node.specs.Cycle.{after_hearing, in_cycle, corrected_row, corrects, ended, ended_corrected, ended_row_of_node, fresh, offset_term_of_node, passed, rate_term_of_node};
     ghost use Rattle.fr_node.specs.Arrivals.{IfStored};
 
     /// A node before cycle 0: active, with no deviation. The start of cycle 0 is in ticks, the rate term in
     /// microticks.
     pub fn new(params: &Params, id: NodeId, start: i64, rate: i32) -> Node
         requires known { IsSome (node_of params.now id) }
-        requires start_from { pos 0 ≤ℤ start }
-        requires start_to { start ≤ℤ pos 1_000_000_000_000 }
+        requires start { IsBetween (pos 0) (pos 1_000_000_000_000) start }
         requires rate { IsWithin params.now.rate_limit rate }
         ensures value { result ≡ fresh params.now id start rate }
-        ensures fits { Fits params.now result }
+        ensures fits { NodeFits params.now result }
     {
-        sane(params);
         Node {
             id,
             cycle: 0,
@@ -85,13 +83,10 @@ impl Node {
     /// Begins the next cycle, in which a microtick lasts `length` ticks. An even cycle begins with no
     /// deviation.
     pub fn begin(&mut self, cycle: u32, length: i64)
-        requires between { IsNone self.old.length }
-        requires next { cycle ≡ self.old.cycle }
-        requires in_run { cycle < 200_000 }
-        requires length_from { pos 500_000 ≤ℤ length }
-        requires length_to { length ≤ℤ pos 1_500_000 }
-        ensures value { self.new ≡ begun self.old length }
-        ensures fits { (p : Values) → Fits p self.old → Fits p self.new }
+        requires next { CanBegin self.old cycle }
+        requires length { IsLength length }
+        ensures value { self.new ≡ in_cycle self.old length }
+        ensures fits { (p : Values) → NodeFits p self.old → NodeFits p self.new }
     {
         keep_in_odd(&mut self.table, cycle);
         self.length = Some(length);
@@ -107,18 +102,13 @@ impl Node {
         arrival: i64,
         bytes: &[u8],
     ) -> Heard
-        requires fits { Fits params.now self.old }
-        requires under_way { IsSome self.old.length }
-        requires receives { self.old.control.status.state ≢ State.Halt }
-        requires channel { IsTrue (has_channel (node_of params.now self.old.id) channel) }
-        requires slot { slot ≤ amount params.now name.gNumberOfStaticSlots }
-        requires not_itself { own_key params.now self.old.id ≢ Some slot }
-        requires arrival_from { neg_ℤ (pos 4_000_000_000_000_000_000) ≤ℤ arrival }
-        requires arrival_to { arrival ≤ℤ pos 4_000_000_000_000_000_000 }
-        ensures answer { result ≡ answer_of params.now self.old.cycle (row_of self.old) (record { slot = slot; channel = channel; arrival = arrival; bytes = bytes.now }) }
+        requires receives { CanReceive params.now self.old slot channel }
+        requires arrival { IsWithin (pos 4_000_000_000_000_000_000) arrival }
+        ensures answer { result ≡ answer_of params.now self.old.cycle (node_row_of self.old)
+            (record { slot = slot; channel = channel; arrival = arrival; bytes = bytes.now }) }
         ensures after { self.new ≡ after_hearing params.now self.old slot channel result }
         ensures rest { self.new ≡ record self.old { table = self.new.table } }
-        ensures fits { Fits params.now self.new }
+        ensures fits { NodeFits params.now self.new }
     {
         let heard = self.answer_to(params, slot, channel, arrival, bytes);
         self.keep(params, slot, channel, &heard);
@@ -129,15 +119,11 @@ impl Node {
     /// which the rate term and one step of operation control hold from the next cycle on, unless the node
     /// is halted (chapter 2, sections 8.6.2 and 8.6.3).
     pub fn end(&mut self, params: &Params) -> NodeRow
-        requires fits { Fits params.now self.old }
-        requires under_way { IsSome self.old.length }
-        ensures row { result ≡ ended_row params.now self.old }
+        requires { IsUnderWay params.now self.old }
+        ensures row { result ≡ ended_row_of_node params.now self.old }
         ensures after { self.new ≡ ended params.now self.old }
-        ensures fits { Fits params.now self.new }
-        ensures proper { IsProperRow result }
-        ensures rate { IsWithin params.now.rate_limit result.rate }
-        ensures offset { IsWithin params.now.offset_limit result.offset }
-        ensures cut { result.cut ≤ 2 }
+        ensures fits { NodeFits params.now self.new }
+        ensures ended { IsEndedRow params.now result }
     {
         if self.corrects() {
             self.end_corrected(params)
@@ -149,8 +135,8 @@ impl Node {
     /// The row of the cycle that is under way, before its end: with offset 0, and nothing cut.
     pub fn row(&self) -> NodeRow
         requires { IsSome self.now.length }
-        ensures value { result ≡ row_of self.now }
-        ensures proper { IsProperRow result }
+        ensures value { result ≡ node_row_of self.now }
+        ensures timed { IsTimed result }
     {
         NodeRow {
             node: self.id,
@@ -176,8 +162,7 @@ impl Node {
     pub fn next_start(&self) -> i64
         requires { IsNone self.now.length }
         ensures value { result ≡ self.now.start }
-        ensures from { pos 0 ≤ℤ result }
-        ensures to { result <ℤ pos 200_000_000_000_000_000 }
+        ensures within { IsBetween (pos 0) (pos 199_999_999_999_999_999) result }
     {
         self.start
     }
@@ -208,10 +193,9 @@ impl Node {
         at: i64,
         bytes: &[u8],
     ) -> Heard
-        requires rate { IsWithin params.now.rate_limit self.now.rate }
-        requires under_way { IsSome self.now.length }
-        requires slot { slot ≤ amount params.now name.gNumberOfStaticSlots }
-        ensures answer { result ≡ answer_of params.now self.now.cycle (row_of self.now) (record { slot = slot; channel = channel; arrival = at; bytes = bytes.now }) }
+        requires { CanReceive params.now self.now slot channel }
+        ensures answer { result ≡ answer_of params.now self.now.cycle (node_row_of self.now)
+            (record { slot = slot; channel = channel; arrival = at; bytes = bytes.now }) }
         ensures within { IfStored result (IsWithin (pos 1000000)) }
     {
         let row = self.row();
@@ -226,17 +210,16 @@ impl Node {
 
     // Keeps the deviation that an answer stores.
     fn keep(&mut self, params: &Params, slot: Slot, channel: Channel, heard: &Heard)
-        requires fits { Fits params.now self.old }
-        requires not_itself { own_key params.now self.old.id ≢ Some slot }
+        requires receives { CanReceive params.now self.old slot channel }
         requires within { IfStored heard.now (IsWithin (pos 1000000)) }
         ensures value { self.new ≡ after_hearing params.now self.old slot channel heard.now }
         ensures rest { self.new ≡ record self.old { table = self.new.table } }
-        ensures fits { Fits params.now self.new }
+        ensures fits { NodeFits params.now self.new }
     {
         if let Heard::Stored(value) = *heard
-            && let Some(index) = key_index(params, slot)
+            && let Some(index) = params.key_index(slot)
         {
-            self.table.store(index, self.cycle % 2 == 1, channel, value);
+            self.table.store(index, is_odd(self.cycle), channel, value);
         }
     }
 
@@ -244,11 +227,11 @@ impl Node {
     fn corrects(&self) -> bool
         ensures { result ≡ corrects self.now }
     {
-        self.cycle % 2 == 1 && !matches!(self.control.state(), State::Halt)
+        is_odd(self.cycle) && !matches!(self.control.state(), State::Halt)
     }
 
     fn offset_term(&self, params: &Params) -> Term
-        ensures value { result ≡ offset_term_in params.now self.now }
+        ensures value { result ≡ offset_term_of_node params.now self.now }
         ensures within { IsWithin params.now.offset_limit result.value }
     {
         offset_term_from(params, &self.table, own_key_index(params, self.id))
@@ -256,7 +239,7 @@ impl Node {
 
     fn rate_term(&self, params: &Params) -> Term
         requires { IsWithin params.now.rate_limit self.now.rate }
-        ensures value { result ≡ rate_term_in params.now self.now }
+        ensures value { result ≡ rate_term_of_node params.now self.now }
         ensures within { IsWithin params.now.rate_limit result.value }
     {
         rate_term_from(
@@ -270,25 +253,22 @@ impl Node {
     // One step of operation control.
     fn step(&mut self, offset: Outcome, rate: Outcome)
         ensures value { self.new ≡ record self.old { control = stepped self.old.control offset rate } }
-        ensures fits { (p : Values) → Fits p self.old → Fits p self.new }
+        ensures fits { (p : Values) → NodeFits p self.old → NodeFits p self.new }
     {
         self.control.step(offset, rate);
     }
 
     // Goes on to the cycle that follows one with this row.
     fn pass(&mut self, params: &Params, row: &NodeRow, rate: i32)
-        requires fits { Fits params.now self.old }
-        requires under_way { IsSome self.old.length }
+        requires under_way { IsUnderWay params.now self.old }
+        requires row { KeepsLimits params.now row.now }
         requires start { row.now.start ≡ self.old.start }
-        requires proper { IsProperRow row.now }
-        requires offset { IsWithin params.now.offset_limit row.now.offset }
-        requires row_rate { IsWithin params.now.rate_limit row.now.rate }
         requires rate { IsWithin params.now.rate_limit rate }
         ensures value { self.new ≡ passed params.now self.old row.now rate }
-        ensures fits { Fits params.now self.new }
+        ensures fits { NodeFits params.now self.new }
     {
-        sane(params);
-        self.start += cycle_ticks(params, row);
+        let start = next_start(params, row);
+        self.start = start;
         self.cycle += 1;
         self.length = None;
         self.rate = rate;
@@ -296,15 +276,11 @@ impl Node {
 
     // The end of a cycle with a correction.
     fn end_corrected(&mut self, params: &Params) -> NodeRow
-        requires fits { Fits params.now self.old }
-        requires under_way { IsSome self.old.length }
+        requires { IsUnderWay params.now self.old }
         ensures row { result ≡ corrected_row params.now self.old }
-        ensures after { self.new ≡ record (passed params.now self.old (corrected_row params.now self.old) (rate_term_in params.now self.old).value) { control = stepped self.old.control (offset_term_in params.now self.old).outcome (rate_term_in params.now self.old).outcome } }
-        ensures fits { Fits params.now self.new }
-        ensures proper { IsProperRow result }
-        ensures rate { IsWithin params.now.rate_limit result.rate }
-        ensures offset { IsWithin params.now.offset_limit result.offset }
-        ensures cut { result.cut ≤ 2 }
+        ensures after { self.new ≡ ended_corrected params.now self.old }
+        ensures fits { NodeFits params.now self.new }
+        ensures ended { IsEndedRow params.now result }
     {
         let offset = self.offset_term(params);
         let rate = self.rate_term(params);
@@ -320,17 +296,12 @@ impl Node {
 
     // The end of a cycle without one.
     fn end_plain(&mut self, params: &Params) -> NodeRow
-        requires fits { Fits params.now self.old }
-        requires under_way { IsSome self.old.length }
-        ensures row { result ≡ row_of self.old }
-        ensures after { self.new ≡ passed params.now self.old (row_of self.old) self.old.rate }
-        ensures fits { Fits params.now self.new }
-        ensures proper { IsProperRow result }
-        ensures rate { IsWithin params.now.rate_limit result.rate }
-        ensures offset { IsWithin params.now.offset_limit result.offset }
-        ensures cut { result.cut ≡ 0 }
+        requires { IsUnderWay params.now self.old }
+        ensures row { result ≡ node_row_of self.old }
+        ensures after { self.new ≡ passed params.now self.old (node_row_of self.old) self.old.rate }
+        ensures fits { NodeFits params.now self.new }
+        ensures ended { IsEndedRow params.now result }
     {
-        sane(params);
         let plain = self.row();
         self.pass(params, &plain, plain.rate);
         plain
@@ -341,7 +312,7 @@ impl Node {
 fn keep_in_odd(table: &mut Table, cycle: u32)
     ensures { table.new ≡ (if is_odd cycle then table.old else no_readings) }
 {
-    if cycle % 2 == 0 {
+    if !is_odd(cycle) {
         table.clear();
     }
 }

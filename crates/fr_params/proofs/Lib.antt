@@ -1,7 +1,7 @@
-pub mod Found
 pub mod Tables
 pub mod Listing
-pub mod Making
-pub mod Distinct
+pub mod Standing
 pub mod Outcomes
-pub mod Fourth
+pub mod LeastReason
+pub mod Deciding
+pub mod Existence

@@ -5,12 +5,12 @@ use Rattle.std.specs.Prelude.{All, AllPairs, Contains, IsSome, get_or}
 use Rattle.std.proofs.lemmas.List.{append-nil, map-append}
 use Rattle.std.proofs.lemmas.List.Elements.{All-nil, All-push, Contains-append_left, Contains-push}
 use Rattle.std.proofs.lemmas.List.Quantifiers.{all_pairs_push}
-use Rattle.fr_records.specs.Records.{Record}
-use Rattle.fr_params.specs.Draft.{entry, IsDraftOf}
+use Rattle.fr_records.specs.Records.{FileRecord}
+use Rattle.fr_params.specs.Draft.{entry, IsParamsDraft}
 use Rattle.fr_params.specs.Lists.{as_list, listed}
-use Rattle.fr_params.specs.Sane.{IsSaneNode, IsSaneSlot, AreSaneLists}
-use Rattle.fr_params.specs.declared.rows.NodeSpec.{NodeSpec}
-use Rattle.fr_params.specs.declared.rows.SlotSpec.{SlotSpec}
+use Rattle.fr_cluster.specs.Sane.{IsSaneNode, IsSaneSlot, AreSaneLists}
+use Rattle.fr_cluster.specs.declared.nodes.NodeSpec.{NodeSpec}
+use Rattle.fr_cluster.specs.declared.nodes.SlotSpec.{SlotSpec}
 use Rattle.fr_params.specs.declared.draft.Draft.{Draft}
 
 pub listed-zero : {A : Type 0} (at : ℕ → Option A) → listed 0 at ≡ []
@@ -94,7 +94,7 @@ found None e = cc e
 found (Some x) e = (x, refl)
 
 -- the lists of what the tables hold are sane
-pub sane-lists : (d : Draft) (records : List Record) (nodes : List NodeSpec) (slots : List SlotSpec) → IsDraftOf d records
+pub sane-lists : (d : Draft) (records : List FileRecord) (nodes : List NodeSpec) (slots : List SlotSpec) → IsParamsDraft d records
     → nodes ≡ listed 64 (entry d.nodes) → slots ≡ listed 1023 (entry d.slots) → AreSaneLists nodes slots
 sane-lists d records nodes slots h n s = record {
   nodes_sane = rw n (listed-all IsSaneNode 64 (entry d.nodes) (λ k x le e. let at = h.numbered k x e in record { proper = at.proper; starts = at.starts }));

@@ -1,30 +1,27 @@
 -- What reading a file may answer is one answer, but for want of memory.
-use Rattle.std.proofs.Common.{◌≡◌, ◌≢◌, ℕ, ℤ, zero, suc, ◌+◌, ◌<◌, ◌≤◌, ◌-◌, ◌*◌, List, Option, Some, None, Result, Ok, Err, ap, sym, ◌∙◌, refl, arith, true, false, Bool, ◌⊎◌, inl, inr, subst}
+use Rattle.std.proofs.Common.{◌≡◌, ℕ, ℤ, zero, suc, ◌<◌, List, Option, Some, None, Ok, Err, ap, sym, ◌∙◌, refl, arith, true, false, Bool, ◌⊎◌, inl, inr, subst}
 use Rattle.std.specs.Prelude.{IsSome, nat_lt}
 use Rattle.std.proofs.lemmas.Bool.{cases_eq}
 use borrow.Author.Tests.{ltb-true, ltb-false}
-use Rattle.fr_records.specs.Records.{Record, records_of}
-use Rattle.fr_records.specs.Refusal.{NoneRefused, FirstRefused}
-use Rattle.fr_records.proofs.Cuts.{first-same}
-use Rattle.fr_base.specs.declared.reason.Reason.{Reason}
-use Rattle.fr_params.specs.Names.{place}
-use Rattle.fr_params.specs.Reasons.{value_at, reason_after}
-use Rattle.fr_params.specs.Values.{Values, figure, amount}
-use Rattle.fr_params.specs.Constraints.{Amounts, Holds, AllHold, FirstFails, key_slots}
-use Rattle.fr_params.specs.Sane.{IsSane}
-use Rattle.fr_params.specs.Files.{StandsFor, IsFileOf, IsMissing, FailsConstraint, Reads}
-use Rattle.fr_params.specs.declared.names.ParamName.{ParamName}
-use Rattle.fr_params.specs.declared.names.ParamName.TheVariants as name
-use Rattle.fr_params.specs.declared.rows.SlotSpec.{SlotSpec}
-use Rattle.fr_params.specs.declared.fault.ParamFault.{ParamFault}
+use Rattle.fr_records.specs.Records.{FileRecord, records_of}
+use Rattle.fr_records.specs.Kind.{HasOneAnswer}
+use Rattle.fr_records.proofs.Cuts.{first-same, refused-none}
+use Rattle.fr_cluster.specs.Names.{place}
+use Rattle.fr_params.specs.Reasons.{value_at, param_reason_after}
+use Rattle.fr_cluster.specs.Values.{Values, figure, amount}
+use Rattle.fr_cluster.specs.Constraints.{Amounts, ConstraintHolds, AllHold, FirstFails, key_slots}
+use Rattle.fr_params.specs.Files.{ParamsStandFor, IsParamsFile, IsMissing, FailsConstraint, params_file}
+use Rattle.fr_cluster.specs.declared.names.ParamName.{ParamName}
+use Rattle.fr_cluster.specs.declared.names.ParamName.TheVariants as name
+use Rattle.fr_cluster.specs.declared.nodes.SlotSpec.{SlotSpec}
 use Rattle.fr_params.specs.declared.fault.ParamFault.TheVariants as fault
-use Rattle.fr_params.proofs.Tables.{place-one}
+use Rattle.fr_cluster.proofs.Places.{place-one}
 
 some-same : {A : Type 0} (x y : A) → Some x ≡ Some y → x ≡ y
 some-same x y e = cc e
 
 -- records stand for one value
-stands-same : (p q : Values) (records : List Record) → StandsFor p records → StandsFor q records → p ≡ q
+stands-same : (p q : Values) (records : List FileRecord) → ParamsStandFor p records → ParamsStandFor q records → p ≡ q
 stands-same p q records f g = λ i. record {
   macros = figures name.gMacroPerCycle i;
   micros = figures name.pMicroPerCycle i;
@@ -59,11 +56,11 @@ stands-same p q records f g = λ i. record {
     slots = f.slots ∙ sym g.slots
 
 -- all constraints hold by their numbers
-holds-of : (f : Amounts) (keys : List ℕ) (slots : List SlotSpec) → AllHold f keys slots → (k : ℕ) → Holds k f keys slots
+holds-of : (f : Amounts) (keys : List ℕ) (slots : List SlotSpec) → AllHold f keys slots → (k : ℕ) → ConstraintHolds k f keys slots
 holds-of f keys slots h zero = tt
 holds-of f keys slots h (suc zero) = h.whole_cycle
 holds-of f keys slots h (suc (suc zero)) = h.acts_in_slot
-holds-of f keys slots h (suc (suc (suc zero))) = h.corrects_behind
+holds-of f keys slots h (suc (suc (suc zero))) = h.corrects_after
 holds-of f keys slots h (suc (suc (suc (suc zero)))) = h.leaves_microticks
 holds-of f keys slots h (suc (suc (suc (suc (suc zero))))) = h.passive_first
 holds-of f keys slots h (suc (suc (suc (suc (suc (suc zero)))))) = h.sync_nodes
@@ -71,14 +68,11 @@ holds-of f keys slots h (suc (suc (suc (suc (suc (suc (suc zero))))))) = h.own_s
 holds-of f keys slots h (suc (suc (suc (suc (suc (suc (suc (suc zero)))))))) = h.free_slots
 holds-of f keys slots h (suc (suc (suc (suc (suc (suc (suc (suc (suc k))))))))) = tt
 
-refused-none : (records : List Record) (n : ℕ) (why : Reason) → FirstRefused reason_after records n why → NoneRefused reason_after records → ⊥
-refused-none records n why f none = let a = none f.before f.record_at f.behind f.cut in let b = f.refused in cc
-
-stands-missing : (p : Values) (records : List Record) (n : ParamName) → StandsFor p records → value_at (place n) records ≡ None → ⊥
+stands-missing : (p : Values) (records : List FileRecord) (n : ParamName) → ParamsStandFor p records → value_at (place n) records ≡ None → ⊥
 stands-missing p records n f none = let there = f.figures n in cc
 
 -- the first missing name is one
-missing-same : (records : List Record) (m n : ParamName) → IsMissing m records → IsMissing n records → m ≡ n
+missing-same : (records : List FileRecord) (m n : ParamName) → IsMissing m records → IsMissing n records → m ≡ n
 missing-same records m n f g = by (cases_eq (place m) (place n))
   where
     clash : (o : Option ℤ) → o ≡ None → IsSome o → ⊥
@@ -112,55 +106,39 @@ fails-same f keys slots j k a b = by (cases_eq j k)
     by (inr ne) = order (nat_lt j k) refl ne
 
 -- a file that is accepted fails no constraint
-file-fails : (p : Values) (bytes : List ℕ) (k : ℕ) → IsFileOf p bytes → FailsConstraint k (records_of bytes) → ⊥
+file-fails : (p : Values) (bytes : List ℕ) (k : ℕ) → IsParamsFile p bytes → FailsConstraint k (records_of bytes) → ⊥
 file-fails p bytes k f g =
     let same = stands-same g.values p (records_of bytes) g.stands f.stands in
     let P : Values → Type 0 = λ v. FirstFails k (amount v) (key_slots v.nodes) v.slots in
     let fails = subst P same g.fails in
     fails.fails (holds-of (amount p) (key_slots p.nodes) p.slots f.constraints k)
 
-constraint-same : (records : List Record) (j k : ℕ) → FailsConstraint j records → FailsConstraint k records → j ≡ k
+constraint-same : (records : List FileRecord) (j k : ℕ) → FailsConstraint j records → FailsConstraint k records → j ≡ k
 constraint-same records j k f g =
     let same = stands-same g.values f.values records g.stands f.stands in
     let P : Values → Type 0 = λ v. FirstFails k (amount v) (key_slots v.nodes) v.slots in
     fails-same (amount f.values) (key_slots f.values.nodes) f.values.slots j k f.fails (subst P same g.fails)
 
 -- two answers to one file are the same, but for want of memory
-pub reads-same : (bytes : List ℕ) (a b : Result Values ParamFault) → a ≢ Err fault.NoMemory → b ≢ Err fault.NoMemory → Reads bytes a → Reads bytes b → a ≡ b
+pub reads-same : HasOneAnswer params_file
 reads-same bytes (Ok p) (Ok q) na nb f g = ap (λ (v : Values). Ok v) (stands-same p q (records_of bytes) f.stands g.stands)
-reads-same bytes (Ok p) (Err (fault.Row n why)) na nb f g = absurd (refused-none (records_of bytes) n why g f.none_refused)
+reads-same bytes (Ok p) (Err (fault.Row n why)) na nb f g = absurd (refused-none param_reason_after (records_of bytes) n why g f.none_refused)
 reads-same bytes (Ok p) (Err (fault.Missing m)) na nb f g = absurd (stands-missing p (records_of bytes) m f.stands g.missing)
 reads-same bytes (Ok p) (Err (fault.Constraint k)) na nb f g = absurd (file-fails p bytes k f g)
 reads-same bytes (Ok p) (Err fault.NoMemory) na nb f g = absurd (nb refl)
-reads-same bytes (Err (fault.Row n why)) (Ok q) na nb f g = absurd (refused-none (records_of bytes) n why f g.none_refused)
-reads-same bytes (Err (fault.Row n why)) (Err (fault.Row m other)) na nb f g = let same = first-same reason_after (records_of bytes) n m why other f g in cc
-reads-same bytes (Err (fault.Row n why)) (Err (fault.Missing m)) na nb f g = absurd (refused-none (records_of bytes) n why f g.none_refused)
-reads-same bytes (Err (fault.Row n why)) (Err (fault.Constraint k)) na nb f g = absurd (refused-none (records_of bytes) n why f g.none_refused)
+reads-same bytes (Err (fault.Row n why)) (Ok q) na nb f g = absurd (refused-none param_reason_after (records_of bytes) n why f g.none_refused)
+reads-same bytes (Err (fault.Row n why)) (Err (fault.Row m other)) na nb f g = let same = first-same param_reason_after (records_of bytes) n m why other f g in cc
+reads-same bytes (Err (fault.Row n why)) (Err (fault.Missing m)) na nb f g = absurd (refused-none param_reason_after (records_of bytes) n why f g.none_refused)
+reads-same bytes (Err (fault.Row n why)) (Err (fault.Constraint k)) na nb f g = absurd (refused-none param_reason_after (records_of bytes) n why f g.none_refused)
 reads-same bytes (Err (fault.Row n why)) (Err fault.NoMemory) na nb f g = absurd (nb refl)
 reads-same bytes (Err (fault.Missing m)) (Ok q) na nb f g = absurd (stands-missing q (records_of bytes) m g.stands f.missing)
-reads-same bytes (Err (fault.Missing m)) (Err (fault.Row n why)) na nb f g = absurd (refused-none (records_of bytes) n why g f.none_refused)
+reads-same bytes (Err (fault.Missing m)) (Err (fault.Row n why)) na nb f g = absurd (refused-none param_reason_after (records_of bytes) n why g f.none_refused)
 reads-same bytes (Err (fault.Missing m)) (Err (fault.Missing n)) na nb f g = ap (λ (x : ParamName). Err (fault.Missing x)) (missing-same (records_of bytes) m n f g)
 reads-same bytes (Err (fault.Missing m)) (Err (fault.Constraint k)) na nb f g = absurd (stands-missing g.values (records_of bytes) m g.stands f.missing)
 reads-same bytes (Err (fault.Missing m)) (Err fault.NoMemory) na nb f g = absurd (nb refl)
 reads-same bytes (Err (fault.Constraint k)) (Ok q) na nb f g = absurd (file-fails q bytes k g f)
-reads-same bytes (Err (fault.Constraint k)) (Err (fault.Row n why)) na nb f g = absurd (refused-none (records_of bytes) n why g f.none_refused)
+reads-same bytes (Err (fault.Constraint k)) (Err (fault.Row n why)) na nb f g = absurd (refused-none param_reason_after (records_of bytes) n why g f.none_refused)
 reads-same bytes (Err (fault.Constraint k)) (Err (fault.Missing m)) na nb f g = absurd (stands-missing f.values (records_of bytes) m f.stands g.missing)
 reads-same bytes (Err (fault.Constraint j)) (Err (fault.Constraint k)) na nb f g = ap (λ (x : ℕ). Err (fault.Constraint x)) (constraint-same (records_of bytes) j k f g)
 reads-same bytes (Err (fault.Constraint k)) (Err fault.NoMemory) na nb f g = absurd (nb refl)
 reads-same bytes (Err fault.NoMemory) b na nb f g = absurd (na refl)
-
--- what is cut off to 0 is no more than nothing
-pub cut-none : (macros correction offset micros rate : ℕ) → 1 ≤ macros → micros ≤ rate → macros * (correction + offset + 1) ≤ (micros - rate) * correction → ⊥
-cut-none macros correction offset micros rate some le h = let none : micros - rate ≡ 0 = omega arith in let least = rw none at h in omega (arith, least)
-
--- under the constraints no difference of the definitions is cut off at 0
-pub no-cut : (p : Values) → IsSane p
-    → (amount p name.pRateCorrectionOut < amount p name.pMicroPerCycle) × (amount p name.gOffsetCorrectionStart < amount p name.gMacroPerCycle)
-no-cut p h = (by (nat_lt (amount p name.pRateCorrectionOut) (amount p name.pMicroPerCycle)) refl, h.constraints.corrects_behind.1)
-  where
-    by : (b : Bool) → nat_lt (amount p name.pRateCorrectionOut) (amount p name.pMicroPerCycle) ≡ b → amount p name.pRateCorrectionOut < amount p name.pMicroPerCycle
-    by true e = ltb-true _ _ e
-    by false e =
-        let high = ltb-false (amount p name.pRateCorrectionOut) (amount p name.pMicroPerCycle) e in
-        let behind = h.constraints.corrects_behind.1 in
-        absurd (cut-none (amount p name.gMacroPerCycle) (amount p name.gMacroPerCycle - amount p name.gOffsetCorrectionStart) (amount p name.pOffsetCorrectionOut) (amount p name.pMicroPerCycle) (amount p name.pRateCorrectionOut) (omega arith) high h.constraints.leaves_microticks)

@@ -7,112 +7,46 @@ use Rattle.std.specs.Prelude.{nat_lt as ltb}
 use borrow.Author.Tests.{ltb-true, ltb-false}
 use Rattle.std.proofs.lemmas.List.{get_or-replicate, length-replicate, get_or-set_same, get_or-set_other, length-set, get_or_default, get_or_past}
 use Rattle.fr_base.specs.declared.reason.Reason.{Reason}
-use Rattle.fr_records.specs.Records.{Record}
-use Rattle.fr_params.specs.Names.{place}
-use Rattle.fr_params.specs.Rows.{row_of, kind_row, InRange, IsProperNode, IsProperSlot}
-use Rattle.fr_params.specs.Reasons.{or_else, looked_up, value_in, node_in, slot_in, value_at, node_at, slot_at, has_turn, is_keyless_starter}
-use Rattle.fr_params.specs.Draft.{entry, Shows, IsNodeAt, IsSlotAt, IsDraftOf}
-use Rattle.fr_params.specs.declared.names.ParamName.{ParamName}
-use Rattle.fr_params.specs.declared.names.ParamName.TheVariants as name
-use Rattle.fr_params.specs.declared.names.TheConstants.{NAMES}
-use Rattle.fr_params.specs.declared.rows.NodeSpec.{NodeSpec}
-use Rattle.fr_params.specs.declared.rows.SlotSpec.{SlotSpec}
+use Rattle.fr_records.specs.Records.{FileRecord}
+use Rattle.fr_cluster.specs.Names.{place}
+use Rattle.fr_params.specs.Rows.{param_row_of, param_file_row}
+use Rattle.fr_cluster.specs.Ranges.{InRange, IsProperNode, IsProperSlot}
+use Rattle.fr_records.specs.Fields.{or_else}
+use Rattle.fr_params.specs.Reasons.{value_said, node_said, slot_said, value_at, node_at, slot_at}
+use Rattle.fr_cluster.specs.Ranges.{has_turn, is_keyless_starter}
+use Rattle.fr_params.specs.Draft.{entry, Shows, IsNodeAt, IsSlotAt, IsParamsDraft}
+use Rattle.fr_cluster.specs.declared.names.ParamName.{ParamName}
+use Rattle.fr_cluster.specs.declared.nodes.NodeSpec.{NodeSpec}
+use Rattle.fr_cluster.specs.declared.nodes.SlotSpec.{SlotSpec}
 use Rattle.fr_params.specs.declared.rows.Row.{Row}
 use Rattle.fr_params.specs.declared.rows.Row.TheVariants as row
 use Rattle.fr_params.specs.declared.draft.Draft.{Draft}
+use Rattle.fr_records.proofs.Lookups.{looked_up-more, looked_up-nil, or_else-none}
+use Rattle.fr_cluster.proofs.Places.{place-one, place-lt}
 
 -- what a record of five fields says
-pub row_of-five : (fields : Record) → length fields ≡ 5
-    → row_of fields ≡ kind_row (slice_index_or fields 0 []) (slice_index_or fields 1 []) (slice_index_or fields 2 []) (slice_index_or fields 3 []) (slice_index_or fields 4 [])
-unfolding row_of
+pub row_of-five : (fields : FileRecord) → length fields ≡ 5
+    → param_row_of fields ≡ param_file_row (slice_index_or fields 0 []) (slice_index_or fields 1 []) (slice_index_or fields 2 []) (slice_index_or fields 3 []) (slice_index_or fields 4 [])
+unfolding param_row_of
 row_of-five fields e = rw e refl
 
 -- the same, of fields that are equal
-pub kind_row-same : (k a b c d k2 a2 b2 c2 d2 : List ℕ) → k ≡ k2 → a ≡ a2 → b ≡ b2 → c ≡ c2 → d ≡ d2 → kind_row k a b c d ≡ kind_row k2 a2 b2 c2 d2
+pub kind_row-same : (k a b c d k2 a2 b2 c2 d2 : List ℕ) → k ≡ k2 → a ≡ a2 → b ≡ b2 → c ≡ c2 → d ≡ d2 → param_file_row k a b c d ≡ param_file_row k2 a2 b2 c2 d2
 kind_row-same k a b c d k2 a2 b2 c2 d2 e0 e1 e2 e3 e4 =
-    ap (λ (x : List ℕ). kind_row x a b c d) e0
-    ∙ ap (λ (x : List ℕ). kind_row k2 x b c d) e1
-    ∙ ap (λ (x : List ℕ). kind_row k2 a2 x c d) e2
-    ∙ ap (λ (x : List ℕ). kind_row k2 a2 b2 x d) e3
-    ∙ ap (λ (x : List ℕ). kind_row k2 a2 b2 c2 x) e4
+    ap (λ (x : List ℕ). param_file_row x a b c d) e0
+    ∙ ap (λ (x : List ℕ). param_file_row k2 x b c d) e1
+    ∙ ap (λ (x : List ℕ). param_file_row k2 a2 x c d) e2
+    ∙ ap (λ (x : List ℕ). param_file_row k2 a2 b2 x d) e3
+    ∙ ap (λ (x : List ℕ). param_file_row k2 a2 b2 c2 x) e4
 
--- places of the table and names are one to one
-named_at : ℕ → ParamName
-named_at k = slice_index_or NAMES k name.gMacroPerCycle
+value_at-more : (k : ℕ) (done : List FileRecord) (r : FileRecord) (x : Result Row Reason) → param_row_of r ≡ x → value_at k (done ++ r ∷ []) ≡ or_else (value_at k done) (value_said k x)
+value_at-more k done r x e = looked_up-more (value_said k) param_row_of done r x e
 
-named_at-place : (n : ParamName) → named_at (place n) ≡ n
-unfolding named_at
-named_at-place name.gMacroPerCycle = refl
-named_at-place name.pMicroPerCycle = refl
-named_at-place name.gNumberOfStaticSlots = refl
-named_at-place name.gdStaticSlot = refl
-named_at-place name.gdActionPointOffset = refl
-named_at-place name.gdNIT = refl
-named_at-place name.gPayloadLengthStatic = refl
-named_at-place name.gOffsetCorrectionStart = refl
-named_at-place name.gMaxWithoutClockCorrectionPassive = refl
-named_at-place name.gMaxWithoutClockCorrectionFatal = refl
-named_at-place name.pAllowHaltDueToClock = refl
-named_at-place name.pAllowPassiveToActive = refl
-named_at-place name.pClusterDriftDamping = refl
-named_at-place name.pOffsetCorrectionOut = refl
-named_at-place name.pRateCorrectionOut = refl
-named_at-place name.pDelayCompensation = refl
-named_at-place name.xRateBound = refl
-named_at-place name.xChangeBound = refl
-named_at-place name.xDelayError = refl
+node_at-more : (k : ℕ) (done : List FileRecord) (r : FileRecord) (x : Result Row Reason) → param_row_of r ≡ x → node_at k (done ++ r ∷ []) ≡ or_else (node_at k done) (node_said k x)
+node_at-more k done r x e = looked_up-more (node_said k) param_row_of done r x e
 
-pub place-one : (m n : ParamName) → place m ≡ place n → m ≡ n
-place-one m n e = sym (named_at-place m) ∙ ap named_at e ∙ named_at-place n
-
-pub place-lt : (n : ParamName) → place n < 19
-place-lt name.gMacroPerCycle = omega arith
-place-lt name.pMicroPerCycle = omega arith
-place-lt name.gNumberOfStaticSlots = omega arith
-place-lt name.gdStaticSlot = omega arith
-place-lt name.gdActionPointOffset = omega arith
-place-lt name.gdNIT = omega arith
-place-lt name.gPayloadLengthStatic = omega arith
-place-lt name.gOffsetCorrectionStart = omega arith
-place-lt name.gMaxWithoutClockCorrectionPassive = omega arith
-place-lt name.gMaxWithoutClockCorrectionFatal = omega arith
-place-lt name.pAllowHaltDueToClock = omega arith
-place-lt name.pAllowPassiveToActive = omega arith
-place-lt name.pClusterDriftDamping = omega arith
-place-lt name.pOffsetCorrectionOut = omega arith
-place-lt name.pRateCorrectionOut = omega arith
-place-lt name.pDelayCompensation = omega arith
-place-lt name.xRateBound = omega arith
-place-lt name.xChangeBound = omega arith
-place-lt name.xDelayError = omega arith
-
-or_else-none : {A : Type 0} (o : Option A) → or_else o None ≡ o
-or_else-none None = refl
-or_else-none (Some x) = refl
-
-or_else_assoc : {A : Type 0} (a b c : Option A) → or_else a (or_else b c) ≡ or_else (or_else a b) c
-or_else_assoc None b c = refl
-or_else_assoc (Some x) b c = refl
-
--- one record more to look in
-looked_up-more : {A : Type 0} (what : Record → Option A) (records : List Record) (r : Record) → looked_up what (records ++ r ∷ []) ≡ or_else (looked_up what records) (what r)
-unfolding looked_up
-looked_up-more what [] r = or_else-none (what r)
-looked_up-more what (x ∷ xs) r =
-    ap (λ (o : Option _). or_else (what x) o) (looked_up-more what xs r) ∙ or_else_assoc (what x) (looked_up what xs) (what r)
-
-looked_up-nil : {A : Type 0} (what : Record → Option A) → looked_up what [] ≡ None
-unfolding looked_up
-looked_up-nil what = refl
-
-value_at-more : (k : ℕ) (done : List Record) (r : Record) (x : Result Row Reason) → row_of r ≡ x → value_at k (done ++ r ∷ []) ≡ or_else (value_at k done) (value_in k x)
-value_at-more k done r x e = looked_up-more (λ q. value_in k (row_of q)) done r ∙ ap (λ (y : Result Row Reason). or_else (value_at k done) (value_in k y)) e
-
-node_at-more : (k : ℕ) (done : List Record) (r : Record) (x : Result Row Reason) → row_of r ≡ x → node_at k (done ++ r ∷ []) ≡ or_else (node_at k done) (node_in k x)
-node_at-more k done r x e = looked_up-more (λ q. node_in k (row_of q)) done r ∙ ap (λ (y : Result Row Reason). or_else (node_at k done) (node_in k y)) e
-
-slot_at-more : (k : ℕ) (done : List Record) (r : Record) (x : Result Row Reason) → row_of r ≡ x → slot_at k (done ++ r ∷ []) ≡ or_else (slot_at k done) (slot_in k x)
-slot_at-more k done r x e = looked_up-more (λ q. slot_in k (row_of q)) done r ∙ ap (λ (y : Result Row Reason). or_else (slot_at k done) (slot_in k y)) e
+slot_at-more : (k : ℕ) (done : List FileRecord) (r : FileRecord) (x : Result Row Reason) → param_row_of r ≡ x → slot_at k (done ++ r ∷ []) ≡ or_else (slot_at k done) (slot_said k x)
+slot_at-more k done r x e = looked_up-more (slot_said k) param_row_of done r x e
 
 pick-same : {A : Type 0} (p j : ℕ) (x y : A) → p ≡ j → (if p == j then x else y) ≡ x
 pick-same p j x y e = rw (eq-eqb p j e) refl
@@ -121,7 +55,7 @@ pick-other : {A : Type 0} (p j : ℕ) (x y : A) → (p ≡ j → ⊥) → (if p 
 pick-other p j x y ne = let no : (p == j) ≡ false = grind (arith, nat_tests) in rw no refl
 
 -- an empty table shows what no record says
-pub shows-nil : {A : Type 0} (size : ℕ) (said : ℕ → List Record → Option A) → ((k : ℕ) → said k [] ≡ None) → Shows (replicate size None) size said []
+pub shows-nil : {A : Type 0} (size : ℕ) (said : ℕ → List FileRecord → Option A) → ((k : ℕ) → said k [] ≡ None) → Shows (replicate size None) size said []
 shows-nil size said none = record { long = length-replicate size None; same = λ k lt. get_or-replicate size k None None lt ∙ sym (none k) }
 
 -- an entry that was filled, and the others
@@ -132,7 +66,7 @@ pub entry-others : {A : Type 0} (t : List (Option A)) (p j : ℕ) (x : A) → (j
 entry-others t p j x ne = get_or-set_other t p j (Some x) None ne
 
 -- a record that says what stood empty fills it
-shows-taken : {A : Type 0} (t : List (Option A)) (size : ℕ) (said : ℕ → List Record → Option A) (done : List Record) (r : Record) (p : ℕ) (x : A)
+shows-taken : {A : Type 0} (t : List (Option A)) (size : ℕ) (said : ℕ → List FileRecord → Option A) (done : List FileRecord) (r : FileRecord) (p : ℕ) (x : A)
     → Shows t size said done → p < size → entry t p ≡ None
     → ((j : ℕ) → said j (done ++ r ∷ []) ≡ or_else (said j done) (if p == j then Some x else None))
     → Shows (slice_set t p (Some x)) size said (done ++ r ∷ [])
@@ -150,7 +84,7 @@ shows-taken {A} t size said done r p x h lt empty more = record {
         entry-others t p j x ne ∙ h.same j below ∙ sym (more j ∙ rw (pick-other p j (Some x) None (λ e. ne (sym e))) (or_else-none (said j done)))
 
 -- a record that says nothing of this kind changes nothing
-shows-kept : {A : Type 0} (t : List (Option A)) (size : ℕ) (said : ℕ → List Record → Option A) (done : List Record) (r : Record)
+shows-kept : {A : Type 0} (t : List (Option A)) (size : ℕ) (said : ℕ → List FileRecord → Option A) (done : List FileRecord) (r : FileRecord)
     → Shows t size said done → ((j : ℕ) → said j (done ++ r ∷ []) ≡ or_else (said j done) None) → Shows t size said (done ++ r ∷ [])
 shows-kept t size said done r h more = record {
   long = h.long;
@@ -172,11 +106,11 @@ nothing {A} {P} size k x e = by (ltb k size) refl
         none-some (entry (replicate size None) k) x (get_or_past (replicate size None) k None long) e
 
 -- a table of nothing
-pub draft-nil : (d : Draft) → d.values ≡ replicate 19 None → d.nodes ≡ replicate 65 None → d.slots ≡ replicate 1024 None → IsDraftOf d []
+pub draft-nil : (d : Draft) → d.values ≡ replicate 19 None → d.nodes ≡ replicate 65 None → d.slots ≡ replicate 1024 None → IsParamsDraft d []
 draft-nil d v n s = record {
-  values = rw v (shows-nil 19 value_at (λ k. looked_up-nil (λ q. value_in k (row_of q))));
-  nodes = rw n (shows-nil 65 node_at (λ k. looked_up-nil (λ q. node_in k (row_of q))));
-  slots = rw s (shows-nil 1024 slot_at (λ k. looked_up-nil (λ q. slot_in k (row_of q))));
+  values = rw v (shows-nil 19 value_at (λ k. looked_up-nil (λ q. value_said k (param_row_of q))));
+  nodes = rw n (shows-nil 65 node_at (λ k. looked_up-nil (λ q. node_said k (param_row_of q))));
+  slots = rw s (shows-nil 1024 slot_at (λ k. looked_up-nil (λ q. slot_said k (param_row_of q))));
   ranged = λ m x e. nothing 19 (place m) x (rw v at e);
   numbered = λ k x e. nothing 65 k x (rw n at e);
   taken = λ k x e. nothing 1024 k x (rw s at e);
@@ -197,8 +131,8 @@ some-same : {A : Type 0} (x y : A) → Some x ≡ Some y → x ≡ y
 some-same x y e = cc e
 
 -- a value that was not there is taken
-pub draft-value : (d : Draft) (done : List Record) (r : Record) (n : ParamName) (v : ℤ) → IsDraftOf d done → row_of r ≡ Ok (row.Param n v) → InRange n v
-    → entry d.values (place n) ≡ None → IsDraftOf (record d { values = slice_set d.values (place n) (Some v) }) (done ++ r ∷ [])
+pub draft-value : (d : Draft) (done : List FileRecord) (r : FileRecord) (n : ParamName) (v : ℤ) → IsParamsDraft d done → param_row_of r ≡ Ok (row.Param n v) → InRange n v
+    → entry d.values (place n) ≡ None → IsParamsDraft (record d { values = slice_set d.values (place n) (Some v) }) (done ++ r ∷ [])
 draft-value d done r n v h e fits empty = record {
   values = shows-taken d.values 19 value_at done r (place n) v h.values (place-lt n) empty (λ j. value_at-more j done r _ e);
   nodes = shows-kept d.nodes 65 node_at done r h.nodes (λ j. node_at-more j done r _ e);
@@ -226,8 +160,8 @@ is_some-set t p k x lt some = by (cases_eq k p)
     by (inr ne) = rw (entry-others t p k x ne) some
 
 -- a node that was not there is taken
-pub draft-node : (d : Draft) (done : List Record) (r : Record) (node : NodeSpec) → IsDraftOf d done → row_of r ≡ Ok (row.Node node) → IsProperNode node
-    → is_keyless_starter node ≡ false → entry d.nodes node.id ≡ None → IsDraftOf (record d { nodes = slice_set d.nodes node.id (Some node) }) (done ++ r ∷ [])
+pub draft-node : (d : Draft) (done : List FileRecord) (r : FileRecord) (node : NodeSpec) → IsParamsDraft d done → param_row_of r ≡ Ok (row.Node node) → IsProperNode node
+    → is_keyless_starter node ≡ false → entry d.nodes node.id ≡ None → IsParamsDraft (record d { nodes = slice_set d.nodes node.id (Some node) }) (done ++ r ∷ [])
 draft-node d done r node h e proper starts empty = record {
   values = shows-kept d.values 19 value_at done r h.values (λ j. value_at-more j done r _ e);
   nodes = shows-taken d.nodes 65 node_at done r node.id node h.nodes (omega (arith, proper.to)) empty (λ j. node_at-more j done r _ e);
@@ -250,9 +184,9 @@ draft-node d done r node h e proper starts empty = record {
     by k other there (inr ne) = h.numbered k other (sym (entry-others d.nodes node.id k node ne) ∙ there)
 
 -- a slot that was not there is taken
-pub draft-slot : (d : Draft) (done : List Record) (r : Record) (slot : SlotSpec) → IsDraftOf d done → row_of r ≡ Ok (row.Slot slot) → IsProperSlot slot
+pub draft-slot : (d : Draft) (done : List FileRecord) (r : FileRecord) (slot : SlotSpec) → IsParamsDraft d done → param_row_of r ≡ Ok (row.Slot slot) → IsProperSlot slot
     → has_turn slot ≡ true → IsSome (entry d.nodes slot.node) → entry d.slots slot.slot ≡ None
-    → IsDraftOf (record d { slots = slice_set d.slots slot.slot (Some slot) }) (done ++ r ∷ [])
+    → IsParamsDraft (record d { slots = slice_set d.slots slot.slot (Some slot) }) (done ++ r ∷ [])
 draft-slot d done r slot h e proper turn known empty = record {
   values = shows-kept d.values 19 value_at done r h.values (λ j. value_at-more j done r _ e);
   nodes = shows-kept d.nodes 65 node_at done r h.nodes (λ j. node_at-more j done r _ e);

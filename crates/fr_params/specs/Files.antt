@@ -1,67 +1,68 @@
 -- What a parameter file stands for, and why it is refused.
-use Rattle.std.specs.Prelude.{ℕ, ℤ, ◌≡◌, ◌<◌, List, Option, Some, None, IsSome, Result, Ok, Err, ⊤}
-use Rattle.fr_records.specs.Records.{Record, records_of}
+use Rattle.std.specs.Prelude.{ℕ, ℤ, ◌≡◌, ◌<◌, List, Option, Some, None, IsSome, ⊤}
+use Rattle.fr_records.specs.Kind.{Kind}
+use Rattle.fr_records.specs.Records.{FileRecord, records_of}
 use Rattle.fr_records.specs.Refusal.{NoneRefused, FirstRefused}
-use Rattle.fr_params.specs.Names.{place}
-use Rattle.fr_params.specs.Reasons.{value_at, node_at, slot_at, reason_after}
+use Rattle.fr_cluster.specs.Names.{place}
+use Rattle.fr_params.specs.Reasons.{value_at, node_at, slot_at, param_reason_after}
 use Rattle.fr_params.specs.Lists.{listed}
 use Rattle.fr_params.specs.Draft.{entry}
-use Rattle.fr_params.specs.Values.{Values, figure, amount}
-use Rattle.fr_params.specs.Constraints.{AllHold, FirstFails, key_slots}
-use Rattle.fr_params.specs.declared.names.ParamName.{ParamName}
-use Rattle.fr_params.specs.declared.rows.NodeSpec.{NodeSpec}
-use Rattle.fr_params.specs.declared.rows.SlotSpec.{SlotSpec}
+use Rattle.fr_cluster.specs.Values.{Values, figure, amount}
+use Rattle.fr_cluster.specs.Sane.{IsSane}
+use Rattle.fr_cluster.specs.Constraints.{AllHold, FirstFails, key_slots}
+use Rattle.fr_cluster.specs.declared.names.ParamName.{ParamName}
+use Rattle.fr_cluster.specs.declared.nodes.NodeSpec.{NodeSpec}
+use Rattle.fr_cluster.specs.declared.nodes.SlotSpec.{SlotSpec}
 use Rattle.fr_params.specs.declared.fault.ParamFault.{ParamFault}
 use Rattle.fr_params.specs.declared.fault.ParamFault.TheVariants as fault
 
 -- the nodes that the records name, in ascending order of their numbers, which are 1 to 64
-abbrev pub nodes_of : List Record → List NodeSpec
-nodes_of records = listed 64 (λ k. node_at k records)
+abbrev pub nodes_said : List FileRecord → List NodeSpec
+nodes_said records = listed 64 (λ k. node_at k records)
 
 -- the further slots that the records name, in ascending order of their numbers, which are 1 to 1023
-abbrev pub slots_of : List Record → List SlotSpec
-slots_of records = listed 1023 (λ k. slot_at k records)
+abbrev pub slots_said : List FileRecord → List SlotSpec
+slots_said records = listed 1023 (λ k. slot_at k records)
 
 -- the parameters are what the records say: each number is that of its row, nodes and slots are those of theirs
-pub record StandsFor (p : Values) (records : List Record) : Type 0 where
+pub record ParamsStandFor (p : Values) (records : List FileRecord) : Type 0 where
   pub figures : (n : ParamName) → value_at (place n) records ≡ Some (figure p n)
-  pub nodes : p.nodes ≡ nodes_of records
-  pub slots : p.slots ≡ slots_of records
+  pub nodes : p.nodes ≡ nodes_said records
+  pub slots : p.slots ≡ slots_said records
 
 -- the file is accepted, and these are the parameters that it stands for: no record is refused, every name has its row, and
 -- all constraints hold
-pub record IsFileOf (p : Values) (bytes : List ℕ) : Type 0 where
-  pub none_refused : NoneRefused reason_after (records_of bytes)
-  pub stands : StandsFor p (records_of bytes)
+pub record IsParamsFile (p : Values) (bytes : List ℕ) : Type 0 where
+  pub none_refused : NoneRefused param_reason_after (records_of bytes)
+  pub stands : ParamsStandFor p (records_of bytes)
   pub constraints : AllHold (amount p) (key_slots p.nodes) p.slots
 
 -- no record is refused, and this is the first name of the table that no record has
-pub record IsMissing (name : ParamName) (records : List Record) : Type 0 where
-  pub none_refused : NoneRefused reason_after records
+pub record IsMissing (name : ParamName) (records : List FileRecord) : Type 0 where
+  pub none_refused : NoneRefused param_reason_after records
   pub missing : value_at (place name) records ≡ None
   pub earlier : (n : ParamName) → place n < place name → IsSome (value_at (place n) records)
 
 -- no record is refused and no name is missing, and this is the least number of a constraint that what the records
 -- say does not meet
-pub record FailsConstraint (number : ℕ) (records : List Record) : Type 0 where
+pub record FailsConstraint (number : ℕ) (records : List FileRecord) : Type 0 where
   pub values : Values
-  pub none_refused : NoneRefused reason_after records
-  pub stands : StandsFor values records
+  pub none_refused : NoneRefused param_reason_after records
+  pub stands : ParamsStandFor values records
   pub fails : FirstFails number (amount values) (key_slots values.nodes) values.slots
 
 -- a fault tells the first cause in the order of rows, names and constraints; want of memory may come at any file
-abbrev pub Refuses : List ℕ → ParamFault → Type 0
-Refuses bytes (fault.Row number why) = FirstRefused reason_after (records_of bytes) number why
-Refuses bytes (fault.Missing name) = IsMissing name (records_of bytes)
-Refuses bytes (fault.Constraint number) = FailsConstraint number (records_of bytes)
-Refuses bytes fault.NoMemory = ⊤
-
--- what reading a file may answer
-abbrev pub Reads : List ℕ → Result Values ParamFault → Type 0
-Reads bytes (Ok p) = IsFileOf p bytes
-Reads bytes (Err why) = Refuses bytes why
+abbrev pub RefusesParams : List ℕ → ParamFault → Type 0
+RefusesParams bytes (fault.Row number why) = FirstRefused param_reason_after (records_of bytes) number why
+RefusesParams bytes (fault.Missing name) = IsMissing name (records_of bytes)
+RefusesParams bytes (fault.Constraint number) = FailsConstraint number (records_of bytes)
+RefusesParams bytes fault.NoMemory = ⊤
 
 -- the first name of the table that a table of values lacks
 pub record IsMissingIn (values : List (Option ℤ)) (name : ParamName) : Type 0 where
   pub missing : entry values (place name) ≡ None
   pub earlier : (n : ParamName) → place n < place name → IsSome (entry values (place n))
+
+-- the kind of a parameter file
+abbrev pub params_file : Kind Values ParamFault
+params_file = record { is_file_of = IsParamsFile; refuses = RefusesParams; is_sound = IsSane; no_memory = fault.NoMemory }

@@ -1,20 +1,19 @@
-ghost use Rattle.std.specs.Prelude.{◌≡◌, ◌++◌, ◌∷◌, [], ℕ, List, Ok, None, ◌&&◌, ◌≤◌, nat_lt};
-ghost use Rattle.csv.specs.Records.{fields_of};
-ghost use Rattle.fr_records.specs.Records.{Record};
-ghost use Rattle.fr_params.specs.Rows.{InRange, IsProperNode, IsProperSlot, row_of};
-ghost use Rattle.fr_params.specs.Reasons.{is_keyless_starter, is_repetition, reason_after, row_reason};
-ghost use Rattle.fr_params.specs.Draft.{IsDraftOf};
+ghost use Rattle.std.specs.Prelude.{◌≡◌, [], ◌&&◌, ◌≤◌, nat_lt};
+ghost use Rattle.fr_cluster.specs.Ranges.{InRange, IsProperNode, IsProperSlot};
+ghost use Rattle.fr_cluster.specs.Ranges.{is_keyless_starter, is_repetition};
+ghost use Rattle.fr_params.specs.Reasons.{param_reason_after};
+ghost use Rattle.fr_params.specs.Draft.{IsParamsDraft, TakesParamRow};
 ghost use Rattle.fr_params.specs.declared.rows.Row.TheVariants as said;
 
-use crate::names::ParamName;
-use crate::rows::{NodeSpec, Row, SlotSpec, read_row};
+use crate::rows::{Row, read_row};
 use csv::ByteRecord;
 use fr_base::{NodeId, Reason, Slot};
+use fr_cluster::{NodeSpec, ParamName, SlotSpec};
 use fr_records::Table;
 use std::alloc::AllocError;
 
-/// What the records so far say: the values by the place of their name, the nodes and the slots by their
-/// number. The places 0 of the last two stay empty.
+// What the records so far say: the values by the place of their name, the nodes and the slots by their
+// number. The places 0 of the last two stay empty.
 #[derive(Drop)]
 pub(crate) struct Draft {
     pub(crate) values: [Option<i64>; 19],
@@ -24,7 +23,7 @@ pub(crate) struct Draft {
 
 impl Draft {
     pub(crate) fn new() -> Draft
-        ensures { IsDraftOf result [] }
+        ensures { IsParamsDraft result [] }
     {
         Draft {
             values: [None; 19],
@@ -35,8 +34,7 @@ impl Draft {
 
     fn take_value(&mut self, name: ParamName, value: i64) -> Option<Reason>
         requires { InRange name value }
-        ensures why { (done : List Record) → IsDraftOf self.old done → result ≡ row_reason done (Ok (said.Param name value)) }
-        ensures adds { (done : List Record) (r : Record) → IsDraftOf self.old done → row_of r ≡ Ok (said.Param name value) → result ≡ None → IsDraftOf self.new (done ++ r ∷ []) }
+        ensures { TakesParamRow self.old self.new (said.Param name value) result }
     {
         let place = name.place();
         if self.values[place].is_some() {
@@ -48,8 +46,7 @@ impl Draft {
 
     fn take_node(&mut self, node: NodeSpec) -> Option<Reason>
         requires { IsProperNode node }
-        ensures why { (done : List Record) → IsDraftOf self.old done → result ≡ row_reason done (Ok (said.Node node)) }
-        ensures adds { (done : List Record) (r : Record) → IsDraftOf self.old done → row_of r ≡ Ok (said.Node node) → result ≡ None → IsDraftOf self.new (done ++ r ∷ []) }
+        ensures { TakesParamRow self.old self.new (said.Node node) result }
     {
         if starts_without_key(&node) {
             return Some(Reason::Role);
@@ -64,8 +61,7 @@ impl Draft {
 
     fn take_slot(&mut self, slot: SlotSpec) -> Option<Reason>
         requires { IsProperSlot slot }
-        ensures why { (done : List Record) → IsDraftOf self.old done → result ≡ row_reason done (Ok (said.Slot slot)) }
-        ensures adds { (done : List Record) (r : Record) → IsDraftOf self.old done → row_of r ≡ Ok (said.Slot slot) → result ≡ None → IsDraftOf self.new (done ++ r ∷ []) }
+        ensures { TakesParamRow self.old self.new (said.Slot slot) result }
     {
         let node = node_place(&slot.node);
         if self.nodes[node].is_none() {
@@ -110,9 +106,9 @@ fn goes_together(base: u8, repetition: u8) -> bool
 }
 
 impl Table for Draft {
-    ghost reason = { λ _. reason_after };
+    ghost reason = { λ _. param_reason_after };
 
-    ghost holds = { λ draft records. IsDraftOf draft records };
+    ghost holds = { λ draft records. IsParamsDraft draft records };
 
     fn add(&mut self, row: &ByteRecord) -> Result<Option<Reason>, AllocError> {
         match read_row(row) {

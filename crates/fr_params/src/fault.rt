@@ -1,5 +1,5 @@
-use crate::names::ParamName;
 use fr_base::Reason;
+use fr_cluster::ParamName;
 use thiserror::Error;
 
 /// Why a parameter file is not accepted, in the order in which the causes are looked for.

@@ -1,25 +1,22 @@
-ghost use Rattle.std.specs.Prelude.{◌≡◌, ◌≢◌, ◌<◌, ◌↔◌, ℕ, List, Result, Ok, Err};
-ghost use Rattle.fr_params.specs.Values.{Values, amount};
-ghost use Rattle.fr_params.specs.Constraints.{Amounts, CorrectsBehindSlots, LeavesMicroticks, LeavesSignedMicroticks};
-ghost use Rattle.fr_params.specs.Sane.{IsSane};
-ghost use Rattle.fr_params.specs.Files.{Reads};
-ghost use Rattle.fr_params.specs.declared.names.ParamName.TheVariants as name;
-ghost use Rattle.fr_params.specs.declared.fault.ParamFault.{ParamFault as Fault};
-ghost use Rattle.fr_params.specs.declared.fault.ParamFault.TheVariants as fault;
+ghost use Rattle.fr_records.specs.Kind.{HasOneAnswer, HasSomeAnswer};
+ghost use Rattle.fr_records.specs.Least.{GivesLeast};
+ghost use Rattle.fr_params.specs.Reasons.{param_reason_after};
+ghost use Rattle.fr_params.specs.Holding.{param_holds};
+ghost use Rattle.fr_params.specs.Files.{params_file};
 
 /// The answer to a file is determined by its bytes: two that are not want of memory are the same. So a
 /// file stands for one `Params` at most, has one first cause at most, and is not both accepted and refused.
 pub fn one_answer()
-    ensures { (bytes : List ℕ) (a b : Result Values Fault) → a ≢ Err fault.NoMemory → b ≢ Err fault.NoMemory → Reads bytes a → Reads bytes b → a ≡ b }
+    ensures { HasOneAnswer params_file }
 {}
 
-/// Under the constraints no difference of natural numbers in their definitions is cut off at 0.
-pub fn no_difference_is_cut()
-    ensures { (p : Values) → IsSane p → (amount p name.pRateCorrectionOut < amount p name.pMicroPerCycle) × (amount p name.gOffsetCorrectionStart < amount p name.gMacroPerCycle) }
+/// Each file has an answer that is not want of memory: it is accepted, or it is refused for a cause.
+pub fn some_answer()
+    ensures { HasSomeAnswer params_file }
 {}
 
-/// The fourth constraint is said over natural numbers; where the third holds it is the one that is stated
-/// over signed numbers.
-pub fn fourth_constraint_is_signed()
-    ensures { (f : Amounts) → CorrectsBehindSlots f → (LeavesMicroticks f ↔ LeavesSignedMicroticks f) }
+/// A record is refused for the least reason that holds of it after the records before it, and only where
+/// one holds.
+pub fn refused_for_the_least_reason()
+    ensures { GivesLeast param_reason_after param_holds }
 {}

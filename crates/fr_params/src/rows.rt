@@ -1,33 +1,13 @@
 ghost use Rattle.std.specs.Prelude.{◌≡◌, ◌<◌, ◌≤◌, ℕ, List, [], length, pos, ◌≤ℤ◌, slice_index_or, codes, IfOk, IfSome};
 ghost use Rattle.csv.specs.Records.{fields_of};
-ghost use Rattle.fr_params.specs.Names.{greatest, least};
-ghost use Rattle.fr_params.specs.Rows.{IsProperRow, IsProperNode, IsProperSlot, channels_of, key_of, kind_row, node_row, param_row, row_of, slot_row};
+ghost use Rattle.fr_cluster.specs.Names.{greatest, least};
+ghost use Rattle.fr_params.specs.Rows.{IsProperParamRow, channels_of, key_of, param_file_row, param_node_row, param_row, param_row_of, slot_row};
+ghost use Rattle.fr_cluster.specs.Ranges.{IsProperNode, IsProperSlot};
 
-use crate::names::ParamName;
 use csv::ByteRecord;
 use fr_base::{NodeId, NumberFault, Reason, Slot, number};
+use fr_cluster::{NodeSpec, ParamName, SlotSpec};
 use fr_records::{both, field, natural, reason_of};
-
-/// A node of the cluster: its number, the static slot in which it sends its sync frames, if it does, the
-/// channels that it has, and whether its sync frames are startup frames.
-#[derive(Clone, Copy, Debug, PartialEq, Eq)]
-pub struct NodeSpec {
-    pub id: NodeId,
-    pub key: Option<Slot>,
-    pub on_a: bool,
-    pub on_b: bool,
-    pub coldstart: bool,
-}
-
-/// A further static slot of a node: it sends a frame with valid payload there in the cycles whose count
-/// modulo `repetition` is `base`, and a null frame in all others.
-#[derive(Clone, Copy, Debug, PartialEq, Eq)]
-pub struct SlotSpec {
-    pub slot: Slot,
-    pub node: NodeId,
-    pub base: u8,
-    pub repetition: u8,
-}
 
 /// What a record of a parameter file says by itself.
 #[derive(Clone, Copy, Debug, PartialEq, Eq)]
@@ -43,8 +23,8 @@ pub enum Row {
 /// What a record says, or the least of the reasons that it shows by itself: Shape, UnknownName,
 /// NotNumber, OutOfRange, BadChannel.
 pub fn read_row(row: &ByteRecord) -> Result<Row, Reason>
-    ensures said { result ≡ row_of (fields_of row.now) }
-    ensures proper { IfOk result (λ said. IsProperRow said) }
+    ensures said { result ≡ param_row_of (fields_of row.now) }
+    ensures proper { IfOk result (λ said. IsProperParamRow said) }
 {
     if row.len() != 5 {
         return Err(Reason::Shape);
@@ -65,8 +45,8 @@ fn read_kind(
     third: &[u8],
     fourth: &[u8],
 ) -> Result<Row, Reason>
-    ensures said { result ≡ kind_row kind.now first.now second.now third.now fourth.now }
-    ensures proper { IfOk result (λ said. IsProperRow said) }
+    ensures said { result ≡ param_file_row kind.now first.now second.now third.now fourth.now }
+    ensures proper { IfOk result (λ said. IsProperParamRow said) }
 {
     if kind == b"param".as_slice() {
         if !third.is_empty() || !fourth.is_empty() {
@@ -84,7 +64,7 @@ fn read_kind(
 
 fn read_param(word: &[u8], value: &[u8]) -> Result<Row, Reason>
     ensures said { result ≡ param_row word.now value.now }
-    ensures proper { IfOk result (λ said. IsProperRow said) }
+    ensures proper { IfOk result (λ said. IsProperParamRow said) }
 {
     let Some(name) = ParamName::named(word) else {
         return Err(Reason::UnknownName);
@@ -96,8 +76,8 @@ fn read_param(word: &[u8], value: &[u8]) -> Result<Row, Reason>
 }
 
 fn read_node(id: &[u8], key: &[u8], channels: &[u8], coldstart: &[u8]) -> Result<Row, Reason>
-    ensures said { result ≡ node_row id.now key.now channels.now coldstart.now }
-    ensures proper { IfOk result (λ said. IsProperRow said) }
+    ensures said { result ≡ param_node_row id.now key.now channels.now coldstart.now }
+    ensures proper { IfOk result (λ said. IsProperParamRow said) }
 {
     match both(
         natural(id, 1, 64),
@@ -144,7 +124,7 @@ fn read_channels(text: &[u8]) -> Option<(bool, bool)>
 
 fn read_slot(slot: &[u8], node: &[u8], base: &[u8], repetition: &[u8]) -> Result<Row, Reason>
     ensures said { result ≡ slot_row slot.now node.now base.now repetition.now }
-    ensures proper { IfOk result (λ said. IsProperRow said) }
+    ensures proper { IfOk result (λ said. IsProperParamRow said) }
 {
     match both(
         both(natural(slot, 1, 1023), natural(node, 1, 64)),

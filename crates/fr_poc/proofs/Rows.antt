@@ -5,7 +5,7 @@ use Rattle.fr_base.specs.declared.State.TheVariants.{Active, Passive, Halt}
 use Rattle.fr_base.specs.declared.Outcome.{Outcome}
 use Rattle.fr_base.specs.declared.Outcome.TheVariants.{Within, Missing, Exceeded}
 use Rattle.fr_poc.specs.declared.control.PocLimits.{PocLimits}
-use Rattle.fr_poc.specs.Control.{Status, begun, step_of, control_of}
+use Rattle.fr_poc.specs.Control.{Status, first_status, step_of, control_of}
 
 -- passive from 2, fatal from 4, Halt allowed, active again after 2
 abbrev row_limits : PocLimits
@@ -18,17 +18,17 @@ states_along limits status (outcome ∷ outcomes) =
     (step_of limits status outcome Within).state ∷ states_along limits (step_of limits status outcome Within) outcomes
 
 -- passive after two missing corrections, active again after two
-activated : states_along row_limits begun (Missing ∷ Missing ∷ Within ∷ Within ∷ []) ≡ Active ∷ Passive ∷ Passive ∷ Active ∷ []
+activated : states_along row_limits first_status (Missing ∷ Missing ∷ Within ∷ Within ∷ []) ≡ Active ∷ Passive ∷ Passive ∷ Active ∷ []
 unfolding states_along
 activated = refl
 
 -- halted after four missing corrections
-halted : states_along row_limits begun (Missing ∷ Missing ∷ Missing ∷ Missing ∷ []) ≡ Active ∷ Passive ∷ Passive ∷ Halt ∷ []
+halted : states_along row_limits first_status (Missing ∷ Missing ∷ Missing ∷ Missing ∷ []) ≡ Active ∷ Passive ∷ Passive ∷ Halt ∷ []
 unfolding states_along
 halted = refl
 
 -- halted by a correction outside its limit, and from then on
-exceeded : states_along row_limits begun (Exceeded ∷ Within ∷ []) ≡ Halt ∷ Halt ∷ []
+exceeded : states_along row_limits first_status (Exceeded ∷ Within ∷ []) ≡ Halt ∷ Halt ∷ []
 unfolding states_along
 exceeded = refl
 

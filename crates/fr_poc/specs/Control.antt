@@ -1,6 +1,6 @@
 -- How a node's state follows from its clock corrections (chapter 2, protocol operation control). The exact comparisons
 -- are this profile's.
-use Rattle.std.specs.Prelude.{◌≡◌, ℕ, ◌+◌, min, ◌&&◌, nat_lt, nat_le, if◌then◌else◌, List, [], ◌∷◌, ◌++◌, fold}
+use Rattle.std.specs.Prelude.{◌≡◌, ℕ, ◌+◌, ◌≤◌, min, ◌&&◌, nat_lt, nat_le, if◌then◌else◌, List, [], ◌∷◌, ◌++◌, fold}
 use Rattle.fr_base.specs.declared.State.{State}
 use Rattle.fr_base.specs.declared.State.TheVariants.{Active, Passive, Halt}
 use Rattle.fr_base.specs.declared.Outcome.{Outcome}
@@ -19,9 +19,16 @@ pub record Control : Type 0 where
   pub limits : PocLimits
   pub status : Status
 
+-- the limits are those of a cluster: a node is passive before it may halt
+pub record ArePocLimits (limits : PocLimits) : Type 0 where
+  pub passive_from : 1 ≤ limits.passive
+  pub passive_to : limits.passive ≤ limits.fatal
+  pub fatal_to : limits.fatal ≤ 15
+  pub to_active_to : limits.to_active ≤ 31
+
 -- a node begins active, with both counters at 0
-abbrev pub begun : Status
-begun = record { state = Active; bad = 0; good = 0 }
+abbrev pub first_status : Status
+first_status = record { state = Active; bad = 0; good = 0 }
 
 -- the worse of two outcomes: Exceeded is worse than Missing, and Missing than Within
 abbrev pub worse_of : Outcome → Outcome → Outcome
@@ -80,11 +87,15 @@ stepped control offset rate = record control { status = step_of control.limits c
 
 -- how a node stands after a list of pairs of outcomes (chapter 2), offset and rate, the earliest first
 abbrev pub control_of : PocLimits → List (Outcome × Outcome) → Status
-control_of limits outcomes = fold (λ status pair. step_of limits status pair.0 pair.1) begun outcomes
+control_of limits outcomes = fold (λ status pair. step_of limits status pair.0 pair.1) first_status outcomes
 
 -- a node begins with no outcomes, and each further pair of outcomes is one more step
 pub record ControlStepsAlong : Type 0 where
-  pub none : (limits : PocLimits) → control_of limits [] ≡ begun
+  pub none : (limits : PocLimits) → control_of limits [] ≡ first_status
   pub more :
       (limits : PocLimits) (outcomes : List (Outcome × Outcome)) (offset rate : Outcome)
       → control_of limits (outcomes ++ (offset, rate) ∷ []) ≡ step_of limits (control_of limits outcomes) offset rate
+
+-- the worse of two outcomes is the same whichever comes first
+abbrev pub EitherIsWorse : Type 0
+EitherIsWorse = (offset rate : Outcome) → worse_of offset rate ≡ worse_of rate offset

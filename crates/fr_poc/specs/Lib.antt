@@ -1,1 +1,3 @@
+-- what the public contract cites
 pub mod Control
+pub mod Limits

@@ -1,5 +1,5 @@
 ghost use Rattle.std.specs.Prelude.{◌≡◌, ◌≢◌, ◌≤◌};
-ghost use Rattle.fr_poc.specs.Control.{begun, worse_of, exceeded_from, missing_from, state_after_bad, status_after, stepped, ControlStepsAlong};
+ghost use Rattle.fr_poc.specs.Control.{first_status, worse_of, exceeded_from, missing_from, state_after_bad, status_after, stepped, ArePocLimits, ControlStepsAlong, EitherIsWorse};
 
 use fr_base::{Outcome, State};
 use std::marker::Model;
@@ -41,12 +41,9 @@ impl Model for Poc {
 impl Poc {
     /// Operation control as a node begins: active, with both counters at 0.
     pub fn new(limits: PocLimits) -> Poc
-        requires passive_from { 1 ≤ limits.passive }
-        requires passive_to { limits.passive ≤ limits.fatal }
-        requires fatal_to { limits.fatal ≤ 15 }
-        requires to_active_to { limits.to_active ≤ 31 }
+        requires { ArePocLimits limits }
         ensures limits { result.limits ≡ limits }
-        ensures begins { result.status ≡ begun }
+        ensures begins { result.status ≡ first_status }
     {
         Poc {
             limits,
@@ -98,7 +95,7 @@ impl Poc {
         self.state()
     }
 
-    /// Enters a state, and sets `good` to 0.
+    // Enters a state, and sets `good` to 0.
     fn enter(&mut self, state: State)
         ensures { self.new ≡ record self.old { status = record self.old.status { state = state; good = 0 } } }
     {
@@ -106,7 +103,7 @@ impl Poc {
         self.good = 0;
     }
 
-    /// A correction lay outside its limit.
+    // A correction lay outside its limit.
     fn exceed(&mut self)
         ensures { self.new ≡ record self.old { status = exceeded_from self.old.limits self.old.status } }
     {
@@ -117,7 +114,7 @@ impl Poc {
         });
     }
 
-    /// A correction was missing.
+    // A correction was missing.
     fn miss(&mut self)
         ensures { self.new ≡ record self.old { status = missing_from self.old.limits self.old.status } }
     {
@@ -126,7 +123,7 @@ impl Poc {
         self.enter(state);
     }
 
-    /// Both corrections were within their limits; the node is not halted.
+    // Both corrections were within their limits; the node is not halted.
     fn correct(&mut self)
         requires { self.old.status.state ≢ State.Halt }
         ensures { self.new ≡ record self.old { status = status_after self.old.limits self.old.status self.old.status.state Outcome.Within } }
@@ -142,7 +139,7 @@ impl Poc {
     }
 }
 
-/// The worse of two outcomes.
+// The worse of two outcomes.
 fn worse(offset: Outcome, rate: Outcome) -> Outcome
     ensures { result ≡ worse_of offset rate }
 {
@@ -153,7 +150,7 @@ fn worse(offset: Outcome, rate: Outcome) -> Outcome
     }
 }
 
-/// The state after so many double cycles in a row without correction.
+// The state after so many double cycles in a row without correction.
 fn after_bad(limits: &PocLimits, state: State, bad: u8) -> State
     ensures { result ≡ state_after_bad limits.now state bad }
 {
@@ -167,57 +164,8 @@ fn after_bad(limits: &PocLimits, state: State, bad: u8) -> State
 }
 
 /// The law that a list of pairs of outcomes is gone through step by step: with no pair a node is as it
-/// began, and each further pair is one more step.
+/// began, and each further pair is one more step. It does not matter which of both outcomes is which.
 pub fn control_steps_along()
-    ensures { ControlStepsAlong }
+    ensures along { ControlStepsAlong }
+    ensures either { EitherIsWorse }
 {}
-
-#[cfg(test)]
-mod tests {
-    use super::*;
-    use fr_base::Outcome::{Exceeded, Missing, Within};
-    use fr_base::State::{Active, Halt, Passive};
-
-    #[test]
-    fn steps_as_the_rows_say(rt: HostRuntime) {
-        let limits = PocLimits {
-            passive: 2,
-            fatal: 4,
-            halt_allowed: true,
-            to_active: 2,
-        };
-        for (outcomes, states, bad, good) in [
-            (
-                [Missing, Missing, Within, Within],
-                [Active, Passive, Passive, Active],
-                0,
-                0,
-            ),
-            (
-                [Missing, Missing, Missing, Missing],
-                [Active, Passive, Passive, Halt],
-                4,
-                0,
-            ),
-            (
-                [Missing, Missing, Missing, Within],
-                [Active, Passive, Passive, Passive],
-                0,
-                1,
-            ),
-            (
-                [Exceeded, Within, Missing, Within],
-                [Halt, Halt, Halt, Halt],
-                0,
-                0,
-            ),
-        ] {
-            let mut poc = Poc::new(limits);
-            for (outcome, state) in outcomes.into_iter().zip(states) {
-                assert_eq!(rt; poc.step(Within, outcome), state);
-                assert_eq!(rt; poc.state(), state);
-            }
-            assert_eq!(rt; (poc.bad(), poc.good()), (bad, good));
-        }
-    }
-}

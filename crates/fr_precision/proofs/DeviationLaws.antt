@@ -6,11 +6,11 @@ use Rattle.std.proofs.lemmas.Int.{ints, clamps}
 use Rattle.fr_base.specs.declared.channel.Channel.{Channel}
 use Rattle.fr_base.specs.declared.channel.Channel.TheVariants as channel
 use Rattle.fr_base.specs.declared.node_row.NodeRow.{NodeRow}
-use Rattle.fr_params.specs.Values.{Values, amount}
-use Rattle.fr_params.specs.Sane.{IsSane}
-use Rattle.fr_params.specs.Questions.{compensation_of}
-use Rattle.fr_params.specs.declared.names.ParamName.TheVariants as name
-use Rattle.fr_midpoint.specs.Within.{IsWithin}
+use Rattle.fr_cluster.specs.Values.{Values, amount}
+use Rattle.fr_cluster.specs.Sane.{IsSane}
+use Rattle.fr_cluster.specs.Questions.{compensation_of}
+use Rattle.fr_cluster.specs.declared.names.ParamName.TheVariants as name
+use Rattle.fr_base.specs.Within.{IsWithin}
 use Rattle.fr_midpoint.proofs.Products.{subz-mulz, mulz-lez, mulz-subz, mulz_within}
 use Rattle.fr_time.specs.Position.{even_position, floor_of, grid_for}
 use Rattle.fr_time.specs.Instant.{instant_of}

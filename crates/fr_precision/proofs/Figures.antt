@@ -4,9 +4,9 @@ use Rattle.std.specs.Prelude.{◌+ℤ◌, ◌-ℤ◌, ◌*ℤ◌, ◌≤ℤ◌, 
 use Rattle.std.proofs.lemmas.Int.{ints}
 use Rattle.std.proofs.lemmas.Bool.Decides.{nat_tests}
 use Rattle.std.proofs.Math.Nat.{mul-add}
-use Rattle.fr_params.specs.Values.{Values, amount}
-use Rattle.fr_params.specs.Sane.{IsSane}
-use Rattle.fr_params.specs.declared.names.ParamName.TheVariants as name
+use Rattle.fr_cluster.specs.Values.{Values, amount}
+use Rattle.fr_cluster.specs.Sane.{IsSane}
+use Rattle.fr_cluster.specs.declared.names.ParamName.TheVariants as name
 use Rattle.fr_bound.specs.Bounds.{cycle_change, longest_micro, shortest_micro, y1_of}
 use Rattle.fr_bound.specs.Checks.{holds_of}
 use Rattle.fr_bound.proofs.Uncut.{uncut_lem}

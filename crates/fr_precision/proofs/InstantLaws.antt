@@ -1,11 +1,11 @@
 -- The laws of instants, over rows.
-use Rattle.std.proofs.Common.{◌≡◌, ℕ, true, false, ℤ, pos, refl, ap, sym, ◌∙◌, subst, arith}
+use Rattle.std.proofs.Common.{◌≡◌, ℕ, Bool, true, false, ℤ, pos, refl, ap, sym, ◌∙◌, subst, arith}
 use Rattle.std.specs.Prelude.{◌+ℤ◌, ◌-ℤ◌, ◌*ℤ◌, ◌≤ℤ◌, ◌<ℤ◌, int_lt}
 use Rattle.std.proofs.lemmas.Int.{ints, by_lt_z}
 use Rattle.fr_base.specs.declared.node_row.NodeRow.{NodeRow}
-use Rattle.fr_params.specs.Values.{Values}
-use Rattle.fr_params.specs.Sane.{IsSane}
-use Rattle.fr_midpoint.specs.Within.{IsWithin}
+use Rattle.fr_cluster.specs.Values.{Values}
+use Rattle.fr_cluster.specs.Sane.{IsSane}
+use Rattle.fr_base.specs.Within.{IsWithin}
 use Rattle.fr_midpoint.proofs.Products.{addz-mulz, subz-mulz}
 use Rattle.fr_time.specs.Position.{corrected_micros, even_position, floor_of, grid_for}
 use Rattle.fr_time.specs.Instant.{instant_of}
@@ -13,7 +13,7 @@ use Rattle.fr_time.proofs.Placing.{is_grid_lem}
 use Rattle.fr_bound.specs.Bounds.{lambda_of, longest_micro, pi_of}
 use Rattle.fr_bound.specs.Sync.{cycle_length_of}
 use Rattle.fr_precision.specs.Rows.{corrected_end_of, end_of, Lasts, IsDoubleCycle}
-use Rattle.fr_precision.specs.Instants.{gap_of, LieNear, MacroticksLieBetween, MacroticksStayNear, PrecisionHolds, Runs}
+use Rattle.fr_precision.specs.Instants.{ActionsStayNear, gap_of, LieNear, MacroticksLieBetween, MacroticksStayNear, PrecisionHolds, row_in, Runs}
 use Rattle.fr_precision.proofs.Lines.{lines_between, lines_near, on_line, OnLine}
 
 -- up to the offset correction the rule of even cycles places a macrotick
@@ -117,6 +117,9 @@ odd_starts p starts even_lengths odd_lengths even odd other_even other_odd runs 
 no_less : (n : ℕ) → pos 0 ≤ℤ pos n
 no_less n = omega (arith, ints)
 
+within_cycle : (m o g : ℤ) → m ≤ℤ o → o <ℤ g → m ≤ℤ g
+within_cycle m o g a b = omega (arith, ints)
+
 pub macroticks_stay_near_lem : MacroticksStayNear
 macroticks_stay_near_lem p starts even_lengths odd_lengths macrotick even odd other_even other_odd sane runs other_runs near from =
     let grid = is_grid_lem p sane in
@@ -134,9 +137,33 @@ macroticks_stay_near_lem p starts even_lengths odd_lengths macrotick even odd ot
           some (no_less (longest_micro p)) from (within_cycle macrotick p.correction p.macros to grid.correction_to)
           (odd_starts p starts even_lengths odd_lengths even odd other_even other_odd runs other_runs near) near.by_odd,
     )
+
+-- within the reach that takes in starts, both lengths and a microtick
+actions_in_reach : (p : Values) (starts lengths reach action : ℤ) (is_odd : Bool) (even odd other_even other_odd : NodeRow)
+    → LieNear p starts lengths lengths even odd other_even other_odd
+    → (starts +ℤ (pos 2 *ℤ lengths) +ℤ pos (longest_micro p)) ≤ℤ reach
+    → IsWithin (starts +ℤ lengths +ℤ pos (longest_micro p)) (gap_of p false action even other_even)
+    → IsWithin (starts +ℤ lengths +ℤ lengths +ℤ pos (longest_micro p)) (gap_of p true action odd other_odd)
+    → IsWithin reach (gap_of p is_odd action (row_in is_odd even odd) (row_in is_odd other_even other_odd))
+actions_in_reach p starts lengths reach action false even odd other_even other_odd near fits early late =
+    wider (starts +ℤ lengths +ℤ pos (longest_micro p)) reach (gap_of p false action even other_even)
+    (less starts lengths reach (pos (longest_micro p)) (cycle_length_of p even -ℤ cycle_length_of p other_even) near.by_even fits) early
   where
-    within_cycle : (m o g : ℤ) → m ≤ℤ o → o <ℤ g → m ≤ℤ g
-    within_cycle m o g a b = omega (arith, ints)
+    less : (s l r q x : ℤ) → IsWithin l x → (s +ℤ (pos 2 *ℤ l) +ℤ q) ≤ℤ r → (s +ℤ l +ℤ q) ≤ℤ r
+    less s l r q x within le = omega (arith, ints, within.low, within.high)
+actions_in_reach p starts lengths reach action true even odd other_even other_odd near fits early late =
+    wider (starts +ℤ lengths +ℤ lengths +ℤ pos (longest_micro p)) reach (gap_of p true action odd other_odd)
+    (twice starts lengths reach (pos (longest_micro p)) fits) late
+  where
+    twice : (s l r q : ℤ) → (s +ℤ (pos 2 *ℤ l) +ℤ q) ≤ℤ r → (s +ℤ l +ℤ l +ℤ q) ≤ℤ r
+    twice s l r q le = omega (arith, ints)
+
+pub actions_stay_near : ActionsStayNear
+actions_stay_near p starts lengths reach action is_odd even odd other_even other_odd sane runs other_runs near fits from to =
+    let grid = is_grid_lem p sane in
+    let both = macroticks_stay_near_lem p starts lengths lengths action even odd other_even other_odd sane runs other_runs near from in
+    actions_in_reach p starts lengths reach action is_odd even odd other_even other_odd near fits
+    (both.0 (within_cycle action p.correction p.macros to grid.correction_to)) (both.1 to)
 
 -- from the offset correction on
 late_between : (p : Values) (starts lengths macrotick : ℤ) (even odd other_even other_odd : NodeRow)

@@ -10,4 +10,4 @@ pub mod PlacementLaws
 pub mod ReceptionLaws
 pub mod DeviationLaws
 pub mod StepLaws
-mod Worked
+pub mod Worked

@@ -3,7 +3,7 @@ use Rattle.std.proofs.Common.{◌≡◌, ℕ, ◌+◌, ◌*◌, ◌/◌, ◌%◌
 use Rattle.std.specs.Prelude.{neg_ℤ, ◌+ℤ◌, ◌-ℤ◌, ◌*ℤ◌, ◌≤ℤ◌, ◌<ℤ◌}
 use Rattle.std.proofs.lemmas.Int.{ints}
 use Rattle.std.proofs.Math.Nat.{div-add-mod', mod-lt}
-use Rattle.fr_midpoint.specs.Within.{IsWithin}
+use Rattle.fr_base.specs.Within.{IsWithin}
 use Rattle.fr_midpoint.proofs.Products.{addz-mulz, subz-mulz, lez_of_mulz-lez, mulz-subz, mulz_assoc, mulz_comm, mulz-lez, mulz-lez_left, mulz_from, mulz_within, negz-mulz}
 use Rattle.fr_time.specs.Position.{floor_of}
 
@@ -190,7 +190,7 @@ lines_between start other_start length other_length unit other_unit macrotick pa
     down : (d n x y w b q : ℤ) → d ≡ x -ℤ y → n ≡ neg_ℤ d → w ≡ b +ℤ q → (y -ℤ x) ≤ℤ (b +ℤ q) → n ≤ℤ w
     down d n x y w b q a e c le = omega (arith, ints)
 
--- what is left of two ways behind two instants differs by no more than their lengths, and a microtick
+-- what is left of two ways after two instants differs by no more than their lengths, and a microtick
 pub lines_end :
     (start other_start length other_length unit other_unit macrotick parts most at other_at lengths : ℤ)
     → OnLine start length unit macrotick parts most at → OnLine other_start other_length other_unit macrotick parts most other_at

@@ -4,10 +4,10 @@ use Rattle.std.specs.Prelude.{neg_ℤ, ◌+ℤ◌, ◌-ℤ◌, ◌*ℤ◌, ◌�
 use Rattle.std.proofs.lemmas.Int.{ints}
 use Rattle.fr_base.specs.declared.node_row.NodeRow.{NodeRow}
 use Rattle.fr_base.specs.declared.Outcome.TheVariants.{Within}
-use Rattle.fr_params.specs.Values.{Values, amount}
-use Rattle.fr_params.specs.Sane.{IsSane}
-use Rattle.fr_params.specs.declared.names.ParamName.TheVariants as name
-use Rattle.fr_midpoint.specs.Within.{IsWithin}
+use Rattle.fr_cluster.specs.Values.{Values, amount}
+use Rattle.fr_cluster.specs.Sane.{IsSane}
+use Rattle.fr_cluster.specs.declared.names.ParamName.TheVariants as name
+use Rattle.fr_base.specs.Within.{IsWithin}
 use Rattle.fr_midpoint.specs.Midpoint.{IsMidpoint}
 use Rattle.fr_midpoint.specs.Receivers.{place_at, Hears, IsPlaced, Receiver, Receives}
 use Rattle.fr_midpoint.proofs.Agreement.{one_receiver_lem, two_receivers_lem}
@@ -134,17 +134,17 @@ round_of p senders reach row values term sane suffices some near round = by_term
 pub offset_terms_are_uncut : OffsetTermsAreUncut
 offset_terms_are_uncut p senders reach row values term sane suffices some near round = (round_of p senders reach row values term sane suffices some near round).uncut
 
--- how far before and behind a sender's end an offset value may place it
+-- how far before and after a sender's end an offset value may place it
 abbrev before_end : Values → ℤ → ℤ
 before_end p lengths = lengths +ℤ pos (arrival_error p + 2 * longest_micro p)
 
-abbrev behind_end : Values → ℤ → ℤ
-behind_end p lengths = lengths +ℤ pos (arrival_error p + longest_micro p)
+abbrev after_end : Values → ℤ → ℤ
+after_end p lengths = lengths +ℤ pos (arrival_error p + longest_micro p)
 
 -- an offset value, counted from the receiver's end, places the sender's
 end_placed : (p : Values) (lengths : ℤ) (row : NodeRow) (sender : Sender) (value : ℤ) → IsSane p → HasProperMicro p row → IsSending p sender
     → IsWithin lengths (cycle_length_of p row -ℤ cycle_length_of p sender.odd) → IsDeviation p true sender.action row sender.odd value
-    → IsPlaced (end_of p row) row.length (before_end p lengths) (behind_end p lengths) (end_of p sender.odd) value
+    → IsPlaced (end_of p row) row.length (before_end p lengths) (after_end p lengths) (end_of p sender.odd) value
 end_placed p lengths row sender value sane micro sending near dev =
     let grid = is_grid_lem p sane in
     let lasts = micro_lasts p row sane micro in
@@ -182,7 +182,7 @@ odd_ends p senders = map (λ (sender : Sender). end_of p sender.odd) senders
 
 receives_ends : (p : Values) (senders : List Sender) (lengths : ℤ) (row : NodeRow) (values : List ℤ) (term : Term)
     → IsSane p → All (IsSending p) senders → NearAll p lengths senders row → IsOffsetRound p senders row values term
-    → Receives (before_end p lengths) (behind_end p lengths) (odd_ends p senders) (ends_at p row values)
+    → Receives (before_end p lengths) (after_end p lengths) (odd_ends p senders) (ends_at p row values)
 receives_ends p senders lengths row values term sane sending near round =
     let Near : Sender → Type 0 = λ sender. IsWithin lengths (cycle_length_of p row -ℤ cycle_length_of p sender.odd) in
     let Both : Sender → Type 0 = λ sender. IsSending p sender × IsWithin lengths (cycle_length_of p row -ℤ cycle_length_of p sender.odd) in
@@ -191,7 +191,7 @@ receives_ends p senders lengths row values term sane sending near round =
       lasts = lasts.some;
       hears =
           hears_mapped Both (λ (sender : Sender) value. IsDeviation p true sender.action row sender.odd value)
-          (IsPlaced (end_of p row) row.length (before_end p lengths) (behind_end p lengths))
+          (IsPlaced (end_of p row) row.length (before_end p lengths) (after_end p lengths))
           (λ (sender : Sender). end_of p sender.odd) senders values
           (λ sender value both dev. end_placed p lengths row sender value sane round.micro both.0 both.1 dev)
           (All-both (IsSending p) Near Both senders (λ sender one other. (one, other)) sending near)
@@ -212,14 +212,14 @@ corrected_end_lies_among p senders lengths reach least greatest row values term 
     let round = round_of p senders reach row values term sane suffices some reaches is in
     let f = λ (sender : Sender). end_of p sender.odd in
     let among =
-    one_receiver_lem (odd_ends p senders) least greatest (before_end p lengths) (behind_end p lengths) (ends_at p row values) round.mid
+    one_receiver_lem (odd_ends p senders) least greatest (before_end p lengths) (after_end p lengths) (ends_at p row values) round.mid
     (All-mapped (λ (sender : Sender). least ≤ℤ end_of p sender.odd) (λ x. least ≤ℤ x) f senders (λ sender h. h) from)
     (All-mapped (λ (sender : Sender). end_of p sender.odd ≤ℤ greatest) (λ x. x ≤ℤ greatest) f senders (λ sender h. h) to)
     (receives_ends p senders lengths row values term sane sending near is)
     round.middle in
     let same = corrected_place p row values round.mid (is.applied ∙ round.is) in (
       low (corrected_end_of p row) (place_at (ends_at p row values) round.mid) (least -ℤ before_end p lengths) same among.0,
-      high (corrected_end_of p row) (place_at (ends_at p row values) round.mid) (greatest +ℤ behind_end p lengths) same among.1,
+      high (corrected_end_of p row) (place_at (ends_at p row values) round.mid) (greatest +ℤ after_end p lengths) same among.1,
     )
   where
     low : (x y a : ℤ) → x ≡ y → a ≤ℤ y → a ≤ℤ x
@@ -265,7 +265,7 @@ ends_draw_together p senders starts lengths reach row other_row values other_val
     let other_round = round_of p senders reach other_row other_values other_term sane suffices some other_reaches also in
     let f = λ (sender : Sender). end_of p sender.odd in
     let apart =
-    two_receivers_lem (odd_ends p senders) (starts +ℤ (pos 2 *ℤ lengths)) (before_end p lengths) (behind_end p lengths) (pos (longest_micro p))
+    two_receivers_lem (odd_ends p senders) (starts +ℤ (pos 2 *ℤ lengths)) (before_end p lengths) (after_end p lengths) (pos (longest_micro p))
     (ends_at p row values) (ends_at p other_row other_values) round.mid other_round.mid
     (lie_within f (starts +ℤ (pos 2 *ℤ lengths)) senders (ends_near p starts lengths senders sending near))
     (receives_ends p senders lengths row values term sane sending close is)

@@ -5,19 +5,19 @@ use Rattle.std.proofs.lemmas.Int.{ints}
 use Rattle.std.proofs.lemmas.List.Elements.{All-cons, All-nil}
 use Rattle.fr_base.specs.declared.node_row.NodeRow.{NodeRow}
 use Rattle.fr_base.specs.declared.Outcome.TheVariants.{Within}
-use Rattle.fr_params.specs.Values.{Values, amount}
-use Rattle.fr_params.specs.Sane.{IsSane}
-use Rattle.fr_params.specs.declared.names.ParamName.TheVariants as name
-use Rattle.fr_midpoint.specs.Within.{IsWithin}
+use Rattle.fr_cluster.specs.Values.{Values, amount}
+use Rattle.fr_cluster.specs.Sane.{IsSane}
+use Rattle.fr_cluster.specs.declared.names.ParamName.TheVariants as name
+use Rattle.fr_base.specs.Within.{IsWithin}
 use Rattle.fr_midpoint.specs.Midpoint.{IsMidpoint}
-use Rattle.fr_midpoint.specs.Receivers.{place_at, place_of, Hears, IsPlaced, Receiver, Receives}
+use Rattle.fr_midpoint.specs.Receivers.{place_at, measured_place, Hears, IsPlaced, Receiver, Receives}
 use Rattle.fr_midpoint.proofs.Agreement.{one_receiver_lem, two_receivers_lem}
 use Rattle.fr_midpoint.proofs.Products.{addz-mulz}
 use Rattle.fr_correct.specs.declared.term.Term.{Term}
 use Rattle.fr_correct.specs.Terms.{damped, limited, missing_term, term_of}
 use Rattle.fr_bound.specs.Bounds.{cycle_change, lambda_of, longest_micro, shortest_micro, y1_of}
 use Rattle.fr_bound.specs.Checks.{holds_of}
-use Rattle.fr_bound.specs.Sync.{cycle_length_of, IsProperLength}
+use Rattle.fr_bound.specs.Sync.{cycle_length_of, IsCycleLength}
 use Rattle.fr_precision.specs.Rows.{longest_cycle, shortest_cycle, HasProperMicro, IsSteady, KeepOne, Sender}
 use Rattle.fr_precision.specs.Rates.{near_length, IsRateRound, LengthsDrawTogether, LengthsStayInRange, LengthsStayNear, LengthsStayTogether, LengthsWithin, NearLengthIsBelowLambda, PlacesLength, RateTermsAreUncut}
 use Rattle.fr_precision.proofs.Figures.{figures_of, longest_is, natural, shortest_is, times_natural}
@@ -62,7 +62,7 @@ record Round (p : Values) (row : NodeRow) (values : List ℤ) (term : Term) : Ty
   range : Ranged p.micros p.rate_limit (pos (shortest_micro p)) (pos (longest_micro p)) (pos (cycle_change p)) row.length (damped p.damping (row.rate +ℤ mid))
 
 -- the length at the rate before damping is where the midpoint lies
-undamped : (n rate mid unit : ℤ) → (n +ℤ (rate +ℤ mid)) *ℤ unit ≡ place_of ((n +ℤ rate) *ℤ unit) unit mid
+undamped : (n rate mid unit : ℤ) → (n +ℤ (rate +ℤ mid)) *ℤ unit ≡ measured_place ((n +ℤ rate) *ℤ unit) unit mid
 undamped n rate mid unit = ap (λ x. x *ℤ unit) (grouped n rate mid) ∙ addz-mulz (n +ℤ rate) mid unit
   where
     grouped : (n rate mid : ℤ) → n +ℤ (rate +ℤ mid) ≡ (n +ℤ rate) +ℤ mid
@@ -99,7 +99,7 @@ lasting p row sane first second micro =
 
 round_at : (p : Values) (senders : List Sender) (row : NodeRow) (values : List ℤ) (term : Term) (mid : ℤ)
     → IsSane p → holds_of 1 p ≡ true → holds_of 2 p ≡ true
-    → All (λ (sender : Sender). IsProperLength p (cycle_length_of p sender.odd)) senders → HasProperMicro p row → Hears Sender (PlacesLength p row) senders values
+    → All (λ (sender : Sender). IsCycleLength p (cycle_length_of p sender.odd)) senders → HasProperMicro p row → Hears Sender (PlacesLength p row) senders values
     → IsMidpoint values mid → term ≡ term_of p.rate_limit (damped p.damping (row.rate +ℤ mid)) → Round p row values term
 round_at p senders row values term mid sane first second proper micro hears middle is =
     let f = figures_of p sane first second in
@@ -108,13 +108,13 @@ round_at p senders row values term mid sane first second proper micro hears midd
     let lengths = odd_lengths p senders in
     let among =
     one_receiver_lem lengths (pos (shortest_cycle p)) (pos (longest_cycle p)) (pos (y1_of p)) (pos (y1_of p)) (rates_at p row values) mid
-    (All-mapped (λ (sender : Sender). IsProperLength p (cycle_length_of p sender.odd)) (λ x. pos (shortest_cycle p) ≤ℤ x) (λ (sender : Sender). cycle_length_of p sender.odd) senders (λ sender is. is.0) proper)
-    (All-mapped (λ (sender : Sender). IsProperLength p (cycle_length_of p sender.odd)) (λ x. x ≤ℤ pos (longest_cycle p)) (λ (sender : Sender). cycle_length_of p sender.odd) senders (λ sender is. is.1) proper)
+    (All-mapped (λ (sender : Sender). IsCycleLength p (cycle_length_of p sender.odd)) (λ x. pos (shortest_cycle p) ≤ℤ x) (λ (sender : Sender). cycle_length_of p sender.odd) senders (λ sender is. is.0) proper)
+    (All-mapped (λ (sender : Sender). IsCycleLength p (cycle_length_of p sender.odd)) (λ x. x ≤ℤ pos (longest_cycle p)) (λ (sender : Sender). cycle_length_of p sender.odd) senders (λ sender is. is.1) proper)
     receives
     middle in
     let same = undamped p.micros row.rate mid row.length in
-    let from = moved_low (pos (shortest_cycle p)) (p.micros *ℤ pos (shortest_micro p)) (pos (y1_of p)) (place_of (cycle_length_of p row) row.length mid) ((p.micros +ℤ (row.rate +ℤ mid)) *ℤ row.length) (shortest_is p sane) same among.0 in
-    let to = moved_high (pos (longest_cycle p)) (p.micros *ℤ pos (longest_micro p)) (pos (y1_of p)) (place_of (cycle_length_of p row) row.length mid) ((p.micros +ℤ (row.rate +ℤ mid)) *ℤ row.length) (longest_is p sane) same among.1 in
+    let from = moved_low (pos (shortest_cycle p)) (p.micros *ℤ pos (shortest_micro p)) (pos (y1_of p)) (measured_place (cycle_length_of p row) row.length mid) ((p.micros +ℤ (row.rate +ℤ mid)) *ℤ row.length) (shortest_is p sane) same among.0 in
+    let to = moved_high (pos (longest_cycle p)) (p.micros *ℤ pos (longest_micro p)) (pos (y1_of p)) (measured_place (cycle_length_of p row) row.length mid) ((p.micros +ℤ (row.rate +ℤ mid)) *ℤ row.length) (longest_is p sane) same among.1 in
     let range =
     ranged p.micros p.damping p.rate_limit p.change_bound (pos (shortest_micro p)) (pos (longest_micro p)) (pos (y1_of p)) (pos (cycle_change p)) row.length (row.rate +ℤ mid)
     f micro.least micro.most from to in
@@ -134,7 +134,7 @@ round_at p senders row values term mid sane first second proper micro hears midd
 
 round_of : (p : Values) (senders : List Sender) (row : NodeRow) (values : List ℤ) (term : Term)
     → IsSane p → holds_of 1 p ≡ true → holds_of 2 p ≡ true → 1 ≤ length senders
-    → All (λ (sender : Sender). IsProperLength p (cycle_length_of p sender.odd)) senders → IsRateRound p senders row values term → Round p row values term
+    → All (λ (sender : Sender). IsCycleLength p (cycle_length_of p sender.odd)) senders → IsRateRound p senders row values term → Round p row values term
 round_of p senders row values term sane first second some proper round = by_term round.is_term
   where
     by_term : ((values ≡ []) × (term ≡ missing_term row.rate)) ⊎ ((mid : ℤ) × IsMidpoint values mid × (term ≡ term_of p.rate_limit (damped p.damping (row.rate +ℤ mid)))) → Round p row values term
@@ -195,7 +195,7 @@ next_length p row values term next sane first second round same micro steady =
 proper_next : (p : Values) (row : NodeRow) (values : List ℤ) (term : Term) (next : NodeRow)
     → IsSane p → holds_of 1 p ≡ true → holds_of 2 p ≡ true → (round : Round p row values term)
     → next.rate ≡ term.value → HasProperMicro p next → IsWithin (p.change_bound +ℤ p.change_bound) (next.length -ℤ row.length)
-    → IsProperLength p (cycle_length_of p next)
+    → IsCycleLength p (cycle_length_of p next)
 proper_next p row values term next sane first second round same micro steady =
     let is = next_length p row values term next sane first second round same micro steady in
     let b = damped p.damping (row.rate +ℤ round.mid) in (

@@ -7,20 +7,20 @@ use Rattle.std.proofs.lemmas.Int.{ints, by_lt_z, clamps}
 use Rattle.fr_base.specs.declared.channel.Channel.{Channel}
 use Rattle.fr_base.specs.declared.channel.Channel.TheVariants as channel
 use Rattle.fr_base.specs.declared.node_row.NodeRow.{NodeRow}
-use Rattle.fr_params.specs.Values.{Values, amount}
-use Rattle.fr_params.specs.Sane.{IsSane}
-use Rattle.fr_params.specs.declared.names.ParamName.TheVariants as name
-use Rattle.fr_midpoint.specs.Within.{IsWithin}
+use Rattle.fr_cluster.specs.Values.{Values, amount}
+use Rattle.fr_cluster.specs.Sane.{IsSane}
+use Rattle.fr_cluster.specs.declared.names.ParamName.TheVariants as name
+use Rattle.fr_base.specs.Within.{IsWithin}
 use Rattle.fr_midpoint.proofs.Products.{lez_of_mulz-lez, mulz-lez, mulz-lez_left, mulz_comm, subz-mulz, mulz_assoc}
 use Rattle.fr_time.specs.Position.{grid_for}
 use Rattle.fr_time.specs.Instant.{instant_of}
 use Rattle.fr_time.specs.Slots.{action_point_of, slot_end_of, slot_start_of}
 use Rattle.fr_time.proofs.Placing.{action_point_lt, is_grid_lem, slot_end_lt, slot_length}
 use Rattle.fr_bound.specs.Bounds.{nominal, precision_of, shortest_micro, widest}
-use Rattle.fr_bound.specs.Checks.{behind_action, clear_micros, least_cycle, left_of}
+use Rattle.fr_bound.specs.Checks.{after_action, clear_micros, least_cycle, left_of}
 use Rattle.fr_bound.proofs.Uncut.{uncut_lem}
 use Rattle.fr_bound.specs.Sync.{cycle_length_of}
-use Rattle.fr_precision.specs.Reception.{ArrivesInSlot, IsDelay, RoomChecksSuffice}
+use Rattle.fr_precision.specs.Reception.{ArrivalsLieInSlots, IsDelay, RoomChecksSuffice}
 use Rattle.fr_precision.proofs.Figures.{nat_le-true, natural, times_natural}
 use Rattle.fr_precision.proofs.InstantLaws.{before_correction}
 use Rattle.fr_precision.proofs.Lines.{on_line, OnLine}
@@ -37,7 +37,7 @@ room_checks_suffice p sane fourth fifth =
     let far = precision_of p + widest p * nominal + amount p name.xDelayError in
     record {
       before = at_most (amount p name.gMacroPerCycle * near) (left_of 4 p) (p.macros *ℤ pos near) (times_natural p.macros near from) (nat_le-true _ _ fourth);
-      behind = less (amount p name.gMacroPerCycle * far) (left_of 5 p) (p.macros *ℤ pos far) (times_natural p.macros far from) (nat_lt-true _ _ fifth);
+      after = less (amount p name.gMacroPerCycle * far) (left_of 5 p) (p.macros *ℤ pos far) (times_natural p.macros far from) (nat_lt-true _ _ fifth);
     }
   where
     at_most : (a b : ℕ) (x : ℤ) → pos a ≡ x → a ≤ b → x ≤ℤ pos b
@@ -147,7 +147,7 @@ fits_below parts need gap left some a b =
     contrary : (x y l z : ℤ) → x ≡ y → y <ℤ l → l ≤ℤ z → z ≤ℤ x → ⊥
     contrary x y l z e h k m = omega (arith, ints)
 
--- a delay is from less than the delay error before to that behind the widest compensation
+-- a delay is from less than the delay error before to that after the widest compensation
 compensated : (u : ℤ) (e : ℕ) (d : ℤ) → pos 0 ≤ℤ u → IsWithin (pos e) (d -ℤ (u *ℤ pos 1_000_000)) → (neg_ℤ (pos e) ≤ℤ d) × (d ≤ℤ (pos (nat_abs (int_max u u) * 1_000_000) +ℤ pos e))
 compensated u e d from within = (omega (arith, ints, clamps, within.low), omega (arith, ints, clamps, within.high))
 
@@ -160,13 +160,13 @@ delay_range p channel.B delay sane near = let range = sane.ranges name.pDelayCom
 pub ends_before : (p : Values) (slot : ℕ) → IsSane p → slot ≤ amount p name.gNumberOfStaticSlots → pos (slot_end_of p slot) ≤ℤ p.correction
 ends_before p slot sane static =
     let range = sane.ranges name.gOffsetCorrectionStart in
-    let behind = slot_end_lt p slot sane static in
-    step (slot_end_of p slot) p.correction (natural p.correction (omega (arith, ints, range.0))) behind
+    let after = slot_end_lt p slot sane static in
+    step (slot_end_of p slot) p.correction (natural p.correction (omega (arith, ints, range.0))) after
   where
     step : (n : ℕ) (o : ℤ) → o ≡ pos (nat_abs o) → n < nat_abs o → pos n ≤ℤ o
     step n o e less = omega (arith, ints)
 
-pub arrives_in_slot : ArrivesInSlot
+pub arrives_in_slot : ArrivalsLieInSlots
 arrives_in_slot p reach delay slot ch is_odd row sender sane leaves some static rate least near delayed =
     let uncut = uncut_lem p sane in
     let macros = sane.ranges name.gMacroPerCycle in
@@ -177,16 +177,16 @@ arrives_in_slot p reach delay slot ch is_odd row sender sane leaves some static 
     let above : pos 0 <ℤ p.macros = omega (arith, ints, macros.0) in
     let until = ends_before p slot sane static in
     let acts = action_point_lt p slot sane some in
-    let whole : hi ≡ a + behind_action p = parts (slot_start_of p slot) (amount p name.gdStaticSlot) (amount p name.gdActionPointOffset) hi (slot_length slot (amount p name.gdStaticSlot) some) uncut.behind in
+    let whole : hi ≡ a + after_action p = parts (slot_start_of p slot) (amount p name.gdStaticSlot) (amount p name.gdActionPointOffset) hi (slot_length slot (amount p name.gdStaticSlot) some) uncut.after in
     let front = room p row is_odd lo a (amount p name.gdActionPointOffset) sane rate least refl (sooner a hi p.correction acts until) uncut.before_action in
-    let back = room p row is_odd a hi (behind_action p) sane rate least whole until uncut.behind_action in
+    let back = room p row is_odd a hi (after_action p) sane rate least whole until uncut.after_action in
     let need = reach +ℤ pos (amount p name.xDelayError) in
-    let need_behind = reach +ℤ pos (widest p * nominal) +ℤ pos (amount p name.xDelayError) in
+    let need_after = reach +ℤ pos (widest p * nominal) +ℤ pos (amount p name.xDelayError) in
     let before = fits p.macros need (instant_of grid row is_odd (pos a) -ℤ instant_of grid row is_odd (pos lo)) (pos (left_of 4 p)) above leaves.before front in
-    let behind = fits_below p.macros need_behind (instant_of grid row is_odd (pos hi) -ℤ instant_of grid row is_odd (pos a)) (pos (left_of 5 p)) above leaves.behind back in
+    let after = fits_below p.macros need_after (instant_of grid row is_odd (pos hi) -ℤ instant_of grid row is_odd (pos a)) (pos (left_of 5 p)) above leaves.after back in
     let range = delay_range p ch delay sane delayed in
     within_slot (instant_of grid row is_odd (pos lo)) (instant_of grid row is_odd (pos a)) (instant_of grid row is_odd (pos hi)) (instant_of grid sender is_odd (pos a)) reach delay (amount p name.xDelayError) (widest p * nominal)
-    before behind near.low near.high range.0 range.1
+    before after near.low near.high range.0 range.1
   where
     parts : (start length action hi : ℕ) → start + length ≡ hi → action ≤ length → hi ≡ (start + action) + (length - action)
     parts start length action hi e le = omega arith

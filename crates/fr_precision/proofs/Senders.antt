@@ -6,8 +6,9 @@ use Rattle.std.proofs.lemmas.List.{length-append}
 use Rattle.std.proofs.lemmas.List.Elements.{All-cons, All-head, All-nil, All-tail}
 use Rattle.std.proofs.lemmas.List.Sorted.{length_permutation}
 use Rattle.std.proofs.lemmas.Slice.Zip.{AllZip-long}
-use Rattle.fr_midpoint.specs.Within.{IsWithin}
-use Rattle.fr_midpoint.specs.Receivers.{Hears, LieWithin}
+use Rattle.fr_base.specs.Within.{IsWithin}
+use Rattle.fr_midpoint.specs.Receivers.{Hears}
+use Rattle.fr_base.specs.Within.{LieWithin}
 
 pub All-along : {X : Type 0} (P Q : X → Type 0) (xs : List X) → ((x : X) → P x → Q x) → All P xs → All Q xs
 All-along P Q [] step all = All-nil Q

@@ -1,5 +1,5 @@
 -- The premises of the laws are met: two nodes of a worked cluster, each with the values that it has of the other. Node 2
--- starts 2,500,000 ticks behind node 1; node 1 measures 2 microticks and node 2 measures -3, and their offset terms are
+-- starts 2,500,000 ticks after node 1; node 1 measures 2 microticks and node 2 measures -3, and their offset terms are
 -- 1 and -1.
 use Rattle.std.proofs.Common.{◌≡◌, ℕ, ◌≤◌, true, false, ℤ, pos, negsuc, List, [], ◌∷◌, Some, All, refl, inr, lit≤, lit<, rules, arith, length}
 use Rattle.std.specs.Prelude.{◌≢◌, ◌<◌, ◌+◌, ◌*◌, ◌+ℤ◌, ◌-ℤ◌, ◌*ℤ◌, ◌≤ℤ◌, ◌<ℤ◌, AllPairs, Contains, nat_abs}
@@ -9,20 +9,21 @@ use Rattle.std.proofs.lemmas.List.Sorted.{IsPermutation-refl}
 use Rattle.fr_base.specs.declared.node_row.NodeRow.{NodeRow}
 use Rattle.fr_base.specs.declared.Outcome.TheVariants.{Within}
 use Rattle.fr_base.specs.declared.state.State.TheVariants.{Active}
-use Rattle.fr_params.specs.Values.{Values}
-use Rattle.fr_params.specs.Sane.{IsSane, IsSaneNode, IsSaneSlot}
-use Rattle.fr_params.specs.Rows.{InRange}
-use Rattle.fr_params.specs.Values.{figure}
-use Rattle.fr_params.specs.declared.names.ParamName.{ParamName}
-use Rattle.fr_params.specs.declared.names.ParamName.TheVariants as name
-use Rattle.fr_params.specs.declared.rows.NodeSpec.{NodeSpec}
-use Rattle.fr_params.specs.declared.rows.SlotSpec.{SlotSpec}
-use Rattle.fr_midpoint.specs.Within.{IsWithin}
+use Rattle.fr_cluster.specs.Values.{Values}
+use Rattle.fr_cluster.specs.Sane.{IsSane, IsSaneNode, IsSaneSlot}
+use Rattle.fr_cluster.specs.Ranges.{InRange}
+use Rattle.fr_cluster.specs.Values.{figure}
+use Rattle.fr_cluster.specs.declared.names.ParamName.{ParamName}
+use Rattle.fr_cluster.specs.declared.names.ParamName.TheVariants as name
+use Rattle.fr_cluster.specs.declared.nodes.NodeSpec.{NodeSpec}
+use Rattle.fr_cluster.specs.declared.nodes.SlotSpec.{SlotSpec}
+use Rattle.fr_base.specs.Within.{IsWithin}
 use Rattle.fr_midpoint.specs.Midpoint.{discarded, IsMidpoint}
 use Rattle.fr_correct.specs.declared.term.Term.{Term}
 use Rattle.fr_base.specs.declared.channel.Channel.TheVariants.{A}
 use Rattle.fr_bound.specs.Bounds.{arrival_error, lambda_of, longest_micro, pi_of, precision_of}
-use Rattle.fr_bound.specs.Sync.{cycle_length_of, IsInSync, IsProperLength, LieWithin}
+use Rattle.fr_bound.specs.Sync.{cycle_length_of, IsInSync, IsCycleLength}
+use Rattle.fr_base.specs.Within.{LieWithin}
 use Rattle.fr_precision.specs.Rows.{corrected_end_of, AreNear, HasProperMicro, Lasts, Sender}
 use Rattle.fr_precision.specs.Instants.{gap_of, Runs}
 use Rattle.fr_precision.specs.Offsets.{IsDeviation, IsOffsetRound, IsSending, LimitSuffices, NearAll, ReachAll}
@@ -41,10 +42,10 @@ use Rattle.fr_precision.proofs.RateLaws.{lengths_stay_together}
 use Rattle.fr_precision.proofs.ReceptionLaws.{arrives_in_slot, room_checks_suffice}
 
 -- a cycle of 5 ms at a microtick of 25 ns, with two nodes
-abbrev node : ℕ → NodeSpec
+abbrev pub node : ℕ → NodeSpec
 node id = record { id = id; key = Some id; on_a = true; on_b = false; coldstart = true }
 
-abbrev cluster : Values
+abbrev pub cluster : Values
 cluster = record {
   macros = pos 5000;
   micros = pos 200000;
@@ -90,7 +91,7 @@ in_range name.xRateBound = (record { le = tt }, record { le = tt })
 in_range name.xChangeBound = (record { le = tt }, record { le = tt })
 in_range name.xDelayError = (record { le = tt }, record { le = tt })
 
-two : {X : Type 0} (P : X → Type 0) (one other : X) → P one → P other → All P (one ∷ other ∷ [])
+pub two : {X : Type 0} (P : X → Type 0) (one other : X) → P one → P other → All P (one ∷ other ∷ [])
 two P one other here there = All-cons P one (other ∷ []) here (All-cons P other [] there (All-nil P))
 
 none : {X : Type 0} (R : X → X → Type 0) → AllPairs R []
@@ -102,13 +103,13 @@ pair R one other is = AllPairs-cons R one (other ∷ []) (All-cons (R one) other
 sane_node : (id : ℕ) → 1 ≤ id → id ≤ 64 → IsSaneNode (node id)
 sane_node id from to = record { proper = record { from = from; to = to; key = (from, omega arith) }; starts = refl }
 
-is_sane : IsSane cluster
+pub is_sane : IsSane cluster
 is_sane = record {
   ranges = in_range;
   constraints = record {
     whole_cycle = refl;
     acts_in_slot = lit< tt;
-    corrects_behind = (lit< tt, lit< tt);
+    corrects_after = (lit< tt, lit< tt);
     leaves_microticks = lit≤ tt;
     passive_first = lit≤ tt;
     sync_nodes = (lit≤ tt, lit≤ tt);
@@ -126,13 +127,13 @@ is_sane = record {
 }
 
 -- the rows of a node: its number, the start of a cycle, and its offset term
-abbrev row : ℕ → ℕ → ℤ → NodeRow
+abbrev pub row : ℕ → ℕ → ℤ → NodeRow
 row number start offset = record { node = number; start = pos start; length = pos 1_000_000; rate = pos 0; offset = offset; state = Active; cut = 0 }
 
-abbrev first : Sender
+abbrev pub first : Sender
 first = record { even = row 1 0 (pos 0); odd = row 1 200_000_000_000 (pos 1); action = pos 7 }
 
-abbrev second : Sender
+abbrev pub second : Sender
 second = record { even = row 2 2_500_000 (pos 0); odd = row 2 200_002_500_000 (negsuc 0); action = pos 37 }
 
 abbrev both : List Sender
@@ -356,9 +357,9 @@ rates_of_second = record {
   is_term = inr (pos 0, middle_of_zeros, refl);
 }
 
-proper : All (λ sender. IsProperLength cluster (cycle_length_of cluster sender.odd)) both
+proper : All (λ sender. IsCycleLength cluster (cycle_length_of cluster sender.odd)) both
 proper =
-    two (λ (sender : Sender). IsProperLength cluster (cycle_length_of cluster sender.odd)) first second (record { le = tt }, record { le = tt }) (record { le = tt }, record { le = tt })
+    two (λ (sender : Sender). IsCycleLength cluster (cycle_length_of cluster sender.odd)) first second (record { le = tt }, record { le = tt }) (record { le = tt }, record { le = tt })
 
 next_first : IsNext cluster first.odd zero_term (row 1 400_001_000_000 (pos 0)) (row 1 600_001_000_000 (pos 0))
 next_first = record {
@@ -505,15 +506,15 @@ lie_two : (bound a b : ℤ) → (a -ℤ a) ≤ℤ bound → (a -ℤ b) ≤ℤ bo
 lie_two bound a b aa ab ba bb =
     two (λ x. All (λ y. (x -ℤ y) ≤ℤ bound) (a ∷ b ∷ [])) a b (two (λ y. (a -ℤ y) ≤ℤ bound) a b aa ab) (two (λ y. (b -ℤ y) ≤ℤ bound) a b ba bb)
 
-rows_in_sync : IsInSync cluster (first.even ∷ second.even ∷ []) (first.odd ∷ second.odd ∷ [])
+pub rows_in_sync : IsInSync cluster (first.even ∷ second.even ∷ []) (first.odd ∷ second.odd ∷ [])
 rows_in_sync = record {
   active_even = two (λ (row : NodeRow). row.state ≡ Active) first.even second.even refl refl;
   active_odd = two (λ (row : NodeRow). row.state ≡ Active) first.odd second.odd refl refl;
   starts = lie_two (pos (pi_of cluster)) first.even.start second.even.start (record { le = tt }) (record { le = tt }) (record { le = tt }) (record { le = tt });
   even_lengths = lie_two (pos (lambda_of cluster)) (cycle_length_of cluster first.even) (cycle_length_of cluster second.even) (record { le = tt }) (record { le = tt }) (record { le = tt }) (record { le = tt });
   odd_lengths = lie_two (pos (lambda_of cluster)) (cycle_length_of cluster first.odd) (cycle_length_of cluster second.odd) (record { le = tt }) (record { le = tt }) (record { le = tt }) (record { le = tt });
-  even_proper = two (λ (row : NodeRow). IsProperLength cluster (cycle_length_of cluster row)) first.even second.even (record { le = tt }, record { le = tt }) (record { le = tt }, record { le = tt });
-  odd_proper = two (λ (row : NodeRow). IsProperLength cluster (cycle_length_of cluster row)) first.odd second.odd (record { le = tt }, record { le = tt }) (record { le = tt }, record { le = tt });
+  even_proper = two (λ (row : NodeRow). IsCycleLength cluster (cycle_length_of cluster row)) first.even second.even (record { le = tt }, record { le = tt }) (record { le = tt }, record { le = tt });
+  odd_proper = two (λ (row : NodeRow). IsCycleLength cluster (cycle_length_of cluster row)) first.odd second.odd (record { le = tt }, record { le = tt }) (record { le = tt }, record { le = tt });
 }
 
 abbrev members : List Member

@@ -1,9 +1,9 @@
 -- The laws of instants: how far apart two nodes' macroticks lie in a double cycle.
 use Rattle.std.specs.Prelude.{ℤ, pos, ◌+ℤ◌, ◌-ℤ◌, ◌*ℤ◌, ◌≤ℤ◌, Bool, true, false}
 use Rattle.fr_base.specs.declared.node_row.NodeRow.{NodeRow}
-use Rattle.fr_params.specs.Values.{Values}
-use Rattle.fr_params.specs.Sane.{IsSane}
-use Rattle.fr_midpoint.specs.Within.{IsWithin}
+use Rattle.fr_cluster.specs.Values.{Values}
+use Rattle.fr_cluster.specs.Sane.{IsSane}
+use Rattle.fr_base.specs.Within.{IsWithin}
 use Rattle.fr_time.specs.Position.{grid_for}
 use Rattle.fr_time.specs.Instant.{instant_of}
 use Rattle.fr_bound.specs.Bounds.{lambda_of, longest_micro, pi_of, precision_of}
@@ -16,7 +16,7 @@ pub record Runs (p : Values) (even odd : NodeRow) : Type 0 where
   pub even_lasts : Lasts p even
   pub odd_lasts : Lasts p odd
 
--- how far a macrotick of a node lies behind that of another, in ticks
+-- how far a macrotick of a node lies after that of another, in ticks
 abbrev pub gap_of : Values → Bool → ℤ → NodeRow → NodeRow → ℤ
 gap_of p is_odd macrotick row other = instant_of (grid_for p) row is_odd macrotick -ℤ instant_of (grid_for p) other is_odd macrotick
 
@@ -42,6 +42,16 @@ MacroticksStayNear =
 abbrev pub row_in : Bool → NodeRow → NodeRow → NodeRow
 row_in false even odd = even
 row_in true even odd = odd
+
+-- so an action point of either cycle, before the start of the offset correction, lies within reach wherever the reach takes
+-- in how far starts lie apart, the lengths of both cycles, and a microtick
+abbrev pub ActionsStayNear : Type 0
+ActionsStayNear =
+    (p : Values) (starts lengths reach action : ℤ) (is_odd : Bool) (even odd other_even other_odd : NodeRow)
+    → IsSane p → Runs p even odd → Runs p other_even other_odd
+    → LieNear p starts lengths lengths even odd other_even other_odd
+    → (starts +ℤ (pos 2 *ℤ lengths) +ℤ pos (longest_micro p)) ≤ℤ reach → pos 0 ≤ℤ action → action ≤ℤ p.correction
+    → IsWithin reach (gap_of p is_odd action (row_in is_odd even odd) (row_in is_odd other_even other_odd))
 
 -- where starts lie within one bound at both ends of a double cycle, and lengths within another, no macrotick of both
 -- cycles lies further apart than the one bound, twice the other, and two microticks

@@ -1,3 +1,4 @@
+-- what the public contract cites
 pub mod Deviations
 pub mod Instants
 pub mod Offsets

@@ -1,9 +1,9 @@
 -- What deviations say: each rate value places the length of a sender's cycle within y1.
 use Rattle.std.specs.Prelude.{true, false, ℤ, pos, ◌-ℤ◌, ◌≤ℤ◌}
 use Rattle.fr_base.specs.declared.node_row.NodeRow.{NodeRow}
-use Rattle.fr_params.specs.Values.{Values}
-use Rattle.fr_params.specs.Sane.{IsSane}
-use Rattle.fr_midpoint.specs.Within.{IsWithin}
+use Rattle.fr_cluster.specs.Values.{Values}
+use Rattle.fr_cluster.specs.Sane.{IsSane}
+use Rattle.fr_base.specs.Within.{IsWithin}
 use Rattle.fr_midpoint.specs.Midpoint.{half_of_sum}
 use Rattle.fr_precision.specs.Rows.{HasProperMicro, IsDoubleCycle, IsSteady, Sender}
 use Rattle.fr_precision.specs.Instants.{gap_of}

@@ -2,16 +2,16 @@
 use Rattle.std.specs.Prelude.{◌≡◌, true, ℕ, ◌+◌, ◌*◌, ◌≤◌, ℤ, pos, ◌+ℤ◌, ◌-ℤ◌, ◌*ℤ◌, ◌≤ℤ◌, ◌<ℤ◌, List, length, All}
 use Rattle.fr_base.specs.declared.node_row.NodeRow.{NodeRow}
 use Rattle.fr_base.specs.declared.Outcome.TheVariants.{Within}
-use Rattle.fr_params.specs.Values.{Values, amount}
-use Rattle.fr_params.specs.Sane.{IsSane}
-use Rattle.fr_params.specs.declared.names.ParamName.TheVariants as name
-use Rattle.fr_midpoint.specs.Within.{IsWithin}
+use Rattle.fr_cluster.specs.Values.{Values, amount}
+use Rattle.fr_cluster.specs.Sane.{IsSane}
+use Rattle.fr_cluster.specs.declared.names.ParamName.TheVariants as name
+use Rattle.fr_base.specs.Within.{IsWithin}
 use Rattle.fr_midpoint.specs.Receivers.{Hears}
 use Rattle.fr_correct.specs.declared.term.Term.{Term}
 use Rattle.fr_correct.specs.Terms.{IsRateTerm}
 use Rattle.fr_bound.specs.Bounds.{cycle_change, lambda_of, longest_micro, y1_of}
 use Rattle.fr_bound.specs.Checks.{holds_of}
-use Rattle.fr_bound.specs.Sync.{cycle_length_of, IsProperLength}
+use Rattle.fr_bound.specs.Sync.{cycle_length_of, IsCycleLength}
 use Rattle.fr_precision.specs.Rows.{longest_cycle, shortest_cycle, AreNear, HasProperMicro, IsSteady, KeepOne, Sender}
 
 -- a rate value, counted in the receiver's odd microticks from its own length, places the length of the sender's odd cycle
@@ -44,7 +44,7 @@ length_at p rate micro = (p.micros +ℤ rate) *ℤ micro
 pub record KeepsRange (p : Values) (row : NodeRow) (term : Term) : Type 0 where
   pub uncut : term.outcome ≡ Within
   pub limit : IsWithin p.rate_limit term.value
-  pub proper : IsProperLength p (length_at p term.value row.length)
+  pub proper : IsCycleLength p (length_at p term.value row.length)
   pub room_above :
       pos 0 <ℤ term.value → (length_at p term.value row.length +ℤ pos (2 * cycle_change p)) ≤ℤ pos (longest_cycle p)
   pub room_below :
@@ -55,15 +55,15 @@ abbrev pub RateTermsAreUncut : Type 0
 RateTermsAreUncut =
     (p : Values) (senders : List Sender) (row : NodeRow) (values : List ℤ) (term : Term)
     → IsSane p → holds_of 1 p ≡ true → holds_of 2 p ≡ true → 1 ≤ length senders
-    → All (λ sender. IsProperLength p (cycle_length_of p sender.odd)) senders → IsRateRound p senders row values term → KeepsRange p row term
+    → All (λ sender. IsCycleLength p (cycle_length_of p sender.odd)) senders → IsRateRound p senders row values term → KeepsRange p row term
 
 -- and the lengths of the next double cycle
 abbrev pub LengthsStayInRange : Type 0
 LengthsStayInRange =
     (p : Values) (senders : List Sender) (row : NodeRow) (values : List ℤ) (term : Term) (even odd : NodeRow)
     → IsSane p → holds_of 1 p ≡ true → holds_of 2 p ≡ true → 1 ≤ length senders
-    → All (λ sender. IsProperLength p (cycle_length_of p sender.odd)) senders → IsRateRound p senders row values term
-    → IsNext p row term even odd → IsProperLength p (cycle_length_of p even) × IsProperLength p (cycle_length_of p odd)
+    → All (λ sender. IsCycleLength p (cycle_length_of p sender.odd)) senders → IsRateRound p senders row values term
+    → IsNext p row term even odd → IsCycleLength p (cycle_length_of p even) × IsCycleLength p (cycle_length_of p odd)
 
 -- the lengths of the senders' odd cycles lie at most so far apart
 abbrev pub LengthsWithin : Values → ℤ → List Sender → Type 0
@@ -76,7 +76,7 @@ LengthsDrawTogether =
     (p : Values) (senders : List Sender) (spread : ℤ) (row other_row : NodeRow) (values other_values : List ℤ)
     (term other_term : Term) (even odd other_even other_odd : NodeRow)
     → IsSane p → holds_of 1 p ≡ true → holds_of 2 p ≡ true
-    → All (λ sender. IsProperLength p (cycle_length_of p sender.odd)) senders → LengthsWithin p spread senders
+    → All (λ sender. IsCycleLength p (cycle_length_of p sender.odd)) senders → LengthsWithin p spread senders
     → IsRateRound p senders row values term → IsRateRound p senders other_row other_values other_term
     → KeepOne values other_values senders
     → IsNext p row term even odd → IsNext p other_row other_term other_even other_odd
@@ -89,7 +89,7 @@ LengthsStayTogether =
     (p : Values) (senders : List Sender) (row other_row : NodeRow) (values other_values : List ℤ)
     (term other_term : Term) (even odd other_even other_odd : NodeRow)
     → IsSane p → holds_of 1 p ≡ true → holds_of 2 p ≡ true
-    → All (λ sender. IsProperLength p (cycle_length_of p sender.odd)) senders → LengthsWithin p (pos (lambda_of p)) senders
+    → All (λ sender. IsCycleLength p (cycle_length_of p sender.odd)) senders → LengthsWithin p (pos (lambda_of p)) senders
     → IsRateRound p senders row values term → IsRateRound p senders other_row other_values other_term
     → KeepOne values other_values senders
     → IsNext p row term even odd → IsNext p other_row other_term other_even other_odd
@@ -105,7 +105,7 @@ abbrev pub LengthsStayNear : Type 0
 LengthsStayNear =
     (p : Values) (senders : List Sender) (spread : ℤ) (row : NodeRow) (values : List ℤ) (term : Term) (even odd : NodeRow)
     → IsSane p → holds_of 1 p ≡ true → holds_of 2 p ≡ true → 1 ≤ length senders
-    → All (λ sender. IsProperLength p (cycle_length_of p sender.odd)) senders → LengthsWithin p spread senders
+    → All (λ sender. IsCycleLength p (cycle_length_of p sender.odd)) senders → LengthsWithin p spread senders
     → IsRateRound p senders row values term → IsNext p row term even odd
     → All (λ (sender : Sender). IsWithin (spread +ℤ pos (near_length p)) (cycle_length_of p even -ℤ cycle_length_of p sender.odd)
     × IsWithin (spread +ℤ pos (near_length p)) (cycle_length_of p odd -ℤ cycle_length_of p sender.odd)) senders

@@ -1,9 +1,9 @@
 -- A double cycle of a node, as the laws of precision see it: the rows of its even and its odd cycle.
 use Rattle.std.specs.Prelude.{◌≡◌, ℕ, ◌+◌, ◌*◌, ◌≤◌, ℤ, pos, ◌+ℤ◌, ◌-ℤ◌, ◌≤ℤ◌, ◌<ℤ◌, List, length, All}
 use Rattle.fr_base.specs.declared.node_row.NodeRow.{NodeRow}
-use Rattle.fr_params.specs.Values.{Values, amount}
-use Rattle.fr_params.specs.declared.names.ParamName.TheVariants as name
-use Rattle.fr_midpoint.specs.Within.{IsWithin}
+use Rattle.fr_cluster.specs.Values.{Values, amount}
+use Rattle.fr_cluster.specs.declared.names.ParamName.TheVariants as name
+use Rattle.fr_base.specs.Within.{IsWithin}
 use Rattle.fr_midpoint.specs.Midpoint.{discarded}
 use Rattle.fr_time.specs.Position.{grid_for}
 use Rattle.fr_time.specs.Instant.{next_start_of}

@@ -1,18 +1,19 @@
 -- The law of the step: nodes that are in sync in a double cycle are in sync in the next one.
-use Rattle.std.specs.Prelude.{◌≡◌, true, Bool, ℤ, pos, ◌-ℤ◌, ◌≤ℤ◌, List, All, map, Contains}
+use Rattle.std.specs.Prelude.{◌≡◌, true, Bool, ◌+◌, ◌*◌, ℤ, pos, ◌+ℤ◌, ◌-ℤ◌, ◌*ℤ◌, ◌≤ℤ◌, List, All, map, Contains}
 use Rattle.fr_base.specs.declared.node_row.NodeRow.{NodeRow}
 use Rattle.fr_base.specs.declared.state.Outcome.TheVariants.{Within}
 use Rattle.fr_base.specs.declared.state.State.TheVariants.{Active}
-use Rattle.fr_params.specs.Values.{Values}
-use Rattle.fr_params.specs.Sane.{IsSane}
-use Rattle.fr_midpoint.specs.Within.{IsWithin}
+use Rattle.fr_cluster.specs.Values.{Values}
+use Rattle.fr_cluster.specs.Sane.{IsSane}
+use Rattle.fr_base.specs.Within.{IsWithin}
 use Rattle.fr_correct.specs.declared.term.Term.{Term}
-use Rattle.fr_bound.specs.Bounds.{lambda_of, pi_of, precision_of}
+use Rattle.fr_bound.specs.Bounds.{arrival_error, lambda_of, longest_micro, pi_of, precision_of}
 use Rattle.fr_bound.specs.Checks.{holds_of}
-use Rattle.fr_bound.specs.Sync.{cycle_length_of, IsInSync, IsProperLength}
+use Rattle.fr_bound.specs.Sync.{cycle_length_of, IsInSync, IsCycleLength}
+use Rattle.fr_base.specs.Within.{LieWithin}
 use Rattle.fr_precision.specs.Rows.{corrected_end_of, KeepOne, Sender}
 use Rattle.fr_precision.specs.Instants.{gap_of, row_in, LieNear, Runs}
-use Rattle.fr_precision.specs.Offsets.{IsOffsetRound, IsSending, SendersLieNear}
+use Rattle.fr_precision.specs.Offsets.{IsOffsetRound, IsSending, LimitSuffices, SendersLieNear}
 use Rattle.fr_precision.specs.Rates.{IsNext, IsRateRound, KeepsRange}
 
 -- a node in a double cycle: its rows, the values that it has at the end, and the terms that it computes from them
@@ -33,7 +34,7 @@ pub record SendersAreSynced (p : Values) (senders : List Sender) : Type 0 where
   pub sending : All (IsSending p) senders
   pub run : All (λ sender. Runs p sender.even sender.odd) senders
   pub near : SendersLieNear p (pos (pi_of p)) (pos (lambda_of p)) senders
-  pub proper : All (λ sender. IsProperLength p (cycle_length_of p sender.odd)) senders
+  pub proper : All (λ sender. IsCycleLength p (cycle_length_of p sender.odd)) senders
 
 -- a node is in sync with every sender, and has its values of each
 pub record TakesPart (p : Values) (senders : List Sender) (node : Member) : Type 0 where
@@ -54,7 +55,7 @@ pub record StaySynced (p : Values) (one other : Member) : Type 0 where
   -- the lengths of the next double cycle
   pub proper :
       (even odd : NodeRow) → IsNext p one.odd one.rate_term even odd
-      → IsProperLength p (cycle_length_of p even) × IsProperLength p (cycle_length_of p odd)
+      → IsCycleLength p (cycle_length_of p even) × IsCycleLength p (cycle_length_of p odd)
   pub lengths :
       (even odd other_even other_odd : NodeRow) → IsNext p one.odd one.rate_term even odd
       → IsNext p other.odd other.rate_term other_even other_odd
@@ -87,6 +88,56 @@ AllKeepOne senders nodes =
     (one other : Member) → Contains nodes one → Contains nodes other
     → KeepOne one.offsets other.offsets senders × KeepOne one.rates other.rates senders
 
+-- ---- the step with free numbers, as of nodes that are not yet in sync
+
+-- the starts of some nodes' double cycles lie at most so far apart, and so do the lengths of both cycles, which are proper
+pub record AreSpread (p : Values) (starts lengths : ℤ) (even odd : List NodeRow) : Type 0 where
+  pub starts_lie : LieWithin starts (map (λ row. row.start) even)
+  pub even_lengths : LieWithin lengths (map (cycle_length_of p) even)
+  pub odd_lengths : LieWithin lengths (map (cycle_length_of p) odd)
+  pub even_proper : All (λ row. IsCycleLength p (cycle_length_of p row)) even
+  pub odd_proper : All (λ row. IsCycleLength p (cycle_length_of p row)) odd
+
+-- a double cycle of such nodes: the first two checks hold, the offset limit suffices for a reach that takes in how far
+-- their action points may lie apart, and each has its values of every sender
+pub record IsSpreadDouble (p : Values) (senders : List Sender) (nodes : List Member) (starts lengths reach : ℤ) : Type 0 where
+  pub sane : IsSane p
+  pub first : holds_of 1 p ≡ true
+  pub second : holds_of 2 p ≡ true
+  pub limit : LimitSuffices p reach
+  pub fits : (starts +ℤ (pos 2 *ℤ lengths) +ℤ pos (longest_micro p)) ≤ℤ reach
+  pub spread : AreSpread p starts lengths (map (λ node. node.even) nodes) (map (λ node. node.odd) nodes)
+  pub sending : All (IsSending p) senders
+  pub among : All (IsAmong nodes) senders
+  pub computes : All (ComputesTerms p senders) nodes
+  pub keep : AllKeepOne senders nodes
+
+-- what holds of two nodes at its end: no term is cut, and starts and lengths lie half as far apart, and some
+pub record DrawNear (p : Values) (starts lengths : ℤ) (one other : Member) : Type 0 where
+  pub uncut : one.offset_term.outcome ≡ Within
+  pub range : KeepsRange p one.odd one.rate_term
+  pub ends :
+      IsWithin
+      (starts +ℤ (pos 6 *ℤ lengths) +ℤ pos (4 * arrival_error p + 8 * longest_micro p))
+      (pos 2 *ℤ (corrected_end_of p one.odd -ℤ corrected_end_of p other.odd))
+  -- the lengths of the next double cycle
+  pub proper :
+      (even odd : NodeRow) → IsNext p one.odd one.rate_term even odd
+      → IsCycleLength p (cycle_length_of p even) × IsCycleLength p (cycle_length_of p odd)
+  pub lengths_draw :
+      (even odd other_even other_odd : NodeRow) → IsNext p one.odd one.rate_term even odd
+      → IsNext p other.odd other.rate_term other_even other_odd
+      → IsWithin (lengths +ℤ pos (lambda_of p)) (pos 2 *ℤ (cycle_length_of p even -ℤ cycle_length_of p other_even))
+      × IsWithin (lengths +ℤ pos (lambda_of p)) (pos 2 *ℤ (cycle_length_of p odd -ℤ cycle_length_of p other_odd))
+
+abbrev pub SpreadsShrink : Type 0
+SpreadsShrink =
+    (p : Values) (senders : List Sender) (nodes : List Member) (starts lengths reach : ℤ) (one other : Member)
+    → IsSpreadDouble p senders nodes starts lengths reach → Contains nodes one → Contains nodes other
+    → DrawNear p starts lengths one other
+
+-- ---- nodes that are in sync
+
 -- nodes whose rows are in sync stay so, any two of them
 abbrev pub SyncOfAllIsKept : Type 0
 SyncOfAllIsKept =
@@ -104,7 +155,27 @@ pub record IsFollowed (p : Values) (node : Member) (even odd : NodeRow) : Type 0
   pub active_even : even.state ≡ Active
   pub active_odd : odd.state ≡ Active
 
--- and then the rows of the next double cycle are in sync
+-- how far starts and lengths lie apart in the next double cycle, where in this one they lie so far apart: half as far, and
+-- some, rounded down
+pub record Shrinks (p : Values) (starts lengths next_starts next_lengths : ℤ) : Type 0 where
+  pub starts_to :
+      (starts +ℤ (pos 6 *ℤ lengths) +ℤ pos (4 * arrival_error p + 8 * longest_micro p)) ≤ℤ ((pos 2 *ℤ next_starts) +ℤ pos 1)
+  pub lengths_to : (lengths +ℤ pos (lambda_of p)) ≤ℤ ((pos 2 *ℤ next_lengths) +ℤ pos 1)
+
+-- pi and lambda are such numbers
+abbrev pub SyncShrinks : Type 0
+SyncShrinks = (p : Values) → Shrinks p (pos (pi_of p)) (pos (lambda_of p)) (pos (pi_of p)) (pos (lambda_of p))
+
+-- and then the rows of the next double cycle are spread so far
+abbrev pub NextIsSpread : Type 0
+NextIsSpread =
+    (p : Values) (senders : List Sender) (nodes : List Member) (starts lengths reach next_starts next_lengths : ℤ)
+    (next_even next_odd : Member → NodeRow)
+    → IsSpreadDouble p senders nodes starts lengths reach → Shrinks p starts lengths next_starts next_lengths
+    → All (λ node. IsFollowed p node (next_even node) (next_odd node)) nodes
+    → AreSpread p next_starts next_lengths (map next_even nodes) (map next_odd nodes)
+
+-- and in sync, if they were
 abbrev pub NextIsInSync : Type 0
 NextIsInSync =
     (p : Values) (senders : List Sender) (nodes : List Member) (next_even next_odd : Member → NodeRow)

@@ -1,9 +1,11 @@
-ghost use Rattle.fr_precision.specs.Instants.{MacroticksLieBetween, MacroticksStayNear, PrecisionHolds};
+ghost use Rattle.fr_precision.specs.Instants.{ActionsStayNear, MacroticksLieBetween, MacroticksStayNear, PrecisionHolds};
 
 /// The law of nearness: up to the start of the offset correction two nodes' macroticks lie no further apart
-/// than their starts and the lengths of their cycles, and a microtick, in ticks.
+/// than their starts and the lengths of their cycles, and a microtick, in ticks; so do the action points of
+/// either cycle.
 pub fn macroticks_stay_near()
-    ensures { MacroticksStayNear }
+    ensures near { MacroticksStayNear }
+    ensures actions { ActionsStayNear }
 {}
 
 /// The law of interpolation: between starts that lie near each other at both ends of a double cycle, no

@@ -16,4 +16,4 @@ pub use offsets::{offsets_stay_in_limit, starts_draw_together};
 pub use placement::rate_values_place_lengths;
 pub use rates::{lengths_draw_together, lengths_stay_in_range};
 pub use reception::frames_arrive_in_slots;
-pub use step::sync_is_kept;
+pub use step::{spreads_shrink, sync_is_kept};

@@ -1,4 +1,13 @@
-ghost use Rattle.fr_precision.specs.Step.{NextIsInSync, SyncIsKept, SyncOfAllIsKept};
+ghost use Rattle.fr_precision.specs.Step.{NextIsInSync, NextIsSpread, SpreadsShrink, SyncIsKept, SyncOfAllIsKept, SyncShrinks};
+
+/// The law of the step with free numbers: where the offset limit suffices for how far action points may lie
+/// apart, nodes that have a value of every sender cut no term, and their next starts and lengths, in ticks,
+/// lie half as far apart, and some. At the spread of nodes in sync they stay.
+pub fn spreads_shrink()
+    ensures two { SpreadsShrink }
+    ensures next { NextIsSpread }
+    ensures sync { SyncShrinks }
+{}
 
 /// The law of the step: under the first three checks, nodes that are in sync in a double cycle and have a
 /// value of every sender stay in sync: no term of theirs is cut, no macrotick lies further apart than the

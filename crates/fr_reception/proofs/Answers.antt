@@ -9,14 +9,15 @@ use Rattle.fr_frame.specs.declared.fault.FrameFault.{FrameFault}
 use Rattle.fr_frame.specs.Reading.{read_as}
 use Rattle.fr_frame.proofs.Reading.{Reads, reads}
 use Rattle.fr_frame.proofs.Found.{frame_read, fault_read}
-use Rattle.fr_params.specs.Values.{Values, amount}
-use Rattle.fr_params.specs.Questions.{key_index_of}
-use Rattle.fr_params.specs.declared.names.ParamName.TheVariants as name
+use Rattle.fr_cluster.specs.Values.{Values, amount}
+use Rattle.fr_cluster.specs.Questions.{key_index_of}
+use Rattle.fr_cluster.specs.declared.names.ParamName.TheVariants as name
 use Rattle.fr_time.specs.Cycles.{cycle_count}
 use Rattle.fr_reception.specs.declared.heard.Heard.{Heard}
 use Rattle.fr_reception.specs.declared.heard.Heard.TheVariants.{Stored, Ignored}
 use Rattle.fr_reception.specs.declared.heard.Ignored.TheVariants as reason
-use Rattle.fr_reception.specs.Offers.{Offer, slot_begins, slot_ends, deviation_of}
+use Rattle.fr_reception.specs.Offers.{Offer, deviation_of}
+use Rattle.fr_time.specs.Instant.{slot_begins, slot_ends}
 use Rattle.fr_reception.specs.Answers.{ArrivesInSlot, IsReceived, HasSlotId, HasCycleCount, HasStaticLength, IsOutsideSlot, IsAnswer, answer_by, answer_of}
 
 -- ---- tests of numbers, and what they tell
@@ -29,8 +30,8 @@ told_from a b told = grind (arith, ints)
 told_to : (a b : ℤ) → int_le a b ≡ true → a ≤ℤ b
 told_to a b told = grind (arith, ints)
 
-told_behind : (a b : ℤ) → int_le a b ≡ false → b <ℤ a
-told_behind a b told = grind (arith, ints)
+told_after : (a b : ℤ) → int_le a b ≡ false → b <ℤ a
+told_after a b told = grind (arith, ints)
 
 tells_before : (a b : ℤ) → a <ℤ b → int_lt a b ≡ true
 tells_before a b is = grind (arith, ints)
@@ -41,8 +42,8 @@ tells_from a b is = grind (arith, ints)
 tells_to : (a b : ℤ) → a ≤ℤ b → int_le a b ≡ true
 tells_to a b is = grind (arith, ints)
 
-tells_behind : (a b : ℤ) → b <ℤ a → int_le a b ≡ false
-tells_behind a b is = grind (arith, ints)
+tells_after : (a b : ℤ) → b <ℤ a → int_le a b ≡ false
+tells_after a b is = grind (arith, ints)
 
 told_none : (o : Option ℕ) → is_none o ≡ true → o ≡ None
 told_none None told = refl
@@ -121,12 +122,12 @@ answer_is p cycle row offer small =
     (λ out. record { arrives = refl; begins = refl; ends = refl; outside = outside_of from to out })
     (λ within. let parts : (int_lt offer.arrival from ≡ false) × (int_le to offer.arrival ≡ false) = or_parts (int_lt offer.arrival from) (int_le to offer.arrival) within in
     by_reading p cycle row offer (read_as offer.channel offer.bytes) (reads offer.channel offer.bytes small)
-    (record { begun = told_from offer.arrival from parts.0; not_ended = told_behind to offer.arrival parts.1 }))
+    (record { begun = told_from offer.arrival from parts.0; not_ended = told_after to offer.arrival parts.1 }))
   where
     outside_of : (from to : ℤ) → (int_lt offer.arrival from || int_le to offer.arrival) ≡ true → (offer.arrival <ℤ from) ⊎ (to ≤ℤ offer.arrival)
     outside_of from to out = elim (or_cases (int_lt offer.arrival from) (int_le to offer.arrival) out) [
       | inl before ↦ inl (told_before offer.arrival from before)
-      | inr behind ↦ inr (told_to to offer.arrival behind)
+      | inr after ↦ inr (told_to to offer.arrival after)
     ]
 
 -- ---- an answer is what the function answers
@@ -136,7 +137,7 @@ in_slot_answer p cycle row offer is =
     let from : ℤ = slot_begins p row offer.slot in
     let to : ℤ = slot_ends p row offer.slot in
     cond-false (int_lt offer.arrival from || int_le to offer.arrival) (Ignored (reason.Outside offer.arrival from to)) (answer_by p cycle row offer (read_as offer.channel offer.bytes))
-    (or_from (int_lt offer.arrival from) (int_le to offer.arrival) (tells_from offer.arrival from is.begun) (tells_behind to offer.arrival is.not_ended))
+    (or_from (int_lt offer.arrival from) (int_le to offer.arrival) (tells_from offer.arrival from is.begun) (tells_after to offer.arrival is.not_ended))
 
 received_answer : (p : Values) (cycle : ℕ) (row : NodeRow) (offer : Offer) (h : Header) → IsReceived p row offer h → answer_of p cycle row offer ≡ answer_by p cycle row offer (Ok h)
 received_answer p cycle row offer h is =
@@ -171,7 +172,7 @@ outside_found p cycle row offer arrival from to is =
     out : (int_lt offer.arrival (slot_begins p row offer.slot) || int_le (slot_ends p row offer.slot) offer.arrival) ≡ true
     out = elim is.outside [
       | inl before ↦ or_left (int_lt offer.arrival (slot_begins p row offer.slot)) (int_le (slot_ends p row offer.slot) offer.arrival) (ap (λ (x : ℤ). int_lt x (slot_begins p row offer.slot)) (sym is.arrives) ∙ ap (int_lt arrival) (sym is.begins) ∙ tells_before arrival from before)
-      | inr behind ↦ or_right (int_lt offer.arrival (slot_begins p row offer.slot)) (int_le (slot_ends p row offer.slot) offer.arrival) (ap (λ (x : ℤ). int_le x offer.arrival) (sym is.ends) ∙ ap (int_le to) (sym is.arrives) ∙ tells_to to arrival behind)
+      | inr after ↦ or_right (int_lt offer.arrival (slot_begins p row offer.slot)) (int_le (slot_ends p row offer.slot) offer.arrival) (ap (λ (x : ℤ). int_le x offer.arrival) (sym is.ends) ∙ ap (int_le to) (sym is.arrives) ∙ tells_to to arrival after)
     ]
 
 pub answer_found : (p : Values) (cycle : ℕ) (row : NodeRow) (offer : Offer) (heard : Heard) → IsAnswer p cycle row offer heard → heard ≡ answer_of p cycle row offer

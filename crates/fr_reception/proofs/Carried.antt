@@ -7,7 +7,7 @@ use Rattle.fr_frame.specs.Frame.{IsFrameWith, header_bytes, trailer_bytes}
 use Rattle.fr_frame.specs.declared.header.Header.{Header}
 use Rattle.fr_reception.specs.Regular.{carried_crc}
 
--- what stands behind a front
+-- what stands after a front
 drop-front : (xs ys : List ℕ) → drop (length (xs ++ ys) - length ys) (xs ++ ys) ≡ ys
 drop-front [] ys = let e : length ys - length ys ≡ 0 = omega arith in ap (λ (n : ℕ). drop n ys) e
 drop-front (x ∷ xs) ys =

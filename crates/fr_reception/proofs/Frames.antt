@@ -15,12 +15,12 @@ use Rattle.fr_frame.specs.Frame.{IsFrame}
 use Rattle.fr_frame.specs.Refusal.{IsAccepted}
 use Rattle.fr_frame.proofs.Exact.{accepted_frame}
 use Rattle.fr_frame.proofs.Found.{frame_small}
-use Rattle.fr_params.specs.Values.{Values, amount}
-use Rattle.fr_params.specs.Sane.{IsSane, IsSaneNode, IsSaneSlot}
-use Rattle.fr_params.specs.declared.names.ParamName.TheVariants as name
-use Rattle.fr_params.specs.declared.rows.NodeSpec.{NodeSpec}
-use Rattle.fr_params.specs.declared.rows.SlotSpec.{SlotSpec}
-use Rattle.fr_params.specs.Searches.{is_key}
+use Rattle.fr_cluster.specs.Values.{Values, amount}
+use Rattle.fr_cluster.specs.Sane.{IsSane, IsSaneNode, IsSaneSlot}
+use Rattle.fr_cluster.specs.declared.names.ParamName.TheVariants as name
+use Rattle.fr_cluster.specs.declared.nodes.NodeSpec.{NodeSpec}
+use Rattle.fr_cluster.specs.declared.nodes.SlotSpec.{SlotSpec}
+use Rattle.fr_cluster.specs.Searches.{is_key}
 use Rattle.fr_time.specs.Senders.{key_node_of, further_slot_of, sync_sending, further_sending, sender_of}
 use Rattle.fr_time.specs.declared.senders.Sending.{Sending}
 use Rattle.fr_reception.specs.Regular.{has_payload, is_sync_frame, is_coldstart, payload_byte, payload_bytes, payload_of, regular_header, regular_payload, regular_frame}

@@ -7,14 +7,15 @@ use Rattle.fr_frame.specs.declared.fault.FrameFault.{FrameFault}
 use Rattle.fr_frame.specs.Frame.{IsFrame}
 use Rattle.fr_frame.specs.Fault.{IsFirstFault}
 use Rattle.fr_frame.specs.Reading.{read_as}
-use Rattle.fr_params.specs.Values.{Values, amount}
-use Rattle.fr_params.specs.Questions.{key_index_of}
-use Rattle.fr_params.specs.declared.names.ParamName.TheVariants as name
+use Rattle.fr_cluster.specs.Values.{Values, amount}
+use Rattle.fr_cluster.specs.Questions.{key_index_of}
+use Rattle.fr_cluster.specs.declared.names.ParamName.TheVariants as name
 use Rattle.fr_time.specs.Cycles.{cycle_count}
 use Rattle.fr_reception.specs.declared.heard.Heard.{Heard}
 use Rattle.fr_reception.specs.declared.heard.Heard.TheVariants.{Stored, Ignored}
 use Rattle.fr_reception.specs.declared.heard.Ignored.TheVariants as reason
-use Rattle.fr_reception.specs.Offers.{Offer, slot_begins, slot_ends, deviation_of}
+use Rattle.fr_reception.specs.Offers.{Offer, deviation_of}
+use Rattle.fr_time.specs.Instant.{slot_begins, slot_ends}
 
 -- it arrives between the instants at which its slot begins and ends at the node
 pub record ArrivesInSlot (p : Values) (row : NodeRow) (offer : Offer) : Type 0 where

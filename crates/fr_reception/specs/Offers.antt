@@ -1,11 +1,12 @@
 -- What is offered to a node, and when a slot lies in the node's own time.
-use Rattle.std.specs.Prelude.{ℕ, ◌-◌, ◌/◌, ◌%◌, ◌^◌, ℤ, pos, ◌+ℤ◌, ◌-ℤ◌, ◌*ℤ◌, List, slice_set, slice_index_or, bit_xor}
+use Rattle.std.specs.Prelude.{ℕ, ◌-◌, ◌/◌, ◌%◌, ◌^◌, ℤ, ◌-ℤ◌, List, slice_set, slice_index_or, bit_xor}
 use Rattle.fr_base.specs.declared.channel.Channel.{Channel}
 use Rattle.fr_base.specs.declared.node_row.NodeRow.{NodeRow}
-use Rattle.fr_params.specs.Values.{Values}
-use Rattle.fr_params.specs.Questions.{compensation_of}
-use Rattle.fr_time.specs.Position.{grid_for, even_position, floor_of}
-use Rattle.fr_time.specs.Slots.{slot_start_of, slot_end_of, action_point_of}
+use Rattle.fr_cluster.specs.Values.{Values}
+use Rattle.fr_cluster.specs.Questions.{compensation_of}
+use Rattle.fr_time.specs.Instant.{early_position}
+use Rattle.fr_time.specs.Position.{floor_of}
+use Rattle.fr_time.specs.Slots.{action_point_of}
 
 -- bytes that come to a node in a slot, on a channel, at an instant in ticks
 pub record Offer : Type 0 where
@@ -13,25 +14,6 @@ pub record Offer : Type 0 where
   pub channel : Channel
   pub arrival : ℤ
   pub bytes : List ℕ
-
--- the position of a macrotick of a node's cycle up to the start of the offset correction, which the offset term does
--- not move, in microticks from the start of the cycle; all static slots lie there
-abbrev pub early_position : Values → NodeRow → ℕ → ℤ
-early_position p row macrotick = even_position (grid_for p) row.rate (pos macrotick)
-
--- the instant of such a macrotick, in ticks
-abbrev pub early_instant : Values → NodeRow → ℕ → ℤ
-early_instant p row macrotick = row.start +ℤ (early_position p row macrotick *ℤ row.length)
-
--- the instants at which a slot begins and ends at a node, and that of its action point
-abbrev pub slot_begins : Values → NodeRow → ℕ → ℤ
-slot_begins p row slot = early_instant p row (slot_start_of p slot)
-
-abbrev pub slot_ends : Values → NodeRow → ℕ → ℤ
-slot_ends p row slot = early_instant p row (slot_end_of p slot)
-
-abbrev pub action_instant : Values → NodeRow → ℕ → ℤ
-action_instant p row slot = early_instant p row (action_point_of p slot)
 
 -- how many microticks later than expected a frame comes (section 8.5): those from the start of the cycle to its arrival,
 -- rounded down, less the compensation of the delay, less the position of the action point

@@ -5,9 +5,9 @@ use Rattle.std.specs.Option.{option_map_or}
 use Rattle.fr_base.specs.declared.channel.Channel.{Channel}
 use Rattle.fr_frame.specs.declared.header.Header.{Header}
 use Rattle.fr_frame.specs.Reading.{frame_of}
-use Rattle.fr_params.specs.Values.{Values, amount}
-use Rattle.fr_params.specs.Questions.{node_of}
-use Rattle.fr_params.specs.declared.names.ParamName.TheVariants as name
+use Rattle.fr_cluster.specs.Values.{Values, amount}
+use Rattle.fr_cluster.specs.Questions.{node_of}
+use Rattle.fr_cluster.specs.declared.names.ParamName.TheVariants as name
 use Rattle.fr_time.specs.Cycles.{cycle_count}
 use Rattle.fr_time.specs.declared.senders.Sending.{Sending}
 use Rattle.fr_time.specs.declared.senders.Kind.{Kind}

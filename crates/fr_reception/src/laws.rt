@@ -3,17 +3,17 @@ ghost use Rattle.fr_base.specs.declared.channel.Channel.{Channel};
 ghost use Rattle.fr_base.specs.declared.node_row.NodeRow.{NodeRow};
 ghost use Rattle.fr_frame.specs.Frame.{IsFrame, IsFrameWith};
 ghost use Rattle.fr_frame.specs.declared.header.Header.{Header};
-ghost use Rattle.fr_params.specs.Values.{Values, amount};
-ghost use Rattle.fr_params.specs.Sane.{IsSane};
-ghost use Rattle.fr_params.specs.declared.names.ParamName.TheVariants as name;
-ghost use Rattle.fr_time.specs.Instant.{instant_of};
+ghost use Rattle.fr_cluster.specs.Values.{Values, amount};
+ghost use Rattle.fr_cluster.specs.Sane.{IsSane};
+ghost use Rattle.fr_cluster.specs.declared.names.ParamName.TheVariants as name;
+ghost use Rattle.fr_time.specs.Instant.{early_instant, instant_of};
 ghost use Rattle.fr_time.specs.Position.{grid_for};
 ghost use Rattle.fr_time.specs.Senders.{sender_of};
 ghost use Rattle.fr_time.specs.Slots.{slot_end_of};
 ghost use Rattle.fr_time.specs.declared.senders.Sending.{Sending};
 ghost use Rattle.fr_reception.specs.declared.heard.Heard.{Heard};
 ghost use Rattle.fr_reception.specs.Answers.{IsAnswer, answer_of};
-ghost use Rattle.fr_reception.specs.Offers.{Offer, early_instant};
+ghost use Rattle.fr_reception.specs.Offers.{Offer};
 ghost use Rattle.fr_reception.specs.Regular.{carried_crc, payload_bytes, regular_frame, regular_header, regular_payload};
 
 /// A law: the function of an offer gives an answer, where the offer is made of bytes.

@@ -10,7 +10,7 @@ use Rattle.csv.specs.declared.parser.Action.{Action}
 use Rattle.csv.specs.declared.parser.Action.TheVariants as act
 use Rattle.csv.specs.declared.parser.Terminator.TheVariants as term
 use Rattle.csv.specs.declared.reader.Reader.{Reader}
-use Rattle.fr_records.specs.Records.{Record, records_of}
+use Rattle.fr_records.specs.Records.{FileRecord, records_of}
 use Rattle.fr_records.specs.Reader.{rest_of, left_by, IsReading}
 
 -- a step that ends a record leaves a state between records
@@ -98,7 +98,7 @@ records_from-fuel (suc n) (suc m) s text b h g = by (next_record default_config 
     by (Some p) e more =
         let k = next-shrinks s [] [] text p e in
         let less : length p.2 < length text = k.less b in
-        rw e (ap (λ (rs : List Record). p.0 ∷ rs) (more p.1 p.2 k.between (omega arith) (omega arith)))
+        rw e (ap (λ (rs : List FileRecord). p.0 ∷ rs) (more p.1 p.2 k.between (omega arith) (omega arith)))
 
 rest_of-step : (s : State) (text : List ℕ) → rest_of s text ≡ records_next (records_from default_config (length text)) (next_record default_config s [] [] text)
 unfolding rest_of records_from
@@ -111,10 +111,10 @@ unfolding rest_of
 rest-more s text p b e =
     let k = next-shrinks s [] [] text p e in
     let less : length p.2 < length text = k.less b in
-    rest_of-step s text ∙ rw e (ap (λ (rs : List Record). p.0 ∷ rs) (records_from-fuel (length text) (length p.2 + 1) p.1 p.2 k.between (omega arith) (omega arith)))
+    rest_of-step s text ∙ rw e (ap (λ (rs : List FileRecord). p.0 ∷ rs) (records_from-fuel (length text) (length p.2 + 1) p.1 p.2 k.between (omega arith) (omega arith)))
 
 -- the same, with the parts of what was read by name
-rest-read : (s t : State) (text rest : List ℕ) (p : Read) (fields : Record) → ends_at_end s ≡ false → next_record default_config s [] [] text ≡ Some p
+rest-read : (s t : State) (text rest : List ℕ) (p : Read) (fields : FileRecord) → ends_at_end s ≡ false → next_record default_config s [] [] text ≡ Some p
     → fields ≡ p.0 → p.1 ≡ t → p.2 ≡ rest → rest_of s text ≡ fields ∷ rest_of t rest
 rest-read s t text rest p fields b e f g h = rest-more s text p b e ∙ rw (f, ← g, ← h) refl
 
@@ -172,11 +172,11 @@ unfolding left_by
 left_by-told done s source text d e = rw (d, e) refl
 
 -- what a read that found a record leaves
-pub record Found {R : Type 0} (rem : R → Option (List ℕ)) (a b : Reader R) (fields : Record) : Type 0 where
+pub record Found {R : Type 0} (rem : R → Option (List ℕ)) (a b : Reader R) (fields : FileRecord) : Type 0 where
   pub left : (done : Bool) → done ≡ false → left_by done (reader_state a) (source_of rem a) ≡ fields ∷ left_by done (reader_state b) (source_of rem b)
   pub reading : IsReading rem b
 
-pub read-found : {R : Type 0} (rem : R → Option (List ℕ)) (a b : Reader R) (fields : Record) → IsReading rem a → ReadRecord rem a b true fields
+pub read-found : {R : Type 0} (rem : R → Option (List ℕ)) (a b : Reader R) (fields : FileRecord) → IsReading rem a → ReadRecord rem a b true fields
     → has_failed b ≡ has_failed a → is_flexible b ≡ is_flexible a → ReadsOn a b → Found rem a b fields
 unfolding Reached
 read-found rem a b fields h r goes flexible on =
@@ -188,7 +188,7 @@ read-found rem a b fields h r goes flexible on =
       left = λ done d.
           left_by-told done (reader_state a) (source_of rem a) h.told.0 d h.told.1
           ∙ rest-read (reader_state a) (reader_state b) h.told.0 g.0 p fields h.between g.2.1 g.2.2 g.2.3.0 g.2.3.1
-          ∙ ap (λ (rs : List Record). fields ∷ rs) (sym (left_by-told done (reader_state b) (source_of rem b) g.0 d g.1));
+          ∙ ap (λ (rs : List FileRecord). fields ∷ rs) (sym (left_by-told done (reader_state b) (source_of rem b) g.0 d g.1));
       reading = record {
         going = goes ∙ h.going;
         commas = on.0 ∙ h.commas;
@@ -201,7 +201,7 @@ read-found rem a b fields h r goes flexible on =
     }
 
 -- what a read that found none says
-pub read-none : {R : Type 0} (rem : R → Option (List ℕ)) (a b : Reader R) (fields : Record) → IsReading rem a → ReadRecord rem a b false fields
+pub read-none : {R : Type 0} (rem : R → Option (List ℕ)) (a b : Reader R) (fields : FileRecord) → IsReading rem a → ReadRecord rem a b false fields
     → (done : Bool) → done ≡ false → left_by done (reader_state a) (source_of rem a) ≡ []
 read-none rem a b fields h r done d =
     left_by-told done (reader_state a) (source_of rem a) h.told.0 d h.told.1

@@ -1,2 +1,5 @@
 pub mod Cuts
 pub mod Left
+pub mod LeastReasons
+pub mod FormFacts
+pub mod Lookups

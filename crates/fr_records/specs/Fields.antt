@@ -1,6 +1,5 @@
 -- What the fields of a record say.
-use Rattle.std.specs.Prelude.{ℕ, ℤ, pos, negsuc, List, Option, Some, None, Result, Ok, Err, codes, nat_lt, ◌||◌, if◌then◌else◌}
-use Rattle.std.specs.Str.{bytes_eq}
+use Rattle.std.specs.Prelude.{ℕ, ℤ, pos, negsuc, Bool, true, false, ◌==◌, List, [], ◌∷◌, length, slice_index_or, Option, Some, None, Result, Ok, Err, nat_lt, ◌||◌, if◌then◌else◌}
 use Rattle.fr_base.specs.Number.{number_of}
 use Rattle.fr_base.specs.declared.numbers.NumberFault.{NumberFault}
 use Rattle.fr_base.specs.declared.numbers.NumberFault.TheVariants as fault
@@ -8,6 +7,7 @@ use Rattle.fr_base.specs.declared.reason.Reason.{Reason}
 use Rattle.fr_base.specs.declared.reason.Reason.TheVariants as reason
 use Rattle.fr_base.specs.declared.channel.Channel.{Channel}
 use Rattle.fr_base.specs.declared.channel.Channel.TheVariants as channel
+use Rattle.fr_records.specs.Records.{FileRecord}
 
 -- a number that is not negative, where it lies from low to high, and else why there is none
 abbrev pub natural_within : ℕ → ℕ → Option ℤ → Result ℕ NumberFault
@@ -32,6 +32,33 @@ abbrev pub reason_of : NumberFault → Reason
 reason_of fault.NotDigits = reason.NotNumber
 reason_of fault.OutOfRange = reason.OutOfRange
 
--- the channel that a field names, if it does
-abbrev pub channel_of : List ℕ → Option Channel
-channel_of text = if bytes_eq text (codes "A") then Some channel.A else if bytes_eq text (codes "B") then Some channel.B else None
+-- whether a field is empty
+abbrev pub is_blank : List ℕ → Bool
+is_blank text = length text == 0
+
+-- the reason of a number's fault, or what is made of the number
+abbrev pub or_reason : {A B : Type 0} → (A → Result B Reason) → Result A NumberFault → Result B Reason
+or_reason use_of (Ok a) = use_of a
+or_reason use_of (Err fault) = Err (reason_of fault)
+
+-- the field of a record at a place
+abbrev pub field_of : FileRecord → ℕ → List ℕ
+field_of fields k = slice_index_or fields k []
+
+-- whether a field names this channel
+abbrev pub is_channel : Channel → Option Channel → Bool
+is_channel ch None = false
+is_channel channel.A (Some channel.A) = true
+is_channel channel.A (Some channel.B) = false
+is_channel channel.B (Some channel.A) = false
+is_channel channel.B (Some channel.B) = true
+
+-- an option, or another where it has none
+abbrev pub or_else : {A : Type 0} → Option A → Option A → Option A
+or_else (Some a) other = Some a
+or_else None other = other
+
+-- what the first record gives that gives something
+unfoldable pub looked_up : {A : Type 0} → (FileRecord → Option A) → List FileRecord → Option A
+looked_up what [] = None
+looked_up what (r ∷ rest) = or_else (what r) (looked_up what rest)

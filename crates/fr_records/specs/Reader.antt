@@ -5,14 +5,14 @@ use Rattle.csv.specs.Reading.{records_from, default_config, source_of, has_faile
 use Rattle.csv.specs.declared.parser.State.{State}
 use Rattle.csv.specs.declared.reader.Reader.{Reader}
 use Rattle.csv.specs.declared.reader.Trim.TheVariants as trim
-use Rattle.fr_records.specs.Records.{Record}
+use Rattle.fr_records.specs.Records.{FileRecord}
 
 -- the records of a text from a state
-unfoldable pub rest_of : State → List ℕ → List Record
+unfoldable pub rest_of : State → List ℕ → List FileRecord
 rest_of s text = records_from default_config (length text + 1) s text
 
 -- the records that are left: those of the bytes that are left, and none once the end or a failure was met
-unfoldable pub left_by : Bool → State → Option (List ℕ) → List Record
+unfoldable pub left_by : Bool → State → Option (List ℕ) → List FileRecord
 left_by true s source = []
 left_by false s None = []
 left_by false s (Some text) = rest_of s text

@@ -1,9 +1,9 @@
 ghost use Rattle.std.specs.Prelude.{◌≡◌, ◌<◌, ◌≤◌, ◌^◌, [], length, slice_index_or, IfOk};
 ghost use Rattle.csv.specs.Records.{fields_of};
-ghost use Rattle.fr_records.specs.Fields.{both_of, channel_of, natural_of, reason_of};
+ghost use Rattle.fr_records.specs.Fields.{both_of, natural_of, reason_of};
 
 use csv::ByteRecord;
-use fr_base::{Channel, NumberFault, Reason, number};
+use fr_base::{NumberFault, Reason, number};
 
 /// The bytes of one field of a record, by its place from 0.
 pub fn field(row: &ByteRecord, place: usize) -> &[u8]
@@ -50,18 +50,5 @@ pub fn reason_of(fault: NumberFault) -> Reason
     match fault {
         NumberFault::NotDigits => Reason::NotNumber,
         NumberFault::OutOfRange => Reason::OutOfRange,
-    }
-}
-
-/// The channel that a field names, `A` or `B`; None for every other field.
-pub fn channel_of(text: &[u8]) -> Option<Channel>
-    ensures { result ≡ channel_of text.now }
-{
-    if text == b"A".as_slice() {
-        Some(Channel::A)
-    } else if text == b"B".as_slice() {
-        Some(Channel::B)
-    } else {
-        None
     }
 }

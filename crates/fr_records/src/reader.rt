@@ -50,7 +50,9 @@ impl<'a> Records<'a> {
     /// the reader underneath cannot come over bytes in memory, but no clause of that crate says so: it
     /// would be answered as want of memory.
     pub fn next(&mut self, row: &mut ByteRecord) -> Result<bool, AllocError>
-        ensures reads { IfOk result (λ found. MatchBool found (self.old ≡ fields_of row.new ∷ self.new) (self.old ≡ [])) }
+        ensures reads { IfOk result (λ found. MatchBool found
+            (self.old ≡ fields_of row.new ∷ self.new)
+            (self.old ≡ [])) }
         ensures ends { IfOk result (λ found. found ≡ false → self.new ≡ []) }
         ensures stops { OnErr result (self.new ≡ []) }
     {

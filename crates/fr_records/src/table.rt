@@ -1,8 +1,8 @@
-ghost use Rattle.std.specs.Prelude.{◌≡◌, List, ℕ, [], ◌∷◌, ◌++◌, Option, None, IfOk, IfErr, OnOk};
+ghost use Rattle.std.specs.Prelude.{◌≡◌, List, [], Option, IfErr, OnOk};
 ghost use Rattle.csv.specs.Records.{fields_of};
 ghost use Rattle.fr_base.specs.declared.reason.Reason.{Reason as Why};
-ghost use Rattle.fr_records.specs.Records.{Record, records_of};
-ghost use Rattle.fr_records.specs.Refusal.{NoneRefused};
+ghost use Rattle.fr_records.specs.Records.{FileRecord, records_of};
+ghost use Rattle.fr_records.specs.Takes.{IsFilled, TakesRecord};
 ghost use Rattle.fr_records.specs.Tells.{TellsRow};
 
 use crate::reader::Records;
@@ -21,27 +21,24 @@ pub enum RowFault {
 
 /// A table that takes the records of a file one by one, or says why it does not take one.
 pub trait Table {
-    /// Why a record is refused behind the records before it. What else that depends on, such as the
+    /// Why a record is refused after the records before it. What else that depends on, such as the
     /// parameters of the cluster, the table holds.
-    ghost reason: { Self → List Record → Record → Option Why };
+    ghost reason: { Self → List FileRecord → FileRecord → Option Why };
 
     /// What the table holds of the records that it took: a relation, since a table need not keep them.
-    ghost holds: { Self → List Record → Type 0 };
+    ghost holds: { Self → List FileRecord → Type 0 };
 
     /// Takes one more record, or answers why it is refused. `AllocError` where memory ran out.
     fn add(&mut self, row: &ByteRecord) -> Result<Option<Reason>, AllocError>
         ensures same { reason self.new ≡ reason self.old }
-        ensures why { (done : List Record) → holds self.old done → IfOk result (λ why. why ≡ reason self.old done (fields_of row.now)) }
-        ensures adds { (done : List Record) → holds self.old done → IfOk result (λ why. why ≡ None → holds self.new (done ++ fields_of row.now ∷ [])) };
+        ensures takes { TakesRecord holds (reason self.old) self.old self.new (fields_of row.now) result };
 }
 
 /// Fills a table with the records of a file. `Row` names the first record that is refused and why. After an
 /// error nothing is said of what the table holds.
 pub fn read_all<T: Table>(alloc: Global, bytes: &[u8], table: &mut T) -> Result<(), RowFault>
     requires { T.holds table.old [] }
-    ensures accepted { OnOk result (NoneRefused (T.reason table.old) (records_of bytes.now)) }
-    ensures stands { OnOk result (T.holds table.new (records_of bytes.now)) }
-    ensures same { OnOk result (T.reason table.new ≡ T.reason table.old) }
+    ensures filled { OnOk result (IsFilled T.holds T.reason table.old table.new bytes.now) }
     ensures refused { IfErr result (λ fault. TellsRow (T.reason table.old) (records_of bytes.now) fault) }
 {
     let mut records = Records::new(alloc, bytes);

@@ -1,169 +1,39 @@
--- A report that held a history holds it and one more cycle.
-use Rattle.std.proofs.Common.{◌≡◌, ℕ, zero, suc, ◌+◌, ◌/◌, ◌%◌, ◌<◌, ◌≤◌, Bool, true, false, ◌&&◌, List, [], ◌∷◌, ◌++◌, length, Option, Some, None, refl, sym, ap, ◌∙◌, arith, add-one}
-use Rattle.std.specs.Prelude.{IfNone, IfSome, cond, find, if◌then◌else◌}
-use Rattle.std.specs.List.{range_with_len, sum_by}
-use Rattle.std.specs.Option.{option_or}
-use Rattle.std.proofs.lemmas.List.Folds.{find-append}
+-- A report that held a history holds it and one more cycle, and tells of it.
+use Rattle.std.proofs.Common.{◌≡◌, ℕ, pos, arith, ◌∷◌, [], Option, Some, None, refl, sym, ◌∙◌}
+use Rattle.std.proofs.lemmas.Int.{ints}
+use Rattle.fr_base.specs.Counts.{no_counts}
 use Rattle.fr_base.specs.declared.cycle_row.CycleRow.{CycleRow}
-use Rattle.fr_base.specs.declared.node_row.NodeRow.{NodeRow}
-use Rattle.fr_params.specs.Values.{Values, amount}
-use Rattle.fr_params.specs.declared.names.ParamName.TheVariants as name
-use Rattle.fr_time.specs.Cycles.{double_cycle_of, even_cycle, is_odd, odd_cycle}
-use Rattle.fr_bound.specs.Sync.{is_in_sync}
-use Rattle.fr_history.specs.History.{History, Record, record_at}
+use Rattle.fr_cluster.specs.Values.{Values}
+use Rattle.fr_skew.specs.Gauge.{fresh_gauge}
+use Rattle.fr_skew.specs.declared.peak.Peak.{Peak}
+use Rattle.fr_history.specs.History.{History}
 use Rattle.fr_history.specs.Recorded.{recorded}
-use Rattle.fr_history.specs.Skew.{IsGreatestSkew, Place, greatest_skew_of, greatest_within}
-use Rattle.fr_history.specs.Sync.{IsFirstInSync, IsInSyncAt, first_sync_of, is_sync_at, is_sync_by}
-use Rattle.fr_history.proofs.Greatest.{greatest_is_found, record_behind, record_here}
+use Rattle.fr_history.specs.Skew.{IsGreatestSkew}
+use Rattle.fr_history.proofs.Gauged.{gauge_holds_more, gauge_holds_none}
+use Rattle.fr_history.proofs.Greatest.{greatest_is_found}
 use Rattle.fr_history.proofs.Synced.{first_sync_is, never_in_sync}
-use Rattle.fr_report.specs.Held.{Holds, ReportView, last_even_of, last_odd_of, next_sync}
-use Rattle.fr_report.specs.Sums.{cuts_of, total_of, xor_of}
-use Rattle.fr_report.specs.Totals.{sum_of}
+use Rattle.fr_report.specs.Held.{IsGreatestTold, IsSyncTold, ReportHolds, ReportView, last_odd_of, with_cycle}
+use Rattle.fr_report.specs.Sums.{cuts_of, totals_of}
 
--- ---- the first of a range
+pub holds_none : (p : Values) → ReportHolds p (record { gauge = fresh_gauge p; odd = []; sums = no_counts; cut = 0 }) []
+unfolding last_odd_of cuts_of totals_of
+holds_none p = record { gauge = gauge_holds_none p; odd = refl; sums = refl; cut = refl }
 
-find-same : (f g : ℕ → Bool) (from count : ℕ) → ((k : ℕ) → from ≤ k → k < from + count → f k ≡ g k) → find f (range_with_len from count) ≡ find g (range_with_len from count)
-find-same f g from zero same = refl
-find-same f g from (suc count) same =
-    rw (same from (omega arith) (omega arith))
-    (ap (λ (rest : Option ℕ). cond (g from) (Some from) rest) (find-same f g (from + 1) count (λ k low high. same k (omega arith) (omega arith))))
-
-range-more : (from count : ℕ) → range_with_len from (count + 1) ≡ range_with_len from count ++ (from + count) ∷ []
-range-more from zero = let same : from + 0 ≡ from = omega arith in rw same refl
-range-more from (suc count) =
-    let next : suc count + 1 ≡ suc (count + 1) = omega arith in
-    let same : from + 1 + count ≡ from + suc count = omega arith in
-    ap (λ (n : ℕ). range_with_len from n) next ∙ ap (λ (rest : List ℕ). from ∷ rest) (range-more (from + 1) count ∙ ap (λ (last : ℕ). range_with_len (from + 1) count ++ last ∷ []) same)
-
-option_or-none : (o : Option ℕ) → option_or o None ≡ o
-option_or-none None = refl
-option_or-none (Some x) = refl
-
--- ---- the double cycles of a history and of one more cycle
-
-pub is_odd-suc : (n : ℕ) → is_odd (suc n) ≡ true → is_odd n ≡ false
-is_odd-suc n odd = grind arith
-
--- the even cycle before an odd one is the latest
-latest_even : (h : History) → is_odd (length h) ≡ true → (n : ℕ) → suc n ≡ length h → (e : Record) × ((record_at h n ≡ Some e) × (e.rows ≡ last_even_of h))
-unfolding last_even_of
-latest_even [] odd n last = absurd (omega arith)
-latest_even (e ∷ h) odd n last =
-    let even : is_odd (length h) ≡ false = is_odd-suc (length h) odd in
-    let here : n ≡ length h = omega (arith, last) in
-    (e, (ap (λ (k : ℕ). record_at (e ∷ h) k) here ∙ record_here e h, rw even refl))
-
-same_before : (p : Values) (r : Record) (h : History) (k : ℕ) → k < length h / 2 → is_sync_at p (r ∷ h) k ≡ is_sync_at p h k
-same_before p r h k below =
-    let even : record_at (r ∷ h) (even_cycle k) ≡ record_at h (even_cycle k) = record_behind r h (even_cycle k) (omega arith) in
-    let odd : record_at (r ∷ h) (odd_cycle k) ≡ record_at h (odd_cycle k) = record_behind r h (odd_cycle k) (omega arith) in
-    ap (λ (o : Option Record). is_sync_by p o (record_at (r ∷ h) (odd_cycle k))) even ∙ ap (λ (o : Option Record). is_sync_by p (record_at h (even_cycle k)) o) odd
-
-same_found : (p : Values) (r : Record) (h : History) → find (is_sync_at p (r ∷ h)) (range_with_len 0 (length h / 2)) ≡ first_sync_of p h
-unfolding first_sync_of
-same_found p r h = find-same (is_sync_at p (r ∷ h)) (is_sync_at p h) 0 (length h / 2) (λ k low high. same_before p r h k (omega arith))
-
-sync_here : (p : Values) (r : Record) (h : History) → is_odd (length h) ≡ true → is_sync_at p (r ∷ h) (length h / 2) ≡ is_in_sync p (last_even_of h) r.rows
-sync_here p r h odd =
-    let parity : length h % 2 ≡ 1 = grind arith in
-    let k : ℕ = length h / 2 in
-    let last : suc (even_cycle k) ≡ length h = omega (arith, parity) in
-    let now : odd_cycle k ≡ length h = omega (arith, parity) in
-    let even = latest_even h odd (even_cycle k) last in
-    let one : record_at (r ∷ h) (even_cycle k) ≡ Some even.0 = record_behind r h (even_cycle k) (omega (arith, last)) ∙ even.1.0 in
-    let other : record_at (r ∷ h) (odd_cycle k) ≡ Some r = ap (λ (n : ℕ). record_at (r ∷ h) n) now ∙ record_here r h in
-    ap (λ (o : Option Record). is_sync_by p o (record_at (r ∷ h) (odd_cycle k))) one
-    ∙ ap (λ (o : Option Record). is_sync_by p (Some even.0) o) other
-    ∙ ap (λ (rows : List NodeRow). is_in_sync p rows r.rows) even.1.1
-
-first_sync-next_by : (p : Values) (r : Record) (h : History) (odd : Bool) → is_odd (length h) ≡ odd → first_sync_of p (r ∷ h) ≡ next_sync p (length h) (last_even_of h) r.rows (first_sync_of p h)
-unfolding first_sync_of
-first_sync-next_by p r h false even =
-    let parity : (length h % 2 ≡ 1) → ⊥ = λ one. absurd (grind arith) in
-    let same : suc (length h) / 2 ≡ length h / 2 = omega (arith, parity) in
-    ap (λ (n : ℕ). find (is_sync_at p (r ∷ h)) (range_with_len 0 n)) same ∙ same_found p r h ∙ sym (rw even (option_or-none (first_sync_of p h)))
-first_sync-next_by p r h true odd =
-    let parity : length h % 2 ≡ 1 = grind arith in
-    let more : suc (length h) / 2 ≡ length h / 2 + 1 = omega (arith, parity) in
-    ap (λ (n : ℕ). find (is_sync_at p (r ∷ h)) (range_with_len 0 n)) more
-    ∙ ap (find (is_sync_at p (r ∷ h))) (range-more 0 (length h / 2))
-    ∙ find-append (is_sync_at p (r ∷ h)) (range_with_len 0 (length h / 2)) ((0 + length h / 2) ∷ [])
-    ∙ ap (λ (o : Option ℕ). option_or o (find (is_sync_at p (r ∷ h)) ((0 + length h / 2) ∷ []))) (same_found p r h)
-    ∙ ap (option_or (first_sync_of p h)) last
-  where
-    last : find (is_sync_at p (r ∷ h)) ((0 + length h / 2) ∷ []) ≡ (if is_odd (length h) && is_in_sync p (last_even_of h) r.rows then Some (double_cycle_of (length h)) else None)
-    last =
-        let here : 0 + length h / 2 ≡ length h / 2 = omega arith in
-        rw (here, odd, sync_here p r h odd) refl
-
-pub first_sync-next : (p : Values) (r : Record) (h : History) → first_sync_of p (r ∷ h) ≡ next_sync p (length h) (last_even_of h) r.rows (first_sync_of p h)
-first_sync-next p r h = first_sync-next_by p r h (is_odd (length h)) refl
-
--- ---- all that a report holds
-
-abbrev pub after_row : Values → ReportView → CycleRow → ReportView
-after_row p report row = record {
-  added = report.added + 1;
-  greatest = greatest_within p row.cycle row.rows report.greatest (amount p name.gMacroPerCycle);
-  synced = next_sync p row.cycle report.even row.rows report.synced;
-  even = if is_odd row.cycle then report.even else row.rows;
-  odd = if is_odd row.cycle then row.rows else report.odd;
-  sums = sum_of report.sums row.counts;
-  cut = report.cut + sum_by (λ node. node.cut) row.rows;
+pub holds_more : (p : Values) (report : ReportView) (row : CycleRow) (h : History) → row.cycle ≡ report.gauge.added → ReportHolds p report h → ReportHolds p (with_cycle report row) (recorded row ∷ h)
+unfolding last_odd_of cuts_of totals_of
+holds_more p report row h next held = record {
+  gauge = gauge_holds_more p report.gauge h (recorded row) held.gauge;
+  odd = rw (next ∙ held.gauge.counted, held.odd) refl;
+  sums = rw held.sums refl;
+  cut = rw held.cut refl;
 }
 
-pub holds_none : (p : Values) → Holds p (record {
-  added = 0;
-  greatest = None;
-  synced = None;
-  even = [];
-  odd = [];
-  sums = record { sent_a = 0; sent_b = 0; xor_a = 0; xor_b = 0; stored = 0; outside = 0; damaged = 0; wrong_id = 0; wrong_cycle = 0; wrong_length = 0; plain = 0 };
-  cut = 0;
-}) []
-unfolding greatest_skew_of first_sync_of last_even_of last_odd_of cuts_of total_of xor_of
-holds_none p = record { counted = refl; greatest = refl; synced = refl; even = refl; odd = refl; sums = refl; cut = refl }
+pub tells_greatest : (p : Values) (report : ReportView) (h : History) (peak : Peak) → report.gauge.greatest ≡ Some peak → ReportHolds p report h → IsGreatestSkew p h peak.skew peak.cycle peak.macrotick
+tells_greatest p report h peak is held = greatest_is_found p h peak (sym held.gauge.greatest ∙ is)
 
-pub holds_more : (p : Values) (report : ReportView) (row : CycleRow) (h : History) → row.cycle ≡ report.added → Holds p report h → Holds p (after_row p report row) (recorded row ∷ h)
-unfolding greatest_skew_of last_even_of last_odd_of cuts_of total_of xor_of
-holds_more p report row h next held =
-    let cycle : row.cycle ≡ length h = next ∙ held.counted in
-    record {
-      counted = rw held.counted (add-one (length h));
-      greatest = rw (cycle, held.greatest) refl;
-      synced = rw (cycle, held.even, held.synced) (sym (first_sync-next p (recorded row) h));
-      even = rw (cycle, held.even) refl;
-      odd = rw (cycle, held.odd) refl;
-      sums = rw held.sums refl;
-      cut = rw held.cut refl;
-    }
+pub tells_sync : (report : ReportView) (synced : Option ℕ) → synced ≡ report.gauge.synced → IsSyncTold report synced
+tells_sync report None is = λ p h double held. never_in_sync p h (sym held.gauge.synced ∙ sym is) double
+tells_sync report (Some double) is = λ p h held. first_sync_is p h double (sym held.gauge.synced ∙ sym is)
 
-pub holds_since : (p : Values) (report next : ReportView) (row : CycleRow) (h : History) → row.cycle ≡ report.added →
-    next.added ≡ (after_row p report row).added → next.greatest ≡ (after_row p report row).greatest → next.synced ≡ (after_row p report row).synced →
-    next.even ≡ (after_row p report row).even → next.odd ≡ (after_row p report row).odd →
-    next.sums ≡ (after_row p report row).sums → next.cut ≡ (after_row p report row).cut →
-    Holds p report h → Holds p next (recorded row ∷ h)
-holds_since p report next row h cycle added greatest synced even odd sums cut held =
-    let after : Holds p (after_row p report row) (recorded row ∷ h) = holds_more p report row h cycle held in
-    record {
-      counted = added ∙ after.counted;
-      greatest = greatest ∙ after.greatest;
-      synced = synced ∙ after.synced;
-      even = even ∙ after.even;
-      odd = odd ∙ after.odd;
-      sums = sums ∙ after.sums;
-      cut = cut ∙ after.cut;
-    }
-
--- ---- what a report tells of a history
-
-pub tells_greatest : (p : Values) (report : ReportView) (h : History) (place : Place) → report.greatest ≡ Some place → Holds p report h → IsGreatestSkew p h place.skew place.cycle place.macrotick
-tells_greatest p report h place is held = greatest_is_found p h place (sym held.greatest ∙ is)
-
-pub tells_first : (report : ReportView) (synced : Option ℕ) → synced ≡ report.synced → IfSome synced (λ double. (p : Values) (h : History) → Holds p report h → IsFirstInSync p h double)
-tells_first report None is = tt
-tells_first report (Some double) is = λ p h held. first_sync_is p h double (sym held.synced ∙ sym is)
-
-pub tells_never : (report : ReportView) (synced : Option ℕ) → synced ≡ report.synced → IfNone synced ((p : Values) (h : History) (double : ℕ) → Holds p report h → IsInSyncAt p h double → ⊥)
-tells_never report None is = λ p h double held. never_in_sync p h (sym held.synced ∙ sym is) double
-tells_never report (Some double) is = tt
+pub greatest_is_told : (report : ReportView) (peak : Peak) → report.gauge.greatest ≡ Some peak → IsGreatestTold report peak.skew peak.cycle (pos peak.macrotick)
+greatest_is_told report peak is = record { from = omega (arith, ints); value = is; held = λ p h held. tells_greatest p report h peak is held }

@@ -1,11 +1,5 @@
-pub mod Lines
-pub mod Skews
-pub mod Holding
-pub mod Ascending
-pub mod Crcs
-pub mod Putting
-pub mod KeySlots
-pub mod ClockLines
-pub mod Telling
-pub mod SameNodes
 pub mod Adding
+pub mod Ended
+pub mod Holding
+pub mod KeySlots
+pub mod Telling

@@ -1,62 +1,79 @@
 -- What a report keeps of a history, and when it holds one.
-use Rattle.std.specs.Prelude.{◌≡◌, ℕ, ◌*◌, ◌<◌, ◌≤◌, ◌&&◌, List, [], ◌∷◌, length, All, Option, Some, None, IsSome, if◌then◌else◌}
-use Rattle.std.specs.Option.{option_or}
+use Rattle.std.specs.Prelude.{◌≡◌, ℕ, ◌*◌, ◌+◌, ◌<◌, ◌≤◌, ℤ, pos, ◌≤ℤ◌, nat_abs, List, [], ◌∷◌, length, All, Option, Some, None, if◌then◌else◌}
+use Rattle.fr_base.specs.Counts.{AreAtMost, sum_of}
 use Rattle.fr_base.specs.declared.cycle_row.Counts.{Counts}
+use Rattle.fr_base.specs.declared.cycle_row.CycleRow.{CycleRow}
 use Rattle.fr_base.specs.declared.node_row.NodeRow.{NodeRow}
-use Rattle.fr_params.specs.Values.{Values}
-use Rattle.fr_time.specs.Cycles.{double_cycle_of, is_odd}
-use Rattle.fr_bound.specs.Ranges.{IsTimedRow}
-use Rattle.fr_bound.specs.Sync.{is_in_sync}
+use Rattle.fr_cluster.specs.Values.{Values}
+use Rattle.fr_time.specs.Cycles.{is_odd}
+use Rattle.fr_time.specs.Placed.{IsPlacedRow}
+use Rattle.fr_skew.specs.Gauge.{GaugeView, gauged}
+use Rattle.fr_history.specs.Gauged.{GaugeHolds}
 use Rattle.fr_history.specs.History.{History}
-use Rattle.fr_history.specs.Skew.{Place, greatest_skew_of}
-use Rattle.fr_history.specs.Sync.{first_sync_of}
-use Rattle.fr_world.specs.Limits.{AreAtMost}
-use Rattle.fr_report.specs.Sums.{cuts_of}
-use Rattle.fr_report.specs.Totals.{totals_of}
-use Rattle.fr_report.specs.declared.sweep.Peak.{Peak}
+use Rattle.fr_history.specs.Next.{history_of}
+use Rattle.fr_history.specs.Skew.{IsGreatestSkew}
+use Rattle.fr_history.specs.Sync.{IsFirstInSync, IsInSyncAt}
+use Rattle.fr_world.specs.World.{WorldView, setting_after}
+use Rattle.fr_report.specs.Sums.{cuts_in_rows, cuts_of, totals_of}
 
--- What contracts see of a report: how many cycles were added, the greatest skew and its first place, the first double
--- cycle in sync, the rows of the last even and of the last odd cycle, the sums of the counts, and how many terms were cut.
+-- What contracts see of a report: what is gathered of the clocks, the rows of the last odd cycle, the sums of the counts,
+-- and how many terms were cut.
 pub record ReportView : Type 0 where
-  pub added : ℕ
-  pub greatest : Option Place
-  pub synced : Option ℕ
-  pub even : List NodeRow
+  pub gauge : GaugeView
   pub odd : List NodeRow
   pub sums : Counts
   pub cut : ℕ
 
-abbrev pub place_of : Peak → Place
-place_of peak = record { skew = peak.skew; cycle = peak.cycle; macrotick = peak.macrotick }
-
--- the rows of the last even cycle of a history, and of the last odd one
-unfoldable pub last_even_of : History → List NodeRow
-last_even_of [] = []
-last_even_of (r ∷ h) = if is_odd (length h) then last_even_of h else r.rows
-
+-- the rows of the last odd cycle of a history
 unfoldable pub last_odd_of : History → List NodeRow
 last_odd_of [] = []
 last_odd_of (r ∷ h) = if is_odd (length h) then r.rows else last_odd_of h
 
--- A report holds a history: it tells of it what can be told without it.
-pub record Holds (p : Values) (report : ReportView) (h : History) : Type 0 where
-  pub counted : report.added ≡ length h
-  pub greatest : report.greatest ≡ greatest_skew_of p h
-  pub synced : report.synced ≡ first_sync_of p h
-  pub even : report.even ≡ last_even_of h
+-- a report of these parameters holds a history: it tells of it what can be told without it
+pub record ReportHolds (p : Values) (report : ReportView) (h : History) : Type 0 where
+  pub gauge : GaugeHolds p report.gauge h
   pub odd : report.odd ≡ last_odd_of h
   pub sums : report.sums ≡ totals_of h
   pub cut : report.cut ≡ cuts_of h
 
--- the first double cycle in sync, after one more cycle
-abbrev pub next_sync : Values → ℕ → List NodeRow → List NodeRow → Option ℕ → Option ℕ
-next_sync p cycle even rows synced =
-    option_or synced (if is_odd cycle && is_in_sync p even rows then Some (double_cycle_of cycle) else None)
+-- a report and the row of one more cycle
+abbrev pub with_cycle : ReportView → CycleRow → ReportView
+with_cycle report row = record {
+  gauge = gauged report.gauge row.rows;
+  odd = if is_odd row.cycle then row.rows else report.odd;
+  sums = sum_of report.sums row.counts;
+  cut = report.cut + cuts_in_rows row.rows;
+}
+
+-- a row of the next cycle, whose numbers are within limits
+pub record IsRowToAdd (report : ReportView) (row : CycleRow) : Type 0 where
+  pub next : row.cycle ≡ report.gauge.added
+  pub in_run : row.cycle < 200_000
+  pub placed : All (IsPlacedRow report.gauge.grid) row.rows
+  pub few : AreAtMost 1_000_000 row.counts
 
 -- the numbers of a report
 pub record IsReport (report : ReportView) : Type 0 where
-  pub few : report.added ≤ 200_000
-  pub begun : 0 < report.added → IsSome report.greatest
-  pub even_timed : All IsTimedRow report.even
-  pub counts : AreAtMost (1_000_000 * report.added) report.sums
-  pub cuts : report.cut ≤ 20_000 * report.added
+  pub counts : AreAtMost (1_000_000 * report.gauge.added) report.sums
+  pub cuts : report.cut ≤ 20_000 * report.gauge.added
+
+-- ---- what is told of a history that is held
+
+-- the history of the cycles that a world has run
+abbrev pub run_history : WorldView → History
+run_history w = history_of (setting_after w) w.cycles
+
+-- a report holds the history of a world
+abbrev pub IsReportOf : WorldView → ReportView → Type 0
+IsReportOf w report = ReportHolds w.params report (run_history w)
+
+-- the greatest skew that a report tells, and its first place: those of each history that it holds
+pub record IsGreatestTold (report : ReportView) (skew : ℤ) (cycle : ℕ) (macrotick : ℤ) : Type 0 where
+  pub from : pos 0 ≤ℤ macrotick
+  pub value : report.gauge.greatest ≡ Some (record { skew = skew; cycle = cycle; macrotick = nat_abs macrotick })
+  pub held : (p : Values) (h : History) → ReportHolds p report h → IsGreatestSkew p h skew cycle (nat_abs macrotick)
+
+-- and so the first double cycle in sync, or that there is none
+abbrev pub IsSyncTold : ReportView → Option ℕ → Type 0
+IsSyncTold report None = (p : Values) (h : History) (double : ℕ) → ReportHolds p report h → IsInSyncAt p h double → ⊥
+IsSyncTold report (Some double) = (p : Values) (h : History) → ReportHolds p report h → IsFirstInSync p h double

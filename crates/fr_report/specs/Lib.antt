@@ -1,13 +1,6 @@
-pub mod Sums
-pub mod After
-pub mod Words
-pub mod Covered
-pub mod Text
-pub mod Ended
-pub mod Instants
-pub mod Totals
-pub mod Held
-pub mod Puts
-pub mod Cluster
+-- what the public contract cites
 pub mod Clocks
+pub mod Held
+pub mod Sums
+pub mod Text
 pub mod Told

@@ -1,24 +1,20 @@
 -- Sums over a history.
-use Rattle.std.specs.Prelude.{ℕ, ◌+◌, [], ◌∷◌, bit_xor}
+use Rattle.std.specs.Prelude.{ℕ, ◌+◌, List, [], ◌∷◌}
 use Rattle.std.specs.List.{sum_by}
+use Rattle.fr_base.specs.Counts.{no_counts, sum_of}
 use Rattle.fr_base.specs.declared.cycle_row.Counts.{Counts}
-use Rattle.fr_history.specs.History.{History, Record}
+use Rattle.fr_base.specs.declared.node_row.NodeRow.{NodeRow}
+use Rattle.fr_history.specs.History.{History}
 
--- one of the counts, over all cycles
-unfoldable pub total_of : (Counts → ℕ) → History → ℕ
-total_of count [] = 0
-total_of count (r ∷ h) = total_of count h + count r.counts
+-- the counts of all cycles: the sums of numbers, and the sums without carry of frame CRCs
+unfoldable pub totals_of : History → Counts
+totals_of [] = no_counts
+totals_of (r ∷ h) = sum_of (totals_of h) r.counts
 
--- one of the sums of frame CRCs, without carry over all cycles
-unfoldable pub xor_of : (Counts → ℕ) → History → ℕ
-xor_of crcs [] = 0
-xor_of crcs (r ∷ h) = bit_xor (xor_of crcs h) (crcs r.counts)
+-- how many correction terms were cut in a cycle, and in all
+abbrev pub cuts_in_rows : List NodeRow → ℕ
+cuts_in_rows rows = sum_by (λ row. row.cut) rows
 
--- how many correction terms were cut in a cycle
-abbrev pub cuts_of_record : Record → ℕ
-cuts_of_record r = sum_by (λ row. row.cut) r.rows
-
--- and over all cycles
 unfoldable pub cuts_of : History → ℕ
 cuts_of [] = 0
-cuts_of (r ∷ h) = cuts_of h + cuts_of_record r
+cuts_of (r ∷ h) = cuts_of h + cuts_in_rows r.rows

@@ -1,31 +1,34 @@
--- The report of a run as a program tells it: by the world, and by what the report keeps.
-use Rattle.std.specs.Prelude.{ℕ, List, ◌++◌, codes, Option}
-use Rattle.std.specs.Fmt.{decimal}
-use Rattle.fr_drift.specs.Questions.{doubles_of}
-use Rattle.fr_script.specs.declared.gap.Gap.{Gap}
-use Rattle.fr_world.specs.World.{WorldView}
-use Rattle.fr_report.specs.Clocks.{clock_in, clock_lines}
-use Rattle.fr_report.specs.Cluster.{cluster_words}
-use Rattle.fr_report.specs.Covered.{covered_text}
-use Rattle.fr_report.specs.Held.{ReportView}
-use Rattle.fr_report.specs.Text.{precision_text, sent_text, skew_line, sync_text}
-use Rattle.fr_report.specs.Totals.{heard_words}
-use Rattle.fr_report.specs.Words.{line}
+-- What is told of a run, as a value.
+use Rattle.std.specs.Prelude.{List, length, map, filter, Option}
+use Rattle.fr_bound.specs.Bounds.{precision_of}
+use Rattle.fr_cluster.specs.Constraints.{key_slots}
+use Rattle.fr_cluster.specs.declared.nodes.NodeSpec.{NodeSpec}
+use Rattle.fr_coverage.specs.declared.gap.Gap.{Gap}
+use Rattle.fr_history.specs.History.{History}
+use Rattle.fr_history.specs.Lawful.{row_nodes}
+use Rattle.fr_cluster.specs.Setting.{Setting}
+use Rattle.fr_history.specs.Skew.{greatest_skew_of}
+use Rattle.fr_history.specs.Sync.{first_sync_of}
+use Rattle.fr_report.specs.Clocks.{clock_after}
+use Rattle.fr_report.specs.Sums.{cuts_of, totals_of}
+use Rattle.fr_report.specs.declared.told.Told.{Told}
 
-abbrev pub told_cluster : WorldView → Option Gap → List ℕ
-told_cluster w gap =
-    line (cluster_words w.params w.script (doubles_of w.drift)) ++ (line (precision_text w.params) ++ line (covered_text gap))
+-- the arbitrary nodes
+abbrev pub arbitrary_nodes : Setting → List NodeSpec
+arbitrary_nodes x = filter (λ node. x.is_arbitrary node.id) x.params.nodes
 
-abbrev pub told_clocks : ReportView → List ℕ
-told_clocks report = line (sync_text report.synced) ++ skew_line report.greatest
-
-abbrev pub told_frames : ReportView → List ℕ
-told_frames report =
-    line (sent_text (codes "A") report.sums.sent_a report.sums.xor_a)
-    ++ (line (sent_text (codes "B") report.sums.sent_b report.sums.xor_b) ++ (line (heard_words report.sums) ++ line (codes "cut " ++ decimal report.cut)))
-
-abbrev pub told_nodes : WorldView → ReportView → List ℕ
-told_nodes w report = clock_lines report.odd (clock_in w) w.params.nodes
-
-unfoldable pub told_text : WorldView → Option Gap → ReportView → List ℕ
-told_text w gap report = told_cluster w gap ++ (told_clocks report ++ (told_frames report ++ told_nodes w report))
+-- what is told of a history in a setting, of a run with this first gap or none
+unfoldable pub told_of : Setting → Option Gap → History → Told
+told_of x gap h = record {
+  nodes = length x.params.nodes;
+  sync = length (key_slots x.params.nodes);
+  arbitrary = length (arbitrary_nodes x);
+  doubles = x.doubles;
+  precision = precision_of x.params;
+  gap = gap;
+  synced = first_sync_of x.params h;
+  greatest = greatest_skew_of x.params h;
+  sums = totals_of h;
+  cut = cuts_of h;
+  clocks = map (clock_after x h) (row_nodes x h);
+}

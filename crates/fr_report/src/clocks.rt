@@ -1,94 +1,102 @@
-ghost use Rattle.std.specs.Prelude.{◌≡◌, IsNone};
+ghost use Rattle.std.specs.Prelude.{◌≡◌, ◌<◌, ◌≤◌, ◌++◌, ◌∷◌, [], length, map, All, IsNone};
 ghost use Rattle.std.specs.Option.{option_copied};
 ghost use Rattle.fr_history.specs.History.{row_of};
-ghost use Rattle.fr_report.specs.After.{offset_by};
-ghost use Rattle.fr_report.specs.Clocks.{clock_in, clock_line, clock_lines, clock_of, clock_text};
-ghost use Rattle.fr_report.specs.Puts.{sunk, Puts};
-ghost use Rattle.fr_report.specs.Words.{line};
+ghost use Rattle.fr_report.specs.Clocks.{clock_in, offset_by};
 
-use crate::node_lines::node_line;
-use crate::writing::put_line;
-use fr_base::{NodeId, NodeRow, PutFault, RowList, Sink, State};
+use fr_base::{NodeId, NodeRow, State};
 use fr_node::Node;
-use fr_params::NodeList;
-use fr_world::World;
+use std::marker::Model;
 
-// What holds of a correct node in the cycle that comes next: its state, its start in ticks, and its rate term
-// in microticks.
+/// What holds of a correct node after the last cycle: its state, its start in ticks and its rate term in
+/// microticks for the cycle that comes next, and the offset term of the last odd cycle in microticks.
 #[derive(Clone, Copy, Debug, PartialEq, Eq)]
-pub(crate) struct Clock {
-    pub(crate) state: State,
-    pub(crate) start: i64,
-    pub(crate) rate: i32,
+pub struct Clock {
+    pub node: NodeId,
+    pub state: State,
+    pub start: i64,
+    pub rate: i32,
+    pub offset: i32,
 }
 
-/// Puts a line for each correct node of a world.
-pub(crate) fn put_nodes<O: Sink>(world: &World, odd: &RowList, out: &mut O) -> Result<(), PutFault>
-    ensures { Puts result (sunk (O.written out.old) (O.faults out.old)) (sunk (O.written out.new) (O.faults out.new)) (clock_lines odd.now (clock_in world.now) world.now.params.nodes) }
-{
-    put_clocks_of(&world.params().nodes, world, odd, out)
+// How many clocks there are at most: one for each node of a cluster.
+const CLOCK_ROOM: usize = 64;
+
+// What stands in the places that are not in use.
+const NO_CLOCK: Clock = Clock {
+    node: NodeId(1),
+    state: State::Active,
+    start: 0,
+    rate: 0,
+    offset: 0,
+};
+
+/// The clocks of a run, at most 64: contracts see their list. No call takes memory.
+#[derive(Debug, Drop)]
+pub struct ClockList {
+    places: [Clock; CLOCK_ROOM],
+    used: usize,
 }
 
-fn put_clocks_of<O: Sink>(
-    nodes: &NodeList,
-    world: &World,
-    odd: &RowList,
-    out: &mut O,
-) -> Result<(), PutFault>
-    ensures { Puts result (sunk (O.written out.old) (O.faults out.old)) (sunk (O.written out.new) (O.faults out.new)) (clock_lines odd.now (clock_in world.now) nodes.now) }
-{
-    for place in 0..nodes.len() {
-        match nodes.get(place) {
-            Some(node) => match put_clock_of(node.id, world, odd, out) {
-                Ok(()) => {}
-                Err(fault) => return Err(fault),
-            },
-            None => {}
+impl Model for ClockList {
+    ghost use Rattle.std.specs.Prelude.{◌≤◌, List, take};
+    ghost use Rattle.fr_report.specs.declared.clocks.Clock.{Clock};
+
+    ghost Value = { List Clock };
+
+    ghost view = { λ list. take list.used list.places };
+
+    ghost invariant = { λ list. list.used ≤ 64 };
+}
+
+impl ClockList {
+    fn new() -> ClockList
+        ensures { result ≡ [] }
+    {
+        ClockList {
+            places: [NO_CLOCK; CLOCK_ROOM],
+            used: 0,
         }
     }
-    Ok(())
-}
 
-#[tactic(auto, unfolding(crate::specs::Clocks::clock_line))]
-fn put_clock_of<O: Sink>(
-    id: NodeId,
-    world: &World,
-    odd: &RowList,
-    out: &mut O,
-) -> Result<(), PutFault>
-    ensures { Puts result (sunk (O.written out.old) (O.faults out.old)) (sunk (O.written out.new) (O.faults out.new)) (clock_line odd.now id (clock_in world.now id)) }
-{
-    match clock_in(world, id) {
-        Some(clock) => put_clock(id, clock, odd, out),
-        None => Ok(()),
+    fn push(&mut self, clock: Clock)
+        requires { length self.old < CLOCK_ROOM }
+        ensures { self.new ≡ self.old ++ clock ∷ [] }
+    {
+        self.places[self.used] = clock;
+        self.used += 1;
+    }
+
+    /// The clocks as a slice.
+    pub fn as_slice(&self) -> &[Clock]
+        ensures { result.now ≡ self.now }
+    {
+        &self.places[..self.used]
     }
 }
 
-fn put_clock<O: Sink>(id: NodeId, clock: Clock, odd: &RowList, out: &mut O) -> Result<(), PutFault>
-    ensures { Puts result (sunk (O.written out.old) (O.faults out.old)) (sunk (O.written out.new) (O.faults out.new)) (line (clock_text id clock (offset_by (row_of odd.now id)))) }
+// The clocks of some nodes between cycles, by the rows of the last odd cycle.
+pub(crate) fn clocks_of(nodes: &[Node], odd: &[NodeRow]) -> ClockList
+    requires few { length nodes.now ≤ 64 }
+    requires between { All (λ node. IsNone node.length) nodes.now }
+    ensures { result ≡ map (clock_in odd.now) nodes.now }
 {
-    put_line(&node_line(id, clock, last_offset(odd.as_slice(), id)), out)
-}
-
-// The clock of a node of a world; None exactly where it is arbitrary or unknown.
-#[tactic(auto, unfolding(crate::specs::Clocks::clock_in))]
-fn clock_in(world: &World, id: NodeId) -> Option<Clock>
-    ensures { result ≡ clock_in world.now id }
-{
-    match world.node(id) {
-        Some(node) => Some(clock_of(node)),
-        None => None,
+    let mut clocks = ClockList::new();
+    for node in nodes {
+        clocks.push(clock_of(node, odd));
     }
+    clocks
 }
 
-fn clock_of(node: &Node) -> Clock
+fn clock_of(node: &Node, odd: &[NodeRow]) -> Clock
     requires { IsNone node.now.length }
-    ensures { result ≡ clock_of node.now }
+    ensures { result ≡ clock_in odd.now node.now }
 {
     Clock {
+        node: node.id(),
         state: node.next_state(),
         start: node.next_start(),
         rate: node.next_rate(),
+        offset: last_offset(odd, node.id()),
     }
 }
 

@@ -1,12 +1,12 @@
 ghost use Rattle.std.specs.Prelude.{◌≡◌, filter, length};
 ghost use Rattle.std.specs.Option.{is_some};
-ghost use Rattle.fr_params.specs.Constraints.{key_slots};
+ghost use Rattle.fr_cluster.specs.Constraints.{key_slots};
 ghost use Rattle.fr_script.specs.View.{is_arbitrary};
 
-use fr_params::NodeList;
+use fr_cluster::NodeList;
 use fr_script::Script;
 
-/// How many nodes have a key slot.
+// How many nodes have a key slot.
 pub(crate) fn sync_count(nodes: &NodeList) -> usize
     ensures { result ≡ length (key_slots nodes.now) }
 {
@@ -27,7 +27,7 @@ fn keyed_count(nodes: &NodeList) -> usize
     count
 }
 
-/// How many nodes are arbitrary.
+// How many nodes are arbitrary.
 pub(crate) fn arbitrary_count(nodes: &NodeList, script: &Script) -> usize
     ensures { result ≡ length (filter (λ node. is_arbitrary script.now node.id) nodes.now) }
 {

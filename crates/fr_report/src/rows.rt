@@ -1,37 +1,27 @@
 ghost use Rattle.std.specs.Prelude.{◌≡◌, ◌≤◌, length, if◌then◌else◌};
-ghost use Rattle.fr_base.specs.Rows.{AreAscendingRows};
+ghost use Rattle.std.specs.List.{sum_by};
 ghost use Rattle.fr_time.specs.Cycles.{is_odd};
 
-use fr_base::{NodeRow, ROW_ROOM, RowList};
+use fr_base::{NodeRow, RowList};
 
-/// Whether a cycle is odd.
-pub(crate) fn is_odd(cycle: u32) -> bool
-    ensures { result ≡ is_odd cycle }
+// Keeps the rows of an odd cycle.
+pub(crate) fn keep_odd(cycle: u32, rows: &RowList, odd: &mut RowList)
+    ensures { odd.new ≡ (if is_odd cycle then rows.now else odd.old) }
 {
-    cycle % 2 == 1
-}
-
-/// Keeps the rows of a cycle: in place of those of the last odd one, or of the last even one.
-pub(crate) fn keep(cycle: u32, rows: &[NodeRow], even: &mut RowList, odd: &mut RowList)
-    requires few { length rows.now ≤ ROW_ROOM }
-    requires ascending { AreAscendingRows rows.now }
-    ensures even { even.new ≡ (if is_odd cycle then even.old else rows.now) }
-    ensures odd { odd.new ≡ (if is_odd cycle then rows.now else odd.old) }
-{
-    if is_odd(cycle) {
-        copy(rows, odd);
-    } else {
-        copy(rows, even);
+    if cycle % 2 == 1 {
+        odd.assign(rows);
     }
 }
 
-fn copy(rows: &[NodeRow], into: &mut RowList)
-    requires few { length rows.now ≤ ROW_ROOM }
-    requires ascending { AreAscendingRows rows.now }
-    ensures { into.new ≡ rows.now }
+// How many correction terms were cut in a cycle.
+pub(crate) fn cuts(rows: &[NodeRow]) -> u64
+    requires { length rows.now ≤ 64 }
+    ensures value { result ≡ sum_by (λ row. row.cut) rows.now }
+    ensures most { result ≤ 20_000 }
 {
-    into.clear();
+    let mut cuts = 0;
     for row in rows {
-        into.push(*row);
+        cuts += u64::from(row.cut);
     }
+    cuts
 }

@@ -1,7 +1,7 @@
 -- What a proof opens to compute a run.
 use Rattle.std.specs.Prelude.{⊤}
 use Rattle.std.specs.Fmt.{digits}
-use Rattle.fr_base.specs.Line.{hexadecimal}
+use Rattle.fr_text.specs.Numerals.{hexadecimal}
 use Rattle.fr_bound.specs.Sync.{is_in_sync}
 use Rattle.fr_crc.specs.Bits.{bits}
 use Rattle.fr_crc.specs.Computed.{frame_crc_of, header_crc_of}
@@ -9,7 +9,9 @@ use Rattle.fr_frame.specs.Reading.{frame_of, read_as}
 use Rattle.fr_history.specs.History.{record_at}
 use Rattle.fr_history.specs.Next.{early_row, next_counts, next_devs, next_record}
 use Rattle.fr_history.specs.Offers.{frame_in, offer_in}
-use Rattle.fr_history.specs.Skew.{greatest_skew_of, greatest_within, spread_at}
+use Rattle.fr_skew.specs.Spreads.{spread_at}
+use Rattle.fr_skew.specs.Sweep.{greatest_within}
+use Rattle.fr_history.specs.Skew.{greatest_skew_of}
 use Rattle.fr_history.specs.Sync.{first_sync_of}
 use Rattle.fr_history.specs.Terms.{outcomes_in}
 use Rattle.fr_measure.specs.Values.{values_of}
@@ -17,11 +19,12 @@ use Rattle.fr_midpoint.specs.Midpoint.{midpoint_by_ranks}
 use Rattle.fr_reception.specs.Answers.{answer_of}
 use Rattle.fr_reception.specs.Offers.{flipped}
 use Rattle.fr_reception.specs.Regular.{carried_crc, regular_frame}
-use Rattle.fr_script.specs.Coverage.{first_gap}
-use Rattle.fr_script.specs.First.{first_below, first_in}
-use Rattle.fr_report.specs.After.{last_offset_of}
-use Rattle.fr_report.specs.Sums.{cuts_of, total_of, xor_of}
-use Rattle.fr_report.specs.Text.{report_of}
+use Rattle.fr_coverage.specs.Coverage.{first_gap}
+use Rattle.fr_coverage.specs.First.{first_below, first_in}
+use Rattle.fr_report.specs.Clocks.{last_offset_of}
+use Rattle.fr_report.specs.Sums.{cuts_of, totals_of}
+use Rattle.fr_report.specs.Text.{report_of, text_of, told_lines}
+use Rattle.fr_report.specs.Told.{told_of}
 
 -- the bytes of frames, and what is made of them
 unfoldable pub on_frames : ⊤
@@ -40,12 +43,12 @@ on_histories = tt
 
 -- the sums of a history
 unfoldable pub on_sums : ⊤
-unfolding total_of xor_of cuts_of
+unfolding totals_of cuts_of
 on_sums = tt
 
 -- the report of a history
 unfoldable pub on_reports : ⊤
-unfolding on_histories on_sums outcomes_in values_of midpoint_by_ranks last_offset_of digits hexadecimal report_of
+unfolding on_histories on_sums outcomes_in values_of midpoint_by_ranks last_offset_of digits hexadecimal report_of text_of told_lines told_of
 on_reports = tt
 
 -- the first gap of a run

@@ -17,15 +17,16 @@ use Rattle.fr_drift.specs.Questions.{delay_of, doubles_of, length_of, rate_of, s
 use Rattle.fr_drift.specs.View.{DriftView}
 use Rattle.fr_drift.specs.declared.keys.LengthKey.{LengthKey}
 use Rattle.fr_drift.specs.declared.rows.Start.{Start}
-use Rattle.fr_params.specs.Reasons.{or_else}
+use Rattle.fr_records.specs.Fields.{or_else}
 use Rattle.fr_script.specs.Deeds.{deed_in, passage_cmp, passage_of}
 use Rattle.fr_script.specs.Events.{event_by, event_of}
 use Rattle.fr_script.specs.View.{ScriptView, deed_of, is_arbitrary}
 use Rattle.fr_script.specs.declared.deeds.Deed.{Deed}
 use Rattle.fr_script.specs.declared.deeds.Deed.TheVariants.{Say}
 use Rattle.fr_script.specs.declared.deeds.Passage.{Passage}
-use Rattle.fr_history.specs.Setting.{Setting}
-use Rattle.fr_rows.specs.Files.{plain_script, run_of, says_to, steady_drift}
+use Rattle.fr_cluster.specs.Setting.{Setting}
+use Rattle.fr_rows.specs.Files.{plain_script, says_to, steady_drift}
+use Rattle.fr_coverage.specs.Decided.{setting_of}
 
 -- each question is answered as the run has it
 pub record Answer (d : DriftView) (s : ScriptView) (x : Setting) : Type 0 where
@@ -38,7 +39,7 @@ pub record Answer (d : DriftView) (s : ScriptView) (x : Setting) : Type 0 where
   pub events : (cycle sender receiver : ℕ) (channel : Channel) → event_of s cycle sender receiver channel ≡ x.event cycle sender receiver channel
 
 -- files that answer so decide the run
-pub decided : (d : DriftView) (s : ScriptView) (x : Setting) → Answer d s x → run_of x.params d s ≡ x
+pub decided : (d : DriftView) (s : ScriptView) (x : Setting) → Answer d s x → setting_of x.params d s ≡ x
 decided d s x told i = record {
   params = x.params;
   doubles = told.doubles i;
@@ -145,7 +146,7 @@ passage_is asked row =
         ≡ ((asked.sender == row.sender) && ((asked.receiver == row.receiver) && (asked.cycle == row.cycle)))
     numbers i = number_is asked.sender row.sender i && (number_is asked.receiver row.receiver i && number_is asked.cycle row.cycle i)
 
--- a row of each cycle of the first double cycle, and the rows behind them
+-- a row of each cycle of the first double cycle, and the rows after them
 two_rows :
     {X : Type 0} (sender receiver zeroth first : Bool) (x : X) (rest : Option X)
     → cond (sender && (receiver && zeroth)) (Some x) (cond (sender && (receiver && first)) (Some x) rest) ≡ cond (sender && (receiver && (zeroth || first))) (Some x) rest
@@ -186,7 +187,7 @@ rows_say by shift [] rest cycle sender receiver = nobody (sender == by)
 rows_say by shift (r ∷ receivers) rest cycle sender receiver =
     rows
     ∙ two_rows (sender == by) (receiver == r) (cycle == 0) (cycle == 1) (Say shift None) (deed_in (says_to by shift receivers ++ rest) (passage_of sender receiver cycle))
-    ∙ behind (rows_say by shift receivers rest cycle sender receiver)
+    ∙ after (rows_say by shift receivers rest cycle sender receiver)
     ∙ more_rows (sender == by) (receiver == r) (list_any (λ r. receiver == r) receivers) (nat_lt cycle 2) (Say shift None) (deed_in rest (passage_of sender receiver cycle))
   where
     rows :
@@ -197,11 +198,11 @@ rows_say by shift (r ∷ receivers) rest cycle sender receiver =
         cond (passage_is (passage_of sender receiver cycle) (passage_of by r 0) i) (Some (Say shift None))
         (cond (passage_is (passage_of sender receiver cycle) (passage_of by r 1) i) (Some (Say shift None)) (deed_in (says_to by shift receivers ++ rest) (passage_of sender receiver cycle)))
 
-    behind :
+    after :
         deed_in (says_to by shift receivers ++ rest) (passage_of sender receiver cycle)
         ≡ cond ((sender == by) && (list_any (λ r. receiver == r) receivers && nat_lt cycle 2)) (Some (Say shift None)) (deed_in rest (passage_of sender receiver cycle))
         → cond ((sender == by) && ((receiver == r) && ((cycle == 0) || (cycle == 1)))) (Some (Say shift None)) (deed_in (says_to by shift receivers ++ rest) (passage_of sender receiver cycle))
         ≡ cond ((sender == by) && ((receiver == r) && nat_lt cycle 2)) (Some (Say shift None))
         (cond ((sender == by) && (list_any (λ r. receiver == r) receivers && nat_lt cycle 2)) (Some (Say shift None)) (deed_in rest (passage_of sender receiver cycle)))
-    behind tail i =
+    after tail i =
         cond ((sender == by) && ((receiver == r) && first_two cycle i)) (Some (Say shift None)) (tail i)

@@ -1,17 +1,17 @@
 -- What the files of a run say, by the run that they decide.
 use Rattle.std.proofs.Common.{◌≡◌, ℕ}
 use Rattle.fr_base.specs.declared.channel.Channel.{Channel}
-use Rattle.fr_params.specs.Values.{Values}
+use Rattle.fr_cluster.specs.Values.{Values}
 use Rattle.fr_drift.specs.Questions.{delay_of, doubles_of, length_of}
 use Rattle.fr_drift.specs.View.{DriftView}
 use Rattle.fr_script.specs.Events.{event_of}
 use Rattle.fr_script.specs.View.{ScriptView, is_arbitrary}
-use Rattle.fr_history.specs.Setting.{Setting}
-use Rattle.fr_rows.specs.Files.{run_of}
+use Rattle.fr_cluster.specs.Setting.{Setting}
+use Rattle.fr_coverage.specs.Decided.{setting_of}
 
 -- the files decide this run
 abbrev pub Decide : Values → DriftView → ScriptView → Setting → Type 0
-Decide p d s x = run_of p d s ≡ x
+Decide p d s x = setting_of p d s ≡ x
 
 pub doubles_decided : (p : Values) (d : DriftView) (s : ScriptView) (x : Setting) → Decide p d s x → doubles_of d ≡ x.doubles
 doubles_decided p d s x same i = (same i).doubles

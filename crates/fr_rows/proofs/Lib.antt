@@ -9,3 +9,4 @@ pub mod TwoArbitrary
 pub mod Gaps
 pub mod Sane
 pub mod Settings
+mod Kept

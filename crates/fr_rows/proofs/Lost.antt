@@ -12,16 +12,16 @@ use Rattle.fr_script.specs.declared.deeds.Deed.TheVariants as deed
 use Rattle.fr_rows.proofs.Decided.{decided, event_is, no_row, none_marked, passage_is}
 use Rattle.fr_rows.proofs.Offset.{offset_delays, offset_doubles, offset_lengths, offset_rates, offset_starts}
 use Rattle.fr_drift.specs.View.{DriftView}
-use Rattle.fr_script.specs.Coverage.{first_gap}
+use Rattle.fr_coverage.specs.Coverage.{first_gap}
 use Rattle.fr_script.specs.View.{ScriptView, deed_of, is_arbitrary}
-use Rattle.fr_script.specs.declared.gap.Gap.TheVariants.{Link}
+use Rattle.fr_coverage.specs.declared.gap.Gap.TheVariants.{Link}
 use Rattle.fr_history.specs.Next.{history_of, next_record}
 use Rattle.fr_history.specs.Skew.{greatest_skew_of}
 use Rattle.fr_history.specs.Sync.{first_sync_of}
 use Rattle.fr_report.specs.Text.{report_of}
 use Rattle.fr_rows.proofs.Computing.{on_gaps, on_histories, on_records, on_reports}
 use Rattle.fr_rows.proofs.Gaps.{delays_decided, doubles_decided, events_decided, lengths_decided, nodes_decided}
-use Rattle.fr_rows.specs.Files.{run_of}
+use Rattle.fr_coverage.specs.Decided.{setting_of}
 use Rattle.fr_rows.specs.Offset.{offset_cycle_0, offset_cycle_1, offset_cycle_2, offset_drift}
 use Rattle.fr_rows.specs.Lost.{flipped_cycle_3, flipped_history, flipped_report, flipped_run, lost_cycle_3, lost_history, lost_on_one_cycle_0, lost_on_one_cycle_1, lost_on_one_cycle_2, lost_on_one_cycle_3, lost_on_one_history, lost_on_one_report, lost_on_one_run, lost_report, lost_run, hit_by, hit_script, lost_script, flipped_script}
 
@@ -57,7 +57,7 @@ pub lost_report_is : report_of lost_run (Some (Link 1 2 1)) lost_history ≡ los
 unfolding on_reports
 lost_report_is = refl
 
-pub lost_gap_is : (d : DriftView) (s : ScriptView) → run_of lost_run.params d s ≡ lost_run → first_gap lost_run.params d s ≡ Some (Link 1 2 1)
+pub lost_gap_is : (d : DriftView) (s : ScriptView) → setting_of lost_run.params d s ≡ lost_run → first_gap lost_run.params d s ≡ Some (Link 1 2 1)
 unfolding on_gaps
 lost_gap_is d s same =
     Prim.simp (
@@ -100,7 +100,7 @@ pub flipped_report_is : report_of flipped_run (Some (Link 1 2 1)) flipped_histor
 unfolding on_reports
 flipped_report_is = refl
 
-pub flipped_gap_is : (d : DriftView) (s : ScriptView) → run_of flipped_run.params d s ≡ flipped_run → first_gap flipped_run.params d s ≡ Some (Link 1 2 1)
+pub flipped_gap_is : (d : DriftView) (s : ScriptView) → setting_of flipped_run.params d s ≡ flipped_run → first_gap flipped_run.params d s ≡ Some (Link 1 2 1)
 unfolding on_gaps
 flipped_gap_is d s same =
     Prim.simp (
@@ -143,7 +143,7 @@ pub lost_on_one_report_is : report_of lost_on_one_run None lost_on_one_history �
 unfolding on_reports
 lost_on_one_report_is = refl
 
-pub lost_on_one_gap_is : (d : DriftView) (s : ScriptView) → run_of lost_on_one_run.params d s ≡ lost_on_one_run → first_gap lost_on_one_run.params d s ≡ None
+pub lost_on_one_gap_is : (d : DriftView) (s : ScriptView) → setting_of lost_on_one_run.params d s ≡ lost_on_one_run → first_gap lost_on_one_run.params d s ≡ None
 unfolding on_gaps
 lost_on_one_gap_is d s same =
     Prim.simp (
@@ -193,7 +193,7 @@ hit_events hit event does cycle sender receiver B =
     by true = refl
     by false = refl
 
-pub lost_files_are : run_of lost_run.params offset_drift lost_script ≡ lost_run
+pub lost_files_are : setting_of lost_run.params offset_drift lost_script ≡ lost_run
 lost_files_are = decided offset_drift lost_script lost_run (record {
   doubles = offset_doubles;
   starts = offset_starts;
@@ -204,7 +204,7 @@ lost_files_are = decided offset_drift lost_script lost_run (record {
   events = hit_events deed.Lose Silent refl;
 })
 
-pub flipped_files_are : run_of flipped_run.params offset_drift flipped_script ≡ flipped_run
+pub flipped_files_are : setting_of flipped_run.params offset_drift flipped_script ≡ flipped_run
 flipped_files_are = decided offset_drift flipped_script flipped_run (record {
   doubles = offset_doubles;
   starts = offset_starts;
@@ -215,7 +215,7 @@ flipped_files_are = decided offset_drift flipped_script flipped_run (record {
   events = hit_events (deed.Flip 0) (Flip 0) refl;
 })
 
-pub lost_on_one_files_are : run_of lost_on_one_run.params offset_drift lost_script ≡ lost_on_one_run
+pub lost_on_one_files_are : setting_of lost_on_one_run.params offset_drift lost_script ≡ lost_on_one_run
 lost_on_one_files_are = decided offset_drift lost_script lost_on_one_run (record {
   doubles = offset_doubles;
   starts = offset_starts;

@@ -6,7 +6,7 @@ use Rattle.fr_base.specs.declared.channel.Channel.{Channel}
 use Rattle.fr_drift.specs.Questions.{delay_of, doubles_of, length_of, rate_of, start_of}
 use Rattle.fr_drift.specs.View.{DriftView}
 use Rattle.fr_drift.specs.declared.rows.Start.{Start}
-use Rattle.fr_script.specs.Coverage.{first_gap}
+use Rattle.fr_coverage.specs.Coverage.{first_gap}
 use Rattle.fr_script.specs.View.{ScriptView}
 use Rattle.fr_history.specs.Next.{history_of, next_record}
 use Rattle.fr_history.specs.Skew.{greatest_skew_of}
@@ -15,7 +15,8 @@ use Rattle.fr_report.specs.Text.{report_of}
 use Rattle.fr_rows.proofs.Computing.{on_gaps, on_histories, on_records, on_reports}
 use Rattle.fr_rows.proofs.Decided.{decided, one_start, plain_events, plain_nodes, steady_delays, steady_lengths}
 use Rattle.fr_rows.proofs.Gaps.{delays_decided, doubles_decided, events_decided, lengths_decided, nodes_decided}
-use Rattle.fr_rows.specs.Files.{plain_script, run_of}
+use Rattle.fr_rows.specs.Files.{plain_script}
+use Rattle.fr_coverage.specs.Decided.{setting_of}
 use Rattle.fr_rows.specs.Offset.{offset_cycle_0, offset_cycle_1, offset_cycle_2, offset_cycle_3, offset_drift, offset_history, offset_report, offset_run}
 
 cycle_0_is : next_record offset_run [] ≡ offset_cycle_0
@@ -50,7 +51,7 @@ pub offset_report_is : report_of offset_run None offset_history ≡ offset_repor
 unfolding on_reports
 offset_report_is = refl
 
-pub offset_gap_is : (d : DriftView) (s : ScriptView) → run_of offset_run.params d s ≡ offset_run → first_gap offset_run.params d s ≡ None
+pub offset_gap_is : (d : DriftView) (s : ScriptView) → setting_of offset_run.params d s ≡ offset_run → first_gap offset_run.params d s ≡ None
 unfolding on_gaps
 offset_gap_is d s same =
     Prim.simp (
@@ -101,7 +102,7 @@ pub offset_delays : (sender receiver : ℕ) (channel : Channel) (cycle : ℕ) �
 unfolding delay_of
 offset_delays sender receiver channel cycle = steady_delays 2 sender receiver channel cycle
 
-pub offset_files_are : run_of offset_run.params offset_drift plain_script ≡ offset_run
+pub offset_files_are : setting_of offset_run.params offset_drift plain_script ≡ offset_run
 offset_files_are = decided offset_drift plain_script offset_run (record {
   doubles = offset_doubles;
   starts = offset_starts;

@@ -12,7 +12,7 @@ use Rattle.fr_script.specs.declared.deeds.Deed.{Deed}
 use Rattle.fr_script.specs.declared.deeds.Deed.TheVariants as deed
 use Rattle.fr_rows.proofs.Decided.{decided, event_is, no_row, none_marked, rows_say, steady_delays, steady_doubles, steady_lengths, steady_rates, steady_starts}
 use Rattle.fr_drift.specs.View.{DriftView}
-use Rattle.fr_script.specs.Coverage.{first_gap}
+use Rattle.fr_coverage.specs.Coverage.{first_gap}
 use Rattle.fr_script.specs.View.{ScriptView, deed_of, is_arbitrary}
 use Rattle.fr_history.specs.Next.{history_of, next_record}
 use Rattle.fr_history.specs.Skew.{greatest_skew_of}
@@ -20,7 +20,8 @@ use Rattle.fr_history.specs.Sync.{first_sync_of}
 use Rattle.fr_report.specs.Text.{report_of}
 use Rattle.fr_rows.proofs.Computing.{on_gaps, on_histories, on_records, on_reports}
 use Rattle.fr_rows.proofs.Gaps.{delays_decided, doubles_decided, events_decided, lengths_decided, nodes_decided}
-use Rattle.fr_rows.specs.Files.{run_of, said_first, says_to, steady_drift}
+use Rattle.fr_rows.specs.Files.{said_first, says_to, steady_drift}
+use Rattle.fr_coverage.specs.Decided.{setting_of}
 use Rattle.fr_rows.specs.OneArbitrary.{one_arbitrary_cycle_0, one_arbitrary_cycle_1, one_arbitrary_history, one_arbitrary_report, one_arbitrary_run, one_arbitrary_script, said_to}
 
 cycle_0_is : next_record one_arbitrary_run [] ≡ one_arbitrary_cycle_0
@@ -47,7 +48,7 @@ pub one_arbitrary_report_is : report_of one_arbitrary_run None one_arbitrary_his
 unfolding on_reports
 one_arbitrary_report_is = refl
 
-pub one_arbitrary_gap_is : (d : DriftView) (s : ScriptView) → run_of one_arbitrary_run.params d s ≡ one_arbitrary_run → first_gap one_arbitrary_run.params d s ≡ None
+pub one_arbitrary_gap_is : (d : DriftView) (s : ScriptView) → setting_of one_arbitrary_run.params d s ≡ one_arbitrary_run → first_gap one_arbitrary_run.params d s ≡ None
 unfolding on_gaps
 one_arbitrary_gap_is d s same =
     Prim.simp (
@@ -117,7 +118,7 @@ one_arbitrary_events cycle sender receiver B =
     on_channel_b true true = refl
     on_channel_b true false = refl
 
-pub one_arbitrary_files_are : run_of one_arbitrary_run.params (steady_drift 1) one_arbitrary_script ≡ one_arbitrary_run
+pub one_arbitrary_files_are : setting_of one_arbitrary_run.params (steady_drift 1) one_arbitrary_script ≡ one_arbitrary_run
 one_arbitrary_files_are = decided (steady_drift 1) one_arbitrary_script one_arbitrary_run (record {
   doubles = steady_doubles 1;
   starts = steady_starts 1;

@@ -8,16 +8,17 @@ use Rattle.fr_script.specs.Deeds.{deed_in}
 use Rattle.fr_script.specs.Events.{event_by, event_of}
 use Rattle.fr_rows.proofs.Decided.{decided, event_is, none_marked, steady_delays, steady_doubles, steady_lengths, steady_rates, steady_starts}
 use Rattle.fr_drift.specs.View.{DriftView}
-use Rattle.fr_script.specs.Coverage.{first_gap}
+use Rattle.fr_coverage.specs.Coverage.{first_gap}
 use Rattle.fr_script.specs.View.{ScriptView, deed_of, is_arbitrary}
-use Rattle.fr_script.specs.declared.gap.Gap.TheVariants.{Count}
+use Rattle.fr_coverage.specs.declared.gap.Gap.TheVariants.{Count}
 use Rattle.fr_history.specs.Next.{history_of, next_record}
 use Rattle.fr_history.specs.Skew.{greatest_skew_of}
 use Rattle.fr_history.specs.Sync.{first_sync_of}
 use Rattle.fr_report.specs.Text.{report_of}
 use Rattle.fr_rows.proofs.Computing.{on_gaps, on_histories, on_records, on_reports}
 use Rattle.fr_rows.proofs.Gaps.{doubles_decided, nodes_decided}
-use Rattle.fr_rows.specs.Files.{run_of, steady_drift}
+use Rattle.fr_rows.specs.Files.{steady_drift}
+use Rattle.fr_coverage.specs.Decided.{setting_of}
 use Rattle.fr_rows.specs.Quiet.{quiet_cycle_0, quiet_cycle_1, quiet_history, quiet_report, quiet_run, quiet_script}
 
 cycle_0_is : next_record quiet_run [] ≡ quiet_cycle_0
@@ -44,7 +45,7 @@ pub quiet_report_is : report_of quiet_run (Some (Count 2 1)) quiet_history ≡ q
 unfolding on_reports
 quiet_report_is = refl
 
-pub quiet_gap_is : (d : DriftView) (s : ScriptView) → run_of quiet_run.params d s ≡ quiet_run → first_gap quiet_run.params d s ≡ Some (Count 2 1)
+pub quiet_gap_is : (d : DriftView) (s : ScriptView) → setting_of quiet_run.params d s ≡ quiet_run → first_gap quiet_run.params d s ≡ Some (Count 2 1)
 unfolding on_gaps
 quiet_gap_is d s same =
     Prim.simp (
@@ -75,7 +76,7 @@ quiet_events cycle sender receiver channel =
     by true = refl
     by false = refl
 
-pub quiet_files_are : run_of quiet_run.params (steady_drift 1) quiet_script ≡ quiet_run
+pub quiet_files_are : setting_of quiet_run.params (steady_drift 1) quiet_script ≡ quiet_run
 quiet_files_are = decided (steady_drift 1) quiet_script quiet_run (record {
   doubles = steady_doubles 1;
   starts = steady_starts 1;

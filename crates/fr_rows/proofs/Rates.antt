@@ -7,7 +7,7 @@ use Rattle.fr_drift.specs.Keys.{length_key}
 use Rattle.fr_drift.specs.Questions.{delay_of, doubles_of, length_of, rate_of, start_of}
 use Rattle.fr_rows.proofs.Decided.{decided, held_first, length_is, plain_events, plain_nodes, steady_delays, steady_rates, steady_starts}
 use Rattle.fr_drift.specs.View.{DriftView, length_rows}
-use Rattle.fr_script.specs.Coverage.{first_gap}
+use Rattle.fr_coverage.specs.Coverage.{first_gap}
 use Rattle.fr_script.specs.View.{ScriptView}
 use Rattle.fr_history.specs.Next.{history_of, next_record}
 use Rattle.fr_history.specs.Skew.{greatest_skew_of}
@@ -15,7 +15,8 @@ use Rattle.fr_history.specs.Sync.{first_sync_of}
 use Rattle.fr_report.specs.Text.{report_of}
 use Rattle.fr_rows.proofs.Computing.{on_gaps, on_histories, on_records, on_reports}
 use Rattle.fr_rows.proofs.Gaps.{delays_decided, doubles_decided, events_decided, lengths_decided, nodes_decided}
-use Rattle.fr_rows.specs.Files.{run_of, plain_script}
+use Rattle.fr_rows.specs.Files.{plain_script}
+use Rattle.fr_coverage.specs.Decided.{setting_of}
 use Rattle.fr_rows.specs.Rates.{rates_cycle_0, rates_cycle_1, rates_cycle_2, rates_cycle_3, rates_history, rates_report, rates_run, rates_drift}
 
 cycle_0_is : next_record rates_run [] ≡ rates_cycle_0
@@ -50,7 +51,7 @@ pub rates_report_is : report_of rates_run None rates_history ≡ rates_report
 unfolding on_reports
 rates_report_is = refl
 
-pub rates_gap_is : (d : DriftView) (s : ScriptView) → run_of rates_run.params d s ≡ rates_run → first_gap rates_run.params d s ≡ None
+pub rates_gap_is : (d : DriftView) (s : ScriptView) → setting_of rates_run.params d s ≡ rates_run → first_gap rates_run.params d s ≡ None
 unfolding on_gaps
 rates_gap_is d s same =
     Prim.simp (
@@ -109,7 +110,7 @@ rates_delays : (sender receiver : ℕ) (channel : Channel) (cycle : ℕ) → del
 unfolding delay_of
 rates_delays sender receiver channel cycle = steady_delays 2 sender receiver channel cycle
 
-pub rates_files_are : run_of rates_run.params rates_drift plain_script ≡ rates_run
+pub rates_files_are : setting_of rates_run.params rates_drift plain_script ≡ rates_run
 rates_files_are = decided rates_drift plain_script rates_run (record {
   doubles = rates_doubles;
   starts = rates_starts;

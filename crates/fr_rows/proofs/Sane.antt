@@ -4,13 +4,13 @@ use Rattle.std.specs.List.{All, AllPairs}
 use Rattle.std.proofs.lemmas.Int.{ints}
 use Rattle.std.proofs.lemmas.List.Elements.{All-cons}
 use Rattle.std.proofs.lemmas.List.Kept.{AllPairs-cons}
-use Rattle.fr_params.specs.Constraints.{key_slots}
-use Rattle.fr_params.specs.Rows.{InRange}
-use Rattle.fr_params.specs.Sane.{IsSane, IsSaneNode}
-use Rattle.fr_params.specs.Values.{figure}
-use Rattle.fr_params.specs.declared.names.ParamName.{ParamName}
-use Rattle.fr_params.specs.declared.names.ParamName.TheVariants as name
-use Rattle.fr_params.specs.declared.rows.NodeSpec.{NodeSpec}
+use Rattle.fr_cluster.specs.Constraints.{key_slots}
+use Rattle.fr_cluster.specs.Ranges.{InRange}
+use Rattle.fr_cluster.specs.Sane.{IsSane, IsSaneNode}
+use Rattle.fr_cluster.specs.Values.{figure}
+use Rattle.fr_cluster.specs.declared.names.ParamName.{ParamName}
+use Rattle.fr_cluster.specs.declared.names.ParamName.TheVariants as name
+use Rattle.fr_cluster.specs.declared.nodes.NodeSpec.{NodeSpec}
 use Rattle.fr_rows.specs.Clusters.{cluster_of}
 
 -- so many coldstart nodes from a number on, on channel A and perhaps on channel B
@@ -106,7 +106,7 @@ cluster_sane on_b count low high =
       constraints = record {
         whole_cycle = refl;
         acts_in_slot = omega arith;
-        corrects_behind = (omega arith, omega arith);
+        corrects_after = (omega arith, omega arith);
         leaves_microticks = omega arith;
         passive_first = omega arith;
         sync_nodes = (omega arith, omega arith);

@@ -4,7 +4,7 @@ use Rattle.fr_base.specs.Event.{Event}
 use Rattle.fr_base.specs.Event.Event.{Regular, Silent, Flip, Say}
 use Rattle.fr_base.specs.declared.channel.Channel.{Channel}
 use Rattle.fr_base.specs.declared.channel.Channel.TheVariants.{A, B}
-use Rattle.fr_history.specs.Setting.{IsSetting, SaysBytes}
+use Rattle.fr_cluster.specs.Setting.{IsSetting, SaysBytes}
 use Rattle.fr_rows.proofs.Sane.{cluster_sane, nodes_from}
 use Rattle.fr_rows.specs.Files.{only_on_a, said_first}
 use Rattle.fr_rows.specs.Offset.{offset_run}

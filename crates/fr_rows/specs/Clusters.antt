@@ -1,7 +1,7 @@
 -- The clusters of the worked runs: a cycle of 5 ms at a microtick of 25 ns.
 use Rattle.std.specs.Prelude.{ℕ, pos, true, false, List, [], Some}
-use Rattle.fr_params.specs.Values.{Values}
-use Rattle.fr_params.specs.declared.rows.NodeSpec.{NodeSpec}
+use Rattle.fr_cluster.specs.Values.{Values}
+use Rattle.fr_cluster.specs.declared.nodes.NodeSpec.{NodeSpec}
 
 -- a coldstart node on channel A whose key slot has its number
 abbrev pub on_a : ℕ → NodeSpec

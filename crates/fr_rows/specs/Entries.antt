@@ -1,5 +1,6 @@
 -- The entries of the records of a run, in short.
 use Rattle.std.specs.Prelude.{ℕ, ℤ, pos, List, map}
+use Rattle.fr_base.specs.Rows.{dev_with}
 use Rattle.fr_base.specs.declared.channel.Channel.{Channel}
 use Rattle.fr_base.specs.declared.channel.Channel.TheVariants.{A}
 use Rattle.fr_base.specs.declared.cycle_row.Counts.{Counts}
@@ -16,10 +17,6 @@ row_with node start length rate offset =
 -- the rows of nodes that all start at an instant, with nominal microticks and no corrections
 abbrev pub steady_rows : ℤ → List ℕ → List NodeRow
 steady_rows start nodes = map (λ node. row_with node start (pos 1_000_000) (pos 0) (pos 0)) nodes
-
--- the deviation of a receiver in a slot on a channel, in microticks
-abbrev pub dev_with : ℕ → ℕ → Channel → ℤ → Dev
-dev_with receiver slot channel value = record { receiver = receiver; slot = slot; channel = channel; value = value }
 
 -- the deviations of a receiver on channel A, by slot
 abbrev pub measured : ℕ → List (ℕ × ℤ) → List Dev

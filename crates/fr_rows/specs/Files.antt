@@ -1,32 +1,15 @@
--- The run that a parameter file, a drift file and a script decide.
+-- The files of the worked runs.
 use Rattle.std.specs.Prelude.{ℕ, ℤ, pos, Bool, false, List, [], ◌∷◌, None, flat_map, nat_lt, replicate, if◌then◌else◌}
 use Rattle.fr_base.specs.Event.{Event}
 use Rattle.fr_base.specs.Event.Event.{Silent}
 use Rattle.fr_base.specs.declared.channel.Channel.{Channel}
 use Rattle.fr_base.specs.declared.channel.Channel.TheVariants.{A, B}
-use Rattle.fr_params.specs.Values.{Values}
-use Rattle.fr_drift.specs.Questions.{delay_of, doubles_of, length_of, rate_of, start_of}
 use Rattle.fr_drift.specs.View.{DriftView}
 use Rattle.fr_script.specs.Deeds.{passage_of}
-use Rattle.fr_script.specs.Events.{event_of}
-use Rattle.fr_script.specs.View.{ScriptView, is_arbitrary}
+use Rattle.fr_script.specs.View.{ScriptView}
 use Rattle.fr_script.specs.declared.deeds.Deed.{Deed}
 use Rattle.fr_script.specs.declared.deeds.Deed.TheVariants.{Say}
 use Rattle.fr_script.specs.declared.deeds.Passage.{Passage}
-use Rattle.fr_history.specs.Setting.{Setting}
-
--- the setting of three files
-abbrev pub run_of : Values → DriftView → ScriptView → Setting
-run_of p d s = record {
-  params = p;
-  doubles = doubles_of d;
-  start = start_of d;
-  rate = rate_of d;
-  microtick = length_of d;
-  delay = delay_of d;
-  is_arbitrary = is_arbitrary s;
-  event = event_of s;
-}
 
 -- a row of a script on channel A, or else what becomes of a frame that no row names
 abbrev pub only_on_a : Event → Event → Channel → Event

@@ -1,3 +1,4 @@
+-- what the public contract cites
 pub mod Clusters
 pub mod Entries
 pub mod Files
@@ -8,3 +9,4 @@ pub mod TwoArbitrary
 pub mod Quiet
 pub mod Lost
 pub mod Positions
+pub mod Working

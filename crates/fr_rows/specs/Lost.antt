@@ -1,5 +1,5 @@
 -- The run with an offset once more, with one frame of node 1 hit on its way to node 2 in the last cycle.
-use Rattle.std.specs.Prelude.{ℕ, ◌==◌, ◌&&◌, pos, negsuc, List, [], ◌∷◌, if◌then◌else◌, ◌++◌, codes}
+use Rattle.std.specs.Prelude.{ℕ, ◌==◌, ◌&&◌, pos, negsuc, List, [], ◌∷◌, if◌then◌else◌, ◌++◌, codes, None, Some}
 use Rattle.fr_base.specs.Event.{Event}
 use Rattle.fr_base.specs.Event.Event.{Regular, Silent, Flip}
 use Rattle.fr_base.specs.declared.channel.Channel.{Channel}
@@ -9,12 +9,15 @@ use Rattle.fr_script.specs.Deeds.{passage_of}
 use Rattle.fr_script.specs.View.{ScriptView}
 use Rattle.fr_script.specs.declared.deeds.Deed.{Deed}
 use Rattle.fr_script.specs.declared.deeds.Deed.TheVariants as deed
-use Rattle.fr_history.specs.Setting.{Setting}
+use Rattle.fr_cluster.specs.Setting.{Setting}
 use Rattle.fr_history.specs.History.{History, Record}
 use Rattle.fr_rows.specs.Clusters.{cluster_of, on_both}
-use Rattle.fr_rows.specs.Entries.{all_stored, dev_with}
+use Rattle.fr_rows.specs.Entries.{all_stored}
+use Rattle.fr_base.specs.Rows.{dev_with}
 use Rattle.fr_rows.specs.Files.{no_arbitrary, only_on_a}
-use Rattle.fr_rows.specs.Offset.{offset_cycle_0, offset_cycle_1, offset_cycle_2, offset_cycle_3, offset_run}
+use Rattle.fr_rows.specs.Offset.{offset_cycle_0, offset_cycle_1, offset_cycle_2, offset_cycle_3, offset_run, offset_drift}
+use Rattle.fr_rows.specs.Working.{WorkedRun}
+use Rattle.fr_coverage.specs.declared.gap.Gap.TheVariants.{Link}
 
 -- an event of the one frame that is hit
 abbrev pub hit_by : Event → ℕ → ℕ → ℕ → Channel → Event
@@ -145,3 +148,42 @@ lost_on_one_report =
     ++ codes "cut 0\n"
     ++ codes "node 1 active next 800001000000 rate 0 offset 0\n"
     ++ codes "node 2 active next 800001500000 rate 0 offset 0\n"
+
+-- the run, worked
+abbrev pub worked_lost : WorkedRun
+worked_lost = record {
+  run = lost_run;
+  drift = offset_drift;
+  script = lost_script;
+  history = lost_history;
+  greatest = record { skew = pos 2_500_000; cycle = 0; macrotick = 0 };
+  synced = 0;
+  gap = Some (Link 1 2 1);
+  report = lost_report;
+}
+
+-- the run, worked
+abbrev pub worked_flipped : WorkedRun
+worked_flipped = record {
+  run = flipped_run;
+  drift = offset_drift;
+  script = flipped_script;
+  history = flipped_history;
+  greatest = record { skew = pos 2_500_000; cycle = 0; macrotick = 0 };
+  synced = 0;
+  gap = Some (Link 1 2 1);
+  report = flipped_report;
+}
+
+-- the run, worked
+abbrev pub worked_lost_on_one : WorkedRun
+worked_lost_on_one = record {
+  run = lost_on_one_run;
+  drift = offset_drift;
+  script = lost_script;
+  history = lost_on_one_history;
+  greatest = record { skew = pos 2_500_000; cycle = 0; macrotick = 0 };
+  synced = 0;
+  gap = None;
+  report = lost_on_one_report;
+}

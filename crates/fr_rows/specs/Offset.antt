@@ -1,13 +1,15 @@
 -- A run of two nodes whose clocks start two and a half microticks apart.
-use Rattle.std.specs.Prelude.{ℕ, ◌==◌, pos, negsuc, false, List, [], ◌∷◌, ◌++◌, codes, if◌then◌else◌}
+use Rattle.std.specs.Prelude.{ℕ, ◌==◌, pos, negsuc, false, List, [], ◌∷◌, ◌++◌, codes, if◌then◌else◌, None}
 use Rattle.fr_base.specs.Event.Event.{Regular}
 use Rattle.fr_base.specs.declared.channel.Channel.TheVariants.{A}
 use Rattle.fr_drift.specs.View.{DriftView}
-use Rattle.fr_history.specs.Setting.{Setting}
+use Rattle.fr_cluster.specs.Setting.{Setting}
 use Rattle.fr_history.specs.History.{History, Record}
 use Rattle.fr_rows.specs.Clusters.{cluster_of, on_a}
-use Rattle.fr_rows.specs.Entries.{all_stored, dev_with, row_with}
-use Rattle.fr_rows.specs.Files.{steady_drift}
+use Rattle.fr_rows.specs.Entries.{all_stored, row_with}
+use Rattle.fr_base.specs.Rows.{dev_with}
+use Rattle.fr_rows.specs.Files.{steady_drift, plain_script}
+use Rattle.fr_rows.specs.Working.{WorkedRun}
 
 -- two double cycles; node 2 starts later
 abbrev pub offset_run : Setting
@@ -85,3 +87,16 @@ offset_report =
     ++ codes "cut 0\n"
     ++ codes "node 1 active next 800001000000 rate 0 offset 0\n"
     ++ codes "node 2 active next 800001500000 rate 0 offset 0\n"
+
+-- the run, worked
+abbrev pub worked_offset : WorkedRun
+worked_offset = record {
+  run = offset_run;
+  drift = offset_drift;
+  script = plain_script;
+  history = offset_history;
+  greatest = record { skew = pos 2_500_000; cycle = 0; macrotick = 0 };
+  synced = 0;
+  gap = None;
+  report = offset_report;
+}

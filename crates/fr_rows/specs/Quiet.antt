@@ -1,11 +1,14 @@
 -- A run of three nodes, one of which is arbitrary and says nothing.
-use Rattle.std.specs.Prelude.{ℕ, ◌==◌, pos, true, false, List, [], ◌∷◌, ◌++◌, replicate, if◌then◌else◌, codes}
+use Rattle.std.specs.Prelude.{ℕ, ◌==◌, pos, true, false, List, [], ◌∷◌, ◌++◌, replicate, if◌then◌else◌, codes, Some}
 use Rattle.fr_base.specs.Event.Event.{Regular, Silent}
 use Rattle.fr_script.specs.View.{ScriptView}
-use Rattle.fr_history.specs.Setting.{Setting}
+use Rattle.fr_cluster.specs.Setting.{Setting}
 use Rattle.fr_history.specs.History.{History, Record}
 use Rattle.fr_rows.specs.Clusters.{cluster_of, on_a}
 use Rattle.fr_rows.specs.Entries.{all_stored, measured, steady_rows}
+use Rattle.fr_rows.specs.Working.{WorkedRun}
+use Rattle.fr_rows.specs.Files.{steady_drift}
+use Rattle.fr_coverage.specs.declared.gap.Gap.TheVariants.{Count}
 
 -- one double cycle; all clocks run alike
 abbrev pub quiet_run : Setting
@@ -56,3 +59,16 @@ quiet_report =
     ++ codes "cut 0\n"
     ++ codes "node 1 active next 400000000000 rate 0 offset 0\n"
     ++ codes "node 2 active next 400000000000 rate 0 offset 0\n"
+
+-- the run, worked
+abbrev pub worked_quiet : WorkedRun
+worked_quiet = record {
+  run = quiet_run;
+  drift = steady_drift 1;
+  script = quiet_script;
+  history = quiet_history;
+  greatest = record { skew = pos 0; cycle = 0; macrotick = 0 };
+  synced = 0;
+  gap = Some (Count 2 1);
+  report = quiet_report;
+}

@@ -1,14 +1,16 @@
 -- A run of two nodes whose oscillators lie 200 ticks in a million apart.
-use Rattle.std.specs.Prelude.{ℕ, ◌==◌, pos, negsuc, false, List, [], ◌∷◌, ◌++◌, codes, if◌then◌else◌}
+use Rattle.std.specs.Prelude.{ℕ, ◌==◌, pos, negsuc, false, List, [], ◌∷◌, ◌++◌, codes, if◌then◌else◌, None}
 use Rattle.fr_base.specs.Event.Event.{Regular}
 use Rattle.fr_base.specs.declared.channel.Channel.TheVariants.{A}
 use Rattle.fr_drift.specs.Keys.{length_key}
 use Rattle.fr_drift.specs.View.{DriftView}
-use Rattle.fr_history.specs.Setting.{Setting}
+use Rattle.fr_cluster.specs.Setting.{Setting}
 use Rattle.fr_history.specs.History.{History, Record}
 use Rattle.fr_rows.specs.Clusters.{cluster_of, on_a}
-use Rattle.fr_rows.specs.Entries.{all_stored, dev_with, row_with}
-use Rattle.fr_rows.specs.Files.{steady_drift}
+use Rattle.fr_rows.specs.Entries.{all_stored, row_with}
+use Rattle.fr_base.specs.Rows.{dev_with}
+use Rattle.fr_rows.specs.Files.{steady_drift, plain_script}
+use Rattle.fr_rows.specs.Working.{WorkedRun}
 
 -- two double cycles; the microtick of node 1 is long and that of node 2 short
 abbrev pub rates_run : Setting
@@ -102,3 +104,16 @@ rates_report =
     ++ codes "cut 0\n"
     ++ codes "node 1 active next 800003992400 rate -16 offset -24\n"
     ++ codes "node 2 active next 799994992500 rate 16 offset 23\n"
+
+-- the run, worked
+abbrev pub worked_rates : WorkedRun
+worked_rates = record {
+  run = rates_run;
+  drift = rates_drift;
+  script = plain_script;
+  history = rates_history;
+  greatest = record { skew = pos 79_200_000; cycle = 1; macrotick = 4_900 };
+  synced = 1;
+  gap = None;
+  report = rates_report;
+}

@@ -4,11 +4,12 @@ use Rattle.fr_base.specs.Event.{Event}
 use Rattle.fr_base.specs.Event.Event.{Regular, Silent, Say}
 use Rattle.fr_base.specs.declared.dev.Dev.{Dev}
 use Rattle.fr_script.specs.View.{ScriptView}
-use Rattle.fr_history.specs.Setting.{Setting}
+use Rattle.fr_cluster.specs.Setting.{Setting}
 use Rattle.fr_history.specs.History.{History, Record}
 use Rattle.fr_rows.specs.Clusters.{cluster_of, on_a}
 use Rattle.fr_rows.specs.Entries.{all_stored, measured, steady_rows}
-use Rattle.fr_rows.specs.Files.{said_first, says_to}
+use Rattle.fr_rows.specs.Files.{said_first, says_to, steady_drift}
+use Rattle.fr_rows.specs.Working.{WorkedRun}
 
 -- the correct nodes
 abbrev pub is_among_six : ℕ → Bool
@@ -95,3 +96,16 @@ two_arbitrary_report =
     ++ codes "node 4 active next 400000000000 rate 0 offset 0\n"
     ++ codes "node 5 active next 400000000000 rate 0 offset 0\n"
     ++ codes "node 6 active next 400000000000 rate 0 offset 0\n"
+
+-- the run, worked
+abbrev pub worked_two_arbitrary : WorkedRun
+worked_two_arbitrary = record {
+  run = two_arbitrary_run;
+  drift = steady_drift 1;
+  script = two_arbitrary_script;
+  history = two_arbitrary_history;
+  greatest = record { skew = pos 0; cycle = 0; macrotick = 0 };
+  synced = 0;
+  gap = None;
+  report = two_arbitrary_report;
+}

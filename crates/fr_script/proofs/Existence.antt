@@ -14,16 +14,17 @@ use Rattle.std.specs.FinMap.Entries.{below_all}
 use Rattle.fr_base.specs.declared.channel.Channel.{Channel}
 use Rattle.fr_base.specs.declared.channel.Channel.TheVariants as channel
 use Rattle.fr_base.specs.declared.reason.Reason.{Reason}
-use Rattle.fr_records.specs.Records.{Record, records_of}
+use Rattle.fr_records.specs.Records.{FileRecord, records_of}
+use Rattle.fr_records.specs.Kind.{HasSomeAnswer, Reads}
 use Rattle.fr_records.specs.Refusal.{NoneRefused, FirstRefused}
 use Rattle.fr_records.proofs.Cuts.{none-or-first-refused}
-use Rattle.fr_params.specs.Values.{Values}
-use Rattle.fr_params.specs.Reasons.{or_else, looked_up}
-use Rattle.fr_script.specs.Deeds.{AreAscending, deed_in, passage_cmp}
-use Rattle.fr_script.specs.Rows.{row_of}
-use Rattle.fr_script.specs.Reasons.{deed_by, deed_said, is_named, is_on, is_same, reason_after}
+use Rattle.fr_cluster.specs.Values.{Values}
+use Rattle.fr_records.specs.Fields.{is_channel, or_else, looked_up}
+use Rattle.fr_script.specs.Deeds.{DeedsAscend, deed_in, passage_cmp}
+use Rattle.fr_script.specs.Rows.{script_row_of}
+use Rattle.fr_script.specs.Reasons.{deed_by, deed_said, is_named, is_same, script_reason_after}
 use Rattle.fr_script.specs.View.{ScriptView, deeds_on, is_arbitrary}
-use Rattle.fr_script.specs.Files.{StandsFor, Reads}
+use Rattle.fr_script.specs.Files.{ScriptStandsFor, script_file}
 use Rattle.fr_script.specs.declared.deeds.Passage.{Passage}
 use Rattle.fr_script.specs.declared.deeds.Deed.{Deed}
 use Rattle.fr_script.specs.declared.rows.Row.{Row}
@@ -80,7 +81,7 @@ entry_if false passage what = None
 
 entry : Channel → Result Row Reason → Option (Passage × Deed)
 entry ch (Ok (row.Arbitrary node)) = None
-entry ch (Ok (row.Deed d)) = entry_if (is_on ch d.channel) d.passage d.deed
+entry ch (Ok (row.Deed d)) = entry_if (is_channel ch d.channel) d.passage d.deed
 entry ch (Err why) = None
 
 -- what an entry says of a passage
@@ -102,7 +103,7 @@ said-if false passage q what = refl
 said-entry : (ch : Channel) (q : Passage) (x : Result Row Reason) → deed_said ch q x ≡ said_by (entry ch x) q
 unfolding entry said_by
 said-entry ch q (Ok (row.Arbitrary node)) = refl
-said-entry ch q (Ok (row.Deed d)) = said-if (is_on ch d.channel) d.passage q d.deed
+said-entry ch q (Ok (row.Deed d)) = said-if (is_channel ch d.channel) d.passage q d.deed
 said-entry ch q (Err why) = refl
 
 -- the deeds on a channel that the records say, as a finite map: that of a passage is the first said of it
@@ -110,9 +111,9 @@ with : Option (Passage × Deed) → FinMap passage_cmp Deed → FinMap passage_c
 with None m = m
 with (Some e) m = map.insert m e.0 e.1
 
-deeds_told : Channel → List Record → FinMap passage_cmp Deed
+deeds_told : Channel → List FileRecord → FinMap passage_cmp Deed
 deeds_told ch [] = map.empty
-deeds_told ch (r ∷ rest) = with (entry ch (row_of r)) (deeds_told ch rest)
+deeds_told ch (r ∷ rest) = with (entry ch (script_row_of r)) (deeds_told ch rest)
 
 get-with : (o : Option (Passage × Deed)) (m : FinMap passage_cmp Deed) (q : Passage) → map.get (with o m) q ≡ or_else (said_by o q) (map.get m q)
 unfolding with said_by
@@ -123,32 +124,32 @@ get-with (Some e) m q = get-insert passages_total m e.0 e.1 q ∙ chosen (eq_by_
     chosen true what o = refl
     chosen false what o = refl
 
-get-told : (ch : Channel) (records : List Record) (q : Passage) → map.get (deeds_told ch records) q ≡ deed_by ch q records
+get-told : (ch : Channel) (records : List FileRecord) (q : Passage) → map.get (deeds_told ch records) q ≡ deed_by ch q records
 unfolding deeds_told looked_up
 get-told ch [] q = get-empty passage_cmp q
 get-told ch (r ∷ rest) q =
-    get-with (entry ch (row_of r)) (deeds_told ch rest) q
-    ∙ (λ i. or_else (sym (said-entry ch q (row_of r)) i) (get-told ch rest q i))
+    get-with (entry ch (script_row_of r)) (deeds_told ch rest) q
+    ∙ (λ i. or_else (sym (said-entry ch q (script_row_of r)) i) (get-told ch rest q i))
 
-found-told : (ch : Channel) (records : List Record) (q : Passage) → deed_in (map.entries (deeds_told ch records)) q ≡ deed_by ch q records
+found-told : (ch : Channel) (records : List FileRecord) (q : Passage) → deed_in (map.entries (deeds_told ch records)) q ≡ deed_by ch q records
 unfolding deed_in
 found-told ch records q =
     sym (get-entries (deeds_told ch records) q ∙ find-lookup passage_cmp q (map.entries (deeds_told ch records)))
     ∙ get-told ch records q
 
-ascending-told : (ch : Channel) (records : List Record) → AreAscending (map.entries (deeds_told ch records))
-unfolding AreAscending
+ascending-told : (ch : Channel) (records : List FileRecord) → DeedsAscend (map.entries (deeds_told ch records))
+unfolding DeedsAscend
 ascending-told ch records = ordered-keys passage_cmp (map.entries (deeds_told ch records)) (map.entries_sorted (deeds_told ch records))
 
 -- the script that records stand for
-script_told : List Record → ScriptView
+script_told : List FileRecord → ScriptView
 script_told records = record {
   arbitrary = answers (λ node. is_named node records) 65;
   on_a = map.entries (deeds_told channel.A records);
   on_b = map.entries (deeds_told channel.B records);
 }
 
-stands-told : (records : List Record) → StandsFor (script_told records) records
+stands-told : (records : List FileRecord) → ScriptStandsFor (script_told records) records
 unfolding script_told is_arbitrary
 stands-told records = record {
   long = length-answers (λ node. is_named node records) 65;
@@ -161,15 +162,15 @@ stands-told records = record {
     deeds channel.A q = found-told channel.A records q
     deeds channel.B q = found-told channel.B records q
 
-    ascending : (ch : Channel) → AreAscending (deeds_on (script_told records) ch)
+    ascending : (ch : Channel) → DeedsAscend (deeds_on (script_told records) ch)
     ascending channel.A = ascending-told channel.A records
     ascending channel.B = ascending-told channel.B records
 
 -- a file is accepted, or a record of it is refused
-pub reads-some : (p : Values) (bytes : List ℕ) → (answer : Result ScriptView ScriptFault) × (answer ≢ Err fault.NoMemory) × Reads p bytes answer
-reads-some p bytes = by (none-or-first-refused (reason_after p) (records_of bytes))
+pub reads-some : (p : Values) → HasSomeAnswer (script_file p)
+reads-some p bytes = by (none-or-first-refused (script_reason_after p) (records_of bytes))
   where
-    by : NoneRefused (reason_after p) (records_of bytes) ⊎ ((n : ℕ) × ((why : Reason) × FirstRefused (reason_after p) (records_of bytes) n why))
-        → (answer : Result ScriptView ScriptFault) × (answer ≢ Err fault.NoMemory) × Reads p bytes answer
+    by : NoneRefused (script_reason_after p) (records_of bytes) ⊎ ((n : ℕ) × ((why : Reason) × FirstRefused (script_reason_after p) (records_of bytes) n why))
+        → (answer : Result ScriptView ScriptFault) × (answer ≢ Err fault.NoMemory) × Reads (script_file p) bytes answer
     by (inl none) = (Ok (script_told (records_of bytes)), λ same. cc same, record { none_refused = none; stands = stands-told (records_of bytes) })
     by (inr first) = (Err (fault.Row first.0 first.1.0), λ same. cc same, first.1.1)

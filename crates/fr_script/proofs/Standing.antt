@@ -2,12 +2,12 @@
 use Rattle.std.proofs.Common.{◌≡◌, List}
 use Rattle.fr_base.specs.declared.channel.Channel.{Channel}
 use Rattle.fr_base.specs.declared.channel.Channel.TheVariants as channel
-use Rattle.fr_records.specs.Records.{Record}
-use Rattle.fr_script.specs.Deeds.{deed_in, AreAscending}
+use Rattle.fr_records.specs.Records.{FileRecord}
+use Rattle.fr_script.specs.Deeds.{deed_in, DeedsAscend}
 use Rattle.fr_script.specs.Reasons.{deed_by}
 use Rattle.fr_script.specs.View.{ScriptView, is_arbitrary, deeds_on}
-use Rattle.fr_script.specs.Draft.{IsDraftOf}
-use Rattle.fr_script.specs.Files.{StandsFor}
+use Rattle.fr_script.specs.Draft.{IsScriptDraft}
+use Rattle.fr_script.specs.Files.{ScriptStandsFor}
 use Rattle.fr_script.specs.declared.deeds.Passage.{Passage}
 use Rattle.fr_script.specs.declared.draft.Draft.{Draft}
 
@@ -15,7 +15,7 @@ use Rattle.fr_script.specs.declared.draft.Draft.{Draft}
 abbrev pub view_of : Draft → ScriptView
 view_of d = record { arbitrary = d.arbitrary; on_a = d.on_a; on_b = d.on_b }
 
-pub stands-of : (d : Draft) (records : List Record) → IsDraftOf d records → StandsFor (view_of d) records
+pub stands-of : (d : Draft) (records : List FileRecord) → IsScriptDraft d records → ScriptStandsFor (view_of d) records
 unfolding is_arbitrary
 stands-of d records h = record {
   long = h.long;
@@ -28,6 +28,6 @@ stands-of d records h = record {
     deeds channel.A passage = h.said_a passage
     deeds channel.B passage = h.said_b passage
 
-    ascending : (ch : Channel) → AreAscending (deeds_on (view_of d) ch)
+    ascending : (ch : Channel) → DeedsAscend (deeds_on (view_of d) ch)
     ascending channel.A = h.deeds_a.ascending
     ascending channel.B = h.deeds_b.ascending

@@ -10,33 +10,19 @@ use Rattle.std.proofs.lemmas.List.Folds.{list_any-append}
 use Rattle.fr_base.specs.declared.channel.Channel.{Channel}
 use Rattle.fr_base.specs.declared.channel.Channel.TheVariants as channel
 use Rattle.fr_base.specs.declared.reason.Reason.{Reason}
-use Rattle.fr_records.specs.Records.{Record}
-use Rattle.fr_params.specs.Reasons.{or_else, looked_up}
-use Rattle.fr_script.specs.Deeds.{deed_in, passage_cmp, AreAscending}
-use Rattle.fr_script.specs.Rows.{row_of, IsProperDeed}
-use Rattle.fr_script.specs.Reasons.{names, acts, is_same, is_on, deed_said, is_named, has_acted, deed_by}
+use Rattle.fr_records.specs.Records.{FileRecord}
+use Rattle.fr_records.specs.Fields.{is_channel, or_else, looked_up}
+use Rattle.fr_records.proofs.Lookups.{looked_up-more, or_else-none}
+use Rattle.fr_script.specs.Deeds.{deed_in, passage_cmp, DeedsAscend}
+use Rattle.fr_script.specs.Rows.{script_row_of, IsProperDeed}
+use Rattle.fr_script.specs.Reasons.{names, acts, is_same, deed_said, is_named, has_acted, deed_by}
 use Rattle.fr_script.specs.View.{AreDeeds}
-use Rattle.fr_script.specs.Draft.{IsDraftOf}
+use Rattle.fr_script.specs.Draft.{IsScriptDraft}
 use Rattle.fr_script.specs.declared.deeds.Passage.{Passage}
 use Rattle.fr_script.specs.declared.deeds.Deed.{Deed}
 use Rattle.fr_script.specs.declared.rows.Row.{Row}
 use Rattle.fr_script.specs.declared.rows.Row.TheVariants as row
 use Rattle.fr_script.specs.declared.draft.Draft.{Draft}
-
-or_else-none : {A : Type 0} (o : Option A) → or_else o None ≡ o
-or_else-none None = refl
-or_else-none (Some x) = refl
-
-or_else_assoc : {A : Type 0} (a b c : Option A) → or_else a (or_else b c) ≡ or_else (or_else a b) c
-or_else_assoc None b c = refl
-or_else_assoc (Some x) b c = refl
-
--- one record more to look in
-looked_up-more : {A : Type 0} (what : Record → Option A) (records : List Record) (r : Record) → looked_up what (records ++ r ∷ []) ≡ or_else (looked_up what records) (what r)
-unfolding looked_up
-looked_up-more what [] r = or_else-none (what r)
-looked_up-more what (x ∷ xs) r =
-    ap (λ (o : Option _). or_else (what x) o) (looked_up-more what xs r) ∙ or_else_assoc (what x) (looked_up what xs) (what r)
 
 or-false : (b : Bool) → (b || false) ≡ b
 or-false true = refl
@@ -46,27 +32,26 @@ or-true : (b : Bool) → (b || true) ≡ true
 or-true true = refl
 or-true false = refl
 
-is_named-more : (node : ℕ) (done : List Record) (r : Record) (x : Result Row Reason) → row_of r ≡ x
+is_named-more : (node : ℕ) (done : List FileRecord) (r : FileRecord) (x : Result Row Reason) → script_row_of r ≡ x
     → is_named node (done ++ r ∷ []) ≡ (is_named node done || names node x)
 is_named-more node done r x e =
-    list_any-append (λ q. names node (row_of q)) done (r ∷ [])
-    ∙ ap (λ (b : Bool). is_named node done || b) (or-false (names node (row_of r)))
+    list_any-append (λ q. names node (script_row_of q)) done (r ∷ [])
+    ∙ ap (λ (b : Bool). is_named node done || b) (or-false (names node (script_row_of r)))
     ∙ ap (λ (y : Result Row Reason). is_named node done || names node y) e
 
-has_acted-more : (done : List Record) (r : Record) (x : Result Row Reason) → row_of r ≡ x
+has_acted-more : (done : List FileRecord) (r : FileRecord) (x : Result Row Reason) → script_row_of r ≡ x
     → has_acted (done ++ r ∷ []) ≡ (has_acted done || acts x)
 has_acted-more done r x e =
-    list_any-append (λ q. acts (row_of q)) done (r ∷ [])
-    ∙ ap (λ (b : Bool). has_acted done || b) (or-false (acts (row_of r)))
+    list_any-append (λ q. acts (script_row_of q)) done (r ∷ [])
+    ∙ ap (λ (b : Bool). has_acted done || b) (or-false (acts (script_row_of r)))
     ∙ ap (λ (y : Result Row Reason). has_acted done || acts y) e
 
-deed_by-more : (ch : Channel) (q : Passage) (done : List Record) (r : Record) (x : Result Row Reason) → row_of r ≡ x
+deed_by-more : (ch : Channel) (q : Passage) (done : List FileRecord) (r : FileRecord) (x : Result Row Reason) → script_row_of r ≡ x
     → deed_by ch q (done ++ r ∷ []) ≡ or_else (deed_by ch q done) (deed_said ch q x)
-deed_by-more ch q done r x e =
-    looked_up-more (λ s. deed_said ch q (row_of s)) done r ∙ ap (λ (y : Result Row Reason). or_else (deed_by ch q done) (deed_said ch q y)) e
+deed_by-more ch q done r x e = looked_up-more (deed_said ch q) script_row_of done r x e
 
 deeds-nil : AreDeeds []
-unfolding AreAscending IsStrictlySortedBy deed_in
+unfolding DeedsAscend IsStrictlySortedBy deed_in
 deeds-nil = record { ascending = tt; proper = λ q. tt }
 
 deed_by-nil : (ch : Channel) (q : Passage) → None ≡ deed_by ch q []
@@ -81,7 +66,7 @@ nothing-named : (k : ℕ) → k ≤ 64 → slice_index_or (replicate 65 false) k
 nothing-named k h = get_or-replicate 65 k false false (omega arith)
 
 -- tables of nothing
-pub draft-nil : (d : Draft) → d.arbitrary ≡ replicate 65 false → d.on_a ≡ [] → d.on_b ≡ [] → d.acted ≡ false → IsDraftOf d []
+pub draft-nil : (d : Draft) → d.arbitrary ≡ replicate 65 false → d.on_a ≡ [] → d.on_b ≡ [] → d.acted ≡ false → IsScriptDraft d []
 draft-nil d nodes a b acted = record {
   long = rw nodes (length-replicate 65 false);
   nodes = λ k h. rw nodes (nothing-named k h);
@@ -109,8 +94,8 @@ marked marks node k named long low before = by (cases_eq k node)
         get_or-set_other marks node k true false ne ∙ before ∙ sym (ap (λ (b : Bool). named || b) no ∙ or-false named)
 
 -- a node that was not named is taken
-pub draft-node : (d : Draft) (done : List Record) (r : Record) (node : ℕ) → IsDraftOf d done → node ≤ 64 → row_of r ≡ Ok (row.Arbitrary node)
-    → IsDraftOf (record d { arbitrary = slice_set d.arbitrary node true }) (done ++ r ∷ [])
+pub draft-node : (d : Draft) (done : List FileRecord) (r : FileRecord) (node : ℕ) → IsScriptDraft d done → node ≤ 64 → script_row_of r ≡ Ok (row.Arbitrary node)
+    → IsScriptDraft (record d { arbitrary = slice_set d.arbitrary node true }) (done ++ r ∷ [])
 draft-node d done r node h low e = record {
   long = length-set d.arbitrary node true ∙ h.long;
   nodes = λ k below. marked d.arbitrary node k _ h.long low (h.nodes k below) ∙ sym (is_named-more k done r _ e);
@@ -147,8 +132,8 @@ abbrev deed_line : Channel → Passage → Deed → Result Row Reason
 deed_line ch passage what = Ok (row.Deed (record { passage = passage; channel = Some ch; deed = Some what }))
 
 -- what a table with one deed more has, and what the records with one row more say
-taken : (ch : Channel) (done : List Record) (r : Record) (old new : List (Passage × Deed)) (passage : Passage) (what : Deed)
-    → row_of r ≡ deed_line ch passage what → is_on ch (Some ch) ≡ true
+taken : (ch : Channel) (done : List FileRecord) (r : FileRecord) (old new : List (Passage × Deed)) (passage : Passage) (what : Deed)
+    → script_row_of r ≡ deed_line ch passage what → is_channel ch (Some ch) ≡ true
     → ((q : Passage) → deed_in old q ≡ deed_by ch q done) → deed_by ch passage done ≡ None
     → ((q : Passage) → deed_in new q ≡ (if is_at (passage_cmp passage) q then Some what else deed_in old q))
     → (q : Passage) → deed_in new q ≡ deed_by ch q (done ++ r ∷ [])
@@ -173,8 +158,8 @@ taken ch done r old new passage what e said before empty there q =
         ∙ sym (ap (λ (o : Option Deed). or_else (deed_by ch q done) o) none ∙ or_else-none (deed_by ch q done))
 
 -- deeds of one channel say nothing of the other
-kept : (ch on : Channel) (done : List Record) (r : Record) (old : List (Passage × Deed)) (passage : Passage) (what : Deed)
-    → row_of r ≡ deed_line on passage what → is_on ch (Some on) ≡ false
+kept : (ch on : Channel) (done : List FileRecord) (r : FileRecord) (old : List (Passage × Deed)) (passage : Passage) (what : Deed)
+    → script_row_of r ≡ deed_line on passage what → is_channel ch (Some on) ≡ false
     → ((q : Passage) → deed_in old q ≡ deed_by ch q done) → (q : Passage) → deed_in old q ≡ deed_by ch q (done ++ r ∷ [])
 kept ch on done r old passage what e off before q =
     let none : deed_said ch q (deed_line on passage what) ≡ None = ap (λ (b : Bool). if (b && is_same passage q) then Some what else None) off in
@@ -182,7 +167,7 @@ kept ch on done r old passage what e off before q =
 
 -- deeds stay proper with one more
 pub deeds-put : (old new : List (Passage × Deed)) (passage : Passage) (what : Deed) → AreDeeds old → IsProperDeed what
-    → ((q : Passage) → deed_in new q ≡ (if is_at (passage_cmp passage) q then Some what else deed_in old q)) → (AreAscending old → AreAscending new) → AreDeeds new
+    → ((q : Passage) → deed_in new q ≡ (if is_at (passage_cmp passage) q then Some what else deed_in old q)) → (DeedsAscend old → DeedsAscend new) → AreDeeds new
 deeds-put old new passage what h proper there ordered = record {
   ascending = ordered h.ascending;
   proper = λ q. rw (there q) (by q (is_at (passage_cmp passage) q));
@@ -193,10 +178,10 @@ deeds-put old new passage what h proper there ordered = record {
     by q false = h.proper q
 
 -- a deed on channel A is taken, and one on channel B
-pub draft-deed_a : (d : Draft) (new : List (Passage × Deed)) (done : List Record) (r : Record) (passage : Passage) (what : Deed) → IsDraftOf d done
-    → row_of r ≡ deed_line channel.A passage what → deed_by channel.A passage done ≡ None → IsProperDeed what
-    → ((q : Passage) → deed_in new q ≡ (if is_at (passage_cmp passage) q then Some what else deed_in d.on_a q)) → (AreAscending d.on_a → AreAscending new)
-    → IsDraftOf (record d { on_a = new; acted = true }) (done ++ r ∷ [])
+pub draft-deed_a : (d : Draft) (new : List (Passage × Deed)) (done : List FileRecord) (r : FileRecord) (passage : Passage) (what : Deed) → IsScriptDraft d done
+    → script_row_of r ≡ deed_line channel.A passage what → deed_by channel.A passage done ≡ None → IsProperDeed what
+    → ((q : Passage) → deed_in new q ≡ (if is_at (passage_cmp passage) q then Some what else deed_in d.on_a q)) → (DeedsAscend d.on_a → DeedsAscend new)
+    → IsScriptDraft (record d { on_a = new; acted = true }) (done ++ r ∷ [])
 draft-deed_a d new done r passage what h e empty proper there ordered = record {
   long = h.long;
   nodes = λ k below. h.nodes k below ∙ sym (is_named-more k done r _ e ∙ or-false (is_named k done));
@@ -207,10 +192,10 @@ draft-deed_a d new done r passage what h e empty proper there ordered = record {
   deeds_b = h.deeds_b;
 }
 
-pub draft-deed_b : (d : Draft) (new : List (Passage × Deed)) (done : List Record) (r : Record) (passage : Passage) (what : Deed) → IsDraftOf d done
-    → row_of r ≡ deed_line channel.B passage what → deed_by channel.B passage done ≡ None → IsProperDeed what
-    → ((q : Passage) → deed_in new q ≡ (if is_at (passage_cmp passage) q then Some what else deed_in d.on_b q)) → (AreAscending d.on_b → AreAscending new)
-    → IsDraftOf (record d { on_b = new; acted = true }) (done ++ r ∷ [])
+pub draft-deed_b : (d : Draft) (new : List (Passage × Deed)) (done : List FileRecord) (r : FileRecord) (passage : Passage) (what : Deed) → IsScriptDraft d done
+    → script_row_of r ≡ deed_line channel.B passage what → deed_by channel.B passage done ≡ None → IsProperDeed what
+    → ((q : Passage) → deed_in new q ≡ (if is_at (passage_cmp passage) q then Some what else deed_in d.on_b q)) → (DeedsAscend d.on_b → DeedsAscend new)
+    → IsScriptDraft (record d { on_b = new; acted = true }) (done ++ r ∷ [])
 draft-deed_b d new done r passage what h e empty proper there ordered = record {
   long = h.long;
   nodes = λ k below. h.nodes k below ∙ sym (is_named-more k done r _ e ∙ or-false (is_named k done));

@@ -1,5 +1,5 @@
 -- What the rows of a script do to frames, looked up by passage.
-use Rattle.std.specs.Prelude.{ℕ, ◌≡◌, ◌<◌, ◌≤◌, List, Option, None}
+use Rattle.std.specs.Prelude.{ℕ, ◌≡◌, ◌<◌, ◌≤◌, List, Option, Some, None, if◌then◌else◌}
 use Rattle.std.specs.declared.cmp.Ordering.{Ordering}
 use Rattle.std.specs.Ordering.{nat_cmp, ordering_then}
 use Rattle.std.specs.BTreeMap.{is_at}
@@ -20,9 +20,20 @@ unfoldable pub deed_in : List (Passage × Deed) → Passage → Option Deed
 deed_in deeds passage = lookup (is_at (passage_cmp passage)) deeds
 
 -- the passages stand in order, none of them twice
-unfoldable pub AreAscending : List (Passage × Deed) → Type 0
-AreAscending deeds = IsStrictlySortedBy passage_cmp (keys_of deeds)
+unfoldable pub DeedsAscend : List (Passage × Deed) → Type 0
+DeedsAscend deeds = IsStrictlySortedBy passage_cmp (keys_of deeds)
 
 -- no deed of a pair of nodes lies from one cycle on and before another
 abbrev pub IsQuiet : List (Passage × Deed) → ℕ → ℕ → ℕ → ℕ → Type 0
 IsQuiet deeds sender receiver from to = (cycle : ℕ) → from ≤ cycle → cycle < to → deed_in deeds (passage_of sender receiver cycle) ≡ None
+
+-- a deed is put under its passage, and all else stays
+abbrev pub IsDeedPut : List (Passage × Deed) → List (Passage × Deed) → Passage → Deed → Type 0
+IsDeedPut old new passage deed = (q : Passage) → deed_in new q ≡ (if is_at (passage_cmp passage) q then Some deed else deed_in old q)
+
+-- the first cycle from one cycle on and before an end that has something, or the end
+pub record IsNextCycle (IsQuietIn StandsIn : ℕ → Type 0) (cycle end found : ℕ) : Type 0 where
+  pub from : cycle ≤ found
+  pub to : found ≤ end
+  pub quiet : (c : ℕ) → cycle ≤ c → c < found → IsQuietIn c
+  pub stands : found < end → StandsIn found

@@ -18,14 +18,14 @@ done_by (Some (deed.Flip bit)) = event.Flip bit
 done_by (Some (deed.Say shift bytes)) = event.Regular
 
 -- and what an arbitrary sender says by it
-abbrev pub said_by : Option Deed → Event
-said_by None = event.Silent
-said_by (Some deed.Lose) = event.Silent
-said_by (Some (deed.Flip bit)) = event.Silent
-said_by (Some (deed.Say shift bytes)) = event.Say shift bytes
+abbrev pub event_of_deed : Option Deed → Event
+event_of_deed None = event.Silent
+event_of_deed (Some deed.Lose) = event.Silent
+event_of_deed (Some (deed.Flip bit)) = event.Silent
+event_of_deed (Some (deed.Say shift bytes)) = event.Say shift bytes
 
 abbrev pub event_by : Bool → Option Deed → Event
-event_by true what = said_by what
+event_by true what = event_of_deed what
 event_by false what = done_by what
 
 -- what becomes of the frames of a sender at a receiver, in a cycle on a channel

@@ -1,3 +1,4 @@
+-- what the public contract cites
 pub mod Said
 pub mod Deeds
 pub mod Rows
@@ -7,7 +8,5 @@ pub mod Fields
 pub mod Events
 pub mod Draft
 pub mod Files
-pub mod First
-pub mod Links
-pub mod Coverage
-pub mod Order
+pub mod Holding
+pub mod Promises

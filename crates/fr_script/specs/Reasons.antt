@@ -1,17 +1,16 @@
--- Why a record of a script is refused behind the records before it: what the earlier records say is looked up
+-- Why a record of a script is refused after the records before it: what the earlier records say is looked up
 -- in their list.
-use Rattle.std.specs.Prelude.{ℕ, ◌+◌, ◌*◌, nat_le, Bool, true, false, not, ◌==◌, ◌&&◌, ◌||◌, List, Option, Some, None, is_some, is_none, Result, Ok, Err, option_and_then, if◌then◌else◌}
+use Rattle.std.specs.Prelude.{ℕ, ◌+◌, ◌*◌, nat_le, Bool, true, false, not, ◌==◌, ◌&&◌, ◌||◌, List, Option, Some, None, is_some, is_none, Result, Ok, Err, if◌then◌else◌}
 use Rattle.std.specs.List.{list_any}
 use Rattle.fr_base.specs.declared.channel.Channel.{Channel}
-use Rattle.fr_base.specs.declared.channel.Channel.TheVariants as channel
 use Rattle.fr_base.specs.declared.reason.Reason.{Reason}
 use Rattle.fr_base.specs.declared.reason.Reason.TheVariants as reason
-use Rattle.fr_records.specs.Records.{Record}
-use Rattle.fr_params.specs.Values.{Values, amount}
-use Rattle.fr_params.specs.Questions.{node_of, has_channel}
-use Rattle.fr_params.specs.Reasons.{looked_up}
-use Rattle.fr_params.specs.declared.names.ParamName.TheVariants as name
-use Rattle.fr_script.specs.Rows.{row_of}
+use Rattle.fr_records.specs.Records.{FileRecord}
+use Rattle.fr_cluster.specs.Values.{Values, amount}
+use Rattle.fr_cluster.specs.Questions.{is_common, node_of, own_key}
+use Rattle.fr_records.specs.Fields.{is_channel, looked_up}
+use Rattle.fr_cluster.specs.declared.names.ParamName.TheVariants as name
+use Rattle.fr_script.specs.Rows.{script_row_of}
 use Rattle.fr_script.specs.declared.deeds.Passage.{Passage}
 use Rattle.fr_script.specs.declared.deeds.Deed.{Deed}
 use Rattle.fr_script.specs.declared.deeds.Deed.TheVariants as deed
@@ -34,33 +33,22 @@ acts (Err why) = false
 abbrev pub is_same : Passage → Passage → Bool
 is_same a b = (a.sender == b.sender) && (a.receiver == b.receiver) && (a.cycle == b.cycle)
 
-abbrev pub is_on : Channel → Option Channel → Bool
-is_on channel.A (Some channel.A) = true
-is_on channel.A (Some channel.B) = false
-is_on channel.B (Some channel.A) = false
-is_on channel.B (Some channel.B) = true
-is_on ch None = false
-
 -- the deed of a passage on a channel, if a row says it
 abbrev pub deed_said : Channel → Passage → Result Row Reason → Option Deed
 deed_said ch passage (Ok (row.Arbitrary node)) = None
-deed_said ch passage (Ok (row.Deed d)) = if is_on ch d.channel && is_same d.passage passage then d.deed else None
+deed_said ch passage (Ok (row.Deed d)) = if is_channel ch d.channel && is_same d.passage passage then d.deed else None
 deed_said ch passage (Err why) = None
 
 -- whether the records name a node arbitrary, and whether one is of another kind
-abbrev pub is_named : ℕ → List Record → Bool
-is_named node records = list_any (λ r. names node (row_of r)) records
+abbrev pub is_named : ℕ → List FileRecord → Bool
+is_named node records = list_any (λ r. names node (script_row_of r)) records
 
-abbrev pub has_acted : List Record → Bool
-has_acted records = list_any (λ r. acts (row_of r)) records
+abbrev pub has_acted : List FileRecord → Bool
+has_acted records = list_any (λ r. acts (script_row_of r)) records
 
 -- the deed of a passage on a channel that the records say
-abbrev pub deed_by : Channel → Passage → List Record → Option Deed
-deed_by ch passage records = looked_up (λ r. deed_said ch passage (row_of r)) records
-
--- the key slot of a node, if it is there and has one
-abbrev pub key_slot : Values → ℕ → Option ℕ
-key_slot p node = option_and_then (λ n. n.key) (node_of p node)
+abbrev pub deed_by : Channel → Passage → List FileRecord → Option Deed
+deed_by ch passage records = looked_up (λ r. deed_said ch passage (script_row_of r)) records
 
 -- whether a row is a `say` row: it is where its bytes are not hexadecimal
 abbrev pub is_say : Option Deed → Bool
@@ -73,52 +61,53 @@ is_say (Some (deed.Flip bit)) = false
 abbrev pub bits_of : Values → ℕ
 bits_of p = 8 * (8 + 2 * amount p name.gPayloadLengthStatic)
 
-abbrev pub is_behind_frame : Values → Option Deed → Bool
-is_behind_frame p None = false
-is_behind_frame p (Some deed.Lose) = false
-is_behind_frame p (Some (deed.Flip bit)) = nat_le (bits_of p) bit
-is_behind_frame p (Some (deed.Say shift bytes)) = false
+abbrev pub is_after_frame : Values → Option Deed → Bool
+is_after_frame p None = false
+is_after_frame p (Some deed.Lose) = false
+is_after_frame p (Some (deed.Flip bit)) = nat_le (bits_of p) bit
+is_after_frame p (Some (deed.Say shift bytes)) = false
 
 -- a `say` row is of an arbitrary sender, and any other row of a correct one; the receiver is another node, and correct
-abbrev pub is_misplaced : List Record → Passage → Bool → Bool
+abbrev pub is_misplaced : List FileRecord → Passage → Bool → Bool
 is_misplaced records passage says =
     (passage.sender == passage.receiver)
     || is_named passage.receiver records
     || (if says then not (is_named passage.sender records) else is_named passage.sender records)
 
-abbrev pub is_common : Values → Passage → Channel → Bool
-is_common p passage ch = has_channel (node_of p passage.sender) ch && has_channel (node_of p passage.receiver) ch
+-- whether the cluster has both nodes of a passage
+abbrev pub knows_both : Values → Passage → Bool
+knows_both p passage = is_some (node_of p passage.sender) && is_some (node_of p passage.receiver)
 
--- the least reason behind these records for which a node is not named
-abbrev pub node_reason : Values → List Record → ℕ → Option Reason
+-- the least reason after these records for which a node is not named
+abbrev pub node_reason : Values → List FileRecord → ℕ → Option Reason
 node_reason p records node =
     if is_none (node_of p node) then Some reason.UnknownNode
-    else if is_none (key_slot p node) || has_acted records then Some reason.Role
+    else if is_none (own_key p node) || has_acted records then Some reason.Role
     else if is_named node records then Some reason.Repeated
     else None
 
 -- and for which a deed is not taken
-abbrev pub channel_reason : Values → List Record → Passage → Option Deed → Option Channel → Option Reason
+abbrev pub channel_reason : Values → List FileRecord → Passage → Option Deed → Option Channel → Option Reason
 channel_reason p records passage what None = Some reason.BadChannel
 channel_reason p records passage what (Some ch) =
     if is_misplaced records passage (is_say what) then Some reason.Role
-    else if not (is_common p passage ch) then Some reason.Link
+    else if not (is_common p passage.sender passage.receiver ch) then Some reason.Link
     else if is_none what then Some reason.NotHex
     else if is_some (deed_by ch passage records) then Some reason.Repeated
     else None
 
-abbrev pub deed_reason : Values → List Record → DeedRow → Option Reason
+abbrev pub deed_reason : Values → List FileRecord → DeedRow → Option Reason
 deed_reason p records d =
-    if is_behind_frame p d.deed then Some reason.OutOfRange
-    else if is_none (node_of p d.passage.sender) || is_none (node_of p d.passage.receiver) then Some reason.UnknownNode
+    if is_after_frame p d.deed then Some reason.OutOfRange
+    else if not (knows_both p d.passage) then Some reason.UnknownNode
     else channel_reason p records d.passage d.deed d.channel
 
--- the least reason behind these records, of what a record says or shows by itself
-abbrev pub row_reason : Values → List Record → Result Row Reason → Option Reason
-row_reason p records (Err why) = Some why
-row_reason p records (Ok (row.Arbitrary node)) = node_reason p records node
-row_reason p records (Ok (row.Deed d)) = deed_reason p records d
+-- the least reason after these records, of what a record says or shows by itself
+abbrev pub script_row_reason : Values → List FileRecord → Result Row Reason → Option Reason
+script_row_reason p records (Err why) = Some why
+script_row_reason p records (Ok (row.Arbitrary node)) = node_reason p records node
+script_row_reason p records (Ok (row.Deed d)) = deed_reason p records d
 
--- why a record is refused behind the records before it, if it is
-abbrev pub reason_after : Values → List Record → Record → Option Reason
-reason_after p records r = row_reason p records (row_of r)
+-- why a record is refused after the records before it, if it is
+abbrev pub script_reason_after : Values → List FileRecord → FileRecord → Option Reason
+script_reason_after p records r = script_row_reason p records (script_row_of r)

@@ -8,9 +8,10 @@ use Rattle.fr_base.specs.declared.numbers.NumberFault.{NumberFault}
 use Rattle.fr_base.specs.declared.numbers.NumberFault.TheVariants as fault
 use Rattle.fr_base.specs.declared.reason.Reason.{Reason}
 use Rattle.fr_base.specs.declared.reason.Reason.TheVariants as reason
-use Rattle.fr_records.specs.Records.{Record}
-use Rattle.fr_records.specs.Fields.{natural_of, both_of, channel_of}
-use Rattle.fr_params.specs.Rows.{is_blank, or_reason, field_of}
+use Rattle.fr_records.specs.Records.{FileRecord}
+use Rattle.fr_base.specs.Channels.{channel_of}
+use Rattle.fr_records.specs.Fields.{natural_of, both_of}
+use Rattle.fr_records.specs.Fields.{is_blank, or_reason, field_of}
 use Rattle.fr_script.specs.Deeds.{passage_of}
 use Rattle.fr_script.specs.Said.{AreSaidBytes}
 use Rattle.fr_script.specs.declared.deeds.Passage.{Passage}
@@ -32,7 +33,7 @@ abbrev pub joined : Result (ℕ × (ℕ × ℕ)) NumberFault → Result Passage 
 joined (Ok numbers) = Ok (passage_of numbers.1.0 numbers.1.1 numbers.0)
 joined (Err fault) = Err fault
 
-abbrev pub passage_in : Record → Result Passage NumberFault
+abbrev pub passage_in : FileRecord → Result Passage NumberFault
 passage_in fields = joined (both_of (natural_of 0 199_999 (field_of fields 1)) (both_of (natural_of 1 64 (field_of fields 2)) (natural_of 1 64 (field_of fields 3))))
 
 -- how many hexadecimal digits a field has, if they are no more than a frame has; every byte counts as one
@@ -40,7 +41,7 @@ abbrev pub digits_in : List ℕ → Result ℕ NumberFault
 digits_in text = if nat_lt 524 (length text) then Err fault.OutOfRange else Ok (length text)
 
 -- what a row says of its passage
-abbrev pub deed_row : Record → Passage → Option Deed → Row
+abbrev pub deed_row : FileRecord → Passage → Option Deed → Row
 deed_row fields passage what = row.Deed (record { passage = passage; channel = channel_of (field_of fields 4); deed = what })
 
 -- the frame that a field names: the regular one where it is empty; none where it is not hexadecimal
@@ -55,40 +56,40 @@ abbrev pub say_deed : ℤ → Option (Option (List ℕ)) → Option Deed
 say_deed shift None = None
 say_deed shift (Some bytes) = Some (deed.Say shift bytes)
 
--- the fields behind a node are empty
-abbrev pub is_node_alone : Record → Bool
+-- the fields after a node are empty
+abbrev pub is_node_alone : FileRecord → Bool
 is_node_alone fields = is_blank (field_of fields 2) && is_blank (field_of fields 3) && is_blank (field_of fields 4) && is_blank (field_of fields 5) && is_blank (field_of fields 6)
 
-abbrev pub node_row : Result ℕ NumberFault → Result Row Reason
-node_row number = or_reason (λ node. Ok (row.Arbitrary node)) number
+abbrev pub script_node_row : Result ℕ NumberFault → Result Row Reason
+script_node_row number = or_reason (λ node. Ok (row.Arbitrary node)) number
 
-abbrev pub arbitrary_row : Record → Result Row Reason
-arbitrary_row fields = if is_node_alone fields then node_row (natural_of 1 64 (field_of fields 1)) else Err reason.Shape
+abbrev pub arbitrary_row : FileRecord → Result Row Reason
+arbitrary_row fields = if is_node_alone fields then script_node_row (natural_of 1 64 (field_of fields 1)) else Err reason.Shape
 
-abbrev pub shift_in : Record → Result ℤ NumberFault
+abbrev pub shift_in : FileRecord → Result ℤ NumberFault
 shift_in fields = within (neg_ℤ farthest) farthest (number_of (field_of fields 5))
 
-abbrev pub say_row : Record → Result Row Reason
+abbrev pub say_row : FileRecord → Result Row Reason
 say_row fields =
     or_reason (λ numbers. Ok (deed_row fields numbers.0 (say_deed numbers.1.0 (said_in (field_of fields 6)))))
     (both_of (passage_in fields) (both_of (shift_in fields) (digits_in (field_of fields 6))))
 
--- the fields behind a channel are empty
-abbrev pub is_channel_last : Record → Bool
+-- the fields after a channel are empty
+abbrev pub is_channel_last : FileRecord → Bool
 is_channel_last fields = is_blank (field_of fields 5) && is_blank (field_of fields 6)
 
-abbrev pub lose_row : Record → Result Row Reason
+abbrev pub lose_row : FileRecord → Result Row Reason
 lose_row fields = if is_channel_last fields then or_reason (λ passage. Ok (deed_row fields passage (Some deed.Lose))) (passage_in fields) else Err reason.Shape
 
-abbrev pub flip_row : Record → Result Row Reason
+abbrev pub flip_row : FileRecord → Result Row Reason
 flip_row fields =
     if is_blank (field_of fields 6)
     then or_reason (λ numbers. Ok (deed_row fields numbers.0 (Some (deed.Flip numbers.1)))) (both_of (passage_in fields) (natural_of 0 2095 (field_of fields 5)))
     else Err reason.Shape
 
 -- what a record of seven fields says, by its kind
-abbrev pub kind_row : Record → Result Row Reason
-kind_row fields =
+abbrev pub script_file_row : FileRecord → Result Row Reason
+script_file_row fields =
     if bytes_eq (field_of fields 0) (codes "arbitrary") then arbitrary_row fields
     else if bytes_eq (field_of fields 0) (codes "say") then say_row fields
     else if bytes_eq (field_of fields 0) (codes "lose") then lose_row fields
@@ -96,9 +97,9 @@ kind_row fields =
     else Err reason.UnknownName
 
 -- what a record says, or the least of the reasons that it shows by itself: but for those of a field that is no channel or
--- not hexadecimal, which come behind reasons that it does not show, and of a bit behind the end of the cluster's frames
-unfoldable pub row_of : Record → Result Row Reason
-row_of fields = if length fields == 7 then kind_row fields else Err reason.Shape
+-- not hexadecimal, which come after reasons that it does not show, and of a bit after the end of the cluster's frames
+unfoldable pub script_row_of : FileRecord → Result Row Reason
+script_row_of fields = if length fields == 7 then script_file_row fields else Err reason.Shape
 
 -- the numbers of a deed lie in their ranges, and what is said fits a frame
 pub record IsProperSay (shift : ℤ) (bytes : Option (List ℕ)) : Type 0 where
@@ -111,6 +112,6 @@ IsProperDeed deed.Lose = Unit {0}
 IsProperDeed (deed.Flip bit) = bit < most_bits
 IsProperDeed (deed.Say shift bytes) = IsProperSay shift bytes
 
-abbrev pub IsProperRow : Row → Type 0
-IsProperRow (row.Arbitrary node) = Unit {0}
-IsProperRow (row.Deed d) = IfSome d.deed IsProperDeed
+abbrev pub IsProperScriptRow : Row → Type 0
+IsProperScriptRow (row.Arbitrary node) = Unit {0}
+IsProperScriptRow (row.Deed d) = IfSome d.deed IsProperDeed

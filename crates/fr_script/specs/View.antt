@@ -1,8 +1,8 @@
 -- What contracts see of a script.
-use Rattle.std.specs.Prelude.{ℕ, ◌≡◌, Bool, false, List, length, Option, IfSome, slice_index_or}
+use Rattle.std.specs.Prelude.{ℕ, ◌≡◌, ◌⊎◌, Bool, false, List, length, Option, None, IsSome, IfSome, slice_index_or}
 use Rattle.fr_base.specs.declared.channel.Channel.{Channel}
 use Rattle.fr_base.specs.declared.channel.Channel.TheVariants as channel
-use Rattle.fr_script.specs.Deeds.{deed_in, passage_of, AreAscending}
+use Rattle.fr_script.specs.Deeds.{deed_in, passage_of, DeedsAscend, IsNextCycle}
 use Rattle.fr_script.specs.Rows.{IsProperDeed}
 use Rattle.fr_script.specs.declared.deeds.Passage.{Passage}
 use Rattle.fr_script.specs.declared.deeds.Deed.{Deed}
@@ -26,9 +26,15 @@ deeds_on s channel.B = s.on_b
 unfoldable pub deed_of : ScriptView → ℕ → ℕ → ℕ → Channel → Option Deed
 deed_of s cycle sender receiver ch = deed_in (deeds_on s ch) (passage_of sender receiver cycle)
 
+-- the first cycle from one cycle on and before an end in which anything is done to the frames of a pair of nodes, or the end
+abbrev pub IsNextAct : ScriptView → ℕ → ℕ → ℕ → ℕ → ℕ → Type 0
+IsNextAct s sender receiver =
+    IsNextCycle (λ c. (ch : Channel) → deed_of s c sender receiver ch ≡ None)
+    (λ c. IsSome (deed_of s c sender receiver channel.A) ⊎ IsSome (deed_of s c sender receiver channel.B))
+
 -- the deeds of a channel stand in order, and their numbers lie in their ranges
 pub record AreDeeds (deeds : List (Passage × Deed)) : Type 0 where
-  pub ascending : AreAscending deeds
+  pub ascending : DeedsAscend deeds
   pub proper : (passage : Passage) → IfSome (deed_in deeds passage) IsProperDeed
 
 -- what holds of every script

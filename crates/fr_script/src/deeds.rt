@@ -1,9 +1,6 @@
-ghost use Rattle.std.specs.Prelude.{◌≡◌, ◌≤◌, ◌<◌, ◌==◌, ℕ, [], Some, IsSome, OnOk, OnErr, if◌then◌else◌};
+ghost use Rattle.std.specs.Prelude.{◌≡◌, ◌≤◌, ◌<◌, [], IsSome, OnOk};
 ghost use Rattle.std.specs.Option.{option_copied};
-ghost use Rattle.std.specs.BTreeMap.{is_at};
-ghost use Rattle.fr_script.specs.Said.{AreSaidBytes};
-ghost use Rattle.fr_script.specs.Deeds.{AreAscending, IsQuiet, deed_in, passage_cmp, passage_of};
-ghost use Rattle.fr_script.specs.declared.deeds.Passage.{Passage as Way};
+ghost use Rattle.fr_script.specs.Deeds.{DeedsAscend, IsDeedPut, IsQuiet, deed_in, passage_of};
 
 use fr_base::NodeId;
 use std::alloc::{AllocError, Global};
@@ -92,16 +89,16 @@ impl DeedTable {
         self.rows.get(passage)
     }
 
-    #[tactic(auto, unfolding(crate::specs::Deeds::deed_in, crate::specs::Deeds::AreAscending))]
+    #[tactic(auto, unfolding(crate::specs::Deeds::deed_in, crate::specs::Deeds::DeedsAscend))]
     pub(crate) fn put(&mut self, passage: Passage, deed: Deed) -> Result<(), AllocError>
-        ensures there { OnOk result ((q : Way) → deed_in self.new q ≡ (if is_at (passage_cmp passage) q then Some deed else deed_in self.old q)) }
-        ensures ordered { OnOk result (AreAscending self.old → AreAscending self.new) }
+        ensures there { OnOk result (IsDeedPut self.old self.new passage deed) }
+        ensures ordered { OnOk result (DeedsAscend self.old → DeedsAscend self.new) }
     {
         self.rows.insert(passage, deed)?;
         Ok(())
     }
 
-    /// The first cycle from `cycle` on, before `end`, in which a pair of nodes has a deed, or `end`.
+    // The first cycle from `cycle` on, before `end`, in which a pair of nodes has a deed, or `end`.
     pub(crate) fn next(&self, sender: NodeId, receiver: NodeId, cycle: u32, end: u32) -> u32
         requires { cycle ≤ end }
         ensures from { cycle ≤ result }
@@ -114,12 +111,12 @@ impl DeedTable {
             receiver,
             cycle,
         };
-        let behind = Passage {
+        let after = Passage {
             sender,
             receiver,
             cycle: end,
         };
-        match self.rows.range(first..behind).next() {
+        match self.rows.range(first..after).next() {
             Some((passage, _)) => passage.cycle,
             None => end,
         }

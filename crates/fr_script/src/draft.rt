@@ -1,11 +1,10 @@
-ghost use Rattle.std.specs.Prelude.{◌≡◌, ◌≤◌, ◌*◌, ◌++◌, ◌∷◌, [], ℕ, List, Ok, Some, None, OnOk, IfOk, IfErr, IfSome, is_some, ◌&&◌};
-ghost use Rattle.csv.specs.Records.{fields_of};
-ghost use Rattle.fr_records.specs.Records.{Record};
-ghost use Rattle.fr_params.specs.Questions.{node_of};
-ghost use Rattle.fr_script.specs.Rows.{IsProperDeed, IsProperRow, row_of};
-ghost use Rattle.fr_script.specs.Reasons.{bits_of, deed_by, deed_reason, is_behind_frame, is_common, is_misplaced, is_named, is_say, node_reason, reason_after, row_reason};
+ghost use Rattle.std.specs.Prelude.{◌≡◌, ◌≤◌, ◌*◌, [], List, IfOk, IfErr, IfSome, is_some};
+ghost use Rattle.fr_records.specs.Records.{FileRecord};
+ghost use Rattle.fr_cluster.specs.Questions.{is_common};
+ghost use Rattle.fr_script.specs.Rows.{IsProperDeed, IsProperScriptRow};
+ghost use Rattle.fr_script.specs.Reasons.{bits_of, deed_by, is_after_frame, is_misplaced, is_named, is_say, knows_both, script_reason_after};
 ghost use Rattle.fr_script.specs.View.{IsScript};
-ghost use Rattle.fr_script.specs.Draft.{IsDraftOf};
+ghost use Rattle.fr_script.specs.Draft.{IsFree, IsRefusedRow, IsScriptDraft, PutsAct, TakesScriptRow, TakesScriptRowAtOnce};
 ghost use Rattle.fr_script.specs.declared.rows.Row.TheVariants as said;
 
 use crate::deeds::{Deed, DeedTable, Passage};
@@ -13,12 +12,12 @@ use crate::rows::{DeedRow, Row, read_row};
 use crate::script::Script;
 use csv::ByteRecord;
 use fr_base::{Channel, NodeId, Reason};
-use fr_params::Params;
+use fr_cluster::Params;
 use fr_records::Table;
 use std::alloc::{AllocError, Global};
 
-/// What the records so far say: which nodes are arbitrary, by their number, what becomes of frames, by
-/// channel, and whether a record of another kind than `arbitrary` came.
+// What the records so far say: which nodes are arbitrary, by their number, what becomes of frames, by
+// channel, and whether a record of another kind than `arbitrary` came.
 #[derive(Drop)]
 pub(crate) struct Draft<'a> {
     pub(crate) alloc: Global,
@@ -29,7 +28,7 @@ pub(crate) struct Draft<'a> {
     pub(crate) acted: bool,
 }
 
-/// A deed that is taken.
+// A deed that is taken.
 #[derive(Drop)]
 pub(crate) struct Act {
     passage: Passage,
@@ -39,7 +38,7 @@ pub(crate) struct Act {
 
 impl<'a> Draft<'a> {
     pub(crate) fn new(alloc: Global, params: &'a Params) -> Draft<'a>
-        ensures none { IsDraftOf result [] }
+        ensures none { IsScriptDraft result [] }
         ensures params { result.params.now ≡ params.now }
     {
         Draft {
@@ -52,10 +51,14 @@ impl<'a> Draft<'a> {
         }
     }
 
-    /// The script that the records stand for.
+    // The script that the records stand for.
     pub(crate) fn into_script(self) -> Script
-        requires { (done : List Record) × IsDraftOf self done }
-        ensures script { result ≡ record { arbitrary = self.entry.arbitrary; on_a = self.entry.on_a; on_b = self.entry.on_b } }
+        requires { (done : List FileRecord) × IsScriptDraft self done }
+        ensures script { result ≡ record {
+          arbitrary = self.entry.arbitrary;
+          on_a = self.entry.on_a;
+          on_b = self.entry.on_b;
+        } }
         ensures sane { IsScript result }
     {
         let Draft {
@@ -70,15 +73,13 @@ impl<'a> Draft<'a> {
     }
 
     fn is_arbitrary(&self, node: NodeId) -> bool
-        ensures { (done : List Record) → IsDraftOf self.now done → result ≡ is_named node done }
+        ensures { (done : List FileRecord) → IsScriptDraft self.now done → result ≡ is_named node done }
     {
         self.arbitrary[usize::from(node.0)]
     }
 
     fn take_node(&mut self, node: NodeId) -> Option<Reason>
-        ensures same { self.new.params ≡ self.old.params }
-        ensures why { (done : List Record) → IsDraftOf self.old done → result ≡ node_reason self.old.params.now done node }
-        ensures adds { (done : List Record) (r : Record) → IsDraftOf self.old done → row_of r ≡ Ok (said.Arbitrary node) → result ≡ None → IsDraftOf self.new (done ++ r ∷ []) }
+        ensures { TakesScriptRowAtOnce self.old self.new (said.Arbitrary node) result }
     {
         let params = self.params;
         match params.node(node) {
@@ -97,10 +98,8 @@ impl<'a> Draft<'a> {
     }
 
     fn take(&mut self, row: Row) -> Result<Option<Reason>, AllocError>
-        requires { IsProperRow row }
-        ensures same { self.new.params ≡ self.old.params }
-        ensures why { (done : List Record) → IsDraftOf self.old done → IfOk result (λ why. why ≡ row_reason self.old.params.now done (Ok row)) }
-        ensures adds { (done : List Record) (r : Record) → IsDraftOf self.old done → row_of r ≡ Ok row → IfOk result (λ why. why ≡ None → IsDraftOf self.new (done ++ r ∷ [])) }
+        requires { IsProperScriptRow row }
+        ensures { TakesScriptRow self.old self.new row result }
     {
         match row {
             Row::Arbitrary(node) => Ok(self.take_node(node)),
@@ -110,9 +109,7 @@ impl<'a> Draft<'a> {
 
     fn take_deed(&mut self, row: DeedRow) -> Result<Option<Reason>, AllocError>
         requires { IfSome row.deed IsProperDeed }
-        ensures same { self.new.params ≡ self.old.params }
-        ensures why { (done : List Record) → IsDraftOf self.old done → IfOk result (λ why. why ≡ deed_reason self.old.params.now done row) }
-        ensures adds { (done : List Record) (r : Record) → IsDraftOf self.old done → row_of r ≡ Ok (said.Deed row) → IfOk result (λ why. why ≡ None → IsDraftOf self.new (done ++ r ∷ [])) }
+        ensures { TakesScriptRow self.old self.new (said.Deed row) result }
     {
         match self.checked(row) {
             Err(why) => Ok(Some(why)),
@@ -123,19 +120,17 @@ impl<'a> Draft<'a> {
         }
     }
 
-    /// What a row does, or the least reason for which it is not taken.
+    // What a row does, or the least reason for which it is not taken.
     fn checked(&self, row: DeedRow) -> Result<Act, Reason>
-        ensures why { (done : List Record) → IsDraftOf self.now done → IfErr result (λ why. deed_reason self.now.params.now done row ≡ Some why) }
-        ensures none { (done : List Record) → IsDraftOf self.now done → IfOk result (λ act. deed_reason self.now.params.now done row ≡ None) }
-        ensures free { (done : List Record) → IsDraftOf self.now done → IfOk result (λ act. deed_by act.channel act.passage done ≡ None) }
-        ensures same { IfOk result (λ act. row ≡ record { passage = act.passage; channel = Some act.channel; deed = Some act.deed }) }
+        ensures free { IfOk result (IsFree self.now row) }
+        ensures why { IfErr result (IsRefusedRow self.now row) }
     {
         let DeedRow {
             passage,
             channel,
             deed,
         } = row;
-        if self.is_behind_frame(&deed) {
+        if self.is_after_frame(&deed) {
             return Err(Reason::OutOfRange);
         }
         if !self.knows_both(&passage) {
@@ -163,8 +158,8 @@ impl<'a> Draft<'a> {
         })
     }
 
-    fn is_behind_frame(&self, deed: &Option<Deed>) -> bool
-        ensures { result ≡ is_behind_frame self.now.params.now deed.now }
+    fn is_after_frame(&self, deed: &Option<Deed>) -> bool
+        ensures { result ≡ is_after_frame self.now.params.now deed.now }
     {
         match deed {
             Some(Deed::Flip(bit)) => bits_of(self.params) <= *bit as usize,
@@ -173,14 +168,14 @@ impl<'a> Draft<'a> {
     }
 
     fn knows_both(&self, passage: &Passage) -> bool
-        ensures { result ≡ (is_some (node_of self.now.params.now passage.now.sender) && is_some (node_of self.now.params.now passage.now.receiver)) }
+        ensures { result ≡ knows_both self.now.params.now passage.now }
     {
         let params = self.params;
         params.node(passage.sender).is_some() && params.node(passage.receiver).is_some()
     }
 
     fn is_misplaced(&self, passage: &Passage, says: bool) -> bool
-        ensures { (done : List Record) → IsDraftOf self.now done → result ≡ is_misplaced done passage.now says }
+        ensures { (done : List FileRecord) → IsScriptDraft self.now done → result ≡ is_misplaced done passage.now says }
     {
         passage.sender == passage.receiver
             || self.is_arbitrary(passage.receiver)
@@ -188,14 +183,15 @@ impl<'a> Draft<'a> {
     }
 
     fn is_common(&self, passage: &Passage, channel: Channel) -> bool
-        ensures { result ≡ is_common self.now.params.now passage.now channel }
+        ensures { result ≡ is_common self.now.params.now passage.now.sender passage.now.receiver channel }
     {
         let params = self.params;
         params.common(passage.sender, passage.receiver, channel)
     }
 
     fn is_taken(&self, passage: &Passage, channel: Channel) -> bool
-        ensures { (done : List Record) → IsDraftOf self.now done → result ≡ is_some (deed_by channel passage.now done) }
+        ensures { (done : List FileRecord) → IsScriptDraft self.now done
+            → result ≡ is_some (deed_by channel passage.now done) }
     {
         match channel {
             Channel::A => self.on_a.get(passage).is_some(),
@@ -205,10 +201,7 @@ impl<'a> Draft<'a> {
 
     fn put(&mut self, act: Act) -> Result<(), AllocError>
         requires { IsProperDeed act.deed }
-        ensures same { self.new.params ≡ self.old.params }
-        ensures adds { (done : List Record) (r : Record) → IsDraftOf self.old done
-            → row_of r ≡ Ok (said.Deed (record { passage = act.passage; channel = Some act.channel; deed = Some act.deed }))
-            → deed_by act.channel act.passage done ≡ None → OnOk result (IsDraftOf self.new (done ++ r ∷ [])) }
+        ensures { PutsAct self.old self.new act result }
     {
         let Act {
             passage,
@@ -239,9 +232,9 @@ fn bits_of(params: &Params) -> usize
 }
 
 impl<'a> Table for Draft<'a> {
-    ghost reason = { λ draft. reason_after draft.params.now };
+    ghost reason = { λ draft. script_reason_after draft.params.now };
 
-    ghost holds = { λ draft records. IsDraftOf draft records };
+    ghost holds = { λ draft records. IsScriptDraft draft records };
 
     fn add(&mut self, row: &ByteRecord) -> Result<Option<Reason>, AllocError> {
         match read_row(self.alloc, row)? {

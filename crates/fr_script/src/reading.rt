@@ -1,12 +1,11 @@
-ghost use Rattle.std.specs.Prelude.{◌≡◌, IfOk, IfErr};
-ghost use Rattle.fr_script.specs.View.{IsScript};
-ghost use Rattle.fr_script.specs.Draft.{IsDraftOf};
-ghost use Rattle.fr_script.specs.Files.{Fits, IsFileOf, Refuses};
+ghost use Rattle.std.specs.Prelude.{IfOk};
+ghost use Rattle.fr_records.specs.Kind.{Reads};
+ghost use Rattle.fr_script.specs.Files.{IsSoundScript, script_file};
 
 use crate::draft::Draft;
 use crate::fault::ScriptFault;
 use crate::script::Script;
-use fr_params::Params;
+use fr_cluster::Params;
 use fr_records::{RowFault, read_all};
 use std::alloc::Global;
 
@@ -16,10 +15,8 @@ use std::alloc::Global;
 /// Its only refusal is `Row`, the first record that is refused, by its number from 1, with the least reason
 /// that holds. `NoMemory` comes where memory ran out.
 pub fn read(alloc: Global, params: &Params, bytes: &[u8]) -> Result<Script, ScriptFault>
-    ensures accepted { IfOk result (λ script. IsFileOf params.now script bytes.now) }
-    ensures fits { IfOk result (λ script. Fits params.now script) }
-    ensures sane { IfOk result (λ script. IsScript script) }
-    ensures refused { IfErr result (λ fault. Refuses params.now bytes.now fault) }
+    ensures reads { Reads (script_file params.now) bytes.now result }
+    ensures sound { IfOk result (IsSoundScript params.now) }
 {
     let mut draft = Draft::new(alloc, params);
     match read_all(alloc, bytes, &mut draft) {

@@ -1,23 +1,23 @@
 ghost use Rattle.std.specs.Prelude.{◌≡◌, ◌≤◌, length, IfOk, IfSome, pos, neg_ℤ, ◌≤ℤ◌};
 ghost use Rattle.csv.specs.Records.{fields_of};
-ghost use Rattle.fr_params.specs.Rows.{field_of, is_blank};
+ghost use Rattle.fr_records.specs.Fields.{field_of, is_blank};
 ghost use Rattle.fr_script.specs.Said.{AreSaidBytes};
-ghost use Rattle.fr_script.specs.Rows.{IsProperDeed, IsProperRow, arbitrary_row, deed_row, digits_in, farthest, flip_row, is_channel_last, is_node_alone, kind_row, lose_row, passage_in, row_of, said_in, say_deed, say_row, shift_in};
+ghost use Rattle.fr_script.specs.Rows.{IsProperDeed, IsProperScriptRow, arbitrary_row, deed_row, digits_in, farthest, flip_row, is_channel_last, is_node_alone, script_file_row, lose_row, passage_in, script_row_of, said_in, say_deed, say_row, shift_in};
 
 use crate::deeds::{Deed, Passage, SaidBytes};
 use csv::ByteRecord;
 use fr_base::{Channel, NodeId, NumberFault, Reason, number};
-use fr_records::{both, channel_of, field, natural, reason_of};
+use fr_records::{both, field, natural, reason_of};
 use hex::FromHexError;
 use std::alloc::{AllocError, Global};
 
-/// The greatest distance of a shift from 0, in ticks.
+// The greatest distance of a shift from 0, in ticks.
 const FARTHEST: i64 = 1_000_000_000_000;
 
-/// The last bit of the longest frame, which has 262 bytes.
+// The last bit of the longest frame, which has 262 bytes.
 const LAST_BIT: u64 = 2095;
 
-/// The greatest number of hexadecimal digits of a frame.
+// The greatest number of hexadecimal digits of a frame.
 const MOST_DIGITS: usize = 524;
 
 /// What a record says of the frames of a passage.
@@ -41,10 +41,10 @@ pub enum Row {
 
 /// What a record says, or the least of the reasons that it shows by itself: Shape, UnknownName, NotNumber,
 /// OutOfRange. `AllocError` where memory ran out.
-#[tactic(auto, unfolding(crate::specs::Rows::row_of))]
+#[tactic(auto, unfolding(crate::specs::Rows::script_row_of))]
 pub fn read_row(alloc: Global, row: &ByteRecord) -> Result<Result<Row, Reason>, AllocError>
-    ensures said { IfOk result (λ said. said ≡ row_of (fields_of row.now)) }
-    ensures proper { IfOk result (λ said. IfOk said IsProperRow) }
+    ensures said { IfOk result (λ said. said ≡ script_row_of (fields_of row.now)) }
+    ensures proper { IfOk result (λ said. IfOk said IsProperScriptRow) }
 {
     if row.len() != 7 {
         return Ok(Err(Reason::Shape));
@@ -54,8 +54,8 @@ pub fn read_row(alloc: Global, row: &ByteRecord) -> Result<Result<Row, Reason>, 
 
 fn read_kind(alloc: Global, row: &ByteRecord) -> Result<Result<Row, Reason>, AllocError>
     requires { length (fields_of row.now) ≡ 7 }
-    ensures said { IfOk result (λ said. said ≡ kind_row (fields_of row.now)) }
-    ensures proper { IfOk result (λ said. IfOk said IsProperRow) }
+    ensures said { IfOk result (λ said. said ≡ script_file_row (fields_of row.now)) }
+    ensures proper { IfOk result (λ said. IfOk said IsProperScriptRow) }
 {
     let kind = field(row, 0);
     if kind == b"arbitrary".as_slice() {
@@ -74,7 +74,7 @@ fn read_kind(alloc: Global, row: &ByteRecord) -> Result<Result<Row, Reason>, All
 fn read_arbitrary(row: &ByteRecord) -> Result<Row, Reason>
     requires { length (fields_of row.now) ≡ 7 }
     ensures said { result ≡ arbitrary_row (fields_of row.now) }
-    ensures proper { IfOk result IsProperRow }
+    ensures proper { IfOk result IsProperScriptRow }
 {
     if !is_node_alone(row) {
         return Err(Reason::Shape);
@@ -99,7 +99,7 @@ fn is_node_alone(row: &ByteRecord) -> bool
 fn read_say(alloc: Global, row: &ByteRecord) -> Result<Result<Row, Reason>, AllocError>
     requires { length (fields_of row.now) ≡ 7 }
     ensures said { IfOk result (λ said. said ≡ say_row (fields_of row.now)) }
-    ensures proper { IfOk result (λ said. IfOk said IsProperRow) }
+    ensures proper { IfOk result (λ said. IfOk said IsProperScriptRow) }
 {
     let text = field(row, 6);
     let numbers = both(read_passage(row), both(read_shift(row), few_digits(text)));
@@ -115,7 +115,7 @@ fn read_say(alloc: Global, row: &ByteRecord) -> Result<Result<Row, Reason>, Allo
 fn read_lose(row: &ByteRecord) -> Result<Row, Reason>
     requires { length (fields_of row.now) ≡ 7 }
     ensures said { result ≡ lose_row (fields_of row.now) }
-    ensures proper { IfOk result IsProperRow }
+    ensures proper { IfOk result IsProperScriptRow }
 {
     if !field(row, 5).is_empty() || !field(row, 6).is_empty() {
         return Err(Reason::Shape);
@@ -129,7 +129,7 @@ fn read_lose(row: &ByteRecord) -> Result<Row, Reason>
 fn read_flip(row: &ByteRecord) -> Result<Row, Reason>
     requires { length (fields_of row.now) ≡ 7 }
     ensures said { result ≡ flip_row (fields_of row.now) }
-    ensures proper { IfOk result IsProperRow }
+    ensures proper { IfOk result IsProperScriptRow }
 {
     if !field(row, 6).is_empty() {
         return Err(Reason::Shape);
@@ -146,7 +146,7 @@ fn deed_of(row: &ByteRecord, passage: Passage, deed: Option<Deed>) -> Row
 {
     Row::Deed(DeedRow {
         passage,
-        channel: channel_of(field(row, 4)),
+        channel: Channel::spelt(field(row, 4)),
         deed,
     })
 }
@@ -183,8 +183,8 @@ fn few_digits(text: &[u8]) -> Result<usize, NumberFault>
     Ok(text.len())
 }
 
-/// The frame that is to be said, None within where it is the regular one; None where the text is not
-/// hexadecimal. `AllocError` where memory ran out.
+// The frame that is to be said, None within where it is the regular one; None where the text is not
+// hexadecimal. `AllocError` where memory ran out.
 fn read_bytes(alloc: Global, text: &[u8]) -> Result<Option<Option<SaidBytes>>, AllocError>
     requires { length text.now ≤ 524 }
     ensures said { IfOk result (λ said. said ≡ said_in text.now) }

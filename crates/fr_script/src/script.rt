@@ -2,8 +2,8 @@ ghost use Rattle.std.specs.Prelude.{◌≡◌, ◌<◌, ◌≤◌, ◌⊎◌, �
 ghost use Rattle.std.specs.Option.{option_copied};
 ghost use Rattle.fr_base.specs.declared.channel.Channel.{Channel as Line};
 ghost use Rattle.fr_base.specs.declared.channel.Channel.TheVariants as line;
-ghost use Rattle.fr_script.specs.View.{IsScript, deed_of, deeds_on, is_arbitrary};
-ghost use Rattle.fr_script.specs.Events.{IsProperEvent, done_by, event_of, event_seen, said_by};
+ghost use Rattle.fr_script.specs.View.{IsNextAct, IsScript, deed_of, deeds_on, is_arbitrary};
+ghost use Rattle.fr_script.specs.Events.{IsProperEvent, done_by, event_of, event_seen, event_of_deed};
 
 use crate::deeds::{Deed, DeedTable, Passage};
 use fr_base::{Channel, NodeId};
@@ -44,7 +44,7 @@ impl Model for Script {
 }
 
 impl Script {
-    /// The script of these nodes, by their number, and of the deeds of both channels.
+    // The script of these nodes, by their number, and of the deeds of both channels.
     pub(crate) fn of(arbitrary: [bool; 65], on_a: DeedTable, on_b: DeedTable) -> Script
         requires { IsScript (record { arbitrary = arbitrary; on_a = on_a; on_b = on_b }) }
         ensures { result ≡ record { arbitrary = arbitrary; on_a = on_a; on_b = on_b } }
@@ -84,12 +84,9 @@ impl Script {
     /// The first cycle from `cycle` on, before `end`, in which the script does anything to the frames of a sender
     /// at a receiver, or `end`.
     #[tactic(auto, unfolding(crate::specs::View::deed_of))]
-    pub(crate) fn next_deed(&self, sender: NodeId, receiver: NodeId, cycle: u32, end: u32) -> u32
+    pub fn next_deed(&self, sender: NodeId, receiver: NodeId, cycle: u32, end: u32) -> u32
         requires { cycle ≤ end }
-        ensures from { cycle ≤ result }
-        ensures to { result ≤ end }
-        ensures quiet { (c : ℕ) (channel : Line) → cycle ≤ c → c < result → deed_of self.now c sender receiver channel ≡ None }
-        ensures stands { result < end → IsSome (deed_of self.now result sender receiver line.A) ⊎ IsSome (deed_of self.now result sender receiver line.B) }
+        ensures { IsNextAct self.now sender receiver cycle end result }
     {
         let on_a = self.on_a.next(sender, receiver, cycle, end);
         let on_b = self.on_b.next(sender, receiver, cycle, end);
@@ -123,7 +120,7 @@ fn done(deed: Option<&Deed>) -> Event<'_>
 }
 
 fn said(deed: Option<&Deed>) -> Event<'_>
-    ensures { event_seen result ≡ said_by (option_copied deed.entry) }
+    ensures { event_seen result ≡ event_of_deed (option_copied deed.entry) }
 {
     match deed {
         Some(

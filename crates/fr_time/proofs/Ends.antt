@@ -1,5 +1,5 @@
 -- Where a cycle ends, and how long it is.
-use Rattle.std.proofs.Common.{◌≡◌, ℤ, pos, Bool, true, false, ◌⊎◌, inl, inr, ap, ◌∙◌, arith}
+use Rattle.std.proofs.Common.{◌≡◌, ℤ, pos, Bool, true, false, ◌⊎◌, inl, inr, refl, ap, ◌∙◌, arith}
 use Rattle.std.specs.Prelude.{◌≤ℤ◌, ◌<ℤ◌, ◌+ℤ◌, ◌-ℤ◌, ◌*ℤ◌, int_lt}
 use Rattle.std.proofs.lemmas.Int.{ints}
 use Rattle.fr_base.specs.declared.node_row.NodeRow.{NodeRow}
@@ -15,7 +15,7 @@ corrected_micros_from grid rate offset can =
     let reaches : Before ≤ℤ (grid.micros +ℤ rate +ℤ offset) = can.reaches_correction in
     omega (arith, ints, reaches)
 
--- from the start of the offset correction on, no macrotick lies behind the end of the cycle
+-- from the start of the offset correction on, no macrotick lies after the end of the cycle
 pub corrected_position_le :
     (grid : Grid) (rate offset macrotick : ℤ) → IsPlaceable grid rate offset → grid.correction ≤ℤ macrotick → macrotick ≤ℤ grid.macros
     → corrected_position grid rate offset macrotick ≤ℤ (grid.micros +ℤ rate +ℤ offset)
@@ -31,6 +31,18 @@ even_end grid rate offset can =
 
 int_lt_true : (a b : ℤ) → a <ℤ b → int_lt a b ≡ true
 int_lt_true a b below = grind (arith, ints)
+
+int_lt_false : (a b : ℤ) → b ≤ℤ a → int_lt a b ≡ false
+int_lt_false a b above = grind (arith, ints)
+
+-- where the cycle begins
+even_start : (grid : Grid) (rate offset : ℤ) → IsPlaceable grid rate offset → even_position grid rate (pos 0) ≡ pos 0
+even_start grid rate offset can =
+    share_of_none (pos 0) (grid.micros +ℤ rate) grid.macros refl (omega (arith, ints, can.is_grid.correction_from, can.is_grid.correction_to)) (omega (arith, ints, can.is_grid.correction_from, can.is_grid.correction_to, can.micros_from))
+
+pub start : (grid : Grid) (rate offset : ℤ) (odd : Bool) → IsPlaceable grid rate offset → position_of grid rate offset odd (pos 0) ≡ pos 0
+start grid rate offset false can = even_start grid rate offset can
+start grid rate offset true can = rw (int_lt_false grid.correction (pos 0) (omega (arith, ints, can.is_grid.correction_from))) (even_start grid rate offset can)
 
 pub odd_end : (grid : Grid) (rate offset : ℤ) → IsPlaceable grid rate offset → position_of grid rate offset true grid.macros ≡ grid.micros +ℤ rate +ℤ offset
 odd_end grid rate offset can =

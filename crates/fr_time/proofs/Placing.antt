@@ -4,11 +4,11 @@ use Rattle.std.specs.Prelude.{◌≤ℤ◌, ◌<ℤ◌, ◌+ℤ◌, ◌*ℤ◌, 
 use Rattle.std.proofs.lemmas.Bool.{cases_lt}
 use Rattle.std.proofs.lemmas.Int.{ints}
 use Rattle.std.proofs.Math.Nat.{mul-add, mul-le-mul_left, mul-le-mul_right, suc-mul}
-use Rattle.fr_params.specs.Values.{Values, amount}
-use Rattle.fr_params.specs.Sane.{IsSane}
-use Rattle.fr_params.specs.Constraints.{correction_macros, least_micros, static_macros}
-use Rattle.fr_params.specs.declared.names.ParamName.TheVariants as name
-use Rattle.fr_time.specs.Position.{floor_of, grid_for, IsGrid, IsPlaceable}
+use Rattle.fr_cluster.specs.Values.{Values, amount}
+use Rattle.fr_cluster.specs.Sane.{IsSane}
+use Rattle.fr_cluster.specs.Constraints.{correction_macros, least_micros, static_macros}
+use Rattle.fr_cluster.specs.declared.names.ParamName.TheVariants as name
+use Rattle.fr_time.specs.Position.{floor_of, grid_for, CanPlace, IsGrid, IsPlaceable}
 use Rattle.fr_time.specs.Slots.{action_point_of, slot_end_of, slot_start_of}
 use Rattle.fr_time.proofs.Floors.{share_leaves}
 
@@ -24,7 +24,7 @@ is_grid_lem p sane =
     let start = within p.correction 1 15999 correction.0 correction.1 in
     record {
       correction_from = correction.0;
-      correction_to = omega (arith, ints, cycle.0, start.0, sane.constraints.corrects_behind.1);
+      correction_to = omega (arith, ints, cycle.0, start.0, sane.constraints.corrects_after.1);
       macros_to = macros.1;
       micros_to = micros.1;
     }
@@ -84,12 +84,22 @@ placeable_lem p rate offset sane rate_from rate_to offset_from offset_to =
       reaches_correction = omega (arith, ints, reached, offset_from);
     }
 
+-- all terms within their limits can be placed, and no offset as well
+pub can_place : (p : Values) → IsSane p → CanPlace p (grid_for p)
+can_place p sane =
+    let limit = sane.ranges name.pOffsetCorrectionOut in
+    record {
+      is_grid = is_grid_lem p sane;
+      early = λ rate within_rate. placeable_lem p rate (pos 0) sane within_rate.low within_rate.high (omega (arith, ints, limit.0)) (omega (arith, ints, limit.0));
+      terms = λ rate offset within_rate within_offset. placeable_lem p rate offset sane within_rate.low within_rate.high within_offset.low within_offset.high;
+    }
+
 -- the static slots end before the offset correction starts
 pub slot_end_lt : (p : Values) (slot : ℕ) → IsSane p → slot ≤ amount p name.gNumberOfStaticSlots → slot_end_of p slot < amount p name.gOffsetCorrectionStart
 slot_end_lt p slot sane static =
-    let behind = sane.constraints.corrects_behind in
+    let after = sane.constraints.corrects_after in
     let within : slot * amount p name.gdStaticSlot ≤ static_macros (amount p) = mul-le-mul_right (amount p name.gdStaticSlot) static in
-    omega (arith, behind, within)
+    omega (arith, after, within)
 
 -- the same with the sign of the parameter
 pub before_correction : (p : Values) (slot : ℕ) → IsSane p → slot ≤ amount p name.gNumberOfStaticSlots → pos (slot_end_of p slot) <ℤ p.correction

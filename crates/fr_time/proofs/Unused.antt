@@ -4,10 +4,10 @@ use Rattle.std.specs.Prelude.{All, find, IsNone, ◌==◌}
 use Rattle.std.specs.Option.{option_map, option_or}
 use Rattle.std.proofs.lemmas.Bool.{cases_Bool}
 use Rattle.std.proofs.lemmas.List.Elements.{All-cons, All-head, All-nil, All-tail}
-use Rattle.fr_params.specs.Values.{Values}
-use Rattle.fr_params.specs.declared.rows.NodeSpec.{NodeSpec}
-use Rattle.fr_params.specs.declared.rows.SlotSpec.{SlotSpec}
-use Rattle.fr_params.specs.Searches.{is_key}
+use Rattle.fr_cluster.specs.Values.{Values}
+use Rattle.fr_cluster.specs.declared.nodes.NodeSpec.{NodeSpec}
+use Rattle.fr_cluster.specs.declared.nodes.SlotSpec.{SlotSpec}
+use Rattle.fr_cluster.specs.Searches.{is_key}
 use Rattle.fr_time.specs.Senders.{further_sending, further_slot_of, key_node_of, sender_of, sync_sending, IsUnused}
 
 -- nothing is found exactly where no element passes

@@ -1,6 +1,9 @@
+-- what the public contract cites
 pub mod Position
 pub mod Instant
 pub mod Walk
 pub mod Cycles
 pub mod Slots
 pub mod Senders
+pub mod Placed
+pub mod Laws

@@ -2,7 +2,8 @@
 -- the macroticks lie evenly; that the quotients are rounded down is this profile's.
 use Rattle.std.specs.Prelude.{ℤ, pos, neg_ℤ, ◌+ℤ◌, ◌-ℤ◌, ◌*ℤ◌, ◌≤ℤ◌, ◌<ℤ◌, Bool, ◌&&◌, int_lt, if◌then◌else◌}
 use Rattle.std.specs.Int.{int_div_euclid}
-use Rattle.fr_params.specs.Values.{Values}
+use Rattle.fr_base.specs.Within.{IsWithin}
+use Rattle.fr_cluster.specs.Values.{Values}
 use Rattle.fr_time.specs.declared.grid.Grid.{Grid}
 
 -- the grid of a cluster
@@ -50,3 +51,9 @@ pub record IsPlaceable (grid : Grid) (rate offset : ℤ) : Type 0 where
   pub offset_from : neg_ℤ (pos 16_000) ≤ℤ offset
   pub offset_to : offset ≤ℤ pos 16_000
   pub reaches_correction : even_position grid rate grid.correction ≤ℤ (grid.micros +ℤ rate +ℤ offset)
+
+-- the macroticks of a grid can be placed under every rate and every offset term within its limit, and with no offset
+pub record CanPlace (p : Values) (grid : Grid) : Type 0 where
+  pub is_grid : IsGrid grid
+  pub early : (rate : ℤ) → IsWithin p.rate_limit rate → IsPlaceable grid rate (pos 0)
+  pub terms : (rate offset : ℤ) → IsWithin p.rate_limit rate → IsWithin p.offset_limit offset → IsPlaceable grid rate offset

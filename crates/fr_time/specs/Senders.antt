@@ -1,10 +1,10 @@
 -- Who sends in a static slot of a cycle, and what kind of frame.
 use Rattle.std.specs.Prelude.{ℕ, ◌%◌, ◌==◌, ◌≢◌, All, Option, Some, if◌then◌else◌}
 use Rattle.std.specs.Option.{option_or, option_map}
-use Rattle.fr_params.specs.Searches.{key_node_in, slot_in}
-use Rattle.fr_params.specs.Values.{Values}
-use Rattle.fr_params.specs.declared.rows.NodeSpec.{NodeSpec}
-use Rattle.fr_params.specs.declared.rows.SlotSpec.{SlotSpec}
+use Rattle.fr_cluster.specs.Searches.{key_node_in, slot_in}
+use Rattle.fr_cluster.specs.Values.{Values}
+use Rattle.fr_cluster.specs.declared.nodes.NodeSpec.{NodeSpec}
+use Rattle.fr_cluster.specs.declared.nodes.SlotSpec.{SlotSpec}
 use Rattle.fr_time.specs.declared.senders.Sending.{Sending}
 use Rattle.fr_time.specs.declared.senders.Kind.{Kind}
 use Rattle.fr_time.specs.declared.senders.Kind.TheVariants.{SyncFrame, ValidFrame, NullFrame}

@@ -1,5 +1,6 @@
 -- Macroticks one after the other.
-use Rattle.std.specs.Prelude.{ℤ, pos, Bool, ◌≤ℤ◌}
+use Rattle.std.specs.Prelude.{◌≡◌, ℤ, pos, Bool, ◌≤ℤ◌, ◌<ℤ◌, ◌+ℤ◌}
+use Rattle.fr_base.specs.Within.{IsBetween}
 use Rattle.fr_time.specs.declared.grid.Grid.{Grid}
 use Rattle.fr_time.specs.Position.{IsPlaceable, position_of}
 
@@ -12,8 +13,8 @@ pub record Walk : Type 0 where
   pub next : ℤ
 
 -- before macrotick 0
-abbrev pub begun : Grid → ℤ → ℤ → Bool → Walk
-begun grid rate offset odd = record { grid = grid; rate = rate; offset = offset; odd = odd; next = pos 0 }
+abbrev pub first_walk : Grid → ℤ → ℤ → Bool → Walk
+first_walk grid rate offset odd = record { grid = grid; rate = rate; offset = offset; odd = odd; next = pos 0 }
 
 -- the position of the next macrotick
 abbrev pub next_position : Walk → ℤ
@@ -22,5 +23,12 @@ next_position walk = position_of walk.grid walk.rate walk.offset walk.odd walk.n
 -- the macroticks can be placed, and the next one is one of them or their end
 pub record IsWalk (walk : Walk) : Type 0 where
   pub is_placeable : IsPlaceable walk.grid walk.rate walk.offset
-  pub next_from : pos 0 ≤ℤ walk.next
-  pub next_to : walk.next ≤ℤ walk.grid.macros
+  pub next_within : IsBetween (pos 0) walk.grid.macros walk.next
+
+-- there is a next macrotick, and it lies there
+abbrev pub IsNextPosition : Walk → ℤ → Type 0
+IsNextPosition walk at = (walk.next <ℤ walk.grid.macros) × (at ≡ next_position walk)
+
+-- after it
+abbrev pub moved_on : Walk → Walk
+moved_on walk = record walk { next = walk.next +ℤ pos 1 }

@@ -1,7 +1,7 @@
 ghost use Rattle.std.specs.Prelude.{◌≡◌};
-ghost use Rattle.fr_time.specs.Position.{grid_for, IsGrid};
+ghost use Rattle.fr_time.specs.Position.{grid_for, CanPlace};
 
-use fr_params::Params;
+use fr_cluster::Params;
 
 /// How a cycle is divided: what the position of a macrotick rests on beside the correction terms.
 #[derive(Clone, Copy, Debug, PartialEq, Eq)]
@@ -17,7 +17,7 @@ pub struct Grid {
 /// The grid of a cluster.
 pub fn grid_of(params: &Params) -> Grid
     ensures value { result ≡ grid_for params.now }
-    ensures grid { IsGrid result }
+    ensures placeable { CanPlace params.now result }
 {
     Grid {
         macros: params.macros,

@@ -2,16 +2,18 @@
 //! node sends in which static slot, and when.
 #![tactic(auto)]
 
+mod cycles;
 mod grid;
+mod instants;
 mod laws;
 mod macroticks;
 mod positions;
 mod senders;
 mod slots;
-#[cfg(test)]
-mod tests;
 
+pub use cycles::{cycle_count, is_odd};
 pub use grid::{Grid, grid_of};
+pub use instants::{action_instant, early_position, next_start, slot_instants};
 pub use laws::{
     a_cycle_begins_and_ends, each_cycle_is_in_a_double_cycle, each_slot_has_its_sender, placeable,
     slots_end_before_the_correction,

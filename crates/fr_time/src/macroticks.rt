@@ -1,6 +1,7 @@
-ghost use Rattle.std.specs.Prelude.{◌≡◌, ◌≤ℤ◌, ◌<ℤ◌, ◌+ℤ◌, pos, IfSome, MatchOption};
+ghost use Rattle.std.specs.Prelude.{◌≡◌, ◌≤ℤ◌, pos, IfSome, MatchOption};
+ghost use Rattle.fr_base.specs.Within.{IsBetween};
 ghost use Rattle.fr_time.specs.Position.{IsPlaceable};
-ghost use Rattle.fr_time.specs.Walk.{begun, next_position, Walk};
+ghost use Rattle.fr_time.specs.Walk.{first_walk, moved_on, IsNextPosition};
 
 use crate::grid::Grid;
 use crate::positions::position;
@@ -31,7 +32,7 @@ impl Macro {
     /// Before macrotick 0 of a cycle under these terms, which are in microticks.
     pub fn begin(grid: &Grid, rate: i32, offset: i32, odd: bool) -> Macro
         requires { IsPlaceable grid.now rate offset }
-        ensures { result ≡ begun grid.now rate offset odd }
+        ensures { result ≡ first_walk grid.now rate offset odd }
     {
         Macro {
             grid: *grid,
@@ -45,9 +46,9 @@ impl Macro {
     /// The position of the next macrotick, from 0 on; None exactly after the last one of the cycle, and
     /// nothing changes then.
     pub fn next(&mut self) -> Option<i64>
-        ensures position { MatchOption result (self.old.grid.macros ≤ℤ self.old.next) (λ at. (self.old.next <ℤ self.old.grid.macros) × (at ≡ next_position self.old)) }
-        ensures after { MatchOption result (self.new ≡ self.old) (λ at. self.new ≡ record self.old { next = self.old.next +ℤ pos 1 }) }
-        ensures within { IfSome result (λ at. (pos 0 ≤ℤ at) × (at ≤ℤ pos 700_000)) }
+        ensures position { MatchOption result (self.old.grid.macros ≤ℤ self.old.next) (IsNextPosition self.old) }
+        ensures after { MatchOption result (self.new ≡ self.old) (λ at. self.new ≡ moved_on self.old) }
+        ensures within { IfSome result (IsBetween (pos 0) (pos 700_000)) }
     {
         if self.next >= self.grid.macros {
             return None;

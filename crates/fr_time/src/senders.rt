@@ -2,8 +2,9 @@ ghost use Rattle.std.specs.Prelude.{◌≡◌, ◌<◌, ◌↔◌, IsNone};
 ghost use Rattle.std.specs.Option.{option_map};
 ghost use Rattle.fr_time.specs.Senders.{further_kind, further_sending, further_slot_of, sender_of, IsUnused};
 
+use crate::cycles::cycle_count;
 use fr_base::{NodeId, Slot};
-use fr_params::{Params, SlotSpec};
+use fr_cluster::{Params, SlotSpec};
 
 /// The kind of a frame that a node sends in a static slot.
 #[derive(Clone, Copy, Debug, PartialEq, Eq)]
@@ -55,8 +56,7 @@ fn kind_in(spec: &SlotSpec, cycle: u32) -> Kind
     requires { 0 < spec.now.repetition }
     ensures { result ≡ further_kind spec.now cycle }
 {
-    let count = cycle % 64;
-    if count % u32::from(spec.repetition) == u32::from(spec.base) {
+    if cycle_count(cycle) % spec.repetition == spec.base {
         Kind::ValidFrame
     } else {
         Kind::NullFrame

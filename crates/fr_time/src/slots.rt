@@ -1,18 +1,16 @@
-ghost use Rattle.std.specs.Prelude.{◌≡◌, ◌+◌, ◌≤◌, ◌<◌, ◌≤ℤ◌, ◌<ℤ◌, pos};
-ghost use Rattle.fr_params.specs.Values.{amount};
-ghost use Rattle.fr_params.specs.declared.names.ParamName.TheVariants as name;
-ghost use Rattle.fr_time.specs.Slots.{action_point_of, slot_end_of, slot_start_of};
+ghost use Rattle.std.specs.Prelude.{◌≡◌, ◌+◌, ◌≤◌, ◌<◌, pos};
+ghost use Rattle.fr_cluster.specs.Values.{amount};
+ghost use Rattle.fr_cluster.specs.declared.names.ParamName.TheVariants as name;
+ghost use Rattle.fr_time.specs.Slots.{action_point_of, slot_end_of, slot_start_of, IsEarly};
 
 use fr_base::Slot;
-use fr_params::{ParamName, Params};
+use fr_cluster::{ParamName, Params};
 
 /// The macrotick of a static slot at which a node sends in it, from the start of the cycle (chapter 5).
 pub fn action_point(params: &Params, slot: Slot) -> i64
     requires { slot ≤ amount params.now name.gNumberOfStaticSlots }
     ensures value { result ≡ pos (action_point_of params.now slot) }
-    ensures low { pos 0 ≤ℤ result }
-    ensures high { result ≤ℤ pos 16_000 }
-    ensures before_correction { result <ℤ params.now.correction }
+    ensures early { IsEarly params.now result }
 {
     let (start, _) = bounds(params, slot.0);
     (start + params.natural(ParamName::gdActionPointOffset)) as i64
@@ -22,11 +20,9 @@ pub fn action_point(params: &Params, slot: Slot) -> i64
 /// which it begins, and the one at which it ends and the next slot begins.
 pub fn slot_bounds(params: &Params, slot: Slot) -> (i64, i64)
     requires { slot ≤ amount params.now name.gNumberOfStaticSlots }
-    ensures start { result.0 ≡ pos (slot_start_of params.now slot) }
-    ensures end { result.1 ≡ pos (slot_end_of params.now slot) }
-    ensures low { pos 0 ≤ℤ result.0 }
-    ensures high { result.1 ≤ℤ pos 16_000 }
-    ensures before_correction { result.1 <ℤ params.now.correction }
+    ensures value { result ≡ (pos (slot_start_of params.now slot), pos (slot_end_of params.now slot)) }
+    ensures start { IsEarly params.now result.0 }
+    ensures end { IsEarly params.now result.1 }
 {
     let (start, end) = bounds(params, slot.0);
     (start as i64, end as i64)
@@ -35,15 +31,11 @@ pub fn slot_bounds(params: &Params, slot: Slot) -> (i64, i64)
 fn bounds(params: &Params, slot: u16) -> (u64, u64)
     requires from { 1 ≤ slot }
     requires to { slot ≤ amount params.now name.gNumberOfStaticSlots }
-    ensures start { result.0 ≡ slot_start_of params.now slot }
-    ensures end { result.1 ≡ slot_end_of params.now slot }
-    ensures action_within { result.0 + amount params.now name.gdActionPointOffset < result.1 }
-    ensures end_to { result.1 ≤ 16_000 }
-    ensures before_correction { pos result.1 <ℤ params.now.correction }
+    ensures value { result ≡ (slot_start_of params.now slot, slot_end_of params.now slot) }
+    ensures acts { result.0 + amount params.now name.gdActionPointOffset < result.1 }
+    ensures early { IsEarly params.now (pos result.1) }
 {
-    // Names the invariant of the parameters: their static slots end before the offset correction starts.
-    let _correction = &params.correction;
-    let length = params.natural(ParamName::gdStaticSlot);
+    let length = params.value(ParamName::gdStaticSlot) as u64;
     let slot = u64::from(slot);
     ((slot - 1) * length, slot * length)
 }

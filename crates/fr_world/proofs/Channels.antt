@@ -11,8 +11,8 @@ use Rattle.fr_base.specs.declared.cycle_row.Counts.{Counts}
 use Rattle.fr_base.specs.declared.node_row.NodeRow.{NodeRow}
 use Rattle.fr_time.specs.Senders.{sender_of}
 use Rattle.fr_time.specs.declared.senders.Sending.{Sending}
-use Rattle.fr_params.specs.Questions.{key_index_of}
-use Rattle.fr_params.specs.Values.{Values}
+use Rattle.fr_cluster.specs.Questions.{key_index_of}
+use Rattle.fr_cluster.specs.Values.{Values}
 use Rattle.fr_reception.specs.Answers.{answer_of}
 use Rattle.fr_reception.specs.Offers.{Offer}
 use Rattle.fr_reception.specs.declared.heard.Heard.{Heard}
@@ -22,14 +22,15 @@ use Rattle.fr_history.proofs.Lists.{map-map}
 use Rattle.fr_world.proofs.Loops.{at_most-frame, at_most-more, at_most-offers}
 use Rattle.fr_reception.specs.Regular.{is_sync_frame, regular_frame}
 use Rattle.fr_script.specs.View.{is_arbitrary}
-use Rattle.fr_node.specs.View.{NodeView, row_of}
-use Rattle.fr_history.specs.Setting.{Setting}
+use Rattle.fr_node.specs.View.{NodeView, node_row_of}
+use Rattle.fr_cluster.specs.Setting.{Setting}
 use Rattle.fr_history.specs.History.{row_of as row_in}
 use Rattle.fr_history.specs.Offers.{active_frame, active_offer, frame_in, is_on, offer_in, said_offer, sender_offer, sent_offer, sender_frame}
 use Rattle.fr_world.specs.Counting.{counted_frame, counted_offer, counted_offers, counts_after, counts_in, counts_on}
 use Rattle.fr_world.specs.Hearing.{after_channel, after_offer, after_slot, after_slots}
-use Rattle.fr_world.specs.Limits.{AreAtMost}
-use Rattle.fr_world.specs.Run.{setting_in, IsReady}
+use Rattle.fr_base.specs.Counts.{AreAtMost}
+use Rattle.fr_world.specs.Cycling.{IsReady}
+use Rattle.fr_world.specs.Files.{setting_in}
 use Rattle.fr_world.specs.Sending.{hears, offer_heard, sending_row_by, sending_row_in}
 use Rattle.fr_world.specs.declared.files.Files.{Files}
 use Rattle.fr_world.specs.declared.turn.Turn.{Turn}
@@ -146,10 +147,10 @@ sender-frame x turn rows sending sends =
     ∙ framed x turn sending (row_in rows sending.node)
 
 -- an arbitrary node is not among the correct ones
-pub arbitrary-row : (f : Files) (cycle : ℕ) (nodes : List NodeView) (node : ℕ) → All (IsReady f cycle) nodes → is_arbitrary f.script node ≡ true → row_in (map row_of nodes) node ≡ None
+pub arbitrary-row : (f : Files) (cycle : ℕ) (nodes : List NodeView) (node : ℕ) → All (IsReady f cycle) nodes → is_arbitrary f.script node ≡ true → row_in (map node_row_of nodes) node ≡ None
 arbitrary-row f cycle [] node ready arbitrary = refl
 arbitrary-row f cycle (n ∷ ns) node ready arbitrary =
-    cond_both (n.id == node) (Some (row_of n)) (row_in (map row_of ns) node) (λ o. o ≡ None)
+    cond_both (n.id == node) (Some (node_row_of n)) (row_in (map node_row_of ns) node) (λ o. o ≡ None)
     (λ same. let e : n.id ≡ node = eqb-true n.id node same in
     let correct : is_arbitrary f.script node ≡ false = ap (is_arbitrary f.script) (sym e) ∙ (All-head (IsReady f cycle) n ns ready).correct in
     cc)
@@ -161,14 +162,14 @@ arbitrary-row f cycle (n ∷ ns) node ready arbitrary =
 pub silent-nodes : (x : Setting) (cycle : ℕ) (rows : List NodeRow) (slot : ℕ) (channel : Channel) (nodes : List NodeView) → ((r : NodeRow) → offer_in x cycle rows r slot channel ≡ None) → nodes ≡ map (after_channel x cycle rows slot channel) nodes
 silent-nodes x cycle rows slot channel [] none = refl
 silent-nodes x cycle rows slot channel (n ∷ ns) none =
-    ap₂ (λ m ms. m ∷ ms) (sym (ap (after_offer x cycle n) (none (row_of n)))) (silent-nodes x cycle rows slot channel ns none)
+    ap₂ (λ m ms. m ∷ ms) (sym (ap (after_offer x cycle n) (none (node_row_of n)))) (silent-nodes x cycle rows slot channel ns none)
 
 -- the same is offered to all
 pub heard-nodes : (x : Setting) (cycle : ℕ) (rows : List NodeRow) (slot : ℕ) (channel : Channel) (offer : NodeRow → Option Offer) (nodes : List NodeView) → ((r : NodeRow) → offer_in x cycle rows r slot channel ≡ offer r) →
-    map (λ node. after_offer x cycle node (offer (row_of node))) nodes ≡ map (after_channel x cycle rows slot channel) nodes
+    map (λ node. after_offer x cycle node (offer (node_row_of node))) nodes ≡ map (after_channel x cycle rows slot channel) nodes
 heard-nodes x cycle rows slot channel offer [] same = refl
 heard-nodes x cycle rows slot channel offer (n ∷ ns) same =
-    ap₂ (λ m ms. m ∷ ms) (sym (ap (after_offer x cycle n) (same (row_of n)))) (heard-nodes x cycle rows slot channel offer ns same)
+    ap₂ (λ m ms. m ∷ ms) (sym (ap (after_offer x cycle n) (same (node_row_of n)))) (heard-nodes x cycle rows slot channel offer ns same)
 
 pub offers-same : (x : Setting) (cycle : ℕ) (first second : NodeRow → Option Offer) (rows : List NodeRow) (c : Counts) → ((r : NodeRow) → first r ≡ second r) → counted_offers x cycle first rows c ≡ counted_offers x cycle second rows c
 unfolding counted_offers
@@ -199,64 +200,64 @@ heard-counts x cycle rows slot channel offer frame c same sent =
 
 -- ---- hearing changes tables alone
 
-deviation-row : (node : NodeView) (index : Option ℕ) (channel : Channel) (value : ℤ) → row_of (with_deviation node index channel value) ≡ row_of node
+deviation-row : (node : NodeView) (index : Option ℕ) (channel : Channel) (value : ℤ) → node_row_of (with_deviation node index channel value) ≡ node_row_of node
 deviation-row node None channel value = refl
 deviation-row node (Some index) channel value = refl
 
-heard-row : (p : Values) (node : NodeView) (slot : ℕ) (channel : Channel) (heard : Heard) → row_of (after_hearing p node slot channel heard) ≡ row_of node
+heard-row : (p : Values) (node : NodeView) (slot : ℕ) (channel : Channel) (heard : Heard) → node_row_of (after_hearing p node slot channel heard) ≡ node_row_of node
 heard-row p node slot channel (Stored value) = deviation-row node (key_index_of p slot) channel value
 heard-row p node slot channel (Ignored why) = refl
 
-pub offer-row : (x : Setting) (cycle : ℕ) (node : NodeView) (offer : Option Offer) → row_of (after_offer x cycle node offer) ≡ row_of node
+pub offer-row : (x : Setting) (cycle : ℕ) (node : NodeView) (offer : Option Offer) → node_row_of (after_offer x cycle node offer) ≡ node_row_of node
 offer-row x cycle node None = refl
-offer-row x cycle node (Some offer) = heard-row x.params node offer.slot offer.channel (answer_of x.params cycle (row_of node) offer)
+offer-row x cycle node (Some offer) = heard-row x.params node offer.slot offer.channel (answer_of x.params cycle (node_row_of node) offer)
 
-pub channel-rows : (x : Setting) (cycle : ℕ) (rows : List NodeRow) (slot : ℕ) (channel : Channel) (nodes : List NodeView) → map row_of (map (after_channel x cycle rows slot channel) nodes) ≡ map row_of nodes
+pub channel-rows : (x : Setting) (cycle : ℕ) (rows : List NodeRow) (slot : ℕ) (channel : Channel) (nodes : List NodeView) → map node_row_of (map (after_channel x cycle rows slot channel) nodes) ≡ map node_row_of nodes
 channel-rows x cycle rows slot channel [] = refl
 channel-rows x cycle rows slot channel (n ∷ ns) =
-    ap₂ (λ r rs. r ∷ rs) (offer-row x cycle n (offer_in x cycle rows (row_of n) slot channel)) (channel-rows x cycle rows slot channel ns)
+    ap₂ (λ r rs. r ∷ rs) (offer-row x cycle n (offer_in x cycle rows (node_row_of n) slot channel)) (channel-rows x cycle rows slot channel ns)
 
-slot-row : (x : Setting) (cycle : ℕ) (rows : List NodeRow) (slot : ℕ) (node : NodeView) → row_of (after_slot x cycle rows slot node) ≡ row_of node
+slot-row : (x : Setting) (cycle : ℕ) (rows : List NodeRow) (slot : ℕ) (node : NodeView) → node_row_of (after_slot x cycle rows slot node) ≡ node_row_of node
 slot-row x cycle rows slot node =
     let first : NodeView = after_channel x cycle rows slot A node in
-    offer-row x cycle first (offer_in x cycle rows (row_of first) slot B) ∙ offer-row x cycle node (offer_in x cycle rows (row_of node) slot A)
+    offer-row x cycle first (offer_in x cycle rows (node_row_of first) slot B) ∙ offer-row x cycle node (offer_in x cycle rows (node_row_of node) slot A)
 
-slots-row : (x : Setting) (cycle : ℕ) (rows : List NodeRow) (count : ℕ) (node : NodeView) → row_of (after_slots x cycle rows count node) ≡ row_of node
+slots-row : (x : Setting) (cycle : ℕ) (rows : List NodeRow) (count : ℕ) (node : NodeView) → node_row_of (after_slots x cycle rows count node) ≡ node_row_of node
 unfolding after_slots
 slots-row x cycle rows zero node = refl
 slots-row x cycle rows (suc earlier) node = slot-row x cycle rows (suc earlier) (after_slots x cycle rows earlier node) ∙ slots-row x cycle rows earlier node
 
-pub slots-rows : (x : Setting) (cycle : ℕ) (rows : List NodeRow) (count : ℕ) (nodes : List NodeView) → map row_of (map (after_slots x cycle rows count) nodes) ≡ map row_of nodes
+pub slots-rows : (x : Setting) (cycle : ℕ) (rows : List NodeRow) (count : ℕ) (nodes : List NodeView) → map node_row_of (map (after_slots x cycle rows count) nodes) ≡ map node_row_of nodes
 slots-rows x cycle rows count [] = refl
 slots-rows x cycle rows count (n ∷ ns) = ap₂ (λ r rs. r ∷ rs) (slots-row x cycle rows count n) (slots-rows x cycle rows count ns)
 
 -- both channels of a slot, one after the other
 pub slot-nodes : (x : Setting) (cycle : ℕ) (slot : ℕ) (nodes first second : List NodeView) →
-    first ≡ map (after_channel x cycle (map row_of nodes) slot A) nodes → second ≡ map (after_channel x cycle (map row_of first) slot B) first → second ≡ map (after_slot x cycle (map row_of nodes) slot) nodes
+    first ≡ map (after_channel x cycle (map node_row_of nodes) slot A) nodes → second ≡ map (after_channel x cycle (map node_row_of first) slot B) first → second ≡ map (after_slot x cycle (map node_row_of nodes) slot) nodes
 slot-nodes x cycle slot nodes first second a b =
-    let rows : List NodeRow = map row_of nodes in
-    let same : map row_of first ≡ rows = ap (map row_of) a ∙ channel-rows x cycle rows slot A nodes in
+    let rows : List NodeRow = map node_row_of nodes in
+    let same : map node_row_of first ≡ rows = ap (map node_row_of) a ∙ channel-rows x cycle rows slot A nodes in
     b
     ∙ ap (λ (rs : List NodeRow). map (after_channel x cycle rs slot B) first) same
     ∙ ap (map (after_channel x cycle rows slot B)) a
     ∙ map-map (after_channel x cycle rows slot B) (after_channel x cycle rows slot A) nodes
 
 pub slot-counts : (x : Setting) (cycle : ℕ) (slot : ℕ) (nodes first : List NodeView) (c one two : Counts) →
-    first ≡ map (after_channel x cycle (map row_of nodes) slot A) nodes → one ≡ counts_on x cycle (map row_of nodes) slot A c → two ≡ counts_on x cycle (map row_of first) slot B one → two ≡ counts_in x cycle (map row_of nodes) slot c
+    first ≡ map (after_channel x cycle (map node_row_of nodes) slot A) nodes → one ≡ counts_on x cycle (map node_row_of nodes) slot A c → two ≡ counts_on x cycle (map node_row_of first) slot B one → two ≡ counts_in x cycle (map node_row_of nodes) slot c
 slot-counts x cycle slot nodes first c one two a first_counts second_counts =
-    let rows : List NodeRow = map row_of nodes in
-    let same : map row_of first ≡ rows = ap (map row_of) a ∙ channel-rows x cycle rows slot A nodes in
+    let rows : List NodeRow = map node_row_of nodes in
+    let same : map node_row_of first ≡ rows = ap (map node_row_of) a ∙ channel-rows x cycle rows slot A nodes in
     second_counts
     ∙ ap (λ (rs : List NodeRow). counts_on x cycle rs slot B one) same
     ∙ ap (counts_on x cycle rows slot B) first_counts
 
 -- one more slot
-pub slots-more : (x : Setting) (cycle : ℕ) (count : ℕ) (nodes before after : List NodeView) → before ≡ map (after_slots x cycle (map row_of nodes) count) nodes →
-    after ≡ map (after_slot x cycle (map row_of before) (count + 1)) before → after ≡ map (after_slots x cycle (map row_of nodes) (count + 1)) nodes
+pub slots-more : (x : Setting) (cycle : ℕ) (count : ℕ) (nodes before after : List NodeView) → before ≡ map (after_slots x cycle (map node_row_of nodes) count) nodes →
+    after ≡ map (after_slot x cycle (map node_row_of before) (count + 1)) before → after ≡ map (after_slots x cycle (map node_row_of nodes) (count + 1)) nodes
 unfolding after_slots
 slots-more x cycle count nodes before after so_far now =
-    let rows : List NodeRow = map row_of nodes in
-    let same : map row_of before ≡ rows = ap (map row_of) so_far ∙ slots-rows x cycle rows count nodes in
+    let rows : List NodeRow = map node_row_of nodes in
+    let same : map node_row_of before ≡ rows = ap (map node_row_of) so_far ∙ slots-rows x cycle rows count nodes in
     let P : ℕ → Type 0 = λ k. after ≡ map (after_slots x cycle rows k) nodes in
     subst P (sym (add-one count)) (rw (add-one count) at (
     now
@@ -264,12 +265,12 @@ slots-more x cycle count nodes before after so_far now =
     ∙ ap (map (after_slot x cycle rows (count + 1))) so_far
     ∙ map-map (after_slot x cycle rows (count + 1)) (after_slots x cycle rows count) nodes))
 
-pub counts-more : (x : Setting) (cycle : ℕ) (count : ℕ) (nodes before : List NodeView) (c so_far after : Counts) → before ≡ map (after_slots x cycle (map row_of nodes) count) nodes →
-    so_far ≡ counts_after x cycle (map row_of nodes) count c → after ≡ counts_in x cycle (map row_of before) (count + 1) so_far → after ≡ counts_after x cycle (map row_of nodes) (count + 1) c
+pub counts-more : (x : Setting) (cycle : ℕ) (count : ℕ) (nodes before : List NodeView) (c so_far after : Counts) → before ≡ map (after_slots x cycle (map node_row_of nodes) count) nodes →
+    so_far ≡ counts_after x cycle (map node_row_of nodes) count c → after ≡ counts_in x cycle (map node_row_of before) (count + 1) so_far → after ≡ counts_after x cycle (map node_row_of nodes) (count + 1) c
 unfolding counts_after
 counts-more x cycle count nodes before c so_far after stepped counted now =
-    let rows : List NodeRow = map row_of nodes in
-    let same : map row_of before ≡ rows = ap (map row_of) stepped ∙ slots-rows x cycle rows count nodes in
+    let rows : List NodeRow = map node_row_of nodes in
+    let same : map node_row_of before ≡ rows = ap (map node_row_of) stepped ∙ slots-rows x cycle rows count nodes in
     let P : ℕ → Type 0 = λ k. after ≡ counts_after x cycle rows k c in
     subst P (sym (add-one count)) (rw (add-one count) at (
     now
@@ -298,9 +299,9 @@ at_most-after x cycle rows n (suc earlier) c few most =
 
 -- an arbitrary node's frame is not one of a correct node
 pub arbitrary-frame : (f : Files) (turn : Turn) (nodes : List NodeView) (sending : Sending) → sender_of f.params turn.slot turn.cycle ≡ Some sending → All (IsReady f turn.cycle) nodes → is_arbitrary f.script sending.node ≡ true →
-    frame_in (setting_in f) turn.cycle (map row_of nodes) turn.slot turn.channel ≡ None
+    frame_in (setting_in f) turn.cycle (map node_row_of nodes) turn.slot turn.channel ≡ None
 arbitrary-frame f turn nodes sending sends ready arbitrary =
-    sender-frame (setting_in f) turn (map row_of nodes) sending sends
+    sender-frame (setting_in f) turn (map node_row_of nodes) sending sends
     ∙ ap (λ (row : Option NodeRow). option_map (λ r. regular_frame f.params sending turn.slot turn.cycle turn.channel) (sending_row_by (setting_in f) row sending.node turn.channel))
     (arbitrary-row f turn.cycle nodes sending.node ready arbitrary)
 

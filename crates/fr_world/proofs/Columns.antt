@@ -6,23 +6,25 @@ use Rattle.std.specs.List.{cons_option, filter_map, range_with_len}
 use Rattle.fr_base.specs.declared.channel.Channel.{Channel}
 use Rattle.fr_base.specs.declared.channel.Channel.TheVariants.{A, B}
 use Rattle.fr_base.specs.declared.dev.Dev.{Dev}
-use Rattle.fr_params.specs.Sane.{IsSane}
-use Rattle.fr_params.specs.Values.{Values, amount}
-use Rattle.fr_params.specs.Questions.{key_index_of}
-use Rattle.fr_params.specs.declared.names.ParamName.TheVariants as name
-use Rattle.fr_params.specs.declared.rows.NodeSpec.{NodeSpec}
+use Rattle.fr_cluster.specs.Sane.{IsSane}
+use Rattle.fr_cluster.specs.Values.{Values, amount}
+use Rattle.fr_cluster.specs.Questions.{key_index_of, key_slot_of}
+use Rattle.fr_cluster.specs.declared.names.ParamName.TheVariants as name
+use Rattle.fr_cluster.specs.declared.nodes.NodeSpec.{NodeSpec}
 use Rattle.fr_time.specs.Cycles.{is_odd}
 use Rattle.fr_measure.specs.Readings.{Readings, column, no_readings, reading}
 use Rattle.fr_measure.specs.Values.{change_of, least_of, mean_of, offset_at, own_value_or, rate_at, values_of}
-use Rattle.fr_node.proofs.KeyIndexes.{index_is_own}
-use Rattle.fr_history.specs.Setting.{Setting, correct_nodes}
+use Rattle.fr_cluster.proofs.KeyIndexes.{index_is_own}
+use Rattle.fr_cluster.specs.Setting.{Setting, correct_nodes}
 use Rattle.fr_history.specs.History.{History}
 use Rattle.fr_history.specs.Next.{early_row, early_rows, next_devs, next_record}
-use Rattle.fr_history.specs.Terms.{dev_in, deviations_of, key_slot_of, latest_devs}
-use Rattle.fr_world.specs.Standing.{column_of, readings_behind, readings_of, recorded_at}
-use Rattle.fr_world.proofs.Devs.{dev_in-next}
-use Rattle.fr_world.proofs.Flat.{Among, get_or-map-range, length-map-range, same_lists}
-use Rattle.fr_world.proofs.KeySlots.{key_slot-index, key_slot-within, no_key_slot}
+use Rattle.fr_history.specs.Terms.{latest_devs}
+use Rattle.fr_measure.specs.Deviations.{deviations_of}
+use Rattle.fr_base.specs.Rows.{dev_in}
+use Rattle.fr_world.specs.Standing.{column_of, readings_after, readings_of, recorded_at}
+use Rattle.fr_history.proofs.Devs.{dev_in-next}
+use Rattle.fr_history.proofs.Flat.{Among, get_or-map-range, length-map-range, same_lists}
+use Rattle.fr_history.proofs.KeySlots.{key_slot-index, key_slot-within, no_key_slot}
 use Rattle.fr_world.proofs.Store.{IsTable}
 use Rattle.fr_world.proofs.Table.{AreOneToOne, other_column, table_after, table_after-table, unkeyed_reading, used_reading}
 
@@ -161,18 +163,18 @@ odd_columns x sane h node is evens false B = other_column x (length h) (early_ro
 heard_odd : (x : Setting) → IsSane x.params → (h : History) (node : NodeSpec) → Among node (correct_nodes x) → (evens : List Dev) → heard_table x h node.id true (readings_of x.params evens [] node.id) ≡ readings_of x.params evens (next_devs x h) node.id
 heard_odd x sane h node is evens = readings_same (heard_table x h node.id true (readings_of x.params evens [] node.id)) (readings_of x.params evens (next_devs x h) node.id) (odd_columns x sane h node is evens)
 
--- ---- the table of a node behind a history, begun and heard, is that behind the next record
+-- ---- the table of a node after a history, begun and heard, is that after the next record
 
 -- what a node begins a cycle with
 abbrev pub begun_table : Setting → History → ℕ → Readings
-begun_table x h node = if is_odd (length h) then readings_behind x h node else no_readings
+begun_table x h node = if is_odd (length h) then readings_after x h node else no_readings
 
 odd_after_even : (n : ℕ) → is_odd (suc n) ≡ true → is_odd n ≡ false
 odd_after_even n is = let e : suc n % 2 ≡ 1 = grind arith in let m : n % 2 ≡ 0 = omega (arith, e) in rw m refl
 
--- behind an even cycle the table has its deviations alone
-pub begun_odd : (x : Setting) (h : History) (node : ℕ) → is_odd (length h) ≡ true → readings_behind x h node ≡ readings_of x.params (latest_devs h) [] node
-unfolding readings_behind
+-- after an even cycle the table has its deviations alone
+pub begun_odd : (x : Setting) (h : History) (node : ℕ) → is_odd (length h) ≡ true → readings_after x h node ≡ readings_of x.params (latest_devs h) [] node
+unfolding readings_after
 begun_odd x [] node is = absurd (cc)
 begun_odd x (r ∷ h) node is = let even : is_odd (length h) ≡ false = odd_after_even (length h) is in rw even refl
 
@@ -181,13 +183,13 @@ unfolding next_record
 next_devs_recorded x h = refl
 
 table_by : (x : Setting) → IsSane x.params → (h : History) (node : NodeSpec) → Among node (correct_nodes x) → (odd : Bool) → is_odd (length h) ≡ odd →
-    heard_table x h node.id odd (if odd then readings_behind x h node.id else no_readings) ≡ (if odd then readings_of x.params (latest_devs h) (next_devs x h) node.id else readings_of x.params (next_devs x h) [] node.id)
+    heard_table x h node.id odd (if odd then readings_after x h node.id else no_readings) ≡ (if odd then readings_of x.params (latest_devs h) (next_devs x h) node.id else readings_of x.params (next_devs x h) [] node.id)
 table_by x sane h node is true odd = ap (heard_table x h node.id true) (begun_odd x h node.id odd) ∙ heard_odd x sane h node is (latest_devs h)
 table_by x sane h node is false odd = heard_even x sane h node is
 
 pub next_table : (x : Setting) → IsSane x.params → (h : History) (node : NodeSpec) → Among node (correct_nodes x) →
-    heard_table x h node.id (is_odd (length h)) (begun_table x h node.id) ≡ readings_behind x (next_record x h ∷ h) node.id
-unfolding readings_behind next_record
+    heard_table x h node.id (is_odd (length h)) (begun_table x h node.id) ≡ readings_after x (next_record x h ∷ h) node.id
+unfolding readings_after next_record
 next_table x sane h node is = table_by x sane h node is (is_odd (length h)) refl
 
 -- ---- the values at the end of an odd cycle

@@ -10,28 +10,29 @@ use Rattle.fr_base.specs.declared.channel.Channel.{Channel}
 use Rattle.fr_base.specs.declared.channel.Channel.TheVariants.{A, B}
 use Rattle.fr_base.specs.declared.cycle_row.Counts.{Counts}
 use Rattle.fr_base.specs.declared.node_row.NodeRow.{NodeRow}
-use Rattle.fr_params.specs.Values.{amount}
-use Rattle.fr_params.specs.declared.names.ParamName.TheVariants as name
+use Rattle.fr_cluster.specs.Values.{amount}
+use Rattle.fr_cluster.specs.declared.names.ParamName.TheVariants as name
 use Rattle.fr_reception.specs.Answers.{answer_of}
 use Rattle.fr_reception.specs.Offers.{Offer}
 use Rattle.fr_reception.specs.Regular.{carried_crc}
 use Rattle.fr_reception.specs.declared.heard.Heard.{Heard}
 use Rattle.fr_reception.specs.declared.heard.Heard.TheVariants.{Stored, Ignored}
 use Rattle.fr_reception.specs.declared.heard.Ignored.TheVariants as reason
-use Rattle.fr_history.specs.Setting.{Setting}
+use Rattle.fr_cluster.specs.Setting.{Setting}
 use Rattle.fr_history.specs.History.{History}
 use Rattle.fr_history.specs.Kinds.{is_stored, is_outside, is_damaged, is_wrong_id, is_wrong_cycle, is_wrong_length, is_plain}
 use Rattle.fr_history.specs.Lawful.{crcs_sum}
 use Rattle.fr_history.specs.Next.{early_rows, next_counts}
-use Rattle.fr_history.specs.Offers.{channels, frame_in, offer_in, offers_among, offers_to, reception_of, receptions_among, slots_of}
-use Rattle.fr_world.specs.Counting.{counted, counted_frame, counted_offer, counted_offers, counted_sent, counts_after, counts_in, counts_on, no_counts}
+use Rattle.fr_history.specs.Offers.{channels, frame_in, offer_in, offers_among, offers_to, reception_of, receptions_among, static_slots_of}
+use Rattle.fr_world.specs.Counting.{with_answer, counted_frame, counted_offer, counted_offers, counted_sent, counts_after, counts_in, counts_on}
+use Rattle.fr_base.specs.Counts.{no_counts}
 use Rattle.fr_world.proofs.Sums.{range_more, sum_by-flat_map, sum_by-map, sum_by-more, sum_by-plus, sum_by-same, sum_by-turned}
 
 -- ---- one kind of answers
 
 -- one of the counts tells how many answers pass a test
 record IsKind (test : Heard → Bool) (count : Counts → ℕ) : Type 0 where
-  heard : (h : Heard) (c : Counts) → count (counted h c) ≡ count c + cond (test h) 1 0
+  heard : (h : Heard) (c : Counts) → count (with_answer h c) ≡ count c + cond (test h) 1 0
   sent : (channel : Channel) (frame : List ℕ) (c : Counts) → count (counted_sent channel frame c) ≡ count c
   none : count no_counts ≡ 0
 
@@ -111,28 +112,28 @@ two_channels f = zero_plus (f A) (f B)
     zero_plus n m = omega arith
 
 row_count : (test : Heard → Bool) (x : Setting) (cycle : ℕ) (rows : List NodeRow) (row : NodeRow) →
-    sum_by (λ offer. cond (test (answer_of x.params cycle row offer)) 1 0) (offers_to x cycle rows row) ≡ sum_by (λ slot. hit test x cycle row (offer_in x cycle rows row slot A) + hit test x cycle row (offer_in x cycle rows row slot B)) (slots_of x)
+    sum_by (λ offer. cond (test (answer_of x.params cycle row offer)) 1 0) (offers_to x cycle rows row) ≡ sum_by (λ slot. hit test x cycle row (offer_in x cycle rows row slot A) + hit test x cycle row (offer_in x cycle rows row slot B)) (static_slots_of x)
 row_count test x cycle rows row =
     let one : Offer → ℕ = λ offer. cond (test (answer_of x.params cycle row offer)) 1 0 in
     let offers : ℕ → Channel → List Offer = λ slot channel. option_to_list (offer_in x cycle rows row slot channel) in
-    sum_by-flat_map one (λ slot. flat_map (offers slot) channels) (slots_of x)
-    ∙ sum_by-same (λ slot. sum_by one (flat_map (offers slot) channels)) (λ slot. hit test x cycle row (offer_in x cycle rows row slot A) + hit test x cycle row (offer_in x cycle rows row slot B)) (slots_of x)
+    sum_by-flat_map one (λ slot. flat_map (offers slot) channels) (static_slots_of x)
+    ∙ sum_by-same (λ slot. sum_by one (flat_map (offers slot) channels)) (λ slot. hit test x cycle row (offer_in x cycle rows row slot A) + hit test x cycle row (offer_in x cycle rows row slot B)) (static_slots_of x)
     (λ slot. sum_by-flat_map one (offers slot) channels
     ∙ two_channels (λ channel. sum_by one (offers slot channel))
     ∙ ap₂ (λ n m. n + m) (option_count one (offer_in x cycle rows row slot A)) (option_count one (offer_in x cycle rows row slot B)))
 
 receptions_count : (test : Heard → Bool) (x : Setting) (cycle : ℕ) (rows : List NodeRow) →
-    count_by (λ reception. test reception.heard) (receptions_among x cycle rows) ≡ sum_by (λ slot. hits_on test x cycle rows slot A + hits_on test x cycle rows slot B) (slots_of x)
+    count_by (λ reception. test reception.heard) (receptions_among x cycle rows) ≡ sum_by (λ slot. hits_on test x cycle rows slot A + hits_on test x cycle rows slot B) (static_slots_of x)
 receptions_count test x cycle rows =
     let pair_count : NodeRow × Offer → ℕ = λ pair. cond (test (answer_of x.params cycle pair.0 pair.1)) 1 0 in
     let pairs : NodeRow → List (NodeRow × Offer) = λ row. map (λ offer. (row, offer)) (offers_to x cycle rows row) in
     let at : NodeRow → ℕ → ℕ = λ row slot. hit test x cycle row (offer_in x cycle rows row slot A) + hit test x cycle row (offer_in x cycle rows row slot B) in
     sum_by-map (λ reception. cond (test reception.heard) 1 0) (reception_of x cycle) (offers_among x cycle rows)
     ∙ sum_by-flat_map pair_count pairs rows
-    ∙ sum_by-same (λ row. sum_by pair_count (pairs row)) (λ row. sum_by (at row) (slots_of x)) rows
+    ∙ sum_by-same (λ row. sum_by pair_count (pairs row)) (λ row. sum_by (at row) (static_slots_of x)) rows
     (λ row. sum_by-map pair_count (λ offer. (row, offer)) (offers_to x cycle rows row) ∙ row_count test x cycle rows row)
-    ∙ sum_by-turned at rows (slots_of x)
-    ∙ sum_by-same (λ slot. sum_by (λ row. at row slot) rows) (λ slot. hits_on test x cycle rows slot A + hits_on test x cycle rows slot B) (slots_of x)
+    ∙ sum_by-turned at rows (static_slots_of x)
+    ∙ sum_by-same (λ slot. sum_by (λ row. at row slot) rows) (λ slot. hits_on test x cycle rows slot A + hits_on test x cycle rows slot B) (static_slots_of x)
     (λ slot. sum_by-plus (λ row. hit test x cycle row (offer_in x cycle rows row slot A)) (λ row. hit test x cycle row (offer_in x cycle rows row slot B)) rows)
 
 kind_count : (test : Heard → Bool) (count : Counts → ℕ) → IsKind test count → (x : Setting) (cycle : ℕ) (rows : List NodeRow) →
@@ -147,7 +148,7 @@ plus_none n = omega arith
 stored-kind : IsKind is_stored (λ c. c.stored)
 stored-kind = record { heard = by_heard; sent = by_channel; none = refl }
   where
-    by_heard : (h : Heard) (c : Counts) → (counted h c).stored ≡ c.stored + cond (is_stored h) 1 0
+    by_heard : (h : Heard) (c : Counts) → (with_answer h c).stored ≡ c.stored + cond (is_stored h) 1 0
     by_heard (Stored value) c = refl
     by_heard (Ignored (reason.Outside a f t)) c = plus_none c.stored
     by_heard (Ignored (reason.Damaged fault)) c = plus_none c.stored
@@ -163,7 +164,7 @@ stored-kind = record { heard = by_heard; sent = by_channel; none = refl }
 outside-kind : IsKind is_outside (λ c. c.outside)
 outside-kind = record { heard = by_heard; sent = by_channel; none = refl }
   where
-    by_heard : (h : Heard) (c : Counts) → (counted h c).outside ≡ c.outside + cond (is_outside h) 1 0
+    by_heard : (h : Heard) (c : Counts) → (with_answer h c).outside ≡ c.outside + cond (is_outside h) 1 0
     by_heard (Stored value) c = plus_none c.outside
     by_heard (Ignored (reason.Outside a f t)) c = refl
     by_heard (Ignored (reason.Damaged fault)) c = plus_none c.outside
@@ -179,7 +180,7 @@ outside-kind = record { heard = by_heard; sent = by_channel; none = refl }
 damaged-kind : IsKind is_damaged (λ c. c.damaged)
 damaged-kind = record { heard = by_heard; sent = by_channel; none = refl }
   where
-    by_heard : (h : Heard) (c : Counts) → (counted h c).damaged ≡ c.damaged + cond (is_damaged h) 1 0
+    by_heard : (h : Heard) (c : Counts) → (with_answer h c).damaged ≡ c.damaged + cond (is_damaged h) 1 0
     by_heard (Stored value) c = plus_none c.damaged
     by_heard (Ignored (reason.Outside a f t)) c = plus_none c.damaged
     by_heard (Ignored (reason.Damaged fault)) c = refl
@@ -195,7 +196,7 @@ damaged-kind = record { heard = by_heard; sent = by_channel; none = refl }
 wrong_id-kind : IsKind is_wrong_id (λ c. c.wrong_id)
 wrong_id-kind = record { heard = by_heard; sent = by_channel; none = refl }
   where
-    by_heard : (h : Heard) (c : Counts) → (counted h c).wrong_id ≡ c.wrong_id + cond (is_wrong_id h) 1 0
+    by_heard : (h : Heard) (c : Counts) → (with_answer h c).wrong_id ≡ c.wrong_id + cond (is_wrong_id h) 1 0
     by_heard (Stored value) c = plus_none c.wrong_id
     by_heard (Ignored (reason.Outside a f t)) c = plus_none c.wrong_id
     by_heard (Ignored (reason.Damaged fault)) c = plus_none c.wrong_id
@@ -211,7 +212,7 @@ wrong_id-kind = record { heard = by_heard; sent = by_channel; none = refl }
 wrong_cycle-kind : IsKind is_wrong_cycle (λ c. c.wrong_cycle)
 wrong_cycle-kind = record { heard = by_heard; sent = by_channel; none = refl }
   where
-    by_heard : (h : Heard) (c : Counts) → (counted h c).wrong_cycle ≡ c.wrong_cycle + cond (is_wrong_cycle h) 1 0
+    by_heard : (h : Heard) (c : Counts) → (with_answer h c).wrong_cycle ≡ c.wrong_cycle + cond (is_wrong_cycle h) 1 0
     by_heard (Stored value) c = plus_none c.wrong_cycle
     by_heard (Ignored (reason.Outside a f t)) c = plus_none c.wrong_cycle
     by_heard (Ignored (reason.Damaged fault)) c = plus_none c.wrong_cycle
@@ -227,7 +228,7 @@ wrong_cycle-kind = record { heard = by_heard; sent = by_channel; none = refl }
 wrong_length-kind : IsKind is_wrong_length (λ c. c.wrong_length)
 wrong_length-kind = record { heard = by_heard; sent = by_channel; none = refl }
   where
-    by_heard : (h : Heard) (c : Counts) → (counted h c).wrong_length ≡ c.wrong_length + cond (is_wrong_length h) 1 0
+    by_heard : (h : Heard) (c : Counts) → (with_answer h c).wrong_length ≡ c.wrong_length + cond (is_wrong_length h) 1 0
     by_heard (Stored value) c = plus_none c.wrong_length
     by_heard (Ignored (reason.Outside a f t)) c = plus_none c.wrong_length
     by_heard (Ignored (reason.Damaged fault)) c = plus_none c.wrong_length
@@ -243,7 +244,7 @@ wrong_length-kind = record { heard = by_heard; sent = by_channel; none = refl }
 plain-kind : IsKind is_plain (λ c. c.plain)
 plain-kind = record { heard = by_heard; sent = by_channel; none = refl }
   where
-    by_heard : (h : Heard) (c : Counts) → (counted h c).plain ≡ c.plain + cond (is_plain h) 1 0
+    by_heard : (h : Heard) (c : Counts) → (with_answer h c).plain ≡ c.plain + cond (is_plain h) 1 0
     by_heard (Stored value) c = plus_none c.plain
     by_heard (Ignored (reason.Outside a f t)) c = plus_none c.plain
     by_heard (Ignored (reason.Damaged fault)) c = plus_none c.plain
@@ -258,7 +259,7 @@ plain-kind = record { heard = by_heard; sent = by_channel; none = refl }
 
 -- ---- what is sent on channel A
 
-kept_a : (h : Heard) (c : Counts) → ((counted h c).sent_a ≡ c.sent_a) × ((counted h c).xor_a ≡ c.xor_a)
+kept_a : (h : Heard) (c : Counts) → ((with_answer h c).sent_a ≡ c.sent_a) × ((with_answer h c).xor_a ≡ c.xor_a)
 kept_a (Stored value) c = (refl, refl)
 kept_a (Ignored (reason.Outside a f t)) c = (refl, refl)
 kept_a (Ignored (reason.Damaged fault)) c = (refl, refl)
@@ -291,7 +292,7 @@ other_frame_a (Some frame) c = (refl, refl)
 
 -- ---- what is sent on channel B
 
-kept_b : (h : Heard) (c : Counts) → ((counted h c).sent_b ≡ c.sent_b) × ((counted h c).xor_b ≡ c.xor_b)
+kept_b : (h : Heard) (c : Counts) → ((with_answer h c).sent_b ≡ c.sent_b) × ((with_answer h c).xor_b ≡ c.xor_b)
 kept_b (Stored value) c = (refl, refl)
 kept_b (Ignored (reason.Outside a f t)) c = (refl, refl)
 kept_b (Ignored (reason.Damaged fault)) c = (refl, refl)

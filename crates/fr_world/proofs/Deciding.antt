@@ -3,13 +3,13 @@ use Rattle.std.proofs.Common.{ℕ, Some, None}
 use Rattle.fr_base.specs.Event.{Event}
 use Rattle.fr_base.specs.Event.Event.{Regular, Silent, Flip, Say}
 use Rattle.fr_base.specs.declared.channel.Channel.{Channel}
-use Rattle.fr_params.specs.Sane.{IsSane}
-use Rattle.fr_params.specs.Values.{Values}
+use Rattle.fr_cluster.specs.Sane.{IsSane}
+use Rattle.fr_cluster.specs.Values.{Values}
 use Rattle.fr_drift.specs.View.{DriftView}
 use Rattle.fr_script.specs.Events.{IsProperEvent, event_of}
 use Rattle.fr_script.specs.View.{IsScript, ScriptView}
-use Rattle.fr_history.specs.Setting.{IsSetting, SaysBytes}
-use Rattle.fr_world.specs.Files.{setting_of}
+use Rattle.fr_cluster.specs.Setting.{IsSetting, SaysBytes}
+use Rattle.fr_coverage.specs.Decided.{setting_of}
 
 says-bytes : (event : Event) → IsProperEvent event → SaysBytes event
 says-bytes Regular proper = tt

@@ -6,7 +6,7 @@ use Rattle.std.proofs.lemmas.Bool.{cond_both, eq-eqb}
 use Rattle.std.proofs.lemmas.List.{map-append, take_more, append-nil}
 use Rattle.std.proofs.lemmas.List.Elements.{filter-append}
 use Rattle.std.proofs.lemmas.List.FromFn.{map-range_with_len_more}
-use Rattle.fr_params.specs.declared.rows.NodeSpec.{NodeSpec}
+use Rattle.fr_cluster.specs.declared.nodes.NodeSpec.{NodeSpec}
 
 same : (xs : List ℕ) → map (λ x. x) xs ≡ xs
 same [] = refl

@@ -1,9 +1,5 @@
 pub mod Store
-pub mod Marks
 pub mod Table
-pub mod Flat
-pub mod Devs
-pub mod KeySlots
 pub mod Columns
 pub mod Step
 pub mod Listed

@@ -10,32 +10,33 @@ use Rattle.fr_base.specs.declared.node_row.NodeRow.{NodeRow}
 use Rattle.fr_frame.specs.Reading.{read_as}
 use Rattle.fr_frame.specs.declared.fault.FrameFault.{FrameFault}
 use Rattle.fr_frame.specs.declared.header.Header.{Header}
-use Rattle.fr_params.specs.Sane.{IsSane}
-use Rattle.fr_params.specs.Questions.{key_index_of}
-use Rattle.fr_params.specs.Values.{Values, amount}
-use Rattle.fr_params.specs.declared.names.ParamName.TheVariants as name
-use Rattle.fr_params.specs.declared.rows.NodeSpec.{NodeSpec}
+use Rattle.fr_cluster.specs.Sane.{IsSane}
+use Rattle.fr_cluster.specs.Questions.{key_index_of}
+use Rattle.fr_cluster.specs.Values.{Values, amount}
+use Rattle.fr_cluster.specs.declared.names.ParamName.TheVariants as name
+use Rattle.fr_cluster.specs.declared.nodes.NodeSpec.{NodeSpec}
 use Rattle.fr_time.specs.Cycles.{cycle_count, is_odd}
 use Rattle.fr_measure.specs.Readings.{Readings, no_readings, reading}
 use Rattle.fr_node.specs.View.{NodeView}
-use Rattle.fr_node.proofs.KeyIndexes.{index-lt}
+use Rattle.fr_cluster.proofs.KeyIndexes.{index-lt}
 use Rattle.fr_reception.specs.Answers.{answer_by, answer_of}
-use Rattle.fr_reception.specs.Offers.{Offer, deviation_of, slot_begins, slot_ends}
+use Rattle.fr_reception.specs.Offers.{Offer, deviation_of}
+use Rattle.fr_time.specs.Instant.{slot_begins, slot_ends}
 use Rattle.fr_reception.specs.declared.heard.Heard.{Heard}
 use Rattle.fr_reception.specs.declared.heard.Heard.TheVariants.{Stored, Ignored}
 use Rattle.fr_reception.specs.declared.heard.Ignored.TheVariants as reason
-use Rattle.fr_history.specs.Setting.{Setting, correct_nodes}
+use Rattle.fr_cluster.specs.Setting.{Setting, correct_nodes}
 use Rattle.fr_history.specs.History.{History}
-use Rattle.fr_history.specs.Offers.{channels, offer_in, slots_of}
+use Rattle.fr_history.specs.Offers.{channels, offer_in, static_slots_of, stored_in, value_of}
 use Rattle.fr_history.specs.Next.{early_row, early_rows, next_devs, next_record}
 use Rattle.fr_history.specs.Terms.{latest_devs}
-use Rattle.fr_world.specs.Hearing.{stored_in, value_of}
-use Rattle.fr_world.specs.Listing.{dev_with, listed_among, listed_at, listed_of, ordered_keys}
-use Rattle.fr_world.specs.Standing.{node_behind, readings_behind}
+use Rattle.fr_base.specs.Rows.{dev_with}
+use Rattle.fr_world.specs.Listing.{listed_among, listed_at, listed_of, ordered_keys}
+use Rattle.fr_world.specs.Standing.{node_after, readings_after}
 use Rattle.fr_world.proofs.Columns.{begun_odd, begun_table, empty_reading, empty-table, next_table, no_odd_reading, one_to_one, recorded-table}
-use Rattle.fr_world.proofs.Devs.{next_devs_are, stored_at, stored_of}
-use Rattle.fr_world.proofs.Flat.{Among, flat_map-filter, flat_map_same, range_from, range_to}
-use Rattle.fr_world.proofs.Marks.{HasMarks, offer_in-marked}
+use Rattle.fr_history.proofs.Devs.{next_devs_are, stored_at, stored_of}
+use Rattle.fr_history.proofs.Flat.{Among, flat_map-filter, flat_map_same, range_from, range_to}
+use Rattle.fr_history.proofs.Marks.{HasMarks, offer_in-marked}
 use Rattle.fr_world.proofs.Step.{heard_node}
 use Rattle.fr_world.proofs.Store.{IsTable}
 use Rattle.fr_world.proofs.Table.{used_reading}
@@ -84,21 +85,21 @@ stored_in-unkeyed x cycle rows row slot channel none = unkeyed_offer x.params cy
 
 begun_none : (x : Setting) (h : History) (node index : ℕ) (c : Channel) (odd : Bool) → is_odd (length h) ≡ odd → reading (begun_table x h node) index odd c ≡ None
 begun_none x h node index c true odd =
-    ap (λ (b : Bool). reading (if b then readings_behind x h node else no_readings) index true c) odd
+    ap (λ (b : Bool). reading (if b then readings_after x h node else no_readings) index true c) odd
     ∙ ap (λ (t : Readings). reading t index true c) (begun_odd x h node odd) ∙ no_odd_reading x.params (latest_devs h) node index c
-begun_none x h node index c false odd = ap (λ (b : Bool). reading (if b then readings_behind x h node else no_readings) index false c) odd ∙ empty_reading index false c
+begun_none x h node index c false odd = ap (λ (b : Bool). reading (if b then readings_after x h node else no_readings) index false c) odd ∙ empty_reading index false c
 
 begun-table : (x : Setting) (h : History) (node : ℕ) (odd : Bool) → is_odd (length h) ≡ odd → IsTable (begun_table x h node)
 begun-table x h node true odd =
     let P : Readings → Type 0 = λ t. IsTable t in
-    subst P (sym (ap (λ (b : Bool). let t : Readings = if b then readings_behind x h node else no_readings in t) odd ∙ begun_odd x h node odd)) (recorded-table x.params (latest_devs h) [] node)
+    subst P (sym (ap (λ (b : Bool). let t : Readings = if b then readings_after x h node else no_readings in t) odd ∙ begun_odd x h node odd)) (recorded-table x.params (latest_devs h) [] node)
 begun-table x h node false odd =
     let P : Readings → Type 0 = λ t. IsTable t in
-    subst P (sym (ap (λ (b : Bool). let t : Readings = if b then readings_behind x h node else no_readings in t) odd)) empty-table
+    subst P (sym (ap (λ (b : Bool). let t : Readings = if b then readings_after x h node else no_readings in t) odd)) empty-table
 
 -- the reading of a slot, by its key index
 slot_reading : (x : Setting) → IsSane x.params → (h : History) (node : NodeSpec) → Among node (correct_nodes x) → (slot : ℕ) (c : Channel) → 1 ≤ slot → slot ≤ amount x.params name.gNumberOfStaticSlots → (k : Option ℕ) → key_index_of x.params slot ≡ k →
-    option_and_then (λ index. reading (readings_behind x (next_record x h ∷ h) node.id) index (is_odd (length h)) c) k ≡ stored_in x (length h) (early_rows x h) (early_row x h node.id) slot c
+    option_and_then (λ index. reading (readings_after x (next_record x h ∷ h) node.id) index (is_odd (length h)) c) k ≡ stored_in x (length h) (early_rows x h) (early_row x h node.id) slot c
 slot_reading x sane h node is slot c low high None key = sym (stored_in-unkeyed x (length h) (early_rows x h) (early_row x h node.id) slot c key)
 slot_reading x sane h node is slot c low high (Some index) key =
     ap (λ (t : Readings). reading t index (is_odd (length h)) c) (sym (next_table x sane h node is))
@@ -107,7 +108,7 @@ slot_reading x sane h node is slot c low high (Some index) key =
 
 listed_is_stored : (x : Setting) → IsSane x.params → (h : History) (node : NodeSpec) → Among node (correct_nodes x) → (slot : ℕ) (c : Channel) → 1 ≤ slot → slot ≤ amount x.params name.gNumberOfStaticSlots →
     listed_at x.params (is_odd (length h)) (heard_node x h node.id) slot c ≡ stored_at x (length h) (early_rows x h) (early_row x h node.id) slot c
-unfolding node_behind early_row
+unfolding node_after early_row
 listed_is_stored x sane h node is slot c low high =
     ap (λ (o : Option ℤ). option_to_list (option_map (dev_with node.id slot c) o)) (slot_reading x sane h node is slot c low high (key_index_of x.params slot) refl)
 
@@ -124,12 +125,12 @@ empty_slot p odd node slot none = by_key (key_index_of p slot) none
     by_key (Some index) is = absurd (cc)
 
 node_lists : (x : Setting) → IsSane x.params → (h : History) (node : NodeSpec) → Among node (correct_nodes x) →
-    listed_of x.params (is_odd (length h)) (ordered_keys x) (heard_node x h node.id) ≡ stored_of x (length h) (early_rows x h) (early_row x h node.id)
+    listed_of x.params (is_odd (length h)) (ordered_keys x.params) (heard_node x h node.id) ≡ stored_of x (length h) (early_rows x h) (early_row x h node.id)
 node_lists x sane h node is =
-    flat_map-filter (λ slot. flat_map (listed_at x.params (is_odd (length h)) (heard_node x h node.id) slot) channels) (λ slot. is_some (key_index_of x.params slot)) (slots_of x)
+    flat_map-filter (λ slot. flat_map (listed_at x.params (is_odd (length h)) (heard_node x h node.id) slot) channels) (λ slot. is_some (key_index_of x.params slot)) (static_slots_of x)
     (λ slot none. empty_slot x.params (is_odd (length h)) (heard_node x h node.id) slot none)
     ∙ flat_map_same (λ slot. flat_map (listed_at x.params (is_odd (length h)) (heard_node x h node.id) slot) channels)
-    (λ slot. flat_map (stored_at x (length h) (early_rows x h) (early_row x h node.id) slot) channels) (slots_of x)
+    (λ slot. flat_map (stored_at x (length h) (early_rows x h) (early_row x h node.id) slot) channels) (static_slots_of x)
     (λ slot there.
     let low : 1 ≤ slot = range_from 1 (amount x.params name.gNumberOfStaticSlots) slot there in
     let high : slot < 1 + amount x.params name.gNumberOfStaticSlots = range_to 1 (amount x.params name.gNumberOfStaticSlots) slot there in
@@ -137,9 +138,9 @@ node_lists x sane h node is =
     (λ c _. listed_is_stored x sane h node is slot c low (omega arith)))
 
 -- the deviations that the nodes list are those of the next record
-pub all_listed : (x : Setting) → IsSane x.params → (h : History) → listed_among x.params (is_odd (length h)) (ordered_keys x) (map (λ node. heard_node x h node.id) (correct_nodes x)) ≡ next_devs x h
+pub all_listed : (x : Setting) → IsSane x.params → (h : History) → listed_among x.params (is_odd (length h)) (ordered_keys x.params) (map (λ node. heard_node x h node.id) (correct_nodes x)) ≡ next_devs x h
 all_listed x sane h =
-    flat_map-map (listed_of x.params (is_odd (length h)) (ordered_keys x)) (λ (node : NodeSpec). heard_node x h node.id) (correct_nodes x)
-    ∙ flat_map_same (λ node. listed_of x.params (is_odd (length h)) (ordered_keys x) (heard_node x h node.id)) (λ node. stored_of x (length h) (early_rows x h) (early_row x h node.id)) (correct_nodes x) (λ node is. node_lists x sane h node is)
+    flat_map-map (listed_of x.params (is_odd (length h)) (ordered_keys x.params)) (λ (node : NodeSpec). heard_node x h node.id) (correct_nodes x)
+    ∙ flat_map_same (λ node. listed_of x.params (is_odd (length h)) (ordered_keys x.params) (heard_node x h node.id)) (λ node. stored_of x (length h) (early_rows x h) (early_row x h node.id)) (correct_nodes x) (λ node is. node_lists x sane h node is)
     ∙ sym (flat_map-map (stored_of x (length h) (early_rows x h)) (λ (node : NodeSpec). early_row x h node.id) (correct_nodes x))
     ∙ sym (next_devs_are x h)

@@ -1,24 +1,42 @@
 -- A node that hears a sender can hear in the sender's slot.
-use Rattle.std.proofs.Common.{◌≡◌, ◌≢◌, ℕ, ◌≤◌, Bool, true, false, not, ◌&&◌, ◌==◌, List, [], ◌∷◌, Option, Some, None, refl, ap, sym, subst, ◌∙◌}
+use Rattle.std.proofs.Common.{◌≡◌, ◌≢◌, ℕ, ◌≤◌, ℤ, pos, IsSome, Bool, true, false, not, ◌&&◌, ◌==◌, List, [], ◌∷◌, Option, Some, None, refl, ap, sym, subst, ◌∙◌}
 use Rattle.std.specs.Prelude.{Contains, find}
 use Rattle.std.specs.Option.{option_map}
 use Rattle.std.proofs.lemmas.Bool.{and_parts, cond_both, eqb-true, eq-eqb}
 use Rattle.std.proofs.lemmas.List.Elements.{Contains-append_left, Contains-append_right, Contains-push}
 use Rattle.fr_base.specs.States.{is_halted}
-use Rattle.fr_base.specs.declared.channel.Channel.{Channel}
+use Rattle.fr_base.specs.declared.node_row.NodeRow.{NodeRow}
 use Rattle.fr_base.specs.declared.state.State.{State}
 use Rattle.fr_base.specs.declared.state.State.TheVariants.{Active, Passive, Halt}
-use Rattle.fr_params.specs.Questions.{has_channel, node_of}
-use Rattle.fr_params.specs.Sane.{IsSane}
-use Rattle.fr_params.specs.Values.{Values, amount}
-use Rattle.fr_params.specs.declared.names.ParamName.TheVariants as name
-use Rattle.fr_params.specs.declared.rows.NodeSpec.{NodeSpec}
-use Rattle.fr_reception.specs.Own.{key_in, own_key}
+use Rattle.fr_cluster.specs.Questions.{has_channel, node_of, own_key, key_in}
+use Rattle.fr_cluster.specs.Sane.{IsSane}
+use Rattle.fr_cluster.specs.Values.{Values, amount}
+use Rattle.fr_cluster.specs.declared.names.ParamName.TheVariants as name
+use Rattle.fr_cluster.specs.declared.nodes.NodeSpec.{NodeSpec}
 use Rattle.fr_time.proofs.SoleSenders.{key_slot_sender}
 use Rattle.fr_time.specs.Senders.{sender_of}
-use Rattle.fr_node.specs.View.{NodeView, row_of}
-use Rattle.fr_world.specs.Run.{setting_in, CanHear}
-use Rattle.fr_world.specs.Sending.{hears}
+use Rattle.fr_reception.specs.Offers.{Offer}
+use Rattle.fr_node.specs.View.{NodeView, node_row_of}
+use Rattle.fr_cluster.specs.Setting.{Setting}
+use Rattle.fr_world.specs.Files.{setting_in}
+use Rattle.std.specs.Borrow.{Bor}
+use Rattle.std.specs.Prelude.{unwrap_or}
+use Rattle.fr_base.specs.Event.{Event}
+use Rattle.fr_base.specs.Event.Event.{Say}
+use Rattle.fr_base.specs.Within.{IsWithin}
+use Rattle.fr_history.specs.Offers.{said_in_event}
+use Rattle.fr_world.specs.Sending.{hears, offer_at, offer_from, offer_heard, said_instant, said_with, ComesAs}
+use Rattle.fr_world.specs.declared.turn.Coming.{Coming}
+use Rattle.fr_world.specs.Cycling.{IsReady}
+use Rattle.fr_world.specs.Turns.{CanHear, HasHeard}
+use Rattle.fr_world.specs.Counting.{with_answer}
+use Rattle.fr_base.specs.declared.cycle_row.Counts.{Counts}
+use Rattle.fr_reception.specs.Answers.{answer_of}
+use Rattle.fr_reception.specs.declared.heard.Heard.{Heard}
+use Rattle.fr_node.specs.Cycle.{after_hearing}
+use Rattle.fr_node.specs.Fits.{NodeFits}
+use Rattle.fr_script.specs.View.{is_arbitrary}
+use Rattle.fr_world.specs.declared.turn.Turn.{Turn}
 use Rattle.fr_world.specs.declared.files.Files.{Files}
 
 -- what a search finds is in the list, and passes the test
@@ -46,20 +64,61 @@ not_halted Active is same = cc
 not_halted Passive is same = cc
 not_halted Halt is same = cc
 
-pub can_hear : (f : Files) (node : NodeView) (sender slot cycle : ℕ) (channel : Channel) → IsSane f.params → slot ≤ amount f.params name.gNumberOfStaticSlots →
-    option_map (λ sending. sending.node) (sender_of f.params slot cycle) ≡ Some sender → hears (setting_in f) (row_of node) sender channel ≡ true → CanHear f.params slot channel node
-can_hear f node sender slot cycle channel sane static_slot sends heard =
+pub can_hear : (f : Files) (turn : Turn) (node : NodeView) (sender : ℕ) → IsReady f turn.cycle node → turn.slot ≤ amount f.params name.gNumberOfStaticSlots →
+    option_map (λ sending. sending.node) (sender_of f.params turn.slot turn.cycle) ≡ Some sender → hears (setting_in f) (node_row_of node) sender turn.channel ≡ true → CanHear f turn node
+can_hear f turn node sender ready static_slot sends heard =
     let p : Values = f.params in
-    let both : ((not (is_halted node.control.status.state) && has_channel (node_of p node.id) channel) ≡ true) × (not (sender == node.id) ≡ true) = and_parts _ _ heard in
-    let first : (not (is_halted node.control.status.state) ≡ true) × (has_channel (node_of p node.id) channel ≡ true) = and_parts _ _ both.0 in
+    let both : ((not (is_halted node.control.status.state) && has_channel (node_of p node.id) turn.channel) ≡ true) × (not (sender == node.id) ≡ true) = and_parts _ _ heard in
+    let first : (not (is_halted node.control.status.state) ≡ true) × (has_channel (node_of p node.id) turn.channel ≡ true) = and_parts _ _ both.0 in
     record {
-      receives = not_halted node.control.status.state first.0;
-      on_channel = first.1;
-      static_slot = static_slot;
-      not_itself = λ (own : own_key p node.id ≡ Some slot).
-          let here : Some sender ≡ Some node.id = sym sends ∙ own_key-sender p node.id slot cycle sane own in
-          let same : sender ≡ node.id = cc in
-          let equal : (sender == node.id) ≡ true = eq-eqb sender node.id same in
-          let never : not (sender == node.id) ≡ false = ap not equal in
-          cc;
+      ready = ready;
+      receives = record {
+        fits = ready.fits;
+        under_way = ready.under_way;
+        receives = not_halted node.control.status.state first.0;
+        on_channel = first.1;
+        static_slot = static_slot;
+        not_itself = λ (own : own_key p node.id ≡ Some turn.slot).
+            let here : Some sender ≡ Some node.id = sym sends ∙ own_key-sender p node.id turn.slot turn.cycle ready.fits.sane own in
+            let same : sender ≡ node.id = cc in
+            let equal : (sender == node.id) ≡ true = eq-eqb sender node.id same in
+            let never : not (sender == node.id) ≡ false = ap not equal in
+            cc;
+      };
     }
+
+-- what is offered comes from a sender that is heard
+pub is_heard : (x : Setting) (turn : Turn) (sender : ℕ) (row : Option NodeRow) (frame : List ℕ) (receiver : NodeRow) (offer : Offer) → offer_heard x turn sender row frame receiver ≡ Some offer →
+    hears x receiver sender turn.channel ≡ true
+is_heard x turn sender row frame receiver offer comes =
+    cond_both (hears x receiver sender turn.channel) (offer_from x turn sender row frame receiver) None (λ o. o ≡ Some offer → hears x receiver sender turn.channel ≡ true)
+    (λ heard same. heard) (λ unheard none. absurd (cc)) comes
+
+-- a node has heard what it answered, and nothing but its table changed
+pub has_heard : (f : Files) (turn : Turn) (arrival : ℤ) (bytes : List ℕ) (before node : NodeView) (counted counts : Counts) (heard : Heard) → IsReady f turn.cycle before →
+    heard ≡ answer_of f.params before.cycle (node_row_of before) (offer_at turn arrival bytes) → node ≡ after_hearing f.params before turn.slot turn.channel heard → node ≡ record before { table = node.table } →
+    NodeFits f.params node → counts ≡ with_answer heard counted → HasHeard f turn (Some (offer_at turn arrival bytes)) before counted node counts
+has_heard f turn arrival bytes before node counted counts heard ready answer after rest fits now =
+    let offer : Offer = offer_at turn arrival bytes in
+    let same : heard ≡ answer_of f.params turn.cycle (node_row_of before) offer = answer ∙ ap (λ (c : ℕ). answer_of f.params c (node_row_of before) offer) ready.in_cycle in
+    let Waits : NodeView → Type 0 = λ n. IsSome n.length in
+    let Correct : NodeView → Type 0 = λ n. is_arbitrary f.script n.id ≡ false in
+    let InCycle : NodeView → Type 0 = λ n. n.cycle ≡ turn.cycle in
+    record {
+      node_is = after ∙ ap (after_hearing f.params before turn.slot turn.channel) same;
+      ready = record { fits = fits; under_way = subst Waits (sym rest) ready.under_way; correct = subst Correct (sym rest) ready.correct; in_cycle = subst InCycle (sym rest) ready.in_cycle };
+      counts_are = now ∙ ap (λ (h : Heard). with_answer h counted) same;
+    }
+
+-- what an arbitrary sender says comes as it is said
+pub said_comes : (x : Setting) (turn : Turn) (sender : ℕ) (frame : Bor (List ℕ)) (receiver : NodeRow) (shift arrival : ℤ) (bytes : Option (Bor (List ℕ))) →
+    Say shift (option_map (λ (b : Bor (List ℕ)). b.now) bytes) ≡ x.event turn.cycle sender receiver.node turn.channel → arrival ≡ said_instant x turn receiver shift → IsWithin (pos 4_000_000_000_000_000_000) arrival →
+    ComesAs turn (said_with x turn sender frame.now receiver) (let coming : Coming = record { arrival = arrival; bytes = unwrap_or bytes frame; flip = None } in Some coming)
+said_comes x turn sender frame receiver shift arrival bytes event at within = record {
+  offer_is = offer bytes ∙ ap (λ (e : Event). option_map (λ said. offer_at turn (said_instant x turn receiver said.0) said.1) (said_in_event e frame.now)) event;
+  within = record { arrival = within; short = λ some. absurd (cc) };
+} where
+  offer : (bytes : Option (Bor (List ℕ))) → Some (offer_at turn arrival (unwrap_or bytes frame).now)
+      ≡ option_map (λ said. offer_at turn (said_instant x turn receiver said.0) said.1) (said_in_event (Say shift (option_map (λ (b : Bor (List ℕ)). b.now) bytes)) frame.now)
+  offer None = ap (λ (a : ℤ). Some (offer_at turn a frame.now)) at
+  offer (Some b) = ap (λ (a : ℤ). Some (offer_at turn a b.now)) at

@@ -12,10 +12,10 @@ use Rattle.fr_reception.specs.Offers.{Offer}
 use Rattle.fr_reception.specs.declared.heard.Heard.{Heard}
 use Rattle.fr_reception.specs.declared.heard.Heard.TheVariants.{Stored, Ignored}
 use Rattle.fr_reception.specs.declared.heard.Ignored.TheVariants as reason
-use Rattle.fr_node.specs.View.{NodeView, row_of}
-use Rattle.fr_history.specs.Setting.{Setting}
-use Rattle.fr_world.specs.Counting.{counted, counted_frame, counted_offer, counted_offers, counted_sent}
-use Rattle.fr_world.specs.Limits.{AreAtMost}
+use Rattle.fr_node.specs.View.{NodeView, node_row_of}
+use Rattle.fr_cluster.specs.Setting.{Setting}
+use Rattle.fr_world.specs.Counting.{with_answer, counted_frame, counted_offer, counted_offers, counted_sent}
+use Rattle.fr_base.specs.Counts.{AreAtMost}
 
 -- ---- counts
 
@@ -32,7 +32,7 @@ at_most-more n m c le most = record {
   plain = omega arith;
 }
 
-at_most-counted : (n : ℕ) (heard : Heard) (c : Counts) → AreAtMost n c → AreAtMost (n + 1) (counted heard c)
+at_most-counted : (n : ℕ) (heard : Heard) (c : Counts) → AreAtMost n c → AreAtMost (n + 1) (with_answer heard c)
 at_most-counted n (Stored value) c most = record { sent_a = omega arith; sent_b = omega arith; stored = omega arith; outside = omega arith; damaged = omega arith; wrong_id = omega arith; wrong_cycle = omega arith; wrong_length = omega arith; plain = omega arith }
 at_most-counted n (Ignored (reason.Outside arrival from to)) c most = record { sent_a = omega arith; sent_b = omega arith; stored = omega arith; outside = omega arith; damaged = omega arith; wrong_id = omega arith; wrong_cycle = omega arith; wrong_length = omega arith; plain = omega arith }
 at_most-counted n (Ignored (reason.Damaged fault)) c most = record { sent_a = omega arith; sent_b = omega arith; stored = omega arith; outside = omega arith; damaged = omega arith; wrong_id = omega arith; wrong_cycle = omega arith; wrong_length = omega arith; plain = omega arith }
@@ -85,21 +85,21 @@ swept-more f xs ys i x new lt swept at stepped = ap (set ys i) stepped ∙ map_o
 
 -- one more is counted
 pub counted-more : (x : Setting) (cycle : ℕ) (offer : NodeRow → Option Offer) (nodes : List NodeView) (i : ℕ) (node : NodeView) (c before after : Counts) → i < length nodes →
-    node ≡ get_or nodes i node → before ≡ counted_offers x cycle offer (map row_of (take i nodes)) c → after ≡ counted_offer x cycle (row_of node) (offer (row_of node)) before →
-    after ≡ counted_offers x cycle offer (map row_of (take (i + 1) nodes)) c
+    node ≡ get_or nodes i node → before ≡ counted_offers x cycle offer (map node_row_of (take i nodes)) c → after ≡ counted_offer x cycle (node_row_of node) (offer (node_row_of node)) before →
+    after ≡ counted_offers x cycle offer (map node_row_of (take (i + 1) nodes)) c
 counted-more x cycle offer nodes i node c before after lt at so_far now =
-    let more : map row_of (take (i + 1) nodes) ≡ map row_of (take i nodes) ++ row_of node ∷ [] =
-    map_more row_of nodes i node lt ∙ ap (λ (n : NodeView). map row_of (take i nodes) ++ row_of n ∷ []) (sym at) in
+    let more : map node_row_of (take (i + 1) nodes) ≡ map node_row_of (take i nodes) ++ node_row_of node ∷ [] =
+    map_more node_row_of nodes i node lt ∙ ap (λ (n : NodeView). map node_row_of (take i nodes) ++ node_row_of n ∷ []) (sym at) in
     now
-    ∙ ap (counted_offer x cycle (row_of node) (offer (row_of node))) so_far
-    ∙ sym (offers-more x cycle offer (map row_of (take i nodes)) (row_of node) c)
+    ∙ ap (counted_offer x cycle (node_row_of node) (offer (node_row_of node))) so_far
+    ∙ sym (offers-more x cycle offer (map node_row_of (take i nodes)) (node_row_of node) c)
     ∙ ap (λ (rows : List NodeRow). counted_offers x cycle offer rows c) (sym more)
 
 -- of so many nodes
 pub at_most-nodes : (x : Setting) (cycle : ℕ) (offer : NodeRow → Option Offer) (nodes : List NodeView) (i n m : ℕ) (c counts : Counts) → length nodes ≤ 64 → n + 64 ≤ m → AreAtMost n c →
-    counts ≡ counted_offers x cycle offer (map row_of (take i nodes)) c → AreAtMost m counts
+    counts ≡ counted_offers x cycle offer (map node_row_of (take i nodes)) c → AreAtMost m counts
 at_most-nodes x cycle offer nodes i n m c counts few room most is =
-    let long : length (map row_of (take i nodes)) ≤ 64 = rw length-map (omega (arith, length-take i nodes)) in
+    let long : length (map node_row_of (take i nodes)) ≤ 64 = rw length-map (omega (arith, length-take i nodes)) in
     subst (AreAtMost m) (sym is)
-    (at_most-more (n + length (map row_of (take i nodes))) m (counted_offers x cycle offer (map row_of (take i nodes)) c) (omega arith)
-    (at_most-offers x cycle offer (map row_of (take i nodes)) n c most))
+    (at_most-more (n + length (map node_row_of (take i nodes))) m (counted_offers x cycle offer (map node_row_of (take i nodes)) c) (omega arith)
+    (at_most-offers x cycle offer (map node_row_of (take i nodes)) n c most))

@@ -1,4 +1,4 @@
--- One cycle of a node: behind the next record of the history it stands as the history says.
+-- One cycle of a node: after the next record of the history it stands as the history says.
 use Rattle.std.proofs.Common.{◌≡◌, ◌⊎◌, ℕ, ◌+◌, ◌==◌, ℤ, pos, Bool, true, false, cond, not, ◌&&◌, Option, Some, None, List, [], ◌∷◌, ◌++◌, map, length, refl, ap, sym, ◌∙◌, inl, inr, arith, append-nil, if◌then◌else◌, add-one}
 use Rattle.std.specs.Prelude.{find}
 use Rattle.std.proofs.lemmas.List.Sums.{fold-append}
@@ -7,112 +7,75 @@ use Rattle.fr_base.specs.declared.node_row.NodeRow.{NodeRow}
 use Rattle.fr_base.specs.declared.state.Outcome.{Outcome}
 use Rattle.fr_base.specs.declared.state.State.{State}
 use Rattle.fr_base.specs.declared.state.State.TheVariants.{Active, Passive, Halt}
-use Rattle.fr_params.specs.Sane.{IsSane}
-use Rattle.fr_params.specs.Values.{amount}
-use Rattle.fr_params.specs.declared.names.ParamName.TheVariants as name
-use Rattle.fr_params.specs.declared.rows.NodeSpec.{NodeSpec}
+use Rattle.fr_cluster.specs.Sane.{IsSane}
+use Rattle.fr_cluster.specs.Values.{amount}
+use Rattle.fr_cluster.specs.declared.names.ParamName.TheVariants as name
+use Rattle.fr_cluster.specs.declared.nodes.NodeSpec.{NodeSpec}
 use Rattle.fr_time.specs.Cycles.{is_odd}
 use Rattle.fr_time.specs.Instant.{next_start_of}
 use Rattle.fr_time.specs.Position.{grid_for}
 use Rattle.fr_measure.specs.Readings.{Readings, reading}
 use Rattle.fr_measure.specs.Values.{offset_at, rate_at, values_of}
-use Rattle.fr_reception.specs.Own.{own_index}
+use Rattle.fr_cluster.specs.Questions.{own_index}
 use Rattle.fr_correct.specs.Terms.{offset_term_of, rate_term_of}
 use Rattle.fr_correct.specs.declared.term.Term.{Term}
-use Rattle.fr_poc.specs.Control as poc
 use Rattle.fr_poc.specs.Control.{Control, Status, control_of, status_after, step_of, stepped, worse_of}
 use Rattle.fr_poc.specs.declared.control.PocLimits.{PocLimits}
-use Rattle.fr_node.specs.Cycle.{begun, corrects, ended, next_control, next_rate}
+use Rattle.fr_node.specs.Cycle.{in_cycle, corrects, ended, next_control, next_rate}
 use Rattle.fr_node.specs.Cycle as node_cycle
-use Rattle.fr_node.specs.Fits.{limits_of}
-use Rattle.fr_node.specs.View.{NodeView}
-use Rattle.fr_node.specs.View as view
-use Rattle.fr_history.specs.Setting.{Setting, correct_nodes}
+use Rattle.fr_poc.specs.Limits.{limits_of}
+use Rattle.fr_node.specs.View.{NodeView, node_row_of}
+use Rattle.fr_cluster.specs.Setting.{Setting, correct_nodes}
 use Rattle.fr_history.specs.History.{History, row_of}
-use Rattle.fr_history.specs.Lawful.{rate_behind, rate_by, start_behind, start_by}
+use Rattle.fr_history.specs.Lawful.{rate_after, rate_by, start_after, start_by}
 use Rattle.fr_history.specs.Next.{early_record, early_row, early_rows, ended_row, next_devs, next_record}
 use Rattle.fr_history.specs.Terms.{cuts_in, latest_devs, offset_term_in, outcomes_by, outcomes_in, rate_term_in, status_in}
 use Rattle.fr_world.specs.Hearing.{after_slots}
-use Rattle.fr_world.specs.Standing.{node_behind, readings_behind, readings_of}
+use Rattle.fr_world.specs.Standing.{node_after, readings_after, readings_of}
 use Rattle.fr_world.proofs.Columns.{next_table, offset_values_same, rate_values_same}
-use Rattle.fr_world.proofs.Flat.{Among}
+use Rattle.fr_history.proofs.Flat.{Among}
+use Rattle.fr_history.proofs.Rows.{more_control, next_row, next_rows, outcomes-next, row_of-next}
 use Rattle.fr_world.proofs.Table.{slots_with_table}
 
--- a node behind a history with its cycle begun
+-- a node after a history with its cycle begun
 abbrev pub begun_node : Setting → History → ℕ → NodeView
-begun_node x h node = begun (node_behind x h node) (x.microtick node (length h))
+begun_node x h node = in_cycle (node_after x h node) (x.microtick node (length h))
 
 -- and with what the next record records of it
 abbrev pub heard_node : Setting → History → ℕ → NodeView
-heard_node x h node = record (begun_node x h node) { table = readings_behind x (next_record x h ∷ h) node }
+heard_node x h node = record (begun_node x h node) { table = readings_after x (next_record x h ∷ h) node }
 
-pub begun_row : (x : Setting) (h : History) (node : ℕ) → view.row_of (begun_node x h node) ≡ early_row x h node
-unfolding node_behind early_row
+pub begun_row : (x : Setting) (h : History) (node : ℕ) → node_row_of (begun_node x h node) ≡ early_row x h node
+unfolding node_after early_row
 begun_row x h node = refl
 
 -- after all slots a node has heard what is recorded of it
 pub heard_all : (x : Setting) → IsSane x.params → (h : History) (node : NodeSpec) → Among node (correct_nodes x) →
     after_slots x (length h) (early_rows x h) (amount x.params name.gNumberOfStaticSlots) (begun_node x h node.id) ≡ heard_node x h node.id
-unfolding node_behind early_row
+unfolding node_after early_row
 heard_all x sane h node is =
     slots_with_table x (length h) (early_rows x h) (begun_node x h node.id) (amount x.params name.gNumberOfStaticSlots)
     ∙ ap (λ (t : Readings). let v : NodeView = record (begun_node x h node.id) { table = t } in v) (next_table x sane h node is)
 
--- ---- the rows of the next record
-
-find_row : (e : ℕ → NodeRow) → ((id : ℕ) → (e id).node ≡ id) → (nodes : List NodeSpec) (node : NodeSpec) → Among node nodes → find (λ row. row.node == node.id) (map (λ spec. e spec.id) nodes) ≡ Some (e node.id)
-unfolding Among
-find_row e own [] node is = absurd is
-find_row e own (spec ∷ nodes) node is = by_test ((e spec.id).node == node.id) refl is (find_row e own nodes node)
-  where
-    by_test : (b : Bool) → ((e spec.id).node == node.id) ≡ b → (node ≡ spec) ⊎ Among node nodes → (Among node nodes → find (λ row. row.node == node.id) (map (λ s. e s.id) nodes) ≡ Some (e node.id)) →
-        cond b (Some (e spec.id)) (find (λ row. row.node == node.id) (map (λ s. e s.id) nodes)) ≡ Some (e node.id)
-    by_test true same any rest =
-        let n : (e spec.id).node ≡ node.id = grind arith in
-        let id : spec.id ≡ node.id = sym (own spec.id) ∙ n in
-        ap (λ (k : ℕ). Some (e k)) id
-    by_test false other (inl same) rest =
-        let id : (e spec.id).node ≡ node.id = own spec.id ∙ ap (λ (s : NodeSpec). s.id) (sym same) in
-        let equal : ((e spec.id).node == node.id) ≡ true = grind arith in
-        let wrong : true ≡ false = sym equal ∙ other in
-        absurd (cc)
-    by_test false other (inr there) rest = rest there
-
--- a row of the next record
-abbrev pub next_row : Setting → History → ℕ → NodeRow
-next_row x h node = ended_row x h (early_record x h) (early_row x h node)
-
-pub next_rows : (x : Setting) (h : History) → (next_record x h).rows ≡ map (λ node. next_row x h node.id) (correct_nodes x)
-unfolding next_record
-next_rows x h = maps (correct_nodes x)
-  where
-    maps : (nodes : List NodeSpec) → map (ended_row x h (early_record x h)) (map (λ node. early_row x h node.id) nodes) ≡ map (λ node. next_row x h node.id) nodes
-    maps [] = refl
-    maps (node ∷ nodes) = ap (λ (rows : List NodeRow). next_row x h node.id ∷ rows) (maps nodes)
-
-pub row_of-next : (x : Setting) (h : History) (node : NodeSpec) → Among node (correct_nodes x) → row_of (next_record x h).rows node.id ≡ Some (next_row x h node.id)
-unfolding early_row
-row_of-next x h node is = ap (λ (rows : List NodeRow). row_of rows node.id) (next_rows x h) ∙ find_row (next_row x h) (λ id. refl) (correct_nodes x) node is
-
 -- ---- the terms at the end of an odd cycle
 
-odd_table : (x : Setting) (h : History) (node : ℕ) → is_odd (length h) ≡ true → readings_behind x (next_record x h ∷ h) node ≡ readings_of x.params (latest_devs h) (next_devs x h) node
-unfolding readings_behind next_record
+odd_table : (x : Setting) (h : History) (node : ℕ) → is_odd (length h) ≡ true → readings_after x (next_record x h ∷ h) node ≡ readings_of x.params (latest_devs h) (next_devs x h) node
+unfolding readings_after next_record
 odd_table x h node odd = rw odd refl
 
-offset_same : (x : Setting) (h : History) (node : ℕ) → is_odd (length h) ≡ true → node_cycle.offset_term_in x.params (heard_node x h node) ≡ offset_term_in x h (next_devs x h) node
-unfolding node_behind
+offset_same : (x : Setting) (h : History) (node : ℕ) → is_odd (length h) ≡ true → node_cycle.offset_term_of_node x.params (heard_node x h node) ≡ offset_term_in x.params h (next_devs x h) node
+unfolding node_after
 offset_same x h node odd =
     let own : Option ℕ = own_index x.params node in
     ap (λ (t : Readings). offset_term_of x.params.offset_limit (values_of (offset_at (reading t) own))) (odd_table x h node odd)
     ∙ ap (offset_term_of x.params.offset_limit) (offset_values_same x.params (latest_devs h) (next_devs x h) node own)
 
-rate_same : (x : Setting) (h : History) (node : ℕ) → is_odd (length h) ≡ true → node_cycle.rate_term_in x.params (heard_node x h node) ≡ rate_term_in x h (next_devs x h) (early_row x h node)
-unfolding node_behind early_row
+rate_same : (x : Setting) (h : History) (node : ℕ) → is_odd (length h) ≡ true → node_cycle.rate_term_of_node x.params (heard_node x h node) ≡ rate_term_in x.params h (next_devs x h) (early_row x h node)
+unfolding node_after early_row
 rate_same x h node odd =
     let own : Option ℕ = own_index x.params node in
-    ap (λ (t : Readings). rate_term_of (rate_behind x h node) x.params.damping x.params.rate_limit (values_of (rate_at (reading t) own))) (odd_table x h node odd)
-    ∙ ap (rate_term_of (rate_behind x h node) x.params.damping x.params.rate_limit) (rate_values_same x.params (latest_devs h) (next_devs x h) node own)
+    ap (λ (t : Readings). rate_term_of (rate_after x h node) x.params.damping x.params.rate_limit (values_of (rate_at (reading t) own))) (odd_table x h node odd)
+    ∙ ap (rate_term_of (rate_after x h node) x.params.damping x.params.rate_limit) (rate_values_same x.params (latest_devs h) (next_devs x h) node own)
 
 -- ---- the row at the end of the cycle
 
@@ -121,47 +84,44 @@ both_left true b is = refl
 both_left false b is = is
 
 -- a row where it is corrected, and where it is not
-row_by : (x : Setting) (h : History) (node : ℕ) (c : Bool) → (is_odd (length h) && not (is_halted (status_in x h node).state)) ≡ c →
-    (if c then node_cycle.corrected_row x.params (heard_node x h node) else view.row_of (heard_node x h node))
-    ≡ record (early_row x h node) { offset = if c then (offset_term_in x h (next_devs x h) node).value else pos 0; cut = if c then cuts_in x h (next_devs x h) (early_row x h node) else 0 }
-unfolding node_behind early_row
+row_by : (x : Setting) (h : History) (node : ℕ) (c : Bool) → (is_odd (length h) && not (is_halted (status_in x.params h node).state)) ≡ c →
+    (if c then node_cycle.corrected_row x.params (heard_node x h node) else node_row_of (heard_node x h node))
+    ≡ record (early_row x h node) { offset = if c then (offset_term_in x.params h (next_devs x h) node).value else pos 0; cut = if c then cuts_in x.params h (next_devs x h) (early_row x h node) else 0 }
+unfolding node_after early_row
 row_by x h node true is =
-    let odd : is_odd (length h) ≡ true = both_left (is_odd (length h)) (not (is_halted (status_in x h node).state)) is in
-    let offset : Term = node_cycle.offset_term_in x.params (heard_node x h node) in
-    let rate : Term = node_cycle.rate_term_in x.params (heard_node x h node) in
-    ap (λ (t : Term). let r : NodeRow = record (view.row_of (heard_node x h node)) { offset = t.value; cut = cut_of t.outcome + cut_of rate.outcome } in r) (offset_same x h node odd)
-    ∙ ap (λ (t : Term). let r : NodeRow = record (view.row_of (heard_node x h node)) { offset = (offset_term_in x h (next_devs x h) node).value; cut = cut_of (offset_term_in x h (next_devs x h) node).outcome + cut_of t.outcome } in r) (rate_same x h node odd)
+    let odd : is_odd (length h) ≡ true = both_left (is_odd (length h)) (not (is_halted (status_in x.params h node).state)) is in
+    let offset : Term = node_cycle.offset_term_of_node x.params (heard_node x h node) in
+    let rate : Term = node_cycle.rate_term_of_node x.params (heard_node x h node) in
+    ap (λ (t : Term). let r : NodeRow = record (node_row_of (heard_node x h node)) { offset = t.value; cut = cut_of t.outcome + cut_of rate.outcome } in r) (offset_same x h node odd)
+    ∙ ap (λ (t : Term). let r : NodeRow = record (node_row_of (heard_node x h node)) { offset = (offset_term_in x.params h (next_devs x h) node).value; cut = cut_of (offset_term_in x.params h (next_devs x h) node).outcome + cut_of t.outcome } in r) (rate_same x h node odd)
 row_by x h node false is = refl
 
-pub ended_row_is : (x : Setting) (h : History) (node : ℕ) → node_cycle.ended_row x.params (heard_node x h node) ≡ next_row x h node
-unfolding node_behind early_row
-ended_row_is x h node = row_by x h node (is_odd (length h) && not (is_halted (status_in x h node).state)) refl
+pub ended_row_is : (x : Setting) (h : History) (node : ℕ) → node_cycle.ended_row_of_node x.params (heard_node x h node) ≡ next_row x h node
+unfolding node_after early_row
+ended_row_is x h node = row_by x h node (is_odd (length h) && not (is_halted (status_in x.params h node).state)) refl
 
 -- ---- the rate term of the next cycle
 
-rate_of : (x : Setting) (h : History) (node : ℕ) (c : Bool) → (is_odd (length h) && not (is_halted (status_in x h node).state)) ≡ c →
-    (if c then (node_cycle.rate_term_in x.params (heard_node x h node)).value else rate_behind x h node) ≡ (if c then (rate_term_in x h (next_devs x h) (early_row x h node)).value else rate_behind x h node)
-rate_of x h node true is = ap (λ (t : Term). t.value) (rate_same x h node (both_left (is_odd (length h)) (not (is_halted (status_in x h node).state)) is))
+rate_of : (x : Setting) (h : History) (node : ℕ) (c : Bool) → (is_odd (length h) && not (is_halted (status_in x.params h node).state)) ≡ c →
+    (if c then (node_cycle.rate_term_of_node x.params (heard_node x h node)).value else rate_after x h node) ≡ (if c then (rate_term_in x.params h (next_devs x h) (early_row x h node)).value else rate_after x h node)
+rate_of x h node true is = ap (λ (t : Term). t.value) (rate_same x h node (both_left (is_odd (length h)) (not (is_halted (status_in x.params h node).state)) is))
 rate_of x h node false is = refl
 
-rate_behind_next : (x : Setting) (h : History) (node : NodeSpec) → Among node (correct_nodes x) →
-    rate_behind x (next_record x h ∷ h) node.id ≡ (if is_odd (length h) && not (is_halted (status_in x h node.id).state) then (rate_term_in x h (next_devs x h) (early_row x h node.id)).value else rate_behind x h node.id)
+rate_after_next : (x : Setting) (h : History) (node : NodeSpec) → Among node (correct_nodes x) →
+    rate_after x (next_record x h ∷ h) node.id ≡ (if is_odd (length h) && not (is_halted (status_in x.params h node.id).state) then (rate_term_in x.params h (next_devs x h) (early_row x h node.id)).value else rate_after x h node.id)
 unfolding next_record early_row
-rate_behind_next x h node is = ap (rate_by x h (next_record x h)) (row_of-next x h node is)
+rate_after_next x h node is = ap (rate_by x.params h (next_record x h)) (row_of-next x h node is)
 
-next_rate_is : (x : Setting) (h : History) (node : NodeSpec) → Among node (correct_nodes x) → next_rate x.params (heard_node x h node.id) ≡ rate_behind x (next_record x h ∷ h) node.id
-unfolding node_behind
-next_rate_is x h node is = rate_of x h node.id (is_odd (length h) && not (is_halted (status_in x h node.id).state)) refl ∙ sym (rate_behind_next x h node is)
+next_rate_is : (x : Setting) (h : History) (node : NodeSpec) → Among node (correct_nodes x) → next_rate x.params (heard_node x h node.id) ≡ rate_after x (next_record x h ∷ h) node.id
+unfolding node_after
+next_rate_is x h node is = rate_of x h node.id (is_odd (length h) && not (is_halted (status_in x.params h node.id).state)) refl ∙ sym (rate_after_next x h node is)
 
 -- ---- the start of the next cycle
 
-start_is : (x : Setting) (h : History) (node : NodeSpec) → Among node (correct_nodes x) → next_start_of (grid_for x.params) (node_cycle.ended_row x.params (heard_node x h node.id)) ≡ start_behind x (next_record x h ∷ h) node.id
-start_is x h node is = ap (next_start_of (grid_for x.params)) (ended_row_is x h node.id) ∙ sym (ap (start_by x) (row_of-next x h node is))
+start_is : (x : Setting) (h : History) (node : NodeSpec) → Among node (correct_nodes x) → next_start_of (grid_for x.params) (node_cycle.ended_row_of_node x.params (heard_node x h node.id)) ≡ start_after x (next_record x h ∷ h) node.id
+start_is x h node is = ap (next_start_of (grid_for x.params)) (ended_row_is x h node.id) ∙ sym (ap (start_by x.params) (row_of-next x h node is))
 
 -- ---- operation control
-
-more_control : (limits : PocLimits) (outcomes : List (Outcome × Outcome)) (offset rate : Outcome) → control_of limits (outcomes ++ (offset, rate) ∷ []) ≡ step_of limits (control_of limits outcomes) offset rate
-more_control limits outcomes offset rate = fold-append (λ (status : Status) (pair : Outcome × Outcome). step_of limits status pair.0 pair.1) poc.begun outcomes ((offset, rate) ∷ [])
 
 -- a halted node stays as it is, whatever the outcomes
 halted_stays : (limits : PocLimits) (status : Status) (offset rate : Outcome) → is_halted status.state ≡ true → step_of limits status offset rate ≡ status
@@ -172,35 +132,30 @@ halted_stays limits status offset rate is = by_state status.state is
     by_state Passive wrong = absurd (cc)
     by_state Halt right = refl
 
-outcomes-next : (x : Setting) (h : History) (node : NodeSpec) → Among node (correct_nodes x) →
-    outcomes_in x (next_record x h ∷ h) node.id ≡ outcomes_in x h node.id ++ (if is_odd (length h) then ((offset_term_in x h (next_devs x h) node.id).outcome, (rate_term_in x h (next_devs x h) (early_row x h node.id)).outcome) ∷ [] else [])
-unfolding outcomes_in next_record early_row
-outcomes-next x h node is = ap (λ (o : Option NodeRow). outcomes_in x h node.id ++ (if is_odd (length h) then outcomes_by x h (next_devs x h) o else [])) (row_of-next x h node is)
-
--- the status behind the next record, in an even and in an odd cycle
-status_by : (x : Setting) (h : History) (node : NodeSpec) → Among node (correct_nodes x) → (odd halted : Bool) → is_odd (length h) ≡ odd → is_halted (status_in x h node.id).state ≡ halted →
-    (let c : Bool = odd && not halted in if c then step_of (limits_of x.params) (status_in x h node.id) (node_cycle.offset_term_in x.params (heard_node x h node.id)).outcome (node_cycle.rate_term_in x.params (heard_node x h node.id)).outcome else status_in x h node.id)
-    ≡ control_of (limits_of x.params) (outcomes_in x h node.id ++ (if odd then ((offset_term_in x h (next_devs x h) node.id).outcome, (rate_term_in x h (next_devs x h) (early_row x h node.id)).outcome) ∷ [] else []))
-status_by x h node is false halted odd halts = sym (ap (control_of (limits_of x.params)) (append-nil (outcomes_in x h node.id)))
+-- the status after the next record, in an even and in an odd cycle
+status_by : (x : Setting) (h : History) (node : NodeSpec) → Among node (correct_nodes x) → (odd halted : Bool) → is_odd (length h) ≡ odd → is_halted (status_in x.params h node.id).state ≡ halted →
+    (let c : Bool = odd && not halted in if c then step_of (limits_of x.params) (status_in x.params h node.id) (node_cycle.offset_term_of_node x.params (heard_node x h node.id)).outcome (node_cycle.rate_term_of_node x.params (heard_node x h node.id)).outcome else status_in x.params h node.id)
+    ≡ control_of (limits_of x.params) (outcomes_in x.params h node.id ++ (if odd then ((offset_term_in x.params h (next_devs x h) node.id).outcome, (rate_term_in x.params h (next_devs x h) (early_row x h node.id)).outcome) ∷ [] else []))
+status_by x h node is false halted odd halts = sym (ap (control_of (limits_of x.params)) (append-nil (outcomes_in x.params h node.id)))
 status_by x h node is true true odd halts =
-    sym (more_control (limits_of x.params) (outcomes_in x h node.id) (offset_term_in x h (next_devs x h) node.id).outcome (rate_term_in x h (next_devs x h) (early_row x h node.id)).outcome
-    ∙ halted_stays (limits_of x.params) (status_in x h node.id) (offset_term_in x h (next_devs x h) node.id).outcome (rate_term_in x h (next_devs x h) (early_row x h node.id)).outcome halts)
+    sym (more_control (limits_of x.params) (outcomes_in x.params h node.id) (offset_term_in x.params h (next_devs x h) node.id).outcome (rate_term_in x.params h (next_devs x h) (early_row x h node.id)).outcome
+    ∙ halted_stays (limits_of x.params) (status_in x.params h node.id) (offset_term_in x.params h (next_devs x h) node.id).outcome (rate_term_in x.params h (next_devs x h) (early_row x h node.id)).outcome halts)
 status_by x h node is true false odd halts =
-    ap (λ (t : Term). step_of (limits_of x.params) (status_in x h node.id) t.outcome (node_cycle.rate_term_in x.params (heard_node x h node.id)).outcome) (offset_same x h node.id odd)
-    ∙ ap (λ (t : Term). step_of (limits_of x.params) (status_in x h node.id) (offset_term_in x h (next_devs x h) node.id).outcome t.outcome) (rate_same x h node.id odd)
-    ∙ sym (more_control (limits_of x.params) (outcomes_in x h node.id) (offset_term_in x h (next_devs x h) node.id).outcome (rate_term_in x h (next_devs x h) (early_row x h node.id)).outcome)
+    ap (λ (t : Term). step_of (limits_of x.params) (status_in x.params h node.id) t.outcome (node_cycle.rate_term_of_node x.params (heard_node x h node.id)).outcome) (offset_same x h node.id odd)
+    ∙ ap (λ (t : Term). step_of (limits_of x.params) (status_in x.params h node.id) (offset_term_in x.params h (next_devs x h) node.id).outcome t.outcome) (rate_same x h node.id odd)
+    ∙ sym (more_control (limits_of x.params) (outcomes_in x.params h node.id) (offset_term_in x.params h (next_devs x h) node.id).outcome (rate_term_in x.params h (next_devs x h) (early_row x h node.id)).outcome)
 
 control_with : (c : Bool) (limits : PocLimits) (status : Status) (offset rate : Outcome) →
     (if c then stepped (record { limits = limits; status = status }) offset rate else (record { limits = limits; status = status })) ≡ (let made : Control = record { limits = limits; status = if c then step_of limits status offset rate else status } in made)
 control_with true limits status offset rate = refl
 control_with false limits status offset rate = refl
 
-control_is : (x : Setting) (h : History) (node : NodeSpec) → Among node (correct_nodes x) → next_control x.params (heard_node x h node.id) ≡ (let made : Control = record { limits = limits_of x.params; status = status_in x (next_record x h ∷ h) node.id } in made)
-unfolding node_behind
+control_is : (x : Setting) (h : History) (node : NodeSpec) → Among node (correct_nodes x) → next_control x.params (heard_node x h node.id) ≡ (let made : Control = record { limits = limits_of x.params; status = status_in x.params (next_record x h ∷ h) node.id } in made)
+unfolding node_after
 control_is x h node is =
-    control_with (is_odd (length h) && not (is_halted (status_in x h node.id).state)) (limits_of x.params) (status_in x h node.id) (node_cycle.offset_term_in x.params (heard_node x h node.id)).outcome (node_cycle.rate_term_in x.params (heard_node x h node.id)).outcome
+    control_with (is_odd (length h) && not (is_halted (status_in x.params h node.id).state)) (limits_of x.params) (status_in x.params h node.id) (node_cycle.offset_term_of_node x.params (heard_node x h node.id)).outcome (node_cycle.rate_term_of_node x.params (heard_node x h node.id)).outcome
     ∙ ap (λ (status : Status). let made : Control = record { limits = limits_of x.params; status = status } in made)
-    (status_by x h node is (is_odd (length h)) (is_halted (status_in x h node.id).state) refl refl ∙ sym (ap (control_of (limits_of x.params)) (outcomes-next x h node is)))
+    (status_by x h node is (is_odd (length h)) (is_halted (status_in x.params h node.id).state) refl refl ∙ sym (ap (control_of (limits_of x.params)) (outcomes-next x h node is)))
 
 -- ---- the node
 
@@ -210,12 +165,12 @@ made_node id cycle start rate table control = record { id = id; cycle = cycle; l
 node_same : (id c d : ℕ) (s t r q : ℤ) (table : Readings) (k l : Control) → c ≡ d → s ≡ t → r ≡ q → k ≡ l → made_node id c s r table k ≡ made_node id d t q table l
 node_same id c d s t r q table k l cycles starts rates controls = cc
 
-pub ended_is : (x : Setting) (h : History) (node : NodeSpec) → Among node (correct_nodes x) → ended x.params (heard_node x h node.id) ≡ node_behind x (next_record x h ∷ h) node.id
-unfolding node_behind
+pub ended_is : (x : Setting) (h : History) (node : NodeSpec) → Among node (correct_nodes x) → ended x.params (heard_node x h node.id) ≡ node_after x (next_record x h ∷ h) node.id
+unfolding node_after
 ended_is x h node is =
     node_same node.id (length h + 1) (length (next_record x h ∷ h))
-    (next_start_of (grid_for x.params) (node_cycle.ended_row x.params (heard_node x h node.id))) (start_behind x (next_record x h ∷ h) node.id)
-    (next_rate x.params (heard_node x h node.id)) (rate_behind x (next_record x h ∷ h) node.id)
-    (readings_behind x (next_record x h ∷ h) node.id)
-    (next_control x.params (heard_node x h node.id)) (record { limits = limits_of x.params; status = status_in x (next_record x h ∷ h) node.id })
+    (next_start_of (grid_for x.params) (node_cycle.ended_row_of_node x.params (heard_node x h node.id))) (start_after x (next_record x h ∷ h) node.id)
+    (next_rate x.params (heard_node x h node.id)) (rate_after x (next_record x h ∷ h) node.id)
+    (readings_after x (next_record x h ∷ h) node.id)
+    (next_control x.params (heard_node x h node.id)) (record { limits = limits_of x.params; status = status_in x.params (next_record x h ∷ h) node.id })
     (add-one (length h)) (start_is x h node is) (next_rate_is x h node is) (control_is x h node is)

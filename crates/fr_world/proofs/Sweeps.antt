@@ -10,14 +10,15 @@ use Rattle.fr_base.specs.Rows.{IsEarlierDev}
 use Rattle.fr_base.specs.declared.channel.Channel.{Channel}
 use Rattle.fr_base.specs.declared.channel.Channel.TheVariants.{A, B}
 use Rattle.fr_base.specs.declared.dev.Dev.{Dev}
-use Rattle.fr_params.specs.Questions.{key_index_of}
-use Rattle.fr_params.specs.Values.{Values}
+use Rattle.fr_cluster.specs.Questions.{key_index_of}
+use Rattle.fr_cluster.specs.Values.{Values}
 use Rattle.fr_measure.specs.Readings.{reading}
-use Rattle.fr_node.specs.Cycle.{corrected_row, corrects, ended_row}
-use Rattle.fr_node.specs.View.{NodeView, row_of}
+use Rattle.fr_node.specs.Cycle.{corrected_row, corrects, ended_row_of_node}
+use Rattle.fr_node.specs.View.{NodeView, node_row_of}
 use Rattle.fr_history.specs.Offers.{channels}
-use Rattle.fr_world.specs.Cycling.{AreAscending}
-use Rattle.fr_world.specs.Listing.{dev_with, listed_among, listed_at, listed_of}
+use Rattle.fr_world.specs.Cycling.{NodesAscend}
+use Rattle.fr_base.specs.Rows.{dev_with}
+use Rattle.fr_world.specs.Listing.{listed_among, listed_at, listed_of}
 
 -- a fact of the elements so far, and of one more
 pub all-more : {X : Type 0} (P : X → Type 0) (xs : List X) (i : ℕ) (new : X) → i < length xs → P new → All P (take i xs) → All P (take (i + 1) (set xs i new))
@@ -32,17 +33,17 @@ below {X = X} R xs i x pairs lt at k d short =
     subst P (get_or_default xs i d x lt ∙ sym at)
     (let Q : X → Type 0 = λ y. R y (get_or xs i d) in subst Q (sym (get_or-take i xs k d before)) (pairs k i d before lt))
 
-ended-node : (p : Values) (node : NodeView) → (ended_row p node).node ≡ node.id
+ended-node : (p : Values) (node : NodeView) → (ended_row_of_node p node).node ≡ node.id
 ended-node p node = by (corrects node)
   where
-    by : (b : Bool) → (cond b (corrected_row p node) (row_of node)).node ≡ node.id
+    by : (b : Bool) → (cond b (corrected_row p node) (node_row_of node)).node ≡ node.id
     by true = refl
     by false = refl
 
-pub rows-below : (p : Values) (nodes : List NodeView) (i : ℕ) (node : NodeView) → AreAscending nodes → i < length nodes → node ≡ get_or nodes i node → All (λ row. row.node < (ended_row p node).node) (map (ended_row p) (take i nodes))
+pub rows-below : (p : Values) (nodes : List NodeView) (i : ℕ) (node : NodeView) → NodesAscend nodes → i < length nodes → node ≡ get_or nodes i node → All (λ row. row.node < (ended_row_of_node p node).node) (map (ended_row_of_node p) (take i nodes))
 rows-below p nodes i node ascending lt at =
-    All-map (λ row. row.node < (ended_row p node).node) (ended_row p) (take i nodes)
-    (All-weaker (λ n. n.id < node.id) (λ n. (ended_row p n).node < (ended_row p node).node)
+    All-map (λ row. row.node < (ended_row_of_node p node).node) (ended_row_of_node p) (take i nodes)
+    (All-weaker (λ n. n.id < node.id) (λ n. (ended_row_of_node p n).node < (ended_row_of_node p node).node)
     (λ n less. let a = ended-node p n in let b = ended-node p node in omega (arith, a, b))
     (take i nodes) (below (λ a b. a.id < b.id) nodes i node ascending lt at))
 
@@ -68,7 +69,7 @@ flat-all : {X : Type 0} (Q : X → Type 0) (P : Dev → Type 0) (f : X → List 
 flat-all Q P f each [] all = All-nil P
 flat-all Q P f each (x ∷ xs) all = rw (flat_map-cons f x xs) (All-append P (f x) (flat_map f xs) (each x (All-head Q x xs all)) (flat-all Q P f each xs (All-tail Q x xs all)))
 
--- those on channel B come behind those on A
+-- those on channel B come after those on A
 pub later-b : (p : Values) (odd : Bool) (node : NodeView) (slot : ℕ) (entries : List Dev) → All (λ earlier. IsEarlierDev earlier (dev_with node.id slot A (pos 0))) entries →
     All (λ earlier. IsEarlierDev earlier (dev_with node.id slot B (pos 0))) (entries ++ listed_at p odd node slot A)
 later-b p odd node slot entries before =
@@ -82,7 +83,7 @@ later-b p odd node slot entries before =
     still e (inr (same, inl less)) = inr (same, inl less)
     still e (inr (same, inr (here, on))) = inr (same, inr (here, omega arith))
 
--- those of a key slot come behind those of the earlier ones
+-- those of a key slot come after those of the earlier ones
 pub later-slot : (p : Values) (odd : Bool) (keys : List ℕ) (node : NodeView) (i slot : ℕ) (base entries : List Dev) → AllPairs (λ a b. a < b) keys → i < length keys → slot ≡ get_or keys i slot →
     All (λ earlier. earlier.receiver < node.id) base → entries ≡ base ++ flat_map (λ key. flat_map (listed_at p odd node key) channels) (take i keys) → All (λ earlier. IsEarlierDev earlier (dev_with node.id slot A (pos 0))) entries
 later-slot p odd keys node i slot base entries ascending lt at before is =
@@ -94,8 +95,8 @@ later-slot p odd keys node i slot base entries ascending lt at before is =
     (flat-all (λ key. key < slot) P f (λ key less. slot-of p odd node key P (λ channel value. inr (refl, inl less))) (take i keys)
     (below (λ a b. a < b) keys i slot ascending lt at)))
 
--- those of a node come behind those of the earlier ones
-pub later-node : (p : Values) (odd : Bool) (keys : List ℕ) (nodes : List NodeView) (i : ℕ) (node : NodeView) (entries : List Dev) → AreAscending nodes → i < length nodes → node ≡ get_or nodes i node →
+-- those of a node come after those of the earlier ones
+pub later-node : (p : Values) (odd : Bool) (keys : List ℕ) (nodes : List NodeView) (i : ℕ) (node : NodeView) (entries : List Dev) → NodesAscend nodes → i < length nodes → node ≡ get_or nodes i node →
     entries ≡ listed_among p odd keys (take i nodes) → All (λ earlier. earlier.receiver < node.id) entries
 later-node p odd keys nodes i node entries ascending lt at is =
     let P : Dev → Type 0 = λ earlier. earlier.receiver < node.id in

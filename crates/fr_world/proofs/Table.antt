@@ -5,8 +5,8 @@ use Rattle.std.specs.Option.{option_or}
 use Rattle.fr_base.specs.declared.channel.Channel.{Channel}
 use Rattle.fr_base.specs.declared.channel.Channel.TheVariants.{A, B}
 use Rattle.fr_base.specs.declared.node_row.NodeRow.{NodeRow}
-use Rattle.fr_params.specs.Values.{Values}
-use Rattle.fr_params.specs.Questions.{key_index_of}
+use Rattle.fr_cluster.specs.Values.{Values}
+use Rattle.fr_cluster.specs.Questions.{key_index_of}
 use Rattle.fr_time.specs.Cycles.{is_odd}
 use Rattle.fr_measure.specs.Readings.{Readings, column, reading, stored}
 use Rattle.fr_reception.specs.Answers.{answer_of}
@@ -14,11 +14,11 @@ use Rattle.fr_reception.specs.Offers.{Offer}
 use Rattle.fr_reception.specs.declared.heard.Heard.{Heard}
 use Rattle.fr_reception.specs.declared.heard.Heard.TheVariants.{Stored, Ignored}
 use Rattle.fr_node.specs.Cycle.{after_hearing, with_deviation}
-use Rattle.fr_node.specs.View.{NodeView, row_of}
-use Rattle.fr_history.specs.Setting.{Setting}
-use Rattle.fr_history.specs.Offers.{offer_in}
-use Rattle.fr_world.specs.Hearing.{after_channel, after_offer, after_slot, after_slots, stored_in, value_of}
-use Rattle.fr_world.proofs.Marks.{HasMarks, offer_in-marked}
+use Rattle.fr_node.specs.View.{NodeView, node_row_of}
+use Rattle.fr_cluster.specs.Setting.{Setting}
+use Rattle.fr_history.specs.Offers.{offer_in, stored_in, value_of}
+use Rattle.fr_world.specs.Hearing.{after_channel, after_offer, after_slot, after_slots}
+use Rattle.fr_history.proofs.Marks.{HasMarks, offer_in-marked}
 use Rattle.fr_world.proofs.Store.{IsTable, stored-table, stored_even, stored_here, stored_index, stored_odd, stored_on_a, stored_on_b}
 
 -- a node with the deviation of a slot on a channel, if there is one
@@ -31,19 +31,19 @@ hearing_value p node slot channel (Stored value) = refl
 hearing_value p node slot channel (Ignored why) = refl
 
 offer_value : (x : Setting) (cycle : ℕ) (node : NodeView) (slot : ℕ) (channel : Channel) (o : Option Offer) → IfSome o (HasMarks slot channel) →
-    after_offer x cycle node o ≡ with_value x.params node slot channel (option_and_then (λ offer. value_of (answer_of x.params cycle (row_of node) offer)) o)
+    after_offer x cycle node o ≡ with_value x.params node slot channel (option_and_then (λ offer. value_of (answer_of x.params cycle (node_row_of node) offer)) o)
 offer_value x cycle node slot channel None marks = refl
 offer_value x cycle node slot channel (Some offer) marks =
-    let heard : Heard = answer_of x.params cycle (row_of node) offer in
+    let heard : Heard = answer_of x.params cycle (node_row_of node) offer in
     ap (λ (s : ℕ). after_hearing x.params node s offer.channel heard) marks.slot_is
     ∙ ap (λ (c : Channel). after_hearing x.params node slot c heard) marks.channel_is
     ∙ hearing_value x.params node slot channel heard
 
 channel_value : (x : Setting) (cycle : ℕ) (rows : List NodeRow) (slot : ℕ) (channel : Channel) (node : NodeView) →
-    after_channel x cycle rows slot channel node ≡ with_value x.params node slot channel (stored_in x cycle rows (row_of node) slot channel)
+    after_channel x cycle rows slot channel node ≡ with_value x.params node slot channel (stored_in x cycle rows (node_row_of node) slot channel)
 unfolding stored_in
 channel_value x cycle rows slot channel node =
-    offer_value x cycle node slot channel (offer_in x cycle rows (row_of node) slot channel) (offer_in-marked x cycle rows (row_of node) slot channel)
+    offer_value x cycle node slot channel (offer_in x cycle rows (node_row_of node) slot channel) (offer_in-marked x cycle rows (node_row_of node) slot channel)
 
 -- ---- one value
 
@@ -115,26 +115,26 @@ table_after x cycle rows row odd zero t = t
 table_after x cycle rows row odd (suc earlier) t = slot_table x cycle rows row odd (suc earlier) (table_after x cycle rows row odd earlier t)
 
 channel_with_table : (x : Setting) (cycle : ℕ) (rows : List NodeRow) (slot : ℕ) (channel : Channel) (node : NodeView) (t : Readings) →
-    after_channel x cycle rows slot channel (with_table node t) ≡ with_table node (table_with (key_index_of x.params slot) (is_odd node.cycle) channel (stored_in x cycle rows (row_of node) slot channel) t)
+    after_channel x cycle rows slot channel (with_table node t) ≡ with_table node (table_with (key_index_of x.params slot) (is_odd node.cycle) channel (stored_in x cycle rows (node_row_of node) slot channel) t)
 channel_with_table x cycle rows slot channel node t =
-    let o : Option ℤ = stored_in x cycle rows (row_of node) slot channel in
+    let o : Option ℤ = stored_in x cycle rows (node_row_of node) slot channel in
     channel_value x cycle rows slot channel (with_table node t)
     ∙ value_table x.params (with_table node t) slot channel o
     ∙ ap (with_table node) (value_in_table x.params (with_table node t) slot channel o)
 
 slot_with_table : (x : Setting) (cycle : ℕ) (rows : List NodeRow) (slot : ℕ) (node : NodeView) (t : Readings) →
-    after_slot x cycle rows slot (with_table node t) ≡ with_table node (slot_table x cycle rows (row_of node) (is_odd node.cycle) slot t)
+    after_slot x cycle rows slot (with_table node t) ≡ with_table node (slot_table x cycle rows (node_row_of node) (is_odd node.cycle) slot t)
 slot_with_table x cycle rows slot node t =
     ap (after_channel x cycle rows slot B) (channel_with_table x cycle rows slot A node t)
-    ∙ channel_with_table x cycle rows slot B node (table_with (key_index_of x.params slot) (is_odd node.cycle) A (stored_in x cycle rows (row_of node) slot A) t)
+    ∙ channel_with_table x cycle rows slot B node (table_with (key_index_of x.params slot) (is_odd node.cycle) A (stored_in x cycle rows (node_row_of node) slot A) t)
 
 pub slots_with_table : (x : Setting) (cycle : ℕ) (rows : List NodeRow) (node : NodeView) (count : ℕ) →
-    after_slots x cycle rows count node ≡ with_table node (table_after x cycle rows (row_of node) (is_odd node.cycle) count node.table)
+    after_slots x cycle rows count node ≡ with_table node (table_after x cycle rows (node_row_of node) (is_odd node.cycle) count node.table)
 unfolding after_slots table_after
 slots_with_table x cycle rows node zero = refl
 slots_with_table x cycle rows node (suc earlier) =
     ap (after_slot x cycle rows (suc earlier)) (slots_with_table x cycle rows node earlier)
-    ∙ slot_with_table x cycle rows (suc earlier) node (table_after x cycle rows (row_of node) (is_odd node.cycle) earlier node.table)
+    ∙ slot_with_table x cycle rows (suc earlier) node (table_after x cycle rows (node_row_of node) (is_odd node.cycle) earlier node.table)
 
 slot_table-table : (x : Setting) (cycle : ℕ) (rows : List NodeRow) (row : NodeRow) (odd : Bool) (slot : ℕ) (t : Readings) → IsTable t → IsTable (slot_table x cycle rows row odd slot t)
 slot_table-table x cycle rows row odd slot t is =

@@ -11,39 +11,23 @@ use Rattle.fr_reception.specs.Regular.{carried_crc}
 use Rattle.fr_reception.specs.declared.heard.Heard.{Heard}
 use Rattle.fr_reception.specs.declared.heard.Heard.TheVariants.{Stored, Ignored}
 use Rattle.fr_reception.specs.declared.heard.Ignored.TheVariants as reason
-use Rattle.fr_history.specs.Setting.{Setting}
+use Rattle.fr_cluster.specs.Setting.{Setting}
 use Rattle.fr_history.specs.Offers.{frame_in, offer_in}
 
--- nothing counted
-abbrev pub no_counts : Counts
-no_counts = record {
-  sent_a = 0;
-  sent_b = 0;
-  xor_a = 0;
-  xor_b = 0;
-  stored = 0;
-  outside = 0;
-  damaged = 0;
-  wrong_id = 0;
-  wrong_cycle = 0;
-  wrong_length = 0;
-  plain = 0;
-}
-
 -- with one more answer
-abbrev pub counted : Heard → Counts → Counts
-counted (Stored value) counts = record counts { stored = counts.stored + 1 }
-counted (Ignored (reason.Outside arrival from to)) counts = record counts { outside = counts.outside + 1 }
-counted (Ignored (reason.Damaged fault)) counts = record counts { damaged = counts.damaged + 1 }
-counted (Ignored (reason.WrongId slot id)) counts = record counts { wrong_id = counts.wrong_id + 1 }
-counted (Ignored (reason.WrongCycle own got)) counts = record counts { wrong_cycle = counts.wrong_cycle + 1 }
-counted (Ignored (reason.WrongLength own got)) counts = record counts { wrong_length = counts.wrong_length + 1 }
-counted (Ignored reason.Plain) counts = record counts { plain = counts.plain + 1 }
+abbrev pub with_answer : Heard → Counts → Counts
+with_answer (Stored value) counts = record counts { stored = counts.stored + 1 }
+with_answer (Ignored (reason.Outside arrival from to)) counts = record counts { outside = counts.outside + 1 }
+with_answer (Ignored (reason.Damaged fault)) counts = record counts { damaged = counts.damaged + 1 }
+with_answer (Ignored (reason.WrongId slot id)) counts = record counts { wrong_id = counts.wrong_id + 1 }
+with_answer (Ignored (reason.WrongCycle own got)) counts = record counts { wrong_cycle = counts.wrong_cycle + 1 }
+with_answer (Ignored (reason.WrongLength own got)) counts = record counts { wrong_length = counts.wrong_length + 1 }
+with_answer (Ignored reason.Plain) counts = record counts { plain = counts.plain + 1 }
 
 -- with the answer of a receiver to what is offered to it, if something is
 abbrev pub counted_offer : Setting → ℕ → NodeRow → Option Offer → Counts → Counts
 counted_offer x cycle receiver None counts = counts
-counted_offer x cycle receiver (Some offer) counts = counted (answer_of x.params cycle receiver offer) counts
+counted_offer x cycle receiver (Some offer) counts = with_answer (answer_of x.params cycle receiver offer) counts
 
 -- with those of all receivers
 unfoldable pub counted_offers : Setting → ℕ → (NodeRow → Option Offer) → List NodeRow → Counts → Counts

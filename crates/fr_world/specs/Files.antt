@@ -1,20 +1,8 @@
--- The run that three files decide.
-use Rattle.fr_params.specs.Values.{Values}
-use Rattle.fr_drift.specs.Questions.{delay_of, doubles_of, length_of, rate_of, start_of}
-use Rattle.fr_drift.specs.View.{DriftView}
-use Rattle.fr_script.specs.Events.{event_of}
-use Rattle.fr_script.specs.View.{ScriptView, is_arbitrary}
-use Rattle.fr_history.specs.Setting.{Setting}
+-- The run that a world's files decide.
+use Rattle.fr_coverage.specs.Decided.{setting_of}
+use Rattle.fr_cluster.specs.Setting.{Setting}
+use Rattle.fr_world.specs.declared.files.Files.{Files}
 
--- the setting of a parameter file, a drift file and a script
-abbrev pub setting_of : Values → DriftView → ScriptView → Setting
-setting_of p d s = record {
-  params = p;
-  doubles = doubles_of d;
-  start = start_of d;
-  rate = rate_of d;
-  microtick = length_of d;
-  delay = delay_of d;
-  is_arbitrary = is_arbitrary s;
-  event = event_of s;
-}
+-- the setting of a world's files
+abbrev pub setting_in : Files → Setting
+setting_in f = setting_of f.params f.drift f.script

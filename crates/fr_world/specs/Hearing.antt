@@ -1,26 +1,24 @@
 -- What a node hears in the slots of a cycle, one after the other.
-use Rattle.std.specs.Prelude.{ℕ, zero, suc, ℤ, List, Option, Some, None, option_and_then}
+use Rattle.std.specs.Prelude.{ℕ, zero, suc, List, Option, Some, None}
 use Rattle.fr_base.specs.declared.channel.Channel.{Channel}
 use Rattle.fr_base.specs.declared.channel.Channel.TheVariants.{A, B}
 use Rattle.fr_base.specs.declared.node_row.NodeRow.{NodeRow}
 use Rattle.fr_reception.specs.Answers.{answer_of}
 use Rattle.fr_reception.specs.Offers.{Offer}
-use Rattle.fr_reception.specs.declared.heard.Heard.{Heard}
-use Rattle.fr_reception.specs.declared.heard.Heard.TheVariants.{Stored, Ignored}
 use Rattle.fr_node.specs.Cycle.{after_hearing}
-use Rattle.fr_node.specs.View.{NodeView, row_of}
-use Rattle.fr_history.specs.Setting.{Setting}
+use Rattle.fr_node.specs.View.{NodeView, node_row_of}
+use Rattle.fr_cluster.specs.Setting.{Setting}
 use Rattle.fr_history.specs.Offers.{offer_in}
 
 -- a node after its answer to what is offered to it, if something is
 abbrev pub after_offer : Setting → ℕ → NodeView → Option Offer → NodeView
 after_offer x cycle node None = node
 after_offer x cycle node (Some offer) =
-    after_hearing x.params node offer.slot offer.channel (answer_of x.params cycle (row_of node) offer)
+    after_hearing x.params node offer.slot offer.channel (answer_of x.params cycle (node_row_of node) offer)
 
 -- after a slot on a channel, among these rows
 abbrev pub after_channel : Setting → ℕ → List NodeRow → ℕ → Channel → NodeView → NodeView
-after_channel x cycle rows slot channel node = after_offer x cycle node (offer_in x cycle rows (row_of node) slot channel)
+after_channel x cycle rows slot channel node = after_offer x cycle node (offer_in x cycle rows (node_row_of node) slot channel)
 
 -- after a slot on both channels
 abbrev pub after_slot : Setting → ℕ → List NodeRow → ℕ → NodeView → NodeView
@@ -30,13 +28,3 @@ after_slot x cycle rows slot node = after_channel x cycle rows slot B (after_cha
 unfoldable pub after_slots : Setting → ℕ → List NodeRow → ℕ → NodeView → NodeView
 after_slots x cycle rows zero node = node
 after_slots x cycle rows (suc earlier) node = after_slot x cycle rows (suc earlier) (after_slots x cycle rows earlier node)
-
--- the deviation that an answer stores
-abbrev pub value_of : Heard → Option ℤ
-value_of (Stored value) = Some value
-value_of (Ignored why) = None
-
--- the deviation that a node of this row stores in a slot on a channel, if it stores one
-unfoldable pub stored_in : Setting → ℕ → List NodeRow → NodeRow → ℕ → Channel → Option ℤ
-stored_in x cycle rows row slot channel =
-    option_and_then (λ offer. value_of (answer_of x.params cycle row offer)) (offer_in x cycle rows row slot channel)

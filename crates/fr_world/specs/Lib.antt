@@ -1,11 +1,12 @@
+-- what the public contract cites
 pub mod Standing
-pub mod Hearing
 pub mod Files
 pub mod Listing
-pub mod Run
-pub mod Limits
+pub mod World
+pub mod Ends
+-- what only functions inside cite
+pub mod Hearing
 pub mod Counting
 pub mod Sending
 pub mod Cycling
-pub mod World
-pub mod Ends
+pub mod Turns

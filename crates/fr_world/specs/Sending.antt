@@ -1,30 +1,52 @@
 -- What comes to a receiver of a frame in a slot, once its sender is known.
-use Rattle.std.specs.Prelude.{◌≡◌, ℕ, ◌==◌, ℤ, ◌+ℤ◌, ◌*ℤ◌, pos, Bool, not, ◌&&◌, List, Option, Some, None, if◌then◌else◌}
+use Rattle.std.specs.Prelude.{◌≡◌, ℕ, ◌==◌, ◌≤◌, ℤ, ◌+ℤ◌, ◌*ℤ◌, pos, Bool, not, ◌&&◌, List, length, Option, Some, None, IfSome, IsSome, if◌then◌else◌}
 use Rattle.std.specs.Option.{option_map}
 use Rattle.fr_base.specs.States.{is_active, is_halted}
 use Rattle.fr_base.specs.declared.channel.Channel.{Channel}
 use Rattle.fr_base.specs.declared.node_row.NodeRow.{NodeRow}
-use Rattle.fr_midpoint.specs.Within.{IsWithin}
-use Rattle.fr_params.specs.Questions.{compensation_of}
-use Rattle.fr_params.specs.Values.{Values}
-use Rattle.fr_reception.specs.Offers.{Offer, action_instant}
-use Rattle.fr_node.specs.View.{IsProperRow, NodeView, row_of}
-use Rattle.fr_history.specs.Setting.{Setting}
+use Rattle.fr_base.specs.Timed.{IsTimed}
+use Rattle.fr_base.specs.Within.{IsWithin}
+use Rattle.fr_cluster.specs.Questions.{compensation_of}
+use Rattle.fr_cluster.specs.Values.{Values}
+use Rattle.fr_reception.specs.Offers.{Offer, flipped}
+use Rattle.fr_time.specs.Instant.{action_instant}
+use Rattle.fr_node.specs.View.{NodeView, node_row_of}
+use Rattle.fr_cluster.specs.Setting.{Setting}
 use Rattle.fr_history.specs.History.{row_of as row_in}
-use Rattle.fr_history.specs.Offers.{arrived_of, is_on, said_by}
+use Rattle.fr_history.specs.Offers.{arrived_of, is_on, said_in_event}
 use Rattle.fr_world.specs.Hearing.{after_offer}
+use Rattle.fr_world.specs.declared.turn.Coming.{Coming}
 use Rattle.fr_world.specs.declared.turn.Sender.{Sender}
 use Rattle.fr_world.specs.declared.turn.Turn.{Turn}
 
 -- a row whose instants can be computed, before its corrections
 pub record IsEarlyRow (p : Values) (row : NodeRow) : Type 0 where
-  pub proper : IsProperRow row
+  pub timed : IsTimed row
   pub rate : IsWithin p.rate_limit row.rate
   pub offset : row.offset ≡ pos 0
 
 -- bytes that come in a turn at an instant
 abbrev pub offer_at : Turn → ℤ → List ℕ → Offer
 offer_at turn arrival bytes = record { slot = turn.slot; channel = turn.channel; arrival = arrival; bytes = bytes }
+
+-- the bytes that come: with one bit inverted, if one is
+abbrev pub bytes_by : List ℕ → Option ℕ → List ℕ
+bytes_by bytes None = bytes
+bytes_by bytes (Some bit) = flipped bit bytes
+
+-- what comes in a turn, as an offer
+abbrev pub coming_offer : Turn → Coming → Offer
+coming_offer turn coming = offer_at turn coming.arrival (bytes_by coming.bytes.now coming.flip)
+
+-- it comes within any run, and what is inverted is a frame
+pub record IsComing (coming : Coming) : Type 0 where
+  pub arrival : IsWithin (pos 4_000_000_000_000_000_000) coming.arrival
+  pub short : IsSome coming.flip → length coming.bytes.now ≤ 262
+
+-- what comes in a turn is this offer, or nothing where there is none
+pub record ComesAs (turn : Turn) (offer : Option Offer) (coming : Option Coming) : Type 0 where
+  pub offer_is : option_map (coming_offer turn) coming ≡ offer
+  pub within : IfSome coming IsComing
 
 -- the instant at which the frame of a correct sender with this row comes to a receiver
 abbrev pub sent_instant : Setting → Turn → NodeRow → ℕ → ℤ
@@ -46,7 +68,7 @@ sent_with x turn sender frame receiver =
 abbrev pub said_with : Setting → Turn → ℕ → List ℕ → NodeRow → Option Offer
 said_with x turn sender frame receiver =
     option_map (λ said. offer_at turn (said_instant x turn receiver said.0) said.1)
-    (said_by (x.event turn.cycle sender receiver.node turn.channel) frame)
+    (said_in_event (x.event turn.cycle sender receiver.node turn.channel) frame)
 
 -- what comes from a sender: a correct one with this row, or else an arbitrary one
 abbrev pub offer_from : Setting → Turn → ℕ → Option NodeRow → List ℕ → NodeRow → Option Offer
@@ -63,9 +85,9 @@ offer_heard x turn sender row frame receiver =
     if hears x receiver sender turn.channel then offer_from x turn sender row frame receiver else None
 
 -- a node after that
-abbrev pub offered : Setting → Turn → Sender → List ℕ → NodeView → NodeView
-offered x turn sender frame node =
-    after_offer x turn.cycle node (offer_heard x turn sender.node sender.row frame (row_of node))
+abbrev pub after_offer_by : Setting → Turn → Sender → List ℕ → NodeView → NodeView
+after_offer_by x turn sender frame node =
+    after_offer x turn.cycle node (offer_heard x turn sender.node sender.row frame (node_row_of node))
 
 -- the row of a node, where it sends on a channel: it is active and has the channel
 abbrev pub sending_row_by : Setting → Option NodeRow → ℕ → Channel → Option NodeRow

@@ -1,18 +1,20 @@
--- How the nodes of a world stand behind a history.
+-- How the nodes of a world stand after a history.
 use Rattle.std.specs.Prelude.{ℕ, ℤ, List, [], ◌∷◌, length, map, Option, None, option_and_then, if◌then◌else◌}
 use Rattle.std.specs.List.{range_with_len}
 use Rattle.fr_base.specs.declared.channel.Channel.{Channel}
 use Rattle.fr_base.specs.declared.channel.Channel.TheVariants.{A, B}
 use Rattle.fr_base.specs.declared.dev.Dev.{Dev}
-use Rattle.fr_params.specs.Values.{Values}
+use Rattle.fr_cluster.specs.Values.{Values}
 use Rattle.fr_time.specs.Cycles.{is_odd}
 use Rattle.fr_measure.specs.Readings.{Readings, no_readings}
-use Rattle.fr_node.specs.Fits.{limits_of}
+use Rattle.fr_poc.specs.Limits.{limits_of}
 use Rattle.fr_node.specs.View.{NodeView}
-use Rattle.fr_history.specs.Setting.{Setting, correct_nodes}
+use Rattle.fr_cluster.specs.Setting.{Setting}
 use Rattle.fr_history.specs.History.{History}
-use Rattle.fr_history.specs.Lawful.{rate_behind, start_behind}
-use Rattle.fr_history.specs.Terms.{dev_in, key_slot_of, latest_devs, status_in}
+use Rattle.fr_history.specs.Lawful.{rate_after, row_nodes, start_after}
+use Rattle.fr_history.specs.Terms.{latest_devs, status_in}
+use Rattle.fr_base.specs.Rows.{dev_in}
+use Rattle.fr_cluster.specs.Questions.{key_slot_of}
 
 -- the deviation that a list records of a node at a key index on a channel
 abbrev pub recorded_at : Values → List Dev → ℕ → Channel → ℕ → Option ℤ
@@ -31,24 +33,24 @@ readings_of p evens odds node = record {
   odd_b = column_of p odds node B;
 }
 
--- the table behind a history: it has the deviations of the double cycle of its latest cycle
-unfoldable pub readings_behind : Setting → History → ℕ → Readings
-readings_behind x [] node = no_readings
-readings_behind x (r ∷ h) node =
+-- the table after a history: it has the deviations of the double cycle of its latest cycle
+unfoldable pub readings_after : Setting → History → ℕ → Readings
+readings_after x [] node = no_readings
+readings_after x (r ∷ h) node =
     if is_odd (length h) then readings_of x.params (latest_devs h) r.devs node else readings_of x.params r.devs [] node
 
--- a node behind a history, before its next cycle
-unfoldable pub node_behind : Setting → History → ℕ → NodeView
-node_behind x h node = record {
+-- a node after a history, before its next cycle
+unfoldable pub node_after : Setting → History → ℕ → NodeView
+node_after x h node = record {
   id = node;
   cycle = length h;
   length = None;
-  start = start_behind x h node;
-  rate = rate_behind x h node;
-  table = readings_behind x h node;
-  control = record { limits = limits_of x.params; status = status_in x h node };
+  start = start_after x h node;
+  rate = rate_after x h node;
+  table = readings_after x h node;
+  control = record { limits = limits_of x.params; status = status_in x.params h node };
 }
 
--- the correct nodes behind a history, in ascending order
-abbrev pub nodes_behind : Setting → History → List NodeView
-nodes_behind x h = map (λ node. node_behind x h node.id) (correct_nodes x)
+-- the nodes with a row in the cycle after a history, in ascending order
+abbrev pub nodes_after : Setting → History → List NodeView
+nodes_after x h = map (λ node. node_after x h node.id) (row_nodes x h)

@@ -1,7 +1,7 @@
-ghost use Rattle.fr_params.specs.Sane.{IsSane};
+ghost use Rattle.fr_cluster.specs.Sane.{IsSane};
 
+use fr_cluster::Params;
 use fr_drift::Drift;
-use fr_params::Params;
 use fr_script::Script;
 
 // What decides a run.

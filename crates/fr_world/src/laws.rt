@@ -1,13 +1,13 @@
 ghost use Rattle.std.specs.Prelude.{◌≡◌, ℕ, length};
-ghost use Rattle.fr_params.specs.Sane.{IsSane};
-ghost use Rattle.fr_params.specs.Values.{Values};
+ghost use Rattle.fr_cluster.specs.Sane.{IsSane};
+ghost use Rattle.fr_cluster.specs.Values.{Values};
 ghost use Rattle.fr_drift.specs.View.{DriftView};
 ghost use Rattle.fr_script.specs.View.{IsScript, ScriptView};
 ghost use Rattle.fr_history.specs.History.{History};
 ghost use Rattle.fr_history.specs.Lawful.{IsLawful};
 ghost use Rattle.fr_history.specs.Next.{history_of};
-ghost use Rattle.fr_history.specs.Setting.{IsSetting};
-ghost use Rattle.fr_world.specs.Files.{setting_of};
+ghost use Rattle.fr_cluster.specs.Setting.{IsSetting};
+ghost use Rattle.fr_coverage.specs.Decided.{setting_of};
 
 use fr_history::one_lawful_history;
 use fr_script::events_are_proper;
@@ -16,7 +16,8 @@ use fr_script::events_are_proper;
 /// cycles, that of which `World::cycle` answers the records. The premises are the invariants of `Params` and
 /// of `Script`.
 pub fn files_decide_one_history()
-    ensures setting { (p : Values) (d : DriftView) (s : ScriptView) → IsSane p → IsScript s → IsSetting (setting_of p d s) }
+    ensures setting { (p : Values) (d : DriftView) (s : ScriptView) → IsSane p → IsScript s →
+        IsSetting (setting_of p d s) }
     ensures lawful { (p : Values) (d : DriftView) (s : ScriptView) (n : ℕ) → IsSane p → IsScript s →
         IsLawful (setting_of p d s) (history_of (setting_of p d s) n) }
     ensures only { (p : Values) (d : DriftView) (s : ScriptView) (h : History) →

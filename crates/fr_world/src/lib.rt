@@ -14,8 +14,6 @@ mod offering;
 mod running;
 mod slots;
 mod tally;
-#[cfg(test)]
-mod tests;
 mod turn;
 mod world;
 

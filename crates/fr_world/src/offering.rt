@@ -1,22 +1,16 @@
-ghost use Rattle.std.specs.Prelude.{◌≡◌, ◌≤◌, ◌≤ℤ◌, pos, neg_ℤ, length, map, All, IfSome, IsSome, Some};
-ghost use Rattle.std.specs.Option.{option_map};
-ghost use Rattle.fr_params.specs.Values.{amount};
-ghost use Rattle.fr_params.specs.declared.names.ParamName.TheVariants as name;
-ghost use Rattle.fr_time.specs.Senders.{sender_of};
-ghost use Rattle.fr_reception.specs.Offers.{flipped};
-ghost use Rattle.fr_node.specs.Fits.{Fits};
-ghost use Rattle.fr_node.specs.View.{row_of};
-ghost use Rattle.fr_world.specs.Counting.{counted_offer, counted_offers};
-ghost use Rattle.fr_world.specs.Hearing.{after_offer};
-ghost use Rattle.fr_world.specs.Limits.{AreAtMost};
-ghost use Rattle.fr_world.specs.Run.{setting_in, CanHear, IsReady};
-ghost use Rattle.fr_world.specs.Sending.{hears, offer_at, offer_heard, offered, said_instant, said_with, sent_with, IsEarlyRow};
+ghost use Rattle.std.specs.Prelude.{◌≡◌, ◌≤◌, length};
+ghost use Rattle.fr_base.specs.Counts.{AreAtMost};
+ghost use Rattle.fr_node.specs.View.{node_row_of};
+ghost use Rattle.fr_time.specs.Instant.{IsSlotOf};
+ghost use Rattle.fr_world.specs.Cycling.{IsReady};
+ghost use Rattle.fr_world.specs.Files.{setting_in};
+ghost use Rattle.fr_world.specs.Sending.{hears, offer_heard, said_with, sent_with, ComesAs, IsEarlyRow};
+ghost use Rattle.fr_world.specs.Turns.{AreReady, HasHeard, HaveHeardFrame, IsOnAir};
 
-use crate::files::{Files, sane};
-use crate::flipping::with_flipped;
-use crate::hearing::hear_one;
+use crate::files::Files;
+use crate::hearing::hear;
 use crate::instants::{said_at, sent_at};
-use crate::turn::{Sender, Turn};
+use crate::turn::{Coming, Sender, Turn};
 use fr_base::{Channel, Counts, NodeId, NodeRow, State};
 use fr_node::Node;
 use fr_script::Event;
@@ -31,127 +25,82 @@ fn hears(files: &Files, receiver: &NodeRow, sender: NodeId, channel: Channel) ->
         && sender != node
 }
 
-// Offers a frame with one bit inverted to a node.
-fn hear_flipped(
-    files: &Files,
-    turn: &Turn,
-    node: &mut Node,
-    arrival: i64,
-    frame: (&[u8], u32),
-    counts: &mut Counts,
-)
-    requires ready { IsReady files.now turn.now.cycle node.old }
-    requires hears { CanHear files.now.params turn.now.slot turn.now.channel node.old }
-    requires frame { length frame.0.now ≤ 262 }
-    requires arrival_from { neg_ℤ (pos 4_000_000_000_000_000_000) ≤ℤ arrival }
-    requires arrival_to { arrival ≤ℤ pos 4_000_000_000_000_000_000 }
-    requires few { AreAtMost 2_000_000 counts.old }
-    ensures node { node.new ≡ after_offer (setting_in files.now) turn.now.cycle node.old
-        (Some (offer_at turn.now arrival (flipped frame.entry.1 frame.entry.0.now))) }
-    ensures ready { IsReady files.now turn.now.cycle node.new }
-    ensures counts { counts.new ≡ counted_offer (setting_in files.now) turn.now.cycle (row_of node.old)
-        (Some (offer_at turn.now arrival (flipped frame.entry.1 frame.entry.0.now))) counts.old }
-{
-    let (bytes, bit) = frame;
-    let count = bytes.len();
-    let bytes = with_flipped(bytes, bit);
-    hear_one(files, turn, node, arrival, &bytes[..count], counts);
-}
-
-// Brings the frame of a correct sender with this row to a node.
-fn send_to(
-    files: &Files,
+// What comes to a receiver of the frame of a correct sender with this row.
+fn sent_to<'a>(
+    files: &'a Files,
     turn: &Turn,
     sender: &NodeRow,
-    frame: &[u8],
-    node: &mut Node,
-    counts: &mut Counts,
-)
-    requires sender { IsEarlyRow files.now.params sender.now }
+    frame: &'a [u8],
+    receiver: &NodeRow,
+) -> Option<Coming<'a>>
+    requires sender { IsSlotOf files.now.params sender.now turn.now.slot }
     requires frame { length frame.now ≤ 262 }
-    requires ready { IsReady files.now turn.now.cycle node.old }
-    requires hears { CanHear files.now.params turn.now.slot turn.now.channel node.old }
-    requires few { AreAtMost 2_000_000 counts.old }
-    ensures node { node.new ≡ after_offer (setting_in files.now) turn.now.cycle node.old
-        (sent_with (setting_in files.now) turn.now sender.now frame.now (row_of node.old)) }
-    ensures ready { IsReady files.now turn.now.cycle node.new }
-    ensures counts { counts.new ≡ counted_offer (setting_in files.now) turn.now.cycle (row_of node.old)
-        (sent_with (setting_in files.now) turn.now sender.now frame.now (row_of node.old)) counts.old }
+    ensures { ComesAs turn.now (sent_with (setting_in files.now) turn.now sender.now frame.now receiver.now) result }
 {
-    let receiver = node.row().node;
-    let arrival = sent_at(files, turn, sender, receiver);
+    let arrival = sent_at(files, turn, sender, receiver.node);
     match files
         .script
-        .at(turn.cycle, sender.node, receiver, turn.channel)
+        .at(turn.cycle, sender.node, receiver.node, turn.channel)
     {
-        Event::Regular => hear_one(files, turn, node, arrival, frame, counts),
-        Event::Flip(bit) => hear_flipped(files, turn, node, arrival, (frame, bit), counts),
-        Event::Silent | Event::Say { .. } => {}
+        Event::Regular => Some(Coming {
+            arrival,
+            bytes: frame,
+            flip: None,
+        }),
+        Event::Flip(bit) => Some(Coming {
+            arrival,
+            bytes: frame,
+            flip: Some(bit),
+        }),
+        Event::Silent | Event::Say { .. } => None,
     }
 }
 
-// Offers bytes that are said so many ticks later than expected to a node.
-fn say_one(
-    files: &Files,
-    turn: &Turn,
-    shift: i64,
-    bytes: &[u8],
-    node: &mut Node,
-    counts: &mut Counts,
-)
-    requires ready { IsReady files.now turn.now.cycle node.old }
-    requires hears { CanHear files.now.params turn.now.slot turn.now.channel node.old }
-    requires shift_from { neg_ℤ (pos 1_000_000_000_000) ≤ℤ shift }
-    requires shift_to { shift ≤ℤ pos 1_000_000_000_000 }
-    requires few { AreAtMost 2_000_000 counts.old }
-    ensures node { node.new ≡ after_offer (setting_in files.now) turn.now.cycle node.old
-        (Some (offer_at turn.now (said_instant (setting_in files.now) turn.now (row_of node.old) shift) bytes.now)) }
-    ensures ready { IsReady files.now turn.now.cycle node.new }
-    ensures counts { counts.new ≡ counted_offer (setting_in files.now) turn.now.cycle (row_of node.old)
-        (Some (offer_at turn.now (said_instant (setting_in files.now) turn.now (row_of node.old) shift) bytes.now)) counts.old }
-{
-    let receiver = early_row(files, node);
-    let arrival = said_at(files, turn, &receiver, shift);
-    hear_one(files, turn, node, arrival, bytes, counts);
-}
-
-// Brings what an arbitrary sender says, if it says something, to a node.
-fn say_to(
-    files: &Files,
+// What comes to a receiver of an arbitrary sender, which has this regular frame: what it says, if it says
+// something.
+fn said_to<'a>(
+    files: &'a Files,
     turn: &Turn,
     sender: NodeId,
-    frame: &[u8],
-    node: &mut Node,
-    counts: &mut Counts,
-)
-    requires ready { IsReady files.now turn.now.cycle node.old }
-    requires hears { CanHear files.now.params turn.now.slot turn.now.channel node.old }
-    requires few { AreAtMost 2_000_000 counts.old }
-    ensures node { node.new ≡ after_offer (setting_in files.now) turn.now.cycle node.old
-        (said_with (setting_in files.now) turn.now sender frame.now (row_of node.old)) }
-    ensures ready { IsReady files.now turn.now.cycle node.new }
-    ensures counts { counts.new ≡ counted_offer (setting_in files.now) turn.now.cycle (row_of node.old)
-        (said_with (setting_in files.now) turn.now sender frame.now (row_of node.old)) counts.old }
+    frame: &'a [u8],
+    receiver: &NodeRow,
+) -> Option<Coming<'a>>
+    requires receiver { IsSlotOf files.now.params receiver.now turn.now.slot }
+    ensures { ComesAs turn.now (said_with (setting_in files.now) turn.now sender frame.now receiver.now) result }
 {
-    let receiver = node.row().node;
-    match files.script.at(turn.cycle, sender, receiver, turn.channel) {
-        Event::Say {
-            shift,
-            bytes: Some(bytes),
-        } => say_one(files, turn, shift, bytes, node, counts),
-        Event::Say { shift, bytes: None } => say_one(files, turn, shift, frame, node, counts),
-        Event::Regular | Event::Silent | Event::Flip(_) => {}
+    match files
+        .script
+        .at(turn.cycle, sender, receiver.node, turn.channel)
+    {
+        Event::Say { shift, bytes } => Some(Coming {
+            arrival: said_at(files, turn, receiver, shift),
+            bytes: bytes.unwrap_or(frame),
+            flip: None,
+        }),
+        Event::Regular | Event::Silent | Event::Flip(_) => None,
     }
 }
 
-// The row of a node whose cycle is under way.
-pub(crate) fn early_row(files: &Files, node: &Node) -> NodeRow
-    requires fits { Fits files.now.params node.now }
-    requires under_way { IsSome node.now.length }
-    ensures value { result ≡ row_of node.now }
-    ensures early { IsEarlyRow files.now.params result }
+// What comes to a receiver of the frame of a sender, where it hears the sender.
+fn coming_to<'a>(
+    files: &'a Files,
+    turn: &Turn,
+    sender: &Sender,
+    frame: &'a [u8],
+    receiver: &NodeRow,
+) -> Option<Coming<'a>>
+    requires air { IsOnAir files.now turn.now sender.now frame.now }
+    requires receiver { IsEarlyRow files.now.params receiver.now }
+    ensures { ComesAs turn.now
+        (offer_heard (setting_in files.now) turn.now sender.now.node sender.now.row frame.now receiver.now) result }
 {
-    node.row()
+    if !hears(files, receiver, sender.node, turn.channel) {
+        return None;
+    }
+    match &sender.row {
+        Some(row) => sent_to(files, turn, row, frame, receiver),
+        None => said_to(files, turn, sender.node, frame, receiver),
+    }
 }
 
 // Offers the frame of a sender to a node, where it hears the sender.
@@ -163,26 +112,16 @@ fn offer_to(
     node: &mut Node,
     counts: &mut Counts,
 )
-    requires slot { turn.now.slot ≤ amount files.now.params name.gNumberOfStaticSlots }
-    requires sends { option_map (λ sending. sending.node) (sender_of files.now.params turn.now.slot turn.now.cycle) ≡ Some sender.now.node }
-    requires row { IfSome sender.now.row (IsEarlyRow files.now.params) }
-    requires frame { length frame.now ≤ 262 }
+    requires air { IsOnAir files.now turn.now sender.now frame.now }
     requires ready { IsReady files.now turn.now.cycle node.old }
     requires few { AreAtMost 2_000_000 counts.old }
-    ensures node { node.new ≡ after_offer (setting_in files.now) turn.now.cycle node.old
-        (offer_heard (setting_in files.now) turn.now sender.now.node sender.now.row frame.now (row_of node.old)) }
-    ensures ready { IsReady files.now turn.now.cycle node.new }
-    ensures counts { counts.new ≡ counted_offer (setting_in files.now) turn.now.cycle (row_of node.old)
-        (offer_heard (setting_in files.now) turn.now sender.now.node sender.now.row frame.now (row_of node.old)) counts.old }
+    ensures { HasHeard files.now turn.now
+        (offer_heard (setting_in files.now) turn.now sender.now.node sender.now.row frame.now (node_row_of node.old))
+        node.old counts.old node.new counts.new }
 {
-    sane(&files.params);
-    let receiver = early_row(files, node);
-    if !hears(files, &receiver, sender.node, turn.channel) {
-        return;
-    }
-    match &sender.row {
-        Some(row) => send_to(files, turn, row, frame, node, counts),
-        None => say_to(files, turn, sender.node, frame, node, counts),
+    let receiver = node.row();
+    if let Some(coming) = coming_to(files, turn, sender, frame, &receiver) {
+        hear(files, turn, &coming, node, counts);
     }
 }
 
@@ -195,17 +134,9 @@ pub(crate) fn offer_to_all(
     nodes: &mut [Node],
     counts: &mut Counts,
 )
-    requires slot { turn.now.slot ≤ amount files.now.params name.gNumberOfStaticSlots }
-    requires sends { option_map (λ sending. sending.node) (sender_of files.now.params turn.now.slot turn.now.cycle) ≡ Some sender.now.node }
-    requires row { IfSome sender.now.row (IsEarlyRow files.now.params) }
-    requires frame { length frame.now ≤ 262 }
-    requires ready { All (IsReady files.now turn.now.cycle) nodes.old }
-    requires few_nodes { length nodes.old ≤ 64 }
-    requires few { AreAtMost 1_000_000 counts.old }
-    ensures nodes { nodes.new ≡ map (offered (setting_in files.now) turn.now sender.now frame.now) nodes.old }
-    ensures ready { All (IsReady files.now turn.now.cycle) nodes.new }
-    ensures counts { counts.new ≡ counted_offers (setting_in files.now) turn.now.cycle
-        (offer_heard (setting_in files.now) turn.now sender.now.node sender.now.row frame.now) (map row_of nodes.old) counts.old }
+    requires air { IsOnAir files.now turn.now sender.now frame.now }
+    requires ready { AreReady files.now turn.now.cycle 1_000_000 nodes.old counts.old }
+    ensures { HaveHeardFrame files.now turn.now sender.now frame.now nodes.old counts.old nodes.new counts.new }
 {
     for node in nodes.iter_mut() {
         offer_to(files, turn, sender, frame, node, counts);

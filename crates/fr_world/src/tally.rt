@@ -1,7 +1,7 @@
 ghost use Rattle.std.specs.Prelude.{◌≡◌, ◌≤◌, length};
 ghost use Rattle.fr_reception.specs.Regular.{carried_crc};
-ghost use Rattle.fr_world.specs.Counting.{counted, counted_sent};
-ghost use Rattle.fr_world.specs.Limits.{AreAtMost};
+ghost use Rattle.fr_world.specs.Counting.{with_answer, counted_sent};
+ghost use Rattle.fr_base.specs.Counts.{AreAtMost};
 
 use fr_base::{Channel, Counts};
 use fr_reception::{Heard, Ignored};
@@ -9,7 +9,7 @@ use fr_reception::{Heard, Ignored};
 // Counts an answer.
 pub(crate) fn count(counts: &mut Counts, heard: &Heard)
     requires { AreAtMost 2_000_000 counts.old }
-    ensures { counts.new ≡ counted heard.now counts.old }
+    ensures { counts.new ≡ with_answer heard.now counts.old }
 {
     match heard {
         Heard::Stored(_) => counts.stored += 1,
@@ -19,7 +19,7 @@ pub(crate) fn count(counts: &mut Counts, heard: &Heard)
 
 fn count_ignored(counts: &mut Counts, why: &Ignored)
     requires { AreAtMost 2_000_000 counts.old }
-    ensures { counts.new ≡ counted (Heard.Ignored why.now) counts.old }
+    ensures { counts.new ≡ with_answer (Heard.Ignored why.now) counts.old }
 {
     match why {
         Ignored::Outside { .. } => counts.outside += 1,

@@ -1,18 +1,23 @@
-ghost use Rattle.std.specs.Prelude.{◌≡◌, ℕ, ◌+◌, ◌*◌, ◌≤◌, ◌↔◌, length, find, ◌==◌, IsNone, IfSome, IfOk};
+ghost use Rattle.std.specs.Prelude.{◌≡◌, ℕ, ◌+◌, ◌*◌, ◌≤◌, ◌↔◌, length, find, ◌==◌, All, IsNone, IfSome, IfOk};
 ghost use Rattle.std.specs.Borrow.{sem};
 ghost use Rattle.std.specs.Option.{option_copied};
-ghost use Rattle.fr_drift.specs.Files.{Fits as DriftFits};
+ghost use Rattle.fr_cluster.specs.Sane.{IsSane};
+ghost use Rattle.fr_drift.specs.Files.{DriftFits};
 ghost use Rattle.fr_drift.specs.Questions.{doubles_of};
-ghost use Rattle.fr_script.specs.Files.{Fits as ScriptFits};
+ghost use Rattle.fr_script.specs.Files.{ScriptFits};
+ghost use Rattle.fr_script.specs.View.{IsScript};
+ghost use Rattle.fr_history.specs.Next.{history_of};
+ghost use Rattle.fr_world.specs.Listing.{HasRoom};
+ghost use Rattle.fr_world.specs.Standing.{nodes_after};
 
 use crate::building::{fresh_nodes, key_slots_of};
 use crate::fault::BuildFault;
-use crate::files::Files;
-use crate::running::{no_counts, run_cycle};
-use fr_base::{CycleRow, DevList, NodeId, RowList, Slot};
+use crate::files::{Files, sane};
+use crate::running::run_cycle;
+use fr_base::{Counts, CycleRow, DevList, NodeId, RowList, Slot};
+use fr_cluster::Params;
 use fr_drift::Drift;
 use fr_node::Node;
-use fr_params::Params;
 use fr_script::Script;
 use std::alloc::{AllocError, Global};
 use std::marker::Model;
@@ -56,7 +61,7 @@ impl World {
     ) -> Result<World, BuildFault>
         requires drift { DriftFits params drift }
         requires script { ScriptFits params script }
-        ensures { IfOk result (λ world. world ≡ record { params = params; drift = drift; script = script; cycles = 0 }) }
+        ensures { IfOk result (λ world. world ≡ world_before params drift script) }
     {
         let files = Files {
             params,
@@ -75,7 +80,7 @@ impl World {
         })
     }
 
-    ghost use Rattle.fr_world.specs.World.{node_in, setting_behind, IsRowOf};
+    ghost use Rattle.fr_world.specs.World.{node_seen, setting_after, world_before, IsLastRowOf, IsRowOf};
     ghost use Rattle.fr_world.specs.Ends.{Cycles};
 
     /// Runs the next cycle of every correct node, and answers its row; None exactly after the last cycle of
@@ -84,7 +89,7 @@ impl World {
         // What the world is once the answer is let go.
         ensures* ends { sem 𝓛 (Cycles self.entry result) }
         ensures over { IsNone result ↔ (self.old.cycles ≡ 2 * doubles_of self.old.drift) }
-        ensures row { IfSome result (λ row. IsRowOf (setting_behind self.old) self.old.cycles row.now) }
+        ensures row { IfSome result (λ row. IsRowOf (setting_after self.old) self.old.cycles row.now) }
     {
         if self.next == 2 * self.files.drift.doubles() {
             return None;
@@ -104,7 +109,7 @@ impl World {
     pub fn row(&self) -> Option<&CycleRow>
         ensures none { IsNone result ↔ (self.now.cycles ≡ 0) }
         ensures in_run { self.now.cycles ≤ 2 * doubles_of self.now.drift }
-        ensures row { IfSome result (λ row. (earlier : ℕ) → self.now.cycles ≡ earlier + 1 → IsRowOf (setting_behind self.now) earlier row.now) }
+        ensures row { IfSome result (λ row. IsLastRowOf self.now row.now) }
     {
         if self.next == 0 {
             None
@@ -115,31 +120,46 @@ impl World {
 
     /// A node, as it stands before the next cycle; None exactly where it is arbitrary or unknown.
     pub fn node(&self, id: NodeId) -> Option<&Node>
-        ensures value { option_copied result ≡ node_in self.now id }
+        ensures value { option_copied result ≡ node_seen self.now id }
         // What is asked of a node between cycles can be asked of it.
         ensures between { IfSome result (λ node. IsNone node.now.length) }
     {
         node_among(self.nodes.as_slice(), id)
     }
 
+    /// The nodes that have a clock, in ascending order, as they stand before the next cycle.
+    pub fn nodes(&self) -> &[Node]
+        ensures value { result.now ≡ nodes_after (setting_after self.now) (history_of (setting_after self.now) self.now.cycles) }
+        // What is asked of a node between cycles can be asked of each.
+        ensures between { All (λ node. IsNone node.length) result.now }
+    {
+        self.nodes.as_slice()
+    }
+
     /// The parameters of the cluster.
     pub fn params(&self) -> &Params
-        ensures { result.now ≡ self.now.params }
+        ensures value { result.now ≡ self.now.params }
+        ensures sane { IsSane self.now.params }
     {
+        sane(&self.files.params);
         &self.files.params
     }
 
     /// Its oscillators and delays.
     pub fn drift(&self) -> &Drift
-        ensures { result.now ≡ self.now.drift }
+        ensures value { result.now ≡ self.now.drift }
+        ensures fits { DriftFits self.now.params self.now.drift }
     {
         &self.files.drift
     }
 
     /// What is done to its frames.
     pub fn script(&self) -> &Script
-        ensures { result.now ≡ self.now.script }
+        ensures value { result.now ≡ self.now.script }
+        ensures proper { IsScript self.now.script }
     {
+        // Each question to a script says that it is one.
+        let _named = self.files.script.arbitrary(NodeId(1));
         &self.files.script
     }
 }
@@ -147,13 +167,13 @@ impl World {
 // A row with nothing in it, and room for the deviations of a cycle in these key slots.
 fn blank_row(alloc: Global, keys: &Vec<Slot>) -> Result<CycleRow, AllocError>
     requires { length keys.now.items ≤ 1023 }
-    ensures { IfOk result (λ row. 128 * length keys.now.items ≤ row.devs.spare + length row.devs.entries) }
+    ensures { IfOk result (λ row. HasRoom keys.now.items row.devs) }
 {
     Ok(CycleRow {
         cycle: 0,
         rows: RowList::new(),
         devs: DevList::with_room(alloc, 128 * keys.len())?,
-        counts: no_counts(),
+        counts: Counts::none(),
     })
 }
 

@@ -1,4 +1,4 @@
-use Rattle.fr_report.proofs.Lines.{report_ended}
+use Rattle.fr_report.proofs.Ended.{report_ended}
 use Rattle.fr_report.proofs.a_report_ends_its_last_line.Goals as goal
 
 pub returns : goal.returns

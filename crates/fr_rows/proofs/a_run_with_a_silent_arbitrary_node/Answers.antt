@@ -5,23 +5,13 @@ use Rattle.fr_rows.proofs.Settings.{quiet_setting}
 use Rattle.fr_rows.specs.Quiet.{quiet_run}
 use Rattle.fr_rows.proofs.a_run_with_a_silent_arbitrary_node.Goals as goal
 
-pub returns-clause-history : goal.returns-clause-history
-returns-clause-history c = quiet_history_is
-
-pub returns-clause-lawful : goal.returns-clause-lawful
-returns-clause-lawful c = subst (λ h. IsLawful quiet_run h) quiet_history_is (c.one_lawful_history.ensures.lawful quiet_run 2 quiet_setting)
-
-pub returns-clause-skew : goal.returns-clause-skew
-returns-clause-skew c = quiet_skew_is
-
-pub returns-clause-sync : goal.returns-clause-sync
-returns-clause-sync c = quiet_sync_is
-
-pub returns-clause-files : goal.returns-clause-files
-returns-clause-files c = quiet_files_are
-
-pub returns-clause-gap : goal.returns-clause-gap
-returns-clause-gap c = quiet_gap_is
-
-pub returns-clause-report : goal.returns-clause-report
-returns-clause-report c = quiet_report_is
+pub returns : goal.returns
+returns c = record {
+  history = quiet_history_is;
+  lawful = subst (λ h. IsLawful quiet_run h) quiet_history_is (c.one_lawful_history.ensures.lawful quiet_run 2 quiet_setting);
+  greatest = quiet_skew_is;
+  synced = quiet_sync_is;
+  files = quiet_files_are;
+  gap = quiet_gap_is;
+  report = quiet_report_is;
+}

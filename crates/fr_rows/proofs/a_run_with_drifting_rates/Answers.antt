@@ -5,23 +5,13 @@ use Rattle.fr_rows.proofs.Settings.{rates_setting}
 use Rattle.fr_rows.specs.Rates.{rates_run}
 use Rattle.fr_rows.proofs.a_run_with_drifting_rates.Goals as goal
 
-pub returns-clause-history : goal.returns-clause-history
-returns-clause-history c = rates_history_is
-
-pub returns-clause-lawful : goal.returns-clause-lawful
-returns-clause-lawful c = subst (λ h. IsLawful rates_run h) rates_history_is (c.one_lawful_history.ensures.lawful rates_run 4 rates_setting)
-
-pub returns-clause-skew : goal.returns-clause-skew
-returns-clause-skew c = rates_skew_is
-
-pub returns-clause-sync : goal.returns-clause-sync
-returns-clause-sync c = rates_sync_is
-
-pub returns-clause-files : goal.returns-clause-files
-returns-clause-files c = rates_files_are
-
-pub returns-clause-gap : goal.returns-clause-gap
-returns-clause-gap c = rates_gap_is
-
-pub returns-clause-report : goal.returns-clause-report
-returns-clause-report c = rates_report_is
+pub returns : goal.returns
+returns c = record {
+  history = rates_history_is;
+  lawful = subst (λ h. IsLawful rates_run h) rates_history_is (c.one_lawful_history.ensures.lawful rates_run 4 rates_setting);
+  greatest = rates_skew_is;
+  synced = rates_sync_is;
+  files = rates_files_are;
+  gap = rates_gap_is;
+  report = rates_report_is;
+}

@@ -1,15 +1,16 @@
-use Rattle.std.proofs.Common.{Result, subst}
-use Rattle.fr_answer.specs.declared.failure.Failure.{Failure}
-use Rattle.fr_answer.specs.Answer.{RequestEnds}
+use Rattle.std.proofs.Common.{◌+◌, ◌≤◌, subst}
+use Rattle.fr_answer.specs.Answer.{Ends, file_count}
 use Rattle.fr_answer.specs.Around.{Around, around_of}
-use Rattle.fr_answer.specs.Request.{texts}
-use Rattle.fr_answer.proofs.Requests.{never_both, never_usage}
+use Rattle.fr_answer.specs.Request.{Asked, asked_of, texts}
+use Rattle.fr_answer.proofs.Requests.{one_asked}
 use Rattle.fr_answer.proofs.top.answer.Goals as goal
 
-pub returns-in-Some-clause-usage : goal.returns-in-Some-clause-usage
-returns-in-Some-clause-usage g c =
-    let around : Around = around_of (g.S.Shelf.held c.args.shelf.now) (g.S.Shelf.faults c.args.shelf.now) (g.S.Shelf.faults c.carry_out.new.shelf) (g.O.Sink.written c.args.out.now) (g.O.Sink.written c.carry_out.new.out) (g.O.Sink.faults c.args.out.now) (g.O.Sink.faults c.carry_out.new.out) in
-    let P : Result (Unit {0}) Failure → Type 0 = RequestEnds c.in-Some.request around in (
-      λ usage. absurd (never_usage c.in-Some.request around (subst P usage c.carry_out.ensures.ends)),
-      λ none. absurd (never_both (texts c.args.words.now) c.in-Some.request c.in-Some.ensures.found none),
-    )
+pub returns-in-Some-clause-ends : goal.returns-in-Some-clause-ends
+returns-in-Some-clause-ends g c =
+    let around : Around = around_of (g.S.Shelf.state c.args.shelf.now) (g.S.Shelf.state c.carry_out.new.shelf) (g.O.Sink.state c.args.out.now) (g.O.Sink.state c.carry_out.new.out) in
+    let P : Asked → Type 0 = λ asked. Ends asked around c.carry_out.result in
+    let Q : Asked → Type 0 = λ asked. around.shelf_after.loads ≤ around.shelf_before.loads + file_count asked c.carry_out.result in record {
+      ends = λ asked asks. subst P (one_asked (texts c.args.words.now) (asked_of c.in-Some.request) asked c.in-Some.ensures asks) c.carry_out.ensures.ends;
+      loads = λ asked asks. subst Q (one_asked (texts c.args.words.now) (asked_of c.in-Some.request) asked c.in-Some.ensures asks) c.carry_out.ensures.loads;
+      none = λ none. absurd (none (asked_of c.in-Some.request) c.in-Some.ensures);
+    }

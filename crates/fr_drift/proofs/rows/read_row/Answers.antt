@@ -1,11 +1,11 @@
 use Rattle.std.proofs.Common.{rules, ◌≡◌, length, sym, ◌∙◌}
 use Rattle.csv.specs.Records.{fields_of}
-use Rattle.fr_drift.specs.Rows.{row_of}
+use Rattle.fr_drift.specs.Rows.{drift_row_of}
 use Rattle.fr_drift.proofs.RowFacts.{row_of-six, kind_row-same}
 use Rattle.fr_drift.proofs.rows.read_row.Goals as goal
 
 pub returns-then-len-ne6-clause-said : goal.returns-then-len-ne6-clause-said
-unfolding row_of
+unfolding drift_row_of
 returns-then-len-ne6-clause-said c = search rules
 
 pub returns-clause-said : goal.returns-clause-said

@@ -1,6 +1,6 @@
 use Rattle.std.proofs.Common.{◌-◌, ◌*◌, ◌+◌, ◌≤◌, pos, length, arith}
 use Rattle.std.proofs.lemmas.List.Sorted.{All-permutation}
-use Rattle.fr_midpoint.specs.Within.{IsWithin}
+use Rattle.fr_base.specs.Within.{IsWithin}
 use Rattle.fr_midpoint.proofs.ReadBack.{IsWithin-read, IsMidpoint-read}
 use Rattle.fr_midpoint.proofs.middle.middle_of.Goals as goal
 

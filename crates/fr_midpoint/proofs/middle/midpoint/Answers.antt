@@ -2,7 +2,7 @@ use Rattle.std.proofs.Common.{rules, pos, sym}
 use Rattle.std.proofs.lemmas.List.{take_at}
 use Rattle.std.proofs.lemmas.List.Elements.{All-same}
 use Rattle.std.proofs.lemmas.List.Sorted.{All-permutation}
-use Rattle.fr_midpoint.specs.Within.{IsWithin}
+use Rattle.fr_base.specs.Within.{IsWithin}
 use Rattle.fr_midpoint.specs.Midpoint.{IsMidpoint}
 use Rattle.fr_midpoint.proofs.Found.{midpoint_of-is}
 use Rattle.fr_midpoint.proofs.ReadBack.{to_z-of_z-within}

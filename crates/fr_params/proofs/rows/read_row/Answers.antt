@@ -1,11 +1,11 @@
 use Rattle.std.proofs.Common.{rules, ◌≡◌, length, sym, ◌∙◌}
 use Rattle.csv.specs.Records.{fields_of}
-use Rattle.fr_params.specs.Rows.{row_of}
+use Rattle.fr_params.specs.Rows.{param_row_of}
 use Rattle.fr_params.proofs.Tables.{row_of-five, kind_row-same}
 use Rattle.fr_params.proofs.rows.read_row.Goals as goal
 
 pub returns-then-len-ne5-clause-said : goal.returns-then-len-ne5-clause-said
-unfolding row_of
+unfolding param_row_of
 returns-then-len-ne5-clause-said c = search rules
 
 pub returns-clause-said : goal.returns-clause-said

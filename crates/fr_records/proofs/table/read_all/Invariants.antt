@@ -1,12 +1,12 @@
 use Rattle.std.proofs.Common.{◌≡◌, List, ◌++◌, length}
-use Rattle.fr_records.specs.Records.{Record, records_of}
+use Rattle.fr_records.specs.Records.{FileRecord, records_of}
 use Rattle.fr_records.specs.Refusal.{NoneRefused}
 use Rattle.fr_records.proofs.table.read_all.Given as goal
 
 -- the records so far, of which none is refused, are those that the table holds
 abbrev pub invariant-rows : goal.invariant-rows
 invariant-rows g l =
-    (done : List Record) × (records_of l.fn.bytes ≡ done ++ l.records)
+    (done : List FileRecord) × (records_of l.fn.bytes ≡ done ++ l.records)
     × NoneRefused (g.T.Table.reason l.fn.table) done
     × g.T.Table.holds l.table done
     × (l.number ≡ length done)

@@ -2,4 +2,4 @@ use Rattle.fr_script.proofs.Outcomes.{fits-key}
 use Rattle.fr_script.proofs.laws.arbitrary_node_has_key_slot.Goals as goal
 
 pub returns : goal.returns
-returns c = fits-key
+returns c = λ p s fits node named. fits-key p s node fits named

@@ -1,5 +1,5 @@
-use Rattle.fr_time.proofs.Placing.{placeable_lem}
+use Rattle.fr_time.proofs.Placing.{can_place}
 use Rattle.fr_time.proofs.laws.placeable.Goals as goal
 
 pub returns : goal.returns
-returns c = placeable_lem
+returns c = can_place

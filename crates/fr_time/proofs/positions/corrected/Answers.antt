@@ -5,21 +5,21 @@ use Rattle.fr_time.specs.Position.{corrected_micros, corrected_position, even_po
 use Rattle.fr_time.proofs.Ends.{corrected_position_le}
 use Rattle.fr_time.proofs.positions.corrected.Goals as goal
 
-pub share-requires-clause-count_from : goal.share-requires-clause-count_from
-share-requires-clause-count_from c =
-    let grid = c.requires.placeable.is_grid in omega (arith, ints, grid.correction_from, grid.correction_to, grid.macros_to, c.requires.from, c.requires.to)
+pub share-requires-clause-count : goal.share-requires-clause-count
+share-requires-clause-count c =
+    let grid = c.requires.placeable.is_grid in
+    record {
+      low = omega (arith, ints, grid.correction_from, grid.correction_to, grid.macros_to);
+      high = omega (arith, ints, grid.correction_from, grid.correction_to, grid.macros_to);
+    }
 
-pub share-requires-clause-count_to : goal.share-requires-clause-count_to
-share-requires-clause-count_to c =
-    let grid = c.requires.placeable.is_grid in omega (arith, ints, grid.correction_from, grid.correction_to, grid.macros_to, c.requires.from, c.requires.to)
-
-pub share-requires-clause-parts_from : goal.share-requires-clause-parts_from
-share-requires-clause-parts_from c =
-    let grid = c.requires.placeable.is_grid in omega (arith, ints, grid.correction_from, grid.correction_to, grid.macros_to)
-
-pub share-requires-clause-parts_to : goal.share-requires-clause-parts_to
-share-requires-clause-parts_to c =
-    let grid = c.requires.placeable.is_grid in omega (arith, ints, grid.correction_from, grid.correction_to, grid.macros_to)
+pub share-requires-clause-parts : goal.share-requires-clause-parts
+share-requires-clause-parts c =
+    let grid = c.requires.placeable.is_grid in
+    record {
+      low = omega (arith, ints, grid.correction_from, grid.correction_to, grid.macros_to);
+      high = omega (arith, ints, grid.correction_from, grid.correction_to, grid.macros_to);
+    }
 
 -- what the calls answer, without the conversions of their arguments
 value_lem : (c : goal.After-share) → c.even-start.result +ℤ c.share.result ≡ corrected_position c.args.grid.now c.args.rate c.args.offset c.args.macrotick
@@ -31,7 +31,7 @@ value_lem c =
     let start_fits : FitsSigned w64 c.even-start.result = search rules in
     let macros : FitsSigned w64 c.args.grid.now.macros = omega (arith, ints, grid.correction_from, grid.correction_to, grid.macros_to) in
     let correction : FitsSigned w64 c.args.grid.now.correction = omega (arith, ints, grid.correction_from, grid.correction_to, grid.macros_to) in
-    let count : FitsSigned w64 (c.args.macrotick -ℤ c.args.grid.now.correction) = omega (arith, ints, grid.correction_from, grid.correction_to, grid.macros_to, c.requires.from, c.requires.to) in
+    let count : FitsSigned w64 (c.args.macrotick -ℤ c.args.grid.now.correction) = omega (arith, ints, grid.correction_from, grid.correction_to, grid.macros_to) in
     let parts : FitsSigned w64 (c.args.grid.now.macros -ℤ c.args.grid.now.correction) = omega (arith, ints, grid.correction_from, grid.correction_to, grid.macros_to) in
     let left_fits : FitsSigned w64 c.left-length.result = search rules in
     let start : c.even-start.result ≡ even_position c.args.grid.now c.args.rate c.args.grid.now.correction = simp to_z-of_z at c.even-start.ensures.value in
@@ -43,10 +43,13 @@ value_lem c =
     cc
 
 pub returns-clause-value : goal.returns-clause-value
-returns-clause-value c = let value = value_lem c in omega (arith, ints, value, c.even-start.ensures.low, c.even-start.ensures.high, c.share.ensures.low, c.share.ensures.high)
+returns-clause-value c = let value = value_lem c in omega (arith, ints, value)
 
-pub returns-clause-high : goal.returns-clause-high
-returns-clause-high c =
+pub returns-clause-within : goal.returns-clause-within
+returns-clause-within c =
     let can = c.requires.placeable in
-    let within = corrected_position_le c.args.grid.now c.args.rate c.args.offset c.args.macrotick can c.requires.from c.requires.to in
-    omega (arith, ints, value_lem c, within, can.is_grid.micros_to, can.rate_to, can.offset_to, c.even-start.ensures.low, c.even-start.ensures.high, c.share.ensures.low, c.share.ensures.high)
+    let within = corrected_position_le c.args.grid.now c.args.rate c.args.offset c.args.macrotick can c.requires.macrotick.low c.requires.macrotick.high in
+    record {
+      low = omega (arith, ints);
+      high = omega (arith, ints, value_lem c, within, can.is_grid.micros_to, can.rate_to, can.offset_to);
+    }

@@ -10,7 +10,7 @@ returns-clause-value c =
     let rate : FitsSigned w32 c.args.rate = c.ranges.rate in
     let rate_wide : FitsSigned w64 c.args.rate = omega (arith, ints, rate) in
     let macros : FitsSigned w64 c.args.grid.now.macros = omega (arith, ints, c.requires.grid) in
-    let micros : FitsSigned w64 c.args.grid.now.micros = omega (arith, ints, c.requires.grid, c.requires.rate_to) in
+    let micros : FitsSigned w64 c.args.grid.now.micros = omega (arith, ints, c.requires.grid) in
     let length : FitsSigned w64 (c.args.grid.now.micros +ℤ c.args.rate) = omega (arith, ints) in
     let value : c.share.result ≡ even_position c.args.grid.now c.args.rate c.args.macrotick = simp to_z-of_z at c.share.ensures.value in
     omega (arith, ints, value)

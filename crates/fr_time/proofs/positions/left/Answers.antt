@@ -7,12 +7,10 @@ returns-clause-value c =
     let can = c.requires.placeable in
     omega (arith, ints, can.is_grid.correction_from, can.is_grid.correction_to, can.is_grid.micros_to, can.micros_from, can.rate_to, can.offset_from, can.offset_to, can.reaches_correction, c.requires.start)
 
-pub returns-clause-low : goal.returns-clause-low
-returns-clause-low c =
+pub returns-clause-within : goal.returns-clause-within
+returns-clause-within c =
     let can = c.requires.placeable in
-    omega (arith, ints, can.is_grid.correction_from, can.is_grid.correction_to, can.is_grid.micros_to, can.micros_from, can.rate_to, can.offset_from, can.offset_to, can.reaches_correction, c.requires.start)
-
-pub returns-clause-high : goal.returns-clause-high
-returns-clause-high c =
-    let can = c.requires.placeable in
-    omega (arith, ints, can.is_grid.correction_from, can.is_grid.correction_to, can.is_grid.micros_to, can.micros_from, can.rate_to, can.offset_from, can.offset_to, can.reaches_correction, c.requires.start)
+    record {
+      low = omega (arith, ints, can.is_grid.correction_from, can.is_grid.correction_to, can.is_grid.micros_to, can.micros_from, can.rate_to, can.offset_from, can.offset_to, can.reaches_correction, c.requires.start);
+      high = omega (arith, ints, can.is_grid.correction_from, can.is_grid.correction_to, can.is_grid.micros_to, can.micros_from, can.rate_to, can.offset_from, can.offset_to, can.reaches_correction, c.requires.start);
+    }

@@ -8,5 +8,5 @@ use Rattle.fr_time.proofs.positions.share.Goals as goal
 pub returns-clause-high : goal.returns-clause-high
 returns-clause-high c =
     let below : floor_of (c.args.count *ℤ c.args.length) c.args.parts ≤ℤ c.args.length =
-    share_le c.args.count c.args.length c.args.parts c.requires.count_from c.requires.count_to c.requires.length_from in
+    share_le c.args.count c.args.length c.args.parts c.requires.count.low c.requires.count.high c.requires.length.low in
     grind (arith, ints, to_z-of_z, below)

@@ -3,11 +3,11 @@ use Rattle.std.proofs.lemmas.Int.{ints, to_z-of_z}
 use Rattle.fr_drift.specs.Questions.{start_of}
 use Rattle.fr_node.specs.Cycle.{fresh}
 use Rattle.fr_history.specs.Terms.{outcomes_in}
-use Rattle.fr_world.specs.Standing.{node_behind, readings_behind}
+use Rattle.fr_world.specs.Standing.{node_after, readings_after}
 use Rattle.fr_world.proofs.building.fresh_node.Goals as goal
 
 pub returns-clause-node : goal.returns-clause-node
-unfolding node_behind readings_behind outcomes_in
+unfolding node_after readings_after outcomes_in
 returns-clause-node c =
     let p = c.args.files.now.params in
     let id = c.args.spec.now.id in

@@ -2,7 +2,7 @@ use Rattle.std.proofs.Common.{◌≡◌, ◌∙◌, ◌+◌, ◌++◌, [], ◌�
 use Rattle.std.specs.List.{range_with_len}
 use Rattle.std.proofs.lemmas.List.FromFn.{length-range_with_len}
 use Rattle.std.specs.Prelude.{is_some}
-use Rattle.fr_params.specs.Questions.{key_index_of}
+use Rattle.fr_cluster.specs.Questions.{key_index_of}
 use Rattle.fr_world.proofs.OneCycle.{length-kept}
 use Rattle.fr_world.proofs.Fresh.{dropped-more, kept-more}
 use Rattle.fr_world.proofs.building.key_slots_of.Goals as goal

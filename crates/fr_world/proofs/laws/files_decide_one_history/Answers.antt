@@ -1,5 +1,5 @@
 use Rattle.fr_world.proofs.Deciding.{decided-setting}
-use Rattle.fr_world.specs.Files.{setting_of}
+use Rattle.fr_coverage.specs.Decided.{setting_of}
 use Rattle.fr_world.proofs.laws.files_decide_one_history.Goals as goal
 
 pub returns-clause-setting : goal.returns-clause-setting

@@ -2,23 +2,24 @@ use Rattle.std.proofs.Common.{◌≡◌, ◌∙◌, ◌<◌, length, Option, ref
 use Rattle.std.proofs.lemmas.List.Elements.{All-set}
 use Rattle.fr_base.specs.declared.node_row.NodeRow.{NodeRow}
 use Rattle.fr_reception.specs.Offers.{Offer}
-use Rattle.fr_node.specs.View.{NodeView, row_of}
-use Rattle.fr_history.specs.Setting.{Setting}
+use Rattle.fr_node.specs.View.{NodeView, node_row_of}
+use Rattle.fr_cluster.specs.Setting.{Setting}
 use Rattle.fr_world.proofs.Loops.{at_most-nodes, counted-more, swept-more, swept-next}
 use Rattle.fr_world.specs.Counting.{counted_offer, counted_offers}
-use Rattle.fr_world.specs.Run.{setting_in, IsReady}
-use Rattle.fr_world.specs.Sending.{offer_heard, offered}
+use Rattle.fr_world.specs.Cycling.{IsReady}
+use Rattle.fr_world.specs.Files.{setting_in}
+use Rattle.fr_world.specs.Sending.{offer_heard, after_offer_by}
 use Rattle.fr_world.proofs.offering.offer_to_all.Goals as goal
 
 pub loop-node-init : goal.loop-node-init
 unfolding counted_offers
-loop-node-init c = (refl, c.requires.ready, refl)
+loop-node-init c = (refl, c.requires.ready.ready, refl)
 
 pub offer_to-requires-clause-few : goal.offer_to-requires-clause-few
 offer_to-requires-clause-few c =
     let a = c.args in
     at_most-nodes (setting_in a.files.now) a.turn.now.cycle (offer_heard (setting_in a.files.now) a.turn.now a.sender.now.node a.sender.now.row a.frame.now) a.nodes.now c.loop-node.node-index 1000000 2000000 a.counts.now c.loop-node.counts
-    c.requires.few_nodes (omega arith) c.requires.few c.loop-node.invariant.2
+    c.requires.ready.few_nodes (omega arith) c.requires.ready.few c.loop-node.invariant.2
 
 pub loop-node-preserved : goal.loop-node-preserved
 loop-node-preserved c =
@@ -26,12 +27,12 @@ loop-node-preserved c =
     let i = c.loop-node.node-index in
     let node = c.node-item.result in
     let x : Setting = setting_in a.files.now in
-    let f : NodeView → NodeView = offered x a.turn.now a.sender.now a.frame.now in
+    let f : NodeView → NodeView = after_offer_by x a.turn.now a.sender.now a.frame.now in
     let lt : i < length a.nodes.now = omega arith in
-    let stepped : c.offer_to.new.node ≡ f node = c.offer_to.ensures.node ∙ ap f (sym c.node-item.is) in
+    let stepped : c.offer_to.new.node ≡ f node = c.offer_to.ensures.node_is ∙ ap f (sym c.node-item.is) in
     let o : NodeRow → Option Offer = offer_heard x a.turn.now a.sender.now.node a.sender.now.row a.frame.now in
-    let counted : c.offer_to.new.counts ≡ counted_offer x a.turn.now.cycle (row_of node) (o (row_of node)) c.loop-node.counts =
-    c.offer_to.ensures.counts ∙ ap (λ (n : NodeView). counted_offer x a.turn.now.cycle (row_of n) (o (row_of n)) c.loop-node.counts) (sym c.node-item.is) in (
+    let counted : c.offer_to.new.counts ≡ counted_offer x a.turn.now.cycle (node_row_of node) (o (node_row_of node)) c.loop-node.counts =
+    c.offer_to.ensures.counts_are ∙ ap (λ (n : NodeView). counted_offer x a.turn.now.cycle (node_row_of n) (o (node_row_of n)) c.loop-node.counts) (sym c.node-item.is) in (
       swept-more f a.nodes.now c.loop-node.nodes i node c.offer_to.new.node lt c.loop-node.invariant.0 c.node-item.is stepped,
       All-set (IsReady a.files.now a.turn.now.cycle) c.loop-node.nodes i c.offer_to.new.node c.offer_to.ensures.ready c.loop-node.invariant.1,
       counted-more x a.turn.now.cycle o a.nodes.now i node a.counts.now c.loop-node.counts c.offer_to.new.counts lt (swept-next f a.nodes.now c.loop-node.nodes i node lt c.loop-node.invariant.0 c.node-item.is) c.loop-node.invariant.2 counted,

@@ -1,9 +1,9 @@
 use Rattle.std.proofs.Common.{◌≤◌, ◌+◌, arith}
 use Rattle.std.proofs.lemmas.Int.{ints}
 use Rattle.std.proofs.lemmas.List.{length-take}
-use Rattle.fr_params.specs.declared.names.ParamName.TheVariants as name
-use Rattle.fr_params.specs.Sane.{IsSane}
-use Rattle.fr_params.specs.Values.{Values}
+use Rattle.fr_cluster.specs.declared.names.ParamName.TheVariants as name
+use Rattle.fr_cluster.specs.Sane.{IsSane}
+use Rattle.fr_cluster.specs.Values.{Values}
 use Rattle.fr_reception.specs.Regular.{payload_bytes}
 use Rattle.fr_world.proofs.slots.broadcast.Goals as goal
 

@@ -1,28 +1,34 @@
-use Rattle.std.proofs.Common.{◌+◌, ◌≤◌, length, map, sym, subst, arith}
+use Rattle.std.proofs.Common.{◌≡◌, ◌+◌, ◌≤◌, ◌∙◌, length, map, ap, sym, subst, arith}
 use Rattle.std.proofs.lemmas.List.{length-map}
 use Rattle.fr_base.specs.declared.channel.Channel.TheVariants.{A}
-use Rattle.fr_node.specs.View.{row_of}
-use Rattle.fr_history.specs.Setting.{Setting}
+use Rattle.fr_node.specs.View.{node_row_of}
+use Rattle.fr_cluster.specs.Setting.{Setting}
 use Rattle.fr_world.proofs.Channels.{at_most-on, slot-counts, slot-nodes}
 use Rattle.fr_world.proofs.Loops.{at_most-more}
 use Rattle.fr_world.specs.Counting.{counts_on}
-use Rattle.fr_world.specs.Limits.{AreAtMost}
-use Rattle.fr_world.specs.Run.{setting_in}
+use Rattle.fr_world.specs.Hearing.{after_channel}
+use Rattle.fr_base.specs.Counts.{AreAtMost}
+use Rattle.fr_world.specs.Files.{setting_in}
 use Rattle.fr_world.proofs.slots.hear_slot.Goals as goal
 
-pub hear_on-requires-2-clause-few : goal.hear_on-requires-2-clause-few
-hear_on-requires-2-clause-few c =
+pub hear_on-requires-2-clause-ready : goal.hear_on-requires-2-clause-ready
+hear_on-requires-2-clause-ready c =
     let a = c.args in
     let x : Setting = setting_in a.files.now in
-    let rows = map row_of a.nodes.now in
-    let few : length rows ≤ 64 = rw length-map c.requires.few_nodes in
-    subst (AreAtMost 500000) (sym c.hear_on.ensures.counts)
-    (at_most-more (400000 + 65) 500000 (counts_on x a.cycle rows a.slot A a.counts.now) (omega arith) (at_most-on x a.cycle rows a.slot A 400000 a.counts.now few c.requires.few))
+    let rows = map node_row_of a.nodes.now in
+    let few : length rows ≤ 64 = rw length-map c.requires.ready.few_nodes in
+    let long : length c.hear_on.new.nodes ≡ length a.nodes.now = ap length c.hear_on.ensures.nodes_are ∙ length-map a.nodes.now (after_channel x a.cycle rows a.slot A) in record {
+      ready = c.hear_on.ensures.ready;
+      few_nodes = omega (arith, long, c.requires.ready.few_nodes);
+      few = subst (AreAtMost 500000) (sym c.hear_on.ensures.counts_are)
+          (at_most-more (400000 + 65) 500000 (counts_on x a.cycle rows a.slot A a.counts.now) (omega arith) (at_most-on x a.cycle rows a.slot A 400000 a.counts.now few c.requires.ready.few));
+    }
 
-pub returns-clause-nodes : goal.returns-clause-nodes
-returns-clause-nodes c =
-    slot-nodes (setting_in c.args.files.now) c.args.cycle c.args.slot c.args.nodes.now c.hear_on.new.nodes c.hear_on-2.new.nodes c.hear_on.ensures.nodes c.hear_on-2.ensures.nodes
-
-pub returns-clause-counts : goal.returns-clause-counts
-returns-clause-counts c =
-    slot-counts (setting_in c.args.files.now) c.args.cycle c.args.slot c.args.nodes.now c.hear_on.new.nodes c.args.counts.now c.hear_on.new.counts c.hear_on-2.new.counts c.hear_on.ensures.nodes c.hear_on.ensures.counts c.hear_on-2.ensures.counts
+pub returns : goal.returns
+returns c =
+    let a = c.args in
+    let x : Setting = setting_in a.files.now in record {
+      nodes_are = slot-nodes x a.cycle a.slot a.nodes.now c.hear_on.new.nodes c.hear_on-2.new.nodes c.hear_on.ensures.nodes_are c.hear_on-2.ensures.nodes_are;
+      ready = c.hear_on-2.ensures.ready;
+      counts_are = slot-counts x a.cycle a.slot a.nodes.now c.hear_on.new.nodes a.counts.now c.hear_on.new.counts c.hear_on-2.new.counts c.hear_on.ensures.nodes_are c.hear_on.ensures.counts_are c.hear_on-2.ensures.counts_are;
+    }

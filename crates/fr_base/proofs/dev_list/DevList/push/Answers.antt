@@ -1,4 +1,4 @@
--- A deviation behind all others leaves the list in order.
+-- A deviation after all others leaves the list in order.
 use Rattle.std.proofs.Common.{All, subst, sym}
 use Rattle.std.proofs.lemmas.List.Quantifiers.{all_pairs_push}
 use Rattle.std.proofs.lemmas.List.Elements.{All-get_or}

@@ -1,7 +1,7 @@
 use Rattle.std.proofs.Common.{◌∙◌, refl}
 use Rattle.std.specs.BTreeMap.{get}
 use Rattle.fr_drift.specs.Keys.{length_cmp, length_key}
-use Rattle.fr_drift.specs.Rows.{IsProperLength}
+use Rattle.fr_drift.specs.Rows.{IsMicrotickLength}
 use Rattle.fr_drift.specs.View.{length_rows}
 use Rattle.fr_drift.proofs.Lines.{held-proper, held-same}
 use Rattle.fr_drift.proofs.drift.Drift.length_row.Goals as goal
@@ -15,5 +15,5 @@ returns-clause-told c =
 pub returns-clause-proper : goal.returns-clause-proper
 returns-clause-proper c =
     rw c.held_length.ensures
-    (held-proper IsProperLength (λ from. get length_cmp c.self.inside.lengths (length_key c.args.node from)) c.args.cycle
+    (held-proper IsMicrotickLength (λ from. get length_cmp c.self.inside.lengths (length_key c.args.node from)) c.args.cycle
     (λ from. c.self.invariant.lengths (length_key c.args.node from)))

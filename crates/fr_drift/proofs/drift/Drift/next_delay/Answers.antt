@@ -14,11 +14,10 @@ next c =
     (delay_rows c.args.self.now c.args.sender c.args.receiver c.args.channel) c.args.cycle c.args.end c.next_delay_row.result
     (λ from. c.delays.ensures.same c.args.sender c.args.receiver from) c.next_delay_row.ensures
 
-pub returns-clause-stays : goal.returns-clause-stays
+pub returns : goal.returns
 unfolding delay_of
-returns-clause-stays c = λ k low high.
-    ap (λ (o : Option ℤ). unwrap_or o (compensation_on c.args.self.now c.args.channel *ℤ pos 1_000_000))
-    (next-stays (delay_rows c.args.self.now c.args.sender c.args.receiver c.args.channel) c.args.cycle c.args.end c.next_delay_row.result k (next c) low high)
-
-pub returns-clause-next : goal.returns-clause-next
-returns-clause-next c = (next c).quiet
+returns c = record {
+  next = next c;
+  stays = λ k low high. ap (λ (o : Option ℤ). unwrap_or o (compensation_on c.args.self.now c.args.channel *ℤ pos 1_000_000))
+      (next-stays (delay_rows c.args.self.now c.args.sender c.args.receiver c.args.channel) c.args.cycle c.args.end c.next_delay_row.result k (next c) low high);
+}

@@ -14,13 +14,9 @@ next c =
     (λ from. rw (← c.self.view_is) refl)
     c.next_length_row.ensures
 
-pub returns-clause-stays : goal.returns-clause-stays
+pub returns : goal.returns
 unfolding length_of
-returns-clause-stays c = λ k low high.
-    ap (λ (o : Option ℤ). unwrap_or o (pos 1_000_000)) (next-stays (length_rows c.args.self.now c.args.node) c.args.cycle c.args.end c.next_length_row.result k (next c) low high)
-
-pub returns-clause-next : goal.returns-clause-next
-returns-clause-next c = (next c).quiet
-
-pub returns-clause-stands : goal.returns-clause-stands
-returns-clause-stands c = (next c).stands
+returns c = record {
+  next = next c;
+  stays = λ k low high. ap (λ (o : Option ℤ). unwrap_or o (pos 1_000_000)) (next-stays (length_rows c.args.self.now c.args.node) c.args.cycle c.args.end c.next_length_row.result k (next c) low high);
+}

@@ -2,4 +2,4 @@ use Rattle.fr_report.proofs.Holding.{holds_none}
 use Rattle.fr_report.proofs.report.Report.new.Goals as goal
 
 pub returns : goal.returns
-returns c = record { holds = rw (c.new.ensures, c.new-2.ensures) (holds_none c.args.params.now) }
+returns c = rw (c.new.ensures, c.new-2.ensures, c.none.ensures) (holds_none c.args.params.now)

@@ -1,10 +1,29 @@
-use Rattle.std.proofs.Common.{List, ℕ, subst}
-use Rattle.fr_report.specs.Covered.{gap_of}
-use Rattle.fr_report.specs.Puts.{Puts, sunk}
-use Rattle.fr_report.proofs.Telling.{told_is}
+use Rattle.std.proofs.Common.{◌≡◌, ap, subst, ◌∙◌}
+use Rattle.std.specs.Result.{result_err}
+use Rattle.fr_base.specs.Device.{Puts}
+use Rattle.fr_history.specs.History.{History}
+use Rattle.fr_cluster.specs.Setting.{Setting}
+use Rattle.fr_coverage.specs.declared.gap.Gap.{Gap}
+use Rattle.std.proofs.Common.{Option}
+use Rattle.fr_report.specs.Held.{run_history}
+use Rattle.fr_report.specs.Text.{report_of, text_of}
+use Rattle.fr_report.specs.Told.{told_of}
+use Rattle.fr_report.specs.declared.told.Told.{Told}
+use Rattle.fr_world.specs.World.{setting_after}
 use Rattle.fr_report.proofs.report.Report.write.Goals as goal
 
-pub returns : goal.returns
-returns g c =
-    subst (λ (text : List ℕ). Puts c.put_all.result (sunk (g.O.Sink.written c.args.out.now) (g.O.Sink.faults c.args.out.now)) (sunk (g.O.Sink.written c.put_all.new.out) (g.O.Sink.faults c.put_all.new.out)) text)
-    (told_is c.args.world.now (gap_of c.args.gap) c.args.self.now c.requires.held) c.put_all.ensures
+report_is : (x : Setting) (gap : Option Gap) (h : History) (told : Told) → told ≡ told_of x gap h → text_of told ≡ report_of x gap h
+unfolding report_of
+report_is x gap h told is = ap text_of is
+
+pub returns-clause-any : goal.returns-clause-any
+returns-clause-any g c =
+    let w = c.args.world.now in
+    subst (Puts c.write.result (g.O.Sink.state c.args.out.now) (g.O.Sink.state c.write.new.out))
+    (report_is (setting_after w) (result_err c.args.gap) (run_history w) c.told.result c.told.ensures) c.write.ensures
+
+pub returns-clause-first : goal.returns-clause-first
+returns-clause-first g c = λ first.
+    let w = c.args.world.now in
+    subst (Puts c.write.result (g.O.Sink.state c.args.out.now) (g.O.Sink.state c.write.new.out))
+    (report_is (setting_after w) (result_err c.args.gap) (run_history w) c.told.result c.told.ensures ∙ ap (λ (gap : Option Gap). report_of (setting_after w) gap (run_history w)) first) c.write.ensures

@@ -1,5 +1,9 @@
-use Rattle.std.proofs.Common.{◌∙◌, ap, Ok}
 use Rattle.fr_script.proofs.draft.Draft.take.Goals as goal
 
-pub returns-in-Deed-clause-adds : goal.returns-in-Deed-clause-adds
-returns-in-Deed-clause-adds c = λ done r h e. c.take_deed.ensures.adds done r h (e ∙ ap Ok c.in-Deed.is)
+pub returns-in-Arbitrary : goal.returns-in-Arbitrary
+returns-in-Arbitrary c =
+    let taken = c.take_node.ensures in
+    rw c.in-Arbitrary.is (record { params = taken.params; takes = record { why = taken.takes.why; adds = taken.takes.adds } })
+
+pub returns-in-Deed : goal.returns-in-Deed
+returns-in-Deed c = rw c.in-Deed.is c.take_deed.ensures

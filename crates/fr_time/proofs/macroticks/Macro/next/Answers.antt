@@ -9,5 +9,5 @@ returns-clause-after c =
     let walk = c.self.inside in
     let moved : ℤ → Walk = λ at. record { grid = walk.grid; rate = walk.rate; offset = walk.offset; odd = walk.odd; next = at } in
     let one_more : to_z w64 (of_z w64 (to_z w64 (of_z w64 walk.next) +ℤ pos 1)) ≡ walk.next +ℤ pos 1 =
-    omega (arith, ints, c.self.invariant.next_from, c.self.invariant.next_to, c.self.invariant.is_placeable.is_grid.macros_to) in
+    omega (arith, ints, c.self.invariant.next_within.low, c.self.invariant.next_within.high, c.self.invariant.is_placeable.is_grid.macros_to) in
     rw (← c.self.view_is) (ap moved one_more)

@@ -1,4 +1,0 @@
-use Rattle.fr_base.proofs.line.Line.+natural.Given as goal
-
-abbrev pub decreases-natural : goal.decreases-natural
-decreases-natural l = l.value

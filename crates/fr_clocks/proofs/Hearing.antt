@@ -1,0 +1,229 @@
+-- What a supply of deviations owes of two nodes is enough, and a recorded trace supplies it.
+use Rattle.std.proofs.Common.{◌≡◌, ◌⊎◌, ℕ, ◌<◌, ◌==◌, Bool, true, false, not, ℤ, pos, Option, Some, None, List, [], ◌∷◌, length, refl, ap, sym, ◌∙◌, inl, inr, arith, if◌then◌else◌}
+use Rattle.std.specs.Prelude.{AllPairs, Contains, is_some, option_and_then}
+use Rattle.fr_base.specs.declared.channel.Channel.{Channel}
+use Rattle.fr_cluster.specs.Values.{Values}
+use Rattle.fr_cluster.specs.Questions.{key_index_of, node_of, own_index, key_slot_of, index_in, key_in}
+use Rattle.fr_cluster.specs.Sane.{IsSane}
+use Rattle.fr_cluster.specs.declared.nodes.NodeSpec.{NodeSpec}
+use Rattle.fr_time.specs.Senders.{key_node_of}
+use Rattle.fr_time.specs.Slots.{action_point_of}
+use Rattle.fr_bound.specs.Bounds.{lambda_of, pi_of, precision_of}
+use Rattle.fr_measure.specs.Values.{is_own}
+use Rattle.fr_precision.specs.Instants.{row_in}
+use Rattle.fr_precision.specs.Offsets.{IsDeviation}
+use Rattle.fr_precision.specs.Placement.{IsRegular}
+use Rattle.fr_precision.specs.Step.{Member}
+use Rattle.fr_precision.proofs.DeviationLaws.{recorded_is_deviation}
+use Rattle.fr_precision.proofs.InstantLaws.{actions_stay_near}
+use Rattle.fr_precision.proofs.StepLaws.{nodes_near}
+use Rattle.fr_history.specs.History.{History, Record}
+use Rattle.fr_cluster.specs.Setting.{Setting, correct_nodes, is_correct}
+use Rattle.fr_base.specs.Rows.{dev_in}
+use Rattle.fr_round.specs.Round.{IsItself, IsOther}
+use Rattle.fr_round.proofs.Keys.{key_node_among, key_node_is, key_slot_has, slot_of_index}
+use Rattle.fr_round.proofs.Lists.{Contains-none, filtered, sole_found}
+use Rattle.fr_round.proofs.Senders.{and_then_some}
+use Rattle.fr_round.proofs.Values.{acts_before}
+use Rattle.fr_clocks.specs.Clocks.{IsDrawnDouble, IsSyncedDouble, hearer_of, member_of, round_of, row_for}
+use Rattle.fr_clocks.specs.Heard.{DevsAreBounded, HeardSuffices, HeardSufficesWithin, IsHeardBy, IsLinked, TracesHear, record_in}
+use Rattle.fr_clocks.proofs.Doubles.{double_of, even_length, proper_micro, steady}
+use Rattle.fr_clocks.proofs.Stepping.{is_correct_node, is_member, no_less, node_runs, nodes_of, nodes_spread, synced_is_drawn}
+use Rattle.fr_cluster.proofs.KeyNodes.{AllPairs-first, AllPairs-rest, Contains-cons_cases}
+
+-- ---- a node and its own index
+
+sole_node : (nodes : List NodeSpec) (one other : NodeSpec) → AllPairs (λ (a : NodeSpec) (b : NodeSpec). a.id < b.id) nodes → Contains nodes one → Contains nodes other
+    → other.id ≡ one.id → other ≡ one
+sole_node [] one other pairs here there is = absurd (Contains-none one here)
+sole_node (node ∷ nodes) one other pairs here there is = elim (Contains-cons_cases node nodes one here) [
+  | inl first ↦ elim (Contains-cons_cases node nodes other there) [
+    | inl first_too ↦ sym first_too ∙ first
+    | inr later ↦
+        let below = AllPairs-first (λ (a : NodeSpec) (b : NodeSpec). a.id < b.id) node nodes other pairs later in
+        let own : node.id ≡ one.id = ap (λ (n : NodeSpec). n.id) first in
+        absurd (omega (arith, below, own, is))
+  ]
+  | inr later ↦ elim (Contains-cons_cases node nodes other there) [
+    | inl first ↦
+        let below = AllPairs-first (λ (a : NodeSpec) (b : NodeSpec). a.id < b.id) node nodes one pairs later in
+        let own : node.id ≡ other.id = ap (λ (n : NodeSpec). n.id) first in
+        absurd (omega (arith, below, own, is))
+    | inr later_too ↦ sole_node nodes one other (AllPairs-rest (λ (a : NodeSpec) (b : NodeSpec). a.id < b.id) node nodes pairs) later later_too is
+  ]
+]
+
+equal : (a b : ℕ) → a ≡ b → (a == b) ≡ true
+equal a b is = grind arith
+
+same : (a b : ℕ) → (a == b) ≡ true → a ≡ b
+same a b is = grind arith
+
+-- the node of its number
+node_is : (p : Values) (node : NodeSpec) → IsSane p → Contains p.nodes node → node_of p node.id ≡ Some node
+node_is p node sane among =
+    sole_found (λ (n : NodeSpec). n.id == node.id) p.nodes node among (equal node.id node.id refl)
+    (λ other there passes. sole_node p.nodes node other sane.lists.nodes_ascend among there (same other.id node.id passes))
+
+-- its own index is that of its key slot
+own_of : (p : Values) (node : NodeSpec) → IsSane p → Contains p.nodes node → own_index p node.id ≡ index_in p node.key
+own_of p node sane among = ap (λ o. index_in p (key_in o)) (node_is p node sane among)
+
+own_index_is : (p : Values) (node : NodeSpec) (slot index : ℕ) → IsSane p → Contains p.nodes node → node.key ≡ Some slot → key_slot_of p index ≡ Some slot
+    → own_index p node.id ≡ Some index
+own_index_is p node slot index sane among key slot_is = own_of p node sane among ∙ ap (index_in p) key ∙ (key_slot_has p index slot slot_is).0
+
+key_of_index : (p : Values) (key : Option ℕ) (index : ℕ) → index_in p key ≡ Some index → (slot : ℕ) × (key ≡ Some slot) × (key_index_of p slot ≡ Some index)
+key_of_index p None index is = absurd (cc)
+key_of_index p (Some slot) index is = (slot, refl, is)
+
+correct_has : (x : Setting) (node : NodeSpec) → Contains (correct_nodes x) node → Contains x.params.nodes node × (is_correct x node.id ≡ true)
+correct_has x node among = filtered (λ (n : NodeSpec). is_correct x n.id) x.params.nodes node among
+
+-- a receiver is the sender of its own index
+itself : (x : Setting) (even odd : Record) (node : NodeSpec) (index : ℕ) → IsSane x.params → Contains (correct_nodes x) node → own_index x.params node.id ≡ Some index
+    → (slot : ℕ) × ((sender : NodeSpec) × IsItself (round_of x even odd) (hearer_of x even odd node.id) index slot sender)
+itself x even odd node index sane among own =
+    let has = correct_has x node among in
+    let key = key_of_index x.params node.key index (sym (own_of x.params node sane has.0) ∙ own) in (
+      key.0,
+      (
+        node,
+        record {
+          sender = record { there = has.0; rows = has.1; key = key.1 };
+          slot_is = slot_of_index x.params index key.0 key.2;
+          even = refl;
+          odd = refl;
+        },
+      ),
+    )
+
+-- a sender of another index is another node
+linked : (x : Setting) (even odd : Record) (node sender : NodeSpec) (index slot : ℕ) → IsSane x.params → Contains (correct_nodes x) node
+    → IsOther (round_of x even odd) (hearer_of x even odd node.id) index slot sender → IsLinked x sender node slot
+linked x even odd node sender index slot sane among other = record {
+  sends = is_correct_node x sender other.sender.there other.sender.rows;
+  hears = among;
+  key = other.sender.key;
+  other =
+      λ is.
+      let own = own_index_is x.params sender slot index sane other.sender.there other.sender.key other.slot_is in
+      let own_too : own_index x.params node.id ≡ Some index = ap (own_index x.params) (sym is) ∙ own in
+      let e : true ≡ false = sym (equal index index refl) ∙ sym (ap (λ o. is_own o index) own_too) ∙ other.other in
+      cc;
+}
+
+-- ---- a deviation by key index, and by slot
+
+devs_of : Record → Record → Bool → ℕ → ℕ → Channel → Option ℤ
+devs_of even odd is_odd receiver slot channel = dev_in (record_in is_odd even odd).devs receiver slot channel
+
+looked : (x : Setting) (even odd : Record) (node : NodeSpec) (index slot : ℕ) (is_odd : Bool) (channel : Channel) → key_slot_of x.params index ≡ Some slot
+    → (hearer_of x even odd node.id).look index is_odd channel ≡ devs_of even odd is_odd node.id slot channel
+unfolding devs_of
+looked x even odd node index slot false channel slot_is = ap (option_and_then (λ s. dev_in even.devs node.id s channel)) slot_is
+looked x even odd node index slot true channel slot_is = ap (option_and_then (λ s. dev_in odd.devs node.id s channel)) slot_is
+
+-- a deviation is of a key slot, whose node is correct or arbitrary
+only : (x : Setting) (even odd : Record) (node : NodeSpec) (index : ℕ) (is_odd : Bool) (channel : Channel) (value : ℤ) → IsSane x.params
+    → (hearer_of x even odd node.id).look index is_odd channel ≡ Some value
+    → (slot : ℕ) × ((sender : NodeSpec) × (key_slot_of x.params index ≡ Some slot) × (key_node_of x.params slot ≡ Some sender)
+    × ((is_correct x sender.id ≡ true) ⊎ (x.is_arbitrary sender.id ≡ true)))
+only x even odd node index is_odd channel value sane some =
+    let slot = and_then_some (λ s. dev_in (if is_odd then odd.devs else even.devs) node.id s channel) (key_slot_of x.params index) value some in
+    let sender = key_node_among x.params.nodes slot.0 (key_slot_has x.params index slot.0 slot.1).1 in
+    (slot.0, (sender.0, slot.1, key_node_is x.params sender.0 slot.0 sane sender.1 sender.2, kind (x.is_arbitrary sender.0.id)))
+  where
+    kind : (b : Bool) → (not b ≡ true) ⊎ (b ≡ true)
+    kind true = inr refl
+    kind false = inl refl
+
+-- ---- what suffices
+
+regular : (x : Setting) (h : History) (even odd : Record) (double : ℕ) (starts lengths reach : ℤ) (node : NodeSpec) → IsDrawnDouble x h even odd double starts lengths reach
+    → Contains (correct_nodes x) node → IsRegular x.params (row_for even.rows node.id) (row_for odd.rows node.id)
+regular x h even odd double starts lengths reach node d among =
+    let counted = d.counted in
+    let within = d.within in
+    record {
+      double = double_of x h even odd node (even_length (length h) double counted) d.even_runs d.odd_runs among;
+      rate_within = d.rates node among;
+      even_micro = proper_micro x h even node d.covered d.even_runs among (omega (arith, counted, within));
+      odd_micro = proper_micro x (even ∷ h) odd node d.covered d.odd_runs among (omega (arith, counted, within));
+      steady = steady x h even odd node d.covered d.even_runs d.odd_runs among (omega (arith, counted, within));
+    }
+
+placed_by : (x : Setting) (even odd : Record) (node sender : NodeSpec) (slot : ℕ) (is_odd : Bool) (channel : Channel) (value : ℤ) → IsHeardBy x even odd sender node slot
+    → devs_of even odd is_odd node.id slot channel ≡ Some value
+    → IsDeviation x.params is_odd (pos (action_point_of x.params slot)) (row_in is_odd (row_for even.rows node.id) (row_for odd.rows node.id))
+    (row_in is_odd (row_for even.rows sender.id) (row_for odd.rows sender.id)) value
+unfolding devs_of
+placed_by x even odd node sender slot false channel value heard is = heard.placed false channel value is
+placed_by x even odd node sender slot true channel value heard is = heard.placed true channel value is
+
+pub heard_suffices_within : HeardSufficesWithin
+unfolding devs_of
+heard_suffices_within x h even odd double starts lengths reach d links node among =
+    let p = x.params in
+    let sane = d.covered.sane in
+    let at : NodeSpec → Member = λ n. member_of x even odd n.id in
+    let runs = λ (n : NodeSpec) (there : Contains (correct_nodes x) n). (node_runs x h even odd double starts lengths reach n d there).runs in
+    let look = λ (index slot : ℕ) (is_odd : Bool) (channel : Channel) (slot_is : key_slot_of p index ≡ Some slot). looked x even odd node index slot is_odd channel slot_is in
+    record {
+      regular = regular x h even odd double starts lengths reach node d among;
+      suffices = d.limit;
+      itself = λ index own. itself x even odd node index sane among own;
+      near =
+          λ index slot sender other.
+          let link = linked x even odd node sender index slot sane among other in
+          let near =
+          nodes_near p starts lengths (nodes_of x even odd) (at sender) (at node) (nodes_spread x h even odd starts lengths sane d.even_runs d.odd_runs d.spread)
+          (is_member x even odd sender link.sends) (is_member x even odd node among) in
+          actions_stay_near p starts lengths reach (pos (action_point_of p slot)) false (at sender).even (at sender).odd (at node).even (at node).odd sane
+          (runs sender link.sends) (runs node among) near d.fits (no_less (action_point_of p slot)) (acts_before (round_of x even odd) slot sender sane other.sender);
+      placed =
+          λ index slot sender is_odd channel value other is.
+          placed_by x even odd node sender slot is_odd channel value (links sender node slot (linked x even odd node sender index slot sane among other))
+          (sym (look index slot is_odd channel other.slot_is) ∙ is);
+      heard =
+          λ index slot sender other.
+          let heard = links sender node slot (linked x even odd node sender index slot sane among other) in (
+            heard.channel,
+            ap is_some (look index slot false heard.channel other.slot_is) ∙ heard.early,
+            ap is_some (look index slot true heard.channel other.slot_is) ∙ heard.late,
+          );
+      only = λ index is_odd channel value is. only x even odd node index is_odd channel value sane is;
+    }
+
+pub heard_suffices : HeardSuffices
+heard_suffices x h even odd double s links =
+    heard_suffices_within x h even odd double (pos (pi_of x.params)) (pos (lambda_of x.params)) (pos (precision_of x.params)) (synced_is_drawn x h even odd double s) links
+
+-- ---- a recorded trace
+
+recorded : (x : Setting) (h : History) (even odd : Record) (double : ℕ) (sender receiver : NodeSpec) (slot : ℕ) (is_odd : Bool) (channel : Channel) (value : ℤ)
+    → IsSyncedDouble x h even odd double → IsLinked x sender receiver slot → DevsAreBounded x false even → DevsAreBounded x true odd
+    → dev_in (record_in is_odd even odd).devs receiver.id slot channel ≡ Some value
+    → IsDeviation x.params is_odd (pos (action_point_of x.params slot)) (row_for (record_in is_odd even odd).rows receiver.id) (row_for (record_in is_odd even odd).rows sender.id) value
+recorded x h even odd double sender receiver slot false channel value s link evens odds is =
+    let p = x.params in
+    let runs = (node_runs x h even odd double (pos (pi_of p)) (pos (lambda_of p)) (pos (precision_of p)) receiver (synced_is_drawn x h even odd double s) link.hears).runs in
+    let bounds = evens sender receiver slot channel value link is in
+    recorded_is_deviation p false (pos (action_point_of p slot)) value (row_for even.rows receiver.id) (row_for even.rows sender.id) runs.even_lasts bounds.0 bounds.1
+recorded x h even odd double sender receiver slot true channel value s link evens odds is =
+    let p = x.params in
+    let runs = (node_runs x h even odd double (pos (pi_of p)) (pos (lambda_of p)) (pos (precision_of p)) receiver (synced_is_drawn x h even odd double s) link.hears).runs in
+    let bounds = odds sender receiver slot channel value link is in
+    recorded_is_deviation p true (pos (action_point_of p slot)) value (row_for odd.rows receiver.id) (row_for odd.rows sender.id) runs.odd_lasts bounds.0 bounds.1
+
+pub traces_hear : TracesHear
+traces_hear x h even odd double s evens odds links =
+    heard_suffices x h even odd double s
+    (λ sender receiver slot link.
+    let there = links sender receiver slot link in
+    record {
+      placed = λ is_odd channel value is. recorded x h even odd double sender receiver slot is_odd channel value s link evens odds is;
+      channel = there.0;
+      early = there.1;
+      late = there.2;
+    })

@@ -1,0 +1,8 @@
+pub mod Rows
+pub mod Doubles
+pub mod Spread
+pub mod Stepping
+pub mod Hearing
+pub mod Cuts
+pub mod Histories
+mod Worked

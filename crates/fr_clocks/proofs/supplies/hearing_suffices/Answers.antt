@@ -1,0 +1,8 @@
+use Rattle.fr_clocks.proofs.Hearing.{heard_suffices, heard_suffices_within}
+use Rattle.fr_clocks.proofs.supplies.hearing_suffices.Goals as goal
+
+pub returns-clause-sync : goal.returns-clause-sync
+returns-clause-sync c = heard_suffices
+
+pub returns-clause-reach : goal.returns-clause-reach
+returns-clause-reach c = heard_suffices_within

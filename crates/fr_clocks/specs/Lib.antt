@@ -1,0 +1,4 @@
+-- what the public contract cites
+pub mod Clocks
+pub mod Heard
+pub mod Histories

@@ -1,0 +1,145 @@
+ghost use Rattle.std.specs.Prelude.{◌≡◌, length, IfOk};
+ghost use Rattle.std.specs.Option.{option_copied};
+ghost use Rattle.std.specs.Slice.{IsItemAt};
+ghost use Rattle.fr_cluster.specs.Searches.{key_index_in, key_node_in, node_in, slot_in};
+
+use crate::nodes::{NodeSpec, SlotSpec};
+use crate::searches::{indices_by_key, nodes_by_id, nodes_by_key, slots_by_number};
+use fr_base::{NodeId, Slot};
+use std::alloc::{AllocError, Global};
+use std::marker::Model;
+
+/// The nodes of a cluster, seen as a list. That of a `Params` is in ascending order of id.
+/// What a search by number or by key slot finds is kept beside it, so that an answer reads one place.
+#[derive(Drop)]
+pub struct NodeList {
+    nodes: Vec<NodeSpec>,
+    by_id: Vec<Option<NodeSpec>>,
+    by_key: Vec<Option<NodeSpec>>,
+    indices: Vec<Option<usize>>,
+}
+
+impl Model for NodeList {
+    ghost use Rattle.std.specs.Prelude.{List};
+    ghost use Rattle.fr_cluster.specs.declared.nodes.NodeSpec.{NodeSpec};
+
+    ghost Value = { List NodeSpec };
+
+    ghost use Rattle.fr_cluster.specs.Searches.{AreFound};
+
+    ghost view = { λ a. a.nodes.items };
+
+    ghost invariant = { λ a. AreFound a.nodes.items a.by_id.items a.by_key.items a.indices.items };
+}
+
+impl NodeList {
+    pub(crate) fn of(alloc: Global, nodes: Vec<NodeSpec>) -> Result<NodeList, AllocError>
+        ensures { IfOk result (λ list. list ≡ nodes.items) }
+    {
+        let by_id = nodes_by_id(alloc, &nodes)?;
+        let by_key = nodes_by_key(alloc, &nodes)?;
+        let indices = indices_by_key(alloc, &nodes)?;
+        Ok(NodeList {
+            nodes,
+            by_id,
+            by_key,
+            indices,
+        })
+    }
+
+    pub(crate) fn as_slice(&self) -> &[NodeSpec]
+        ensures { result.now ≡ self.now }
+    {
+        self.nodes.as_slice()
+    }
+
+    pub(crate) fn with_id(&self, id: NodeId) -> Option<&NodeSpec>
+        ensures { option_copied result ≡ node_in self.now id }
+    {
+        self.by_id[usize::from(id.0)].as_ref()
+    }
+
+    pub(crate) fn with_key(&self, slot: Slot) -> Option<&NodeSpec>
+        ensures { option_copied result ≡ key_node_in self.now slot }
+    {
+        self.by_key[usize::from(slot.0)].as_ref()
+    }
+
+    pub(crate) fn key_index(&self, slot: Slot) -> Option<usize>
+        ensures { result ≡ key_index_in self.now slot }
+    {
+        self.indices[usize::from(slot.0)]
+    }
+
+    /// How many nodes there are.
+    pub fn len(&self) -> usize
+        ensures { result ≡ length self.now }
+    {
+        self.nodes.len()
+    }
+
+    /// The node at a place, counted from 0; None exactly past the end.
+    pub fn get(&self, place: usize) -> Option<&NodeSpec>
+        ensures { IsItemAt self.now place result }
+    {
+        self.nodes.get(place)
+    }
+}
+
+/// The further slots of a cluster, seen as a list. That of a `Params` is in ascending order of slot.
+/// What a search by number finds is kept beside it, so that an answer reads one place.
+#[derive(Drop)]
+pub struct SlotList {
+    slots: Vec<SlotSpec>,
+    by_number: Vec<Option<SlotSpec>>,
+}
+
+impl Model for SlotList {
+    ghost use Rattle.std.specs.Prelude.{List};
+    ghost use Rattle.fr_cluster.specs.declared.nodes.SlotSpec.{SlotSpec};
+
+    ghost Value = { List SlotSpec };
+
+    ghost use Rattle.std.specs.Prelude.{◌≡◌, map};
+    ghost use Rattle.std.specs.List.{range_with_len};
+    ghost use Rattle.fr_cluster.specs.Searches.{slot_in};
+
+    ghost view = { λ a. a.slots.items };
+
+    ghost invariant = { λ a. a.by_number.items ≡ map (slot_in a.slots.items) (range_with_len 0 1024) };
+}
+
+impl SlotList {
+    pub(crate) fn of(alloc: Global, slots: Vec<SlotSpec>) -> Result<SlotList, AllocError>
+        ensures { IfOk result (λ list. list ≡ slots.items) }
+    {
+        let by_number = slots_by_number(alloc, &slots)?;
+        Ok(SlotList { slots, by_number })
+    }
+
+    pub(crate) fn as_slice(&self) -> &[SlotSpec]
+        ensures { result.now ≡ self.now }
+    {
+        self.slots.as_slice()
+    }
+
+    pub(crate) fn with_number(&self, slot: Slot) -> Option<&SlotSpec>
+        ensures { option_copied result ≡ slot_in self.now slot }
+    {
+        self.by_number[usize::from(slot.0)].as_ref()
+    }
+
+    /// How many further slots there are.
+    pub fn len(&self) -> usize
+        ensures { result ≡ length self.now }
+    {
+        self.slots.len()
+    }
+
+    /// The slot at a place, counted from 0; None exactly past the end.
+    pub fn get(&self, place: usize) -> Option<&SlotSpec>
+        ensures { IsItemAt self.now place result }
+    {
+        self.slots.get(place)
+    }
+}

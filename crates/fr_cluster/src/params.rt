@@ -1,0 +1,208 @@
+ghost use Rattle.std.specs.Prelude.{pos, ◌≤ℤ◌, ◌≡◌, ◌≤◌, ◌<◌, ◌+◌, ◌*◌, IfSome};
+ghost use Rattle.std.specs.Option.{option_copied};
+ghost use Rattle.fr_cluster.specs.Names.{greatest, least};
+ghost use Rattle.fr_cluster.specs.Values.{amount, figure};
+ghost use Rattle.fr_cluster.specs.Ranges.{InRange, IsProperSlot};
+ghost use Rattle.fr_cluster.specs.Sane.{IsSane};
+ghost use Rattle.fr_cluster.specs.Searches.{key_node_in, slot_in};
+ghost use Rattle.fr_cluster.specs.Questions.{compensation_of, has_channel, is_common, key_index_of, node_of, widest_compensation_of};
+ghost use Rattle.fr_cluster.specs.declared.names.ParamName.TheVariants as name;
+
+use crate::lists::{NodeList, SlotList};
+use crate::names::ParamName;
+use crate::nodes::{NodeSpec, SlotSpec};
+use fr_base::{Channel, NodeId, Slot};
+use std::marker::Model;
+
+/// The parameters of a cluster, as an accepted file has them: each number lies in its range, and the
+/// numbers, nodes and slots meet the eight constraints.
+#[derive(Drop)]
+pub struct Params {
+    /// Macroticks per cycle.
+    pub macros: i64,
+    /// Microticks per cycle before correction.
+    pub micros: i64,
+    /// Static slots per cycle.
+    pub static_slots: i64,
+    /// Macroticks per static slot.
+    pub slot_macros: i64,
+    /// Macroticks from the start of a static slot to its action point.
+    pub action_offset: i64,
+    /// Macroticks of the rest of the cycle after the static slots.
+    pub idle_macros: i64,
+    /// Two-byte words of payload per static frame.
+    pub words: i64,
+    /// The macrotick at which the offset correction starts.
+    pub correction: i64,
+    /// Double cycles without correction until a node is passive.
+    pub max_passive: i64,
+    /// Double cycles without correction until a node may halt.
+    pub max_fatal: i64,
+    /// Whether a node may halt, 0 or 1.
+    pub halt_allowed: i64,
+    /// Good double cycles until a passive node is active; 0: never.
+    pub to_active: i64,
+    /// Microticks by which the rate term is damped.
+    pub damping: i64,
+    /// Limit of the offset term in microticks.
+    pub offset_limit: i64,
+    /// Limit of the rate term in microticks.
+    pub rate_limit: i64,
+    /// Microticks that are taken off each measured arrival.
+    pub compensation: i64,
+    /// Greatest distance of a microtick's length from nominal, in ticks.
+    pub rate_bound: i64,
+    /// Greatest change of that length from one cycle to the next, in ticks.
+    pub change_bound: i64,
+    /// Greatest distance of a delay from the compensation, in ticks.
+    pub delay_error: i64,
+    /// The nodes, in ascending order of id.
+    pub nodes: NodeList,
+    /// The further slots, in ascending order of slot.
+    pub slots: SlotList,
+}
+
+impl Model for Params {
+    ghost use Rattle.fr_cluster.specs.Values.{Values};
+
+    ghost Value = { Values };
+
+    ghost use Rattle.fr_cluster.specs.View.{values_of_params};
+    ghost use Rattle.fr_cluster.specs.Sane.{IsSane};
+
+    ghost view = { values_of_params };
+
+    ghost invariant = { λ a. IsSane (values_of_params a) };
+}
+
+impl Params {
+    /// The number of a name of the table, which lies in its range; and so do all others.
+    pub fn value(&self, name: ParamName) -> i64
+        ensures value { result ≡ figure self.now name }
+        ensures range { InRange name result }
+        ensures sane { IsSane self.now }
+    {
+        let _nodes = &self.nodes;
+        self.figure(name)
+    }
+
+    /// The number of a name as a natural, in its range: what computes with the parameters stands on it.
+    pub fn natural(&self, name: ParamName) -> u64
+        ensures value { result ≡ amount self.now name }
+        ensures from { least name ≤ result }
+        ensures to { result ≤ greatest name }
+    {
+        self.value(name) as u64
+    }
+
+    /// The delay compensation of a channel in microticks: what is taken off each arrival that is measured
+    /// there.
+    pub fn compensation(&self, channel: Channel) -> i64
+        ensures value { result ≡ compensation_of self.now channel }
+        ensures from { pos 0 ≤ℤ result }
+        ensures to { result ≤ℤ pos 200 }
+    {
+        match channel {
+            Channel::A => self.value(ParamName::pDelayCompensation),
+            Channel::B => self.value(ParamName::pDelayCompensation),
+        }
+    }
+
+    /// The greater of the compensations of both channels, in microticks.
+    pub fn widest_compensation(&self) -> i64
+        ensures value { result ≡ widest_compensation_of self.now }
+        ensures from { pos 0 ≤ℤ result }
+        ensures to { result ≤ℤ pos 200 }
+    {
+        self.compensation(Channel::A)
+            .max(self.compensation(Channel::B))
+    }
+
+    /// The node of a number; None exactly where there is none. It reads one place of a table, in
+    /// constant time and without memory.
+    pub fn node(&self, id: NodeId) -> Option<&NodeSpec>
+        ensures value { option_copied result ≡ node_of self.now id }
+    {
+        self.nodes.with_id(id)
+    }
+
+    /// The place of a slot among the key slots in ascending order, from 0; None exactly where it is none.
+    /// It reads one place of a table, in constant time and without memory.
+    pub fn key_index(&self, slot: Slot) -> Option<usize>
+        ensures value { result ≡ key_index_of self.now slot }
+        ensures most { IfSome result (λ index. index < 15) }
+    {
+        self.nodes.key_index(slot)
+    }
+
+    /// The node whose key slot a slot is; None exactly where it is no key slot. It reads one place of a
+    /// table, in constant time and without memory.
+    pub fn key_node(&self, slot: Slot) -> Option<&NodeSpec>
+        ensures { option_copied result ≡ key_node_in self.now.nodes slot }
+    {
+        self.nodes.with_key(slot)
+    }
+
+    /// The further slot of a number; None exactly where there is none. It reads one place of a table, in
+    /// constant time and without memory.
+    pub fn further_slot(&self, slot: Slot) -> Option<&SlotSpec>
+        ensures value { option_copied result ≡ slot_in self.now.slots slot }
+        ensures proper { IfSome result (λ spec. IsProperSlot spec.now) }
+    {
+        self.slots.with_number(slot)
+    }
+
+    /// Whether both nodes are there and have the channel. It reads a place of a table for each, in
+    /// constant time and without memory.
+    pub fn common(&self, a: NodeId, b: NodeId, channel: Channel) -> bool
+        ensures { result ≡ is_common self.now a b channel }
+    {
+        has(self.node(a), channel) && has(self.node(b), channel)
+    }
+
+    /// How many bytes a frame of the cluster has: 5 header bytes, 3 trailer bytes and the payload.
+    pub fn frame_bytes(&self) -> usize
+        ensures value { result ≡ 8 + 2 * amount self.now name.gPayloadLengthStatic }
+        ensures most { result ≤ 262 }
+    {
+        8 + 2 * self.natural(ParamName::gPayloadLengthStatic) as usize
+    }
+
+    fn figure(&self, name: ParamName) -> i64
+        ensures { result ≡ figure self.now name }
+    {
+        match name {
+            ParamName::gMacroPerCycle => self.macros,
+            ParamName::pMicroPerCycle => self.micros,
+            ParamName::gNumberOfStaticSlots => self.static_slots,
+            ParamName::gdStaticSlot => self.slot_macros,
+            ParamName::gdActionPointOffset => self.action_offset,
+            ParamName::gdNIT => self.idle_macros,
+            ParamName::gPayloadLengthStatic => self.words,
+            ParamName::gOffsetCorrectionStart => self.correction,
+            ParamName::gMaxWithoutClockCorrectionPassive => self.max_passive,
+            ParamName::gMaxWithoutClockCorrectionFatal => self.max_fatal,
+            ParamName::pAllowHaltDueToClock => self.halt_allowed,
+            ParamName::pAllowPassiveToActive => self.to_active,
+            ParamName::pClusterDriftDamping => self.damping,
+            ParamName::pOffsetCorrectionOut => self.offset_limit,
+            ParamName::pRateCorrectionOut => self.rate_limit,
+            ParamName::pDelayCompensation => self.compensation,
+            ParamName::xRateBound => self.rate_bound,
+            ParamName::xChangeBound => self.change_bound,
+            ParamName::xDelayError => self.delay_error,
+        }
+    }
+}
+
+fn has(node: Option<&NodeSpec>, channel: Channel) -> bool
+    ensures { result ≡ has_channel (option_copied node.entry) channel }
+{
+    match node {
+        None => false,
+        Some(node) => match channel {
+            Channel::A => node.on_a,
+            Channel::B => node.on_b,
+        },
+    }
+}

@@ -1,0 +1,350 @@
+-- The gaps of each kind, and all of them.
+use Rattle.std.proofs.Common.{◌≡◌, ℕ, zero, suc, ◌-◌, ◌<◌, ◌≤◌, true, false, List, [], ◌∷◌, Some, None, ap, sym, ◌∙◌, refl, arith, ◌⊎◌, inl, inr}
+use Rattle.std.specs.Prelude.{pos, ◌-ℤ◌, AllPairs, Contains}
+use Rattle.fr_base.specs.Rows.{channel_rank}
+use Rattle.fr_base.specs.declared.channel.Channel.{Channel}
+use Rattle.fr_base.specs.declared.channel.Channel.TheVariants as channel
+use Rattle.fr_cluster.specs.Values.{Values}
+use Rattle.fr_cluster.specs.Sane.{IsSane}
+use Rattle.fr_cluster.specs.declared.nodes.NodeSpec.{NodeSpec}
+use Rattle.fr_bound.specs.Checks.{left_of, right_of, holds_of}
+use Rattle.fr_drift.specs.View.{DriftView}
+use Rattle.fr_drift.specs.Questions.{doubles_of, length_of, delay_of}
+use Rattle.fr_script.specs.View.{ScriptView, is_arbitrary}
+use Rattle.fr_coverage.specs.First.{first_in}
+use Rattle.fr_coverage.specs.Links.{is_link, shares, is_carried, link_gap}
+use Rattle.fr_coverage.specs.Coverage.{cycles_of, check_gap, checks_gap, count_of, outweighs, count_gap, is_off, length_gap, lengths_gap, has_jumped, change_gap, changes_gap, is_wrong, delay_gap, channel_gap, delays_gap, links_gap, first_of_nodes, first_of_pairs, first_gap}
+use Rattle.fr_coverage.specs.Order.{place_of_gap, IsEarlierGap, IsCheckGap, IsCountGap, IsLengthGap, IsChangeGap, IsDelayGap, IsLinkGap, IsGap, IsFirstGap}
+use Rattle.fr_coverage.specs.declared.gap.Gap.{Gap}
+use Rattle.fr_coverage.specs.declared.gap.Gap.TheVariants as gap
+use Rattle.fr_coverage.proofs.Least.{IsLeast, AreApart, Below, Among, least-same, least-or, least-if, least-unless, least-where, least-where-not, least-below, least-in, in-order, later, under, at-places}
+use Rattle.fr_coverage.proofs.Stretches.{stands-still}
+
+-- 1
+abbrev AtCheck : Values → ℕ → Gap → Type 0
+AtCheck p k g = (holds_of (suc k) p ≡ false) × (g ≡ gap.Check (suc k) (pos (left_of (suc k) p)) (pos (right_of (suc k) p)))
+
+checks-apart : (p : Values) (j k : ℕ) → j < k → AreApart (AtCheck p j) (AtCheck p k)
+checks-apart p j k lt g h w x before =
+    at-places g h (1 ∷ suc j ∷ []) (1 ∷ suc k ∷ []) (ap place_of_gap w.1) (ap place_of_gap x.1)
+    (under 1 (suc k ∷ []) (suc j ∷ []) (later (suc j) (suc k) [] [] (omega arith))) before
+
+check-back : (p : Values) (g : Gap) (number : ℕ) → 1 ≤ number → number ≤ 5 → holds_of number p ≡ false → g ≡ gap.Check number (pos (left_of number p)) (pos (right_of number p)) → Below (AtCheck p) 5 g
+check-back p g zero from to fails told = absurd (omega arith)
+check-back p g (suc k) from to fails told = (k, omega arith, (fails, told))
+
+checks-least : (p : Values) → IsLeast (IsCheckGap p) (checks_gap p)
+checks-least p =
+    least-same (Below (AtCheck p) 5) (IsCheckGap p) (checks_gap p)
+    (least-below (AtCheck p) (check_gap p) 5 (λ k. least-unless (holds_of (suc k) p) (gap.Check (suc k) (pos (left_of (suc k) p)) (pos (right_of (suc k) p)))) (checks-apart p))
+    (λ g w. record { number = suc w.0; from = omega arith; to = (let lt = w.1 in omega arith); fails = w.2.0; told = w.2.1 })
+    (λ g r. check-back p g r.number r.from r.to r.fails r.told)
+
+-- 2
+count-least : (p : Values) (s : ScriptView) → IsLeast (IsCountGap p s) (count_gap p s)
+count-least p s =
+    least-same _ (IsCountGap p s) (count_gap p s)
+    (least-unless (outweighs (count_of s false p.nodes) (count_of s true p.nodes)) (gap.Count (count_of s false p.nodes) (count_of s true p.nodes)))
+    (λ g w. record { few = w.0; told = w.1 }) (λ g r. (r.few, r.told))
+
+-- 3
+abbrev AtLength : Values → DriftView → ℕ → ℕ → Gap → Type 0
+AtLength p d node cycle g = (is_off p (length_of d node cycle) ≡ true) × (g ≡ gap.Length node cycle (length_of d node cycle))
+
+abbrev OfLengths : Values → DriftView → ScriptView → NodeSpec → Gap → Type 0
+OfLengths p d s node g = (is_arbitrary s node.id ≡ false) × Below (AtLength p d node.id) (cycles_of d) g
+
+lengths-least : (p : Values) (d : DriftView) (s : ScriptView) → AllPairs (λ a b. a.id < b.id) p.nodes → IsLeast (IsLengthGap p d s) (first_of_nodes p (lengths_gap p d s))
+lengths-least p d s ascend =
+    least-same (Among (OfLengths p d s) p.nodes) (IsLengthGap p d s) _
+    (least-in (OfLengths p d s) (lengths_gap p d s) p.nodes (λ n. of n) (in-order (OfLengths p d s) p.nodes ascend (λ a b lt g h w x before. apart a b lt g h w x before)))
+    (λ g w. record { node = w.0; there = w.1; correct = w.2.0; cycle = w.2.1.0; within = w.2.1.1; off = w.2.1.2.0; told = w.2.1.2.1 })
+    (λ g r. (r.node, r.there, (r.correct, (r.cycle, r.within, (r.off, r.told)))))
+  where
+    along : (n j k : ℕ) → j < k → AreApart (AtLength p d n j) (AtLength p d n k)
+    along n j k lt g h w x before =
+        at-places g h (3 ∷ n ∷ j ∷ []) (3 ∷ n ∷ k ∷ []) (ap place_of_gap w.1) (ap place_of_gap x.1)
+        (under 3 (n ∷ k ∷ []) (n ∷ j ∷ []) (under n (k ∷ []) (j ∷ []) (later j k [] [] lt))) before
+
+    of : (n : NodeSpec) → IsLeast (OfLengths p d s n) (lengths_gap p d s n)
+    of n =
+        least-where-not (Below (AtLength p d n.id) (cycles_of d)) (is_arbitrary s n.id) _
+        (least-below (AtLength p d n.id) (length_gap p d n.id) (cycles_of d)
+        (λ c. least-if (is_off p (length_of d n.id c)) (gap.Length n.id c (length_of d n.id c))) (along n.id))
+
+    apart : (a b : NodeSpec) → a.id < b.id → AreApart (OfLengths p d s a) (OfLengths p d s b)
+    apart a b lt g h w x before =
+        at-places g h (3 ∷ a.id ∷ w.1.0 ∷ []) (3 ∷ b.id ∷ x.1.0 ∷ []) (ap place_of_gap w.1.2.1) (ap place_of_gap x.1.2.1)
+        (under 3 (b.id ∷ x.1.0 ∷ []) (a.id ∷ w.1.0 ∷ []) (later a.id b.id (x.1.0 ∷ []) (w.1.0 ∷ []) lt)) before
+
+-- 4
+abbrev AtChange : Values → DriftView → ℕ → ℕ → Gap → Type 0
+AtChange p d node cycle g =
+    (has_jumped p (length_of d node (cycle - 1)) (length_of d node cycle) ≡ true) × (g ≡ gap.Change node cycle (length_of d node cycle -ℤ length_of d node (cycle - 1)))
+
+abbrev OfChanges : Values → DriftView → ScriptView → NodeSpec → Gap → Type 0
+OfChanges p d s node g = (is_arbitrary s node.id ≡ false) × Below (AtChange p d node.id) (cycles_of d) g
+
+-- nothing has changed since itself
+jumped-later : (p : Values) (d : DriftView) (node cycle : ℕ) → has_jumped p (length_of d node (cycle - 1)) (length_of d node cycle) ≡ true → 1 ≤ cycle
+jumped-later p d node zero h = let still = stands-still p (length_of d node 0) in cc (sym still ∙ h)
+jumped-later p d node (suc c) h = omega arith
+
+changes-least : (p : Values) (d : DriftView) (s : ScriptView) → AllPairs (λ a b. a.id < b.id) p.nodes → IsLeast (IsChangeGap p d s) (first_of_nodes p (changes_gap p d s))
+changes-least p d s ascend =
+    least-same (Among (OfChanges p d s) p.nodes) (IsChangeGap p d s) _
+    (least-in (OfChanges p d s) (changes_gap p d s) p.nodes (λ n. of n) (in-order (OfChanges p d s) p.nodes ascend (λ a b lt g h w x before. apart a b lt g h w x before)))
+    (λ g w. record { node = w.0; there = w.1; correct = w.2.0; cycle = w.2.1.0; later = jumped-later p d w.0.id w.2.1.0 w.2.1.2.0; within = w.2.1.1; jumped = w.2.1.2.0; told = w.2.1.2.1 })
+    (λ g r. (r.node, r.there, (r.correct, (r.cycle, r.within, (r.jumped, r.told)))))
+  where
+    along : (n j k : ℕ) → j < k → AreApart (AtChange p d n j) (AtChange p d n k)
+    along n j k lt g h w x before =
+        at-places g h (4 ∷ n ∷ j ∷ []) (4 ∷ n ∷ k ∷ []) (ap place_of_gap w.1) (ap place_of_gap x.1)
+        (under 4 (n ∷ k ∷ []) (n ∷ j ∷ []) (under n (k ∷ []) (j ∷ []) (later j k [] [] lt))) before
+
+    of : (n : NodeSpec) → IsLeast (OfChanges p d s n) (changes_gap p d s n)
+    of n =
+        least-where-not (Below (AtChange p d n.id) (cycles_of d)) (is_arbitrary s n.id) _
+        (least-below (AtChange p d n.id) (change_gap p d n.id) (cycles_of d)
+        (λ c. least-if (has_jumped p (length_of d n.id (c - 1)) (length_of d n.id c)) (gap.Change n.id c (length_of d n.id c -ℤ length_of d n.id (c - 1)))) (along n.id))
+
+    apart : (a b : NodeSpec) → a.id < b.id → AreApart (OfChanges p d s a) (OfChanges p d s b)
+    apart a b lt g h w x before =
+        at-places g h (4 ∷ a.id ∷ w.1.0 ∷ []) (4 ∷ b.id ∷ x.1.0 ∷ []) (ap place_of_gap w.1.2.1) (ap place_of_gap x.1.2.1)
+        (under 4 (b.id ∷ x.1.0 ∷ []) (a.id ∷ w.1.0 ∷ []) (later a.id b.id (x.1.0 ∷ []) (w.1.0 ∷ []) lt)) before
+
+-- 5
+abbrev AtDelay : Values → DriftView → ℕ → ℕ → Channel → ℕ → Gap → Type 0
+AtDelay p d i j ch cycle g = (is_wrong p ch (delay_of d i j ch cycle) ≡ true) × (g ≡ gap.Delay i j ch cycle (delay_of d i j ch cycle))
+
+abbrev OnChannel : Values → DriftView → NodeSpec → NodeSpec → Channel → Gap → Type 0
+OnChannel p d a b ch g = (shares a b ch ≡ true) × Below (AtDelay p d a.id b.id ch) (cycles_of d) g
+
+abbrev OfDelays : Values → DriftView → ScriptView → NodeSpec → NodeSpec → Gap → Type 0
+OfDelays p d s a b g = (is_link s a b ≡ true) × (OnChannel p d a b channel.A g ⊎ OnChannel p d a b channel.B g)
+
+delays-along : (p : Values) (d : DriftView) (i j : ℕ) (ch : Channel) (m k : ℕ) → m < k → AreApart (AtDelay p d i j ch m) (AtDelay p d i j ch k)
+delays-along p d i j ch m k lt g h w x before =
+    at-places g h (5 ∷ i ∷ j ∷ channel_rank ch ∷ m ∷ []) (5 ∷ i ∷ j ∷ channel_rank ch ∷ k ∷ []) (ap place_of_gap w.1) (ap place_of_gap x.1)
+    (under 5 (i ∷ j ∷ channel_rank ch ∷ k ∷ []) (i ∷ j ∷ channel_rank ch ∷ m ∷ [])
+    (under i (j ∷ channel_rank ch ∷ k ∷ []) (j ∷ channel_rank ch ∷ m ∷ [])
+    (under j (channel_rank ch ∷ k ∷ []) (channel_rank ch ∷ m ∷ []) (under (channel_rank ch) (k ∷ []) (m ∷ []) (later m k [] [] lt))))) before
+
+channels-apart : (p : Values) (d : DriftView) (a b : NodeSpec) → AreApart (OnChannel p d a b channel.A) (OnChannel p d a b channel.B)
+channels-apart p d a b g h w x before =
+    at-places g h (5 ∷ a.id ∷ b.id ∷ 0 ∷ w.1.0 ∷ []) (5 ∷ a.id ∷ b.id ∷ 1 ∷ x.1.0 ∷ []) (ap place_of_gap w.1.2.1) (ap place_of_gap x.1.2.1)
+    (under 5 (a.id ∷ b.id ∷ 1 ∷ x.1.0 ∷ []) (a.id ∷ b.id ∷ 0 ∷ w.1.0 ∷ [])
+    (under a.id (b.id ∷ 1 ∷ x.1.0 ∷ []) (b.id ∷ 0 ∷ w.1.0 ∷ [])
+    (under b.id (1 ∷ x.1.0 ∷ []) (0 ∷ w.1.0 ∷ []) (later 0 1 (x.1.0 ∷ []) (w.1.0 ∷ []) (omega arith))))) before
+
+-- where a delay gap of a pair stands
+delay-rest : (p : Values) (d : DriftView) (s : ScriptView) (a b : NodeSpec) (g : Gap) → OfDelays p d s a b g → (rest : List ℕ) × (place_of_gap g ≡ 5 ∷ a.id ∷ b.id ∷ rest)
+delay-rest p d s a b g w = by w.1
+  where
+    by : OnChannel p d a b channel.A g ⊎ OnChannel p d a b channel.B g → (rest : List ℕ) × (place_of_gap g ≡ 5 ∷ a.id ∷ b.id ∷ rest)
+    by (inl x) = (0 ∷ x.1.0 ∷ [], ap place_of_gap x.1.2.1)
+    by (inr x) = (1 ∷ x.1.0 ∷ [], ap place_of_gap x.1.2.1)
+
+delays-apart : (p : Values) (d : DriftView) (s : ScriptView) (a b c : NodeSpec) → b.id < c.id → AreApart (OfDelays p d s a b) (OfDelays p d s a c)
+delays-apart p d s a b c lt g h w x before =
+    let here = delay-rest p d s a b g w in
+    let there = delay-rest p d s a c h x in
+    at-places g h (5 ∷ a.id ∷ b.id ∷ here.0) (5 ∷ a.id ∷ c.id ∷ there.0) here.1 there.1
+    (under 5 (a.id ∷ c.id ∷ there.0) (a.id ∷ b.id ∷ here.0) (under a.id (c.id ∷ there.0) (b.id ∷ here.0) (later b.id c.id there.0 here.0 lt))) before
+
+senders-apart : (p : Values) (d : DriftView) (s : ScriptView) (a b : NodeSpec) → a.id < b.id → AreApart (Among (OfDelays p d s a) p.nodes) (Among (OfDelays p d s b) p.nodes)
+senders-apart p d s a b lt g h w x before =
+    let here = delay-rest p d s a w.0 g w.2 in
+    let there = delay-rest p d s b x.0 h x.2 in
+    at-places g h (5 ∷ a.id ∷ w.0.id ∷ here.0) (5 ∷ b.id ∷ x.0.id ∷ there.0) here.1 there.1
+    (under 5 (b.id ∷ x.0.id ∷ there.0) (a.id ∷ w.0.id ∷ here.0) (later a.id b.id (x.0.id ∷ there.0) (w.0.id ∷ here.0) lt)) before
+
+delays-least : (p : Values) (d : DriftView) (s : ScriptView) → AllPairs (λ a b. a.id < b.id) p.nodes → IsLeast (IsDelayGap p d s) (first_of_pairs p (delays_gap p d s))
+delays-least p d s ascend =
+    least-same (Among (λ a. Among (OfDelays p d s a) p.nodes) p.nodes) (IsDelayGap p d s) _
+    (least-in (λ a. Among (OfDelays p d s a) p.nodes) (λ a. first_in (delays_gap p d s a) p.nodes) p.nodes (λ a. from_sender a)
+    (in-order (λ a. Among (OfDelays p d s a) p.nodes) p.nodes ascend (λ a b lt g h w x before. senders-apart p d s a b lt g h w x before)))
+    (λ g w. to w.0 w.2.0 w.1 w.2.1 g w.2.2.0 w.2.2.1) (λ g r. back g r r.ch r.shared r.wrong r.told)
+  where
+    on : (a b : NodeSpec) (ch : Channel) → IsLeast (OnChannel p d a b ch) (channel_gap p d a b ch)
+    on a b ch =
+        least-where (Below (AtDelay p d a.id b.id ch) (cycles_of d)) (shares a b ch) _
+        (least-below (AtDelay p d a.id b.id ch) (delay_gap p d a.id b.id ch) (cycles_of d)
+        (λ c. least-if (is_wrong p ch (delay_of d a.id b.id ch c)) (gap.Delay a.id b.id ch c (delay_of d a.id b.id ch c))) (delays-along p d a.id b.id ch))
+
+    of : (a b : NodeSpec) → IsLeast (OfDelays p d s a b) (delays_gap p d s a b)
+    of a b =
+        least-where (λ g. OnChannel p d a b channel.A g ⊎ OnChannel p d a b channel.B g) (is_link s a b) _
+        (least-or (OnChannel p d a b channel.A) (OnChannel p d a b channel.B) _ _ (on a b channel.A) (on a b channel.B) (channels-apart p d a b))
+
+    from_sender : (a : NodeSpec) → IsLeast (Among (OfDelays p d s a) p.nodes) (first_in (delays_gap p d s a) p.nodes)
+    from_sender a =
+        least-in (OfDelays p d s a) (delays_gap p d s a) p.nodes (λ b. of a b)
+        (in-order (OfDelays p d s a) p.nodes ascend (λ b c lt g h w x before. delays-apart p d s a b c lt g h w x before))
+
+    to : (a b : NodeSpec) → Contains p.nodes a → Contains p.nodes b → (g : Gap) → is_link s a b ≡ true → OnChannel p d a b channel.A g ⊎ OnChannel p d a b channel.B g → IsDelayGap p d s g
+    to a b at bt g link (inl x) = record {
+      sender = a;
+      receiver = b;
+      sender_there = at;
+      receiver_there = bt;
+      link = link;
+      ch = channel.A;
+      shared = x.0;
+      cycle = x.1.0;
+      within = x.1.1;
+      wrong = x.1.2.0;
+      told = x.1.2.1;
+    }
+    to a b at bt g link (inr x) = record {
+      sender = a;
+      receiver = b;
+      sender_there = at;
+      receiver_there = bt;
+      link = link;
+      ch = channel.B;
+      shared = x.0;
+      cycle = x.1.0;
+      within = x.1.1;
+      wrong = x.1.2.0;
+      told = x.1.2.1;
+    }
+
+    back : (g : Gap) (r : IsDelayGap p d s g) (ch : Channel) → shares r.sender r.receiver ch ≡ true → is_wrong p ch (delay_of d r.sender.id r.receiver.id ch r.cycle) ≡ true
+        → g ≡ gap.Delay r.sender.id r.receiver.id ch r.cycle (delay_of d r.sender.id r.receiver.id ch r.cycle) → Among (λ a. Among (OfDelays p d s a) p.nodes) p.nodes g
+    back g r channel.A shared wrong told = (r.sender, r.sender_there, (r.receiver, r.receiver_there, (r.link, inl (shared, (r.cycle, r.within, (wrong, told))))))
+    back g r channel.B shared wrong told = (r.sender, r.sender_there, (r.receiver, r.receiver_there, (r.link, inr (shared, (r.cycle, r.within, (wrong, told))))))
+
+-- 6
+abbrev AtDouble : ScriptView → NodeSpec → NodeSpec → ℕ → Gap → Type 0
+AtDouble s a b double g = (is_carried s a b double ≡ false) × (g ≡ gap.Link a.id b.id double)
+
+abbrev OfLinks : DriftView → ScriptView → NodeSpec → NodeSpec → Gap → Type 0
+OfLinks d s a b g = (is_link s a b ≡ true) × Below (AtDouble s a b) (doubles_of d) g
+
+doubles-apart : (s : ScriptView) (a b : NodeSpec) (j k : ℕ) → j < k → AreApart (AtDouble s a b j) (AtDouble s a b k)
+doubles-apart s a b j k lt g h w x before =
+    at-places g h (6 ∷ a.id ∷ b.id ∷ j ∷ []) (6 ∷ a.id ∷ b.id ∷ k ∷ []) (ap place_of_gap w.1) (ap place_of_gap x.1)
+    (under 6 (a.id ∷ b.id ∷ k ∷ []) (a.id ∷ b.id ∷ j ∷ [])
+    (under a.id (b.id ∷ k ∷ []) (b.id ∷ j ∷ []) (under b.id (k ∷ []) (j ∷ []) (later j k [] [] lt)))) before
+
+receivers-apart : (d : DriftView) (s : ScriptView) (a b c : NodeSpec) → b.id < c.id → AreApart (OfLinks d s a b) (OfLinks d s a c)
+receivers-apart d s a b c lt g h w x before =
+    at-places g h (6 ∷ a.id ∷ b.id ∷ w.1.0 ∷ []) (6 ∷ a.id ∷ c.id ∷ x.1.0 ∷ []) (ap place_of_gap w.1.2.1) (ap place_of_gap x.1.2.1)
+    (under 6 (a.id ∷ c.id ∷ x.1.0 ∷ []) (a.id ∷ b.id ∷ w.1.0 ∷ [])
+    (under a.id (c.id ∷ x.1.0 ∷ []) (b.id ∷ w.1.0 ∷ []) (later b.id c.id (x.1.0 ∷ []) (w.1.0 ∷ []) lt))) before
+
+links-apart : (p : Values) (d : DriftView) (s : ScriptView) (a b : NodeSpec) → a.id < b.id → AreApart (Among (OfLinks d s a) p.nodes) (Among (OfLinks d s b) p.nodes)
+links-apart p d s a b lt g h w x before =
+    at-places g h (6 ∷ a.id ∷ w.0.id ∷ w.2.1.0 ∷ []) (6 ∷ b.id ∷ x.0.id ∷ x.2.1.0 ∷ []) (ap place_of_gap w.2.1.2.1) (ap place_of_gap x.2.1.2.1)
+    (under 6 (b.id ∷ x.0.id ∷ x.2.1.0 ∷ []) (a.id ∷ w.0.id ∷ w.2.1.0 ∷ []) (later a.id b.id (x.0.id ∷ x.2.1.0 ∷ []) (w.0.id ∷ w.2.1.0 ∷ []) lt)) before
+
+links-least : (p : Values) (d : DriftView) (s : ScriptView) → AllPairs (λ a b. a.id < b.id) p.nodes → IsLeast (IsLinkGap p d s) (first_of_pairs p (links_gap d s))
+links-least p d s ascend =
+    least-same (Among (λ a. Among (OfLinks d s a) p.nodes) p.nodes) (IsLinkGap p d s) _
+    (least-in (λ a. Among (OfLinks d s a) p.nodes) (λ a. first_in (links_gap d s a) p.nodes) p.nodes (λ a. from_sender a)
+    (in-order (λ a. Among (OfLinks d s a) p.nodes) p.nodes ascend (λ a b lt g h w x before. links-apart p d s a b lt g h w x before)))
+    (λ g w. record {
+      sender = w.0;
+      receiver = w.2.0;
+      sender_there = w.1;
+      receiver_there = w.2.1;
+      link = w.2.2.0;
+      double = w.2.2.1.0;
+      within = w.2.2.1.1;
+      broken = w.2.2.1.2.0;
+      told = w.2.2.1.2.1;
+    })
+    (λ g r. (r.sender, r.sender_there, (r.receiver, r.receiver_there, (r.link, (r.double, r.within, (r.broken, r.told))))))
+  where
+    of : (a b : NodeSpec) → IsLeast (OfLinks d s a b) (links_gap d s a b)
+    of a b =
+        least-where (Below (AtDouble s a b) (doubles_of d)) (is_link s a b) _
+        (least-below (AtDouble s a b) (link_gap s a b) (doubles_of d) (λ k. least-unless (is_carried s a b k) (gap.Link a.id b.id k)) (doubles-apart s a b))
+
+    from_sender : (a : NodeSpec) → IsLeast (Among (OfLinks d s a) p.nodes) (first_in (links_gap d s a) p.nodes)
+    from_sender a =
+        least-in (OfLinks d s a) (links_gap d s a) p.nodes (λ b. of a b)
+        (in-order (OfLinks d s a) p.nodes ascend (λ b c lt g h w x before. receivers-apart d s a b c lt g h w x before))
+
+-- the kind of a gap, and its numbers
+abbrev pub kind_of : Gap → ℕ
+kind_of (gap.Check number left right) = 1
+kind_of (gap.Count correct arbitrary) = 2
+kind_of (gap.Length node cycle ticks) = 3
+kind_of (gap.Change node cycle ticks) = 4
+kind_of (gap.Delay sender receiver ch cycle ticks) = 5
+kind_of (gap.Link sender receiver double) = 6
+
+abbrev pub numbers_of : Gap → List ℕ
+numbers_of (gap.Check number left right) = number ∷ []
+numbers_of (gap.Count correct arbitrary) = []
+numbers_of (gap.Length node cycle ticks) = node ∷ cycle ∷ []
+numbers_of (gap.Change node cycle ticks) = node ∷ cycle ∷ []
+numbers_of (gap.Delay sender receiver ch cycle ticks) = sender ∷ receiver ∷ channel_rank ch ∷ cycle ∷ []
+numbers_of (gap.Link sender receiver double) = sender ∷ receiver ∷ double ∷ []
+
+pub place-split : (g : Gap) → place_of_gap g ≡ kind_of g ∷ numbers_of g
+place-split (gap.Check number left right) = refl
+place-split (gap.Count correct arbitrary) = refl
+place-split (gap.Length node cycle ticks) = refl
+place-split (gap.Change node cycle ticks) = refl
+place-split (gap.Delay sender receiver ch cycle ticks) = refl
+place-split (gap.Link sender receiver double) = refl
+
+kinds-apart : (g h : Gap) → kind_of g < kind_of h → IsEarlierGap h g → ⊥
+kinds-apart g h lt before =
+    at-places g h (kind_of g ∷ numbers_of g) (kind_of h ∷ numbers_of h) (place-split g) (place-split h)
+    (later (kind_of g) (kind_of h) (numbers_of h) (numbers_of g) lt) before
+
+-- the kinds from each on
+abbrev pub FromDelay : Values → DriftView → ScriptView → Gap → Type 0
+FromDelay p d s g = IsDelayGap p d s g ⊎ IsLinkGap p d s g
+
+abbrev pub FromChange : Values → DriftView → ScriptView → Gap → Type 0
+FromChange p d s g = IsChangeGap p d s g ⊎ FromDelay p d s g
+
+abbrev pub FromLength : Values → DriftView → ScriptView → Gap → Type 0
+FromLength p d s g = IsLengthGap p d s g ⊎ FromChange p d s g
+
+abbrev pub FromCount : Values → DriftView → ScriptView → Gap → Type 0
+FromCount p d s g = IsCountGap p s g ⊎ FromLength p d s g
+
+pub from_delay : (p : Values) (d : DriftView) (s : ScriptView) (g : Gap) → FromDelay p d s g → 4 < kind_of g
+from_delay p d s g (inl r) = let kind = ap kind_of r.told in omega arith
+from_delay p d s g (inr r) = let kind = ap kind_of r.told in omega arith
+
+pub from_change : (p : Values) (d : DriftView) (s : ScriptView) (g : Gap) → FromChange p d s g → 3 < kind_of g
+from_change p d s g (inl r) = let kind = ap kind_of r.told in omega arith
+from_change p d s g (inr r) = let kind = from_delay p d s g r in omega arith
+
+pub from_length : (p : Values) (d : DriftView) (s : ScriptView) (g : Gap) → FromLength p d s g → 2 < kind_of g
+from_length p d s g (inl r) = let kind = ap kind_of r.told in omega arith
+from_length p d s g (inr r) = let kind = from_change p d s g r in omega arith
+
+pub from_count : (p : Values) (d : DriftView) (s : ScriptView) (g : Gap) → FromCount p d s g → 1 < kind_of g
+from_count p d s g (inl r) = let kind = ap kind_of r.told in omega arith
+from_count p d s g (inr r) = let kind = from_length p d s g r in omega arith
+
+-- what is found is the first gap, and nothing is only where there is none
+pub gaps-least : (p : Values) (d : DriftView) (s : ScriptView) → AllPairs (λ a b. a.id < b.id) p.nodes → IsLeast (IsGap p d s) (first_gap p d s)
+unfolding first_gap
+gaps-least p d s ascend =
+    least-or (IsCheckGap p) (FromCount p d s) _ _ (checks-least p)
+    (least-or (IsCountGap p s) (FromLength p d s) _ _ (count-least p s)
+    (least-or (IsLengthGap p d s) (FromChange p d s) _ _ (lengths-least p d s ascend)
+    (least-or (IsChangeGap p d s) (FromDelay p d s) _ _ (changes-least p d s ascend)
+    (least-or (IsDelayGap p d s) (IsLinkGap p d s) _ _ (delays-least p d s ascend) (links-least p d s ascend)
+    (λ g h w x before. kinds-apart g h (let a = ap kind_of w.told in let b = ap kind_of x.told in omega arith) before))
+    (λ g h w x before. kinds-apart g h (let a = ap kind_of w.told in let b = from_delay p d s h x in omega arith) before))
+    (λ g h w x before. kinds-apart g h (let a = ap kind_of w.told in let b = from_change p d s h x in omega arith) before))
+    (λ g h w x before. kinds-apart g h (let a = ap kind_of w.told in let b = from_length p d s h x in omega arith) before))
+    (λ g h w x before. kinds-apart g h (let a = ap kind_of w.told in let b = from_count p d s h x in omega arith) before)
+
+pub found-first : (p : Values) (d : DriftView) (s : ScriptView) (g : Gap) → IsSane p → first_gap p d s ≡ Some g → IsFirstGap p d s g
+found-first p d s g sane e =
+    let l = gaps-least p d s sane.lists.nodes_ascend in
+    record { is_gap = l.some g e; first = λ h w before. l.least g h e w before }
+
+pub found-none : (p : Values) (d : DriftView) (s : ScriptView) (g : Gap) → IsSane p → first_gap p d s ≡ None → IsGap p d s g → ⊥
+found-none p d s g sane e w = let l = gaps-least p d s sane.lists.nodes_ascend in l.none e g w

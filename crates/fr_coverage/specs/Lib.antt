@@ -1,0 +1,6 @@
+-- what the public contract cites
+pub mod First
+pub mod Links
+pub mod Coverage
+pub mod Order
+pub mod Decided

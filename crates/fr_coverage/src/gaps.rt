@@ -1,0 +1,263 @@
+ghost use Rattle.std.specs.Prelude.{◌≡◌, ◌≤◌, ◌+◌, ◌&&◌, not, Some, None, OnOk, IfErr, count_by, length, if◌then◌else◌};
+ghost use Rattle.fr_script.specs.View.{is_arbitrary};
+ghost use Rattle.fr_coverage.specs.First.{first_in};
+ghost use Rattle.fr_coverage.specs.Links.{is_sync};
+ghost use Rattle.fr_coverage.specs.Coverage.{channel_gap, changes_gap, checks_gap, count_gap, count_of, delays_gap, first_gap, is_counted, lengths_gap, links_gap, outweighs, pairs_gap, weighed};
+
+use crate::gap::Gap;
+use crate::linking::{first_break, is_link, shares};
+use crate::search::{Search, first_among};
+use crate::spans::{first_change, first_delay, first_length};
+use fr_base::Channel;
+use fr_bound::{checks, side};
+use fr_cluster::{NodeList, NodeSpec, Params};
+use fr_drift::Drift;
+use fr_script::Script;
+
+/// Whether a run of a cluster is covered by the precision theorem: whether there is none of these gaps, which
+/// are looked for in this order, or else the first.
+///
+/// `Check`: a check of the parameters fails, the one with the least number. `Count`: the correct nodes with a
+/// key slot do not outweigh the arbitrary ones: 1 suffices beside no arbitrary one, 3 beside one, 6 beside
+/// two. `Length`, `Change`: the microtick of a correct node is too short or too long in a cycle of the run, or
+/// changes by too much there; by node, then by cycle. `Delay`: frames of a correct node with a key slot travel
+/// for too short or too long a time to another correct node; by sender, receiver, channel, cycle. `Link`: no
+/// channel that both have carries its frames in both cycles of a double cycle; by sender, receiver, double
+/// cycle.
+///
+/// It takes no memory, and time as there are rows, nodes and links, not as there are cycles.
+pub fn covered(params: &Params, drift: &Drift, script: &Script) -> Result<(), Gap>
+    ensures whole { OnOk result (first_gap params.now drift.now script.now ≡ None) }
+    ensures gap { IfErr result (λ gap. first_gap params.now drift.now script.now ≡ Some gap) }
+{
+    match first_gap(params, drift, script) {
+        Some(gap) => Err(gap),
+        None => Ok(()),
+    }
+}
+
+#[tactic(auto, unfolding(crate::specs::Coverage::first_gap))]
+fn first_gap(params: &Params, drift: &Drift, script: &Script) -> Option<Gap>
+    ensures { result ≡ first_gap params.now drift.now script.now }
+{
+    let nodes = &params.nodes;
+    let run = Run {
+        params,
+        drift,
+        script,
+    };
+    if let Some(gap) = failing_check(params) {
+        return Some(gap);
+    }
+    if let Some(gap) = outweighed(nodes, script) {
+        return Some(gap);
+    }
+    if let Some(gap) = first_among(nodes, &Lengths(run)) {
+        return Some(gap);
+    }
+    if let Some(gap) = first_among(nodes, &Changes(run)) {
+        return Some(gap);
+    }
+    first_of_pairs(run)
+}
+
+fn first_of_pairs(run: Run<'_>) -> Option<Gap>
+    ensures { result ≡ pairs_gap run.entry.params.now run.entry.drift.now run.entry.script.now }
+{
+    let params = run.params;
+    let nodes = &params.nodes;
+    match first_among(nodes, &Delays(run)) {
+        Some(gap) => Some(gap),
+        None => first_among(nodes, &Links(run)),
+    }
+}
+
+fn failing_check(params: &Params) -> Option<Gap>
+    ensures { result ≡ checks_gap params.now }
+{
+    match checks(params) {
+        Ok(()) => None,
+        Err(number) => {
+            let sides = side(params, number);
+            Some(Gap::Check {
+                number,
+                left: sides.left,
+                right: sides.right,
+            })
+        }
+    }
+}
+
+// The gap where the correct nodes with a key slot do not outweigh the arbitrary ones.
+fn outweighed(nodes: &NodeList, script: &Script) -> Option<Gap>
+    requires { length nodes.now ≤ 64 }
+    ensures { result ≡ weighed nodes.now script.now }
+{
+    let correct = count(nodes, script, false);
+    let arbitrary = count(nodes, script, true);
+    if outweighs(correct, arbitrary) {
+        None
+    } else {
+        Some(Gap::Count { correct, arbitrary })
+    }
+}
+
+fn outweighs(correct: u32, arbitrary: u32) -> bool
+    ensures { result ≡ outweighs correct arbitrary }
+{
+    match arbitrary {
+        0 => correct >= 1,
+        1 => correct >= 3,
+        2 => correct >= 6,
+        _ => false,
+    }
+}
+
+// How many nodes with a key slot are arbitrary, or how many are correct.
+fn count(nodes: &NodeList, script: &Script, arbitrary: bool) -> u32
+    requires { length nodes.now ≤ 64 }
+    ensures { result ≡ count_of script.now arbitrary nodes.now }
+{
+    let mut sum = 0;
+    for place in 0..nodes.len() {
+        match nodes.get(place) {
+            Some(node) => {
+                if is_counted(script, arbitrary, node) {
+                    sum += 1;
+                }
+            }
+            None => {}
+        }
+    }
+    sum
+}
+
+fn is_counted(script: &Script, arbitrary: bool, node: &NodeSpec) -> bool
+    ensures { result ≡ is_counted script.now arbitrary node.now }
+{
+    node.key.is_some() && script.arbitrary(node.id) == arbitrary
+}
+
+// What a run is made of.
+#[derive(Clone, Copy)]
+struct Run<'a> {
+    params: &'a Params,
+    drift: &'a Drift,
+    script: &'a Script,
+}
+
+// Looks for lengths.
+#[derive(Clone, Copy)]
+struct Lengths<'a>(Run<'a>);
+
+impl Search for Lengths<'_> {
+    ghost found = { λ a. lengths_gap a.0.params.now a.0.drift.now a.0.script.now };
+
+    fn find(&self, node: &NodeSpec) -> Option<Gap> {
+        let run = self.0;
+        if run.script.arbitrary(node.id) {
+            return None;
+        }
+        first_length(run.params, run.drift, node.id)
+    }
+}
+
+// Looks for changes of lengths.
+#[derive(Clone, Copy)]
+struct Changes<'a>(Run<'a>);
+
+impl Search for Changes<'_> {
+    ghost found = { λ a. changes_gap a.0.params.now a.0.drift.now a.0.script.now };
+
+    fn find(&self, node: &NodeSpec) -> Option<Gap> {
+        let run = self.0;
+        if run.script.arbitrary(node.id) {
+            return None;
+        }
+        first_change(run.params, run.drift, node.id)
+    }
+}
+
+// Looks for delays of the frames of a sender.
+#[derive(Clone, Copy)]
+struct Delays<'a>(Run<'a>);
+
+impl Search for Delays<'_> {
+    ghost found = { λ a node. first_in (delays_gap a.0.params.now a.0.drift.now a.0.script.now node) a.0.params.now.nodes };
+
+    fn find(&self, node: &NodeSpec) -> Option<Gap> {
+        let run = self.0;
+        let params = run.params;
+        first_among(&params.nodes, &DelaysFrom { run, sender: node })
+    }
+}
+
+// Looks for delays of the frames of one sender at a receiver.
+#[derive(Clone, Copy)]
+struct DelaysFrom<'a> {
+    run: Run<'a>,
+    sender: &'a NodeSpec,
+}
+
+impl Search for DelaysFrom<'_> {
+    ghost found = { λ a. delays_gap a.run.params.now a.run.drift.now a.run.script.now a.sender.now };
+
+    fn find(&self, node: &NodeSpec) -> Option<Gap> {
+        let run = self.run;
+        if !is_link(run.script, self.sender, node) {
+            return None;
+        }
+        if let Some(gap) = delay_on(run.params, run.drift, self.sender, node, Channel::A) {
+            return Some(gap);
+        }
+        delay_on(run.params, run.drift, self.sender, node, Channel::B)
+    }
+}
+
+fn delay_on(
+    params: &Params,
+    drift: &Drift,
+    sender: &NodeSpec,
+    receiver: &NodeSpec,
+    channel: Channel,
+) -> Option<Gap>
+    ensures { result ≡ channel_gap params.now drift.now sender.now receiver.now channel }
+{
+    if !shares(sender, receiver, channel) {
+        return None;
+    }
+    first_delay(params, drift, sender.id, receiver.id, channel)
+}
+
+// Looks for broken links of a sender.
+#[derive(Clone, Copy)]
+struct Links<'a>(Run<'a>);
+
+impl Search for Links<'_> {
+    ghost found = { λ a node. first_in (links_gap a.0.drift.now a.0.script.now node) a.0.params.now.nodes };
+
+    fn find(&self, node: &NodeSpec) -> Option<Gap> {
+        let run = self.0;
+        let params = run.params;
+        first_among(&params.nodes, &LinksFrom { run, sender: node })
+    }
+}
+
+// Looks for broken links of one sender at a receiver.
+#[derive(Clone, Copy)]
+struct LinksFrom<'a> {
+    run: Run<'a>,
+    sender: &'a NodeSpec,
+}
+
+impl Search for LinksFrom<'_> {
+    ghost found = { λ a. links_gap a.run.drift.now a.run.script.now a.sender.now };
+
+    fn find(&self, node: &NodeSpec) -> Option<Gap> {
+        let run = self.run;
+        if !is_link(run.script, self.sender, node) {
+            return None;
+        }
+        first_break(run.script, self.sender, node, run.drift.doubles())
+    }
+}

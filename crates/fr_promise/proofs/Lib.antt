@@ -1,0 +1,3 @@
+pub mod Drifts
+pub mod Covering
+pub mod Promising

@@ -1,0 +1,5 @@
+pub mod Nodes
+pub mod Reception
+pub mod Running
+pub mod Keeping
+pub mod Stating

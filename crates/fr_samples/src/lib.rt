@@ -1,0 +1,151 @@
+//! The cluster of all tests: its files, and how a test changes them. Texts alone: nothing that is proved stands on them.
+#![tactic(auto)]
+
+use fr_cluster::Params;
+use fr_params::{ParamFault, read};
+use std::alloc::{AllocError, Global};
+
+/// The numbers of a cluster with a cycle of 5 ms at a microtick of 25 ns.
+pub const NUMBERS: &str = "\
+param,gMacroPerCycle,5000,,\n\
+param,pMicroPerCycle,200000,,\n\
+param,gNumberOfStaticSlots,140,,\n\
+param,gdStaticSlot,30,,\n\
+param,gdActionPointOffset,7,,\n\
+param,gdNIT,800,,\n\
+param,gPayloadLengthStatic,0,,\n\
+param,gOffsetCorrectionStart,4900,,\n\
+param,gMaxWithoutClockCorrectionPassive,2,,\n\
+param,gMaxWithoutClockCorrectionFatal,4,,\n\
+param,pAllowHaltDueToClock,1,,\n\
+param,pAllowPassiveToActive,2,,\n\
+param,pClusterDriftDamping,4,,\n\
+param,pOffsetCorrectionOut,254,,\n\
+param,pRateCorrectionOut,81,,\n\
+param,pDelayCompensation,0,,\n\
+param,xRateBound,200,,\n\
+param,xChangeBound,0,,\n\
+param,xDelayError,500000,,\n\
+";
+
+pub const TWO_ON_A: &str = "node,1,1,A,1\nnode,2,2,A,1\n";
+
+pub const TWO_ON_BOTH: &str = "node,1,1,AB,1\nnode,2,2,AB,1\n";
+
+pub const THREE_ON_A: &str = "node,1,1,A,1\nnode,2,2,A,1\nnode,3,3,A,1\n";
+
+pub const FOUR_ON_A: &str = "node,1,1,A,1\nnode,2,2,A,1\nnode,3,3,A,1\nnode,4,4,A,1\n";
+
+pub const EIGHT_ON_A: &str = "\
+node,1,1,A,1\nnode,2,2,A,1\nnode,3,3,A,1\nnode,4,4,A,1\n\
+node,5,5,A,1\nnode,6,6,A,1\nnode,7,7,A,1\nnode,8,8,A,1\n\
+";
+
+/// One double cycle in which all clocks run as they should.
+pub const ONE: &str = "doubles,1,,,,\n";
+
+/// Two double cycles in which node 2 starts two and a half microticks later.
+pub const LATER: &str = "doubles,2,,,,\nstart,2,2500000,0,,\n";
+
+/// Two double cycles of oscillators that lie 200 ticks in a million apart.
+pub const APART: &str = "doubles,2,,,,\nlength,1,0,1000100,,\nlength,2,0,999900,,\n";
+
+/// Node 4 says its frames late to one node, early to another, and not at all to a third.
+pub const TWO_FACED: &str = "\
+arbitrary,4,,,,,\n\
+say,0,4,1,A,100000000,\n\
+say,1,4,1,A,100000000,\n\
+say,0,4,2,A,-100000000,\n\
+say,1,4,2,A,-100000000,\n\
+";
+
+pub const LATER_REPORT: &str = "\
+nodes 2 sync 2 arbitrary 0 doubles 2\n\
+precision 252043600\n\
+covered yes\n\
+in sync 0\n\
+greatest skew 2500000 cycle 0 macrotick 0\n\
+sent A 8 xor 000000\n\
+sent B 0 xor 000000\n\
+heard stored 8 outside 0 damaged 0 id 0 cycle 0 length 0 plain 0\n\
+cut 0\n\
+node 1 active next 800001000000 rate 0 offset 0\n\
+node 2 active next 800001500000 rate 0 offset 0\n\
+";
+
+pub const APART_REPORT: &str = "\
+nodes 2 sync 2 arbitrary 0 doubles 2\n\
+precision 252043600\n\
+covered yes\n\
+in sync 1\n\
+greatest skew 79200000 cycle 1 macrotick 4900\n\
+sent A 8 xor 000000\n\
+sent B 0 xor 000000\n\
+heard stored 8 outside 0 damaged 0 id 0 cycle 0 length 0 plain 0\n\
+cut 0\n\
+node 1 active next 800003992400 rate -16 offset -24\n\
+node 2 active next 799994992500 rate 16 offset 23\n\
+";
+
+/// The text with each line that begins so replaced.
+pub fn changed(alloc: Global, old: &str, values: &[(&str, &str)]) -> Result<String, AllocError> {
+    let mut text = String::new(alloc);
+    for line in old.lines() {
+        let mut shown = line;
+        for (name, value) in values {
+            if line.starts_with(*name) {
+                shown = value;
+            }
+        }
+        text.push_str(shown)?;
+        text.push('\n')?;
+    }
+    Ok(text)
+}
+
+/// The parameter file of the cluster, with lines in the place of those that begin so, and with these nodes and
+/// further slots.
+pub fn file_of(alloc: Global, values: &[(&str, &str)], nodes: &str) -> Result<String, AllocError> {
+    let mut text = changed(alloc, NUMBERS, values)?;
+    text.push_str(nodes)?;
+    Ok(text)
+}
+
+pub fn params_of(
+    alloc: Global,
+    values: &[(&str, &str)],
+    nodes: &str,
+) -> Result<Params, ParamFault> {
+    match file_of(alloc, values, nodes) {
+        Ok(text) => read(alloc, text.as_bytes()),
+        Err(_) => Err(ParamFault::NoMemory),
+    }
+}
+
+/// The accepted records with a further one at a place, counted from 0.
+pub fn with_record(
+    alloc: Global,
+    records: &[&[u8]],
+    place: usize,
+    record: &[u8],
+) -> Result<Vec<u8>, AllocError> {
+    let mut bytes = Vec::new(alloc);
+    for (at, line) in records.iter().enumerate() {
+        if at == place {
+            bytes.extend_from_slice(record)?;
+            bytes.push(b'\n')?;
+        }
+        bytes.extend_from_slice(line)?;
+        bytes.push(b'\n')?;
+    }
+    if place == records.len() {
+        bytes.extend_from_slice(record)?;
+    }
+    Ok(bytes)
+}
+
+pub fn joined(alloc: Global, head: &[u8], tail: &[u8]) -> Result<Vec<u8>, AllocError> {
+    let mut bytes = head.to_vec(alloc)?;
+    bytes.extend_from_slice(tail)?;
+    Ok(bytes)
+}

@@ -1,0 +1,4 @@
+pub mod Extents
+pub mod Differences
+pub mod Sweep
+pub mod Closeness

@@ -1,0 +1,7 @@
+-- what the public contract cites
+pub mod Gauge
+pub mod Spreads
+pub mod Sweep
+pub mod Sync
+-- what only functions inside cite
+pub mod Extents

@@ -1,0 +1,68 @@
+ghost use Rattle.std.specs.Prelude.{◌≡◌, ◌≤◌, ◌≤ℤ◌, nat_abs, pos, All, Some, IsSome};
+ghost use Rattle.fr_time.specs.Placed.{IsPlacedRow};
+ghost use Rattle.fr_time.specs.Position.{IsGrid};
+ghost use Rattle.fr_skew.specs.Sweep.{greater_of, greatest_within};
+
+use crate::spread::spread_at;
+use fr_base::NodeRow;
+use fr_time::Grid;
+
+/// A skew in ticks, and where it stands.
+#[derive(Clone, Copy, Debug, PartialEq, Eq)]
+pub struct Peak {
+    /// How far the clocks lie apart.
+    pub skew: i64,
+    /// In which cycle.
+    pub cycle: u32,
+    /// At which macrotick.
+    pub macrotick: u32,
+}
+
+/// The greatest skew so far after all macroticks of one more cycle, and its first place. It asks for each
+/// macrotick of each node.
+pub fn swept(grid: &Grid, cycle: u32, rows: &[NodeRow], before: Option<Peak>) -> Option<Peak>
+    requires grid { IsGrid grid.now }
+    requires rows { All (IsPlacedRow grid.now) rows.now }
+    ensures value { result ≡ greatest_within grid.now cycle rows.now before (nat_abs grid.now.macros) }
+    ensures there { IsSome result }
+{
+    let mut peak = before;
+    for macrotick in 0..macroticks(grid) {
+        let skew = spread_at(grid, cycle, macrotick, rows);
+        peak = Some(greater(
+            peak,
+            Peak {
+                skew,
+                cycle,
+                macrotick,
+            },
+        ));
+    }
+    peak
+}
+
+// How many macroticks a cycle has.
+fn macroticks(grid: &Grid) -> u32
+    requires { IsGrid grid.now }
+    ensures value { result ≡ nat_abs grid.now.macros }
+    ensures number { pos result ≡ grid.now.macros }
+    ensures some { 1 ≤ result }
+{
+    grid.macros as u32
+}
+
+// The greater of two skews, the earlier one where they are the same.
+fn greater(earlier: Option<Peak>, later: Peak) -> Peak
+    ensures { result ≡ greater_of earlier later }
+{
+    match earlier {
+        None => later,
+        Some(earlier) => {
+            if earlier.skew < later.skew {
+                later
+            } else {
+                earlier
+            }
+        }
+    }
+}
