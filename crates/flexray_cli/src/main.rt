@@ -1,6 +1,6 @@
 //! `flexray`: a FlexRay cluster in one program. `flexray frame A FILE` decodes the frame in a file,
-//! `flexray bound PARAMS` computes the bounds and checks of a cluster, and `flexray run PARAMS DRIFT SCRIPT`
-//! runs it.
+//! `flexray bound PARAMS` computes the bounds and checks of a cluster, `flexray settle PARAMS START RATE` how long its
+//! clocks take until they are in sync, and `flexray run PARAMS DRIFT SCRIPT` runs it.
 #![tactic(auto)]
 
 use fr_answer::{Status, flexray};

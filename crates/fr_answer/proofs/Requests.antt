@@ -1,24 +1,110 @@
 -- Words ask for one thing at most.
-use Rattle.std.proofs.Common.{◌≡◌, ℕ, List, [], ◌∷◌, Option, Some, None, ap, sym, ◌∙◌}
+use Rattle.std.proofs.Common.{◌≡◌, ◌<◌, ◌≤◌, ℕ, length, arith, List, [], ◌∷◌, Option, Some, None, Result, Ok, Err, ap, ap₂, sym, ◌∙◌}
 use Rattle.std.specs.Prelude.{codes, if◌then◌else◌, unwrap_or}
+use Rattle.std.specs.Prelude.{String, get_or}
+use Rattle.std.specs.String.{string_bytes}
+use Rattle.std.specs.declared.alloc.Global.{Global}
+use Rattle.std.proofs.lemmas.List.{length-map}
 use Rattle.std.specs.Option.{option_map}
 use Rattle.std.specs.Str.{bytes_eq}
 use Rattle.fr_base.specs.Channels.{channel_of}
 use Rattle.fr_base.specs.declared.channel.Channel.TheVariants.{A, B}
-use Rattle.fr_answer.specs.Request.{Asked, AsksFor, frame, bound, run}
+use Rattle.fr_base.specs.declared.numbers.NumberFault.{NumberFault}
+use Rattle.fr_bound.specs.Settling.{most_stated}
+use Rattle.fr_records.specs.Fields.{natural_of}
+use Rattle.fr_answer.specs.Request.{Asked, AsksFor, frame, bound, settle, run, capture, nm, texts, cold, make, trace, check}
+
+-- two numbers that are there
+abbrev settle_in : List ℕ → Result ℕ NumberFault → Result ℕ NumberFault → Option Asked
+settle_in file (Ok start) (Ok rate) = Some (settle file start rate)
+settle_in file start rate = None
+
+abbrev make_in : Result ℕ NumberFault → Result ℕ NumberFault → Option Asked
+make_in (Ok seed) (Ok doubles) = Some (make seed doubles)
+make_in seed doubles = None
+
+abbrev nm_in : List ℕ → Result ℕ NumberFault → Option Asked
+nm_in file (Ok width) = Some (nm width file)
+nm_in file (Err fault) = None
+
+-- three words
+abbrev asked_in_three : List ℕ → List ℕ → List ℕ → Option Asked
+asked_in_three command first second =
+    if bytes_eq command (codes "frame") then option_map (λ ch. frame ch second) (channel_of first)
+    else (if bytes_eq command (codes "make") then make_in (natural_of 0 4_294_967_295 first) (natural_of 1 10_000 second)
+    else (if bytes_eq command (codes "capture") then option_map (λ ch. capture ch second) (channel_of first)
+    else (if bytes_eq command (codes "cold") then Some (cold (record { params = first; power = second }))
+    else (if bytes_eq command (codes "check") then Some (check (record { params = first; trace = second }))
+    else (if bytes_eq command (codes "nm") then nm_in second (natural_of 1 12 first) else None)))))
+
+-- four words
+abbrev asked_in_four : List ℕ → List ℕ → List ℕ → List ℕ → Option Asked
+asked_in_four command first second third =
+    if bytes_eq command (codes "run") then Some (run (record { params = first; drift = second; script = third }))
+    else (if bytes_eq command (codes "trace") then Some (trace (record { params = first; drift = second; script = third }))
+    else (if bytes_eq command (codes "settle") then settle_in first (natural_of 0 most_stated second) (natural_of 0 most_stated third) else None))
 
 -- what words ask for, read back by their number
 abbrev asked_in : List (List ℕ) → Option Asked
 asked_in (command ∷ file ∷ []) = if bytes_eq command (codes "bound") then Some (bound file) else None
-asked_in (command ∷ channel ∷ file ∷ []) = if bytes_eq command (codes "frame") then option_map (λ ch. frame ch file) (channel_of channel) else None
-asked_in (command ∷ params ∷ drift ∷ script ∷ []) = if bytes_eq command (codes "run") then Some (run (record { params = params; drift = drift; script = script })) else None
+asked_in (command ∷ first ∷ second ∷ []) = asked_in_three command first second
+asked_in (command ∷ first ∷ second ∷ third ∷ []) = asked_in_four command first second third
 asked_in other = None
 
 asked_again : (words : List (List ℕ)) (asked : Asked) → AsksFor words asked → asked_in words ≡ Some asked
 asked_again words (frame A file) asks = ap asked_in asks
 asked_again words (frame B file) asks = ap asked_in asks
 asked_again words (bound file) asks = ap asked_in asks
+asked_again words (settle file start rate) asks = ap asked_in asks.spelt ∙ ap₂ (settle_in file) asks.start_is asks.rate_is
 asked_again words (run names) asks = ap asked_in asks
+asked_again words (capture A file) asks = ap asked_in asks
+asked_again words (capture B file) asks = ap asked_in asks
+asked_again words (nm width file) asks = ap asked_in asks.spelt ∙ ap (nm_in file) asks.width_is
+asked_again words (cold names) asks = ap asked_in asks
+asked_again words (make seed doubles) asks = ap asked_in asks.spelt ∙ ap₂ make_in asks.seed_is asks.doubles_is
+asked_again words (trace names) asks = ap asked_in asks
+asked_again words (check names) asks = ap asked_in asks
+
+-- they are two to four
+asks_length : (words : List (List ℕ)) (asked : Asked) → AsksFor words asked → (2 ≤ length words) × (length words ≤ 4)
+asks_length words (frame channel file) asks = let long : length words ≡ 3 = ap length asks in (omega (arith, long), omega (arith, long))
+asks_length words (bound file) asks = let long : length words ≡ 2 = ap length asks in (omega (arith, long), omega (arith, long))
+asks_length words (settle file start rate) asks = let long : length words ≡ 4 = ap length asks.spelt in (omega (arith, long), omega (arith, long))
+asks_length words (run names) asks = let long : length words ≡ 4 = ap length asks in (omega (arith, long), omega (arith, long))
+asks_length words (capture channel file) asks = let long : length words ≡ 3 = ap length asks in (omega (arith, long), omega (arith, long))
+asks_length words (nm width file) asks = let long : length words ≡ 3 = ap length asks.spelt in (omega (arith, long), omega (arith, long))
+asks_length words (cold names) asks = let long : length words ≡ 3 = ap length asks in (omega (arith, long), omega (arith, long))
+asks_length words (make seed doubles) asks = let long : length words ≡ 3 = ap length asks.spelt in (omega (arith, long), omega (arith, long))
+asks_length words (trace names) asks = let long : length words ≡ 4 = ap length asks in (omega (arith, long), omega (arith, long))
+asks_length words (check names) asks = let long : length words ≡ 3 = ap length asks in (omega (arith, long), omega (arith, long))
+
+pub asks_not_short : (words : List (String Global)) (asked : Asked) → AsksFor (texts words) asked → length words < 2 → ⊥
+asks_not_short words asked asks short =
+    let long = asks_length (texts words) asked asks in
+    let same : length (texts words) ≡ length words = length-map words string_bytes in
+    absurd (omega (arith, long.0, same, short))
+
+pub asks_not_long : (words : List (String Global)) (asked : Asked) → AsksFor (texts words) asked → 4 < length words → ⊥
+asks_not_long words asked asks more =
+    let long = asks_length (texts words) asked asks in
+    let same : length (texts words) ≡ length words = length-map words string_bytes in
+    absurd (omega (arith, long.1, same, more))
+
+-- the texts of four words
+pub four_texts : (words : List (String Global)) (a b c d : String Global) (one two three four : List ℕ) → 4 ≤ length words → length words < 5
+    → a ≡ get_or words 0 a → b ≡ get_or words 1 b → c ≡ get_or words 2 c → d ≡ get_or words 3 d
+    → one ≡ string_bytes a → two ≡ string_bytes b → three ≡ string_bytes c → four ≡ string_bytes d → one ∷ two ∷ three ∷ four ∷ [] ≡ texts words
+four_texts [] a b c d one two three four more less is_a is_b is_c is_d first second third last = absurd (omega (arith, more))
+four_texts (w ∷ []) a b c d one two three four more less is_a is_b is_c is_d first second third last = absurd (omega (arith, more))
+four_texts (w ∷ x ∷ []) a b c d one two three four more less is_a is_b is_c is_d first second third last = absurd (omega (arith, more))
+four_texts (w ∷ x ∷ y ∷ []) a b c d one two three four more less is_a is_b is_c is_d first second third last = absurd (omega (arith, more))
+four_texts (w ∷ x ∷ y ∷ z ∷ []) a b c d one two three four more less is_a is_b is_c is_d first second third last =
+    let w_is : one ≡ string_bytes w = first ∙ ap string_bytes is_a in
+    let x_is : two ≡ string_bytes x = second ∙ ap string_bytes is_b in
+    let y_is : three ≡ string_bytes y = third ∙ ap string_bytes is_c in
+    let z_is : four ≡ string_bytes z = last ∙ ap string_bytes is_d in
+    cc
+four_texts (v ∷ w ∷ x ∷ y ∷ z ∷ words) a b c d one two three four more less is_a is_b is_c is_d first second third last = absurd (omega (arith, less))
 
 pub one_asked : (words : List (List ℕ)) (asked other : Asked) → AsksFor words asked → AsksFor words other → asked ≡ other
 one_asked words asked other one two = ap (λ (found : Option Asked). unwrap_or found asked) (sym (asked_again words asked one) ∙ asked_again words other two)

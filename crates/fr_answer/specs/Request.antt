@@ -1,38 +1,76 @@
 -- What words ask for.
-use Rattle.std.specs.Prelude.{◌≡◌, ℕ, List, [], ◌∷◌, map, codes, String, Option, Some, None}
+use Rattle.std.specs.Prelude.{◌≡◌, ℕ, ◌≤◌, List, [], ◌∷◌, map, codes, String, Option, Some, None, Ok}
 use Rattle.std.specs.String.{string_bytes}
 use Rattle.std.specs.declared.alloc.Global.{Global}
 use Rattle.fr_base.specs.Channels.{letter}
 use Rattle.fr_base.specs.declared.channel.Channel.{Channel}
+use Rattle.fr_bound.specs.Settling.{most_stated}
+use Rattle.fr_drift.specs.Rows.{IsProperCount}
+use Rattle.fr_records.specs.Fields.{natural_of}
 use Rattle.fr_answer.specs.declared.request.Request.{Request}
-use Rattle.fr_answer.specs.declared.request.RunFiles.{RunFiles}
-use Rattle.fr_answer.specs.declared.request.Request.TheVariants.{Frame, Bound, Run}
+use Rattle.fr_answer_check.specs.CheckAnswer.{CheckNames, check_names}
+use Rattle.fr_answer_cold.specs.ColdAnswer.{ColdNames, cold_names}
+use Rattle.fr_answer_run.specs.Names.{RunNames, names_of}
+use Rattle.fr_answer.specs.declared.request.Request.TheVariants.{Frame, Bound, Settle, Run, Capture, Nm, Cold, Make, Trace, Check}
 
 -- the bytes of each word
 abbrev pub texts : List (String Global) → List (List ℕ)
 texts words = map string_bytes words
 
--- the names of the three files of a run
-pub record RunNames : Type 0 where
-  pub params : List ℕ
-  pub drift : List ℕ
-  pub script : List ℕ
-
-abbrev pub names_of : RunFiles → RunNames
-names_of files = record { params = files.params.now; drift = files.drift.now; script = files.script.now }
-
--- decode the bytes of the file as a frame on the channel; print the bounds and checks of the parameters in the file; run
--- the cluster that the files decide, and print the report
+-- decode the bytes of the file as a frame on the channel; print the bounds and checks of the parameters in the file, or how
+-- long clocks that begin so far apart take until they are in sync; run the cluster that the files decide, or the
+-- cluster of a seed over so many double cycles, and print the report; print the trace of the run that the files decide; list
+-- the frames of the recording in the file; print the network management vectors of the recording in the file, of so
+-- many bytes; print who leads the startup that the files decide; say whether a recorded trace is that of a lawful and
+-- covered run
 pub data Asked : Type 0 where
   frame : (channel : Channel) (file : List ℕ) → Asked
   bound : (file : List ℕ) → Asked
+  settle : (file : List ℕ) (start rate : ℕ) → Asked
   run : (names : RunNames) → Asked
+  make : (seed doubles : ℕ) → Asked
+  capture : (channel : Channel) (file : List ℕ) → Asked
+  nm : (width : ℕ) (file : List ℕ) → Asked
+  cold : (names : ColdNames) → Asked
+  trace : (names : RunNames) → Asked
+  check : (names : CheckNames) → Asked
 
--- the words ask for this: `frame A FILE` or `frame B FILE`; `bound PARAMS`; `run PARAMS DRIFT SCRIPT`
+-- `settle PARAMS START RATE`, with two numbers of ticks
+pub record AsksSettle (words : List (List ℕ)) (file : List ℕ) (start rate : ℕ) : Type 0 where
+  pub start_text : List ℕ
+  pub rate_text : List ℕ
+  pub spelt : words ≡ codes "settle" ∷ file ∷ start_text ∷ rate_text ∷ []
+  pub start_is : natural_of 0 most_stated start_text ≡ Ok start
+  pub rate_is : natural_of 0 most_stated rate_text ≡ Ok rate
+
+-- `make SEED DOUBLES`, with two numbers
+pub record AsksMake (words : List (List ℕ)) (seed doubles : ℕ) : Type 0 where
+  pub seed_text : List ℕ
+  pub doubles_text : List ℕ
+  pub spelt : words ≡ codes "make" ∷ seed_text ∷ doubles_text ∷ []
+  pub seed_is : natural_of 0 4_294_967_295 seed_text ≡ Ok seed
+  pub doubles_is : natural_of 1 10_000 doubles_text ≡ Ok doubles
+
+-- `nm WIDTH FILE`, with a number of bytes
+pub record AsksNm (words : List (List ℕ)) (width : ℕ) (file : List ℕ) : Type 0 where
+  pub width_text : List ℕ
+  pub spelt : words ≡ codes "nm" ∷ width_text ∷ file ∷ []
+  pub width_is : natural_of 1 12 width_text ≡ Ok width
+
+-- the words ask for this: `frame A FILE` or `frame B FILE`; `bound PARAMS`; `settle PARAMS START RATE`; `run PARAMS DRIFT SCRIPT`;
+-- `make SEED DOUBLES`; `trace PARAMS DRIFT SCRIPT`; `capture A FILE` or `capture B FILE`; `nm WIDTH FILE`;
+-- `cold PARAMS POWER`; `check PARAMS TRACE`
 abbrev pub AsksFor : List (List ℕ) → Asked → Type 0
 AsksFor words (frame channel file) = words ≡ codes "frame" ∷ letter channel ∷ file ∷ []
 AsksFor words (bound file) = words ≡ codes "bound" ∷ file ∷ []
+AsksFor words (settle file start rate) = AsksSettle words file start rate
 AsksFor words (run names) = words ≡ codes "run" ∷ names.params ∷ names.drift ∷ names.script ∷ []
+AsksFor words (make seed doubles) = AsksMake words seed doubles
+AsksFor words (capture channel file) = words ≡ codes "capture" ∷ letter channel ∷ file ∷ []
+AsksFor words (nm width file) = AsksNm words width file
+AsksFor words (cold names) = words ≡ codes "cold" ∷ names.params ∷ names.power ∷ []
+AsksFor words (trace names) = words ≡ codes "trace" ∷ names.params ∷ names.drift ∷ names.script ∷ []
+AsksFor words (check names) = words ≡ codes "check" ∷ names.params ∷ names.trace ∷ []
 
 -- the words are no request
 abbrev pub IsNoRequest : List (List ℕ) → Type 0
@@ -42,9 +80,23 @@ IsNoRequest words = (asked : Asked) → AsksFor words asked → ⊥
 abbrev pub asked_of : Request → Asked
 asked_of (Frame channel file) = frame channel file.now
 asked_of (Bound file) = bound file.now
+asked_of (Settle file start rate) = settle file.now start rate
 asked_of (Run files) = run (names_of files)
+asked_of (Make seed doubles) = make seed doubles
+asked_of (Capture channel file) = capture channel file.now
+asked_of (Nm width file) = nm width file.now
+asked_of (Cold files) = cold (cold_names files)
+asked_of (Trace files) = trace (names_of files)
+asked_of (Check files) = check (check_names files)
 
 -- what words are read as: a request that asks for what they ask for, or none
 abbrev pub IsRequestOf : List (List ℕ) → Option Request → Type 0
 IsRequestOf words None = IsNoRequest words
 IsRequestOf words (Some request) = AsksFor words (asked_of request)
+
+-- its numbers lie in their ranges
+abbrev pub IsInRange : Request → Type 0
+IsInRange (Settle file start rate) = (start ≤ most_stated) × (rate ≤ most_stated)
+IsInRange (Make seed doubles) = IsProperCount doubles
+IsInRange (Nm width file) = (1 ≤ width) × (width ≤ 12)
+IsInRange other = Unit {0}

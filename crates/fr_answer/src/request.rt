@@ -1,67 +1,149 @@
-ghost use Rattle.std.specs.Prelude.{◌∷◌, []};
-ghost use Rattle.fr_answer.specs.Request.{IsRequestOf, texts};
+ghost use Rattle.std.specs.Prelude.{◌∷◌, [], codes, IfSome};
+ghost use Rattle.fr_answer.specs.Request.{IsInRange, IsRequestOf, texts};
 
+use fr_answer_check::CheckFiles;
+use fr_answer_cold::ColdFiles;
+use fr_answer_run::RunFiles;
 use fr_base::Channel;
+use fr_records::natural;
+
+// The greatest number of ticks that may be stated.
+const MOST_STATED: u64 = 1_000_000_000_000;
 
 /// What the words ask for.
 #[derive(Clone, Copy)]
 pub enum Request<'a> {
     /// Decode the bytes of the file as a frame on the channel.
-    Frame { channel: Channel, file: &'a str },
+    Frame {
+        channel: Channel,
+        file: &'a str,
+    },
     /// Print the bounds and checks of the parameters in the file.
-    Bound { file: &'a str },
+    Bound {
+        file: &'a str,
+    },
+    /// Print how long clocks take until they are in sync that begin at most so many ticks apart, and the lengths of whose
+    /// first two cycles lie at most so many ticks apart.
+    Settle {
+        file: &'a str,
+        start: u64,
+        rate: u64,
+    },
     /// Run the cluster that the files decide, and print the report.
     Run(RunFiles<'a>),
-}
-
-/// The names of the files that decide a run.
-#[derive(Clone, Copy)]
-pub struct RunFiles<'a> {
-    /// The parameters of the cluster.
-    pub params: &'a str,
-    /// Its oscillators and delays.
-    pub drift: &'a str,
-    /// What is done to its frames.
-    pub script: &'a str,
+    /// Run the cluster of a seed over so many double cycles, and print the report.
+    Make {
+        seed: u32,
+        doubles: u32,
+    },
+    /// List the frames of the recording in the file, on the channel.
+    Capture {
+        channel: Channel,
+        file: &'a str,
+    },
+    /// Print the network management vectors of so many bytes of the recording in the file.
+    Nm {
+        width: usize,
+        file: &'a str,
+    },
+    /// Print who leads the startup that the files decide.
+    Cold(ColdFiles<'a>),
+    /// Run the cluster that the files decide, and print the trace of the run.
+    Trace(RunFiles<'a>),
+    /// Say whether a recorded trace is that of a lawful and covered run.
+    Check(CheckFiles<'a>),
 }
 
 /// Reads the words by position. It takes no memory.
+#[tactic(auto, using(crate::proofs::Requests::asks_not_short, crate::proofs::Requests::asks_not_long))]
 pub fn request_of(words: &[String]) -> Option<Request<'_>>
-    ensures { IsRequestOf (texts words.now) result }
+    ensures asks { IsRequestOf (texts words.now) result }
+    ensures range { IfSome result IsInRange }
 {
     match words {
-        [command, channel, file] => frame_request(
-            command.as_str(),
-            channel.as_str(),
-            file.as_str(),
-        ),
+        [command, channel, file] => {
+            request_of_three(command.as_str(), channel.as_str(), file.as_str())
+        }
         [command, file] => bound_request(command.as_str(), file.as_str()),
-        [command, params, drift, script] => run_request(
+        [command, first, second, third] => request_of_four(
             command.as_str(),
-            RunFiles {
-                params: params.as_str(),
-                drift: drift.as_str(),
-                script: script.as_str(),
-            },
+            first.as_str(),
+            second.as_str(),
+            third.as_str(),
         ),
         _ => None,
     }
 }
 
-fn frame_request<'a>(command: &str, channel: &str, file: &'a str) -> Option<Request<'a>>
-    ensures { IsRequestOf (command.now ∷ channel.now ∷ file.now ∷ []) result }
+fn request_of_three<'a>(command: &str, first: &'a str, second: &'a str) -> Option<Request<'a>>
+    ensures asks { IsRequestOf (command.now ∷ first.now ∷ second.now ∷ []) result }
+    ensures range { IfSome result IsInRange }
 {
     match command {
-        "frame" => {
-            let channel = Channel::spelt(channel.as_bytes())?;
-            Some(Request::Frame { channel, file })
-        }
+        "frame" => frame_request(first, second),
+        "capture" => capture_request(first, second),
+        "make" => make_request(first, second),
+        "nm" => nm_request(first, second),
+        "cold" => Some(Request::Cold(ColdFiles {
+            params: first,
+            power: second,
+        })),
+        "check" => Some(Request::Check(CheckFiles {
+            params: first,
+            trace: second,
+        })),
         _ => None,
+    }
+}
+
+fn frame_request<'a>(channel: &str, file: &'a str) -> Option<Request<'a>>
+    ensures asks { IsRequestOf (codes "frame" ∷ channel.now ∷ file.now ∷ []) result }
+    ensures range { IfSome result IsInRange }
+{
+    let channel = Channel::spelt(channel.as_bytes())?;
+    Some(Request::Frame { channel, file })
+}
+
+fn capture_request<'a>(channel: &str, file: &'a str) -> Option<Request<'a>>
+    ensures asks { IsRequestOf (codes "capture" ∷ channel.now ∷ file.now ∷ []) result }
+    ensures range { IfSome result IsInRange }
+{
+    let channel = Channel::spelt(channel.as_bytes())?;
+    Some(Request::Capture { channel, file })
+}
+
+fn make_request<'a>(seed: &str, doubles: &str) -> Option<Request<'a>>
+    ensures asks { IsRequestOf (codes "make" ∷ seed.now ∷ doubles.now ∷ []) result }
+    ensures range { IfSome result IsInRange }
+{
+    match natural(seed.as_bytes(), 0, 4_294_967_295) {
+        Ok(seed) => match natural(doubles.as_bytes(), 1, 10_000) {
+            Ok(doubles) => Some(Request::Make {
+                seed: seed as u32,
+                doubles: doubles as u32,
+            }),
+            Err(_) => None,
+        },
+        Err(_) => None,
+    }
+}
+
+fn nm_request<'a>(width: &str, file: &'a str) -> Option<Request<'a>>
+    ensures asks { IsRequestOf (codes "nm" ∷ width.now ∷ file.now ∷ []) result }
+    ensures range { IfSome result IsInRange }
+{
+    match natural(width.as_bytes(), 1, 12) {
+        Ok(width) => Some(Request::Nm {
+            width: width as usize,
+            file,
+        }),
+        Err(_) => None,
     }
 }
 
 fn bound_request<'a>(command: &str, file: &'a str) -> Option<Request<'a>>
-    ensures { IsRequestOf (command.now ∷ file.now ∷ []) result }
+    ensures asks { IsRequestOf (command.now ∷ file.now ∷ []) result }
+    ensures range { IfSome result IsInRange }
 {
     match command {
         "bound" => Some(Request::Bound { file }),
@@ -69,12 +151,40 @@ fn bound_request<'a>(command: &str, file: &'a str) -> Option<Request<'a>>
     }
 }
 
-fn run_request<'a>(command: &str, files: RunFiles<'a>) -> Option<Request<'a>>
-    ensures { IsRequestOf
-        (command.now ∷ files.entry.params.now ∷ files.entry.drift.now ∷ files.entry.script.now ∷ []) result }
+fn request_of_four<'a>(
+    command: &str,
+    first: &'a str,
+    second: &'a str,
+    third: &'a str,
+) -> Option<Request<'a>>
+    ensures asks { IsRequestOf (command.now ∷ first.now ∷ second.now ∷ third.now ∷ []) result }
+    ensures range { IfSome result IsInRange }
 {
     match command {
-        "run" => Some(Request::Run(files)),
+        "run" => Some(Request::Run(RunFiles {
+            params: first,
+            drift: second,
+            script: third,
+        })),
+        "trace" => Some(Request::Trace(RunFiles {
+            params: first,
+            drift: second,
+            script: third,
+        })),
+        "settle" => settle_request(first, second, third),
         _ => None,
+    }
+}
+
+fn settle_request<'a>(file: &'a str, start: &str, rate: &str) -> Option<Request<'a>>
+    ensures asks { IsRequestOf (codes "settle" ∷ file.now ∷ start.now ∷ rate.now ∷ []) result }
+    ensures range { IfSome result IsInRange }
+{
+    match natural(start.as_bytes(), 0, MOST_STATED) {
+        Ok(start) => match natural(rate.as_bytes(), 0, MOST_STATED) {
+            Ok(rate) => Some(Request::Settle { file, start, rate }),
+            Err(_) => None,
+        },
+        Err(_) => None,
     }
 }

@@ -1,16 +1,14 @@
 ghost use Rattle.std.specs.Prelude.{◌≡◌, ◌↔◌, ◌+◌, ◌≤◌, Err};
 ghost use Rattle.fr_text.specs.Pieces.{line};
-ghost use Rattle.fr_answer.specs.declared.failure.Failure.TheVariants.{Usage};
+ghost use Rattle.fr_ending.specs.declared.failure.Failure.TheVariants.{Usage};
 ghost use Rattle.fr_answer.specs.Answer.{Ends, IsProgramAnswer, IsDefinedBy, WordsEnd, file_count};
-ghost use Rattle.fr_answer.specs.Around.{IsLinePut, around_of};
-ghost use Rattle.fr_answer.specs.Failure.{EndingWritesNothing, WritesNothing, failure_text};
-ghost use Rattle.fr_answer.specs.Request.{Asked, AsksFor, IsNoRequest, asked_of, texts};
+ghost use Rattle.fr_ending.specs.Around.{IsLinePut, around_of};
+ghost use Rattle.fr_ending.specs.Failure.{EndingWritesNothing, WritesNothing, failure_text};
+ghost use Rattle.fr_answer.specs.Request.{Asked, AsksFor, IsInRange, IsNoRequest, asked_of, texts};
 
-use crate::failure::Failure;
 use crate::request::{Request, request_of};
-use crate::status::Status;
-use crate::{bound, frame, run};
 use fr_base::{Shelf, Sink};
+use fr_ending::{Failure, Status};
 use std::alloc::Global;
 
 /// Does what the words ask for, which are those after the program's name: loads the files that they name
@@ -75,15 +73,29 @@ fn carry_out<S: Shelf, O: Sink>(
     shelf: &mut S,
     out: &mut O,
 ) -> Result<(), Failure>
+    requires { IsInRange request }
     ensures ends { Ends (asked_of request.entry)
         (around_of (S.state shelf.old) (S.state shelf.new) (O.state out.old) (O.state out.new)) result }
     ensures loads { (S.state shelf.new).loads ≤ (S.state shelf.old).loads + file_count (asked_of request.entry) result }
     ensures unwritten { EndingWritesNothing result → out.new ≡ out.old }
 {
     match request {
-        Request::Frame { channel, file } => frame::answer(alloc, channel, file, shelf, out),
-        Request::Bound { file } => bound::answer(alloc, file, shelf, out),
-        Request::Run(files) => run::answer(alloc, files, shelf, out),
+        Request::Frame { channel, file } => fr_answer_frame::answer(
+            alloc, channel, file, shelf, out,
+        ),
+        Request::Bound { file } => fr_answer_bound::answer(alloc, file, shelf, out),
+        Request::Settle { file, start, rate } => {
+            fr_answer_bound::settle_answer(alloc, file, start, rate, shelf, out)
+        }
+        Request::Run(files) => fr_answer_run::answer(alloc, files, shelf, out),
+        Request::Make { seed, doubles } => { fr_answer_run::answer_made(alloc, seed, doubles, out) }
+        Request::Capture { channel, file } => fr_answer_capture::answer(
+            alloc, channel, file, shelf, out,
+        ),
+        Request::Nm { width, file } => fr_answer_nm::answer(alloc, width, file, shelf, out),
+        Request::Cold(files) => fr_answer_cold::answer(alloc, files, shelf, out),
+        Request::Trace(files) => fr_answer_trace::answer(alloc, files, shelf, out),
+        Request::Check(files) => fr_answer_check::answer(alloc, files, shelf, out),
     }
 }
 

@@ -1,7 +1,6 @@
 -- The bounds and checks of worked clusters, computed.
-use Rattle.std.proofs.Common.{◌≡◌, ℕ, ℤ, pos, negsuc, List, [], ◌∷◌, true, false, refl}
+use Rattle.std.proofs.Common.{◌≡◌, ℕ, ℤ, pos, negsuc, [], ◌∷◌, true, false, refl}
 use Rattle.fr_base.specs.declared.node_row.NodeRow.{NodeRow}
-use Rattle.fr_base.specs.declared.state.State.{State}
 use Rattle.fr_base.specs.declared.state.State.TheVariants.{Active, Passive}
 use Rattle.fr_cluster.specs.Values.{Values}
 use Rattle.fr_bound.specs.Bounds.{y1_of, lambda_of, pi_of, precision_of}
@@ -10,7 +9,7 @@ use Rattle.fr_bound.specs.Sync.{is_in_sync}
 
 -- a cycle of 5 ms at a microtick of 25 ns, with this damping, offset limit, rate limit, action point offset and
 -- change bound; nodes and slots do not matter here
-abbrev cluster : ℕ → ℕ → ℕ → ℕ → ℕ → Values
+abbrev pub cluster : ℕ → ℕ → ℕ → ℕ → ℕ → Values
 cluster damping offset_limit rate_limit action_offset change_bound = record {
   macros = pos 5000;
   micros = pos 200000;
@@ -38,7 +37,7 @@ cluster damping offset_limit rate_limit action_offset change_bound = record {
 abbrev Sides : ℕ → Values → ℕ → ℕ → Type 0
 Sides number p left right = (left_of number p ≡ left) × (right_of number p ≡ right)
 
-abbrev reference : Values
+abbrev pub reference : Values
 reference = cluster 4 254 81 7 0
 
 reference_bounds : (y1_of reference ≡ 3000400) × (lambda_of reference ≡ 30005200) × (pi_of reference ≡ 190032800) × (precision_of reference ≡ 252043600)

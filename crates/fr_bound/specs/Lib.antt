@@ -1,4 +1,5 @@
 -- what the public contract cites
 pub mod Bounds
 pub mod Checks
+pub mod Settling
 pub mod Sync

@@ -49,7 +49,7 @@ pub fn checks(params: &Params) -> Result<(), u8>
     Ok(())
 }
 
-fn sides(params: &Params, number: u8) -> (u64, u64)
+pub(crate) fn sides(params: &Params, number: u8) -> (u64, u64)
     requires { IsCheck number }
     ensures { AreSides number params.now result.0 result.1 }
 {

@@ -5,7 +5,9 @@
 mod bounding;
 mod checking;
 mod laws;
+mod settling;
 
 pub use bounding::{BoundValues, bounds};
 pub use checking::{CheckSides, checks, side};
-pub use laws::{in_sync_is_tested, nothing_is_cut, one_first_failing};
+pub use laws::{in_sync_is_tested, nothing_is_cut, one_first_failing, one_settling};
+pub use settling::{Settling, Spread, settle};

@@ -17,7 +17,7 @@ after-append g s [] n = refl
 after-append g s (b ∷ m) n = after-append g (register_stepped g s b) m n
 
 -- zeros after a zero
-zeros_after : (s : List Bool) (k : ℕ) → s ++ zeros (suc k) ≡ (s ++ false ∷ []) ++ zeros k
+pub zeros_after : (s : List Bool) (k : ℕ) → s ++ zeros (suc k) ≡ (s ++ false ∷ []) ++ zeros k
 zeros_after [] k = refl
 zeros_after (t ∷ s) k = ap (λ (xs : List Bool). t ∷ xs) (zeros_after s k)
 

@@ -13,7 +13,7 @@ use Rattle.fr_crc.proofs.Remainders.{bits_first, bits_none, bits_same, length-bi
 pow-double : (n : ℕ) → 2 ^ suc n ≡ 2 * 2 ^ n
 pow-double n = omega arith
 
-number_of-lt : (bs : List Bool) → number_of_bits bs < 2 ^ length bs
+pub number_of-lt : (bs : List Bool) → number_of_bits bs < 2 ^ length bs
 number_of-lt [] = lit< tt
 number_of-lt (false ∷ bs) = omega (arith, number_of-lt bs, pow-double (length bs))
 number_of-lt (true ∷ bs) = omega (arith, number_of-lt bs, pow-double (length bs))
@@ -28,7 +28,7 @@ top_bit b n m small =
     tested false = refl
     tested true = refl
 
-bits-number_of : (bs : List Bool) → bits (length bs) (number_of_bits bs) ≡ bs
+pub bits-number_of : (bs : List Bool) → bits (length bs) (number_of_bits bs) ≡ bs
 bits-number_of [] = bits_none 0
 bits-number_of (b ∷ bs) =
     let low : bits (length bs) (number_of_bits (b ∷ bs)) ≡ bits (length bs) (number_of_bits bs) =

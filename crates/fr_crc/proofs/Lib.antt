@@ -5,3 +5,4 @@ pub mod Unique
 pub mod Steps
 pub mod Rows
 pub mod Existence
+pub mod Entering

@@ -47,6 +47,11 @@ header_crc_after sync startup id words first second third last fits one two thre
     ∙ sym (after-append g (register_stepped g (register_stepped g header_start sync) startup) (bits 11 id) (bits 7 words)) in
     record { fits = fits; remainder = remainder_of 11 0x385 0x01A (header_message sync startup id words) (bits 11 last) (lit< tt) whole }
 
+-- the register after all bits of a header at once
+pub header_crc_of_all : (sync startup : Bool) (id words last : ℕ) → last < 2 ^ 11 → bits 11 last ≡ after header_generator header_start (header_message sync startup id words) → IsHeaderCrc sync startup id words last
+header_crc_of_all sync startup id words last fits whole =
+    record { fits = fits; remainder = remainder_of 11 0x385 0x01A (header_message sync startup id words) (bits 11 last) (lit< tt) whole }
+
 pub frame_crc_after : (channel : Channel) (body : List ℕ) (start crc : ℕ) → crc < 2 ^ 24 → start ≡ frame_start channel →
     bits 24 crc ≡ after frame_generator (bits 24 start) (message_of body) → IsFrameCrc channel body crc
 frame_crc_after channel body start crc fits from whole =

@@ -3,3 +3,4 @@ pub mod Bits
 pub mod Crc
 pub mod Register
 pub mod Computed
+pub mod Entries

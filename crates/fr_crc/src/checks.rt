@@ -1,26 +1,14 @@
 ghost use Rattle.std.specs.Prelude.{◌≡◌, ℕ, ◌≤◌, length};
 ghost use Rattle.fr_crc.specs.Crc.{frame_start, IsHeaderCrc, IsFrameCrc};
 
-use crate::register::{Generator, after_bit, after_bits, after_bytes};
+use crate::tables::{after_body, after_twenty, covered};
 use fr_base::Channel;
-
-// The generator of the header CRC, x^11 + x^9 + x^8 + x^7 + x^2 + 1.
-pub(crate) const HEADER: Generator = Generator {
-    width: 11,
-    terms: 0x385,
-};
 
 // The start value of the header CRC, on both channels.
 pub(crate) const HEADER_START: u32 = 0x01A;
 
-// The terms of the frame CRC's generator below x^24.
-const FRAME: Generator = Generator {
-    width: 24,
-    terms: 0x5D6DCB,
-};
-
 // The start value of the frame CRC.
-fn start_on(channel: Channel) -> u32
+pub(crate) fn start_on(channel: Channel) -> u32
     ensures { result ≡ frame_start channel }
 {
     match channel {
@@ -37,11 +25,7 @@ pub fn header_crc(sync: bool, startup: bool, id: u16, words: u8) -> u16
     requires words { words ≤ 127 }
     ensures { IsHeaderCrc sync startup id words result }
 {
-    let register = after_bit(HEADER, HEADER_START, sync);
-    let register = after_bit(HEADER, register, startup);
-    let register = after_bits(HEADER, register, 11, u32::from(id));
-    let register = after_bits(HEADER, register, 7, u32::from(words));
-    register as u16
+    after_twenty(HEADER_START, covered(sync, startup, id, words)) as u16
 }
 
 /// The frame CRC, of 24 bits, over the bytes of header and payload (at most 259) as they are sent on
@@ -50,5 +34,5 @@ pub fn frame_crc(channel: Channel, body: &[u8]) -> u32
     requires { length body.now ≤ 259 }
     ensures { IsFrameCrc channel body.now result }
 {
-    after_bytes(FRAME, start_on(channel), body)
+    after_body(start_on(channel), body)
 }

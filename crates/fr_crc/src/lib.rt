@@ -1,11 +1,14 @@
 //! The two cyclic redundancy checks of a frame: the header CRC and the frame CRC (section 4.5 of the
 //! standard, CRC calculation details). Both are defined as the remainder of a division without carry,
-//! and computed by a shift register, bit by bit.
+//! and computed by a shift register: the header CRC by four bits at a time, the frame CRC by bytes, each
+//! with a table. The same register bit by bit stands beside them for tests to compare with.
 #![tactic(auto)]
 
 mod checks;
 mod laws;
+mod plain;
 mod register;
+mod tables;
 #[cfg(test)]
 mod tests;
 
@@ -13,3 +16,5 @@ pub use checks::{frame_crc, header_crc};
 pub use laws::{
     a_frame_crc, a_header_crc, a_remainder, one_frame_crc, one_header_crc, one_remainder,
 };
+pub use plain::{frame_crc_by_bits, header_crc_by_bits};
+pub use tables::{frame_entry, header_entry};

@@ -1,4 +1,5 @@
-use crate::checks::{HEADER, HEADER_START};
+use crate::checks::HEADER_START;
+use crate::plain::HEADER;
 use crate::register::after_bytes;
 
 // The published check value of the header CRC, over the nine ASCII digits from 1: they are no header, so the

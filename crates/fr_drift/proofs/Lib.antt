@@ -7,3 +7,4 @@ pub mod Outcomes
 pub mod Existence
 pub mod Worked
 pub mod LeastReason
+pub mod Adding

@@ -34,7 +34,7 @@ delay_exact a b h =
     λ i. record { sender = (pair i).0; receiver = (pair i).1.0; from = (pair i).1.1 }
 
 -- records stand for one drift against the same parameters
-stands-same : (p : Values) (d e : DriftView) (records : List FileRecord) → DriftStandsFor p d records → DriftStandsFor p e records → d ≡ e
+pub stands-same : (p : Values) (d e : DriftView) (records : List FileRecord) → DriftStandsFor p d records → DriftStandsFor p e records → d ≡ e
 stands-same p d e records f g = λ i. record {
   doubles = doubles i;
   compensation_a = a i;

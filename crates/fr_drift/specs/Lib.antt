@@ -9,6 +9,8 @@ pub mod Sane
 pub mod Questions
 pub mod Draft
 pub mod Files
+pub mod Written
+pub mod Adding
 pub mod Holding
 -- what only functions inside cite
 pub mod Spans

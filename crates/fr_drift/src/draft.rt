@@ -1,4 +1,4 @@
-ghost use Rattle.std.specs.Prelude.{◌≡◌, [], Some, None, ◌&&◌, IfOk, is_some, if◌then◌else◌};
+ghost use Rattle.std.specs.Prelude.{◌≡◌, [], Some, None, ◌&&◌, IfOk, OnErr, is_some, if◌then◌else◌};
 ghost use Rattle.std.specs.BTreeMap.{get};
 ghost use Rattle.fr_base.specs.declared.reason.Reason.TheVariants as reason;
 ghost use Rattle.fr_cluster.specs.Values.{Values};
@@ -116,14 +116,16 @@ impl Draft {
     }
 }
 
-// Puts a value under a key, or answers `Repeated` where the key has one.
-fn put<K: Ord + Copy, V: Drop>(
+// Puts a value under a key, or answers `Repeated` where the key has one. Where memory runs out nothing
+// is put.
+pub(crate) fn put<K: Ord + Copy, V: Drop>(
     rows: &mut BTreeMap<K, V>,
     key: K,
     value: V,
 ) -> Result<Option<Reason>, AllocError>
     ensures why { IfOk result (λ why. why ≡ (if is_some (get K.cmp rows.old key) then Some reason.Repeated else None)) }
     ensures puts { IfOk result (λ why. why ≡ None → IsEntryPut K.cmp rows.old rows.new key value) }
+    ensures kept { OnErr result (rows.new.entries ≡ rows.old.entries) }
 {
     if rows.contains_key(&key) {
         return Ok(Some(Reason::Repeated));

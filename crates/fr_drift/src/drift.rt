@@ -33,10 +33,10 @@ pub struct Drift {
     doubles: u32,
     compensation_a: i64,
     compensation_b: i64,
-    starts: BTreeMap<NodeId, Start>,
-    lengths: BTreeMap<LengthKey, i64>,
-    delays_a: BTreeMap<DelayKey, i64>,
-    delays_b: BTreeMap<DelayKey, i64>,
+    pub(crate) starts: BTreeMap<NodeId, Start>,
+    pub(crate) lengths: BTreeMap<LengthKey, i64>,
+    pub(crate) delays_a: BTreeMap<DelayKey, i64>,
+    pub(crate) delays_b: BTreeMap<DelayKey, i64>,
 }
 
 impl Model for Drift {

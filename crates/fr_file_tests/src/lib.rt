@@ -4,10 +4,26 @@
 #[cfg(test)]
 mod coverage;
 #[cfg(test)]
+mod cuts;
+#[cfg(test)]
 mod drift;
+#[cfg(test)]
+mod gaps;
 #[cfg(test)]
 mod params;
 #[cfg(test)]
 mod records;
 #[cfg(test)]
 mod script;
+#[cfg(test)]
+mod silent;
+#[cfg(test)]
+mod startup;
+#[cfg(test)]
+mod trace;
+#[cfg(test)]
+mod typed;
+#[cfg(test)]
+mod vectors;
+#[cfg(test)]
+mod verdict;

@@ -40,7 +40,7 @@ trailer_small b fits (suc (suc zero)) below = omega arith
 trailer_small b fits (suc (suc (suc k))) below = absurd (omega arith)
 
 -- the header that is there is the one that is read
-header_found : (bytes : List ℕ) (h : Header) (kept : ℕ) → 8 ≤ length bytes → HasHeader bytes h kept → (header_of bytes ≡ h) × (header_crc_in bytes ≡ kept)
+pub header_found : (bytes : List ℕ) (h : Header) (kept : ℕ) → 5 ≤ length bytes → HasHeader bytes h kept → (header_of bytes ≡ h) × (header_crc_in bytes ≡ kept)
 header_found bytes h kept enough holds =
     let small : (k : ℕ) → k < 5 → get_or bytes k 0 < 256 = λ (k : ℕ) (below : k < 5).
     let e : get_or bytes k 0 ≡ get_or (header_bytes h kept) k 0 = sym (get_or-take 5 bytes k 0 below) ∙ ap (λ (xs : List ℕ). get_or xs k 0) holds.spelled in
@@ -59,11 +59,11 @@ enough_read : (channel : Channel) (bytes : List ℕ) (h : Header) (kept : ℕ) �
 unfolding read_as
 enough_read channel bytes h kept enough holds =
     cond-false (nat_lt (length bytes) 8) (Err (Short (length bytes))) (read_enough channel bytes (header_of bytes)) (le-ltb (length bytes) 8 enough)
-    ∙ ap (read_enough channel bytes) (header_found bytes h kept enough holds).0
+    ∙ ap (read_enough channel bytes) (header_found bytes h kept (omega arith) holds).0
 
 right_read : (channel : Channel) (bytes : List ℕ) (h : Header) (a : ℕ) → HasRightHeader bytes h a → read_as channel bytes ≡ read_right channel bytes h
 right_read channel bytes h a right =
-    let kept : header_crc_in bytes ≡ a = (header_found bytes h a right.enough right.holds).1 in
+    let kept : header_crc_in bytes ≡ a = (header_found bytes h a (omega (arith, right.enough)) right.holds).1 in
     let computed : crc_of h ≡ a = header_crc_is_one h.sync h.startup h.id h.words (crc_of h) a (a_header_crc h.sync h.startup h.id h.words) right.right in
     enough_read channel bytes h a right.enough right.holds
     ∙ cond-true (header_crc_in bytes == crc_of h) (read_right channel bytes h) (Err (HeaderCrc (header_crc_in bytes) (crc_of h))) (eq-eqb (header_crc_in bytes) (crc_of h) (kept ∙ sym computed))
@@ -109,7 +109,7 @@ pub fault_read : (channel : Channel) (bytes : List ℕ) (fault : FrameFault) →
 fault_read channel bytes (Short given) is = short_read channel bytes given is
 fault_read channel bytes (HeaderCrc kept computed) is =
     let h : Header = is.header in
-    let held : header_crc_in bytes ≡ kept = (header_found bytes h kept is.enough is.holds).1 in
+    let held : header_crc_in bytes ≡ kept = (header_found bytes h kept (omega (arith, is.enough)) is.holds).1 in
     let whole : crc_of h ≡ computed = header_crc_is_one h.sync h.startup h.id h.words (crc_of h) computed (a_header_crc h.sync h.startup h.id h.words) is.right in
     enough_read channel bytes h kept is.enough is.holds
     ∙ cond-false (header_crc_in bytes == crc_of h) (read_right channel bytes h) (Err (HeaderCrc (header_crc_in bytes) (crc_of h))) (ne_eqb (header_crc_in bytes) (crc_of h) (λ (e : header_crc_in bytes ≡ crc_of h). is.differs (sym held ∙ e ∙ whole)))

@@ -6,3 +6,4 @@ pub mod Found
 pub mod Exact
 pub mod FirstRefusal
 pub mod Rows
+pub mod Fronts

@@ -43,7 +43,7 @@ first_five bytes enough =
     let whole : front ≡ get_or front 0 0 ∷ get_or front 1 0 ∷ get_or front 2 0 ∷ get_or front 3 0 ∷ get_or front 4 0 ∷ [] = five front (length-take-le 5 bytes enough) in
     cc
 
-pub header_held : (bytes : List ℕ) → ((k : ℕ) → k < 5 → get_or bytes k 0 < 256) → 8 ≤ length bytes → HasHeader bytes (header_of bytes) (header_crc_in bytes)
+pub header_held : (bytes : List ℕ) → ((k : ℕ) → k < 5 → get_or bytes k 0 < 256) → 5 ≤ length bytes → HasHeader bytes (header_of bytes) (header_crc_in bytes)
 header_held bytes small enough =
     let b0 : ℕ = get_or bytes 0 0 in
     let b1 : ℕ = get_or bytes 1 0 in
@@ -67,7 +67,7 @@ header_held bytes small enough =
     let e2 : b2 ≡ 2 * h.words + kept / 1024 = omega arith in
     let e3 : b3 ≡ kept / 4 % 256 = omega arith in
     let e4 : b4 ≡ 64 * (kept % 4) + h.cycle = omega arith in
-    let first : take 5 bytes ≡ b0 ∷ b1 ∷ b2 ∷ b3 ∷ b4 ∷ [] = first_five bytes (omega arith) in
+    let first : take 5 bytes ≡ b0 ∷ b1 ∷ b2 ∷ b3 ∷ b4 ∷ [] = first_five bytes enough in
     let list : b0 ∷ b1 ∷ b2 ∷ b3 ∷ b4 ∷ [] ≡ header_bytes h kept = cc in
     record {
       id_fits = omega arith;
@@ -154,4 +154,4 @@ reads channel bytes bound =
     cond_both (nat_lt (length bytes) 8) (Err (Short (length bytes))) (read_enough channel bytes (header_of bytes)) (Reads channel bytes)
     (λ few. record { counted = refl; few = ltb-true (length bytes) 8 few })
     (λ more. let enough : 8 ≤ length bytes = ltb-false (length bytes) 8 more in
-    reads_enough channel bytes (header_of bytes) small enough (header_held bytes (λ k below. small k) enough))
+    reads_enough channel bytes (header_of bytes) small enough (header_held bytes (λ k below. small k) (omega arith)))

@@ -1,4 +1,4 @@
-ghost use Rattle.std.specs.Prelude.{◌≡◌, ℕ, ◌+◌, ◌*◌, ◌^◌, ◌<◌, ◌≤◌, Ok, Err, List, All, length};
+ghost use Rattle.std.specs.Prelude.{◌≡◌, ℕ, ◌+◌, ◌*◌, ◌^◌, ◌<◌, ◌≤◌, ◌++◌, Ok, Err, List, All, length};
 ghost use Rattle.fr_base.specs.declared.channel.Channel.{Channel};
 ghost use Rattle.fr_frame.specs.declared.header.Header.{Header};
 ghost use Rattle.fr_frame.specs.declared.fault.FrameFault.{FrameFault};
@@ -27,6 +27,15 @@ pub fn frame_length()
     ensures { (channel : Channel) (header : Header) (payload bytes : List ℕ) →
         IsFrame channel header payload bytes →
         (length bytes ≡ 8 + 2 * header.words) × (length bytes ≤ 262) }
+{}
+
+/// A law: no frame's bytes are a proper front of another's on the same channel. Where two frames stand at
+/// the front of the same bytes, they have the same bytes, and the same stands behind them.
+pub fn no_frame_is_a_front()
+    ensures { (channel : Channel) (header other : Header)
+        (payload rest first second behind beyond : List ℕ) →
+        IsFrame channel header payload first → IsFrame channel other rest second →
+        first ++ behind ≡ second ++ beyond → (first ≡ second) × (behind ≡ beyond) }
 {}
 
 /// A law: bytes that have a first fault are no frame.

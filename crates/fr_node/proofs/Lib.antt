@@ -1,4 +1,5 @@
 pub mod Written
 pub mod Fitting
 pub mod Floors
+pub mod Placing
 pub mod Ending

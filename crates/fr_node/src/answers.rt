@@ -1,18 +1,25 @@
-ghost use Rattle.std.specs.Prelude.{◌≡◌, ◌-ℤ◌, pos, Ok, []};
+ghost use Rattle.std.specs.Prelude.{◌≡◌, ◌+ℤ◌, ◌-ℤ◌, ◌≤◌, pos, Ok, [], IfNone, IfSome, true};
 ghost use Rattle.fr_base.specs.Timed.{IsTimed};
 ghost use Rattle.fr_base.specs.Within.{IsBetween, IsWithin};
+ghost use Rattle.fr_cluster.specs.Values.{amount};
+ghost use Rattle.fr_cluster.specs.declared.names.ParamName.TheVariants as name;
 ghost use Rattle.fr_frame.specs.Reading.{read_as};
 ghost use Rattle.fr_time.specs.Instant.{IsInCycle, IsSlotOf};
 ghost use Rattle.fr_time.specs.Position.{floor_of};
+ghost use Rattle.fr_time.specs.Slots.{slot_end_of, slot_start_of};
 ghost use Rattle.fr_reception.specs.Answers.{answer_by, answer_of};
 ghost use Rattle.fr_reception.specs.Offers.{deviation_of};
-ghost use Rattle.fr_node.specs.Arrivals.{offer_with, IfStored};
+ghost use Rattle.fr_node.specs.Arrivals.{offer_with, IfStored, LiesInSlot, LiesOutside};
 
+use crate::quotients::{lies_between, quotient};
 use fr_base::{Channel, NodeRow, Slot};
 use fr_cluster::{ParamName, Params};
 use fr_frame::{FrameFault, Header, decode};
 use fr_reception::{Heard, Ignored};
-use fr_time::{action_point, cycle_count, early_position, slot_instants};
+use fr_time::{action_point, cycle_count, early_position, grid_of, slot_bounds, slot_instants};
+
+// As a rule no frame comes so many microticks before it is due.
+const NEAR: i64 = 1024;
 
 // Where and when a frame comes.
 #[derive(Clone, Copy)]
@@ -24,7 +31,7 @@ pub(crate) struct Arrival {
 }
 
 // What the bytes are on the channel.
-fn read(channel: Channel, bytes: &[u8]) -> Result<Header, FrameFault>
+pub(crate) fn read(channel: Channel, bytes: &[u8]) -> Result<Header, FrameFault>
     ensures { result ≡ read_as channel bytes.now }
 {
     match decode(channel, bytes) {
@@ -33,14 +40,46 @@ fn read(channel: Channel, bytes: &[u8]) -> Result<Header, FrameFault>
     }
 }
 
-// How many whole microticks lie between the start of a cycle and an instant in it.
-fn microticks_until(row: &NodeRow, at: i64) -> i64
+// The length of a microtick, in ticks.
+fn length_of(row: &NodeRow) -> u64
+    requires { IsTimed row.now }
+    ensures value { pos result ≡ row.now.length }
+    ensures some { 1 ≤ result }
+    ensures most { result ≤ 1_500_000 }
+{
+    row.length as u64
+}
+
+// The ticks from the start of a cycle to an instant in it.
+fn ticks_until(row: &NodeRow, at: i64) -> u64
     requires timed { IsTimed row.now }
     requires at { IsInCycle row.now at }
+    ensures value { pos result ≡ at -ℤ row.now.start }
+    ensures most { result ≤ 1_050_000_000_000 }
+{
+    (at - row.start) as u64
+}
+
+// From where the microticks of an arrival are counted: a frame that is due after so many comes behind it, as a rule.
+fn before_due(due: i64) -> u64
+    requires { IsBetween (pos 0) (pos 700_000) due }
+    ensures { result ≤ 700_000 }
+{
+    if due < NEAR { 0 } else { (due - NEAR) as u64 }
+}
+
+// How many whole microticks lie between the start of a cycle and an instant in it, at which a frame comes that was
+// due after so many.
+fn microticks_until(row: &NodeRow, at: i64, due: i64) -> i64
+    requires timed { IsTimed row.now }
+    requires at { IsInCycle row.now at }
+    requires due { IsBetween (pos 0) (pos 700_000) due }
     ensures value { result ≡ floor_of (at -ℤ row.now.start) row.now.length }
     ensures within { IsBetween (pos 0) (pos 700_000) result }
 {
-    (at - row.start).div_euclid(row.length)
+    let ticks = ticks_until(row, at);
+    let length = length_of(row);
+    quotient(ticks, length, before_due(due)) as i64
 }
 
 // The deviation of an arrival in its slot, in microticks.
@@ -50,8 +89,8 @@ fn deviation(params: &Params, row: &NodeRow, arrival: Arrival) -> i32
     ensures value { result ≡ deviation_of params.now row.now (offer_with arrival []) }
     ensures within { IsWithin (pos 1000000) result }
 {
-    let passed = microticks_until(row, arrival.at);
     let due = early_position(params, row.rate, action_point(params, arrival.slot));
+    let passed = microticks_until(row, arrival.at, due);
     (passed - params.compensation(arrival.channel) - due) as i32
 }
 
@@ -90,7 +129,83 @@ fn judged(params: &Params, cycle: u32, row: &NodeRow, arrival: Arrival, header: 
     Heard::Stored(deviation(params, row, arrival))
 }
 
-// The answer of a node with this row to a frame in a cycle.
+// The ticks from the start of a cycle to an instant, where that lies in the cycle.
+fn ticks_since(row: &NodeRow, at: i64) -> Option<u64>
+    requires { IsTimed row.now }
+    ensures value { IfSome result (λ ticks. pos ticks ≡ at -ℤ row.now.start) }
+    ensures in_cycle { IfSome result (λ ticks. IsInCycle row.now at) }
+    ensures most { IfSome result (λ ticks. ticks ≤ 1_050_000_000_000) }
+{
+    if at < row.start {
+        return None;
+    }
+    let since = at - row.start;
+    if since > 700_000 * row.length {
+        return None;
+    }
+    Some(since as u64)
+}
+
+// The microticks of a cycle with its rate term.
+fn micros_of(params: &Params, row: &NodeRow) -> u64
+    requires { IsWithin params.now.rate_limit row.now.rate }
+    ensures value { pos result ≡ params.now.micros +ℤ row.now.rate }
+    ensures most { result ≤ 660_000 }
+{
+    (grid_of(params).micros + row.rate as i64) as u64
+}
+
+// The macroticks of a cycle.
+fn macros_of(params: &Params) -> u64
+    ensures value { pos result ≡ params.now.macros }
+    ensures some { 1 ≤ result }
+    ensures most { result ≤ 16_000 }
+{
+    grid_of(params).macros as u64
+}
+
+// The macroticks between which a static slot lies.
+fn bounds_of(params: &Params, slot: Slot) -> (u64, u64)
+    requires { slot ≤ amount params.now name.gNumberOfStaticSlots }
+    ensures value { result ≡ (slot_start_of params.now slot, slot_end_of params.now slot) }
+    ensures begin { result.0 ≤ 16_000 }
+    ensures end { result.1 ≤ 16_000 }
+{
+    let (begin, end) = slot_bounds(params, slot);
+    (begin as u64, end as u64)
+}
+
+// Whether a frame lies in its slot by more than a microtick, which takes no division. Most that are heard do.
+fn is_well_within(params: &Params, row: &NodeRow, slot: Slot, at: i64) -> bool
+    requires slot { IsSlotOf params.now row.now slot }
+    ensures { result ≡ true → LiesInSlot params.now row.now slot at }
+{
+    let Some(ticks) = ticks_since(row, at) else {
+        return false;
+    };
+    let (begin, end) = bounds_of(params, slot);
+    let micros = micros_of(params, row);
+    let macros = macros_of(params);
+    lies_between(begin, end, micros, macros, length_of(row), ticks)
+}
+
+// The instants at which its slot begins and ends at a node, where a frame does not arrive between them.
+fn outside(params: &Params, row: &NodeRow, slot: Slot, at: i64) -> Option<(i64, i64)>
+    requires slot { IsSlotOf params.now row.now slot }
+    ensures out { IfSome result (LiesOutside params.now row.now slot at) }
+    ensures within { IfNone result (LiesInSlot params.now row.now slot at) }
+{
+    if is_well_within(params, row, slot, at) {
+        return None;
+    }
+    let (from, to) = slot_instants(params, row, slot);
+    if at < from || at >= to {
+        return Some((from, to));
+    }
+    None
+}
+
+// The answer of a node with this row to a frame in a cycle, of which `told` says what it is on its channel.
 #[tactic(auto, unfolding(fr_reception::specs::Answers::answer_of))]
 pub(crate) fn answer(
     params: &Params,
@@ -98,21 +213,22 @@ pub(crate) fn answer(
     row: &NodeRow,
     arrival: Arrival,
     bytes: &[u8],
+    told: &Result<Header, FrameFault>,
 ) -> Heard
-    requires { IsSlotOf params.now row.now arrival.slot }
+    requires slot { IsSlotOf params.now row.now arrival.slot }
+    requires told { told.now ≡ read_as arrival.channel bytes.now }
     ensures value { result ≡ answer_of params.now cycle row.now (offer_with arrival bytes.now) }
     ensures within { IfStored result (IsWithin (pos 1000000)) }
 {
-    let (from, to) = slot_instants(params, row, arrival.slot);
-    if arrival.at < from || arrival.at >= to {
+    if let Some((from, to)) = outside(params, row, arrival.slot, arrival.at) {
         return Heard::Ignored(Ignored::Outside {
             arrival: arrival.at,
             from,
             to,
         });
     }
-    match read(arrival.channel, bytes) {
-        Err(fault) => Heard::Ignored(Ignored::Damaged(fault)),
-        Ok(header) => judged(params, cycle, row, arrival, &header),
+    match told {
+        Err(fault) => Heard::Ignored(Ignored::Damaged(*fault)),
+        Ok(header) => judged(params, cycle, row, arrival, header),
     }
 }

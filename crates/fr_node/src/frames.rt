@@ -1,13 +1,15 @@
 ghost use Rattle.std.specs.Prelude.{◌≡◌, ◌+◌, ◌≤◌, ◌++◌, true, false, Some, length, take, drop};
 ghost use Rattle.fr_cluster.specs.Values.{amount};
 ghost use Rattle.fr_cluster.specs.declared.names.ParamName.TheVariants as name;
+ghost use Rattle.fr_frame.specs.Reading.{read_as};
 ghost use Rattle.fr_time.specs.Cycles.{cycle_count};
 ghost use Rattle.fr_time.specs.Senders.{sender_of};
 ghost use Rattle.fr_reception.specs.Regular.{has_payload, is_coldstart, is_sync_frame, payload_byte, payload_bytes, payload_of, regular_frame, regular_header};
 
+use crate::own::sane;
 use fr_base::{Channel, NodeId, Slot};
 use fr_cluster::{ParamName, Params};
-use fr_frame::{Header, encode};
+use fr_frame::{FrameFault, Header, encode};
 use fr_time::{Kind, Sending, cycle_count};
 
 /// Writes the regular frame of a static slot in a cycle, as its sender sends it on a channel, to the start
@@ -34,6 +36,22 @@ pub fn frame_of(
         Ok(written) => written,
         Err(_) => unreachable!(),
     }
+}
+
+/// What the regular frame of a static slot in a cycle is on its channel, without a look at its bytes: a frame with
+/// its header.
+pub fn regular_read(
+    params: &Params,
+    sending: &Sending,
+    slot: Slot,
+    cycle: u32,
+    channel: Channel,
+) -> Result<Header, FrameFault>
+    requires sends { sender_of params.now slot cycle ≡ Some sending.now }
+    ensures { result ≡ read_as channel (regular_frame params.now sending.now slot cycle channel) }
+{
+    sane(params);
+    Ok(header_of(params, sending, slot, cycle))
 }
 
 // The header of the frame.

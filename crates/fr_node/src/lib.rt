@@ -7,7 +7,8 @@ mod corrections;
 mod frames;
 mod node;
 mod own;
+mod quotients;
 
 pub use fr_reception::{Heard, Ignored};
-pub use frames::frame_of;
+pub use frames::{frame_of, regular_read};
 pub use node::Node;

@@ -7,14 +7,16 @@ ghost use Rattle.fr_time.specs.Instant.{KeepsLimits};
 ghost use Rattle.fr_cluster.specs.Questions.{node_of};
 ghost use Rattle.fr_cluster.specs.Values.{Values};
 ghost use Rattle.fr_poc.specs.Control.{stepped};
+ghost use Rattle.fr_frame.specs.Reading.{read_as};
 ghost use Rattle.fr_reception.specs.Answers.{answer_of};
 
-use crate::answers::{Arrival, answer};
+use crate::answers::{Arrival, answer, read};
 use crate::corrections::{cut_count, offset_term_from, rate_term_from};
 use crate::own::{own_key_index, poc_limits};
 use fr_base::{Channel, NodeId, NodeRow, Outcome, Slot, State};
 use fr_cluster::Params;
 use fr_correct::Term;
+use fr_frame::{FrameFault, Header};
 use fr_measure::Table;
 use fr_poc::Poc;
 use fr_reception::Heard;
@@ -110,7 +112,31 @@ impl Node {
         ensures rest { self.new ≡ record self.old { table = self.new.table } }
         ensures fits { NodeFits params.now self.new }
     {
-        let heard = self.answer_to(params, slot, channel, arrival, bytes);
+        let told = read(channel, bytes);
+        self.hear_read(params, slot, channel, arrival, bytes, &told)
+    }
+
+    /// The same of a frame that was read before, for who offers it to many nodes: `told` is what the bytes are on
+    /// the channel.
+    pub fn hear_read(
+        &mut self,
+        params: &Params,
+        slot: Slot,
+        channel: Channel,
+        arrival: i64,
+        bytes: &[u8],
+        told: &Result<Header, FrameFault>,
+    ) -> Heard
+        requires receives { CanReceive params.now self.old slot channel }
+        requires arrival { IsWithin (pos 4_000_000_000_000_000_000) arrival }
+        requires told { told.now ≡ read_as channel bytes.now }
+        ensures answer { result ≡ answer_of params.now self.old.cycle (node_row_of self.old)
+            (record { slot = slot; channel = channel; arrival = arrival; bytes = bytes.now }) }
+        ensures after { self.new ≡ after_hearing params.now self.old slot channel result }
+        ensures rest { self.new ≡ record self.old { table = self.new.table } }
+        ensures fits { NodeFits params.now self.new }
+    {
+        let heard = self.answer_to(params, slot, channel, arrival, bytes, told);
         self.keep(params, slot, channel, &heard);
         heard
     }
@@ -192,8 +218,10 @@ impl Node {
         channel: Channel,
         at: i64,
         bytes: &[u8],
+        told: &Result<Header, FrameFault>,
     ) -> Heard
-        requires { CanReceive params.now self.now slot channel }
+        requires receives { CanReceive params.now self.now slot channel }
+        requires told { told.now ≡ read_as channel bytes.now }
         ensures answer { result ≡ answer_of params.now self.now.cycle (node_row_of self.now)
             (record { slot = slot; channel = channel; arrival = at; bytes = bytes.now }) }
         ensures within { IfStored result (IsWithin (pos 1000000)) }
@@ -205,6 +233,7 @@ impl Node {
             &row,
             Arrival { slot, channel, at },
             bytes,
+            told,
         )
     }
 

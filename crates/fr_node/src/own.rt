@@ -34,3 +34,10 @@ pub(crate) fn poc_limits(params: &Params) -> PocLimits
         to_active: params.natural(ParamName::pAllowPassiveToActive) as u8,
     }
 }
+
+// What holds of all parameters: the borrow of a field opens their invariant.
+pub(crate) fn sane(params: &Params)
+    ensures { IsSane params.now }
+{
+    let _nodes = &params.nodes;
+}

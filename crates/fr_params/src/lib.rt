@@ -2,6 +2,7 @@
 //! for.
 #![tactic(auto)]
 
+mod assembling;
 mod draft;
 mod fault;
 mod kind;
@@ -9,6 +10,7 @@ mod laws;
 mod reading;
 mod rows;
 
+pub use assembling::assemble;
 pub use fault::ParamFault;
 pub use kind::ParamsFile;
 pub use laws::{one_answer, refused_for_the_least_reason, some_answer};

@@ -4,6 +4,8 @@
 #[cfg(test)]
 mod bounds;
 #[cfg(test)]
+mod capture;
+#[cfg(test)]
 mod checksums;
 #[cfg(test)]
 mod control;
@@ -21,6 +23,10 @@ mod lists;
 mod midpoint;
 #[cfg(test)]
 mod node;
+#[cfg(test)]
+mod pool;
+#[cfg(test)]
+mod sweeps;
 #[cfg(test)]
 mod terms;
 #[cfg(test)]

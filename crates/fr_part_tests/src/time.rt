@@ -77,6 +77,26 @@ fn walks_through_the_cycle(rt: HostRuntime) {
     assert_eq!(rt; instant(&ODD, &row, true, 9), 23_002_800);
 }
 
+// 26 microticks lie over seven macroticks, and what is left in an odd cycle, 14, over three.
+const UNEVEN: Grid = Grid {
+    macros: 7,
+    micros: 25,
+    correction: 4,
+};
+
+#[test]
+fn counts_what_is_computed(rt: HostRuntime) {
+    for (odd, last) in [(false, 22), (true, 23), (false, 22)] {
+        let mut walk = Macro::begin(&UNEVEN, 1, 2, odd);
+        for macrotick in 0u32..6 {
+            let at = position(&UNEVEN, 1, 2, odd, i64::from(macrotick));
+            assert_eq!(rt; walk.next(), Some(at));
+        }
+        assert_eq!(rt; walk.next(), Some(last));
+        assert_eq!(rt; walk.next(), None);
+    }
+}
+
 #[test]
 fn tells_slots_and_senders(rt: HostRuntime) -> Result<(), Fail> {
     let params = params_of(rt.alloc(), NARROW, NODES)?;

@@ -13,7 +13,7 @@ use Rattle.fr_time.proofs.Placing.{is_grid_lem}
 use Rattle.fr_bound.specs.Bounds.{lambda_of, longest_micro, pi_of}
 use Rattle.fr_bound.specs.Sync.{cycle_length_of}
 use Rattle.fr_precision.specs.Rows.{corrected_end_of, end_of, Lasts, IsDoubleCycle}
-use Rattle.fr_precision.specs.Instants.{ActionsStayNear, gap_of, LieNear, MacroticksLieBetween, MacroticksStayNear, PrecisionHolds, row_in, Runs}
+use Rattle.fr_precision.specs.Instants.{ActionsStayNear, gap_of, LieNear, MacroticksLieBetween, MacroticksLieWithin, MacroticksStayNear, PrecisionHolds, row_in, Runs}
 use Rattle.fr_precision.proofs.Lines.{lines_between, lines_near, on_line, OnLine}
 
 -- up to the offset correction the rule of even cycles places a macrotick
@@ -166,28 +166,35 @@ actions_stay_near p starts lengths reach action is_odd even odd other_even other
     (both.0 (within_cycle action p.correction p.macros to grid.correction_to)) (both.1 to)
 
 -- from the offset correction on
-late_between : (p : Values) (starts lengths macrotick : ℤ) (even odd other_even other_odd : NodeRow)
+late_within : (p : Values) (starts lengths ends reach macrotick : ℤ) (even odd other_even other_odd : NodeRow)
     → IsSane p → Runs p even odd → Runs p other_even other_odd → LieNear p starts lengths lengths even odd other_even other_odd
-    → IsWithin starts (corrected_end_of p odd -ℤ corrected_end_of p other_odd) → p.correction <ℤ macrotick → macrotick ≤ℤ p.macros
-    → IsWithin (starts +ℤ lengths +ℤ lengths +ℤ pos (longest_micro p) +ℤ pos (longest_micro p)) (gap_of p true macrotick odd other_odd)
-late_between p starts lengths macrotick even odd other_even other_odd sane runs other_runs near ends from to =
+    → IsWithin ends (corrected_end_of p odd -ℤ corrected_end_of p other_odd)
+    → (starts +ℤ (pos 2 *ℤ lengths) +ℤ (pos 2 *ℤ pos (longest_micro p))) ≤ℤ reach → (ends +ℤ pos (longest_micro p)) ≤ℤ reach
+    → p.correction <ℤ macrotick → macrotick ≤ℤ p.macros
+    → IsWithin reach (gap_of p true macrotick odd other_odd)
+late_within p starts lengths ends reach macrotick even odd other_even other_odd sane runs other_runs near by_end fits ends_fit from to =
     let grid = is_grid_lem p sane in
     let most = pos (longest_micro p) in
-    let bound = starts +ℤ lengths +ℤ lengths +ℤ most in
+    let bound = reach -ℤ most in
     let o_from : pos 0 ≤ℤ p.correction = omega (arith, ints, grid.correction_from) in
     let early = (macroticks_stay_near_lem p starts lengths lengths p.correction even odd other_even other_odd sane runs other_runs near o_from).1 (itself p.correction) in
     let start = instant_of (grid_for p) odd true p.correction in
     let other_start = instant_of (grid_for p) other_odd true p.correction in
     let rest = corrected_micros (grid_for p) odd.rate odd.offset *ℤ odd.length in
     let other_rest = corrected_micros (grid_for p) other_odd.rate other_odd.offset *ℤ other_odd.length in
+    let begin : IsWithin bound (start -ℤ other_start) =
+    wider (starts +ℤ lengths +ℤ lengths +ℤ most) bound (gap_of p true p.correction odd other_odd) (takes_in starts lengths most reach fits) early in
     let close : IsWithin bound ((start +ℤ rest) -ℤ (other_start +ℤ other_rest)) =
-    at_ends starts bound (start +ℤ rest) (corrected_end_of p odd) (other_start +ℤ other_rest) (corrected_end_of p other_odd) (corrected_end_is p odd) (corrected_end_is p other_odd)
-    (no_closer starts lengths (longest_micro p) (cycle_length_of p even -ℤ cycle_length_of p other_even) near.by_even) ends in
+    at_ends ends bound (start +ℤ rest) (corrected_end_of p odd) (other_start +ℤ other_rest) (corrected_end_of p other_odd) (corrected_end_is p odd) (corrected_end_is p other_odd)
+    (less_one ends most reach ends_fit) by_end in
+    wider (bound +ℤ most) reach (gap_of p true macrotick odd other_odd) (again reach most)
+    (
     lines_between start other_start rest other_rest odd.length other_odd.length (macrotick -ℤ p.correction) (p.macros -ℤ p.correction) most
     (instant_of (grid_for p) odd true macrotick) (instant_of (grid_for p) other_odd true macrotick) bound
     (late_on_line p odd macrotick sane runs.odd_lasts from) (late_on_line p other_odd macrotick sane other_runs.odd_lasts from)
     (apart p.correction p.macros grid.correction_to) (no_less (longest_micro p)) (apart_from p.correction macrotick from) (no_more macrotick p.correction p.macros to)
-    early close
+    begin close
+    )
   where
     itself : (a : ℤ) → a ≤ℤ a
     itself a = omega (arith, ints)
@@ -201,36 +208,49 @@ late_between p starts lengths macrotick even odd other_even other_odd sane runs 
     no_more : (m o g : ℤ) → m ≤ℤ g → (m -ℤ o) ≤ℤ (g -ℤ o)
     no_more m o g le = omega (arith, ints)
 
-    no_closer : (s l : ℤ) (q : ℕ) (x : ℤ) → IsWithin l x → s ≤ℤ (s +ℤ l +ℤ l +ℤ pos q)
-    no_closer s l q x within = omega (arith, ints, within.low, within.high)
+    takes_in : (s l q r : ℤ) → (s +ℤ (pos 2 *ℤ l) +ℤ (pos 2 *ℤ q)) ≤ℤ r → (s +ℤ l +ℤ l +ℤ q) ≤ℤ (r -ℤ q)
+    takes_in s l q r le = omega (arith, ints)
+
+    less_one : (e q r : ℤ) → (e +ℤ q) ≤ℤ r → e ≤ℤ (r -ℤ q)
+    less_one e q r le = omega (arith, ints)
+
+    again : (r q : ℤ) → ((r -ℤ q) +ℤ q) ≤ℤ r
+    again r q = omega (arith, ints)
 
     at_ends : (s b x x' y y' : ℤ) → x ≡ x' → y ≡ y' → s ≤ℤ b → IsWithin s (x' -ℤ y') → IsWithin b (x -ℤ y)
     at_ends s b x x' y y' e g le within = record { low = omega (arith, ints, within.low); high = omega (arith, ints, within.high) }
 
-pub macroticks_lie_between : MacroticksLieBetween
-macroticks_lie_between p starts lengths macrotick false even odd other_even other_odd sane runs other_runs near ends from to =
-    wider (starts +ℤ lengths +ℤ pos (longest_micro p)) (starts +ℤ (pos 2 *ℤ lengths) +ℤ (pos 2 *ℤ pos (longest_micro p))) (gap_of p false macrotick even other_even)
-    (more starts lengths (longest_micro p) (cycle_length_of p even -ℤ cycle_length_of p other_even) near.by_even)
+pub macroticks_lie_within : MacroticksLieWithin
+macroticks_lie_within p starts lengths ends reach macrotick false even odd other_even other_odd sane runs other_runs near by_end fits ends_fit from to =
+    wider (starts +ℤ lengths +ℤ pos (longest_micro p)) reach (gap_of p false macrotick even other_even)
+    (more starts lengths reach (longest_micro p) (cycle_length_of p even -ℤ cycle_length_of p other_even) near.by_even fits)
     ((macroticks_stay_near_lem p starts lengths lengths macrotick even odd other_even other_odd sane runs other_runs near from).0 to)
   where
-    more : (s l : ℤ) (q : ℕ) (x : ℤ) → IsWithin l x → (s +ℤ l +ℤ pos q) ≤ℤ (s +ℤ (pos 2 *ℤ l) +ℤ (pos 2 *ℤ pos q))
-    more s l q x within = omega (arith, ints, within.low, within.high)
-macroticks_lie_between p starts lengths macrotick true even odd other_even other_odd sane runs other_runs near ends from to =
+    more : (s l r : ℤ) (q : ℕ) (x : ℤ) → IsWithin l x → (s +ℤ (pos 2 *ℤ l) +ℤ (pos 2 *ℤ pos q)) ≤ℤ r → (s +ℤ l +ℤ pos q) ≤ℤ r
+    more s l r q x within le = omega (arith, ints, within.low, within.high)
+macroticks_lie_within p starts lengths ends reach macrotick true even odd other_even other_odd sane runs other_runs near by_end fits ends_fit from to =
     by_lt_z p.correction macrotick
-    (λ late.
-    wider (starts +ℤ lengths +ℤ lengths +ℤ pos (longest_micro p) +ℤ pos (longest_micro p)) (starts +ℤ (pos 2 *ℤ lengths) +ℤ (pos 2 *ℤ pos (longest_micro p))) (gap_of p true macrotick odd other_odd)
-    (same starts lengths (longest_micro p))
-    (late_between p starts lengths macrotick even odd other_even other_odd sane runs other_runs near ends late to))
+    (λ late. late_within p starts lengths ends reach macrotick even odd other_even other_odd sane runs other_runs near by_end fits ends_fit late to)
     (λ early.
-    wider (starts +ℤ lengths +ℤ lengths +ℤ pos (longest_micro p)) (starts +ℤ (pos 2 *ℤ lengths) +ℤ (pos 2 *ℤ pos (longest_micro p))) (gap_of p true macrotick odd other_odd)
-    (more starts lengths (longest_micro p))
+    wider (starts +ℤ lengths +ℤ lengths +ℤ pos (longest_micro p)) reach (gap_of p true macrotick odd other_odd)
+    (more starts lengths reach (longest_micro p) fits)
     ((macroticks_stay_near_lem p starts lengths lengths macrotick even odd other_even other_odd sane runs other_runs near from).1 early))
   where
-    same : (s l : ℤ) (q : ℕ) → (s +ℤ l +ℤ l +ℤ pos q +ℤ pos q) ≤ℤ (s +ℤ (pos 2 *ℤ l) +ℤ (pos 2 *ℤ pos q))
-    same s l q = omega (arith, ints)
+    more : (s l r : ℤ) (q : ℕ) → (s +ℤ (pos 2 *ℤ l) +ℤ (pos 2 *ℤ pos q)) ≤ℤ r → (s +ℤ l +ℤ l +ℤ pos q) ≤ℤ r
+    more s l r q le = omega (arith, ints)
 
-    more : (s l : ℤ) (q : ℕ) → (s +ℤ l +ℤ l +ℤ pos q) ≤ℤ (s +ℤ (pos 2 *ℤ l) +ℤ (pos 2 *ℤ pos q))
-    more s l q = omega (arith, ints)
+-- with one bound at both ends
+pub macroticks_lie_between : MacroticksLieBetween
+macroticks_lie_between p starts lengths macrotick is_odd even odd other_even other_odd sane runs other_runs near ends from to =
+    macroticks_lie_within p starts lengths starts (starts +ℤ (pos 2 *ℤ lengths) +ℤ (pos 2 *ℤ pos (longest_micro p))) macrotick is_odd even odd other_even other_odd sane runs other_runs near
+    ends (itself (starts +ℤ (pos 2 *ℤ lengths) +ℤ (pos 2 *ℤ pos (longest_micro p))))
+    (less starts lengths (longest_micro p) (cycle_length_of p even -ℤ cycle_length_of p other_even) near.by_even) from to
+  where
+    itself : (a : ℤ) → a ≤ℤ a
+    itself a = omega (arith, ints)
+
+    less : (s l : ℤ) (q : ℕ) (x : ℤ) → IsWithin l x → (s +ℤ pos q) ≤ℤ (s +ℤ (pos 2 *ℤ l) +ℤ (pos 2 *ℤ pos q))
+    less s l q x within = omega (arith, ints, within.low, within.high)
 
 pub precision_holds_lem : PrecisionHolds
 precision_holds_lem p macrotick is_odd even odd other_even other_odd sane runs other_runs near ends from to =

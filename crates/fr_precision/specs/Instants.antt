@@ -53,6 +53,20 @@ ActionsStayNear =
     → (starts +ℤ (pos 2 *ℤ lengths) +ℤ pos (longest_micro p)) ≤ℤ reach → pos 0 ≤ℤ action → action ≤ℤ p.correction
     → IsWithin reach (gap_of p is_odd action (row_in is_odd even odd) (row_in is_odd other_even other_odd))
 
+-- where starts lie within one bound at the beginning of a double cycle and within another one at its end, and lengths
+-- within a third, no macrotick of both cycles lies further apart than a reach that takes in the first with twice the third
+-- and two microticks, and the second with a microtick
+abbrev pub MacroticksLieWithin : Type 0
+MacroticksLieWithin =
+    (p : Values) (starts lengths ends reach macrotick : ℤ) (is_odd : Bool) (even odd other_even other_odd : NodeRow)
+    → IsSane p → Runs p even odd → Runs p other_even other_odd
+    → LieNear p starts lengths lengths even odd other_even other_odd
+    → IsWithin ends (corrected_end_of p odd -ℤ corrected_end_of p other_odd)
+    → (starts +ℤ (pos 2 *ℤ lengths) +ℤ (pos 2 *ℤ pos (longest_micro p))) ≤ℤ reach
+    → (ends +ℤ pos (longest_micro p)) ≤ℤ reach
+    → pos 0 ≤ℤ macrotick → macrotick ≤ℤ p.macros
+    → IsWithin reach (gap_of p is_odd macrotick (row_in is_odd even odd) (row_in is_odd other_even other_odd))
+
 -- where starts lie within one bound at both ends of a double cycle, and lengths within another, no macrotick of both
 -- cycles lies further apart than the one bound, twice the other, and two microticks
 abbrev pub MacroticksLieBetween : Type 0

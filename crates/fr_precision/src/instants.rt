@@ -1,4 +1,4 @@
-ghost use Rattle.fr_precision.specs.Instants.{ActionsStayNear, MacroticksLieBetween, MacroticksStayNear, PrecisionHolds};
+ghost use Rattle.fr_precision.specs.Instants.{ActionsStayNear, MacroticksLieBetween, MacroticksLieWithin, MacroticksStayNear, PrecisionHolds};
 
 /// The law of nearness: up to the start of the offset correction two nodes' macroticks lie no further apart
 /// than their starts and the lengths of their cycles, and a microtick, in ticks; so do the action points of
@@ -12,6 +12,7 @@ pub fn macroticks_stay_near()
 /// macrotick of two nodes lies far apart; where starts lie within pi and lengths within lambda, no further
 /// than the precision.
 pub fn precision_holds()
+    ensures within { MacroticksLieWithin }
     ensures between { MacroticksLieBetween }
     ensures precision { PrecisionHolds }
 {}

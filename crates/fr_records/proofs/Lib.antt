@@ -3,3 +3,4 @@ pub mod Left
 pub mod LeastReasons
 pub mod FormFacts
 pub mod Lookups
+pub mod Written

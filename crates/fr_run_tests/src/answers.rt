@@ -7,7 +7,7 @@ use std::test::Fail;
 const LINE: &[u8] =
     b"frame A id 1 words 0 cycle 0 reserved 0 preamble 0 null 0 sync 1 startup 1 header 1BC crc 9AE525 payload -\n";
 
-const FRAME: [u8; 8] = [0x18, 0x01, 0x00, 0x6F, 0x00, 0x9A, 0xE5, 0x25];
+pub(crate) const FRAME: [u8; 8] = [0x18, 0x01, 0x00, 0x6F, 0x00, 0x9A, 0xE5, 0x25];
 
 pub(crate) fn words_of(alloc: Global, texts: &[&str]) -> Result<Vec<String>, AllocError> {
     let mut words = Vec::new(alloc);
@@ -115,9 +115,18 @@ fn other_words_are_no_request(rt: HostRuntime) -> Result<(), Fail> {
         &["run"],
         &["run", "p", "d"],
         &["run", "p", "d", "s", "s"],
-        &["trace", "p", "d", "s"],
-        &["check", "p", "t"],
-        &["make", "1", "1"],
+        &["trace", "p", "d"],
+        &["check", "p"],
+        &["check", "p", "t", "t"],
+        &["make", "1"],
+        &["make", "1", "0"],
+        &["make", "-1", "1"],
+        &["make", "1", "10001"],
+        &["settle", "p", "1"],
+        &["cold", "p"],
+        &["nm", "0", "f"],
+        &["nm", "13", "f"],
+        &["capture", "C", "f"],
     ] {
         let words = words_of(alloc, words)?;
         let mut shelf = MemoryShelf::new(alloc);

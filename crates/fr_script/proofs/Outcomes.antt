@@ -82,7 +82,7 @@ nodes-same s t records f g =
     ext_get_or false s.arbitrary t.arbitrary (f.long ∙ sym g.long) (λ i below. let low : i ≤ 64 = omega (arith, f.long) in f.nodes i low ∙ sym (g.nodes i low))
 
 -- records stand for one script
-stands-same : (s t : ScriptView) (records : List FileRecord) → ScriptStandsFor s records → ScriptStandsFor t records → s ≡ t
+pub stands-same : (s t : ScriptView) (records : List FileRecord) → ScriptStandsFor s records → ScriptStandsFor t records → s ≡ t
 stands-same s t records f g =
     let nodes = nodes-same s t records f g in
     λ i. record { arbitrary = nodes i; on_a = on channel.A i; on_b = on channel.B i }

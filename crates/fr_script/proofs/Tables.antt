@@ -1,6 +1,6 @@
 -- Tables under construction, against the list of the records so far.
-use Rattle.std.proofs.Common.{◌≡◌, ℕ, ◌<◌, ◌≤◌, Bool, true, false, List, [], ◌∷◌, ◌++◌, length, Option, Some, None, Result, Ok, ap, sym, ◌∙◌, refl, arith, inl, inr, ◌⊎◌, replicate, eq-eqb}
-use Rattle.std.specs.Prelude.{if◌then◌else◌, ◌==◌, ◌||◌, ◌&&◌, slice_index_or, slice_set, IfSome, OnOk, Err}
+use Rattle.std.proofs.Common.{◌≡◌, ℕ, ◌<◌, ◌≤◌, Bool, true, false, List, [], ◌∷◌, ◌++◌, length, Option, Some, None, Result, Ok, ap, sym, ◌∙◌, subst, refl, arith, inl, inr, ◌⊎◌, replicate, eq-eqb}
+use Rattle.std.specs.Prelude.{if◌then◌else◌, ◌==◌, ◌||◌, ◌&&◌, slice_index_or, slice_set, is_none, IfOk, IfSome, OnOk, Err}
 use Rattle.std.specs.BTreeMap.{is_at}
 use Rattle.std.specs.List.Sorted.{IsStrictlySortedBy}
 use Rattle.std.proofs.lemmas.Bool.{cases_eq}
@@ -10,6 +10,7 @@ use Rattle.std.proofs.lemmas.List.Folds.{list_any-append}
 use Rattle.fr_base.specs.declared.channel.Channel.{Channel}
 use Rattle.fr_base.specs.declared.channel.Channel.TheVariants as channel
 use Rattle.fr_base.specs.declared.reason.Reason.{Reason}
+use Rattle.fr_base.specs.declared.reason.Reason.TheVariants as reason
 use Rattle.fr_records.specs.Records.{FileRecord}
 use Rattle.fr_records.specs.Fields.{is_channel, or_else, looked_up}
 use Rattle.fr_records.proofs.Lookups.{looked_up-more, or_else-none}
@@ -17,14 +18,14 @@ use Rattle.fr_script.specs.Deeds.{deed_in, passage_cmp, DeedsAscend}
 use Rattle.fr_script.specs.Rows.{script_row_of, IsProperDeed}
 use Rattle.fr_script.specs.Reasons.{names, acts, is_same, deed_said, is_named, has_acted, deed_by}
 use Rattle.fr_script.specs.View.{AreDeeds}
-use Rattle.fr_script.specs.Draft.{IsScriptDraft}
+use Rattle.fr_script.specs.Draft.{IsScriptDraft, repeated}
 use Rattle.fr_script.specs.declared.deeds.Passage.{Passage}
 use Rattle.fr_script.specs.declared.deeds.Deed.{Deed}
 use Rattle.fr_script.specs.declared.rows.Row.{Row}
 use Rattle.fr_script.specs.declared.rows.Row.TheVariants as row
 use Rattle.fr_script.specs.declared.draft.Draft.{Draft}
 
-or-false : (b : Bool) → (b || false) ≡ b
+pub or-false : (b : Bool) → (b || false) ≡ b
 or-false true = refl
 or-false false = refl
 
@@ -32,7 +33,7 @@ or-true : (b : Bool) → (b || true) ≡ true
 or-true true = refl
 or-true false = refl
 
-is_named-more : (node : ℕ) (done : List FileRecord) (r : FileRecord) (x : Result Row Reason) → script_row_of r ≡ x
+pub is_named-more : (node : ℕ) (done : List FileRecord) (r : FileRecord) (x : Result Row Reason) → script_row_of r ≡ x
     → is_named node (done ++ r ∷ []) ≡ (is_named node done || names node x)
 is_named-more node done r x e =
     list_any-append (λ q. names node (script_row_of q)) done (r ∷ [])
@@ -46,23 +47,23 @@ has_acted-more done r x e =
     ∙ ap (λ (b : Bool). has_acted done || b) (or-false (acts (script_row_of r)))
     ∙ ap (λ (y : Result Row Reason). has_acted done || acts y) e
 
-deed_by-more : (ch : Channel) (q : Passage) (done : List FileRecord) (r : FileRecord) (x : Result Row Reason) → script_row_of r ≡ x
+pub deed_by-more : (ch : Channel) (q : Passage) (done : List FileRecord) (r : FileRecord) (x : Result Row Reason) → script_row_of r ≡ x
     → deed_by ch q (done ++ r ∷ []) ≡ or_else (deed_by ch q done) (deed_said ch q x)
 deed_by-more ch q done r x e = looked_up-more (deed_said ch q) script_row_of done r x e
 
-deeds-nil : AreDeeds []
+pub deeds-nil : AreDeeds []
 unfolding DeedsAscend IsStrictlySortedBy deed_in
 deeds-nil = record { ascending = tt; proper = λ q. tt }
 
-deed_by-nil : (ch : Channel) (q : Passage) → None ≡ deed_by ch q []
+pub deed_by-nil : (ch : Channel) (q : Passage) → None ≡ deed_by ch q []
 unfolding looked_up
 deed_by-nil ch q = refl
 
-deed_in-nil : (q : Passage) → deed_in [] q ≡ None
+pub deed_in-nil : (q : Passage) → deed_in [] q ≡ None
 unfolding deed_in
 deed_in-nil q = refl
 
-nothing-named : (k : ℕ) → k ≤ 64 → slice_index_or (replicate 65 false) k false ≡ false
+pub nothing-named : (k : ℕ) → k ≤ 64 → slice_index_or (replicate 65 false) k false ≡ false
 nothing-named k h = get_or-replicate 65 k false false (omega arith)
 
 -- tables of nothing
@@ -78,7 +79,7 @@ draft-nil d nodes a b acted = record {
 }
 
 -- the mark of a node that is named, and those of the others
-marked : (marks : List Bool) (node k : ℕ) (named : Bool) → length marks ≡ 65 → node ≤ 64 → slice_index_or marks k false ≡ named
+pub marked : (marks : List Bool) (node k : ℕ) (named : Bool) → length marks ≡ 65 → node ≤ 64 → slice_index_or marks k false ≡ named
     → slice_index_or (slice_set marks node true) k false ≡ (named || (node == k))
 marked marks node k named long low before = by (cases_eq k node)
   where
@@ -128,11 +129,11 @@ same-passage a b h =
     λ i. record { sender = sender i; receiver = receiver i; cycle = cycle i }
 
 -- a row that says what becomes of the frames of a passage
-abbrev deed_line : Channel → Passage → Deed → Result Row Reason
+abbrev pub deed_line : Channel → Passage → Deed → Result Row Reason
 deed_line ch passage what = Ok (row.Deed (record { passage = passage; channel = Some ch; deed = Some what }))
 
 -- what a table with one deed more has, and what the records with one row more say
-taken : (ch : Channel) (done : List FileRecord) (r : FileRecord) (old new : List (Passage × Deed)) (passage : Passage) (what : Deed)
+pub taken : (ch : Channel) (done : List FileRecord) (r : FileRecord) (old new : List (Passage × Deed)) (passage : Passage) (what : Deed)
     → script_row_of r ≡ deed_line ch passage what → is_channel ch (Some ch) ≡ true
     → ((q : Passage) → deed_in old q ≡ deed_by ch q done) → deed_by ch passage done ≡ None
     → ((q : Passage) → deed_in new q ≡ (if is_at (passage_cmp passage) q then Some what else deed_in old q))
@@ -158,7 +159,7 @@ taken ch done r old new passage what e said before empty there q =
         ∙ sym (ap (λ (o : Option Deed). or_else (deed_by ch q done) o) none ∙ or_else-none (deed_by ch q done))
 
 -- deeds of one channel say nothing of the other
-kept : (ch on : Channel) (done : List FileRecord) (r : FileRecord) (old : List (Passage × Deed)) (passage : Passage) (what : Deed)
+pub kept : (ch on : Channel) (done : List FileRecord) (r : FileRecord) (old : List (Passage × Deed)) (passage : Passage) (what : Deed)
     → script_row_of r ≡ deed_line on passage what → is_channel ch (Some on) ≡ false
     → ((q : Passage) → deed_in old q ≡ deed_by ch q done) → (q : Passage) → deed_in old q ≡ deed_by ch q (done ++ r ∷ [])
 kept ch on done r old passage what e off before q =
@@ -207,6 +208,20 @@ draft-deed_b d new done r passage what h e empty proper there ordered = record {
 }
 
 -- what two facts of a call that went well give
-pub on_ok : {E P Q R : Type 0} (r : Result (Unit {0}) E) → (P → Q → R) → OnOk r P → OnOk r Q → OnOk r R
+pub on_ok : {A E P Q R : Type 0} (r : Result A E) → (P → Q → R) → OnOk r P → OnOk r Q → OnOk r R
 on_ok (Ok x) f p q = f p q
 on_ok (Err e) f p q = tt
+
+-- whether a passage is free in its table is what the records say
+pub free_by : {E : Type 0} (r : Result Bool E) (here said : Option Deed) → here ≡ said → IfOk r (λ free. free ≡ is_none here) → IfOk r (λ free. free ≡ is_none said)
+free_by r here said same free = subst (λ (d : Option Deed). IfOk r (λ free. free ≡ is_none d)) same free
+
+-- a deed is refused where its passage is not free
+pub repeated_by : (free : Bool) (there : Option Deed) → free ≡ is_none there → (if free then None else Some reason.Repeated) ≡ repeated there
+repeated_by free None is = ap (λ (b : Bool). if b then None else Some reason.Repeated) is
+repeated_by free (Some deed) is = ap (λ (b : Bool). if b then None else Some reason.Repeated) is
+
+-- and where it is not refused the passage is free
+pub free_where : (there : Option Deed) → repeated there ≡ None → there ≡ None
+free_where None is = refl
+free_where (Some deed) is = absurd cc

@@ -1,5 +1,5 @@
 -- What the rows of a script do to frames, looked up by passage.
-use Rattle.std.specs.Prelude.{ℕ, ◌≡◌, ◌<◌, ◌≤◌, List, Option, Some, None, if◌then◌else◌}
+use Rattle.std.specs.Prelude.{ℕ, ◌≡◌, ◌<◌, ◌≤◌, Bool, true, false, List, length, slice_index_or, Option, Some, None, if◌then◌else◌}
 use Rattle.std.specs.declared.cmp.Ordering.{Ordering}
 use Rattle.std.specs.Ordering.{nat_cmp, ordering_then}
 use Rattle.std.specs.BTreeMap.{is_at}
@@ -22,6 +22,11 @@ deed_in deeds passage = lookup (is_at (passage_cmp passage)) deeds
 -- the passages stand in order, none of them twice
 unfoldable pub DeedsAscend : List (Passage × Deed) → Type 0
 DeedsAscend deeds = IsStrictlySortedBy passage_cmp (keys_of deeds)
+
+-- a sender whose number is not marked has no deed
+pub record MarksSenders (marks : List Bool) (deeds : List (Passage × Deed)) : Type 0 where
+  pub long : length marks ≡ 65
+  pub silent : (passage : Passage) → slice_index_or marks passage.sender true ≡ false → deed_in deeds passage ≡ None
 
 -- no deed of a pair of nodes lies from one cycle on and before another
 abbrev pub IsQuiet : List (Passage × Deed) → ℕ → ℕ → ℕ → ℕ → Type 0

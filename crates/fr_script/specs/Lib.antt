@@ -8,5 +8,7 @@ pub mod Fields
 pub mod Events
 pub mod Draft
 pub mod Files
+pub mod Written
+pub mod Adding
 pub mod Holding
 pub mod Promises

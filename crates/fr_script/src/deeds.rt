@@ -1,4 +1,4 @@
-ghost use Rattle.std.specs.Prelude.{◌≡◌, ◌≤◌, ◌<◌, [], IsSome, OnOk};
+ghost use Rattle.std.specs.Prelude.{◌≡◌, ◌≤◌, ◌<◌, [], is_none, IfOk, IsSome, OnErr, OnOk};
 ghost use Rattle.std.specs.Option.{option_copied};
 ghost use Rattle.fr_script.specs.Deeds.{DeedsAscend, IsDeedPut, IsQuiet, deed_in, passage_of};
 
@@ -61,16 +61,29 @@ pub enum Deed {
 #[derive(Drop)]
 pub struct DeedTable {
     rows: BTreeMap<Passage, Deed>,
+    // Whether a sender, by its number, has a deed: most have none, and are not looked up.
+    senders: [bool; 65],
 }
 
 impl Model for DeedTable {
     ghost use Rattle.std.specs.Prelude.{List};
     ghost use Rattle.fr_script.specs.declared.deeds.Passage.{Passage};
     ghost use Rattle.fr_script.specs.declared.deeds.Deed.{Deed};
+    ghost use Rattle.fr_script.specs.Deeds.{MarksSenders};
 
     ghost Value = { List (Passage × Deed) };
 
     ghost view = { λ a. a.rows.entries };
+
+    ghost invariant = { λ a. MarksSenders a.senders a.rows.entries };
+}
+
+// The place of a sender's mark.
+fn place(sender: NodeId) -> usize
+    ensures value { result ≡ sender }
+    ensures low { result ≤ 64 }
+{
+    usize::from(sender.0)
 }
 
 impl DeedTable {
@@ -79,6 +92,7 @@ impl DeedTable {
     {
         DeedTable {
             rows: BTreeMap::new(alloc),
+            senders: [false; 65],
         }
     }
 
@@ -86,16 +100,23 @@ impl DeedTable {
     pub(crate) fn get(&self, passage: &Passage) -> Option<&Deed>
         ensures { option_copied result ≡ deed_in self.now passage.now }
     {
-        self.rows.get(passage)
+        if self.senders[place(passage.sender)] {
+            self.rows.get(passage)
+        } else {
+            None
+        }
     }
 
+    // Puts a deed under its passage in one search, and tells whether the passage was free.
     #[tactic(auto, unfolding(crate::specs::Deeds::deed_in, crate::specs::Deeds::DeedsAscend))]
-    pub(crate) fn put(&mut self, passage: Passage, deed: Deed) -> Result<(), AllocError>
+    pub(crate) fn put(&mut self, passage: Passage, deed: Deed) -> Result<bool, AllocError>
         ensures there { OnOk result (IsDeedPut self.old self.new passage deed) }
         ensures ordered { OnOk result (DeedsAscend self.old → DeedsAscend self.new) }
+        ensures free { IfOk result (λ free. free ≡ is_none (deed_in self.old passage)) }
+        ensures kept { OnErr result (self.new ≡ self.old) }
     {
-        self.rows.insert(passage, deed)?;
-        Ok(())
+        self.senders[place(passage.sender)] = true;
+        Ok(self.rows.insert(passage, deed)?.is_none())
     }
 
     // The first cycle from `cycle` on, before `end`, in which a pair of nodes has a deed, or `end`.

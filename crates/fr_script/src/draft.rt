@@ -1,10 +1,11 @@
-ghost use Rattle.std.specs.Prelude.{◌≡◌, ◌≤◌, ◌*◌, [], List, IfOk, IfErr, IfSome, is_some};
+ghost use Rattle.std.specs.Prelude.{◌≡◌, ◌≤◌, ◌*◌, [], List, IfOk, IfErr, IfSome, None, Some, slice_set, true, if◌then◌else◌};
 ghost use Rattle.fr_records.specs.Records.{FileRecord};
 ghost use Rattle.fr_cluster.specs.Questions.{is_common};
 ghost use Rattle.fr_script.specs.Rows.{IsProperDeed, IsProperScriptRow};
-ghost use Rattle.fr_script.specs.Reasons.{bits_of, deed_by, is_after_frame, is_misplaced, is_named, is_say, knows_both, script_reason_after};
+ghost use Rattle.fr_base.specs.declared.reason.Reason.TheVariants as reason;
+ghost use Rattle.fr_script.specs.Reasons.{bits_of, is_after_frame, is_misplaced, is_named, is_say, knows_both, script_reason_after};
 ghost use Rattle.fr_script.specs.View.{IsScript};
-ghost use Rattle.fr_script.specs.Draft.{IsFree, IsRefusedRow, IsScriptDraft, PutsAct, TakesScriptRow, TakesScriptRowAtOnce};
+ghost use Rattle.fr_script.specs.Draft.{IsActOf, IsRefusedRow, IsScriptDraft, PutsAct, TakesScriptRow, TakesScriptRowAtOnce};
 ghost use Rattle.fr_script.specs.declared.rows.Row.TheVariants as said;
 
 use crate::deeds::{Deed, DeedTable, Passage};
@@ -93,7 +94,7 @@ impl<'a> Draft<'a> {
         if self.is_arbitrary(node) {
             return Some(Reason::Repeated);
         }
-        self.arbitrary[usize::from(node.0)] = true;
+        mark(&mut self.arbitrary, node);
         None
     }
 
@@ -113,16 +114,14 @@ impl<'a> Draft<'a> {
     {
         match self.checked(row) {
             Err(why) => Ok(Some(why)),
-            Ok(act) => {
-                self.put(act)?;
-                Ok(None)
-            }
+            Ok(act) => Ok(unless_free(self.put(act)?)),
         }
     }
 
-    // What a row does, or the least reason for which it is not taken.
+    // What a row does, or the least reason for which it is not taken; but that its passage has a deed is told
+    // only as that is put there.
     fn checked(&self, row: DeedRow) -> Result<Act, Reason>
-        ensures free { IfOk result (IsFree self.now row) }
+        ensures act { IfOk result (IsActOf self.now row) }
         ensures why { IfErr result (IsRefusedRow self.now row) }
     {
         let DeedRow {
@@ -148,9 +147,6 @@ impl<'a> Draft<'a> {
         let Some(deed) = deed else {
             return Err(Reason::NotHex);
         };
-        if self.is_taken(&passage, channel) {
-            return Err(Reason::Repeated);
-        }
         Ok(Act {
             passage,
             channel,
@@ -189,17 +185,8 @@ impl<'a> Draft<'a> {
         params.common(passage.sender, passage.receiver, channel)
     }
 
-    fn is_taken(&self, passage: &Passage, channel: Channel) -> bool
-        ensures { (done : List FileRecord) → IsScriptDraft self.now done
-            → result ≡ is_some (deed_by channel passage.now done) }
-    {
-        match channel {
-            Channel::A => self.on_a.get(passage).is_some(),
-            Channel::B => self.on_b.get(passage).is_some(),
-        }
-    }
-
-    fn put(&mut self, act: Act) -> Result<(), AllocError>
+    // Puts a deed under its passage, and tells whether that was free.
+    fn put(&mut self, act: Act) -> Result<bool, AllocError>
         requires { IsProperDeed act.deed }
         ensures { PutsAct self.old self.new act result }
     {
@@ -214,6 +201,22 @@ impl<'a> Draft<'a> {
             Channel::B => self.on_b.put(passage, deed),
         }
     }
+}
+
+// Marks a node as arbitrary.
+pub(crate) fn mark(marks: &mut [bool; 65], node: NodeId)
+    ensures marks { marks.new ≡ slice_set marks.old node true }
+    ensures from { 1 ≤ node }
+    ensures low { node ≤ 64 }
+{
+    marks[usize::from(node.0)] = true;
+}
+
+// The reason for which a deed is refused whose passage has one.
+fn unless_free(free: bool) -> Option<Reason>
+    ensures { result ≡ (if free then None else Some reason.Repeated) }
+{
+    if free { None } else { Some(Reason::Repeated) }
 }
 
 fn says(deed: &Option<Deed>) -> bool

@@ -9,6 +9,7 @@ mod laws;
 mod reading;
 mod rows;
 mod script;
+mod typed;
 
 pub use fault::ScriptFault;
 pub use kind::ScriptFile;

@@ -26,9 +26,9 @@ pub enum Event<'a> {
 /// The faults of a run, as an accepted script says them.
 #[derive(Drop)]
 pub struct Script {
-    arbitrary: [bool; 65],
-    on_a: DeedTable,
-    on_b: DeedTable,
+    pub(crate) arbitrary: [bool; 65],
+    pub(crate) on_a: DeedTable,
+    pub(crate) on_b: DeedTable,
 }
 
 impl Model for Script {

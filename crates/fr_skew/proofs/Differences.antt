@@ -61,7 +61,7 @@ same_tests false false forth back = refl
 is_in : (P : ℤ → Type 0) (xs : List ℤ) (x : ℤ) → All P xs → Contains xs x → P x
 is_in P xs x all has = subst P has.2 (all has.0 x has.1)
 
-spread_from : (bound : ℤ) (xs : List ℤ) → pos 0 ≤ℤ bound → LieWithin bound xs → spread_of xs ≤ℤ bound
+pub spread_from : (bound : ℤ) (xs : List ℤ) → pos 0 ≤ℤ bound → LieWithin bound xs → spread_of xs ≤ℤ bound
 spread_from bound [] some within = some
 spread_from bound (first ∷ rest) some within =
     let xs : List ℤ = first ∷ rest in
@@ -69,7 +69,7 @@ spread_from bound (first ∷ rest) some within =
     let near : (far.greater -ℤ far.less) ≤ℤ bound = is_in (λ b. (far.greater -ℤ b) ≤ℤ bound) xs far.less (is_in (λ a. All (λ b. (a -ℤ b) ≤ℤ bound) xs) xs far.greater within far.has_greater) far.has_less in
     subst (λ (z : ℤ). z ≤ℤ bound) far.differ near
 
-within_by_spread : (bound : ℤ) (xs : List ℤ) → spread_of xs ≤ℤ bound → LieWithin bound xs
+pub within_by_spread : (bound : ℤ) (xs : List ℤ) → spread_of xs ≤ℤ bound → LieWithin bound xs
 within_by_spread bound xs near =
     All-weaker (λ (a : ℤ). All (λ b. (a -ℤ b) ≤ℤ (spread_of xs)) xs) (λ a. All (λ b. (a -ℤ b) ≤ℤ bound) xs)
     (λ a. All-weaker (λ (b : ℤ). (a -ℤ b) ≤ℤ (spread_of xs)) (λ b. (a -ℤ b) ≤ℤ bound) (λ b less. trans (a -ℤ b) (spread_of xs) bound less near) xs) xs (within_spread xs)

@@ -1,5 +1,5 @@
 -- When clocks are in sync, by how far their starts and the lengths of their cycles lie apart.
-use Rattle.std.specs.Prelude.{◌≤ℤ◌, ◌+ℤ◌, ◌*ℤ◌, ◌*◌, ℤ, pos, Bool, ◌&&◌, int_le, List, map}
+use Rattle.std.specs.Prelude.{◌+ℤ◌, ◌*ℤ◌, ◌*◌, ℤ, pos, Bool, ◌&&◌, int_le, List, map}
 use Rattle.std.specs.List.{list_all}
 use Rattle.fr_base.specs.States.{is_active}
 use Rattle.fr_base.specs.Within.{IsBetween}

@@ -1,4 +1,5 @@
-ghost use Rattle.std.specs.Prelude.{◌≡◌, IfSome};
+ghost use Rattle.std.specs.Prelude.{◌≡◌, pos, IfSome};
+ghost use Rattle.fr_base.specs.Within.{IsBetween};
 ghost use Rattle.fr_skew.specs.Extents.{spread_by, widened, IsExtent, IsInstant};
 
 // The least and the greatest of some numbers.
@@ -27,7 +28,8 @@ pub(crate) fn widened(extent: Option<Extent>, at: i64) -> Extent
 // How far some numbers lie apart, by their extent; 0 where there are none.
 pub(crate) fn spread_by(extent: Option<Extent>) -> i64
     requires { IfSome extent IsExtent }
-    ensures { result ≡ spread_by extent }
+    ensures value { result ≡ spread_by extent }
+    ensures within { IsBetween (pos 0) (pos 1_802_000_000_000_000_000) result }
 {
     match extent {
         None => 0,

@@ -3,6 +3,7 @@ ghost use Rattle.fr_base.specs.Within.{LieWithin};
 ghost use Rattle.fr_base.specs.declared.node_row.NodeRow.{NodeRow};
 ghost use Rattle.fr_bound.specs.Sync.{is_in_sync};
 ghost use Rattle.fr_cluster.specs.Values.{Values};
+ghost use Rattle.fr_skew.specs.Laws.{MacroticksLieNear};
 ghost use Rattle.fr_skew.specs.Spreads.{spread_of, HasDifference};
 ghost use Rattle.fr_skew.specs.Sync.{are_in_sync, sync_bounds_of};
 
@@ -17,4 +18,10 @@ pub fn a_spread_is_the_greatest_difference()
 pub fn in_sync_by_spreads()
     ensures { (p : Values) (even odd : List NodeRow) →
         are_in_sync (sync_bounds_of p) even odd ≡ is_in_sync p even odd }
+{}
+
+/// A law: no macrotick of a cycle lies further apart among the running nodes than the widest of its start, its end
+/// by the rule of even cycles, the start of its offset correction and its end, and the longest microtick.
+pub fn macroticks_lie_near()
+    ensures { MacroticksLieNear }
 {}

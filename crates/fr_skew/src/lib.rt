@@ -2,14 +2,16 @@
 //! rows alone, of a run or of a trace.
 #![tactic(auto)]
 
+mod bound;
 mod extent;
 mod gauge;
 mod laws;
 mod peak;
 mod spread;
+mod stretches;
 mod sync;
 
 pub use gauge::Gauge;
-pub use laws::{a_spread_is_the_greatest_difference, in_sync_by_spreads};
-pub use peak::{Peak, swept};
+pub use laws::{a_spread_is_the_greatest_difference, in_sync_by_spreads, macroticks_lie_near};
+pub use peak::{Peak, swept, swept_through};
 pub use sync::{SyncBounds, in_sync, in_sync_within, sync_bounds};

@@ -3,7 +3,9 @@ ghost use Rattle.fr_time.specs.Placed.{IsPlacedRow};
 ghost use Rattle.fr_time.specs.Position.{IsGrid};
 ghost use Rattle.fr_skew.specs.Sweep.{greater_of, greatest_within};
 
+use crate::bound::is_greatest;
 use crate::spread::spread_at;
+use crate::stretches::swept_by_stretches;
 use fr_base::NodeRow;
 use fr_time::Grid;
 
@@ -18,9 +20,28 @@ pub struct Peak {
     pub macrotick: u32,
 }
 
-/// The greatest skew so far after all macroticks of one more cycle, and its first place. It asks for each
-/// macrotick of each node.
+/// The greatest skew so far after all macroticks of one more cycle, and its first place. A cycle, or a stretch
+/// of one, in which by its bound no skew can be the greatest is not asked macrotick by macrotick.
 pub fn swept(grid: &Grid, cycle: u32, rows: &[NodeRow], before: Option<Peak>) -> Option<Peak>
+    requires grid { IsGrid grid.now }
+    requires rows { All (IsPlacedRow grid.now) rows.now }
+    ensures value { result ≡ greatest_within grid.now cycle rows.now before (nat_abs grid.now.macros) }
+    ensures there { IsSome result }
+{
+    if is_greatest(grid, cycle, rows, before) {
+        before
+    } else {
+        swept_by_stretches(grid, cycle, rows, before)
+    }
+}
+
+/// The same, asked for each macrotick of each node.
+pub fn swept_through(
+    grid: &Grid,
+    cycle: u32,
+    rows: &[NodeRow],
+    before: Option<Peak>,
+) -> Option<Peak>
     requires grid { IsGrid grid.now }
     requires rows { All (IsPlacedRow grid.now) rows.now }
     ensures value { result ≡ greatest_within grid.now cycle rows.now before (nat_abs grid.now.macros) }
@@ -42,7 +63,7 @@ pub fn swept(grid: &Grid, cycle: u32, rows: &[NodeRow], before: Option<Peak>) ->
 }
 
 // How many macroticks a cycle has.
-fn macroticks(grid: &Grid) -> u32
+pub(crate) fn macroticks(grid: &Grid) -> u32
     requires { IsGrid grid.now }
     ensures value { result ≡ nat_abs grid.now.macros }
     ensures number { pos result ≡ grid.now.macros }
@@ -52,7 +73,7 @@ fn macroticks(grid: &Grid) -> u32
 }
 
 // The greater of two skews, the earlier one where they are the same.
-fn greater(earlier: Option<Peak>, later: Peak) -> Peak
+pub(crate) fn greater(earlier: Option<Peak>, later: Peak) -> Peak
     ensures { result ≡ greater_of earlier later }
 {
     match earlier {

@@ -1,6 +1,7 @@
 ghost use Rattle.std.specs.Prelude.{◌≡◌, ◌≤ℤ◌, pos, map, All, None, IfSome};
 ghost use Rattle.std.specs.List.{fold};
 ghost use Rattle.fr_base.specs.Timed.{IsTimed};
+ghost use Rattle.fr_base.specs.Within.{IsBetween};
 ghost use Rattle.fr_time.specs.Cycles.{is_odd};
 ghost use Rattle.fr_time.specs.Instant.{instant_of};
 ghost use Rattle.fr_time.specs.Placed.{IsPlacedRow};
@@ -17,7 +18,8 @@ use fr_time::{Grid, instant, is_odd};
 pub(crate) fn spread_at(grid: &Grid, cycle: u32, macrotick: u32, rows: &[NodeRow]) -> i64
     requires rows { All (IsPlacedRow grid.now) rows.now }
     requires macrotick { pos macrotick ≤ℤ grid.now.macros }
-    ensures { result ≡ spread_at grid.now cycle rows.now macrotick }
+    ensures value { result ≡ spread_at grid.now cycle rows.now macrotick }
+    ensures within { IsBetween (pos 0) (pos 1_802_000_000_000_000_000) result }
 {
     spread_by(instants_extent(grid, cycle, macrotick, rows))
 }

@@ -29,10 +29,10 @@ pub even_end : (grid : Grid) (rate offset : ℤ) → IsPlaceable grid rate offse
 even_end grid rate offset can =
     share_of_all (grid.micros +ℤ rate) grid.macros (omega (arith, ints, can.is_grid.correction_from, can.is_grid.correction_to)) (omega (arith, ints, can.is_grid.correction_from, can.is_grid.correction_to, can.micros_from))
 
-int_lt_true : (a b : ℤ) → a <ℤ b → int_lt a b ≡ true
+pub int_lt_true : (a b : ℤ) → a <ℤ b → int_lt a b ≡ true
 int_lt_true a b below = grind (arith, ints)
 
-int_lt_false : (a b : ℤ) → b ≤ℤ a → int_lt a b ≡ false
+pub int_lt_false : (a b : ℤ) → b ≤ℤ a → int_lt a b ≡ false
 int_lt_false a b above = grind (arith, ints)
 
 -- where the cycle begins

@@ -3,5 +3,7 @@ pub mod Placing
 pub mod Shortest
 pub mod Ends
 pub mod Rows
+pub mod Counting
+pub mod Walking
 pub mod Unused
 pub mod SoleSenders

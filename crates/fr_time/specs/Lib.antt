@@ -7,3 +7,5 @@ pub mod Slots
 pub mod Senders
 pub mod Placed
 pub mod Laws
+-- what only functions inside cite
+pub mod Counted

@@ -1,5 +1,5 @@
 -- Macroticks one after the other.
-use Rattle.std.specs.Prelude.{◌≡◌, ℤ, pos, Bool, ◌≤ℤ◌, ◌<ℤ◌, ◌+ℤ◌}
+use Rattle.std.specs.Prelude.{◌≡◌, ℤ, pos, Bool, ◌<ℤ◌, ◌+ℤ◌}
 use Rattle.fr_base.specs.Within.{IsBetween}
 use Rattle.fr_time.specs.declared.grid.Grid.{Grid}
 use Rattle.fr_time.specs.Position.{IsPlaceable, position_of}

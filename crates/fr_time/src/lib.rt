@@ -9,6 +9,7 @@ mod laws;
 mod macroticks;
 mod positions;
 mod senders;
+mod shares;
 mod slots;
 
 pub use cycles::{cycle_count, is_odd};

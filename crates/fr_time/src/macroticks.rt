@@ -1,14 +1,15 @@
-ghost use Rattle.std.specs.Prelude.{◌≡◌, ◌≤ℤ◌, pos, IfSome, MatchOption};
+ghost use Rattle.std.specs.Prelude.{◌≡◌, ◌≤ℤ◌, ◌+ℤ◌, ◌-ℤ◌, pos, IfSome, MatchOption};
 ghost use Rattle.fr_base.specs.Within.{IsBetween};
-ghost use Rattle.fr_time.specs.Position.{IsPlaceable};
+ghost use Rattle.fr_time.specs.Position.{corrected_micros, even_position, IsPlaceable};
 ghost use Rattle.fr_time.specs.Walk.{first_walk, moved_on, IsNextPosition};
 
 use crate::grid::Grid;
-use crate::positions::position;
+use crate::positions::{even, left};
+use crate::shares::Share;
 use std::marker::Model;
 
 /// The macroticks of a cycle one after the other, each with its position in microticks from the start of
-/// the cycle (section 8.2).
+/// the cycle (section 8.2). It counts, and divides where it begins alone.
 #[derive(Debug, Drop)]
 pub struct Macro {
     grid: Grid,
@@ -16,16 +17,23 @@ pub struct Macro {
     offset: i32,
     odd: bool,
     next: i64,
+    // Of the cycle without its offset.
+    early: Share,
+    // Where the offset correction starts, and of what is left from there on.
+    start: i64,
+    late: Share,
 }
 
 impl Model for Macro {
+    ghost use Rattle.fr_time.specs.Counted.{IsCounted};
     ghost use Rattle.fr_time.specs.Walk.{IsWalk, Walk};
 
     ghost Value = { Walk };
 
     ghost view = { λ walk. record { grid = walk.grid; rate = walk.rate; offset = walk.offset; odd = walk.odd; next = walk.next } };
 
-    ghost invariant = { λ walk. IsWalk (record { grid = walk.grid; rate = walk.rate; offset = walk.offset; odd = walk.odd; next = walk.next }) };
+    ghost invariant = { λ walk. IsWalk (record { grid = walk.grid; rate = walk.rate; offset = walk.offset; odd = walk.odd; next = walk.next }) ×
+        IsCounted (record { grid = walk.grid; rate = walk.rate; offset = walk.offset; odd = walk.odd; next = walk.next }) walk.start walk.early walk.late };
 }
 
 impl Macro {
@@ -34,12 +42,16 @@ impl Macro {
         requires { IsPlaceable grid.now rate offset }
         ensures { result ≡ first_walk grid.now rate offset odd }
     {
+        let start = even(grid, rate, grid.correction);
         Macro {
             grid: *grid,
             rate,
             offset,
             odd,
             next: 0,
+            early: early_share(grid, rate, offset),
+            start,
+            late: late_share(grid, rate, offset, start),
         }
     }
 
@@ -53,8 +65,41 @@ impl Macro {
         if self.next >= self.grid.macros {
             return None;
         }
-        let at = position(&self.grid, self.rate, self.offset, self.odd, self.next);
-        self.next += 1;
-        Some(at)
+        if self.odd && self.grid.correction <= self.next {
+            let at = self.start + i64::from(self.late.at);
+            self.late = self.late.more();
+            self.next += 1;
+            Some(at)
+        } else {
+            let at = i64::from(self.early.at);
+            self.early = self.early.more();
+            self.next += 1;
+            Some(at)
+        }
     }
+}
+
+// None of the macroticks of a cycle without its offset.
+fn early_share(grid: &Grid, rate: i32, offset: i32) -> Share
+    requires { IsPlaceable grid.now rate offset }
+    ensures length { pos result.length ≡ grid.now.micros +ℤ rate }
+    ensures parts { pos result.parts ≡ grid.now.macros }
+    ensures count { result.count ≡ 0 }
+{
+    Share::none((grid.micros + rate as i64) as u32, grid.macros as u32)
+}
+
+// None of those from the start of the offset correction on.
+fn late_share(grid: &Grid, rate: i32, offset: i32, start: i64) -> Share
+    requires placeable { IsPlaceable grid.now rate offset }
+    requires start { start ≡ even_position grid.now rate grid.now.correction }
+    requires start_from { pos 0 ≤ℤ start }
+    ensures length { pos result.length ≡ corrected_micros grid.now rate offset }
+    ensures parts { pos result.parts ≡ grid.now.macros -ℤ grid.now.correction }
+    ensures count { result.count ≡ 0 }
+{
+    Share::none(
+        left(grid, rate, offset, start) as u32,
+        (grid.macros - grid.correction) as u32,
+    )
 }

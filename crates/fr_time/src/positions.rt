@@ -49,7 +49,7 @@ fn share(count: i64, length: i64, parts: i64) -> i64
 }
 
 // The position by the rule of even cycles.
-fn even(grid: &Grid, rate: i32, macrotick: i64) -> i64
+pub(crate) fn even(grid: &Grid, rate: i32, macrotick: i64) -> i64
     requires grid { IsGrid grid.now }
     requires micros { IsBetween grid.now.macros (pos 660_000) (grid.now.micros +ℤ rate) }
     requires macrotick { IsBetween (pos 0) grid.now.macros macrotick }
@@ -77,7 +77,7 @@ fn corrected(grid: &Grid, rate: i32, offset: i32, macrotick: i64) -> i64
 }
 
 // The microticks that are left where the offset correction starts.
-fn left(grid: &Grid, rate: i32, offset: i32, start: i64) -> i64
+pub(crate) fn left(grid: &Grid, rate: i32, offset: i32, start: i64) -> i64
     requires placeable { IsPlaceable grid.now rate offset }
     requires start { start ≡ even_position grid.now rate grid.now.correction }
     requires start_from { pos 0 ≤ℤ start }

@@ -6,6 +6,7 @@ pub mod Listed
 pub mod Sums
 pub mod Counts
 pub mod Listening
+pub mod HeldDelays
 pub mod Loops
 pub mod Channels
 pub mod Sweeps
@@ -13,3 +14,7 @@ pub mod OneCycle
 pub mod Fresh
 pub mod NodeIn
 pub mod Deciding
+pub mod Staying
+pub mod Claiming
+pub mod Messages
+pub mod Remembered

@@ -20,12 +20,12 @@ use Rattle.fr_node.specs.View.{NodeView, node_row_of}
 use Rattle.fr_cluster.specs.Setting.{Setting}
 use Rattle.fr_world.specs.Files.{setting_in}
 use Rattle.std.specs.Borrow.{Bor}
-use Rattle.std.specs.Prelude.{unwrap_or}
 use Rattle.fr_base.specs.Event.{Event}
 use Rattle.fr_base.specs.Event.Event.{Say}
 use Rattle.fr_base.specs.Within.{IsWithin}
 use Rattle.fr_history.specs.Offers.{said_in_event}
-use Rattle.fr_world.specs.Sending.{hears, offer_at, offer_from, offer_heard, said_instant, said_with, ComesAs}
+use Rattle.fr_world.specs.Sending.{bytes_by, hears, offer_at, offer_from, offer_heard, said_by, said_instant, said_with, AreShort, ComesAs}
+use Rattle.fr_script.specs.Events.{IsProperEvent}
 use Rattle.fr_world.specs.declared.turn.Coming.{Coming}
 use Rattle.fr_world.specs.Cycling.{IsReady}
 use Rattle.fr_world.specs.Turns.{CanHear, HasHeard}
@@ -111,14 +111,19 @@ has_heard f turn arrival bytes before node counted counts heard ready answer aft
     }
 
 -- what an arbitrary sender says comes as it is said
-pub said_comes : (x : Setting) (turn : Turn) (sender : ℕ) (frame : Bor (List ℕ)) (receiver : NodeRow) (shift arrival : ℤ) (bytes : Option (Bor (List ℕ))) →
-    Say shift (option_map (λ (b : Bor (List ℕ)). b.now) bytes) ≡ x.event turn.cycle sender receiver.node turn.channel → arrival ≡ said_instant x turn receiver shift → IsWithin (pos 4_000_000_000_000_000_000) arrival →
-    ComesAs turn (said_with x turn sender frame.now receiver) (let coming : Coming = record { arrival = arrival; bytes = unwrap_or bytes frame; flip = None } in Some coming)
-said_comes x turn sender frame receiver shift arrival bytes event at within = record {
-  offer_is = offer bytes ∙ ap (λ (e : Event). option_map (λ said. offer_at turn (said_instant x turn receiver said.0) said.1) (said_in_event e frame.now)) event;
-  within = record { arrival = within; short = λ some. absurd (cc) };
+pub said_comes : (x : Setting) (turn : Turn) (sender : ℕ) (frame : List ℕ) (receiver : NodeRow) (shift arrival : ℤ) (bytes : Option (Bor (List ℕ))) →
+    Say shift (option_map (λ (b : Bor (List ℕ)). b.now) bytes) ≡ x.event turn.cycle sender receiver.node turn.channel → IsProperEvent (Say shift (option_map (λ (b : Bor (List ℕ)). b.now) bytes)) →
+    arrival ≡ said_instant x turn receiver shift → IsWithin (pos 4_000_000_000_000_000_000) arrival →
+    ComesAs turn frame (said_with x turn sender frame receiver) (let coming : Coming = record { arrival = arrival; bytes = said_by bytes } in Some coming)
+said_comes x turn sender frame receiver shift arrival bytes event proper at within = record {
+  offer_is = offer bytes ∙ ap (λ (e : Event). option_map (λ said. offer_at turn (said_instant x turn receiver said.0) said.1) (said_in_event e frame)) event;
+  within = record { arrival = within; short = short bytes proper };
 } where
-  offer : (bytes : Option (Bor (List ℕ))) → Some (offer_at turn arrival (unwrap_or bytes frame).now)
-      ≡ option_map (λ said. offer_at turn (said_instant x turn receiver said.0) said.1) (said_in_event (Say shift (option_map (λ (b : Bor (List ℕ)). b.now) bytes)) frame.now)
-  offer None = ap (λ (a : ℤ). Some (offer_at turn a frame.now)) at
+  short : (bytes : Option (Bor (List ℕ))) → IsProperEvent (Say shift (option_map (λ (b : Bor (List ℕ)). b.now) bytes)) → AreShort (said_by bytes)
+  short None proper = tt
+  short (Some b) proper = proper.said.few
+
+  offer : (bytes : Option (Bor (List ℕ))) → Some (offer_at turn arrival (bytes_by frame (said_by bytes)))
+      ≡ option_map (λ said. offer_at turn (said_instant x turn receiver said.0) said.1) (said_in_event (Say shift (option_map (λ (b : Bor (List ℕ)). b.now) bytes)) frame)
+  offer None = ap (λ (a : ℤ). Some (offer_at turn a frame)) at
   offer (Some b) = ap (λ (a : ℤ). Some (offer_at turn a b.now)) at

@@ -1,7 +1,5 @@
 -- One cycle of a node: after the next record of the history it stands as the history says.
-use Rattle.std.proofs.Common.{◌≡◌, ◌⊎◌, ℕ, ◌+◌, ◌==◌, ℤ, pos, Bool, true, false, cond, not, ◌&&◌, Option, Some, None, List, [], ◌∷◌, ◌++◌, map, length, refl, ap, sym, ◌∙◌, inl, inr, arith, append-nil, if◌then◌else◌, add-one}
-use Rattle.std.specs.Prelude.{find}
-use Rattle.std.proofs.lemmas.List.Sums.{fold-append}
+use Rattle.std.proofs.Common.{◌≡◌, ℕ, ◌+◌, ℤ, pos, Bool, true, false, not, ◌&&◌, Option, None, [], ◌∷◌, ◌++◌, length, refl, ap, sym, ◌∙◌, append-nil, if◌then◌else◌, add-one}
 use Rattle.fr_base.specs.States.{cut_of, is_halted}
 use Rattle.fr_base.specs.declared.node_row.NodeRow.{NodeRow}
 use Rattle.fr_base.specs.declared.state.Outcome.{Outcome}
@@ -26,15 +24,15 @@ use Rattle.fr_node.specs.Cycle as node_cycle
 use Rattle.fr_poc.specs.Limits.{limits_of}
 use Rattle.fr_node.specs.View.{NodeView, node_row_of}
 use Rattle.fr_cluster.specs.Setting.{Setting, correct_nodes}
-use Rattle.fr_history.specs.History.{History, row_of}
+use Rattle.fr_history.specs.History.{History}
 use Rattle.fr_history.specs.Lawful.{rate_after, rate_by, start_after, start_by}
-use Rattle.fr_history.specs.Next.{early_record, early_row, early_rows, ended_row, next_devs, next_record}
-use Rattle.fr_history.specs.Terms.{cuts_in, latest_devs, offset_term_in, outcomes_by, outcomes_in, rate_term_in, status_in}
+use Rattle.fr_history.specs.Next.{early_row, early_rows, next_devs, next_record}
+use Rattle.fr_history.specs.Terms.{cuts_in, latest_devs, offset_term_in, outcomes_in, rate_term_in, status_in}
 use Rattle.fr_world.specs.Hearing.{after_slots}
 use Rattle.fr_world.specs.Standing.{node_after, readings_after, readings_of}
 use Rattle.fr_world.proofs.Columns.{next_table, offset_values_same, rate_values_same}
 use Rattle.fr_history.proofs.Flat.{Among}
-use Rattle.fr_history.proofs.Rows.{more_control, next_row, next_rows, outcomes-next, row_of-next}
+use Rattle.fr_history.proofs.Rows.{more_control, next_row, outcomes-next, row_of-next}
 use Rattle.fr_world.proofs.Table.{slots_with_table}
 
 -- a node after a history with its cycle begun

@@ -4,9 +4,12 @@ pub mod Files
 pub mod Listing
 pub mod World
 pub mod Ends
+pub mod Memory
 -- what only functions inside cite
 pub mod Hearing
 pub mod Counting
 pub mod Sending
 pub mod Cycling
 pub mod Turns
+pub mod Kept
+pub mod Cells

@@ -1,5 +1,5 @@
 -- The deviations of a cycle in the tables of nodes, as they are listed.
-use Rattle.std.specs.Prelude.{◌≡◌, ℕ, ◌+◌, ◌*◌, ◌≤◌, ℤ, pos, Bool, List, All, ◌++◌, length, option_and_then, is_some, filter}
+use Rattle.std.specs.Prelude.{◌≡◌, ℕ, ◌+◌, ◌*◌, ◌≤◌, pos, Bool, List, All, ◌++◌, length, option_and_then, is_some, filter}
 use Rattle.std.specs.List.{flat_map, range_with_len}
 use Rattle.std.specs.Option.{option_map, option_to_list}
 use Rattle.fr_base.specs.Rows.{dev_with, IsEarlierDev, Roomy}

@@ -1,11 +1,12 @@
 -- What comes to a receiver of a frame in a slot, once its sender is known.
-use Rattle.std.specs.Prelude.{◌≡◌, ℕ, ◌==◌, ◌≤◌, ℤ, ◌+ℤ◌, ◌*ℤ◌, pos, Bool, not, ◌&&◌, List, length, Option, Some, None, IfSome, IsSome, if◌then◌else◌}
+use Rattle.std.specs.Prelude.{◌≡◌, ℕ, ◌==◌, ◌≤◌, ℤ, ◌+ℤ◌, ◌*ℤ◌, pos, Bool, not, ◌&&◌, List, length, Option, Some, None, IfSome, if◌then◌else◌, ⊤}
+use Rattle.std.specs.Borrow.{Bor}
 use Rattle.std.specs.Option.{option_map}
 use Rattle.fr_base.specs.States.{is_active, is_halted}
 use Rattle.fr_base.specs.declared.channel.Channel.{Channel}
 use Rattle.fr_base.specs.declared.node_row.NodeRow.{NodeRow}
 use Rattle.fr_base.specs.Timed.{IsTimed}
-use Rattle.fr_base.specs.Within.{IsWithin}
+use Rattle.fr_base.specs.Within.{IsBetween, IsWithin}
 use Rattle.fr_cluster.specs.Questions.{compensation_of}
 use Rattle.fr_cluster.specs.Values.{Values}
 use Rattle.fr_reception.specs.Offers.{Offer, flipped}
@@ -15,6 +16,9 @@ use Rattle.fr_cluster.specs.Setting.{Setting}
 use Rattle.fr_history.specs.History.{row_of as row_in}
 use Rattle.fr_history.specs.Offers.{arrived_of, is_on, said_in_event}
 use Rattle.fr_world.specs.Hearing.{after_offer}
+use Rattle.fr_world.specs.declared.files.Files.{Files}
+use Rattle.fr_world.specs.declared.turn.Bytes.{Bytes}
+use Rattle.fr_world.specs.declared.turn.Bytes.TheVariants.{Frame, Flipped, Said}
 use Rattle.fr_world.specs.declared.turn.Coming.{Coming}
 use Rattle.fr_world.specs.declared.turn.Sender.{Sender}
 use Rattle.fr_world.specs.declared.turn.Turn.{Turn}
@@ -29,29 +33,46 @@ pub record IsEarlyRow (p : Values) (row : NodeRow) : Type 0 where
 abbrev pub offer_at : Turn → ℤ → List ℕ → Offer
 offer_at turn arrival bytes = record { slot = turn.slot; channel = turn.channel; arrival = arrival; bytes = bytes }
 
--- the bytes that come: with one bit inverted, if one is
-abbrev pub bytes_by : List ℕ → Option ℕ → List ℕ
-bytes_by bytes None = bytes
-bytes_by bytes (Some bit) = flipped bit bytes
+-- the bytes that come of a frame: itself, itself with one bit inverted, or others
+abbrev pub bytes_by : List ℕ → Bytes → List ℕ
+bytes_by frame Frame = frame
+bytes_by frame (Flipped bit) = flipped bit frame
+bytes_by frame (Said bytes) = bytes.now
 
--- what comes in a turn, as an offer
-abbrev pub coming_offer : Turn → Coming → Offer
-coming_offer turn coming = offer_at turn coming.arrival (bytes_by coming.bytes.now coming.flip)
+-- what comes of a frame in a turn, as an offer
+abbrev pub coming_offer : Turn → List ℕ → Coming → Offer
+coming_offer turn frame coming = offer_at turn coming.arrival (bytes_by frame coming.bytes)
 
--- it comes within any run, and what is inverted is a frame
+-- other bytes are no longer than a frame can be
+abbrev pub AreShort : Bytes → Type 0
+AreShort Frame = ⊤
+AreShort (Flipped bit) = ⊤
+AreShort (Said bytes) = length bytes.now ≤ 262
+
+-- it comes within any run
 pub record IsComing (coming : Coming) : Type 0 where
   pub arrival : IsWithin (pos 4_000_000_000_000_000_000) coming.arrival
-  pub short : IsSome coming.flip → length coming.bytes.now ≤ 262
+  pub short : AreShort coming.bytes
 
--- what comes in a turn is this offer, or nothing where there is none
-pub record ComesAs (turn : Turn) (offer : Option Offer) (coming : Option Coming) : Type 0 where
-  pub offer_is : option_map (coming_offer turn) coming ≡ offer
+-- what an arbitrary sender says: its regular frame, or other bytes
+abbrev pub said_by : Option (Bor (List ℕ)) → Bytes
+said_by None = Frame
+said_by (Some bytes) = Said bytes
+
+-- what comes of a frame in a turn is this offer, or nothing where there is none
+pub record ComesAs (turn : Turn) (frame : List ℕ) (offer : Option Offer) (coming : Option Coming) : Type 0 where
+  pub offer_is : option_map (coming_offer turn frame) coming ≡ offer
   pub within : IfSome coming IsComing
 
 -- the instant at which the frame of a correct sender with this row comes to a receiver
 abbrev pub sent_instant : Setting → Turn → NodeRow → ℕ → ℤ
 sent_instant x turn sender receiver =
     action_instant x.params sender turn.slot +ℤ x.delay sender.node receiver turn.channel turn.cycle
+
+-- the instant at which a correct sender with this row sends
+pub record IsDue (f : Files) (turn : Turn) (sender : NodeRow) (due : ℤ) : Type 0 where
+  pub value : due ≡ action_instant f.params sender turn.slot
+  pub within : IsBetween (pos 0) (pos 901_000_000_000_000_000) due
 
 -- the instant at which what is said comes: so many ticks later than the receiver expects a frame
 abbrev pub said_instant : Setting → Turn → NodeRow → ℤ → ℤ

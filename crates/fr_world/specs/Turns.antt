@@ -7,9 +7,12 @@ use Rattle.fr_cluster.specs.Values.{amount}
 use Rattle.fr_cluster.specs.declared.names.ParamName.TheVariants as name
 use Rattle.fr_time.specs.Senders.{sender_of}
 use Rattle.fr_time.specs.declared.senders.Sending.{Sending}
+use Rattle.fr_reception.specs.Answers.{answer_of}
 use Rattle.fr_reception.specs.Offers.{Offer}
+use Rattle.fr_reception.specs.declared.heard.Heard.{Heard}
 use Rattle.fr_reception.specs.Regular.{regular_frame}
-use Rattle.fr_node.specs.Fits.{CanReceive}
+use Rattle.fr_node.specs.Cycle.{after_hearing}
+use Rattle.fr_node.specs.Fits.{CanReceive, NodeFits}
 use Rattle.fr_node.specs.View.{NodeView, node_row_of}
 use Rattle.fr_script.specs.View.{is_arbitrary}
 use Rattle.fr_world.specs.Counting.{counted_frame, counted_offer, counted_offers, counts_after, counts_in, counts_on}
@@ -42,18 +45,24 @@ pub record SendsAs (f : Files) (turn : Turn) (sending : Sending) (arbitrary : Bo
 abbrev pub frame_of_turn : Files → Turn → Sending → List ℕ
 frame_of_turn f turn sending = regular_frame f.params sending turn.slot turn.cycle turn.channel
 
--- a frame is on the air in a turn of a static slot: it is the sender's, and no longer than a frame can be
-pub record IsOnAir (f : Files) (turn : Turn) (sender : Sender) (frame : List ℕ) : Type 0 where
+-- a node sends in a turn of a static slot, with this row where it is correct
+pub record IsOnAir (f : Files) (turn : Turn) (sender : Sender) : Type 0 where
   pub static_slot : turn.slot ≤ amount f.params name.gNumberOfStaticSlots
   pub sends : option_map (λ sending. sending.node) (sender_of f.params turn.slot turn.cycle) ≡ Some sender.node
   pub row : IfSome sender.row (IsEarlyRow f.params)
-  pub short : length frame ≤ 262
 
 -- all nodes are ready, and no number that was counted so far is above this one
 pub record AreReady (f : Files) (cycle most : ℕ) (nodes : List NodeView) (counts : Counts) : Type 0 where
   pub ready : All (IsReady f cycle) nodes
   pub few_nodes : length nodes ≤ 64
   pub few : AreAtMost most counts
+
+-- a node after its answer to what is offered to it in a turn
+pub record HasAnswered (f : Files) (turn : Turn) (offer : Offer) (before node : NodeView) (heard : Heard) : Type 0 where
+  pub answer : heard ≡ answer_of f.params before.cycle (node_row_of before) offer
+  pub after : node ≡ after_hearing f.params before turn.slot turn.channel heard
+  pub rest : node ≡ record before { table = node.table }
+  pub fits : NodeFits f.params node
 
 -- a node and the counts after an offer in a turn, or after none
 pub record HasHeard (f : Files) (turn : Turn) (offer : Option Offer) (before : NodeView) (counted : Counts) (node : NodeView) (counts : Counts) : Type 0 where

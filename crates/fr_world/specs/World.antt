@@ -21,6 +21,7 @@ use Rattle.fr_time.specs.Placed.{IsPlacedRow}
 use Rattle.fr_time.specs.Position.{grid_for}
 use Rattle.fr_base.specs.Counts.{AreAtMost}
 use Rattle.fr_world.specs.Listing.{HasRoom, ordered_keys}
+use Rattle.fr_world.specs.Memory.{MemoryView, held_after, memory_with}
 use Rattle.fr_world.specs.Standing.{node_after, nodes_after}
 use Rattle.fr_world.specs.declared.files.Files.{Files}
 
@@ -50,11 +51,16 @@ pub record StandAfter (f : Files) (cycles : ℕ) (keys : List ℕ) (nodes : List
   pub fitting : All (NodeFits f.params) nodes
   pub room : HasRoom keys devs
 
+-- the message memory of a world of these files after so many cycles
+abbrev pub memory_after : Files → ℕ → MemoryView
+memory_after f cycles = memory_with f.params (held_after (setting_in f) (history_of (setting_in f) cycles))
+
 -- what holds of the parts of a world: the drift fits the parameters, the nodes stand after the history of the cycles so
--- far, and the row is its latest
-pub record IsWorld (f : Files) (keys : List ℕ) (nodes : List NodeView) (row : CycleRow) (next : ℕ) : Type 0 where
+-- far, what was sent in them stands in the memory, and the row is its latest
+pub record IsWorld (f : Files) (keys : List ℕ) (nodes : List NodeView) (memory : MemoryView) (row : CycleRow) (next : ℕ) : Type 0 where
   pub drift_fits : DriftFits f.params f.drift
   pub stands : StandAfter f next keys nodes row.devs
+  pub remembers : memory ≡ memory_after f next
   pub in_run : next ≤ 2 * doubles_of f.drift
   pub latest : (earlier : ℕ) → next ≡ earlier + 1 → IsRowOf (setting_in f) earlier row
 
@@ -85,3 +91,7 @@ abbrev pub node_seen : WorldView → ℕ → Option NodeView
 node_seen w id =
     if is_arbitrary w.script id then None
     else option_map (λ spec. node_after (setting_after w) (history_of (setting_after w) w.cycles) id) (node_of w.params id)
+
+-- the message memory of a world after its cycles
+abbrev pub memory_of : WorldView → MemoryView
+memory_of w = memory_with w.params (held_after (setting_after w) (history_of (setting_after w) w.cycles))

@@ -35,8 +35,8 @@ fn fresh_node(files: &Files, spec: &NodeSpec) -> Node
     ensures fits { NodeFits files.now.params result }
 {
     sane(&files.params);
-    let start = files.drift.start(spec.id);
-    let rate = files.drift.rate(spec.id);
+    let start = files.drift.drift().start(spec.id);
+    let rate = files.drift.drift().rate(spec.id);
     Node::new(&files.params, spec.id, start, rate)
 }
 

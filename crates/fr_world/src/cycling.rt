@@ -10,7 +10,7 @@ fn begin_one(files: &Files, cycle: u32, node: &mut Node)
     requires waiting { IsWaiting files.now cycle node.old }
     ensures { HasBegun files.now cycle node.old node.new }
 {
-    let length = files.drift.length(node.id(), cycle);
+    let length = files.drift.drift().length(node.id(), cycle);
     node.begin(cycle, length);
 }
 

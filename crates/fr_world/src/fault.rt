@@ -1,3 +1,4 @@
+use fr_pool::PoolFault;
 use std::alloc::AllocError;
 
 /// Why a world is not built.
@@ -9,6 +10,12 @@ pub enum BuildFault {
 
 impl From<AllocError> for BuildFault {
     fn from(_: AllocError) -> BuildFault {
+        BuildFault::NoMemory
+    }
+}
+
+impl From<PoolFault> for BuildFault {
+    fn from(_: PoolFault) -> BuildFault {
         BuildFault::NoMemory
     }
 }

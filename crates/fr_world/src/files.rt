@@ -1,14 +1,14 @@
 ghost use Rattle.fr_cluster.specs.Sane.{IsSane};
 
+use crate::kept::KeptDrift;
 use fr_cluster::Params;
-use fr_drift::Drift;
 use fr_script::Script;
 
 // What decides a run.
 #[derive(Drop)]
 pub(crate) struct Files {
     pub(crate) params: Params,
-    pub(crate) drift: Drift,
+    pub(crate) drift: KeptDrift,
     pub(crate) script: Script,
 }
 

@@ -1,42 +1,130 @@
-ghost use Rattle.std.specs.Prelude.{Some};
+ghost use Rattle.std.specs.Prelude.{◌≡◌, ◌≤◌, pos, length, Some};
 ghost use Rattle.fr_base.specs.Counts.{AreAtMost};
-ghost use Rattle.fr_world.specs.Sending.{coming_offer, IsComing};
-ghost use Rattle.fr_world.specs.Turns.{CanHear, HasHeard};
+ghost use Rattle.fr_base.specs.Within.{IsWithin};
+ghost use Rattle.fr_frame.specs.Reading.{read_as};
+ghost use Rattle.fr_pool.specs.Pool.{HasFree};
+ghost use Rattle.fr_world.specs.Cells.{Stands, Stays};
+ghost use Rattle.fr_world.specs.Memory.{frame_at};
+ghost use Rattle.fr_world.specs.Sending.{coming_offer, offer_at, IsComing};
+ghost use Rattle.fr_world.specs.Turns.{CanHear, HasHeard, HasAnswered};
 
+use crate::cells::{put_front, take_spare};
 use crate::files::Files;
 use crate::flipping::with_flipped;
 use crate::tally::count;
-use crate::turn::{Coming, Turn};
+use crate::turn::{Bytes, Coming, Turn};
 use fr_base::Counts;
-use fr_node::Node;
+use fr_frame::{FrameFault, Header};
+use fr_node::{Heard, Node};
+use fr_pool::{Cell, Pool};
+
+// A node hears the frame that stands in a cell, which is known as what it is on the channel.
+fn hear_frame(
+    files: &Files,
+    turn: &Turn,
+    arrival: i64,
+    pool: &Pool,
+    cell: &Cell,
+    bytes: usize,
+    told: &Result<Header, FrameFault>,
+    node: &mut Node,
+) -> Heard
+    requires hears { CanHear files.now turn.now node.old }
+    requires arrival { IsWithin (pos 4_000_000_000_000_000_000) arrival }
+    requires stands { Stands pool.now cell.now bytes }
+    requires told { told.now ≡ read_as turn.now.channel (frame_at pool.now cell.now bytes) }
+    ensures { HasAnswered files.now turn.now (offer_at turn.now arrival (frame_at pool.now cell.now bytes))
+        node.old node.new result }
+{
+    let frame = &pool.read(cell)[..bytes];
+    node.hear_read(&files.params, turn.slot, turn.channel, arrival, frame, told)
+}
+
+// A node hears bytes.
+fn hear_bytes(files: &Files, turn: &Turn, arrival: i64, bytes: &[u8], node: &mut Node) -> Heard
+    requires hears { CanHear files.now turn.now node.old }
+    requires arrival { IsWithin (pos 4_000_000_000_000_000_000) arrival }
+    ensures { HasAnswered files.now turn.now (offer_at turn.now arrival bytes.now) node.old node.new result }
+{
+    node.hear(&files.params, turn.slot, turn.channel, arrival, bytes)
+}
+
+// A node hears bytes that stand in a further cell.
+fn hear_copy(
+    files: &Files,
+    turn: &Turn,
+    arrival: i64,
+    bytes: &[u8],
+    pool: &mut Pool,
+    node: &mut Node,
+) -> Heard
+    requires hears { CanHear files.now turn.now node.old }
+    requires arrival { IsWithin (pos 4_000_000_000_000_000_000) arrival }
+    requires bytes { length bytes.now ≤ 262 }
+    requires spare { HasFree pool.old }
+    requires whole { length pool.old.bytes ≡ length pool.old.out }
+    ensures answered { HasAnswered files.now turn.now (offer_at turn.now arrival bytes.now)
+        node.old node.new result }
+    ensures stays { Stays pool.old pool.new }
+{
+    let copy = take_spare(pool);
+    put_front(pool.write(&copy), bytes);
+    let heard = hear_bytes(files, turn, arrival, &pool.read(&copy)[..bytes.len()], node);
+    pool.give(copy);
+    heard
+}
+
+// What a node answers to what comes to it.
+fn answer(
+    files: &Files,
+    turn: &Turn,
+    coming: &Coming<'_>,
+    pool: &mut Pool,
+    cell: &Cell,
+    bytes: usize,
+    told: &Result<Header, FrameFault>,
+    node: &mut Node,
+) -> Heard
+    requires hears { CanHear files.now turn.now node.old }
+    requires coming { IsComing coming.now }
+    requires stands { Stands pool.old cell.now bytes }
+    requires told { told.now ≡ read_as turn.now.channel (frame_at pool.old cell.now bytes) }
+    ensures answered { HasAnswered files.now turn.now
+        (coming_offer turn.now (frame_at pool.old cell.now bytes) coming.now) node.old node.new result }
+    ensures stays { Stays pool.old pool.new }
+{
+    let arrival = coming.arrival;
+    match coming.bytes {
+        Bytes::Frame => hear_frame(files, turn, arrival, pool, cell, bytes, told, node),
+        Bytes::Flipped(bit) => {
+            let flipped = with_flipped(&pool.read(cell)[..bytes], bit);
+            hear_copy(files, turn, arrival, &flipped[..bytes], pool, node)
+        }
+        Bytes::Said(said) => hear_copy(files, turn, arrival, said, pool, node),
+    }
+}
 
 // A node hears what comes to it, and its answer is counted.
 pub(crate) fn hear(
     files: &Files,
     turn: &Turn,
     coming: &Coming<'_>,
+    pool: &mut Pool,
+    cell: &Cell,
+    bytes: usize,
+    told: &Result<Header, FrameFault>,
     node: &mut Node,
     counts: &mut Counts,
 )
     requires hears { CanHear files.now turn.now node.old }
     requires coming { IsComing coming.now }
+    requires stands { Stands pool.old cell.now bytes }
+    requires told { told.now ≡ read_as turn.now.channel (frame_at pool.old cell.now bytes) }
     requires few { AreAtMost 2_000_000 counts.old }
-    ensures { HasHeard files.now turn.now (Some (coming_offer turn.now coming.now))
+    ensures heard { HasHeard files.now turn.now (Some (coming_offer turn.now (frame_at pool.old cell.now bytes) coming.now))
         node.old counts.old node.new counts.new }
+    ensures stays { Stays pool.old pool.new }
 {
-    let Coming {
-        arrival,
-        bytes,
-        flip,
-    } = *coming;
-    let heard = match flip {
-        None => node.hear(&files.params, turn.slot, turn.channel, arrival, bytes),
-        Some(bit) => {
-            let count = bytes.len();
-            let flipped = with_flipped(bytes, bit);
-            let bytes = &flipped[..count];
-            node.hear(&files.params, turn.slot, turn.channel, arrival, bytes)
-        }
-    };
+    let heard = answer(files, turn, coming, pool, cell, bytes, told, node);
     count(counts, &heard);
 }

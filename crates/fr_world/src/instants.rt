@@ -1,9 +1,11 @@
-ghost use Rattle.std.specs.Prelude.{◌≡◌, ◌+ℤ◌, ◌*ℤ◌, pos};
+ghost use Rattle.std.specs.Prelude.{◌≡◌, ◌≤◌, ◌+ℤ◌, ◌*ℤ◌, pos, IfSome};
 ghost use Rattle.fr_base.specs.Within.{IsWithin};
 ghost use Rattle.fr_cluster.specs.Questions.{compensation_of};
+ghost use Rattle.fr_cluster.specs.Values.{amount};
+ghost use Rattle.fr_cluster.specs.declared.names.ParamName.TheVariants as name;
 ghost use Rattle.fr_time.specs.Instant.{action_instant, IsSlotOf};
 ghost use Rattle.fr_world.specs.Files.{setting_in};
-ghost use Rattle.fr_world.specs.Sending.{sent_instant, said_instant};
+ghost use Rattle.fr_world.specs.Sending.{sent_instant, said_instant, IsDue, IsEarlyRow};
 
 use crate::files::Files;
 use crate::turn::Turn;
@@ -11,16 +13,35 @@ use fr_base::{Channel, NodeId, NodeRow, Slot, ticks_of};
 use fr_cluster::Params;
 use fr_time::action_instant;
 
-// The instant at which the frame of a sender with this row comes to a receiver, in ticks.
-pub(crate) fn sent_at(files: &Files, turn: &Turn, sender: &NodeRow, receiver: NodeId) -> i64
-    requires { IsSlotOf files.now.params sender.now turn.now.slot }
+// The instant at which a sender with this row sends, in ticks; 0 where there is no row.
+pub(crate) fn due_at(files: &Files, turn: &Turn, row: &Option<NodeRow>) -> i64
+    requires slot { turn.now.slot ≤ amount files.now.params name.gNumberOfStaticSlots }
+    requires row { IfSome row.now (IsEarlyRow files.now.params) }
+    ensures { IfSome row.now (λ sender. IsDue files.now turn.now sender result) }
+{
+    match row {
+        Some(row) => action_instant(&files.params, row, turn.slot),
+        None => 0,
+    }
+}
+
+// The instant at which the frame of a sender with this row, which is due at an instant, comes to a receiver, in
+// ticks.
+pub(crate) fn sent_at(
+    files: &Files,
+    turn: &Turn,
+    sender: &NodeRow,
+    due: i64,
+    receiver: NodeId,
+) -> i64
+    requires { IsDue files.now turn.now sender.now due }
     ensures value { result ≡ sent_instant (setting_in files.now) turn.now sender.now receiver }
     ensures within { IsWithin (pos 2_000_000_000_000_000_000) result }
 {
     let delay = files
         .drift
         .delay(sender.node, receiver, turn.channel, turn.cycle);
-    action_instant(&files.params, sender, turn.slot) + delay
+    due + delay
 }
 
 // The instant at which what is said so much later than expected comes to a receiver with this row, in

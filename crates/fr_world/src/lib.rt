@@ -2,14 +2,17 @@
 #![tactic(auto)]
 
 mod building;
+mod cells;
 mod cycling;
 mod fault;
 mod files;
 mod flipping;
 mod hearing;
 mod instants;
+mod kept;
 mod laws;
 mod listing;
+mod memory;
 mod offering;
 mod running;
 mod slots;

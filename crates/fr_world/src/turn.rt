@@ -15,11 +15,17 @@ pub(crate) struct Sender {
     pub(crate) row: Option<NodeRow>,
 }
 
-// What comes to a node in a turn: bytes that arrive at an instant, in ticks, and which of their bits is
-// inverted, if one is.
+// What comes of a frame: its bytes, these with one bit inverted, or other bytes.
+#[derive(Clone, Copy)]
+pub(crate) enum Bytes<'a> {
+    Frame,
+    Flipped(u32),
+    Said(&'a [u8]),
+}
+
+// What comes to a node in a turn, and when, in ticks.
 #[derive(Clone, Copy)]
 pub(crate) struct Coming<'a> {
     pub(crate) arrival: i64,
-    pub(crate) bytes: &'a [u8],
-    pub(crate) flip: Option<u32>,
+    pub(crate) bytes: Bytes<'a>,
 }

@@ -8,16 +8,20 @@ ghost use Rattle.fr_script.specs.Files.{ScriptFits};
 ghost use Rattle.fr_script.specs.View.{IsScript};
 ghost use Rattle.fr_history.specs.Next.{history_of};
 ghost use Rattle.fr_world.specs.Listing.{HasRoom};
+ghost use Rattle.fr_world.specs.Memory.{cell_of, frame_of, place_of_slot, IsPoolOf};
 ghost use Rattle.fr_world.specs.Standing.{nodes_after};
 
 use crate::building::{fresh_nodes, key_slots_of};
 use crate::fault::BuildFault;
 use crate::files::{Files, sane};
+use crate::kept::KeptDrift;
+use crate::memory::{Memory, place_of_slot};
 use crate::running::run_cycle;
-use fr_base::{Counts, CycleRow, DevList, NodeId, RowList, Slot};
+use fr_base::{Channel, Counts, CycleRow, DevList, NodeId, RowList, Slot};
 use fr_cluster::Params;
 use fr_drift::Drift;
 use fr_node::Node;
+use fr_pool::{Cell, Pool};
 use fr_script::Script;
 use std::alloc::{AllocError, Global};
 use std::marker::Model;
@@ -32,6 +36,8 @@ pub struct World {
     keys: Vec<Slot>,
     // The correct nodes in ascending order.
     nodes: Vec<Node>,
+    // What was sent last, each frame in its cell.
+    memory: Memory,
     // The row of the last cycle that was run.
     row: CycleRow,
     // The cycle that comes next.
@@ -47,7 +53,7 @@ impl Model for World {
 
     ghost view = { λ w. record { params = w.files.params; drift = w.files.drift; script = w.files.script; cycles = w.next } };
 
-    ghost invariant = { λ w. IsWorld w.files w.keys.items w.nodes.items w.row w.next };
+    ghost invariant = { λ w. IsWorld w.files w.keys.items w.nodes.items w.memory w.row w.next };
 }
 
 impl World {
@@ -63,6 +69,7 @@ impl World {
         requires script { ScriptFits params script }
         ensures { IfOk result (λ world. world ≡ world_before params drift script) }
     {
+        let drift = KeptDrift::of(alloc, &params, drift)?;
         let files = Files {
             params,
             drift,
@@ -70,17 +77,19 @@ impl World {
         };
         let keys = key_slots_of(alloc, &files.params)?;
         let nodes = fresh_nodes(alloc, &files)?;
+        let memory = Memory::new(alloc, &files.params)?;
         let row = blank_row(alloc, &keys)?;
         Ok(World {
             files,
             keys,
             nodes,
+            memory,
             row,
             next: 0,
         })
     }
 
-    ghost use Rattle.fr_world.specs.World.{node_seen, setting_after, world_before, IsLastRowOf, IsRowOf};
+    ghost use Rattle.fr_world.specs.World.{memory_of, node_seen, setting_after, world_before, IsLastRowOf, IsRowOf};
     ghost use Rattle.fr_world.specs.Ends.{Cycles};
 
     /// Runs the next cycle of every correct node, and answers its row; None exactly after the last cycle of
@@ -91,13 +100,14 @@ impl World {
         ensures over { IsNone result ↔ (self.old.cycles ≡ 2 * doubles_of self.old.drift) }
         ensures row { IfSome result (λ row. IsRowOf (setting_after self.old) self.old.cycles row.now) }
     {
-        if self.next == 2 * self.files.drift.doubles() {
+        if self.next == 2 * self.files.drift.drift().doubles() {
             return None;
         }
         run_cycle(
             &self.files,
             self.keys.as_slice(),
             self.next,
+            &mut self.memory,
             self.nodes.as_mut_slice(),
             &mut self.row,
         );
@@ -136,6 +146,29 @@ impl World {
         self.nodes.as_slice()
     }
 
+    /// The pool of the cells that its frames stand in: two for each static slot, and two more. The cells that are out
+    /// are those that `cell` answers, and no others.
+    pub fn pool(&self) -> &Pool
+        ensures { IsPoolOf (memory_of self.now) result.now }
+    {
+        self.memory.pool()
+    }
+
+    /// The cell of a slot on a channel, in `pool`; None exactly where no correct node sent a frame there so far.
+    pub fn cell(&self, slot: Slot, channel: Channel) -> Option<&Cell>
+        ensures { option_copied result ≡ cell_of (memory_of self.now).held (place_of_slot slot channel) }
+    {
+        self.memory.cell(place_of_slot(slot, channel))
+    }
+
+    /// The last frame that a correct node sent in a slot on a channel, as it was sent: the bytes at the front of its
+    /// cell. None exactly where no correct node sent a frame there so far.
+    pub fn last(&self, slot: Slot, channel: Channel) -> Option<&[u8]>
+        ensures { option_copied result ≡ frame_of (memory_of self.now).held (place_of_slot slot channel) }
+    {
+        self.memory.last(place_of_slot(slot, channel))
+    }
+
     /// The parameters of the cluster.
     pub fn params(&self) -> &Params
         ensures value { result.now ≡ self.now.params }
@@ -150,7 +183,7 @@ impl World {
         ensures value { result.now ≡ self.now.drift }
         ensures fits { DriftFits self.now.params self.now.drift }
     {
-        &self.files.drift
+        self.files.drift.drift()
     }
 
     /// What is done to its frames.

@@ -1,7 +1,7 @@
 use Rattle.std.proofs.Common.{Ok, Err, subst, sym}
-use Rattle.fr_answer.specs.declared.status.Status.{Status}
+use Rattle.fr_ending.specs.declared.status.Status.{Status}
 use Rattle.fr_answer.specs.Answer.{IsDefinedBy}
-use Rattle.fr_answer.specs.Around.{Around, around_of}
+use Rattle.fr_ending.specs.Around.{Around, around_of}
 use Rattle.fr_answer.proofs.Endings.{complete}
 use Rattle.fr_answer.proofs.top.flexray.Goals as goal
 

@@ -1,9 +1,10 @@
-use Rattle.fr_crc.proofs.Steps.{header_crc_after}
+use Rattle.std.proofs.Common.{ap, ◌∙◌}
+use Rattle.fr_crc.specs.Crc.{header_generator, header_start}
+use Rattle.fr_crc.specs.Register.{after}
+use Rattle.fr_crc.proofs.Steps.{header_crc_of_all}
 use Rattle.fr_crc.proofs.checks.header_crc.Goals as goal
 
 pub returns : goal.returns
 returns c =
-    header_crc_after c.args.sync c.args.startup c.args.id c.args.words
-    c.after_bit-register.result c.after_bit-register-2.result c.after_bits-register.result c.after_bits-register-2.result
-    c.after_bits-register-2.ensures.fits c.after_bit-register.ensures.next c.after_bit-register-2.ensures.next
-    (rw c.from.ensures at c.after_bits-register.ensures.after) (rw c.from-2.ensures at c.after_bits-register-2.ensures.after)
+    header_crc_of_all c.args.sync c.args.startup c.args.id c.args.words c.after_twenty.result c.after_twenty.ensures.fits
+    (c.after_twenty.ensures.next ∙ ap (after header_generator header_start) c.covered.ensures)

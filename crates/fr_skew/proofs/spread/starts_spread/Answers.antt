@@ -7,4 +7,4 @@ use Rattle.fr_skew.proofs.spread.starts_spread.Goals as goal
 pub returns : goal.returns
 returns c =
     let fits : FitsSigned w64 c.spread_by.result = search rules in
-    to_z-of_z w64 c.spread_by.result fits ∙ c.spread_by.ensures ∙ ap spread_by c.starts_extent.ensures.value ∙ starts_are c.args.rows.now
+    to_z-of_z w64 c.spread_by.result fits ∙ c.spread_by.ensures.value ∙ ap spread_by c.starts_extent.ensures.value ∙ starts_are c.args.rows.now

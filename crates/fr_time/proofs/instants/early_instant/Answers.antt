@@ -1,4 +1,4 @@
-use Rattle.std.proofs.Common.{◌≡◌, rules, pos, ℤ, FitsSigned, w32, w64, arith}
+use Rattle.std.proofs.Common.{◌≡◌, rules, pos, FitsSigned, w32, w64, arith}
 use Rattle.std.specs.Prelude.{◌≤ℤ◌, ◌*ℤ◌}
 use Rattle.std.proofs.lemmas.Int.{ints, to_z-of_z}
 use Rattle.fr_base.specs.Within.{IsBetween}

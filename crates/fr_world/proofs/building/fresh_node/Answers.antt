@@ -1,6 +1,7 @@
 use Rattle.std.proofs.Common.{◌≡◌, ◌∙◌, ℤ, FitsSigned, w32, w64, ap, arith}
 use Rattle.std.proofs.lemmas.Int.{ints, to_z-of_z}
-use Rattle.fr_drift.specs.Questions.{start_of}
+use Rattle.fr_drift.specs.Questions.{rate_of, start_of}
+use Rattle.fr_drift.specs.View.{DriftView}
 use Rattle.fr_node.specs.Cycle.{fresh}
 use Rattle.fr_history.specs.Terms.{outcomes_in}
 use Rattle.fr_world.specs.Standing.{node_after, readings_after}
@@ -15,5 +16,5 @@ returns-clause-node c =
     let rate : FitsSigned w32 c.rate-rate.result = omega (arith, ints) in
     let made : c.new.result ≡ fresh p id c.start-start.result c.rate-rate.result = simp to_z-of_z at c.new.ensures.value in
     made
-    ∙ ap (λ (start : ℤ). fresh p id start c.rate-rate.result) c.start-start.ensures.value
-    ∙ ap (λ (rate : ℤ). fresh p id (start_of c.args.files.now.drift id) rate) c.rate-rate.ensures.value
+    ∙ ap (λ (start : ℤ). fresh p id start c.rate-rate.result) (c.start-start.ensures.value ∙ ap (λ (d : DriftView). start_of d id) c.drift.ensures)
+    ∙ ap (λ (rate : ℤ). fresh p id (start_of c.args.files.now.drift id) rate) (c.rate-rate.ensures.value ∙ ap (λ (d : DriftView). rate_of d id) c.drift-2.ensures)

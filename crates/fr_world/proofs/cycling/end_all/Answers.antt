@@ -10,7 +10,6 @@ use Rattle.fr_world.proofs.Loops.{swept-more, swept-next}
 use Rattle.fr_world.proofs.Sweeps.{rows-below}
 use Rattle.fr_time.specs.Placed.{IsPlacedRow}
 use Rattle.fr_time.specs.Position.{grid_for}
-use Rattle.std.proofs.lemmas.Int.{ints}
 use Rattle.fr_world.proofs.cycling.end_all.Goals as goal
 
 pub push-requires-clause-above : goal.push-requires-clause-above

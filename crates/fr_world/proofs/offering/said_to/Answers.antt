@@ -12,7 +12,7 @@ use Rattle.fr_world.specs.Sending.{said_instant}
 use Rattle.fr_world.proofs.offering.said_to.Goals as goal
 
 pub returns-in-Say : goal.returns-in-Say
-returns-in-Say c =
+returns-in-Say c frame =
     let a = c.args in
     let x : Setting = setting_in a.files.now in
     let within : IsWithin (pos 4000000000000000000) c.said_at.result = record {
@@ -22,5 +22,5 @@ returns-in-Say c =
     let proper : IsProperEvent (Say c.in-Say.shift (option_map (λ (b : Bor (List ℕ)). b.now) c.in-Say.bytes)) = subst IsProperEvent (sym c.in-Say.ensures.value) c.in-Say.ensures.proper in
     let fits : FitsSigned w64 c.in-Say.shift = omega (arith, ints, proper.from, proper.to) in
     let at : c.said_at.result ≡ said_instant x a.turn.now a.receiver.now c.in-Say.shift = simp to_z-of_z at c.said_at.ensures.value in
-    rw (to_z-of_z w64 c.said_at.result (search rules), c.unwrap_or.ensures)
-    (said_comes x a.turn.now a.sender a.frame a.receiver.now c.in-Say.shift c.said_at.result c.in-Say.bytes c.in-Say.ensures.value at within)
+    rw (to_z-of_z w64 c.said_at.result (search rules), c.said_by.ensures)
+    (said_comes x a.turn.now a.sender frame a.receiver.now c.in-Say.shift c.said_at.result c.in-Say.bytes c.in-Say.ensures.value proper at within)

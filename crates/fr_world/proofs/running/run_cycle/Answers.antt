@@ -4,6 +4,7 @@ use Rattle.fr_history.specs.History.{History}
 use Rattle.fr_history.specs.Next.{history_of}
 use Rattle.fr_history.specs.Recorded.{recorded}
 use Rattle.fr_world.proofs.OneCycle.{all-begun, all-heard, all-wait, are-listable, counts-are, devs-are, keys-ascend, nodes-are, nodes-few, record-is, rows-are}
+use Rattle.fr_world.proofs.Remembered.{cycle-held}
 use Rattle.fr_world.proofs.Step.{begun_node, heard_node}
 use Rattle.fr_world.specs.Files.{setting_in}
 use Rattle.fr_world.specs.Listing.{listed_among}
@@ -19,6 +20,7 @@ hear_all-requires c = record {
     few_nodes = omega (arith, nodes-few (setting_in c.args.files.now) c.sane.ensures (history_of (setting_in c.args.files.now) c.args.cycle) c.args.nodes.now c.requires.stand.nodes_are);
     few = search rules;
   };
+  memory = rw c.requires.memory refl;
 }
 
 pub list_devs-requires-clause-keys : goal.list_devs-requires-clause-keys
@@ -49,6 +51,12 @@ returns-clause-stand c =
       fitting = c.end_all.ensures.fit;
       room = c.list_devs.ensures.room;
     }
+
+pub returns-clause-memory : goal.returns-clause-memory
+returns-clause-memory c =
+    let a = c.args in
+    cycle-held a.files.now a.cycle c.begin_all.new.nodes a.memory.now c.hear_all.new.memory
+    (all-begun a.files.now a.cycle a.nodes.now c.begin_all.new.nodes c.requires.stand.nodes_are c.begin_all.ensures.nodes_are) c.requires.memory c.hear_all.ensures.held
 
 pub returns-clause-row : goal.returns-clause-row
 returns-clause-row c =

@@ -10,8 +10,8 @@ use Rattle.fr_reception.specs.Offers.{Offer}
 use Rattle.fr_world.specs.Turns.{frame_of_turn}
 use Rattle.fr_world.proofs.slots.hear_said.Goals as goal
 
-pub returns-then-is_sync : goal.returns-then-is_sync
-returns-then-is_sync c =
+pub returns-then-is_sync-clause-heard : goal.returns-then-is_sync-clause-heard
+returns-then-is_sync-clause-heard c =
     let a = c.args in
     let t = a.turn.now in
     let x : Setting = setting_in a.files.now in
@@ -19,7 +19,7 @@ returns-then-is_sync c =
     let sync : is_sync_frame a.sending.now.kind ≡ true = cc in
     let offer : NodeRow → Option Offer = offer_heard x t a.sending.now.node None (frame_of_turn a.files.now t a.sending.now) in
     let sending = c.requires.sending in
-    let heard = c.broadcast.ensures in record {
+    let heard = c.say.ensures.heard in record {
       nodes_are = heard.nodes_are ∙ heard-nodes x t.cycle rows t.slot t.channel offer a.nodes.now (λ r. said-offer x t rows r a.sending.now sending.sends sending.as_is sync);
       ready = heard.ready;
       counts_are = heard.counts_are
@@ -27,8 +27,8 @@ returns-then-is_sync c =
           (arbitrary-frame a.files.now t a.nodes.now a.sending.now sending.sends c.requires.ready.ready sending.as_is);
     }
 
-pub returns-else-is_sync : goal.returns-else-is_sync
-returns-else-is_sync c =
+pub returns-else-is_sync-clause-heard : goal.returns-else-is_sync-clause-heard
+returns-else-is_sync-clause-heard c =
     let a = c.args in
     let t = a.turn.now in
     let x : Setting = setting_in a.files.now in

@@ -1,4 +1,5 @@
-use Rattle.std.proofs.Common.{rules, ◌≡◌, ◌≤◌, ◌∙◌}
+use Rattle.std.proofs.Common.{rules, ◌≡◌, ◌++◌, ◌∷◌, [], Bool, List, subst, sym}
+use Rattle.fr_script.specs.Draft.{IsScriptDraft}
 use Rattle.fr_script.proofs.Tables.{draft-node}
 use Rattle.fr_script.proofs.draft.Draft.take_node.Goals as goal
 
@@ -8,8 +9,7 @@ returns c = record {
   takes = record {
     why = search rules;
     adds = λ done r h e none.
-        let place : c.from.result ≡ c.args.node = c.from.ensures ∙ c.node-2.view_is in
-        let low : c.args.node ≤ 64 = rw c.node-2.view_is at c.node-2.invariant.1 in
-        rw place (draft-node c.args.self.now done r c.args.node h low e);
+        let P : List Bool → Type 0 = λ marks. IsScriptDraft (record c.args.self.now { arbitrary = marks }) (done ++ r ∷ []) in
+        subst P (sym c.mark.ensures.marks) (draft-node c.args.self.now done r c.args.node h c.mark.ensures.low e);
   };
 }

@@ -1,0 +1,22 @@
+//! `flexray-series PARAMS DRIFT SCRIPT`: how far the clocks of a FlexRay cluster lie apart in each cycle of a run, and
+//! whether they are in sync.
+#![tactic(auto)]
+
+use fr_answer_series::{Status, flexray_series};
+use fr_base::{DiskShelf, StreamSink};
+use std::env;
+use std::process::ExitCode;
+
+fn main(rt: HostRuntime) -> ExitCode {
+    let Ok(all) = env::args(&rt) else {
+        return ExitCode::from(Status::NoMemory.code());
+    };
+    let Ok(words) = all.skip(1).collect::<Vec<String>>(rt.alloc()) else {
+        return ExitCode::from(Status::NoMemory.code());
+    };
+    let mut shelf = DiskShelf::new(&rt);
+    let mut out = StreamSink::new(rt.stdout());
+    let mut err = StreamSink::new(rt.stderr());
+    let status = flexray_series(rt.alloc(), &words, &mut shelf, &mut out, &mut err);
+    ExitCode::from(status.code())
+}

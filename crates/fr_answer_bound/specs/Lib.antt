@@ -1,0 +1,5 @@
+-- what the public contract cites
+pub mod BoundAnswer
+pub mod BoundText
+pub mod SettleAnswer
+pub mod SettleText

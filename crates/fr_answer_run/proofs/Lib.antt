@@ -1,0 +1,4 @@
+pub mod Decided
+pub mod Ended
+pub mod Figures
+pub mod MadeEnded

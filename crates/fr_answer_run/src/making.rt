@@ -1,0 +1,68 @@
+ghost use Rattle.std.specs.Prelude.{◌≡◌, IfErr, IfOk};
+ghost use Rattle.fr_drift.specs.Rows.{IsProperCount};
+ghost use Rattle.fr_generator.specs.Generated.{IsGenerated};
+ghost use Rattle.fr_ending.specs.Around.{TextEnds};
+ghost use Rattle.fr_ending.specs.Failure.{EndingWritesNothing};
+ghost use Rattle.fr_ending.specs.declared.failure.Failure.TheVariants as failure;
+ghost use Rattle.fr_answer_run.specs.MakeAnswer.{IsMadeReport, StopsMaking};
+ghost use Rattle.fr_answer_run.specs.RunText.{IsRunText, run_text};
+
+use crate::laws::a_run_is_lawful;
+use crate::playing::play;
+use fr_base::Sink;
+use fr_ending::Failure;
+use fr_generator::{Generated, generate};
+use fr_world::{BuildFault, World};
+use std::alloc::Global;
+
+/// Makes the cluster of a seed, over 1 to 10,000 double cycles, runs it, and writes the report: that of `run`
+/// on its parameters, its drift and its script. It loads no file. A failure comes where memory runs out
+/// (`NoMemory`), or where the sink counted a fault (`WriteFault`).
+pub fn answer_made<O: Sink>(
+    alloc: Global,
+    seed: u32,
+    doubles: u32,
+    out: &mut O,
+) -> Result<(), Failure>
+    requires { IsProperCount doubles }
+    ensures ends { TextEnds (IsMadeReport seed doubles) StopsMaking (O.state out.old) (O.state out.new) result }
+    ensures unwritten { EndingWritesNothing result → out.new ≡ out.old }
+{
+    let mut world = made_world(alloc, seed, doubles)?;
+    report_is_lawful(&world);
+    match play(&mut world, out) {
+        Ok(()) => Ok(()),
+        Err(_) => Err(Failure::WriteFault),
+    }
+}
+
+// The world of a seed, before its first cycle.
+fn made_world(alloc: Global, seed: u32, doubles: u32) -> Result<World, Failure>
+    requires { IsProperCount doubles }
+    ensures fresh { IfOk result (λ world. world.cycles ≡ 0) }
+    ensures made { IfOk result (λ world. IsGenerated seed doubles (record { params = world.params; drift = world.drift; script = world.script })) }
+    ensures failed { IfErr result (λ why. why ≡ failure.NoMemory) }
+{
+    let Ok(made) = generate(alloc, seed, doubles) else {
+        return Err(Failure::NoMemory);
+    };
+    let Generated {
+        params,
+        drift,
+        script,
+    } = made;
+    match World::build(alloc, params, drift, script) {
+        Ok(world) => Ok(world),
+        Err(BuildFault::NoMemory) => Err(Failure::NoMemory),
+    }
+}
+
+// The text of a world's run is the report of its one lawful history.
+fn report_is_lawful(world: &World)
+    ensures { IsRunText world.now.params world.now.drift world.now.script (run_text world.now.params world.now.drift world.now.script) }
+{
+    a_run_is_lawful();
+    let _ = world.params();
+    let _ = world.drift();
+    let _ = world.script();
+}

@@ -1,0 +1,54 @@
+ghost use Rattle.std.specs.Prelude.{◌≡◌, ◌*◌, ℕ, None, length};
+ghost use Rattle.fr_cluster.specs.Sane.{IsSane};
+ghost use Rattle.fr_cluster.specs.Values.{Values};
+ghost use Rattle.fr_coverage.specs.Coverage.{first_gap};
+ghost use Rattle.fr_coverage.specs.Decided.{setting_of};
+ghost use Rattle.fr_drift.specs.Files.{DriftFits};
+ghost use Rattle.fr_drift.specs.Questions.{doubles_of};
+ghost use Rattle.fr_drift.specs.View.{DriftView};
+ghost use Rattle.fr_script.specs.View.{IsScript, ScriptView};
+ghost use Rattle.fr_history.specs.History.{History};
+ghost use Rattle.fr_history.specs.Lawful.{IsLawful};
+ghost use Rattle.fr_history.specs.Sync.{IsInSyncAt};
+ghost use Rattle.fr_ending.specs.Decided.{IsDecided};
+ghost use Rattle.fr_answer_run.specs.RunAnswer.{AreTold};
+ghost use Rattle.fr_series.specs.Text.{series_text};
+ghost use Rattle.fr_answer_series.specs.SeriesAnswer.{IsRunSeries, IsSeriesText, StaysInSync};
+
+use fr_history::one_lawful_history;
+use fr_promise::{covered_files_are_covered, files_keep_precision};
+use fr_world::files_decide_one_history;
+
+/// A law: the text of the series of some parameters, a drift that fits them, and a script, is that of their one lawful
+/// history over all cycles; where the run is covered and comes into sync, its end says that it stayed so. The other
+/// premises are the invariants of `Params` and of `Script`.
+pub fn a_series_is_lawful()
+    ensures { (p : Values) (d : DriftView) (s : ScriptView) →
+        IsSane p → DriftFits p d → IsScript s → IsSeriesText p d s (series_text p d s) }
+{
+    one_lawful_history();
+    files_decide_one_history();
+    a_covered_run_stays_in_sync();
+}
+
+/// A law: the bytes of the files decide what is written. Two texts that the answer's clause allows for files of the
+/// same bytes are the same.
+pub fn files_decide_the_series()
+    ensures { IsDecided AreTold IsRunSeries }
+{
+    fr_params::one_answer();
+    fr_drift::one_answer();
+    fr_script::one_answer();
+    files_decide_one_history();
+}
+
+/// A law: where the run has no gap and some double cycle of it is in sync, the last one is too, and since the first one
+/// the skew stayed within the precision: the last two lines of its series say yes.
+pub fn a_covered_run_stays_in_sync()
+    ensures { (p : Values) (d : DriftView) (s : ScriptView) (h : History) (double : ℕ) →
+        IsSane p → DriftFits p d → first_gap p d s ≡ None →
+        IsLawful (setting_of p d s) h → length h ≡ 2 * doubles_of d → IsInSyncAt p h double → StaysInSync p h }
+{
+    covered_files_are_covered();
+    files_keep_precision();
+}

@@ -1,0 +1,60 @@
+ghost use Rattle.std.specs.Prelude.{◌≡◌, ◌+◌, ◌≤◌, IfErr, IfOk};
+ghost use Rattle.fr_ending.specs.Around.{TextEnds, files_until};
+ghost use Rattle.fr_ending.specs.Failure.{EndingWritesNothing};
+ghost use Rattle.fr_answer_run.specs.Names.{names_of};
+ghost use Rattle.fr_answer_run.specs.RunAnswer.{HaveFiles, StopsAtFile};
+ghost use Rattle.fr_answer_series.specs.SeriesAnswer.{IsRunSeries};
+
+use crate::laws::a_series_is_lawful;
+use fr_answer_run::RunFiles;
+use fr_base::{Shelf, Sink};
+use fr_drift::DriftFile;
+use fr_ending::Failure;
+use fr_params::ParamsFile;
+use fr_records::accepted;
+use fr_script::ScriptFile;
+use fr_series::write_series;
+use fr_world::{BuildFault, World};
+use std::alloc::Global;
+
+/// Reads the three files, one after the other, runs the cluster that they decide, and writes the series of the run,
+/// double cycle by double cycle. Each file is loaded once, and only where those before it are accepted. A failure comes
+/// where a file can't be loaded, is not accepted, or memory runs out, and names the first such file (`Params`, `Drift`,
+/// `Script`); where memory runs out for the run (`NoMemory`); or where the sink counted a fault (`WriteFault`).
+pub fn answer<S: Shelf, O: Sink>(
+    alloc: Global,
+    files: RunFiles<'_>,
+    shelf: &mut S,
+    out: &mut O,
+) -> Result<(), Failure>
+    ensures ends { TextEnds (IsRunSeries (names_of files.entry) (S.state shelf.old))
+        (StopsAtFile (names_of files.entry) (S.state shelf.old) (S.state shelf.new))
+        (O.state out.old) (O.state out.new) result }
+    ensures loads { (S.state shelf.new).loads ≤ (S.state shelf.old).loads + files_until result }
+    ensures unwritten { EndingWritesNothing result → out.new ≡ out.old }
+{
+    a_series_is_lawful();
+    let mut world = world_of(alloc, files, shelf)?;
+    match write_series(&mut world, out) {
+        Ok(()) => Ok(()),
+        Err(_) => Err(Failure::WriteFault),
+    }
+}
+
+// The world of the three files, before its first cycle. Each file is loaded once those before it are
+// accepted.
+fn world_of<S: Shelf>(alloc: Global, files: RunFiles<'_>, shelf: &mut S) -> Result<World, Failure>
+    ensures fresh { IfOk result (λ world. world.cycles ≡ 0) }
+    ensures files { IfOk result (λ world.
+        HaveFiles (S.state shelf.old) (names_of files.entry) world.params world.drift world.script) }
+    ensures stops { IfErr result (StopsAtFile (names_of files.entry) (S.state shelf.old) (S.state shelf.new)) }
+    ensures loads { (S.state shelf.new).loads ≤ (S.state shelf.old).loads + files_until result }
+{
+    let params = accepted(alloc, &ParamsFile {}, files.params, shelf)?;
+    let drift = accepted(alloc, &DriftFile { params: &params }, files.drift, shelf)?;
+    let script = accepted(alloc, &ScriptFile { params: &params }, files.script, shelf)?;
+    match World::build(alloc, params, drift, script) {
+        Ok(world) => Ok(world),
+        Err(BuildFault::NoMemory) => Err(Failure::NoMemory),
+    }
+}

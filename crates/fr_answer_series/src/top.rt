@@ -1,0 +1,104 @@
+ghost use Rattle.std.specs.Prelude.{◌≡◌, ◌↔◌, ◌∷◌, [], Err, None, Some};
+ghost use Rattle.fr_text.specs.Pieces.{line};
+ghost use Rattle.fr_ending.specs.declared.failure.Failure.TheVariants.{Usage};
+ghost use Rattle.fr_ending.specs.Around.{IsLinePut, around_of};
+ghost use Rattle.fr_ending.specs.Failure.{EndingWritesNothing, WritesNothing};
+ghost use Rattle.fr_answer_run.specs.Names.{RunNames, names_of};
+ghost use Rattle.fr_answer_run.specs.RunAnswer.{IsRunComplete};
+ghost use Rattle.fr_answer_series.specs.Request.{AsksSeries, IsNoRequest, IsProgramAnswer, IsRequestOf, WordsEnd, texts, told_text};
+
+use crate::series;
+use fr_answer_run::RunFiles;
+use fr_base::{Shelf, Sink};
+use fr_ending::{Failure, Status};
+use fr_text::Piece::Word;
+use fr_text::{Line, line_of};
+use std::alloc::Global;
+
+/// Does what the words ask for, which are those after the program's name, the names of three files: loads these from
+/// the shelf, each once, puts the series of their run into `out`, and where the answer is not `Done` one line into
+/// `err`. Nothing is put into `out` before every file was accepted.
+pub fn flexray_series<S: Shelf, O: Sink, E: Sink>(
+    alloc: Global,
+    words: &[String],
+    shelf: &mut S,
+    out: &mut O,
+    err: &mut E,
+) -> Status
+    // Words that are no request, and no others, are answered Usage, whatever the shelf and the sinks do, and
+    // nothing is loaded then.
+    ensures usage { (result ≡ Status.Usage) ↔ IsNoRequest (texts words.now) }
+    ensures unread { result ≡ Status.Usage → shelf.new ≡ shelf.old }
+
+    // What each status says of what was asked for, what was written, and the line of a failure.
+    ensures ends { IsProgramAnswer (texts words.now)
+        (around_of (S.state shelf.old) (S.state shelf.new) (O.state out.old) (O.state out.new))
+        (E.state err.old) (E.state err.new) result }
+
+    // Where the bytes of the files are told and no fault was counted, they decide the status, but for want of memory.
+    ensures complete { (names : RunNames) → AsksSeries (texts words.now) names →
+        IsRunComplete names (around_of (S.state shelf.old) (S.state shelf.new) (O.state out.old) (O.state out.new)) result }
+
+    // Only `Done` and a failed write leave anything on `out`, and `Done` nothing on `err`.
+    ensures unwritten { WritesNothing result → out.new ≡ out.old }
+    ensures untold { result ≡ Status.Done → err.new ≡ err.old }
+{
+    match answer(alloc, words, shelf, out) {
+        Ok(()) => Status::Done,
+        Err(failure) => {
+            tell(err, &failure);
+            failure.status()
+        }
+    }
+}
+
+// The answer before its status and its line.
+fn answer<S: Shelf, O: Sink>(
+    alloc: Global,
+    words: &[String],
+    shelf: &mut S,
+    out: &mut O,
+) -> Result<(), Failure>
+    ensures usage { (result ≡ Err Usage) → IsNoRequest (texts words.now) }
+    ensures unread { result ≡ Err Usage → shelf.new ≡ shelf.old }
+    ensures ends { WordsEnd (texts words.now)
+        (around_of (S.state shelf.old) (S.state shelf.new) (O.state out.old) (O.state out.new)) result }
+    ensures unwritten { EndingWritesNothing result → out.new ≡ out.old }
+{
+    match files_of(words) {
+        Some(files) => series::answer(alloc, files, shelf, out),
+        None => Err(Failure::Usage),
+    }
+}
+
+// Reads the words by position. It takes no memory.
+#[tactic(auto, using(crate::proofs::Requests::asks_not_short, crate::proofs::Requests::asks_not_long))]
+fn files_of(words: &[String]) -> Option<RunFiles<'_>>
+    ensures { IsRequestOf (texts words.now) result }
+{
+    match words {
+        [params, drift, script] => Some(RunFiles {
+            params: params.as_str(),
+            drift: drift.as_str(),
+            script: script.as_str(),
+        }),
+        _ => None,
+    }
+}
+
+// Puts the line of the failure. What becomes of it changes nothing else.
+fn tell<E: Sink>(err: &mut E, failure: &Failure)
+    ensures { IsLinePut (E.state err.old) (E.state err.new) (line (told_text failure.now)) }
+{
+    let _ = err.put(line_told(failure).bytes());
+}
+
+// The line that says why, of this program.
+fn line_told(failure: &Failure) -> Line
+    ensures { result ≡ line (told_text failure.now) }
+{
+    match failure {
+        Failure::Usage => line_of(&[Word(b"usage: flexray-series PARAMS DRIFT SCRIPT")]),
+        other => other.line(),
+    }
+}

@@ -1,0 +1,104 @@
+ghost use Rattle.std.specs.Prelude.{◌≡◌, ◌+◌, ◌*◌, ◌<◌, ◌≤◌, IfErr, IfOk};
+ghost use Rattle.fr_base.specs.Device.{Puts};
+ghost use Rattle.fr_drift.specs.Questions.{doubles_of};
+ghost use Rattle.fr_history.specs.Next.{history_of, next_record, whole_history};
+ghost use Rattle.fr_trace.specs.Items.{items_in};
+ghost use Rattle.fr_trace.specs.Text.{cycle_text, items_text, trace_text};
+ghost use Rattle.fr_world.specs.World.{setting_after};
+ghost use Rattle.fr_ending.specs.Around.{TextEnds, files_until};
+ghost use Rattle.fr_ending.specs.Failure.{EndingWritesNothing};
+ghost use Rattle.fr_answer_run.specs.Names.{names_of};
+ghost use Rattle.fr_answer_run.specs.RunAnswer.{HaveFiles, StopsAtFile};
+ghost use Rattle.fr_answer_trace.specs.TraceAnswer.{IsRunTrace};
+
+use crate::laws::a_trace_is_lawful;
+use fr_answer_run::RunFiles;
+use fr_base::{PutFault, Shelf, Sink};
+use fr_drift::DriftFile;
+use fr_ending::Failure;
+use fr_history::one_lawful_history;
+use fr_params::ParamsFile;
+use fr_records::accepted;
+use fr_script::ScriptFile;
+use fr_trace::{write_cycle, write_head};
+use fr_world::{BuildFault, World};
+use std::alloc::Global;
+
+/// Reads the three files, one after the other, runs the cluster that they decide, and writes the trace of the run, cycle
+/// by cycle. Each file is loaded once, and only where those before it are accepted. A failure comes where a file can't
+/// be loaded, is not accepted, or memory runs out, and names the first such file (`Params`, `Drift`, `Script`); where
+/// memory runs out for the run (`NoMemory`); or where the sink counted a fault (`WriteFault`).
+pub fn answer<S: Shelf, O: Sink>(
+    alloc: Global,
+    files: RunFiles<'_>,
+    shelf: &mut S,
+    out: &mut O,
+) -> Result<(), Failure>
+    ensures ends { TextEnds (IsRunTrace (names_of files.entry) (S.state shelf.old))
+        (StopsAtFile (names_of files.entry) (S.state shelf.old) (S.state shelf.new)) (O.state out.old) (O.state out.new) result }
+    ensures loads { (S.state shelf.new).loads ≤ (S.state shelf.old).loads + files_until result }
+    ensures unwritten { EndingWritesNothing result → out.new ≡ out.old }
+{
+    a_trace_is_lawful();
+    let mut world = world_of(alloc, files, shelf)?;
+    match write_trace(&mut world, out) {
+        Ok(()) => Ok(()),
+        Err(_) => Err(Failure::WriteFault),
+    }
+}
+
+// The world of the three files, before its first cycle. Each file is loaded once those before it are
+// accepted.
+fn world_of<S: Shelf>(alloc: Global, files: RunFiles<'_>, shelf: &mut S) -> Result<World, Failure>
+    ensures fresh { IfOk result (λ world. world.cycles ≡ 0) }
+    ensures files { IfOk result (λ world.
+        HaveFiles (S.state shelf.old) (names_of files.entry) world.params world.drift world.script) }
+    ensures stops { IfErr result (StopsAtFile (names_of files.entry) (S.state shelf.old) (S.state shelf.new)) }
+    ensures loads { (S.state shelf.new).loads ≤ (S.state shelf.old).loads + files_until result }
+{
+    let params = accepted(alloc, &ParamsFile {}, files.params, shelf)?;
+    let drift = accepted(alloc, &DriftFile { params: &params }, files.drift, shelf)?;
+    let script = accepted(alloc, &ScriptFile { params: &params }, files.script, shelf)?;
+    match World::build(alloc, params, drift, script) {
+        Ok(world) => Ok(world),
+        Err(BuildFault::NoMemory) => Err(Failure::NoMemory),
+    }
+}
+
+// Runs all cycles of a world that has run none, and writes the trace of the run.
+fn write_trace<O: Sink>(world: &mut World, out: &mut O) -> Result<(), PutFault>
+    requires { world.old.cycles ≡ 0 }
+    ensures { Puts result (O.state out.old) (O.state out.new)
+        (trace_text world.old.params world.old.drift world.old.script) }
+{
+    write_head(world.params(), world.drift(), world.script(), out)?;
+    write_cycles(world, out)
+}
+
+// Writes the lines of all cycles.
+fn write_cycles<O: Sink>(world: &mut World, out: &mut O) -> Result<(), PutFault>
+    requires { world.old.cycles ≡ 0 }
+    ensures { Puts result (O.state out.old) (O.state out.new)
+        (items_text (items_in (whole_history (setting_after world.old)))) }
+{
+    let cycles = 2 * world.drift().doubles();
+    for _done in 0..cycles {
+        write_next(world, out)?;
+    }
+    Ok(())
+}
+
+// Runs the next cycle, and writes its lines.
+fn write_next<O: Sink>(world: &mut World, out: &mut O) -> Result<(), PutFault>
+    requires { world.old.cycles < 2 * doubles_of world.old.drift }
+    ensures ran { world.new ≡ record world.old { cycles = world.old.cycles + 1 } }
+    ensures text { Puts result (O.state out.old) (O.state out.new)
+        (cycle_text (history_of (setting_after world.old) world.old.cycles)
+        (next_record (setting_after world.old) (history_of (setting_after world.old) world.old.cycles))) }
+{
+    one_lawful_history();
+    match world.cycle() {
+        Some(row) => write_cycle(row, out),
+        None => unreachable!(),
+    }
+}

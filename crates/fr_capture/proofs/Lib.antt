@@ -1,0 +1,7 @@
+pub mod Standing
+pub mod Beginning
+pub mod Filling
+pub mod Walking
+pub mod Rows
+pub mod Eights
+pub mod Seen

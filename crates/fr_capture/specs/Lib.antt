@@ -1,0 +1,6 @@
+-- what the public contract cites
+pub mod Entries
+pub mod Frames
+pub mod Rest
+pub mod View
+pub mod Walk

@@ -1,0 +1,7 @@
+mod Taking
+mod Controlling
+mod Ranks
+mod Walking
+mod Sounded
+mod Gathering
+mod Judging

@@ -1,0 +1,55 @@
+use Rattle.std.proofs.Common.{◌≡◌, ◌+◌, ◌*◌, ◌<◌, ◌≤◌, ◌∙◌, List, None, Some, length, refl, ap, sym, subst, arith, ℕ}
+use Rattle.std.proofs.lemmas.List.{take_all}
+use Rattle.fr_history.specs.Gauged.{GaugeHolds}
+use Rattle.fr_history.specs.History.{History}
+use Rattle.fr_trace.specs.Cycles.{history_by}
+use Rattle.fr_trace.specs.Items.{first_number, items_in}
+use Rattle.fr_trace.specs.declared.trace.TracedCycle.{TracedCycle}
+use Rattle.fr_check.specs.Controls.{Hold}
+use Rattle.fr_verdict.specs.Search.{first_from}
+use Rattle.fr_check.proofs.Gathering.{breach_is, found_at, gauge_none, hold_none, passed_more, passed_none, taken_more}
+use Rattle.fr_check.proofs.checking.gauged.Goals as goal
+
+pub loop-n-init : goal.loop-n-init
+loop-n-init c =
+    let p = c.args.params.now in
+    let t = c.args.trace.now in
+    let few = c.arbitrary.ensures.most in
+    let count = c.from-number.ensures in
+    let none = passed_none p (first_number t) in
+    let same : 2 + c.from-number.result ≡ 2 + length t.arbitrary = ap (λ (n : ℕ). 2 + n) (c.from-number.ensures ∙ c.arbitrary.ensures.count) in
+    ((none.0, same ∙ none.1), (omega arith, (hold_none p c.new-controls.result c.new-controls.ensures, gauge_none p c.new-gauge.result c.new-gauge.ensures)))
+
+pub returns-in-Err-clause-found : goal.returns-in-Err-clause-found
+returns-in-Err-clause-found c =
+    let p = c.args.params.now in
+    let t = c.args.trace.now in
+    let cycles = c.sound_cycles-cycles.result.now in
+    let lt : c.loop-n.n < length cycles = omega arith in
+    breach_is p t (first_number t) cycles (Some c.in-Err.breach) refl c.sound_cycles-cycles.ensures.history
+    (found_at p (first_number t) c.loop-n.number cycles c.loop-n.n c.index-cycles-n.result c.in-Err.breach lt c.index-cycles-n.is c.loop-n.invariant.0 c.in-Err.ensures.found)
+
+pub loop-n-preserved : goal.loop-n-preserved
+loop-n-preserved c =
+    let p = c.args.params.now in
+    let t = c.args.trace.now in
+    let cycles = c.sound_cycles-cycles.result.now in
+    let lt : c.loop-n.n < length cycles = omega arith in
+    let grown = taken_more cycles c.loop-n.n c.index-cycles-n.result lt c.index-cycles-n.is in
+    let before : c.loop-n.number ≤ 66 + 9_000_000 * c.loop-n.n = c.loop-n.invariant.1.0 in
+    let step = c.in-Ok.ensures.most in (
+      passed_more p (first_number t) c.loop-n.number c.in-Ok.next cycles c.loop-n.n c.index-cycles-n.result lt c.index-cycles-n.is c.loop-n.invariant.0 c.in-Ok.ensures.none c.in-Ok.ensures.next,
+      (
+        omega arith,
+        (subst (λ (h : History). Hold p h c.pass.new.self) (sym grown) c.pass.ensures, subst (λ (h : History). GaugeHolds p c.gather.new.gauge h) (sym grown) c.gather.ensures),
+      ),
+    )
+
+pub returns-clause-none : goal.returns-clause-none
+returns-clause-none c =
+    let p = c.args.params.now in
+    let t = c.args.trace.now in
+    let cycles = c.sound_cycles-cycles.result.now in
+    let done : length cycles ≤ c.loop-n.n = omega arith in
+    breach_is p t (first_number t) cycles None refl c.sound_cycles-cycles.ensures.history
+    (subst (λ (cs : List TracedCycle). first_from p (first_number t) (items_in (history_by cs)) ≡ None) (take_all c.loop-n.n cycles done) c.loop-n.invariant.0.0)

@@ -1,0 +1,4 @@
+-- what only functions inside cite
+pub mod Measured
+pub mod Controls
+pub mod Walked

@@ -1,0 +1,10 @@
+pub mod RowFacts
+pub mod Tables
+pub mod Making
+pub mod Outcomes
+pub mod Existence
+pub mod LeastReason
+pub mod Lines
+pub mod Steps
+pub mod Runs
+pub mod Turns

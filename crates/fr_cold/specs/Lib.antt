@@ -1,0 +1,15 @@
+-- what the public contract cites
+pub mod Keys
+pub mod Rows
+pub mod Reasons
+pub mod View
+pub mod Inside
+pub mod Questions
+pub mod Files
+pub mod Holding
+pub mod Leads
+pub mod Cold
+-- what only functions inside cite
+pub mod Draft
+pub mod Spans
+pub mod Events

@@ -1,0 +1,118 @@
+ghost use Rattle.std.specs.Prelude.{◌≡◌, [], IfOk};
+ghost use Rattle.std.specs.Option.{option_copied};
+ghost use Rattle.fr_cluster.specs.Values.{Values};
+ghost use Rattle.fr_startup.specs.Cluster.{is_starter};
+ghost use Rattle.fr_cold.specs.Rows.{IsProperCycles};
+ghost use Rattle.fr_cold.specs.Reasons.{is_known, is_out_of_turn};
+ghost use Rattle.fr_cold.specs.Draft.{IsEntryPut, IsPowerDraft, TakesPowerRow, TakesPowerRowAtOnce};
+ghost use Rattle.fr_cold.specs.declared.rows.Row.TheVariants as said;
+
+use crate::keys::PowerKey;
+use crate::rows::SwitchRow;
+use fr_base::{NodeId, Reason};
+use fr_cluster::Params;
+use fr_startup::Switch;
+use std::alloc::{AllocError, Global};
+use std::collections::BTreeMap;
+
+// What a node's last record so far says.
+#[derive(Clone, Copy, Debug, PartialEq, Eq)]
+pub struct Last {
+    pub at: u32,
+    pub switch: Switch,
+}
+
+// What the records so far say: how many cycles the run has, the switches by macrotick and node, and the last of each
+// node.
+#[derive(Drop)]
+pub(crate) struct Draft {
+    pub(crate) cycles: Option<u32>,
+    pub(crate) switches: BTreeMap<PowerKey, Switch>,
+    pub(crate) lasts: BTreeMap<NodeId, Last>,
+}
+
+impl Draft {
+    pub(crate) fn new(alloc: Global) -> Draft
+        ensures { IsPowerDraft result [] }
+    {
+        Draft {
+            cycles: None,
+            switches: BTreeMap::new(alloc),
+            lasts: BTreeMap::new(alloc),
+        }
+    }
+
+    pub(crate) fn take_cycles(&mut self, count: u32) -> Option<Reason>
+        requires { IsProperCycles count }
+        ensures { (p : Values) → TakesPowerRowAtOnce p self.old self.new (said.Cycles count) result }
+    {
+        if self.cycles.is_some() {
+            return Some(Reason::Repeated);
+        }
+        self.cycles = Some(count);
+        None
+    }
+
+    pub(crate) fn take_switch(
+        &mut self,
+        params: &Params,
+        row: SwitchRow,
+    ) -> Result<Option<Reason>, AllocError>
+        ensures { TakesPowerRow params.now self.old self.new (said.Switched row) result }
+    {
+        if !is_node(params, row.node) {
+            return Ok(Some(Reason::UnknownNode));
+        }
+        if !is_starter(params, row.node) || is_out_of_turn(self.lasts.get(&row.node), row) {
+            return Ok(Some(Reason::Role));
+        }
+        let key = PowerKey {
+            at: row.at,
+            node: row.node,
+        };
+        let last = Last {
+            at: row.at,
+            switch: row.switch,
+        };
+        put(&mut self.switches, key, row.switch)?;
+        put(&mut self.lasts, row.node, last)?;
+        Ok(None)
+    }
+}
+
+// Puts a value under a key, in place of an earlier one.
+fn put<K: Ord + Copy, V: Drop>(
+    rows: &mut BTreeMap<K, V>,
+    key: K,
+    value: V,
+) -> Result<(), AllocError>
+    ensures { IfOk result (λ _. IsEntryPut K.cmp rows.old rows.new key value) }
+{
+    rows.insert(key, value)?;
+    Ok(())
+}
+
+// Whether a record may not come after the last one of its node.
+fn is_out_of_turn(last: Option<&Last>, row: SwitchRow) -> bool
+    ensures { result ≡ is_out_of_turn (option_copied last.entry) row }
+{
+    match last {
+        None => row.switch == Switch::Off,
+        Some(last) => last.switch == row.switch || row.at <= last.at,
+    }
+}
+
+fn is_node(params: &Params, node: NodeId) -> bool
+    ensures { result ≡ is_known params.now node }
+{
+    params.node(node).is_some()
+}
+
+pub(crate) fn is_starter(params: &Params, node: NodeId) -> bool
+    ensures { result ≡ is_starter params.now node }
+{
+    match params.node(node) {
+        None => false,
+        Some(spec) => spec.coldstart,
+    }
+}

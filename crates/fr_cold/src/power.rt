@@ -1,0 +1,86 @@
+ghost use Rattle.std.specs.Prelude.{◌≡◌, ◌≤◌, ◌<◌, ℕ, List, Some, None};
+ghost use Rattle.fr_records.specs.Records.{FileRecord};
+ghost use Rattle.fr_cold.specs.Draft.{IsPowerDraft};
+ghost use Rattle.fr_cold.specs.Files.{PowerStandsFor};
+ghost use Rattle.fr_cold.specs.Questions.{IsUnswitched, cycles_of};
+ghost use Rattle.fr_cold.specs.Rows.{IsProperCycles};
+ghost use Rattle.fr_cold.specs.View.{switch_rows};
+ghost use Rattle.std.specs.BTreeMap.{IsOrdered};
+ghost use Rattle.fr_cold.specs.Keys.{power_cmp};
+
+use crate::draft::Draft;
+use crate::events::next_switch;
+use crate::keys::PowerKey;
+use fr_base::NodeId;
+use fr_startup::Switch;
+use std::collections::BTreeMap;
+use std::marker::Model;
+
+/// What a power file says of a cluster: how many cycles a run of startup has, and at which macrotick each coldstart
+/// node is switched on and off.
+#[derive(Drop)]
+pub struct Power {
+    cycles: u32,
+    switches: BTreeMap<PowerKey, Switch>,
+}
+
+impl Model for Power {
+    ghost use Rattle.fr_cold.specs.View.{PowerView, coded_view};
+
+    ghost Value = { PowerView };
+
+    ghost coded = { coded_view };
+
+    ghost use Rattle.fr_cold.specs.Inside.{view_of};
+    ghost use Rattle.fr_cold.specs.View.{IsPower};
+
+    ghost view = { view_of };
+
+    ghost invariant = { λ a. IsPower (view_of a) };
+}
+
+// What the tables stand for.
+pub(crate) fn power_of(draft: Draft, cycles: u32) -> Power
+    requires told { draft.cycles ≡ Some cycles }
+    requires proper { IsProperCycles cycles }
+    requires ordered { IsOrdered power_cmp draft.switches }
+    ensures { (records : List FileRecord) → IsPowerDraft draft records → PowerStandsFor result records }
+{
+    Power {
+        cycles,
+        switches: draft.switches,
+    }
+}
+
+impl Power {
+    /// How many cycles a run has.
+    #[tactic(auto, unfolding(crate::specs::Questions::cycles_of))]
+    pub fn cycles(&self) -> u32
+        ensures value { result ≡ cycles_of self.now }
+        ensures from { 1 ≤ result }
+        ensures to { result ≤ 1000 }
+    {
+        self.cycles
+    }
+
+    // How a node is switched at a macrotick, if it is.
+    pub(crate) fn switch(&self, at: u32, node: NodeId) -> Option<Switch>
+        ensures { result ≡ switch_rows self.now at node }
+    {
+        let key = PowerKey { at, node };
+        match self.switches.get(&key) {
+            Some(switch) => Some(*switch),
+            None => None,
+        }
+    }
+
+    // From a macrotick on, the next one before the end at which a node is switched, or the end.
+    pub(crate) fn next(&self, tick: u32, end: u32) -> u32
+        requires { tick ≤ end }
+        ensures from { tick ≤ result }
+        ensures to { result ≤ end }
+        ensures quiet { (t : ℕ) → tick ≤ t → t < result → IsUnswitched self.now t }
+    {
+        next_switch(&self.switches, tick, end)
+    }
+}

@@ -1,0 +1,168 @@
+ghost use Rattle.std.specs.Prelude.{◌≡◌, ◌≤◌, ◌&&◌, ◌||◌};
+ghost use Rattle.fr_startup.specs.Node.{sends};
+ghost use Rattle.fr_startup.specs.Moves.{IsTimely};
+ghost use Rattle.fr_startup.specs.Cluster.{States, action_of, cycle_of, is_busy, moved_states, states_at};
+ghost use Rattle.fr_cluster.specs.Questions.{has_channel, node_of};
+ghost use Rattle.fr_cold.specs.Questions.{end_of, switches_of};
+ghost use Rattle.fr_cold.specs.Cold.{Agrees};
+ghost use Rattle.fr_cold.specs.Events.{IsQuietUpTo, hears_by, ready_at};
+
+use crate::draft::is_starter;
+use crate::power::Power;
+use crate::table::StateTable;
+use fr_base::{Channel, NodeId};
+use fr_cluster::{ParamName, Params};
+use fr_startup::{ColdState, Switch, action, moved, quiet_before, ready, sends};
+
+// The macroticks of a cycle.
+pub(crate) fn cycle_length(params: &Params) -> u32
+    ensures value { result ≡ cycle_of params.now }
+    ensures from { 10 ≤ result }
+    ensures to { result ≤ 16_000 }
+{
+    params.natural(ParamName::gMacroPerCycle) as u32
+}
+
+// How a coldstart node is switched at a macrotick, if it is.
+#[tactic(auto, unfolding(crate::specs::Questions::switches_of))]
+pub(crate) fn switch_of(params: &Params, power: &Power, at: u32, node: NodeId) -> Option<Switch>
+    ensures { result ≡ switches_of params.now power.now at node }
+{
+    if is_starter(params, node) {
+        power.switch(at, node)
+    } else {
+        None
+    }
+}
+
+// The first two parts of a macrotick, for all nodes.
+pub(crate) fn make_ready(params: &Params, power: &Power, tick: u32, table: &mut StateTable)
+    requires tick { tick ≤ 16_000_000 }
+    requires stands { Agrees table.old (states_at params.now (switches_of params.now power.now) tick) }
+    ensures { Agrees table.new (ready_at params.now power.now tick) }
+{
+    let cycle = cycle_length(params);
+    for number in 1..65 {
+        let node = NodeId(number);
+        let switch = switch_of(params, power, tick, node);
+        table.set(node, ready(cycle, tick, switch, table.get(node)));
+    }
+}
+
+// Whether a node sends on a channel.
+pub(crate) fn is_busy(params: &Params, tick: u32, table: &StateTable, channel: Channel) -> bool
+    ensures { (states : States) → Agrees table.now states → result ≡ is_busy params.now tick states channel 64 }
+{
+    let mut busy = false;
+    for number in 1..65 {
+        let node = NodeId(number);
+        busy = either(
+            busy,
+            is_sending_on(params, tick, table.get(node), channel, node),
+        );
+    }
+    busy
+}
+
+fn either(first: bool, second: bool) -> bool
+    ensures { result ≡ (first || second) }
+{
+    first || second
+}
+
+fn is_sending_on(
+    params: &Params,
+    tick: u32,
+    state: ColdState,
+    channel: Channel,
+    node: NodeId,
+) -> bool
+    requires { IsTimely state }
+    ensures { result ≡ (sends (cycle_of params.now) (action_of params.now node) tick state && has_channel (node_of params.now node) channel) }
+{
+    is_sending(params, tick, state, node) && has_channel(params, node, channel)
+}
+
+fn is_sending(params: &Params, tick: u32, state: ColdState, node: NodeId) -> bool
+    requires { IsTimely state }
+    ensures { result ≡ sends (cycle_of params.now) (action_of params.now node) tick state }
+{
+    sends(cycle_length(params), action(params, node), tick, state)
+}
+
+fn has_channel(params: &Params, node: NodeId, channel: Channel) -> bool
+    ensures { result ≡ has_channel (node_of params.now node) channel }
+{
+    match params.node(node) {
+        None => false,
+        Some(spec) => match channel {
+            Channel::A => spec.on_a,
+            Channel::B => spec.on_b,
+        },
+    }
+}
+
+// Whether a node in a state hears something, by which channels are busy.
+fn is_hearing(
+    params: &Params,
+    tick: u32,
+    state: ColdState,
+    busy_a: bool,
+    busy_b: bool,
+    node: NodeId,
+) -> bool
+    requires { IsTimely state }
+    ensures { result ≡ hears_by params.now tick state busy_a busy_b node }
+{
+    !is_sending(params, tick, state, node)
+        && ((has_channel(params, node, Channel::A) && busy_a)
+            || (has_channel(params, node, Channel::B) && busy_b))
+}
+
+// The last two parts of a macrotick, for all nodes: each hears what was sent before any of them moved.
+pub(crate) fn move_all(params: &Params, tick: u32, table: &mut StateTable)
+    requires { tick ≤ 16_000_000 }
+    ensures { (states : States) → Agrees table.old states → Agrees table.new (moved_states params.now tick states) }
+{
+    let cycle = cycle_length(params);
+    let busy_a = is_busy(params, tick, table, Channel::A);
+    let busy_b = is_busy(params, tick, table, Channel::B);
+    for number in 1..65 {
+        let node = NodeId(number);
+        let state = table.get(node);
+        let hears = is_hearing(params, tick, state, busy_a, busy_b, node);
+        table.set(node, moved(cycle, tick, hears, state));
+    }
+}
+
+// A macrotick up to which, from `tick` on, nothing happens: no node is switched, sends, or begins to lead.
+pub(crate) fn next_event(
+    params: &Params,
+    power: &Power,
+    table: &StateTable,
+    tick: u32,
+    end: u32,
+) -> u32
+    requires order { tick ≤ end }
+    requires end { end ≤ 16_000_000 }
+    ensures from { tick ≤ result }
+    ensures to { result ≤ end }
+    ensures quiet { IsQuietUpTo params.now power.now table.now tick result 65 }
+{
+    let cycle = cycle_length(params);
+    let mut next = power.next(tick, end);
+    for number in 1..65 {
+        let node = NodeId(number);
+        next = quiet_before(cycle, action(params, node), table.get(node), tick, next);
+    }
+    next
+}
+
+// The macroticks of the run.
+#[tactic(auto, unfolding(crate::specs::Questions::end_of, crate::specs::Questions::cycles_of))]
+pub(crate) fn end_tick(params: &Params, power: &Power) -> u32
+    ensures value { result ≡ end_of params.now power.now }
+    ensures few { result ≤ 16_000_000 }
+{
+    power.cycles() * cycle_length(params)
+}

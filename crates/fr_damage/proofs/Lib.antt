@@ -1,0 +1,13 @@
+pub mod Registers
+pub mod Patterns
+pub mod Changes
+pub mod Periods
+pub mod Spelling
+pub mod Codes
+pub mod Inverted
+pub mod Bursts
+pub mod Kept
+pub mod Crossed
+pub mod Sees
+pub mod Weights
+pub mod Few

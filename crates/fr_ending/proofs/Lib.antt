@@ -1,0 +1,4 @@
+pub mod Earlier
+pub mod Found
+pub mod OneValue
+pub mod Stops

@@ -1,0 +1,7 @@
+pub mod MadeCluster
+pub mod Apart
+pub mod Clocks
+pub mod Chances
+pub mod Turns
+pub mod Worked
+pub mod Seeds

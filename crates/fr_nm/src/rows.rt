@@ -1,0 +1,103 @@
+ghost use Rattle.std.specs.Prelude.{◌≡◌, ◌≤◌, length, IfOk};
+ghost use Rattle.csv.specs.Records.{fields_of};
+ghost use Rattle.fr_nm.specs.Rows.{bytes_in, digits_in, said_row, vectors_row_of};
+
+use csv::ByteRecord;
+use fr_base::{Channel, NumberFault, Reason};
+use fr_records::{both, field, natural, reason_of};
+use hex::FromHexError;
+use std::alloc::{AllocError, Global};
+use std::marker::Model;
+
+// The greatest number of hexadecimal digits of a frame, which has 262 bytes at most.
+const MOST_DIGITS: usize = 524;
+
+/// The bytes that a record was seen with, as their list.
+#[derive(Drop)]
+pub struct SeenBytes {
+    bytes: Vec<u8>,
+}
+
+impl Model for SeenBytes {
+    ghost use Rattle.std.specs.Prelude.{List, ℕ};
+
+    ghost Value = { List ℕ };
+
+    ghost view = { λ a. a.bytes.items };
+}
+
+impl SeenBytes {
+    pub(crate) fn of(bytes: Vec<u8>) -> SeenBytes
+        ensures { result ≡ bytes.items }
+    {
+        SeenBytes { bytes }
+    }
+
+    pub(crate) fn as_slice(&self) -> &[u8]
+        ensures { result.now ≡ self.now }
+    {
+        self.bytes.as_slice()
+    }
+}
+
+/// What a record of a recording says by itself.
+#[derive(Drop)]
+pub struct Row {
+    pub cycle: u32,
+    /// None where its field names none.
+    pub channel: Option<Channel>,
+    /// None where they are not hexadecimal.
+    pub bytes: Option<SeenBytes>,
+}
+
+/// What a record says, or the least of the reasons that it shows by its number of fields and by its numbers: Shape,
+/// NotNumber, OutOfRange. `AllocError` where memory ran out.
+#[tactic(auto, unfolding(crate::specs::Rows::vectors_row_of))]
+pub fn read_row(alloc: Global, row: &ByteRecord) -> Result<Result<Row, Reason>, AllocError>
+    ensures said { IfOk result (λ said. said ≡ vectors_row_of (fields_of row.now)) }
+    ensures proper { IfOk result (λ said. IfOk said (λ r. r.cycle ≤ 199_999)) }
+{
+    if row.len() != 3 {
+        return Ok(Err(Reason::Shape));
+    }
+    read_fields(alloc, row)
+}
+
+fn read_fields(alloc: Global, row: &ByteRecord) -> Result<Result<Row, Reason>, AllocError>
+    requires { length (fields_of row.now) ≡ 3 }
+    ensures said { IfOk result (λ said. said ≡ said_row (fields_of row.now)) }
+    ensures proper { IfOk result (λ said. IfOk said (λ r. r.cycle ≤ 199_999)) }
+{
+    let text = field(row, 2);
+    match both(natural(field(row, 0), 0, 199_999), few_digits(text)) {
+        Err(fault) => Ok(Err(reason_of(fault))),
+        Ok((cycle, _)) => {
+            let bytes = read_bytes(alloc, text)?;
+            Ok(Ok(Row {
+                cycle: cycle as u32,
+                channel: Channel::spelt(field(row, 1)),
+                bytes,
+            }))
+        }
+    }
+}
+
+fn few_digits(text: &[u8]) -> Result<usize, NumberFault>
+    ensures { result ≡ digits_in text.now }
+{
+    if text.len() > MOST_DIGITS {
+        return Err(NumberFault::OutOfRange);
+    }
+    Ok(text.len())
+}
+
+// The bytes that a text writes; None where it is not hexadecimal. `AllocError` where memory ran out.
+fn read_bytes(alloc: Global, text: &[u8]) -> Result<Option<SeenBytes>, AllocError>
+    ensures { IfOk result (λ bytes. bytes ≡ bytes_in text.now) }
+{
+    match hex::decode(alloc, text) {
+        Ok(bytes) => Ok(Some(SeenBytes::of(bytes))),
+        Err(FromHexError::OutOfMemory) => Err(AllocError),
+        Err(_) => Ok(None),
+    }
+}

@@ -1,0 +1,4 @@
+pub mod Counts
+pub mod Behind
+pub mod InOrder
+pub mod Places

@@ -1,0 +1,2 @@
+-- what the laws cite
+pub mod Numbered

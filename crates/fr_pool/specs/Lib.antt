@@ -1,0 +1,3 @@
+-- what the public contract cites
+pub mod Lending
+pub mod Pool

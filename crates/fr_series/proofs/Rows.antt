@@ -1,0 +1,75 @@
+-- The text of a history and of one more double cycle.
+use Rattle.std.proofs.Common.{◌≡◌, ◌∙◌, ℕ, zero, suc, ◌+◌, ◌-◌, ◌*◌, ◌≤◌, List, [], ◌∷◌, ◌++◌, length, refl, sym, ap, arith, append_assoc}
+use Rattle.std.proofs.lemmas.List.{append-nil}
+use Rattle.fr_base.specs.declared.node_row.NodeRow.{NodeRow}
+use Rattle.fr_cluster.specs.Setting.{Setting}
+use Rattle.fr_time.specs.Position.{grid_for}
+use Rattle.fr_skew.specs.Sync.{are_in_sync, sync_bounds_of}
+use Rattle.fr_skew.proofs.Closeness.{in_sync_is}
+use Rattle.fr_history.specs.Next.{history_of, next_record}
+use Rattle.fr_history.proofs.Exists.{length-history_of}
+use Rattle.fr_series.specs.Figures.{figures_of}
+use Rattle.fr_series.specs.Scale.{followed, scale_of}
+use Rattle.fr_series.specs.Text.{double_by, rows_text}
+use Rattle.fr_series.proofs.Following.{figures-next}
+
+-- the rows of the cycle of such a number
+abbrev pub rows_at : Setting → ℕ → List NodeRow
+rows_at x cycle = (next_record x (history_of x cycle)).rows
+
+-- the text of a double cycle of a run
+abbrev pub text_at : Setting → ℕ → List ℕ
+text_at x double =
+    double_by (grid_for x.params) (are_in_sync (sync_bounds_of x.params) (rows_at x (2 * double)) (rows_at x (2 * double + 1))) (2 * double)
+    (rows_at x (2 * double)) (rows_at x (2 * double + 1))
+
+-- two cycles more
+history-two : (x : Setting) (double : ℕ) →
+    history_of x (2 * (double + 1)) ≡ next_record x (history_of x (2 * double + 1)) ∷ next_record x (history_of x (2 * double)) ∷ history_of x (2 * double)
+unfolding history_of
+history-two x double =
+    let two : 2 * (double + 1) ≡ suc (suc (2 * double)) = omega arith in
+    let one : 2 * double + 1 ≡ suc (2 * double) = omega arith in
+    rw (two, one) refl
+
+pub figures-at : (x : Setting) (double : ℕ) →
+    figures_of x.params (history_of x (2 * (double + 1)))
+    ≡ followed (scale_of x.params) double (rows_at x (2 * double)) (rows_at x (2 * double + 1)) (figures_of x.params (history_of x (2 * double)))
+figures-at x double =
+    ap (figures_of x.params) (history-two x double)
+    ∙ figures-next x.params (history_of x (2 * double)) (next_record x (history_of x (2 * double))) (next_record x (history_of x (2 * double + 1))) double (length-history_of x (2 * double))
+
+pub rows-none : (x : Setting) → rows_text x.params (history_of x (2 * 0)) ≡ []
+unfolding history_of rows_text
+rows-none x = refl
+
+rows-two : (x : Setting) (double : ℕ) → length (history_of x (2 * double)) ≡ 2 * double
+    → rows_text x.params (next_record x (history_of x (2 * double + 1)) ∷ next_record x (history_of x (2 * double)) ∷ history_of x (2 * double))
+    ≡ rows_text x.params (history_of x (2 * double)) ++ text_at x double
+unfolding rows_text
+rows-two x double long = rw (long, in_sync_is x.params (rows_at x (2 * double)) (rows_at x (2 * double + 1))) refl
+
+pub rows-next : (x : Setting) (double : ℕ) → rows_text x.params (history_of x (2 * (double + 1))) ≡ rows_text x.params (history_of x (2 * double)) ++ text_at x double
+rows-next x double = ap (rows_text x.params) (history-two x double) ∙ rows-two x double (length-history_of x (2 * double))
+
+-- what follows the text of so many double cycles
+rows-rest : (x : Setting) (n more : ℕ) → (rest : List ℕ) × (rows_text x.params (history_of x (2 * (n + more))) ≡ rows_text x.params (history_of x (2 * n)) ++ rest)
+rows-rest x n zero =
+    let same : n + 0 ≡ n = omega arith in
+    ([], ap (λ (k : ℕ). rows_text x.params (history_of x (2 * k))) same ∙ sym (append-nil (rows_text x.params (history_of x (2 * n)))))
+rows-rest x n (suc more) =
+    let before = rows-rest x n more in
+    let one : n + suc more ≡ (n + more) + 1 = omega arith in
+    let last = text_at x (n + more) in (
+      before.0 ++ last,
+      ap (λ (k : ℕ). rows_text x.params (history_of x (2 * k))) one
+          ∙ rows-next x (n + more)
+          ∙ ap (λ (l : List ℕ). l ++ last) before.1
+          ∙ append_assoc (rows_text x.params (history_of x (2 * n))) before.0 last,
+    )
+
+pub rows-upto : (x : Setting) (n all : ℕ) → n ≤ all → (rest : List ℕ) × (rows_text x.params (history_of x (2 * all)) ≡ rows_text x.params (history_of x (2 * n)) ++ rest)
+rows-upto x n all le =
+    let found = rows-rest x n (all - n) in
+    let same : all ≡ n + (all - n) = omega (arith, le) in
+    (found.0, ap (λ (k : ℕ). rows_text x.params (history_of x (2 * k))) same ∙ found.1)

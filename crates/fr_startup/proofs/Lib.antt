@@ -1,0 +1,9 @@
+pub mod Keys
+pub mod Hearing
+pub mod Turns
+pub mod Ages
+pub mod Leaders
+pub mod Steps
+pub mod First
+pub mod Phases
+pub mod Worked

@@ -1,0 +1,11 @@
+pub mod RowFacts
+pub mod Lines
+pub mod LeastReason
+pub mod Nodes
+pub mod Saying
+pub mod Keeping
+pub mod Starting
+pub mod Sounding
+pub mod Taking
+pub mod Ending
+pub mod Answering

@@ -1,0 +1,13 @@
+-- what the public contract cites
+pub mod Trace
+pub mod Items
+pub mod Lasting
+pub mod Fits
+pub mod Cycles
+pub mod Rows
+pub mod Order
+pub mod Reasons
+pub mod Holding
+pub mod Text
+pub mod Files
+pub mod Draft

@@ -1,0 +1,148 @@
+-- What a record of a trace says by itself.
+use Rattle.std.specs.Prelude.{◌≡◌, ℕ, ℤ, ◌≤◌, ◌≤ℤ◌, pos, negsuc, Bool, ◌==◌, ◌&&◌, List, length, Option, Some, None, Result, Ok, Err, codes, if◌then◌else◌}
+use Rattle.std.specs.Str.{bytes_eq}
+use Rattle.fr_base.specs.Channels.{channel_of}
+use Rattle.fr_base.specs.Number.{number_of, within}
+use Rattle.fr_base.specs.Timed.{IsTimed}
+use Rattle.fr_base.specs.declared.channel.Channel.{Channel}
+use Rattle.fr_base.specs.declared.node_row.NodeRow.{NodeRow}
+use Rattle.fr_base.specs.declared.numbers.NumberFault.{NumberFault}
+use Rattle.fr_base.specs.declared.reason.Reason.{Reason}
+use Rattle.fr_base.specs.declared.reason.Reason.TheVariants as reason
+use Rattle.fr_base.specs.declared.state.State.{State}
+use Rattle.fr_base.specs.declared.state.State.TheVariants.{Active, Passive, Halt}
+use Rattle.fr_records.specs.Fields.{both_of, field_of, is_blank, natural_of, or_reason}
+use Rattle.fr_records.specs.Records.{FileRecord}
+use Rattle.fr_trace.specs.declared.rows.HeardRow.{HeardRow}
+use Rattle.fr_trace.specs.declared.rows.Row.{Row}
+use Rattle.fr_trace.specs.declared.rows.Row.TheVariants as row
+
+-- the number of double cycles
+abbrev pub run_row : List ℕ → Result Row Reason
+run_row doubles = or_reason (λ n. Ok (row.Run n)) (natural_of 1 10_000 doubles)
+
+-- a node that is arbitrary
+abbrev pub arbitrary_row : List ℕ → Result Row Reason
+arbitrary_row node = or_reason (λ n. Ok (row.Arbitrary n)) (natural_of 1 64 node)
+
+-- the state that a field names
+abbrev pub state_of : List ℕ → Option State
+state_of text =
+    if bytes_eq text (codes "active") then Some Active
+    else if bytes_eq text (codes "passive") then Some Passive
+    else if bytes_eq text (codes "halt") then Some Halt
+    else None
+
+-- a rate term that a field writes, within 2000 of 0, an offset term within 16,000, and a deviation within a million
+unfoldable pub rate_in : List ℕ → Result ℤ NumberFault
+rate_in text = within (negsuc 1999) (pos 2000) (number_of text)
+
+unfoldable pub offset_in : List ℕ → Result ℤ NumberFault
+offset_in text = within (negsuc 15_999) (pos 16_000) (number_of text)
+
+unfoldable pub value_in : List ℕ → Result ℤ NumberFault
+value_in text = within (negsuc 999_999) (pos 1_000_000) (number_of text)
+
+-- a start and the length of a microtick, in ticks, and both terms
+abbrev pub span_in : List ℕ → List ℕ → Result (ℤ × ℤ) NumberFault
+span_in start length = both_of (within (pos 0) (pos 900_000_000_000_000_000) (number_of start)) (within (pos 500_000) (pos 1_500_000) (number_of length))
+
+abbrev pub terms_in : List ℕ → List ℕ → Result (ℤ × ℤ) NumberFault
+terms_in rate offset = both_of (rate_in rate) (offset_in offset)
+
+-- a node's cycle of these numbers: the cycle and the node, the start and the length of a microtick, both terms
+abbrev pub clock_with : State → (ℕ × ℕ) × ((ℤ × ℤ) × (ℤ × ℤ)) → Result Row Reason
+clock_with state numbers =
+    Ok (row.Clock numbers.0.0 (record {
+      node = numbers.0.1;
+      start = numbers.1.0.0;
+      length = numbers.1.0.1;
+      rate = numbers.1.1.0;
+      offset = numbers.1.1.1;
+      state = state;
+      cut = 0;
+    }))
+
+abbrev pub clock_in : List ℕ → List ℕ → List ℕ → List ℕ → List ℕ → List ℕ → State → Result Row Reason
+clock_in cycle node start length rate offset state =
+    or_reason (clock_with state) (both_of (both_of (natural_of 0 199_999 cycle) (natural_of 1 64 node)) (both_of (span_in start length) (terms_in rate offset)))
+
+-- the same where a field names a state
+abbrev pub clock_named : List ℕ → List ℕ → List ℕ → List ℕ → List ℕ → List ℕ → Option State → Result Row Reason
+clock_named cycle node start length rate offset None = Err reason.UnknownName
+clock_named cycle node start length rate offset (Some state) = clock_in cycle node start length rate offset state
+
+abbrev pub clock_row : List ℕ → List ℕ → List ℕ → List ℕ → List ℕ → List ℕ → List ℕ → Result Row Reason
+clock_row cycle node start length rate offset state = clock_named cycle node start length rate offset (state_of state)
+
+-- a deviation on a channel of these numbers: the cycle and the receiver, the slot and the value
+abbrev pub heard_on : Option Channel → (ℕ × ℕ) × (ℕ × ℤ) → Result Row Reason
+heard_on channel numbers =
+    Ok (row.Heard (record { cycle = numbers.0.0; receiver = numbers.0.1; slot = numbers.1.0; channel = channel; value = numbers.1.1 }))
+
+abbrev pub heard_row : List ℕ → List ℕ → List ℕ → List ℕ → List ℕ → Result Row Reason
+heard_row cycle receiver slot channel value =
+    or_reason (heard_on (channel_of channel))
+    (both_of (both_of (natural_of 0 199_999 cycle) (natural_of 1 64 receiver)) (both_of (natural_of 1 1023 slot) (value_in value)))
+
+-- whether three fields are empty
+abbrev pub are_blank : List ℕ → List ℕ → List ℕ → Bool
+are_blank first second third = is_blank first && is_blank second && is_blank third
+
+-- a row of a form of two fields: the other six are empty
+abbrev pub short_row : List ℕ → List ℕ → List ℕ → List ℕ → List ℕ → List ℕ → Result Row Reason → Result Row Reason
+short_row second third fourth fifth sixth seventh said = if are_blank second third fourth && are_blank fifth sixth seventh then said else Err reason.Shape
+
+-- what a record of eight fields says, by its kind
+abbrev pub trace_file_row : List ℕ → List ℕ → List ℕ → List ℕ → List ℕ → List ℕ → List ℕ → List ℕ → Result Row Reason
+trace_file_row kind first second third fourth fifth sixth seventh =
+    if bytes_eq kind (codes "run") then short_row second third fourth fifth sixth seventh (run_row first)
+    else if bytes_eq kind (codes "arbitrary") then short_row second third fourth fifth sixth seventh (arbitrary_row first)
+    else if bytes_eq kind (codes "cycle") then clock_row first second third fourth fifth sixth seventh
+    else if bytes_eq kind (codes "dev") then (if is_blank sixth && is_blank seventh then heard_row first second third fourth fifth else Err reason.Shape)
+    else Err reason.UnknownName
+
+-- what a record says, or the least of the reasons that it shows by itself
+unfoldable pub trace_row_of : FileRecord → Result Row Reason
+trace_row_of fields =
+    if length fields == 8 then trace_file_row (field_of fields 0) (field_of fields 1) (field_of fields 2) (field_of fields 3) (field_of fields 4) (field_of fields 5) (field_of fields 6) (field_of fields 7)
+    else Err reason.Shape
+
+-- a trace has 1 to 10,000 double cycles
+pub record IsProperCount (doubles : ℕ) : Type 0 where
+  pub from : 1 ≤ doubles
+  pub to : doubles ≤ 10_000
+
+-- starts lie up to 9 * 10^17 ticks, and a microtick lasts 500,000 to 1,500,000
+pub record IsProperSpan (span : ℤ × ℤ) : Type 0 where
+  pub from : pos 0 ≤ℤ span.0
+  pub to : span.0 ≤ℤ pos 900_000_000_000_000_000
+  pub length_from : pos 500_000 ≤ℤ span.1
+  pub length_to : span.1 ≤ℤ pos 1_500_000
+
+-- a rate term lies within 2000 microticks of 0, an offset term within 16,000
+pub record AreProperTerms (terms : ℤ × ℤ) : Type 0 where
+  pub from : negsuc 1999 ≤ℤ terms.0
+  pub to : terms.0 ≤ℤ pos 2000
+  pub offset_from : negsuc 15_999 ≤ℤ terms.1
+  pub offset_to : terms.1 ≤ℤ pos 16_000
+
+-- the numbers of a node's cycle lie in their ranges, and no cut is told
+pub record IsProperClock (cycle : ℕ) (row : NodeRow) : Type 0 where
+  pub cycle_to : cycle ≤ 199_999
+  pub timed : IsTimed row
+  pub uncut : row.cut ≡ 0
+
+-- those of a deviation
+pub record IsProperHeard (heard : HeardRow) : Type 0 where
+  pub cycle_to : heard.cycle ≤ 199_999
+  pub slot_from : 1 ≤ heard.slot
+  pub from : negsuc 999_999 ≤ℤ heard.value
+  pub to : heard.value ≤ℤ pos 1_000_000
+
+-- those of a row
+abbrev pub IsProperTraceRow : Row → Type 0
+IsProperTraceRow (row.Run n) = IsProperCount n
+IsProperTraceRow (row.Arbitrary node) = node ≤ 64
+IsProperTraceRow (row.Clock cycle clock) = IsProperClock cycle clock
+IsProperTraceRow (row.Heard heard) = IsProperHeard heard

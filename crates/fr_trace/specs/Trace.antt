@@ -1,0 +1,25 @@
+-- A recorded trace as contracts see it.
+use Rattle.std.specs.Prelude.{ℕ, ◌==◌, Bool, List, Option, [], option_and_then}
+use Rattle.std.specs.List.{list_any}
+use Rattle.std.specs.Option.{option_map_or}
+use Rattle.fr_base.specs.declared.node_row.NodeRow.{NodeRow}
+use Rattle.fr_history.specs.History.{History, record_at, row_of}
+
+-- The number of double cycles, the arbitrary nodes in ascending order, and the recorded cycles, the latest first. A trace
+-- records no counts and no cuts: its records count nothing, and its rows tell no cut.
+pub record TraceView : Type 0 where
+  pub doubles : ℕ
+  pub arbitrary : List ℕ
+  pub history : History
+
+-- whether a trace names a node arbitrary
+abbrev pub is_named : TraceView → ℕ → Bool
+is_named t node = list_any (λ other. other == node) t.arbitrary
+
+-- the row of a node in a cycle, if it is recorded
+unfoldable pub row_at : History → ℕ → ℕ → Option NodeRow
+row_at h cycle node = option_and_then (λ r. row_of r.rows node) (record_at h cycle)
+
+-- the rows of a cycle
+unfoldable pub rows_at : History → ℕ → List NodeRow
+rows_at h cycle = option_map_or (λ r. r.rows) (record_at h cycle) []

@@ -1,0 +1,251 @@
+ghost use Rattle.std.specs.Prelude.{◌≡◌, ◌≤◌, ◌≤ℤ◌, [], length, pos, negsuc, OnOk};
+ghost use Rattle.fr_cluster.specs.Values.{Values};
+ghost use Rattle.fr_trace.specs.Draft.{HasClock, HasEnded, HasFilled, HasHeard, HasKept, HasPut, IsTraceDraft, TakesTraceRow, over_of};
+ghost use Rattle.fr_trace.specs.Order.{count_of, may_follow};
+ghost use Rattle.fr_trace.specs.Reasons.{arbitrary_reason, clock_reason, heard_reason, is_beyond, is_known, is_linked, is_of_other, is_within, row_reason};
+ghost use Rattle.fr_trace.specs.Rows.{IsProperTraceRow};
+ghost use Rattle.fr_trace.specs.declared.rows.Row.TheVariants as said;
+
+use crate::order::may_follow;
+use crate::rows::{HeardRow, Row};
+use crate::trace::TracedCycle;
+use fr_base::{Channel, Dev, NodeId, NodeRow, Reason};
+use fr_cluster::{ParamName, Params};
+use std::alloc::{AllocError, Global};
+use std::mem::replace;
+
+// What the records so far say: the number of double cycles, the nodes that are named arbitrary, the last row, how many
+// records there are, the cycles that are over, and the rows and deviations of the one that is under way.
+#[derive(Drop)]
+pub(crate) struct Draft {
+    pub(crate) alloc: Global,
+    pub(crate) doubles: Option<u32>,
+    pub(crate) arbitrary: Vec<NodeId>,
+    pub(crate) last: Option<Row>,
+    pub(crate) count: u64,
+    pub(crate) cycles: Vec<TracedCycle>,
+    pub(crate) rows: Vec<NodeRow>,
+    pub(crate) devs: Vec<Dev>,
+}
+
+impl Draft {
+    pub(crate) fn new(alloc: Global) -> Draft
+        ensures { (p : Values) → IsTraceDraft p result [] }
+    {
+        Draft {
+            alloc,
+            doubles: None,
+            arbitrary: Vec::new(alloc),
+            last: None,
+            count: 0,
+            cycles: Vec::new(alloc),
+            rows: Vec::new(alloc),
+            devs: Vec::new(alloc),
+        }
+    }
+
+    pub(crate) fn take(&mut self, params: &Params, row: Row) -> Result<Option<Reason>, AllocError>
+        requires { IsProperTraceRow row }
+        ensures { TakesTraceRow params.now self.old self.new row result }
+    {
+        let _nodes = &params.nodes;
+        match self.reason(params, &row) {
+            Some(why) => Ok(Some(why)),
+            None => {
+                self.put(row)?;
+                Ok(None)
+            }
+        }
+    }
+
+    fn reason(&self, params: &Params, row: &Row) -> Option<Reason>
+        ensures { result ≡ row_reason params.now row.now
+            (may_follow params.now (count_of self.now.doubles) self.now.arbitrary.items self.now.last row.now) }
+    {
+        let doubles = self.doubles.unwrap_or(0);
+        let comes = may_follow(params, doubles, &self.arbitrary, &self.last, row);
+        row_reason(params, row, comes)
+    }
+
+    // Puts a row behind those that are there.
+    fn put(&mut self, row: Row) -> Result<(), AllocError>
+        ensures { OnOk result (HasPut self.old self.new row) }
+    {
+        self.keep(&row)?;
+        self.last = Some(row);
+        self.count = self.count.saturating_add(1);
+        Ok(())
+    }
+
+    fn keep(&mut self, row: &Row) -> Result<(), AllocError>
+        ensures { OnOk result (HasKept self.old self.new row.now) }
+    {
+        match row {
+            Row::Run(doubles) => {
+                self.doubles = Some(*doubles);
+                Ok(())
+            }
+            Row::Arbitrary(node) => {
+                self.arbitrary.push(*node)?;
+                Ok(())
+            }
+            Row::Clock(cycle, clock) => self.keep_clock(*cycle, *clock),
+            Row::Heard(heard) => self.keep_heard(heard),
+        }
+    }
+
+    fn keep_clock(&mut self, cycle: u32, clock: NodeRow) -> Result<(), AllocError>
+        ensures { OnOk result (HasKept self.old self.new (said.Clock cycle clock)) }
+    {
+        if cycle as usize == self.cycles.as_slice().len() {
+            self.push_clock(clock)
+        } else {
+            self.end_cycle()?;
+            self.push_clock(clock)
+        }
+    }
+
+    fn push_clock(&mut self, clock: NodeRow) -> Result<(), AllocError>
+        ensures { OnOk result (HasClock self.old self.new clock) }
+    {
+        self.rows.push(clock)?;
+        Ok(())
+    }
+
+    fn keep_heard(&mut self, heard: &HeardRow) -> Result<(), AllocError>
+        ensures { OnOk result (HasHeard self.old self.new heard.now) }
+    {
+        let Some(channel) = heard.channel else {
+            return Ok(());
+        };
+        self.devs.push(Dev {
+            receiver: heard.receiver,
+            slot: heard.slot,
+            channel,
+            value: heard.value,
+        })?;
+        Ok(())
+    }
+
+    // Ends the cycle that is under way.
+    pub(crate) fn end_cycle(&mut self) -> Result<(), AllocError>
+        ensures { OnOk result (HasEnded self.old self.new) }
+    {
+        let rows = replace(&mut self.rows, Vec::new(self.alloc));
+        let devs = replace(&mut self.devs, Vec::new(self.alloc));
+        self.cycles.push(TracedCycle { rows, devs })?;
+        Ok(())
+    }
+
+    // Ends the cycles up to so many.
+    pub(crate) fn fill(&mut self, cycles: usize) -> Result<(), AllocError>
+        requires { length (over_of self.old) ≤ cycles }
+        ensures filled { OnOk result (HasFilled self.old self.new cycles) }
+        ensures all { OnOk result (length (over_of self.new) ≡ cycles) }
+    {
+        while self.cycles.as_slice().len() < cycles {
+            self.end_cycle()?;
+        }
+        Ok(())
+    }
+}
+
+// The least reason for which a row is not taken that may come next, or not.
+fn row_reason(params: &Params, row: &Row, comes: bool) -> Option<Reason>
+    ensures { result ≡ row_reason params.now row.now comes }
+{
+    match row {
+        Row::Run(_) => if comes { None } else { Some(Reason::Role) },
+        Row::Arbitrary(node) => arbitrary_reason(params, *node, comes),
+        Row::Clock(_, clock) => clock_reason(params, clock, comes),
+        Row::Heard(heard) => heard_reason(params, heard, comes),
+    }
+}
+
+fn arbitrary_reason(params: &Params, node: NodeId, comes: bool) -> Option<Reason>
+    ensures { result ≡ arbitrary_reason params.now node comes }
+{
+    match params.node(node) {
+        None => Some(Reason::UnknownNode),
+        Some(spec) => {
+            if spec.key.is_none() || !comes {
+                Some(Reason::Role)
+            } else {
+                None
+            }
+        }
+    }
+}
+
+fn clock_reason(params: &Params, clock: &NodeRow, comes: bool) -> Option<Reason>
+    ensures { result ≡ clock_reason params.now clock.now comes }
+{
+    if is_beyond(params, clock) {
+        Some(Reason::OutOfRange)
+    } else if !is_known(params, clock.node) {
+        Some(Reason::UnknownNode)
+    } else if !comes {
+        Some(Reason::Role)
+    } else {
+        None
+    }
+}
+
+fn heard_reason(params: &Params, heard: &HeardRow, comes: bool) -> Option<Reason>
+    ensures { result ≡ heard_reason params.now heard.now comes }
+{
+    if !is_known(params, heard.receiver) {
+        return Some(Reason::UnknownNode);
+    }
+    let Some(channel) = heard.channel else {
+        return Some(Reason::BadChannel);
+    };
+    if !is_of_other(params, heard) || !comes {
+        Some(Reason::Role)
+    } else if !is_linked(params, heard, channel) {
+        Some(Reason::Link)
+    } else {
+        None
+    }
+}
+
+fn is_known(params: &Params, node: NodeId) -> bool
+    ensures { result ≡ is_known params.now node }
+{
+    params.node(node).is_some()
+}
+
+fn is_beyond(params: &Params, clock: &NodeRow) -> bool
+    ensures { result ≡ is_beyond params.now clock.now }
+{
+    let rate = params.value(ParamName::pRateCorrectionOut);
+    let offset = params.value(ParamName::pOffsetCorrectionOut);
+    !is_within(rate, clock.rate) || !is_within(offset, clock.offset)
+}
+
+fn is_within(limit: i64, term: i32) -> bool
+    requires from { negsuc 16_000 ≤ℤ limit }
+    requires to { limit ≤ℤ pos 16_000 }
+    ensures { result ≡ is_within limit term }
+{
+    let term = i64::from(term);
+    !(term < -limit || limit < term)
+}
+
+fn is_of_other(params: &Params, heard: &HeardRow) -> bool
+    ensures { result ≡ is_of_other params.now heard.now }
+{
+    match params.key_node(heard.slot) {
+        None => false,
+        Some(sender) => sender.id != heard.receiver,
+    }
+}
+
+fn is_linked(params: &Params, heard: &HeardRow, channel: Channel) -> bool
+    ensures { result ≡ is_linked params.now heard.now channel }
+{
+    match params.key_node(heard.slot) {
+        None => false,
+        Some(sender) => params.common(sender.id, heard.receiver, channel),
+    }
+}

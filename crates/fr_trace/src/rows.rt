@@ -1,0 +1,254 @@
+ghost use Rattle.std.specs.Prelude.{◌≡◌, ◌≤ℤ◌, ◌&&◌, pos, negsuc, IfOk, IfSome};
+ghost use Rattle.csv.specs.Records.{fields_of};
+ghost use Rattle.fr_records.specs.Fields.{is_blank};
+ghost use Rattle.fr_trace.specs.Rows.{IsProperTraceRow, arbitrary_row, are_blank, AreProperTerms, IsProperSpan, clock_in, clock_row, heard_row, offset_in, rate_in, run_row, span_in, state_of, terms_in, trace_file_row, trace_row_of, value_in};
+
+use csv::ByteRecord;
+use fr_base::{Channel, NodeId, NodeRow, NumberFault, Reason, Slot, State, number};
+use fr_records::{both, field, natural, reason_of};
+
+/// A deviation that a record says. The channel is None where the field names none: whether the nodes are
+/// known is asked before.
+#[derive(Clone, Copy, Debug, PartialEq, Eq)]
+pub struct HeardRow {
+    /// The cycle.
+    pub cycle: u32,
+    /// The node that measured it.
+    pub receiver: NodeId,
+    /// The key slot in which the frame was sent.
+    pub slot: Slot,
+    /// The channel on which it came.
+    pub channel: Option<Channel>,
+    /// The deviation in microticks of the receiver.
+    pub value: i32,
+}
+
+/// What a record of a trace says by itself.
+#[derive(Clone, Copy, Debug, PartialEq, Eq)]
+pub enum Row {
+    /// How many double cycles the trace has.
+    Run(u32),
+    /// A node that is arbitrary.
+    Arbitrary(NodeId),
+    /// A node's cycle, by the number of the cycle; how many terms were cut is not told, and 0 stands for it.
+    Clock(u32, NodeRow),
+    /// A deviation.
+    Heard(HeardRow),
+}
+
+/// What a record says, or the least of the reasons that it shows by itself: Shape, UnknownName,
+/// NotNumber, OutOfRange.
+pub fn read_row(row: &ByteRecord) -> Result<Row, Reason>
+    ensures said { result ≡ trace_row_of (fields_of row.now) }
+    ensures proper { IfOk result (λ said. IsProperTraceRow said) }
+{
+    if row.len() != 8 {
+        return Err(Reason::Shape);
+    }
+    read_kind(
+        field(row, 0),
+        field(row, 1),
+        field(row, 2),
+        field(row, 3),
+        field(row, 4),
+        field(row, 5),
+        field(row, 6),
+        field(row, 7),
+    )
+}
+
+fn read_kind(
+    kind: &[u8],
+    first: &[u8],
+    second: &[u8],
+    third: &[u8],
+    fourth: &[u8],
+    fifth: &[u8],
+    sixth: &[u8],
+    seventh: &[u8],
+) -> Result<Row, Reason>
+    ensures said { result ≡ trace_file_row kind.now first.now second.now third.now fourth.now fifth.now sixth.now seventh.now }
+    ensures proper { IfOk result (λ said. IsProperTraceRow said) }
+{
+    if kind == b"run".as_slice() {
+        if !are_empty(second, third, fourth) || !are_empty(fifth, sixth, seventh) {
+            return Err(Reason::Shape);
+        }
+        read_run(first)
+    } else if kind == b"arbitrary".as_slice() {
+        if !are_empty(second, third, fourth) || !are_empty(fifth, sixth, seventh) {
+            return Err(Reason::Shape);
+        }
+        read_arbitrary(first)
+    } else if kind == b"cycle".as_slice() {
+        read_clock(first, second, third, fourth, fifth, sixth, seventh)
+    } else if kind == b"dev".as_slice() {
+        if !sixth.is_empty() || !seventh.is_empty() {
+            return Err(Reason::Shape);
+        }
+        read_heard(first, second, third, fourth, fifth)
+    } else {
+        Err(Reason::UnknownName)
+    }
+}
+
+fn are_empty(first: &[u8], second: &[u8], third: &[u8]) -> bool
+    ensures { result ≡ are_blank first.now second.now third.now }
+{
+    first.is_empty() && second.is_empty() && third.is_empty()
+}
+
+fn read_run(doubles: &[u8]) -> Result<Row, Reason>
+    ensures said { result ≡ run_row doubles.now }
+    ensures proper { IfOk result (λ said. IsProperTraceRow said) }
+{
+    match natural(doubles, 1, 10_000) {
+        Ok(doubles) => Ok(Row::Run(doubles as u32)),
+        Err(fault) => Err(reason_of(fault)),
+    }
+}
+
+fn read_arbitrary(node: &[u8]) -> Result<Row, Reason>
+    ensures said { result ≡ arbitrary_row node.now }
+    ensures proper { IfOk result (λ said. IsProperTraceRow said) }
+{
+    match natural(node, 1, 64) {
+        Ok(node) => Ok(Row::Arbitrary(NodeId(node as u8))),
+        Err(fault) => Err(reason_of(fault)),
+    }
+}
+
+fn read_clock(
+    cycle: &[u8],
+    node: &[u8],
+    start: &[u8],
+    length: &[u8],
+    rate: &[u8],
+    offset: &[u8],
+    state: &[u8],
+) -> Result<Row, Reason>
+    ensures said { result ≡ clock_row cycle.now node.now start.now length.now rate.now offset.now state.now }
+    ensures proper { IfOk result (λ said. IsProperTraceRow said) }
+{
+    match read_state(state) {
+        None => Err(Reason::UnknownName),
+        Some(state) => read_clock_in(state, cycle, node, start, length, rate, offset),
+    }
+}
+
+fn read_clock_in(
+    state: State,
+    cycle: &[u8],
+    node: &[u8],
+    start: &[u8],
+    length: &[u8],
+    rate: &[u8],
+    offset: &[u8],
+) -> Result<Row, Reason>
+    ensures said { result ≡ clock_in cycle.now node.now start.now length.now rate.now offset.now state }
+    ensures proper { IfOk result (λ said. IsProperTraceRow said) }
+{
+    match both(
+        both(natural(cycle, 0, 199_999), natural(node, 1, 64)),
+        both(read_span(start, length), read_terms(rate, offset)),
+    ) {
+        Err(fault) => Err(reason_of(fault)),
+        Ok(((cycle, node), (span, terms))) => Ok(Row::Clock(
+            cycle as u32,
+            NodeRow {
+                node: NodeId(node as u8),
+                start: span.0,
+                length: span.1,
+                rate: terms.0,
+                offset: terms.1,
+                state,
+                cut: 0,
+            },
+        )),
+    }
+}
+
+// A start and the length of a microtick.
+fn read_span(start: &[u8], length: &[u8]) -> Result<(i64, i64), NumberFault>
+    ensures said { result ≡ span_in start.now length.now }
+    ensures range { IfOk result (λ span. IsProperSpan span) }
+{
+    both(
+        number(start, 0, 900_000_000_000_000_000),
+        number(length, 500_000, 1_500_000),
+    )
+}
+
+// A rate term and an offset term.
+fn read_terms(rate: &[u8], offset: &[u8]) -> Result<(i32, i32), NumberFault>
+    ensures said { result ≡ terms_in rate.now offset.now }
+    ensures range { IfOk result (λ terms. AreProperTerms terms) }
+{
+    both(read_rate(rate), read_offset(offset))
+}
+
+fn read_state(text: &[u8]) -> Option<State>
+    ensures { result ≡ state_of text.now }
+{
+    if text == b"active".as_slice() {
+        Some(State::Active)
+    } else if text == b"passive".as_slice() {
+        Some(State::Passive)
+    } else if text == b"halt".as_slice() {
+        Some(State::Halt)
+    } else {
+        None
+    }
+}
+
+#[tactic(auto, unfolding(crate::specs::Rows::rate_in))]
+fn read_rate(text: &[u8]) -> Result<i32, NumberFault>
+    ensures said { result ≡ rate_in text.now }
+    ensures range { IfOk result (λ rate. (negsuc 1999 ≤ℤ rate) × (rate ≤ℤ pos 2000)) }
+{
+    let rate = number(text, -2000, 2000)?;
+    Ok(rate as i32)
+}
+
+#[tactic(auto, unfolding(crate::specs::Rows::offset_in))]
+fn read_offset(text: &[u8]) -> Result<i32, NumberFault>
+    ensures said { result ≡ offset_in text.now }
+    ensures range { IfOk result (λ offset. (negsuc 15_999 ≤ℤ offset) × (offset ≤ℤ pos 16_000)) }
+{
+    let offset = number(text, -16_000, 16_000)?;
+    Ok(offset as i32)
+}
+
+#[tactic(auto, unfolding(crate::specs::Rows::value_in))]
+fn read_value(text: &[u8]) -> Result<i32, NumberFault>
+    ensures said { result ≡ value_in text.now }
+    ensures range { IfOk result (λ value. (negsuc 999_999 ≤ℤ value) × (value ≤ℤ pos 1_000_000)) }
+{
+    let value = number(text, -1_000_000, 1_000_000)?;
+    Ok(value as i32)
+}
+
+fn read_heard(
+    cycle: &[u8],
+    receiver: &[u8],
+    slot: &[u8],
+    channel: &[u8],
+    value: &[u8],
+) -> Result<Row, Reason>
+    ensures said { result ≡ heard_row cycle.now receiver.now slot.now channel.now value.now }
+    ensures proper { IfOk result (λ said. IsProperTraceRow said) }
+{
+    match both(
+        both(natural(cycle, 0, 199_999), natural(receiver, 1, 64)),
+        both(natural(slot, 1, 1023), read_value(value)),
+    ) {
+        Err(fault) => Err(reason_of(fault)),
+        Ok(((cycle, receiver), (slot, value))) => Ok(Row::Heard(HeardRow {
+            cycle: cycle as u32,
+            receiver: NodeId(receiver as u8),
+            slot: Slot(slot as u16),
+            channel: Channel::spelt(channel),
+            value,
+        })),
+    }
+}

@@ -1,0 +1,3 @@
+-- what only functions inside and above cite
+pub mod Sound
+pub mod Counted

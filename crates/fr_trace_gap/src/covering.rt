@@ -1,0 +1,536 @@
+ghost use Rattle.std.specs.Prelude.{◌≡◌, ◌≤◌, ◌==◌, length, false, true, All, IfSome, find, option_and_then, is_some};
+ghost use Rattle.std.specs.Option.{option_copied};
+ghost use Rattle.fr_base.specs.Rows.{channel_rank, dev_in, is_dev_of};
+ghost use Rattle.fr_base.specs.Timed.{IsTimed};
+ghost use Rattle.fr_coverage.specs.Coverage.{checks_gap, has_jumped, is_off, outweighs};
+ghost use Rattle.fr_coverage.specs.First.{first_below, first_in};
+ghost use Rattle.fr_coverage.specs.Links.{shares};
+ghost use Rattle.fr_history.specs.History.{row_of};
+ghost use Rattle.fr_history.specs.Sync.{first_sync_of};
+ghost use Rattle.fr_trace.specs.Cycles.{history_by};
+ghost use Rattle.fr_trace.specs.Trace.{is_named, row_at};
+ghost use Rattle.fr_verdict.specs.FirstGap.{change_by, change_gap, changes_gap, count_gap, first_gap_of, is_early, length_by, length_gap, lengths_gap, link_gap, links_gap, pairs_gap, weighed};
+ghost use Rattle.fr_verdict.specs.Gaps.{has_dev, is_heard, is_heard_on, is_pair};
+ghost use Rattle.fr_trace_gap.specs.Counted.{count_in, is_counted};
+ghost use Rattle.fr_trace_gap.specs.Sound.{AreTimed};
+
+use crate::found::row_of;
+use crate::searching::{Search, first_among};
+use fr_base::{Channel, Dev, NodeId, NodeRow, Slot};
+use fr_bound::{checks, side};
+use fr_cluster::{NodeList, NodeSpec, ParamName, Params};
+use fr_coverage::Gap;
+use fr_trace::{Trace, TracedCycle};
+
+/// The first gap of a trace with this first double cycle in sync, in the order of gaps: a check that fails, too few
+/// correct sync nodes, a length, a change, a link; None exactly where the trace is covered.
+#[tactic(auto, unfolding(fr_verdict::specs::FirstGap::first_gap_of))]
+pub fn first_gap(params: &Params, trace: &Trace, synced: Option<u32>) -> Option<Gap>
+    requires { synced ≡ first_sync_of params.now trace.now.history }
+    ensures { result ≡ first_gap_of params.now trace.now }
+{
+    if let Some(gap) = failing_check(params) {
+        return Some(gap);
+    }
+    if let Some(gap) = wrong_count(params, trace) {
+        return Some(gap);
+    }
+    if let Some(gap) = wrong_length(params, trace) {
+        return Some(gap);
+    }
+    if let Some(gap) = wrong_change(params, trace) {
+        return Some(gap);
+    }
+    broken_link(params, trace, synced)
+}
+
+// The gap by the counts, and the first by a length, by a change, and by a link.
+fn wrong_count(params: &Params, trace: &Trace) -> Option<Gap>
+    ensures { result ≡ count_gap params.now trace.now }
+{
+    outweighed(&params.nodes, trace)
+}
+
+fn wrong_length(params: &Params, trace: &Trace) -> Option<Gap>
+    ensures { result ≡ first_in (lengths_gap params.now trace.now) params.now.nodes }
+{
+    let synced = None;
+    let asked = Asked {
+        params,
+        trace,
+        synced,
+    };
+    first_among(&params.nodes, &Lengths(asked))
+}
+
+fn wrong_change(params: &Params, trace: &Trace) -> Option<Gap>
+    ensures { result ≡ first_in (changes_gap params.now trace.now) params.now.nodes }
+{
+    let synced = None;
+    let asked = Asked {
+        params,
+        trace,
+        synced,
+    };
+    first_among(&params.nodes, &Changes(asked))
+}
+
+fn broken_link(params: &Params, trace: &Trace, synced: Option<u32>) -> Option<Gap>
+    ensures { result ≡ pairs_gap params.now trace.now synced }
+{
+    let asked = Asked {
+        params,
+        trace,
+        synced,
+    };
+    first_among(&params.nodes, &Links(asked))
+}
+
+fn failing_check(params: &Params) -> Option<Gap>
+    ensures { result ≡ checks_gap params.now }
+{
+    match checks(params) {
+        Ok(()) => None,
+        Err(number) => {
+            let sides = side(params, number);
+            Some(Gap::Check {
+                number,
+                left: sides.left,
+                right: sides.right,
+            })
+        }
+    }
+}
+
+// Whether a trace names a node arbitrary.
+fn is_named(trace: &Trace, node: NodeId) -> bool
+    ensures { result ≡ is_named trace.now node }
+{
+    let wanted = node.0;
+    trace
+        .arbitrary_nodes()
+        .iter()
+        .any(|other| other.0 == wanted)
+}
+
+fn is_counted(trace: &Trace, named: bool, node: &NodeSpec) -> bool
+    ensures { result ≡ is_counted trace.now named node.now }
+{
+    node.key.is_some() && is_named(trace, node.id) == named
+}
+
+// How many nodes with a key slot are named arbitrary, or how many are not.
+fn count(nodes: &NodeList, trace: &Trace, named: bool) -> u32
+    requires { length nodes.now ≤ 64 }
+    ensures { result ≡ count_in trace.now named nodes.now }
+{
+    let mut sum = 0;
+    for place in 0..nodes.len() {
+        match nodes.get(place) {
+            Some(node) => {
+                if is_counted(trace, named, node) {
+                    sum += 1;
+                }
+            }
+            None => {}
+        }
+    }
+    sum
+}
+
+fn outweighs(correct: u32, arbitrary: u32) -> bool
+    ensures { result ≡ outweighs correct arbitrary }
+{
+    match arbitrary {
+        0 => correct >= 1,
+        1 => correct >= 3,
+        2 => correct >= 6,
+        _ => false,
+    }
+}
+
+// The gap where the correct nodes with a key slot do not outweigh the arbitrary ones.
+fn outweighed(nodes: &NodeList, trace: &Trace) -> Option<Gap>
+    requires { length nodes.now ≤ 64 }
+    ensures { result ≡ weighed (count_in trace.now false nodes.now) (count_in trace.now true nodes.now) }
+{
+    let correct = count(nodes, trace, false);
+    let arbitrary = count(nodes, trace, true);
+    if outweighs(correct, arbitrary) {
+        None
+    } else {
+        Some(Gap::Count { correct, arbitrary })
+    }
+}
+
+// ---- microticks
+
+// The cycles of a trace.
+fn timed_cycles(trace: &Trace) -> &[TracedCycle]
+    ensures history { history_by result.now ≡ trace.now.history }
+    ensures timed { AreTimed result.now }
+    ensures few { length result.now ≤ 20_000 }
+{
+    trace.cycles()
+}
+
+// The row of a node in a cycle.
+fn row_at(cycles: &[TracedCycle], cycle: usize, node: NodeId) -> Option<&NodeRow>
+    requires { AreTimed cycles.now }
+    ensures value { option_copied result ≡ row_at (history_by cycles.now) cycle node }
+    ensures timed { IfSome result (λ row. IsTimed row.now) }
+{
+    if cycle < cycles.len() {
+        timed_row(&cycles[cycle], node)
+    } else {
+        None
+    }
+}
+
+fn timed_row(cycle: &TracedCycle, node: NodeId) -> Option<&NodeRow>
+    requires { All IsTimed cycle.now.rows.items }
+    ensures value { option_copied result ≡ row_of cycle.now.rows.items node }
+    ensures timed { IfSome result (λ row. IsTimed row.now) }
+{
+    row_of(&cycle.rows, node)
+}
+
+fn is_off(params: &Params, row: &NodeRow) -> bool
+    ensures { result ≡ is_off params.now row.now.length }
+{
+    let bound = params.natural(ParamName::xRateBound);
+    let (shortest, longest) = (1_000_000 - bound, 1_000_000 + bound);
+    row.length < shortest as i64 || (longest as i64) < row.length
+}
+
+fn has_jumped(params: &Params, before: &NodeRow, row: &NodeRow) -> bool
+    requires before { IsTimed before.now }
+    requires row { IsTimed row.now }
+    ensures { result ≡ has_jumped params.now before.now.length row.now.length }
+{
+    let most = params.natural(ParamName::xChangeBound) as i64;
+    before.length + most < row.length || row.length + most < before.length
+}
+
+fn length_by(params: &Params, node: NodeId, cycle: u32, row: &NodeRow) -> Option<Gap>
+    ensures { result ≡ length_by params.now node cycle row.now }
+{
+    if is_off(params, row) {
+        Some(Gap::Length {
+            node,
+            cycle,
+            ticks: row.length,
+        })
+    } else {
+        None
+    }
+}
+
+fn change_by(
+    params: &Params,
+    node: NodeId,
+    cycle: u32,
+    before: &NodeRow,
+    row: &NodeRow,
+) -> Option<Gap>
+    requires cycle { cycle ≤ 200_000 }
+    requires before { IsTimed before.now }
+    requires row { IsTimed row.now }
+    ensures { result ≡ change_by params.now node cycle before.now row.now }
+{
+    if has_jumped(params, before, row) {
+        Some(Gap::Change {
+            node,
+            cycle: cycle + 1,
+            ticks: row.length - before.length,
+        })
+    } else {
+        None
+    }
+}
+
+// The gap of a node's microtick in a cycle.
+fn length_gap(params: &Params, cycles: &[TracedCycle], node: NodeId, cycle: u32) -> Option<Gap>
+    requires { AreTimed cycles.now }
+    ensures { result ≡ length_gap params.now (history_by cycles.now) node cycle }
+{
+    match row_at(cycles, cycle as usize, node) {
+        None => None,
+        Some(row) => length_by(params, node, cycle, row),
+    }
+}
+
+// The gap of its change to the cycle after.
+fn change_gap(params: &Params, cycles: &[TracedCycle], node: NodeId, cycle: u32) -> Option<Gap>
+    requires cycle { cycle ≤ 200_000 }
+    requires timed { AreTimed cycles.now }
+    ensures { result ≡ change_gap params.now (history_by cycles.now) node cycle }
+{
+    match row_at(cycles, cycle as usize, node) {
+        None => None,
+        Some(before) => match row_at(cycles, cycle as usize + 1, node) {
+            None => None,
+            Some(row) => change_by(params, node, cycle, before, row),
+        },
+    }
+}
+
+// The first gap of a node's microticks.
+fn first_length(params: &Params, cycles: &[TracedCycle], node: NodeId) -> Option<Gap>
+    requires timed { AreTimed cycles.now }
+    requires few { length cycles.now ≤ 20_000 }
+    ensures { result ≡ first_below (length_gap params.now (history_by cycles.now) node) (length cycles.now) }
+{
+    let count = cycles.len() as u32;
+    for cycle in 0..count {
+        match length_gap(params, cycles, node, cycle) {
+            Some(gap) => return Some(gap),
+            None => {}
+        }
+    }
+    None
+}
+
+// The first gap of their changes.
+fn first_change(params: &Params, cycles: &[TracedCycle], node: NodeId) -> Option<Gap>
+    requires timed { AreTimed cycles.now }
+    requires few { length cycles.now ≤ 20_000 }
+    ensures { result ≡ first_below (change_gap params.now (history_by cycles.now) node) (length cycles.now) }
+{
+    let count = cycles.len() as u32;
+    for cycle in 0..count {
+        match change_gap(params, cycles, node, cycle) {
+            Some(gap) => return Some(gap),
+            None => {}
+        }
+    }
+    None
+}
+
+// ---- links
+
+// The deviation of a receiver in a slot on a channel.
+fn dev_in(devs: &[Dev], receiver: NodeId, slot: Slot, channel: Channel) -> Option<i32>
+    ensures { result ≡ dev_in devs.now receiver slot channel }
+{
+    match found_dev(devs, receiver.0, slot.0, channel) {
+        None => None,
+        Some(dev) => Some(dev.value),
+    }
+}
+
+fn found_dev(devs: &[Dev], receiver: u8, slot: u16, channel: Channel) -> Option<&Dev>
+    ensures { option_copied result ≡ find (is_dev_of receiver slot channel) devs.now }
+{
+    devs.iter()
+        .find(|dev| is_dev_of(dev, receiver, slot, channel))
+}
+
+fn is_dev_of(dev: &Dev, receiver: u8, slot: u16, channel: Channel) -> bool
+    ensures { result ≡ is_dev_of receiver slot channel dev.now }
+{
+    dev.receiver.0 == receiver && dev.slot.0 == slot && is_channel(dev.channel, channel)
+}
+
+fn is_channel(one: Channel, other: Channel) -> bool
+    ensures { result ≡ (channel_rank one == channel_rank other) }
+{
+    matches!(
+        (one, other),
+        (Channel::A, Channel::A) | (Channel::B, Channel::B)
+    )
+}
+
+// Whether a receiver has a deviation of a sender in a cycle on a channel.
+fn has_dev(
+    cycles: &[TracedCycle],
+    cycle: usize,
+    sender: &NodeSpec,
+    receiver: &NodeSpec,
+    channel: Channel,
+) -> bool
+    ensures { result ≡ has_dev (history_by cycles.now) cycle sender.now receiver.now channel }
+{
+    if cycle < cycles.len() {
+        has_dev_in(&cycles[cycle], sender, receiver, channel)
+    } else {
+        false
+    }
+}
+
+fn has_dev_in(cycle: &TracedCycle, sender: &NodeSpec, receiver: &NodeSpec, channel: Channel) -> bool
+    ensures { result ≡ is_some (option_and_then (λ slot. dev_in cycle.now.devs.items receiver.now.id slot channel) sender.now.key) }
+{
+    match sender.key {
+        None => false,
+        Some(slot) => dev_in(&cycle.devs, receiver.id, slot, channel).is_some(),
+    }
+}
+
+// Whether both nodes have the channel.
+fn shares(a: &NodeSpec, b: &NodeSpec, channel: Channel) -> bool
+    ensures { result ≡ shares a.now b.now channel }
+{
+    match channel {
+        Channel::A => a.on_a && b.on_a,
+        Channel::B => a.on_b && b.on_b,
+    }
+}
+
+fn is_heard_on(
+    trace: &Trace,
+    sender: &NodeSpec,
+    receiver: &NodeSpec,
+    double: u32,
+    channel: Channel,
+) -> bool
+    requires { double ≤ 100_000 }
+    ensures { result ≡ is_heard_on trace.now sender.now receiver.now double channel }
+{
+    let cycles = trace.cycles();
+    let even = 2 * double as usize;
+    shares(sender, receiver, channel)
+        && has_dev(cycles, even, sender, receiver, channel)
+        && has_dev(cycles, even + 1, sender, receiver, channel)
+}
+
+fn is_heard(trace: &Trace, sender: &NodeSpec, receiver: &NodeSpec, double: u32) -> bool
+    requires { double ≤ 100_000 }
+    ensures { result ≡ is_heard trace.now sender.now receiver.now double }
+{
+    is_heard_on(trace, sender, receiver, double, Channel::A)
+        || is_heard_on(trace, sender, receiver, double, Channel::B)
+}
+
+// Whether the sender is correct and has a key slot, and the receiver is another correct node.
+fn is_pair(trace: &Trace, sender: &NodeSpec, receiver: &NodeSpec) -> bool
+    ensures { result ≡ is_pair trace.now sender.now receiver.now }
+{
+    sender.key.is_some()
+        && !is_named(trace, sender.id)
+        && !is_named(trace, receiver.id)
+        && sender.id != receiver.id
+}
+
+// Whether a double cycle comes before the first one in sync.
+fn is_early(synced: Option<u32>, double: u32) -> bool
+    ensures { result ≡ is_early synced double }
+{
+    match synced {
+        None => true,
+        Some(synced) => double < synced,
+    }
+}
+
+fn link_gap(
+    trace: &Trace,
+    synced: Option<u32>,
+    sender: &NodeSpec,
+    receiver: &NodeSpec,
+    double: u32,
+) -> Option<Gap>
+    requires { double ≤ 100_000 }
+    ensures { result ≡ link_gap trace.now synced sender.now receiver.now double }
+{
+    if is_early(synced, double) || is_heard(trace, sender, receiver, double) {
+        None
+    } else {
+        Some(Gap::Link {
+            sender: sender.id,
+            receiver: receiver.id,
+            double,
+        })
+    }
+}
+
+fn first_link(
+    trace: &Trace,
+    synced: Option<u32>,
+    sender: &NodeSpec,
+    receiver: &NodeSpec,
+) -> Option<Gap>
+    ensures { result ≡ first_below (link_gap trace.now synced sender.now receiver.now) trace.now.doubles }
+{
+    for double in 0..trace.doubles() {
+        match link_gap(trace, synced, sender, receiver, double) {
+            Some(gap) => return Some(gap),
+            None => {}
+        }
+    }
+    None
+}
+
+// ---- what is looked for
+
+// What a search asks.
+#[derive(Clone, Copy)]
+struct Asked<'a> {
+    params: &'a Params,
+    trace: &'a Trace,
+    synced: Option<u32>,
+}
+
+// Looks for lengths.
+#[derive(Clone, Copy)]
+struct Lengths<'a>(Asked<'a>);
+
+impl Search for Lengths<'_> {
+    ghost found = { λ a. lengths_gap a.0.params.now a.0.trace.now };
+
+    fn find(&self, node: &NodeSpec) -> Option<Gap> {
+        let asked = self.0;
+        first_length(asked.params, timed_cycles(asked.trace), node.id)
+    }
+}
+
+// Looks for changes of lengths.
+#[derive(Clone, Copy)]
+struct Changes<'a>(Asked<'a>);
+
+impl Search for Changes<'_> {
+    ghost found = { λ a. changes_gap a.0.params.now a.0.trace.now };
+
+    fn find(&self, node: &NodeSpec) -> Option<Gap> {
+        let asked = self.0;
+        first_change(asked.params, timed_cycles(asked.trace), node.id)
+    }
+}
+
+// Looks for broken links of a sender.
+#[derive(Clone, Copy)]
+struct Links<'a>(Asked<'a>);
+
+impl Search for Links<'_> {
+    ghost found = { λ a node. first_in (links_gap a.0.trace.now a.0.synced node) a.0.params.now.nodes };
+
+    fn find(&self, node: &NodeSpec) -> Option<Gap> {
+        let asked = self.0;
+        let params = asked.params;
+        first_among(
+            &params.nodes,
+            &LinksFrom {
+                asked,
+                sender: node,
+            },
+        )
+    }
+}
+
+// Looks for broken links of one sender at a receiver.
+#[derive(Clone, Copy)]
+struct LinksFrom<'a> {
+    asked: Asked<'a>,
+    sender: &'a NodeSpec,
+}
+
+impl Search for LinksFrom<'_> {
+    ghost found = { λ a. links_gap a.asked.trace.now a.asked.synced a.sender.now };
+
+    fn find(&self, node: &NodeSpec) -> Option<Gap> {
+        let asked = self.asked;
+        if !is_pair(asked.trace, self.sender, node) {
+            return None;
+        }
+        first_link(asked.trace, asked.synced, self.sender, node)
+    }
+}

@@ -1,0 +1,9 @@
+//! Whether a recorded trace is covered by the precision theorem: the first gap of what it records.
+#![tactic(auto)]
+
+mod covering;
+mod found;
+mod searching;
+
+pub use covering::first_gap;
+pub use found::row_of;

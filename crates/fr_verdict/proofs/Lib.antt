@@ -1,0 +1,9 @@
+pub mod Worked
+pub mod Finding
+pub mod Passing
+pub mod Gaps
+pub mod OneGap
+pub mod Answering
+pub mod Items
+pub mod Lawful
+pub mod Checked

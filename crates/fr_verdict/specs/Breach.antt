@@ -1,0 +1,156 @@
+-- What breaks a law of a trace at one of its items: facts about the item and the records before it.
+use Rattle.std.specs.Prelude.{◌≡◌, ◌≢◌, ◌⊎◌, ℕ, ◌<◌, ℤ, pos, ◌+ℤ◌, ◌-ℤ◌, ◌<ℤ◌, Bool, [], ◌∷◌, length, Option, Some, None, option_and_then, if◌then◌else◌}
+use Rattle.fr_base.specs.States.{is_active, is_halted}
+use Rattle.fr_base.specs.declared.dev.Dev.{Dev}
+use Rattle.fr_base.specs.declared.node_row.NodeRow.{NodeRow}
+use Rattle.fr_base.specs.declared.state.State.{State}
+use Rattle.fr_cluster.specs.Searches.{key_node_in}
+use Rattle.fr_cluster.specs.Values.{Values}
+use Rattle.fr_time.specs.Cycles.{is_odd}
+use Rattle.fr_time.specs.Position.{floor_of}
+use Rattle.fr_time.specs.Slots.{action_point_of}
+use Rattle.fr_bound.specs.Bounds.{arrival_error}
+use Rattle.fr_precision.specs.Instants.{gap_of}
+use Rattle.fr_history.specs.History.{History, Record, clock_of, row_of}
+use Rattle.fr_history.specs.Lawful.{offset_after, rate_by, start_by}
+use Rattle.fr_history.specs.Terms.{status_in}
+use Rattle.fr_trace.specs.Items.{IsAt, Item}
+use Rattle.fr_trace.specs.Items.Item.{Clock, Heard}
+use Rattle.fr_trace.specs.Trace.{TraceView}
+use Rattle.fr_verdict.specs.declared.unlawful.Unlawful.{Unlawful}
+use Rattle.fr_verdict.specs.declared.unlawful.Unlawful.TheVariants as unlawful
+
+-- ---- rows
+
+-- the start of a node's cycle by the records before it: in cycle 0 it is free, then it is where the cycle before ends
+abbrev pub start_behind : Values → History → NodeRow → ℤ
+start_behind p [] row = row.start
+start_behind p (r ∷ h) row = start_by p (clock_of r row.node)
+
+-- its rate: in cycle 0 it is free, then within a double cycle it stays, and after one it is the rate term of its deviations
+abbrev pub rate_behind : Values → History → NodeRow → ℤ
+rate_behind p [] row = row.rate
+rate_behind p (r ∷ h) row = rate_by p h r (clock_of r row.node)
+
+-- a start is not the end of the cycle before
+pub record IsWrongStart (p : Values) (h : History) (row : NodeRow) (kept wanted : ℤ) : Type 0 where
+  pub is_kept : kept ≡ row.start
+  pub is_wanted : wanted ≡ start_behind p h row
+  pub differs : kept ≢ wanted
+
+-- a rate is not that of the rows and deviations before
+pub record IsWrongRate (p : Values) (h : History) (row : NodeRow) (kept wanted : ℤ) : Type 0 where
+  pub is_kept : kept ≡ row.rate
+  pub is_wanted : wanted ≡ rate_behind p h row
+  pub differs : kept ≢ wanted
+
+-- a state is not that of operation control after the records before
+pub record IsWrongTurn (p : Values) (h : History) (row : NodeRow) (kept wanted : State) : Type 0 where
+  pub is_kept : kept ≡ row.state
+  pub is_wanted : wanted ≡ (status_in p h row.node).state
+  pub differs : kept ≢ wanted
+
+-- an offset is not the offset term of the deviations of its double cycle, or 0 in an even cycle and in Halt
+pub record IsWrongOffset (p : Values) (h : History) (r : Record) (row : NodeRow) (kept wanted : ℤ) : Type 0 where
+  pub is_kept : kept ≡ row.offset
+  pub is_wanted : wanted ≡ offset_after p h r row
+  pub differs : kept ≢ wanted
+
+-- ---- deviations
+
+-- the row of the node whose key slot a slot is; only correct nodes have one
+abbrev pub sender_row : Values → Record → ℕ → Option NodeRow
+sender_row p r slot = option_and_then (λ node. row_of r.rows node.id) (key_node_in p.nodes slot)
+
+-- the state for which a deviation cannot be: that of a correct sender that is not active, or else that of a receiver in Halt
+abbrev pub halted_state : Option NodeRow → Option State
+halted_state None = None
+halted_state (Some receiver) = if is_halted receiver.state then Some receiver.state else None
+
+abbrev pub silent_state : Option NodeRow → Option NodeRow → Option State
+silent_state None receiver = halted_state receiver
+silent_state (Some sender) receiver = if is_active sender.state then halted_state receiver else Some sender.state
+
+-- no frame can have come: the sender did not send, or the receiver did not receive
+abbrev pub IsSilent : Values → Record → Dev → State → Type 0
+IsSilent p r dev state = silent_state (sender_row p r dev.slot) (row_of r.rows dev.receiver) ≡ Some state
+
+-- the least and the greatest deviation, in microticks, that both rows and the error of an arrival allow
+abbrev pub low_of : Values → Bool → ℕ → NodeRow → NodeRow → ℤ
+low_of p odd slot sender receiver = floor_of (gap_of p odd (pos (action_point_of p slot)) sender receiver -ℤ pos (arrival_error p)) receiver.length
+
+abbrev pub high_of : Values → Bool → ℕ → NodeRow → NodeRow → ℤ
+high_of p odd slot sender receiver = floor_of (gap_of p odd (pos (action_point_of p slot)) sender receiver +ℤ pos (arrival_error p)) receiver.length
+
+-- a deviation of a correct sender lies outside of them
+pub record IsOutside (p : Values) (h : History) (r : Record) (dev : Dev) (kept low high : ℤ) : Type 0 where
+  pub sender : NodeRow
+  pub receiver : NodeRow
+  pub sends : sender_row p r dev.slot ≡ Some sender
+  pub hears : row_of r.rows dev.receiver ≡ Some receiver
+  pub is_kept : kept ≡ dev.value
+  pub is_low : low ≡ low_of p (is_odd (length h)) dev.slot sender receiver
+  pub is_high : high ≡ high_of p (is_odd (length h)) dev.slot sender receiver
+  pub outside : (kept <ℤ low) ⊎ (high <ℤ kept)
+
+-- ---- breaches
+
+-- a fact of an item that is a node's cycle, and of one that is a deviation
+abbrev pub OfRow : Item → (History → Record → NodeRow → Type 0) → Type 0
+OfRow (Clock h r row) Fact = Fact h r row
+OfRow (Heard h r dev) Fact = ⊥
+
+abbrev pub OfDev : Item → (History → Record → Dev → Type 0) → Type 0
+OfDev (Clock h r row) Fact = ⊥
+OfDev (Heard h r dev) Fact = Fact h r dev
+
+-- an item breaks a law in this way; that a trace is not covered is no breach
+abbrev pub Breaks : Values → Item → Unlawful → Type 0
+Breaks p item (unlawful.Start number kept wanted) = OfRow item (λ h r row. IsWrongStart p h row kept wanted)
+Breaks p item (unlawful.Rate number kept wanted) = OfRow item (λ h r row. IsWrongRate p h row kept wanted)
+Breaks p item (unlawful.Turn number kept wanted) = OfRow item (λ h r row. IsWrongTurn p h row kept wanted)
+Breaks p item (unlawful.Offset number kept wanted) = OfRow item (λ h r row. IsWrongOffset p h r row kept wanted)
+Breaks p item (unlawful.Silent number state) = OfDev item (λ h r dev. IsSilent p r dev state)
+Breaks p item (unlawful.Deviation number kept low high) = OfDev item (λ h r dev. IsOutside p h r dev kept low high)
+Breaks p item (unlawful.Uncovered gap) = ⊥
+
+-- the number of the record that is told, and the rank of the law among the laws
+abbrev pub number_of : Unlawful → ℕ
+number_of (unlawful.Start number kept wanted) = number
+number_of (unlawful.Rate number kept wanted) = number
+number_of (unlawful.Turn number kept wanted) = number
+number_of (unlawful.Offset number kept wanted) = number
+number_of (unlawful.Silent number state) = number
+number_of (unlawful.Deviation number kept low high) = number
+number_of (unlawful.Uncovered gap) = 0
+
+abbrev pub rank_in : Unlawful → ℕ
+rank_in (unlawful.Start number kept wanted) = 0
+rank_in (unlawful.Rate number kept wanted) = 1
+rank_in (unlawful.Turn number kept wanted) = 2
+rank_in (unlawful.Offset number kept wanted) = 3
+rank_in (unlawful.Silent number state) = 4
+rank_in (unlawful.Deviation number kept low high) = 5
+rank_in (unlawful.Uncovered gap) = 6
+
+-- a breach of a trace: the item of the record that is told breaks the law
+pub record IsBreach (p : Values) (t : TraceView) (u : Unlawful) : Type 0 where
+  pub item : Item
+  pub at : IsAt t (number_of u) item
+  pub breaks : Breaks p item u
+
+-- a breach comes before another: by record number, and then by law
+abbrev pub ComesBefore : Unlawful → Unlawful → Type 0
+ComesBefore u v = (number_of u < number_of v) ⊎ ((number_of u ≡ number_of v) × (rank_in u < rank_in v))
+
+-- it is one, and there is none before it
+pub record IsFirstBreach (p : Values) (t : TraceView) (u : Unlawful) : Type 0 where
+  pub is_breach : IsBreach p t u
+  pub first : (v : Unlawful) → IsBreach p t v → ComesBefore v u → ⊥
+
+-- a trace is lawful where nothing breaks a law
+abbrev pub IsLawfulTrace : Values → TraceView → Type 0
+IsLawfulTrace p t = (u : Unlawful) → IsBreach p t u → ⊥
+
+abbrev pub OneFirstBreach : Type 0
+OneFirstBreach = (p : Values) (t : TraceView) (u v : Unlawful) → IsFirstBreach p t u → IsFirstBreach p t v → u ≡ v

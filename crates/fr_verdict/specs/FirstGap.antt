@@ -1,0 +1,78 @@
+-- The first gap of a trace as a function.
+use Rattle.std.specs.Prelude.{◌≡◌, ℕ, suc, ◌-ℤ◌, ◌||◌, Bool, true, nat_lt, length, Option, Some, None, option_and_then, if◌then◌else◌}
+use Rattle.std.specs.Option.{option_or}
+use Rattle.fr_base.specs.declared.node_row.NodeRow.{NodeRow}
+use Rattle.fr_cluster.specs.Sane.{IsSane}
+use Rattle.fr_cluster.specs.Values.{Values}
+use Rattle.fr_cluster.specs.declared.nodes.NodeSpec.{NodeSpec}
+use Rattle.fr_round.specs.Round.{sync_count}
+use Rattle.fr_coverage.specs.Coverage.{checks_gap, has_jumped, is_off, outweighs}
+use Rattle.fr_coverage.specs.First.{first_below, first_in}
+use Rattle.fr_coverage.specs.declared.gap.Gap.{Gap}
+use Rattle.fr_coverage.specs.declared.gap.Gap.TheVariants as gap
+use Rattle.fr_history.specs.History.{History}
+use Rattle.fr_history.specs.Sync.{first_sync_of}
+use Rattle.fr_trace.specs.Trace.{TraceView, is_named, row_at}
+use Rattle.fr_verdict.specs.Gaps.{IsCoveredTrace, IsFirstTraceGap, is_heard, is_pair, is_unnamed}
+
+abbrev pub weighed : ℕ → ℕ → Option Gap
+weighed correct arbitrary = if outweighs correct arbitrary then None else Some (gap.Count correct arbitrary)
+
+abbrev pub count_gap : Values → TraceView → Option Gap
+count_gap p t = weighed (sync_count p (is_unnamed t)) (sync_count p (is_named t))
+
+-- of one node in one cycle
+abbrev pub length_by : Values → ℕ → ℕ → NodeRow → Option Gap
+length_by p node cycle row = if is_off p row.length then Some (gap.Length node cycle row.length) else None
+
+abbrev pub length_gap : Values → History → ℕ → ℕ → Option Gap
+length_gap p h node cycle = option_and_then (length_by p node cycle) (row_at h cycle node)
+
+abbrev pub change_by : Values → ℕ → ℕ → NodeRow → NodeRow → Option Gap
+change_by p node cycle before row =
+    if has_jumped p before.length row.length then Some (gap.Change node (suc cycle) (row.length -ℤ before.length)) else None
+
+abbrev pub change_gap : Values → History → ℕ → ℕ → Option Gap
+change_gap p h node cycle =
+    option_and_then (λ before. option_and_then (change_by p node cycle before) (row_at h (suc cycle) node)) (row_at h cycle node)
+
+-- of one node; from one cycle to the next there are as many steps as cycles but one, and none leads out of the last
+abbrev pub lengths_gap : Values → TraceView → NodeSpec → Option Gap
+lengths_gap p t node = first_below (length_gap p t.history node.id) (length t.history)
+
+abbrev pub changes_gap : Values → TraceView → NodeSpec → Option Gap
+changes_gap p t node = first_below (change_gap p t.history node.id) (length t.history)
+
+-- of one pair of nodes, with the first double cycle in sync
+abbrev pub is_early : Option ℕ → ℕ → Bool
+is_early None double = true
+is_early (Some synced) double = nat_lt double synced
+
+abbrev pub link_gap : TraceView → Option ℕ → NodeSpec → NodeSpec → ℕ → Option Gap
+link_gap t synced sender receiver double =
+    if is_early synced double || is_heard t sender receiver double then None else Some (gap.Link sender.id receiver.id double)
+
+abbrev pub links_gap : TraceView → Option ℕ → NodeSpec → NodeSpec → Option Gap
+links_gap t synced sender receiver = if is_pair t sender receiver then first_below (link_gap t synced sender receiver) t.doubles else None
+
+abbrev pub pairs_gap : Values → TraceView → Option ℕ → Option Gap
+pairs_gap p t synced = first_in (λ sender. first_in (links_gap t synced sender) p.nodes) p.nodes
+
+-- the first gap in the order of gaps, if there is one
+unfoldable pub first_gap_of : Values → TraceView → Option Gap
+first_gap_of p t =
+    option_or (checks_gap p)
+    (option_or (count_gap p t)
+    (option_or (first_in (lengths_gap p t) p.nodes)
+    (option_or (first_in (changes_gap p t) p.nodes) (pairs_gap p t (first_sync_of p t.history)))))
+
+-- ---- it is what is meant
+
+abbrev pub FoundGapIsFirst : Type 0
+FoundGapIsFirst = (p : Values) (t : TraceView) (g : Gap) → IsSane p → first_gap_of p t ≡ Some g → IsFirstTraceGap p t g
+
+abbrev pub NoGapFoundIsCovered : Type 0
+NoGapFoundIsCovered = (p : Values) (t : TraceView) → IsSane p → first_gap_of p t ≡ None → IsCoveredTrace p t
+
+abbrev pub FirstGapIsFound : Type 0
+FirstGapIsFound = (p : Values) (t : TraceView) (g : Gap) → IsSane p → IsFirstTraceGap p t g → first_gap_of p t ≡ Some g

@@ -1,0 +1,93 @@
+-- Why a lawful trace is not covered by the precision theorem: facts about what it records.
+use Rattle.std.specs.Prelude.{◌≡◌, ◌⊎◌, ℕ, suc, ◌*◌, ◌==◌, ◌<◌, ◌≤◌, ◌-ℤ◌, ◌&&◌, ◌||◌, not, Bool, true, false, Contains, Some, option_and_then, is_some}
+use Rattle.fr_base.specs.Rows.{dev_in}
+use Rattle.fr_base.specs.declared.channel.Channel.{Channel}
+use Rattle.fr_base.specs.declared.channel.Channel.TheVariants as channel
+use Rattle.fr_base.specs.declared.node_row.NodeRow.{NodeRow}
+use Rattle.fr_cluster.specs.Values.{Values}
+use Rattle.fr_cluster.specs.declared.nodes.NodeSpec.{NodeSpec}
+use Rattle.fr_round.specs.Round.{sync_count}
+use Rattle.fr_coverage.specs.Coverage.{has_jumped, is_off, outweighs}
+use Rattle.fr_coverage.specs.Links.{shares}
+use Rattle.fr_coverage.specs.Order.{IsCheckGap, IsEarlierGap}
+use Rattle.fr_coverage.specs.declared.gap.Gap.{Gap}
+use Rattle.fr_coverage.specs.declared.gap.Gap.TheVariants as gap
+use Rattle.fr_history.specs.History.{History, record_at}
+use Rattle.fr_history.specs.Sync.{IsFirstInSync}
+use Rattle.fr_trace.specs.Trace.{TraceView, is_named, row_at}
+
+-- a node that a trace does not name arbitrary
+abbrev pub is_unnamed : TraceView → ℕ → Bool
+is_unnamed t node = not (is_named t node)
+
+-- the correct nodes with a key slot do not outweigh the arbitrary ones
+pub record IsCountGap (p : Values) (t : TraceView) (g : Gap) : Type 0 where
+  pub few : outweighs (sync_count p (is_unnamed t)) (sync_count p (is_named t)) ≡ false
+  pub told : g ≡ gap.Count (sync_count p (is_unnamed t)) (sync_count p (is_named t))
+
+-- a recorded microtick is too short or too long
+pub record IsLengthGap (p : Values) (t : TraceView) (g : Gap) : Type 0 where
+  pub node : NodeSpec
+  pub known : Contains p.nodes node
+  pub cycle : ℕ
+  pub row : NodeRow
+  pub there : row_at t.history cycle node.id ≡ Some row
+  pub off : is_off p row.length ≡ true
+  pub told : g ≡ gap.Length node.id cycle row.length
+
+-- it has changed by too much since the cycle before
+pub record IsChangeGap (p : Values) (t : TraceView) (g : Gap) : Type 0 where
+  pub node : NodeSpec
+  pub known : Contains p.nodes node
+  pub cycle : ℕ
+  pub before : NodeRow
+  pub row : NodeRow
+  pub earlier : row_at t.history cycle node.id ≡ Some before
+  pub there : row_at t.history (suc cycle) node.id ≡ Some row
+  pub jumped : has_jumped p before.length row.length ≡ true
+  pub told : g ≡ gap.Change node.id (suc cycle) (row.length -ℤ before.length)
+
+-- a correct node with a key slot, and another correct node
+abbrev pub is_pair : TraceView → NodeSpec → NodeSpec → Bool
+is_pair t sender receiver = is_some sender.key && is_unnamed t sender.id && is_unnamed t receiver.id && not (sender.id == receiver.id)
+
+-- whether a receiver has a deviation of a sender in a cycle on a channel
+abbrev pub has_dev : History → ℕ → NodeSpec → NodeSpec → Channel → Bool
+has_dev h cycle sender receiver ch =
+    is_some (option_and_then (λ r. option_and_then (λ slot. dev_in r.devs receiver.id slot ch) sender.key) (record_at h cycle))
+
+-- on a channel that both have there is one in both cycles of a double cycle
+abbrev pub is_heard_on : TraceView → NodeSpec → NodeSpec → ℕ → Channel → Bool
+is_heard_on t sender receiver double ch =
+    shares sender receiver ch && has_dev t.history (2 * double) sender receiver ch && has_dev t.history (suc (2 * double)) sender receiver ch
+
+abbrev pub is_heard : TraceView → NodeSpec → NodeSpec → ℕ → Bool
+is_heard t sender receiver double = is_heard_on t sender receiver double channel.A || is_heard_on t sender receiver double channel.B
+
+-- from the first double cycle in sync on, no channel has a deviation of a correct sender in both cycles
+pub record IsLinkGap (p : Values) (t : TraceView) (g : Gap) : Type 0 where
+  pub sender : NodeSpec
+  pub receiver : NodeSpec
+  pub sender_there : Contains p.nodes sender
+  pub receiver_there : Contains p.nodes receiver
+  pub pair : is_pair t sender receiver ≡ true
+  pub synced : ℕ
+  pub first : IsFirstInSync p t.history synced
+  pub double : ℕ
+  pub from : synced ≤ double
+  pub within : double < t.doubles
+  pub broken : is_heard t sender receiver double ≡ false
+  pub told : g ≡ gap.Link sender.id receiver.id double
+
+-- a gap of a trace
+abbrev pub IsTraceGap : Values → TraceView → Gap → Type 0
+IsTraceGap p t g = IsCheckGap p g ⊎ (IsCountGap p t g ⊎ (IsLengthGap p t g ⊎ (IsChangeGap p t g ⊎ IsLinkGap p t g)))
+
+-- it is one, and none is looked for before it
+pub record IsFirstTraceGap (p : Values) (t : TraceView) (g : Gap) : Type 0 where
+  pub is_gap : IsTraceGap p t g
+  pub first : (other : Gap) → IsTraceGap p t other → IsEarlierGap other g → ⊥
+
+-- a trace without a gap is covered
+abbrev pub IsCoveredTrace : Values → TraceView → Type 0
+IsCoveredTrace p t = (g : Gap) → IsTraceGap p t g → ⊥

@@ -1,0 +1,12 @@
+//! Whether a recorded trace is that of a lawful run that the precision theorem covers: the first record that
+//! breaks a law, or the first gap, or else from when on the clocks were in sync and how far they lay apart.
+#![tactic(auto)]
+
+mod laws;
+mod unlawful;
+
+pub use laws::{
+    a_passing_trace_keeps_its_precision, found_breach_is_first, found_gap_is_first, one_answer,
+    worked_trace,
+};
+pub use unlawful::{Unlawful, Verdict};

@@ -1,0 +1,29 @@
+use Rattle.std.proofs.Common.{◌≡◌, ◌∙◌, Bool, true, Option, None, ap, sym, subst, if◌then◌else◌}
+use Rattle.fr_base.specs.declared.node_row.NodeRow.{NodeRow}
+use Rattle.fr_cluster.specs.Setting.{Setting}
+use Rattle.fr_reception.specs.Offers.{Offer}
+use Rattle.fr_world.specs.Files.{setting_in}
+use Rattle.fr_world.specs.Sending.{hears, offer_from, offer_heard, said_with, sent_with, ComesAs}
+use Rattle.fr_world.proofs.offering.coming_to.Goals as goal
+
+pub returns-in-Some : goal.returns-in-Some
+returns-in-Some c frame =
+    let a = c.args in
+    let x : Setting = setting_in a.files.now in
+    let heard : hears x a.receiver.now a.sender.now.node a.turn.now.channel ≡ true = cc in
+    let same : offer_heard x a.turn.now a.sender.now.node a.sender.now.row frame a.receiver.now ≡ sent_with x a.turn.now c.in-Some.row frame a.receiver.now =
+    ap (λ (b : Bool). if b then offer_from x a.turn.now a.sender.now.node a.sender.now.row frame a.receiver.now else None) heard
+    ∙ ap (λ (row : Option NodeRow). offer_from x a.turn.now a.sender.now.node row frame a.receiver.now) c.in-Some.is in
+    let P : Option Offer → Type 0 = λ offer. ComesAs a.turn.now frame offer c.sent_to.result in
+    subst P (sym same) (c.sent_to.ensures frame)
+
+pub returns-in-None : goal.returns-in-None
+returns-in-None c frame =
+    let a = c.args in
+    let x : Setting = setting_in a.files.now in
+    let heard : hears x a.receiver.now a.sender.now.node a.turn.now.channel ≡ true = cc in
+    let same : offer_heard x a.turn.now a.sender.now.node a.sender.now.row frame a.receiver.now ≡ said_with x a.turn.now a.sender.now.node frame a.receiver.now =
+    ap (λ (b : Bool). if b then offer_from x a.turn.now a.sender.now.node a.sender.now.row frame a.receiver.now else None) heard
+    ∙ ap (λ (row : Option NodeRow). offer_from x a.turn.now a.sender.now.node row frame a.receiver.now) c.in-None.is in
+    let P : Option Offer → Type 0 = λ offer. ComesAs a.turn.now frame offer c.said_to.result in
+    subst P (sym same) (c.said_to.ensures frame)
