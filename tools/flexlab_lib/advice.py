@@ -1,0 +1,80 @@
+"""Which parameter a failing check asks for, and the least value of it alone that meets the sides that
+flexray printed (docs/PRECISION.md, "Bounds and checks")."""
+from fractions import Fraction
+
+from . import ranges
+
+WHY = {
+    1: "the damping has to outweigh what a rate value may be off",
+    2: "the rate limit has to suffice for two oscillators at opposite ends",
+    3: "the offset limit has to suffice for the precision",
+    4: "an early arrival must not fall before its slot",
+    5: "a late arrival must not fall behind its slot",
+}
+FORMULA = {
+    1: "pClusterDriftDamping * Qm >= y1 + 2 J",
+    2: "pRateCorrectionOut * Qm >= 2 * pMicroPerCycle * xRateBound",
+    3: "pOffsetCorrectionOut * Qm >= precision + E1 + Qp",
+    4: "(gdActionPointOffset * (pMicroPerCycle - pRateCorrectionOut) - gMacroPerCycle) * Qm "
+       ">= gMacroPerCycle * (precision + xDelayError)",
+    5: "((gdStaticSlot - gdActionPointOffset) * (pMicroPerCycle - pRateCorrectionOut) - gMacroPerCycle) * Qm "
+       "> gMacroPerCycle * (precision + pDelayCompensation * 1000000 + xDelayError)",
+}
+LETTERS = ("Qm = 1000000 - xRateBound, Qp = 1000000 + xRateBound, E1 = xDelayError + pDelayCompensation * xRateBound, "
+           "J = (pMicroPerCycle + pRateCorrectionOut) * xChangeBound")
+OR = {
+    1: "lower xChangeBound or xDelayError",
+    2: "lower xRateBound, if the oscillators are better",
+    3: "lower xChangeBound, xDelayError or pClusterDriftDamping, which widen the precision",
+    4: "lower what widens the precision (as for C3), or make a macrotick longer",
+    5: "lower what widens the precision (as for C3), or gdActionPointOffset",
+}
+TURNS = {1: "pClusterDriftDamping", 2: "pRateCorrectionOut", 3: "pOffsetCorrectionOut",
+         4: "gdActionPointOffset", 5: "gdStaticSlot"}
+
+
+def up(value):
+    return -(-value.numerator // value.denominator)
+
+
+def least(number, right, parameters):
+    """The least value of the check's parameter with which its left side meets this right side."""
+    shortest = 1000000 - parameters["xRateBound"]
+    macros = parameters["gMacroPerCycle"]
+    micros = parameters["pMicroPerCycle"] - parameters["pRateCorrectionOut"]
+    if number in (1, 2, 3):
+        return up(Fraction(right, shortest))
+    if number == 4:
+        return up((Fraction(right, shortest) + macros) / micros)
+    # C5 asks for more than its right side.
+    return parameters["gdActionPointOffset"] + up((Fraction(right + 1, shortest) + macros) / micros)
+
+
+def advise(number, right, parameters):
+    """The parameter, the value it has, the least that meets the check, and whether that is in its range."""
+    name = TURNS[number]
+    value = least(number, right, parameters)
+    return name, parameters[name], value, value <= ranges.PARAMETERS[name][1]
+
+
+def latest_start(parameters):
+    """The latest gOffsetCorrectionStart that meets constraint 4, or None where none behind the slots does."""
+    macros = parameters["gMacroPerCycle"]
+    room = parameters["pMicroPerCycle"] - parameters["pRateCorrectionOut"] - macros
+    if room <= 0:
+        return None
+    start = macros - up(Fraction(macros * (parameters["pOffsetCorrectionOut"] + 1), room))
+    return start if start > parameters["gNumberOfStaticSlots"] * parameters["gdStaticSlot"] else None
+
+
+def also(number, parameters, value):
+    """What else has to fit where that value is taken: constraints of docs/PROTOCOL.md."""
+    if number == 3 or number == 2:
+        start = latest_start(dict(parameters, **{TURNS[number]: value}))
+        if start is None:
+            return "constraint 4 then asks for a gOffsetCorrectionStart within the static slots, which is none"
+        if start < parameters["gOffsetCorrectionStart"]:
+            return f"constraint 4 then asks for an earlier gOffsetCorrectionStart, {start} at most"
+    if number == 5:
+        return "constraint 1 then asks for fewer static slots, a shorter gdNIT or a longer cycle"
+    return None

@@ -1,0 +1,212 @@
+"""What a line of flexray on standard error says, with the files that it speaks of."""
+import os
+import re
+from fractions import Fraction
+from types import SimpleNamespace
+
+from .advice import FORMULA, LETTERS, advise
+from .constraints import explain_constraint
+from .ending import FILE, NO, DONE, Stop
+from .forms import FORMS
+from .gaps import check_words, gap_words
+from .known import Known
+from .ranges import FILE_BYTES, PARAMETERS
+from .reasons import EXPLAIN, MEANING, short
+from .records import load
+from . import program as programs
+
+ROLES = {
+    "frame": {"frame": 2}, "bound": {"params": 1}, "settle": {"params": 1}, "nm": {"vectors": 2},
+    "run": {"params": 1, "drift": 2, "script": 3}, "trace": {"params": 1, "drift": 2, "script": 3},
+    "capture": {"capture": 2}, "cold": {"params": 1, "power": 2}, "make": {}, "check": {"params": 1, "trace": 2},
+}
+USAGE = {
+    "frame": "frame A FILE or frame B FILE", "bound": "bound PARAMS", "settle": "settle PARAMS START RATE",
+    "nm": "nm WIDTH FILE", "run": "run PARAMS DRIFT SCRIPT", "trace": "trace PARAMS DRIFT SCRIPT",
+    "check": "check PARAMS TRACE", "make": "make SEED DOUBLES", "capture": "capture A FILE or capture B "
+                                                                           "FILE", "cold": "cold PARAMS POWER",
+}
+
+
+def file_of(role, words):
+    """The path that has this role in flexray's words, or None."""
+    if len(words) == 3 and words[0] not in ROLES:
+        place = {"params": 0, "drift": 1, "script": 2}.get(role)
+    else:
+        place = ROLES.get(words[0] if words else "", {}).get(role)
+    return words[place] if place is not None and place < len(words) else None
+
+
+def known_of(words):
+    path = file_of("params", words)
+    try:
+        return Known(path)
+    except OSError as fault:
+        raise Stop(FILE, f"{path}: {fault.strerror}")
+
+
+def explain_line(line, words):
+    """Lines that explain a line of flexray's standard error; `words` are those that flexray had."""
+    if line.startswith("usage:"):
+        return explain_usage(words)
+    role, _, rest = line.partition(": ")
+    if rest == "read fault":
+        return explain_read(role, file_of(role, words))
+    if rest == "too long":
+        path = file_of(role, words)
+        return [f"{path}: it has {os.path.getsize(path)} bytes, and a file may have {FILE_BYTES}"]
+    if role == "frame":
+        return explain_frame(rest)
+    record = re.fullmatch(r"record (\d+): (\w+)", rest)
+    if record and role in FORMS and record[2] in EXPLAIN:
+        return explain_record(role, int(record[1]), record[2], words)
+    if role == "trace" and (rest.startswith("record ") or rest.startswith("not covered ")):
+        return explain_trace(rest, words)
+    if rest.startswith("missing "):
+        return explain_missing(role, rest.split()[1], words)
+    if re.fullmatch(r"constraint [1-8]", rest):
+        return [f"{file_of('params', words)}: {rest}:", *explain_constraint(int(rest.split()[1]), known_of(words))]
+    if rest.startswith("incomplete"):
+        return [f"{file_of(role, words)}: after its {rest.split()[-1]} records the trace is not whole: in the last "
+                "cycle a correct node has no cycle row"]
+    if line in ("no memory", "write fault"):
+        return ["memory ran out" if line == "no memory" else "standard output could not be written: is the disk full, "
+                "or did the program that reads it end?"]
+    return [f"this line is none that flexlab knows: {line}"]
+
+
+def explain_usage(words):
+    if words and words[0] in USAGE:
+        return [f"the words have to be: flexray {USAGE[words[0]]}",
+                f"and {len(words)} were given: {short(' '.join(words))}"]
+    return ["there are these requests:", *(f"  flexray {form}" for form in USAGE.values())]
+
+
+def explain_read(role, path):
+    if path is None:
+        return [f"the file that is the {role} could not be read"]
+    try:
+        with open(path, "rb") as file:
+            file.read(1)
+    except OSError as fault:
+        return [f"{path} ({role}): {fault.strerror}"]
+    return [f"{path} ({role}): it could not be read then; now it can"]
+
+
+def explain_missing(role, name, words):
+    path = file_of(role, words)
+    if name in PARAMETERS:
+        least, most, unit, meaning = PARAMETERS[name]
+        missing = [other for other in PARAMETERS if other not in known_of(words).values]
+        return [f"{path}: there is no record `param,{name},VALUE,,`",
+                f"{name} is from {least} to {most} {unit}".rstrip() + f": {meaning}",
+                *([f"these are missing too: {', '.join(other for other in missing if other != name)}"]
+                  if len(missing) > 1 else [])]
+    form = {"doubles": "`doubles,COUNT,,,,` with how many double cycles the run has, 1 to 10000",
+            "cycles": "`cycles,COUNT,` with how many cycles the startup has, 1 to 1000"}.get(name, f"`{name}`")
+    return [f"{path}: there is no record {form}"]
+
+
+def explain_frame(rest):
+    words = rest.split()
+    if rest.startswith("length"):
+        stated, given = int(words[2]), int(words[4])
+        found = [f"the header says {stated} bytes, and the file has {given}"]
+        if stated == given + 3:
+            found.append("it has 3 bytes less than the header says: a frame without its frame CRC (its trailer)")
+        return found
+    meaning = {"short": f"a frame has at least 8 bytes, and the file has {words[-1]}",
+               "header": "the header CRC in the bytes is not that of the header's fields: bits changed, or these "
+                         "are no bytes of a frame (a pcap file goes to `flexlab capture`)",
+               "frame": "the frame CRC is not that of the bytes before it on this channel: bits changed, or the frame "
+                        "is of the other channel",
+               "zero": "the frame ID is 0, and IDs begin with 1",
+               "startup": "the startup indicator is set and the sync indicator is not"}
+    return [meaning.get(words[0], rest)]
+
+
+def explain_record(role, number, reason, words):
+    path, cluster = file_of(role, words), known_of(words)
+    try:
+        found = load(path)
+    except (OSError, TypeError) as fault:
+        raise Stop(FILE, f"{path}: {getattr(fault, 'strerror', 'the words do not name it')}")
+    if number > len(found):
+        return [f"{path}: it has no record {number}; is it another file than flexray read?"]
+    record = found[number - 1]
+    causes = list(EXPLAIN[reason](role, record, cluster, found[:number - 1]))
+    return [f"{path}:{record.line}: {short(record.text)}", f"{reason}: {MEANING[reason]}",
+            *(causes or ["no field of it is found to be so; is it another file than flexray read?"])]
+
+
+LAWS = {
+    "start": "a cycle starts where the node's cycle before ended: start + (N + rate + offset) microticks, in ticks",
+    "rate": "the rate term stays within a double cycle, and is then that of the deviations recorded in it, in "
+            "microticks",
+    "state": "a node is active at first, and takes one step of operation control after each double cycle",
+    "offset": "the offset term is 0 in even cycles and in halt, else that of the deviations of the cycle, in "
+              "microticks",
+    "deviation": "a deviation is how far the sender's action point lies after the receiver's by their rows, as "
+                 "exactly as delays and whole microticks allow, in microticks",
+    "silent": "nothing is measured of a correct node that is not active, nor by one in halt",
+}
+
+
+def explain_trace(rest, words):
+    """A trace that breaks a law, or has a gap."""
+    if rest.startswith("not covered "):
+        gap = rest.split()[2:]
+        if gap[0] == "link":
+            return [f"in double cycle {gap[3]} no common channel has `dev` rows of node {gap[2]} about node {gap[1]} "
+                    f"in both its cycles ({2 * int(gap[3])} and {2 * int(gap[3]) + 1})"]
+        return explain_gap(gap, words)
+    told = rest.split()
+    path = file_of("trace", words)
+    record = load(path)[int(told[1]) - 1]
+    found = [f"{path}:{record.line}: {short(record.text)}", LAWS.get(told[2], rest)]
+    if told[2] == "silent":
+        return found + [f"this record speaks of a node in state {told[3]}"]
+    return found + [f"the record has {told[3]}, and the records before it ask for {' '.join(told[5:])}"]
+
+
+def explain_check(number, left, right, words):
+    known = known_of(words)
+    parameters = {name: value for name, (value, _) in known.values.items()}
+    name = advise(number, right, parameters)[0]
+    return [f"C{number} fails: {left} against {right}", f"it asks: {FORMULA[number]}", f"with {LETTERS}",
+            *check_words(number, left, right, parameters)[1:], f"{name} stands on line {known.line(name)}"]
+
+
+def explain_answer(text, words):
+    """What an accepted request's text says that needs explanation: failing checks, and the first gap."""
+    found = []
+    for line in text.splitlines():
+        check = re.fullmatch(r"(?:C([1-5]) fails|covered no check ([1-5])|settles no check ([1-5])) (\d+) (\d+)", line)
+        if check:
+            number = int(check[1] or check[2] or check[3])
+            found += [line, *("  " + told for told in explain_check(number, int(check[4]), int(check[5]), words))]
+        elif line.startswith("covered no"):
+            found += [line, *("  " + told for told in explain_gap(line.split()[2:], words))]
+        elif line.startswith("fault ") and line != "fault none":
+            found += [line, "  behind this place no frame begins"]
+    return found
+
+
+def explain_gap(gap, words):
+    """A gap in words; files for flexray tell no nanoseconds, so a microtick of 25 ns is assumed, and said."""
+    parameters = {name: value for name, (value, _) in known_of(words).values.items()}
+    found = gap_words(gap, SimpleNamespace(parameters=parameters, microtick_ns=Fraction(25)))
+    return ["at a microtick of 25 ns:", *found] if gap[0] == "delay" else found
+
+
+def explain(words, line, given):
+    """Prints the explanation; runs flexray where no line is given."""
+    if line is None:
+        status, text, line = programs.call(programs.flexray(given), words)
+        if status == 0:
+            found = explain_answer(text, words)
+            print("\n".join(found or ["flexray accepted these files, and nothing in its answer needs explanation"]))
+            return DONE
+    print(line)
+    print("\n".join(explain_line(line, words)))
+    return NO

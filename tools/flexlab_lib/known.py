@@ -1,0 +1,33 @@
+"""What a parameter file says of a cluster, as far as its records can be read."""
+import re
+
+from .ranges import PARAMETERS
+from .records import load
+
+
+def whole(text):
+    return int(text) if re.fullmatch(r"-?\d{1,18}", text, re.ASCII) else None
+
+
+class Known:
+    def __init__(self, path=None):
+        self.records = load(path) if path else []
+        self.values, self.nodes, self.slots = {}, {}, {}
+        for record in self.records:
+            fields = record.fields + [""] * 5
+            if fields[0] == "param" and fields[1] in PARAMETERS and whole(fields[2]) is not None:
+                self.values.setdefault(fields[1], (whole(fields[2]), record))
+            elif fields[0] == "node" and whole(fields[1]) is not None:
+                self.nodes.setdefault(whole(fields[1]), (whole(fields[2]), fields[3], fields[4], record))
+            elif fields[0] == "slot" and whole(fields[1]) is not None:
+                self.slots.setdefault(whole(fields[1]), (whole(fields[2]), record))
+
+    def parameter(self, name):
+        return self.values[name][0] if name in self.values else None
+
+    def line(self, name):
+        return self.values[name][1].line if name in self.values else "?"
+
+    def keys(self):
+        """(node, key slot, record) of each node with a key slot."""
+        return [(number, key, record) for number, (key, _, _, record) in self.nodes.items() if key is not None]

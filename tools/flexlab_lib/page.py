@@ -1,0 +1,157 @@
+"""The page of a run: flexray's numbers in the units of a bench, and what they say."""
+from fractions import Fraction
+
+from .gaps import check_words, gap_words
+from .model import warnings
+from .sync import starts_apart
+from .units import decimal, microseconds, percent, ppm_of, signed
+
+ORIGIN = ("Every number here is one that flexray printed, converted, divided or held against another. flexlab "
+          "computes no answer of its own.")
+
+
+def ms_of_cycle(cycle, cluster):
+    return Fraction(cycle) * cluster.parameters["pMicroPerCycle"] * cluster.microtick_ns / 1000000
+
+
+def field(name, *lines):
+    found, label = [], name
+    for line in lines:
+        room, words = 96 - 16, []
+        for word in line.split(" "):
+            if words and len(" ".join(words + [word])) > room:
+                found.append(f"{label:<16}" + " ".join(words))
+                label, words = "", []
+            words.append(word)
+        found.append(f"{label:<16}" + " ".join(words))
+        label = ""
+    return found
+
+
+def head_lines(run):
+    cluster, report = run.cluster, run.report
+    length = ms_of_cycle(1, cluster)
+    return field("Cluster", f"{report.nodes} nodes, {report.sync} sync nodes, {report.arbitrary} arbitrary; "
+                            f"{2 * report.doubles} cycles of {decimal(length, 3)} ms, "
+                            f"{decimal(ms_of_cycle(cluster.cycles, cluster), 3)} ms in all; a microtick is "
+                            f"{decimal(cluster.microtick_ns, 3).rstrip('0').rstrip('.')} ns")
+
+
+def verdict_lines(run):
+    cluster, report = run.cluster, run.report
+    if report.in_sync is None:
+        found = field("In sync", "NEVER: no double cycle of the run is in sync")
+    else:
+        cycle = 2 * report.in_sync
+        begin = (f"from double cycle {report.in_sync} on (cycle {cycle}, "
+                 f"{decimal(ms_of_cycle(cycle, cluster), 3)} ms)")
+        if run.lost is None:
+            found = field("In sync", f"yes, {begin}, and still in sync at the end")
+        elif run.at_end:
+            found = field("In sync", f"NOT ALL THE WAY: first {begin}; lost in double cycle {run.lost} (cycle "
+                                     f"{2 * run.lost}), and in sync again at the end")
+        else:
+            found = field("In sync", f"NOT AT THE END: {begin} at first; lost in double cycle {run.lost} (cycle "
+                                     f"{2 * run.lost}, {decimal(ms_of_cycle(2 * run.lost, cluster), 3)} ms)")
+    if report.gap is None:
+        what = ("yes: while in sync no macroticks of correct nodes lie further apart than the precision; that is "
+                "proved of such runs" if report.in_sync is not None else
+                "yes; but what is proved begins with the first double cycle in sync, and there is none")
+        return found + field("Covered", what)
+    words = gap_words(report.gap, cluster) if report.gap[0] != "check" else [f"check C{report.gap[1]} fails, see below"]
+    return found + field("Covered", "NO: nothing is promised of this run's precision", *words)
+
+
+def skew_lines(run):
+    cluster, report, unit = run.cluster, run.report, run.cluster.microtick_ns
+    microticks = decimal(Fraction(report.precision, 1000000), 3)
+    found = field("Precision", f"{microseconds(report.precision, unit)} ({microticks} microticks), computed from the "
+                               "parameters")
+    if run.in_sync_skew:
+        skew, cycle, macrotick = run.in_sync_skew
+        name, since = ("Skew in sync", "") if run.lost is None else ("Skew since", " since it was first in sync")
+        found += field(name, f"{microseconds(skew, unit)} at most{since}, {percent(skew, report.precision)} of the "
+                             f"precision (cycle {cycle}, macrotick {macrotick})")
+        found += within_lines(run, skew)
+    elif report.in_sync is not None:
+        apart = max(starts_apart(rows) for rows in run.cycles[2 * report.in_sync:])
+        found += field("Skew in sync", f"not known within cycles; starts of cycles lie {microseconds(apart, unit)} "
+                                       f"apart at most, {percent(apart, report.precision)} of the precision")
+    if run.cycles:
+        apart = max(starts_apart(rows) for rows in run.cycles[-2:])
+        found += field("At the end", f"starts of the last two cycles lie {microseconds(apart, unit)} apart at most, "
+                                     f"{percent(apart, report.precision)} of the precision")
+    before = report.in_sync is None or report.cycle < 2 * report.in_sync
+    why = "before sync" if report.in_sync is not None else "not in sync"
+    place = f"cycle {report.cycle}, macrotick {report.macrotick}"
+    return found + field("Greatest skew", f"{microseconds(report.skew, unit)} over the whole run ({place})"
+                         + (f": {why}, so it is not to be held against the precision" if before else ""))
+
+
+def within_lines(run, skew):
+    """Whether the skew stayed within the precision since the first double cycle in sync."""
+    if skew <= run.report.precision:
+        return field("Within", "yes: since it was first in sync the skew was never above the precision")
+    place = ""
+    if run.series and run.series.within:
+        place = f", first in cycle {run.series.within[1]}, macrotick {run.series.within[2]}"
+    return field("Within", f"NO: since it was first in sync the skew was above the precision{place}")
+
+
+def check_lines(run):
+    found = []
+    for number, _, left, right in run.bounds.failing:
+        words = check_words(number, left, right, run.cluster.parameters)
+        found += field("" if found else "Checks", *words)
+    if not found:
+        count = len(run.bounds.checks)
+        tight = max(run.bounds.checks, key=lambda check: Fraction(check[3], check[2]) if check[2] else 0)
+        return field("Checks", f"C1 to C{count} hold; C{tight[0]} is the tightest, used to "
+                               f"{percent(tight[3], tight[2])}")
+    if run.tried:
+        found += field("", run.tried)
+    return found
+
+
+def node_lines(run):
+    parameters = run.cluster.parameters
+    found = ["", f"{'node':>4} {'state':<8}{'ppm at first':>14}{'ppm at last':>13}{'microtick':>11}"
+                 f"{'rate':>7}{'offset':>8}"]
+    for node, (state, _, rate, offset) in sorted(run.report.ends.items()):
+        first, last = run.cycles[0][node].length, run.cycles[-1][node].length
+        found.append(f"{node:>4} {state:<8}{signed(ppm_of(first), 2):>14}{signed(ppm_of(last), 2):>13}"
+                     f"{last:>11}{rate:>7}{offset:>8}")
+    for node in run.cluster.arbitrary:
+        found.append(f"{node:>4} arbitrary: it says what the script has it say, and has no clock")
+    limits = f"limits {parameters['pRateCorrectionOut']} and {parameters['pOffsetCorrectionOut']}"
+    return found + ["", *field("", "ppm: of the frequency, read back from the trace; above 0 the oscillator is "
+                                   "fast and its microtick shorter than 1,000,000 ticks. A tick is about 1 ppm, and "
+                                   "flexray has whole ones.",
+                               f"rate, offset: the correction terms at the end, in microticks ({limits}); above 0 they "
+                               "lengthen the cycle.")]
+
+
+def frame_lines(run):
+    report = run.report
+    bad = {name: count for name, count in report.heard.items() if name not in ("stored", "plain") and count}
+    sent = ", ".join(f"{count} sent on {channel}" for channel, (count, _) in sorted(report.sent.items()))
+    found = field("Frames", sent + f"; {report.heard['stored']} sync frames measured"
+                  + ("".join(f", {count} {name}" for name, count in bad.items()) or ", none refused"))
+    if report.cut:
+        found += field("Cut", f"correction terms outside their limit: {report.cut}")
+    return found
+
+
+def page(run):
+    found = head_lines(run) + verdict_lines(run) + skew_lines(run) + check_lines(run) + frame_lines(run)
+    found += node_lines(run)
+    for line in warnings(run.cluster):
+        found += field("WARNING", line)
+    if not run.series:
+        found += field("Not installed", "flexray-series, which prints the skew of each cycle (in the repository "
+                                        "`./flexray-series` builds it); without it the picture has how far the starts "
+                                        "of cycles lie apart")
+    found += field("Left out", "the dynamic segment, the duration of frames, wakeup and startup: all nodes run from "
+                               "cycle 0, with one set of parameters")
+    found += field("Origin", ORIGIN)
+    return "\n".join(found) + "\n"

@@ -1,0 +1,132 @@
+"""Pictures of a run by gnuplot: the skew over time beside the precision, and each node's terms."""
+import os
+
+from . import program as programs
+from .ending import FILE, PROGRAM, Stop
+from .page import ms_of_cycle
+from .sync import starts_apart
+from .units import decimal, us_of_ticks
+
+COLOURS = ("#0072b2", "#d55e00", "#009e73", "#cc79a7", "#e69f00", "#56b4e9", "#7f3f00", "#555555")
+POINTS = 1500
+KEY = "set bmargin 6\nset key at screen 0.5, 0.02 bottom center vertical maxrows 2 Left reverse samplen 2 width 2"
+
+
+def thinned(rows):
+    """At most so many rows of (cycle, value): of each stretch of cycles the greatest value is kept."""
+    width = -(-len(rows) // POINTS)
+    return [max(rows[at:at + width], key=lambda row: row[1]) for at in range(0, len(rows), width)]
+
+
+def quoted(text):
+    return '"' + text.replace("\\", "\\\\").replace('"', '\\"').replace("_", "\\\\_") + '"'
+
+
+def draw(folder, name, script, size="1000,560"):
+    """Runs gnuplot twice, for SVG and for PNG, on a script that is kept beside them."""
+    gnuplot, drawn = programs.helper("gnuplot"), []
+    path = os.path.join(folder, f"{name}.gnuplot")
+    width, height = size.split(",")
+    head = {"svg": f'set terminal svg size {size} dynamic background "white" font "DejaVu Sans,13"',
+            "png": f'set terminal pngcairo size {width},{height} background "white" font "DejaVu Sans,11"'}
+    try:
+        for kind, terminal in head.items():
+            drawn.append(os.path.join(folder, f"{name}.{kind}"))
+            with open(path, "w", encoding="utf-8") as file:
+                file.write(f"{terminal}\nset output {quoted_path(drawn[-1])}\n{script}")
+            status, _, told = programs.call(gnuplot, [path])
+            if status != 0 or not os.path.getsize(drawn[-1]):
+                raise Stop(PROGRAM, f"gnuplot {path} ended with status {status}: {told}")
+    except OSError as fault:
+        raise Stop(FILE, f"{fault.filename}: {fault.strerror}")
+    return drawn
+
+
+def quoted_path(path):
+    return "'" + path.replace("'", "''") + "'"
+
+
+def skew_rows(run):
+    """(cycle, microseconds) of each cycle, and what they are."""
+    unit = run.cluster.microtick_ns
+    if run.series and run.series.rows:
+        return ([(cycle, us_of_ticks(skew, unit)) for cycle, _, skew, _ in run.series.rows if skew is not None],
+                "greatest skew of the cycle")
+    return ([(cycle, us_of_ticks(starts_apart(rows), unit)) for cycle, rows in enumerate(run.cycles)],
+            "how far the starts of the cycle lie apart")
+
+
+def plain_axes():
+    return ("set border 3 linecolor '#555555'\nset tics nomirror textcolor '#333333'\n"
+            "set grid ytics linecolor '#e3e3e3' linetype 1\nset key textcolor '#333333'\n")
+
+
+def skew_script(run):
+    report, unit = run.report, run.cluster.microtick_ns
+    rows, what = skew_rows(run)
+    precision = us_of_ticks(report.precision, unit)
+    most, last = max([row[1] for row in rows] + [us_of_ticks(report.skew, unit)]), len(run.cycles)
+    top = max(most, precision) * 115 / 100
+    wide = most > 20 * precision
+    lines = [f"$skew << end\n" + "".join(f"{cycle} {decimal(value, 6)}\n" for cycle, value in thinned(rows)) + "end",
+             plain_axes() + f"set title {quoted('Clock skew of ' + os.path.basename(run.cluster.path))} font ',14'",
+             "set xlabel 'cycle'", f"set ylabel 'microseconds{', a logarithmic scale' if wide else ''}'",
+             f"set xrange [0:{last}]\nset x2range [0:{decimal(ms_of_cycle(last, run.cluster), 3)}]",
+             "set x2tics nomirror\nset x2label 'milliseconds'\nset border 7",
+             "set logscale y" if wide else f"set yrange [0:{decimal(top, 6)}]",
+             KEY]
+    if report.in_sync is not None:
+        first = 2 * report.in_sync
+        lines += [f"set object 1 rectangle from graph 0, graph 0 to first {first}, graph 1 fillcolor '#f3e9d8' "
+                  "fillstyle solid noborder behind" if first else "",
+                  f"set arrow 1 from {first}, graph 0 to {first}, graph 1 nohead linecolor '#a67c2d' dashtype 3",
+                  f"set label 1 'in sync from cycle {first}' at {first}, graph 0.965 offset 0.8,0 "
+                  "textcolor '#8a6420'"]
+    else:
+        lines.append("set label 1 'never in sync' at graph 0.02, graph 0.965 textcolor '#b00020'")
+    if run.lost is not None:
+        lost = 2 * run.lost
+        lines += [f"set arrow 2 from {lost}, graph 0 to {lost}, graph 1 nohead linecolor '#b00020' dashtype 3",
+                  f"set label 2 'sync lost in cycle {lost}' at {lost}, graph 0.9 offset 0.8,0 textcolor '#b00020'"]
+    plots = [f"{decimal(precision, 6)} title 'precision, {decimal(precision, 3)} us' "
+             "with lines linewidth 2 linecolor '#b00020'",
+             f"$skew using 1:2 title '{what}' with lines linewidth 1.5 linecolor '#0072b2'"]
+    if run.in_sync_skew:
+        skew, cycle, _ = run.in_sync_skew
+        value = us_of_ticks(skew, unit)
+        name = "in sync" if run.lost is None else "since sync"
+        lines.append(f"$point << end\n{cycle} {decimal(value, 6)}\nend")
+        plots.append(f"$point using 1:2 title 'greatest skew {name}, {decimal(value, 3)} us in cycle {cycle}' "
+                     "with points pointtype 7 pointsize 1.1 linecolor '#d55e00'")
+    return "\n".join(lines) + "\nplot " + ", \\\n     ".join(plots) + "\n"
+
+
+def terms_script(run):
+    nodes = sorted(run.report.ends)
+    parameters, lines = run.cluster.parameters, []
+    step = 2 * -(-len(run.cycles) // (2 * POINTS))
+    for node in nodes:
+        data = "".join(f"{cycle} {run.cycles[cycle][node].rate} {run.cycles[cycle + 1][node].offset}\n"
+                       for cycle in range(0, len(run.cycles) - 1, step))
+        lines.append(f"$node{node} << end\n{data}end")
+    lines.append(plain_axes() + f"set multiplot layout 2,1 title "
+                 f"{quoted('Correction terms of ' + os.path.basename(run.cluster.path))} font ',14'")
+    lines.append(f"set xrange [0:{len(run.cycles)}]\nset lmargin 10\nset rmargin 14\n"
+                 "set key outside right top Left reverse samplen 2")
+    for column, name, limit in ((2, "rate term", "pRateCorrectionOut"), (3, "offset term", "pOffsetCorrectionOut")):
+        lines += [f"set ylabel '{name}, microticks'",
+                  "set xlabel 'cycle'" if column == 3 else "unset xlabel",
+                  f"set label 3 '{limit}: {parameters[limit]}' at graph 0.99, graph 0.94 right textcolor '#777777'",
+                  "plot " + ", \\\n     ".join(
+                      f"$node{node} using 1:{column} title 'node {node}' with steps linewidth 1.6 linecolor "
+                      f"'{COLOURS[at % len(COLOURS)]}' dashtype {1 + at // len(COLOURS)}"
+                      for at, node in enumerate(nodes))]
+    return "\n".join(lines) + "\nunset multiplot\n"
+
+
+def draw_run(run):
+    """Draws both pictures into the run's folder, and hands back their paths."""
+    if not run.cycles:
+        return []
+    return (draw(run.folder, "skew", skew_script(run))
+            + draw(run.folder, "terms", terms_script(run), "1000,720"))

@@ -1,0 +1,32 @@
+"""The parameters of a cluster: range, unit and meaning of each, as docs/FORMATS.md has them."""
+
+PARAMETERS = {
+    "gMacroPerCycle": (10, 16000, "macroticks", "a cycle"),
+    "pMicroPerCycle": (10, 640000, "microticks", "a cycle, before correction"),
+    "gNumberOfStaticSlots": (1, 1023, "slots", "static slots a cycle"),
+    "gdStaticSlot": (2, 1000, "macroticks", "a static slot"),
+    "gdActionPointOffset": (1, 63, "macroticks", "from the start of a static slot to its action point"),
+    "gdNIT": (1, 15999, "macroticks", "the rest of the cycle after the static slots"),
+    "gPayloadLengthStatic": (0, 127, "two-byte words", "the payload of a static frame"),
+    "gOffsetCorrectionStart": (1, 15999, "macroticks", "the macrotick at which the offset correction starts"),
+    "gMaxWithoutClockCorrectionPassive": (1, 15, "double cycles", "without a correction term, until a node is passive"),
+    "gMaxWithoutClockCorrectionFatal": (1, 15, "double cycles", "without a correction term, until a node may halt"),
+    "pAllowHaltDueToClock": (0, 1, "", "whether a node may halt: 1 yes, 0 no"),
+    "pAllowPassiveToActive": (0, 31, "double cycles", "good ones until a passive node is active; 0: never"),
+    "pClusterDriftDamping": (0, 100, "microticks", "by which the rate term is damped toward 0"),
+    "pOffsetCorrectionOut": (1, 16000, "microticks", "the limit of the offset term"),
+    "pRateCorrectionOut": (1, 2000, "microticks", "the limit of the rate term"),
+    "pDelayCompensation": (0, 200, "microticks", "taken off each measured arrival"),
+    "xRateBound": (0, 1500, "ticks", "the greatest distance of a microtick's length from nominal"),
+    "xChangeBound": (0, 1500, "ticks", "the greatest change of that length from one cycle to the next"),
+    "xDelayError": (0, 10000000, "ticks", "the greatest distance of a delay from the compensation"),
+}
+
+DOUBLES = (1, 10000)
+CYCLES = (0, 199999)
+LENGTH = (500000, 1500000)
+DELAY = (0, 1000000000)
+START = (0, 1000000000000)
+SHIFT = (-1000000000000, 1000000000000)
+REPETITIONS = (1, 2, 4, 8, 16, 32, 64)
+FILE_BYTES = 16777216

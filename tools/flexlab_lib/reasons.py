@@ -1,0 +1,242 @@
+"""Why a record is refused: for each reason the field, its text, and what it should be."""
+import re
+
+from .forms import FORMS, form_of, placed, span
+from .known import whole
+from .ranges import PARAMETERS, REPETITIONS
+from .values import near
+
+MEANING = {
+    "Shape": "the record has not the file's number of fields, or a field that has to be empty is not",
+    "UnknownName": "the first field is none of the file's kinds, or a name is not in the table",
+    "NotNumber": "a field has to be a number and is none",
+    "OutOfRange": "a number is outside its range",
+    "UnknownNode": "the node is not there",
+    "BadChannel": "the channels are spelt otherwise",
+    "Role": "the fields do not go together, or the record may not stand there",
+    "Link": "the channel is not common to both nodes",
+    "NotHex": "bytes are not hexadecimal",
+    "Repeated": "there is such a record already",
+}
+
+
+def short(text):
+    return text if len(text) <= 72 else f"{text[:60]}.. ({len(text)} characters)"
+
+
+def many(count, what):
+    return f"{count} {what}" + ("" if count == 1 else "s")
+
+
+def at(place, name, text):
+    return f'field {place} ({name}) is "{short(text)}"'
+
+
+def hint(text, known):
+    found = near(text, known)
+    return f"; did you mean `{found}`?" if found else ""
+
+
+def shape(role, record, cluster, earlier):
+    wanted = FORMS[role][0]
+    if len(record.fields) != wanted:
+        yield f"the record has {many(len(record.fields), 'field')}, and a record of this file has {wanted}"
+        if ";" in record.text:
+            yield "fields are divided by commas; this line has semicolons"
+        if record.text.lstrip().startswith("#"):
+            yield "there are no comments: a line that begins with # is a record like every other"
+        elif len(record.fields) < wanted:
+            yield f"commas are missing: {wanted - len(record.fields)} more belong to it, empty fields at its end too"
+        for other, (count, kinds) in FORMS.items():
+            if other != role and count == len(record.fields) and record.fields[0] in kinds:
+                yield f"it looks like a record of a {other} file: are the words in the right order?"
+    for place, described, text in placed(role, record):
+        if described[1] == "empty" and text:
+            yield f"{at(place, 'to be left empty', text)}" + (": a blank is a text too" if not text.strip() else "")
+
+
+def unknown_name(role, record, cluster, earlier):
+    kinds = FORMS[role][1]
+    if record.fields[0] not in kinds and "" not in kinds:
+        yield f"{at(1, 'kind', record.fields[0])}, and kinds are {', '.join(kinds)}{hint(record.fields[0], kinds)}"
+    for place, described, text in placed(role, record):
+        if described[1] == "name" and text not in PARAMETERS:
+            yield f"{at(place, 'NAME', text)}, which is no parameter{hint(text, PARAMETERS)}"
+        if described[1] == "state" and text not in ("active", "passive", "halt"):
+            yield f"{at(place, 'STATE', text)}, and states are active, passive, halt"
+
+
+def is_numeric(described, text):
+    return described[1] in ("number", "node", "rate", "offset", "bit", "value") or (described[1] == "key" and text)
+
+
+def not_number(role, record, cluster, earlier):
+    for place, described, text in placed(role, record):
+        if is_numeric(described, text) and whole(text) is None:
+            yield at(place, described[0], text) + number_hint(text)
+
+
+def number_hint(text):
+    if not text:
+        return ": it is empty, and a number has to stand there"
+    if text != text.strip():
+        return ": a blank stands beside the number, and blanks are not taken off"
+    if re.fullmatch(r"-?\d{19,}", text):
+        return f": it has {len(text.lstrip('-'))} digits, and a number has at most 18"
+    if re.fullmatch(r"-?\d*[.,]\d*", text):
+        return ": numbers are whole; a tick is a millionth of a microtick"
+    if text.startswith("+"):
+        return ": a number has no + before it"
+    return ": a number is an optional - and 1 to 18 decimal digits"
+
+
+def out_of_range(role, record, cluster, earlier):
+    for place, described, text in placed(role, record):
+        found, value = span(described, record, cluster), whole(text)
+        if found and value is not None and not found[0] <= value <= found[1]:
+            name = record.fields[1] if described[1] == "value" else described[0]
+            yield f"{at(place, name, text)}, which is not from {found[0]} to {found[1]} {found[2]}".rstrip() + cause(
+                described, record)
+        if described[1] == "hex" and len(text.encode()) > 524:
+            yield f"field {place} (BYTES) has {len(text.encode())} bytes, and at most 524 are allowed"
+
+
+def cause(described, record):
+    if record.fields[0] == "length" and described[0] == "TICKS":
+        return " (the length of a microtick: 1000000 is nominal, and an oscillator that is 150 ppm fast has 999850)"
+    if described[1] in ("rate", "offset"):
+        return " (pRateCorrectionOut of the parameters)" if described[1] == "rate" else " (pOffsetCorrectionOut)"
+    if described[1] == "bit":
+        return " (the last bit of a frame of 8 + 2 gPayloadLengthStatic bytes)"
+    return ""
+
+
+def unknown_node(role, record, cluster, earlier):
+    for place, described, text in placed(role, record):
+        if described[1] != "node":
+            continue
+        if role == "params":
+            there = [whole(other.fields[1]) for other in earlier if other.fields[0] == "node"]
+            if whole(text) not in there:
+                later = cluster.nodes.get(whole(text))
+                yield (f"{at(place, described[0], text)}, and no record before it is that node's"
+                       + (f"; its record comes later, on line {later[3].line}" if later else ""))
+        elif whole(text) not in cluster.nodes:
+            named = ", ".join(map(str, sorted(cluster.nodes))) or "none"
+            yield f"{at(place, described[0], text)}, and the parameters have the nodes {named}"
+
+
+def bad_channel(role, record, cluster, earlier):
+    for place, described, text in placed(role, record):
+        if described[1] == "channel" and text not in ("A", "B"):
+            yield f"{at(place, described[0], text)}, and it has to be A or B"
+        if described[1] == "channels" and text not in ("A", "B", "AB"):
+            yield f"{at(place, described[0], text)}, and it has to be A, B or AB"
+
+
+def arbitrary_before(earlier):
+    return {whole(other.fields[1]): other for other in earlier if other.fields[0] == "arbitrary"}
+
+
+def role_of(role, record, cluster, earlier):
+    kind, fields = record.fields[0], record.fields
+    if role == "params" and kind == "node" and whole(fields[4]) == 1 and not fields[2]:
+        yield "COLD is 1 and KEY is empty: a coldstart node needs a key slot"
+    if role == "params" and kind == "slot":
+        base, repetition = whole(fields[3]), whole(fields[4])
+        if repetition not in REPETITIONS:
+            yield f"REPETITION is {repetition}, and it has to be 1, 2, 4, 8, 16, 32 or 64"
+        if base >= repetition:
+            yield f"BASE is {base}, and it has to be below REPETITION, {repetition}"
+    if role == "drift" and kind == "delay" and whole(fields[1]) == whole(fields[2]):
+        yield f"SENDER and RECEIVER are both node {fields[1]}"
+    if role == "script":
+        yield from script_role(record, cluster, earlier)
+    if role == "power":
+        yield from power_role(record, cluster, earlier)
+    if role == "trace":
+        yield ("the record may not come next: the run row, arbitrary nodes in ascending order, then for each cycle "
+               "each correct node's cycle row with its dev rows, ascending by slot and channel")
+
+
+def script_role(record, cluster, earlier):
+    kind, fields, arbitrary = record.fields[0], record.fields, arbitrary_before(earlier)
+    if kind == "arbitrary":
+        node = whole(fields[1])
+        if node in cluster.nodes and cluster.nodes[node][0] is None:
+            yield f"node {node} has no key slot (line {cluster.nodes[node][3].line} of the parameters)"
+        other = next((other for other in earlier if other.fields[0] != "arbitrary"), None)
+        if other:
+            yield f"`arbitrary` records come first, and line {other.line} is of another kind"
+        return
+    sender, receiver = whole(fields[2]), whole(fields[3])
+    if sender == receiver:
+        yield f"SENDER and RECEIVER are both node {sender}"
+    if receiver in arbitrary:
+        yield f"the receiver, node {receiver}, is arbitrary (line {arbitrary[receiver].line}), and hears nothing"
+    if kind == "say" and sender not in arbitrary:
+        yield f"the sender, node {sender}, is not named arbitrary: `arbitrary,{sender},,,,,` has to come before"
+    if kind != "say" and sender in arbitrary:
+        yield f"the sender, node {sender}, is arbitrary (line {arbitrary[sender].line}), and says only what `say` says"
+
+
+def power_role(record, cluster, earlier):
+    node, time = whole(record.fields[1]), whole(record.fields[2])
+    if node in cluster.nodes and cluster.nodes[node][2] not in ("1", "01"):
+        yield f"node {node} is no coldstart node (line {cluster.nodes[node][3].line} of the parameters)"
+    own = [other for other in earlier if other.fields[0] in ("on", "off") and whole(other.fields[1]) == node]
+    if not own and record.fields[0] == "off":
+        yield f"the first record of node {node} has to be `on`"
+    if own and own[-1].fields[0] == record.fields[0]:
+        yield f"node {node} is `{record.fields[0]}` already since line {own[-1].line}"
+    if own and time <= whole(own[-1].fields[2]):
+        yield f"TIME is {time}, and line {own[-1].line} of node {node} has {own[-1].fields[2]}: times ascend"
+
+
+def link(role, record, cluster, earlier):
+    if role == "trace":
+        yield "the channel is not common to the receiver and the node whose key slot it is"
+        return
+    first = 1 if record.fields[0] == "delay" else 2
+    sender, receiver, channel = whole(record.fields[first]), whole(record.fields[first + 1]), record.fields[first + 2]
+    for name, node in (("sender", sender), ("receiver", receiver)):
+        if node in cluster.nodes and channel not in cluster.nodes[node][1]:
+            yield (f"the channel is {channel}, and the {name}, node {node}, has {cluster.nodes[node][1]} "
+                   f"(line {cluster.nodes[node][3].line} of the parameters)")
+
+
+def not_hex(role, record, cluster, earlier):
+    for place, described, text in placed(role, record):
+        if described[1] == "hex":
+            wrong = re.search(r"[^0-9A-Fa-f]", text)
+            if wrong:
+                yield f'field {place} (BYTES): "{wrong.group()}" at place {wrong.start() + 1} is no hexadecimal digit'
+            elif len(text) % 2:
+                yield f"field {place} (BYTES) has {len(text)} digits, and two make a byte"
+
+
+def same_key(role, record):
+    """What a record may be there once of."""
+    kind, fields = record.fields[0], record.fields
+    numbers = [whole(text) if whole(text) is not None else text for text in fields]
+    if role == "params":
+        return (kind, numbers[1])
+    if role == "drift":
+        return {"doubles": (kind,), "start": (kind, numbers[1]), "length": (kind, *numbers[1:3])}.get(
+            kind, (kind, *numbers[1:5]))
+    if role == "script":
+        return (kind, numbers[1]) if kind == "arbitrary" else ("frames", *numbers[1:5])
+    return (kind,)
+
+
+def repeated(role, record, cluster, earlier):
+    for other in earlier:
+        if form_of(role, other) is not None and same_key(role, other) == same_key(role, record):
+            yield f"line {other.line} is of the same: {other.text}"
+
+
+EXPLAIN = {
+    "Shape": shape, "UnknownName": unknown_name, "NotNumber": not_number, "OutOfRange": out_of_range,
+    "UnknownNode": unknown_node, "BadChannel": bad_channel, "Role": role_of, "Link": link, "NotHex": not_hex,
+    "Repeated": repeated,
+}

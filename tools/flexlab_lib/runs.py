@@ -1,0 +1,132 @@
+"""One run of a cluster: its files, what flexray says of them, and what of it a page shows."""
+import os
+from dataclasses import dataclass, field, replace
+
+from . import program as programs
+from .advice import advise, latest_start
+from .ending import FILE, NO, PROGRAM, Stop
+from .files import write_files
+from .report import Bounds, Report, Series, read_bounds, read_report, read_series, read_trace
+from .settled import skew_in_sync
+from .sync import sync_of
+
+
+@dataclass
+class Run:
+    cluster: object
+    folder: str
+    bounds: Bounds
+    report: Report
+    cycles: list
+    synced: list
+    in_sync_skew: tuple | None = None
+    series: Series | None = None
+    tried: str | None = None
+    files: list = field(default_factory=list)
+
+    @property
+    def lost(self):
+        """The first double cycle behind the first in sync that is not in sync."""
+        if self.report.in_sync is None:
+            return None
+        return next((at for at in range(self.report.in_sync, len(self.synced)) if not self.synced[at]), None)
+
+    @property
+    def at_end(self):
+        return bool(self.synced) and self.synced[-1]
+
+
+def answer(program, words, out=None):
+    """What flexray prints; a refusal ends flexlab, with the explanation of it."""
+    status, text, told = programs.call(program, words, out)
+    if status == 5:
+        from .explain import explain_line
+        raise Stop(NO, f"flexray {' '.join(words)}\n{told}\n" + "\n".join(explain_line(told, words)))
+    if status != 0:
+        raise Stop(PROGRAM, f"flexray {' '.join(words)} ended with status {status}: {told}")
+    return text
+
+
+def keep(folder, name, text):
+    try:
+        with open(os.path.join(folder, name), "w", encoding="utf-8") as file:
+            file.write(text)
+    except OSError as fault:
+        raise Stop(FILE, f"{fault.filename}: {fault.strerror}")
+
+
+def try_advice(program, cluster, bounds, folder):
+    """What flexray bound says of the parameters with the advised values put in, in one sentence, or None.
+
+    A value that is turned moves the bounds too, so checks that fail then are advised of again; and where the limits
+    are raised the offset correction starts early enough for them.
+    """
+    now, changed = dict(cluster.parameters), {}
+    for _ in range(10):
+        for number, _, _, right in bounds.failing:
+            name, _, value, fits = advise(number, right, now)
+            if not fits:
+                return f"no values of these parameters alone are found with which all hold: {name} would be {value}"
+            changed[name] = value
+        now.update(changed)
+        start = latest_start(now)
+        if start is not None and start < now["gOffsetCorrectionStart"]:
+            now["gOffsetCorrectionStart"] = changed["gOffsetCorrectionStart"] = start
+        paths = write_files(replace(cluster, parameters=now), os.path.join(folder, "advised"))
+        status, text, told = programs.call(program, ["bound", paths[0]])
+        named = ", ".join(f"{name} = {value}" for name, value in changed.items())
+        if status != 0:
+            return (f"tried together with flexray bound: {named}: refused, {told}; "
+                    f"`flexlab explain bound {paths[0]}` has the numbers")
+        bounds = read_bounds(text)
+        if not bounds.failing:
+            return f"tried together with flexray bound: all checks hold with {named}"
+    return f"tried together with flexray bound: {named}: checks still fail"
+
+
+def run_cluster(cluster, folder, program, traced=True):
+    """Writes the files, calls bound, run, trace and flexray-series, and gathers what they say."""
+    paths = write_files(cluster, folder)
+    told = answer(program, ["bound", paths[0]])
+    keep(folder, "bound.txt", told)
+    bounds = read_bounds(told)
+    told = answer(program, ["run", *paths])
+    keep(folder, "report.txt", told)
+    report = read_report(told)
+    trace = os.path.join(folder, "trace.csv")
+    with open(trace, "wb") as out:
+        answer(program, ["trace", *paths], out)
+    cycles = read_trace(trace)
+    synced = sync_of(cycles, bounds, cluster.parameters)
+    first = next((at for at, good in enumerate(synced) if good), None)
+    if first != report.in_sync and cycles and cluster.correct:
+        raise Stop(PROGRAM, f"flexray says in sync {report.in_sync}, and its trace says {first}")
+    run = Run(cluster, folder, bounds, report, cycles, synced, files=paths)
+    run.series = call_series(program, paths, folder)
+    if run.series and synced != [row[1] for row in run.series.rows[::2]] and cycles:
+        raise Stop(PROGRAM, "flexray-series says of a double cycle that it is in sync, and the trace does not, or back")
+    run.in_sync_skew = find_skew(run, program)
+    if bounds.failing:
+        run.tried = try_advice(program, cluster, bounds, folder)
+    return run
+
+
+def call_series(program, paths, folder):
+    second = programs.series(program)
+    if not second:
+        return None
+    text = answer(second, paths)
+    keep(folder, "series.csv", text)
+    return read_series(text)
+
+
+def find_skew(run, program):
+    """(skew, cycle, macrotick) of the greatest skew from the first double cycle in sync on."""
+    report = run.report
+    if report.in_sync is None:
+        return None
+    if run.series and run.series.greatest:
+        return run.series.greatest
+    if report.cycle >= 2 * report.in_sync:
+        return report.skew, report.cycle, report.macrotick
+    return skew_in_sync(run.cluster, run.cycles, report.in_sync, program, run.folder)

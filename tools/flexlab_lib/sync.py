@@ -1,0 +1,32 @@
+"""In which double cycles of a trace the clocks are in sync: numbers that flexray printed, held against
+bounds that it printed, by the definition of docs/PROTOCOL.md ("In sync")."""
+
+
+def spread(values):
+    values = list(values)
+    return max(values) - min(values) if values else 0
+
+
+def running(rows):
+    return [row for row in rows.values() if row.state != "halt"]
+
+
+def starts_apart(rows):
+    """How far the starts of a cycle lie apart, of nodes that are active or passive, in ticks."""
+    return spread(row.start for row in running(rows))
+
+
+def is_in_sync(pair, bounds, parameters):
+    micros, most = parameters["pMicroPerCycle"], parameters["xRateBound"]
+    for rows in pair:
+        lengths = [(micros + row.rate) * row.length for row in rows.values()]
+        if any(row.state != "active" for row in rows.values()) or spread(lengths) > bounds.lambda_:
+            return False
+        if any(not micros * (1000000 - most) <= length <= micros * (1000000 + most) for length in lengths):
+            return False
+    return spread(row.start for row in pair[0].values()) <= bounds.pi
+
+
+def sync_of(cycles, bounds, parameters):
+    """For each double cycle whether it is in sync."""
+    return [is_in_sync(cycles[at:at + 2], bounds, parameters) for at in range(0, len(cycles) - 1, 2)]

@@ -1,0 +1,61 @@
+"""Exact conversions between the units of a bench and those of flexray.
+
+A tick is a millionth of the nominal microtick. All is done in whole numbers and fractions; where a
+result has to be whole it is rounded to the nearest, a half away from 0. The ppm of an oscillator is
+that of its frequency, so a positive one makes the microtick shorter:
+
+    length in ticks = 1,000,000 / (1 + ppm / 1,000,000)
+"""
+from fractions import Fraction
+
+TICKS = 1_000_000
+
+def rounded(value):
+    """The nearest whole number, a half away from 0."""
+    value = Fraction(value)
+    doubled = abs(value) * 2 + 1
+    whole = doubled.numerator // (doubled.denominator * 2)
+    return whole if value >= 0 else -whole
+
+
+def length_of(ppm):
+    """The ticks of a microtick of an oscillator whose frequency is off by so many ppm."""
+    return rounded(Fraction(TICKS * TICKS) / (TICKS + Fraction(ppm)))
+
+
+def ppm_of(length):
+    """The ppm by which a frequency is off whose microtick lasts so many ticks."""
+    return Fraction(TICKS * TICKS, length) - TICKS
+
+
+def ticks_of_microticks(microticks):
+    return rounded(Fraction(microticks) * TICKS)
+
+
+def ticks_of_ns(nanoseconds, microtick_ns):
+    return rounded(Fraction(nanoseconds) / microtick_ns * TICKS)
+
+
+def us_of_ticks(ticks, microtick_ns):
+    return Fraction(ticks) * microtick_ns / TICKS / 1000
+
+
+def decimal(value, digits):
+    """A number with so many digits behind the point, rounded like all else here."""
+    scaled = rounded(Fraction(value) * 10 ** digits)
+    sign = "-" if scaled < 0 else ""
+    text = str(abs(scaled)).rjust(digits + 1, "0")
+    return sign + (text if digits == 0 else text[:-digits] + "." + text[-digits:])
+
+
+def signed(value, digits):
+    text = decimal(value, digits)
+    return text if text.startswith("-") else "+" + text
+
+
+def microseconds(ticks, microtick_ns):
+    return decimal(us_of_ticks(ticks, microtick_ns), 3) + " us"
+
+
+def percent(part, whole):
+    return "-" if whole == 0 else decimal(Fraction(part * 100, whole), 1) + " %"

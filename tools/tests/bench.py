@@ -1,0 +1,79 @@
+"""What the tests share: the program, flexlab called as a user calls it, and the commented example."""
+import os
+import shutil
+import subprocess
+import sys
+import tempfile
+import unittest
+
+TOOLS = os.path.dirname(os.path.dirname(os.path.realpath(__file__)))
+REPOSITORY = os.path.dirname(TOOLS)
+FLEXLAB = os.path.join(TOOLS, "flexlab")
+sys.path.insert(0, TOOLS)
+sys.dont_write_bytecode = True
+
+from flexlab_lib import program  # noqa: E402
+
+FLEXRAY = program.flexray()
+SERIES = program.series(FLEXRAY)
+with open(os.path.join(TOOLS, "flexlab_lib", "example.toml"), encoding="utf-8") as example:
+    EXAMPLE = example.read()
+
+
+def needs(name):
+    """Leaves a test out where a program is missing; tools/test says which."""
+    return unittest.skipUnless(shutil.which(name), f"{name} is not installed")
+
+
+def needs_series(test):
+    """Leaves a test out where flexray-series is not built."""
+    return unittest.skipUnless(SERIES, "flexray-series is not built")(test)
+
+
+def edited(*changes, text=EXAMPLE):
+    """The example with (old, new) put in; each old text has to be there once at least."""
+    for old, new in changes:
+        if old not in text:
+            raise AssertionError(f"the example has no {old!r}")
+        text = text.replace(old, new, 1)
+    return text
+
+
+class Bench(unittest.TestCase):
+    """A test with a folder of its own."""
+
+    def setUp(self):
+        self.room = tempfile.mkdtemp(prefix="flexlab-test-")
+        self.addCleanup(shutil.rmtree, self.room, ignore_errors=True)
+
+    def path(self, *parts):
+        return os.path.join(self.room, *parts)
+
+    def write(self, name, text):
+        with open(self.path(name), "w", encoding="utf-8", newline="") as file:
+            file.write(text)
+        return self.path(name)
+
+    def read(self, *parts):
+        with open(self.path(*parts), encoding="utf-8") as file:
+            return file.read()
+
+    def flexlab(self, *words, status=0, env=None, cwd=None):
+        """Standard output and standard error of a call, whose status has to be the one that is expected.
+
+        A test that is for flexray-series names it; the others are the same where it is built and where it is not.
+        """
+        env = {**os.environ, "FLEXRAY": FLEXRAY, "FLEXRAY_SERIES": "", **(env or {})}
+        ended = subprocess.run([sys.executable, FLEXLAB, *words], capture_output=True, text=True, check=False, env=env,
+                               cwd=cwd or self.room)
+        self.assertEqual(ended.returncode, status, f"{words}: {ended.stdout}{ended.stderr}")
+        self.assertNotIn("Traceback", ended.stderr)
+        return ended.stdout, ended.stderr
+
+    def flexray(self, *words):
+        ended = subprocess.run([FLEXRAY, *words], capture_output=True, text=True, check=False, cwd=self.room)
+        return ended.returncode, ended.stdout, ended.stderr.strip()
+
+    def one_line(self, text):
+        """A page's text without its line breaks."""
+        return " ".join(text.split())

@@ -1,0 +1,237 @@
+"""The page of a run: what it says of sync, coverage, skew and checks, and that its numbers are flexray's."""
+import os
+import re
+import unittest
+from fractions import Fraction
+
+from bench import EXAMPLE, SERIES, Bench, edited, needs_series
+from flexlab_lib import report
+
+
+class Pages(Bench):
+    def page(self, text, *words, env=None):
+        self.write("a.toml", text)
+        return self.one_line(self.flexlab("run", *words, "a.toml", env=env)[0])
+
+    def files(self, folder="a.lab"):
+        return [self.path(folder, f"{name}.csv") for name in ("params", "drift", "script")]
+
+    def test_the_example(self):
+        page = self.page(EXAMPLE)
+        report = self.read("a.lab", "report.txt")
+        self.assertEqual(self.flexray("run", *self.files()), (0, report, ""))
+        double = int(re.search(r"^in sync (\d+)$", report, re.M)[1])
+        precision = Fraction(re.search(r"^precision (\d+)$", report, re.M)[1])
+        self.assertIn("covered yes", report)
+        self.assertIn(f"In sync yes, from double cycle {double} on (cycle {2 * double}, {10 * double}.000 ms), and "
+                      "still in sync at the end", page)
+        self.assertIn("Covered yes:", page)
+        self.assertIn(f"Precision {float(precision * 25 / 10**9):.3f} us", page)
+        self.assertIn("Within yes", page)
+        self.assertIn("C1 to C5 hold", page)
+        self.assertNotIn("WARNING", page)
+
+    def test_ppm_is_read_back_with_its_sign(self):
+        page = self.page(EXAMPLE)
+        self.assertRegex(page, r"1 active \+150\.02 \+150\.02 999850 ")
+        self.assertRegex(page, r"2 active -149\.98 -149\.98 1000150 ")
+        self.assertRegex(page, r"3 active -40\.00 \+20\.00 999980 ")
+        self.assertIn("6 arbitrary", page)
+        # A fast clock has more microticks in a cycle, so its rate term is positive.
+        rates = {int(node): int(rate) for node, rate in re.findall(r"^node (\d+) \S+ next \d+ rate (-?\d+)",
+                                                                  self.read("a.lab", "report.txt"), re.M)}
+        self.assertGreater(rates[1], 0)
+        self.assertLess(rates[2], 0)
+
+    def test_the_skew_in_sync_is_that_of_the_rest_of_the_run(self):
+        page = self.page(edited(("drift = 150", "drift = 200")))
+        self.assertIn("before sync, so it is not to be held against the precision", page)
+        told = re.search(r"Skew in sync ([\d.]+) us at most, ([\d.]+) % of the precision \(cycle (\d+)", page)
+        report = self.read("a.lab", "report.txt")
+        first = 2 * int(re.search(r"^in sync (\d+)$", report, re.M)[1])
+        self.assertGreaterEqual(int(told[3]), first)
+        again = self.flexray("run", *self.files("a.lab/in-sync"))[1]
+        skew = int(re.search(r"^greatest skew (\d+)", again, re.M)[1])
+        self.assertEqual(told[1], f"{float(Fraction(skew * 25, 10**9)):.3f}")
+        self.assertLess(skew, int(re.search(r"^greatest skew (\d+)", report, re.M)[1]))
+
+    def test_sync_that_is_lost(self):
+        page = self.page(EXAMPLE + '[[oscillator]]\nnodes = 1\ncycles = "200-"\nppm = -1400\n')
+        self.assertRegex(page, r"In sync NOT AT THE END: from double cycle \d+ on .* lost in double cycle 10\d ")
+        self.assertIn("Covered NO: nothing is promised", page)
+        self.assertIn("Within NO", page)
+        self.assertRegex(page, r"Skew since [\d.]+ us at most since it was first in sync, 1\d\d\.\d % of the precision")
+        self.assertIn("in cycle 200 the oscillator of node 1 is off by -1400.04 ppm (its microtick lasts 1001402 "
+                      "ticks)", page)
+
+    def test_sync_that_is_lost_by_a_passive_node(self):
+        page = self.page(edited(("early = [1, 3, 5]", "early = [1, 3]"))
+                         + '[[lose]]\nfrom = "all"\nto = 5\nchannels = "A"\ncycles = "100-103"\n')
+        rows = self.read("a.lab", "trace.csv").splitlines()
+        self.assertEqual({row.split(",")[2] for row in rows if row.endswith("passive")}, {"5"})
+        self.assertIn("lost in double cycle 52 (cycle 104), and in sync again at the end", page)
+
+    def test_never_in_sync(self):
+        page = self.page(edited(("start_us = 1.5", "start_us = 900"), ("double_cycles = 200", "double_cycles = 91"),
+                                ('cycles = "181-"', "cycles = 181")))
+        self.assertIn("In sync NEVER", page)
+        self.assertIn("there is none", page)
+
+    def test_gaps_in_words(self):
+        for changes, more, told in (
+                ((), '[[oscillator]]\nnodes = 4\ncycles = "9-"\nppm = 60\n', "in cycle 9 the microtick of node 4 "
+                                                                             "changes by -40 ticks"),
+                (("microticks = 0.3", "microticks = 0.7"), "", "frames of node 1 travel 0.018 us to node 2 on "
+                                                               "channel A"),
+                ((), '[[lose]]\nfrom = 2\nto = 4\ncycles = 50\n', "in double cycle 25 no channel carries the "
+                                                                  "frames of node 2 to "
+                                                              "node 4 in both its cycles (cycles 50 and 51)"),
+                (("late = [2, 4]", "late = 4"), "[[say]]\nnode = 2\nto = 1\ncycles = 9\n", "3 correct sync nodes "
+                                                                                           "do not outweigh 2 "
+                                                                                           "arbitrary ones")):
+            with self.subTest(told=told):
+                page = self.page(edited(*([changes] if changes else [])) + more)
+                self.assertIn("Covered NO", page)
+                self.assertIn(told, page)
+
+    def test_advice_is_tried_and_holds(self):
+        page = self.page(edited(("pClusterDriftDamping = 5", "pClusterDriftDamping = 4"),
+                                ("pOffsetCorrectionOut = 320", "pOffsetCorrectionOut = 254")))
+        self.assertIn("check C1 fails:", page)
+        self.assertIn("turn pClusterDriftDamping: it is 4, and with all else as it is C1 asks for 5 at least", page)
+        found = re.search(r"all checks hold with ((?:\w+ = \d+(?:, )?)+)", page)
+        self.assertIsNotNone(found, page)
+        text, values = EXAMPLE, dict(re.findall(r"(\w+) = (\d+)", found[1]))
+        for name, value in values.items():
+            text = re.sub(rf"^{name} = \d+", f"{name} = {value}", text, flags=re.M)
+        self.assertIn("C1 to C5 hold", self.page(text))
+        lower = re.sub(r"^pOffsetCorrectionOut = \d+", "pOffsetCorrectionOut = "
+                                                       f"{int(values['pOffsetCorrectionOut']) - 1}",
+                       text, flags=re.M)
+        self.assertIn("check C3 fails", self.page(lower))
+
+    def test_advice_has_room_for_the_limit(self):
+        late = (("pOffsetCorrectionOut = 320", "pOffsetCorrectionOut = 60"),
+                ("gOffsetCorrectionStart = 4900", "gOffsetCorrectionStart = 4998"))
+        page = self.page(edited(*late))
+        told = re.search(r"asks for an earlier gOffsetCorrectionStart, (\d+) at most", page)
+        self.assertIsNotNone(told, page)
+        self.assertIn("all checks hold with pOffsetCorrectionOut = 318, gOffsetCorrectionStart = " + told[1], page)
+        for start, status in ((int(told[1]), 0), (int(told[1]) + 1, 1)):
+            self.write("a.toml", edited(("pOffsetCorrectionOut = 320", "pOffsetCorrectionOut = 318"),
+                                        ("gOffsetCorrectionStart = 4900", f"gOffsetCorrectionStart = {start}")))
+            self.flexlab("run", "a.toml", status=status)
+
+    def test_advice_that_is_refused_says_where(self):
+        page = self.page(edited(("gdActionPointOffset = 10", "gdActionPointOffset = 45")))
+        self.assertIn("refused, params: constraint 1; `flexlab explain bound a.lab/advised/params.csv`", page)
+        told = self.flexlab("explain", "bound", "a.lab/advised/params.csv", status=1)[0]
+        self.assertIn("macroticks too few in gMacroPerCycle", told)
+
+    def test_each_check_has_its_parameter(self):
+        for old, new, told in (
+                ("pClusterDriftDamping = 5", "pClusterDriftDamping = 3", "C1 fails"),
+                ("pRateCorrectionOut = 81", "pRateCorrectionOut = 70", "turn pRateCorrectionOut: it is 70"),
+                ("pOffsetCorrectionOut = 320", "pOffsetCorrectionOut = 300", "turn pOffsetCorrectionOut: it is 300"),
+                ("gdActionPointOffset = 10", "gdActionPointOffset = 5", "turn gdActionPointOffset: it is 5"),
+                ("gdActionPointOffset = 10", "gdActionPointOffset = 45", "turn gdStaticSlot: it is 50, and with "
+                                                                         "all else as it is C5 asks for 53 at least")):
+            with self.subTest(new=new):
+                self.assertIn(told, self.page(edited((old, new))))
+
+    def test_the_model_leaves_out_how_long_a_frame_is(self):
+        page = self.page(edited(("gPayloadLengthStatic = 8", "gPayloadLengthStatic = 127")))
+        self.assertIn("WARNING a static frame does not fit into its slot: 2633 bits and 11 of idle last 264.400 "
+                      "us", page)
+        self.assertIn("behind the action point the slot has 40.000 us", page)
+        self.assertNotIn("does not fit", self.page(edited(("gPayloadLengthStatic = 8", "gPayloadLengthStatic = 14"))))
+        self.assertIn("does not fit", self.page(edited(("gPayloadLengthStatic = 8", "gPayloadLengthStatic = 15"))))
+
+    def test_a_refusal_is_explained(self):
+        self.write("a.toml", edited(("gdNIT = 2000", "gdNIT = 2001")))
+        err = self.flexlab("run", "a.toml", status=1)[1]
+        self.assertIn("params: constraint 1", err)
+        self.assertIn("5000 is not 60 * 50 + 2001 = 5001", err)
+
+    def series(self, *last):
+        """A flexray-series that answers of the example what is said here, sync in step with the program's trace."""
+        rows = "".join(f"{cycle},{'no' if cycle < 2 else 'yes'},{900000000 if cycle < 2 else 40000000},9\n"
+                       for cycle in range(400))
+        self.write("series.txt", "cycle,in_sync,skew,macrotick\n" + rows + "".join(f"{line}\n" for line in last))
+        path = self.write("series", f"#!/bin/sh\ncat {self.path('series.txt')}\n")
+        os.chmod(path, 0o755)
+        return {"FLEXRAY_SERIES": path}
+
+    def test_the_series_is_taken_where_it_is_there(self):
+        self.write("a.toml", EXAMPLE)
+        env = self.series("greatest,80000000,5,4900", "synced,yes,,", "within,yes,,")
+        page = self.one_line(self.flexlab("run", "a.toml", env=env)[0])
+        self.assertIn("Skew in sync 2.000 us at most", page)
+        self.assertIn("(cycle 5, macrotick 4900)", page)
+        self.assertIn("Within yes:", page)
+        self.assertNotIn("Not installed", page)
+        env = self.series("greatest,400000000,5,4900", "synced,yes,,", "within,no,5,17")
+        page = self.one_line(self.flexlab("run", "a.toml", env=env)[0])
+        self.assertIn("Within NO: since it was first in sync the skew was above the precision, first in cycle 5, "
+                      "macrotick 17", page)
+        self.assertIn("not understood: within,maybe", self.flexlab("run", "a.toml", env=self.series("within,maybe"),
+                                                                   status=6)[1])
+
+    @needs_series
+    def test_the_page_with_a_series_has_the_same_numbers(self):
+        lost = EXAMPLE + '[[oscillator]]\nnodes = 1\ncycles = "200-"\nppm = -1400\n'
+        late = edited(("drift = 150", "drift = 200"))
+        never = edited(("start_us = 1.5", "start_us = 900"))
+        for text in (EXAMPLE, late, never, lost):
+            without, page = self.page(text), self.page(text, env={"FLEXRAY_SERIES": SERIES})
+            self.assertIn("Not installed", without)
+            self.assertNotIn("Not installed", page)
+            for words in (r"In sync .*? Covered", r"Skew (?:in sync|since) [\d.]+ us at most.*? \(", r"Within \w+"):
+                found = re.search(words, without)
+                if found:
+                    self.assertIn(found[0], page)
+
+    def test_a_series_that_does_not_fit_the_trace(self):
+        self.write("a.toml", edited(("drift = 150", "drift = 10")))
+        env = self.series("greatest,80000000,5,4900", "synced,yes,,", "within,yes,,")
+        self.assertIn("and the trace does not", self.flexlab("run", "a.toml", env=env, status=6)[1])
+
+    def test_what_is_not_understood_is_no_page(self):
+        strange = self.write("strange", "#!/bin/sh\necho hello\n")
+        os.chmod(strange, 0o755)
+        self.write("a.toml", EXAMPLE)
+        self.assertIn("not understood: hello", self.flexlab("run", "--flexray", strange, "a.toml", status=6)[1])
+
+    def test_a_missing_program(self):
+        self.write("a.toml", EXAMPLE)
+        err = self.flexlab("run", "--flexray", "none", "a.toml", status=4)[1]
+        self.assertIn("none, which --flexray names, is no program", err)
+
+
+class Series(unittest.TestCase):
+    def test_the_lines_of_a_series(self):
+        found = report.read_series("cycle,in_sync,skew,macrotick\n0,no,39992000,4999\n1,no,79200000,4900\n"
+                                   "2,yes,48991900,4999\n3,yes,56495900,4687\ngreatest,56495900,3,4687\n"
+                                   "synced,yes,,\nwithin,yes,,\n")
+        self.assertEqual(found.rows[1:3], [(1, False, 79200000, 4900), (2, True, 48991900, 4999)])
+        self.assertEqual((found.greatest, found.synced, found.within), ((56495900, 3, 4687), True, (True, None, None)))
+        found = report.read_series("0,no,-,-\n1,no,0,0\ngreatest,-,-,-\nsynced,no,0,\nwithin,-,,\n")
+        self.assertEqual((found.rows[0], found.greatest, found.synced, found.within), ((0, False, None, None), None,
+                                                                                        False, None))
+
+
+class Words(Bench):
+    def test_help(self):
+        self.assertIn("exit statuses", self.flexlab("--help")[0])
+        for request in ("new", "build", "run", "explain", "study", "capture", "pcap"):
+            told = self.flexlab(request, "--help")[0]
+            self.assertIn("usage: flexlab " + request, told)
+            self.assertIn("exit statuses", told)
+
+    def test_wrong_words(self):
+        for words in ((), ("go",), ("run",), ("run", "a", "b"), ("run", "--fast", "a"), ("new",)):
+            self.flexlab(*words, status=2)
+
+
+if __name__ == "__main__":
+    unittest.main()
