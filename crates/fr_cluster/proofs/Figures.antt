@@ -1,14 +1,14 @@
 -- Parameters that are made of numbers by the place of their name.
-use Rattle.std.proofs.Common.{◌≡◌, ℕ, ℤ, pos, ◌<◌, ◌≤◌, List, Some, ap, sym, ◌∙◌, refl, arith, subst}
+use Rattle.std.proofs.Common.{◌≡◌, ℤ, pos, ◌≤◌, List, ap, sym, refl, arith, subst}
 use Rattle.std.specs.Prelude.{nat_abs, slice_index_or}
 use mir.Val.{to_z, of_z, SFits}
 use mir.Syntax.{w64}
 use Rattle.std.proofs.lemmas.Int.{to_z-of_z, ints}
-use Rattle.fr_cluster.specs.Names.{place, greatest}
+use Rattle.fr_cluster.specs.Names.{greatest}
 use Rattle.fr_cluster.specs.Ranges.{InRange}
 use Rattle.fr_cluster.specs.Values.{Values, figure, amount}
-use Rattle.fr_cluster.specs.Numbers.{number_in, amount_in, AreInRange}
-use Rattle.fr_cluster.specs.Constraints.{Amounts, AllHold, FirstFails, key_slots}
+use Rattle.fr_cluster.specs.Numbers.{values_in, number_in, amount_in, AreInRange}
+use Rattle.fr_cluster.specs.Constraints.{Amounts, AllHold, key_slots}
 use Rattle.fr_cluster.specs.Sane.{AreSaneLists, IsSane}
 use Rattle.fr_cluster.specs.declared.names.ParamName.{ParamName}
 use Rattle.fr_cluster.specs.declared.names.ParamName.TheVariants as name
@@ -33,6 +33,8 @@ greatest-le name.pClusterDriftDamping = omega arith
 greatest-le name.pOffsetCorrectionOut = omega arith
 greatest-le name.pRateCorrectionOut = omega arith
 greatest-le name.pDelayCompensation = omega arith
+greatest-le name.pDelayCompensationA = omega arith
+greatest-le name.pDelayCompensationB = omega arith
 greatest-le name.xRateBound = omega arith
 greatest-le name.xChangeBound = omega arith
 greatest-le name.xDelayError = omega arith
@@ -44,32 +46,7 @@ fits n z h = let most = greatest-le n in omega (arith, ints, h.0, h.1)
 held : (numbers : List ℤ) (n : ParamName) → AreInRange numbers → to_z w64 (of_z w64 (number_in numbers n)) ≡ number_in numbers n
 held numbers n h = to_z-of_z w64 (number_in numbers n) (fits n (number_in numbers n) (h n))
 
--- the parameters of these numbers, and the same as 64 bits hold them
-abbrev pub plain : List ℤ → List NodeSpec → List SlotSpec → Values
-plain numbers nodes slots = record {
-  macros = slice_index_or numbers 0 (pos 0);
-  micros = slice_index_or numbers 1 (pos 0);
-  static_slots = slice_index_or numbers 2 (pos 0);
-  slot_macros = slice_index_or numbers 3 (pos 0);
-  action_offset = slice_index_or numbers 4 (pos 0);
-  idle_macros = slice_index_or numbers 5 (pos 0);
-  words = slice_index_or numbers 6 (pos 0);
-  correction = slice_index_or numbers 7 (pos 0);
-  max_passive = slice_index_or numbers 8 (pos 0);
-  max_fatal = slice_index_or numbers 9 (pos 0);
-  halt_allowed = slice_index_or numbers 10 (pos 0);
-  to_active = slice_index_or numbers 11 (pos 0);
-  damping = slice_index_or numbers 12 (pos 0);
-  offset_limit = slice_index_or numbers 13 (pos 0);
-  rate_limit = slice_index_or numbers 14 (pos 0);
-  compensation = slice_index_or numbers 15 (pos 0);
-  rate_bound = slice_index_or numbers 16 (pos 0);
-  change_bound = slice_index_or numbers 17 (pos 0);
-  delay_error = slice_index_or numbers 18 (pos 0);
-  nodes = nodes;
-  slots = slots;
-}
-
+-- the parameters of these numbers, as 64 bits hold them
 abbrev pub stored : List ℤ → List NodeSpec → List SlotSpec → Values
 stored numbers nodes slots = record {
   macros = to_z w64 (of_z w64 (slice_index_or numbers 0 (pos 0)));
@@ -87,34 +64,37 @@ stored numbers nodes slots = record {
   damping = to_z w64 (of_z w64 (slice_index_or numbers 12 (pos 0)));
   offset_limit = to_z w64 (of_z w64 (slice_index_or numbers 13 (pos 0)));
   rate_limit = to_z w64 (of_z w64 (slice_index_or numbers 14 (pos 0)));
-  compensation = to_z w64 (of_z w64 (slice_index_or numbers 15 (pos 0)));
-  rate_bound = to_z w64 (of_z w64 (slice_index_or numbers 16 (pos 0)));
-  change_bound = to_z w64 (of_z w64 (slice_index_or numbers 17 (pos 0)));
-  delay_error = to_z w64 (of_z w64 (slice_index_or numbers 18 (pos 0)));
+  compensation_a = to_z w64 (of_z w64 (slice_index_or numbers 15 (pos 0)));
+  compensation_b = to_z w64 (of_z w64 (slice_index_or numbers 16 (pos 0)));
+  rate_bound = to_z w64 (of_z w64 (slice_index_or numbers 17 (pos 0)));
+  change_bound = to_z w64 (of_z w64 (slice_index_or numbers 18 (pos 0)));
+  delay_error = to_z w64 (of_z w64 (slice_index_or numbers 19 (pos 0)));
   nodes = nodes;
   slots = slots;
 }
 
-pub figure-plain : (numbers : List ℤ) (nodes : List NodeSpec) (slots : List SlotSpec) (n : ParamName) → figure (plain numbers nodes slots) n ≡ number_in numbers n
-figure-plain numbers nodes slots name.gMacroPerCycle = refl
-figure-plain numbers nodes slots name.pMicroPerCycle = refl
-figure-plain numbers nodes slots name.gNumberOfStaticSlots = refl
-figure-plain numbers nodes slots name.gdStaticSlot = refl
-figure-plain numbers nodes slots name.gdActionPointOffset = refl
-figure-plain numbers nodes slots name.gdNIT = refl
-figure-plain numbers nodes slots name.gPayloadLengthStatic = refl
-figure-plain numbers nodes slots name.gOffsetCorrectionStart = refl
-figure-plain numbers nodes slots name.gMaxWithoutClockCorrectionPassive = refl
-figure-plain numbers nodes slots name.gMaxWithoutClockCorrectionFatal = refl
-figure-plain numbers nodes slots name.pAllowHaltDueToClock = refl
-figure-plain numbers nodes slots name.pAllowPassiveToActive = refl
-figure-plain numbers nodes slots name.pClusterDriftDamping = refl
-figure-plain numbers nodes slots name.pOffsetCorrectionOut = refl
-figure-plain numbers nodes slots name.pRateCorrectionOut = refl
-figure-plain numbers nodes slots name.pDelayCompensation = refl
-figure-plain numbers nodes slots name.xRateBound = refl
-figure-plain numbers nodes slots name.xChangeBound = refl
-figure-plain numbers nodes slots name.xDelayError = refl
+pub figure-values_in : (numbers : List ℤ) (nodes : List NodeSpec) (slots : List SlotSpec) (n : ParamName) → figure (values_in numbers nodes slots) n ≡ number_in numbers n
+figure-values_in numbers nodes slots name.gMacroPerCycle = refl
+figure-values_in numbers nodes slots name.pMicroPerCycle = refl
+figure-values_in numbers nodes slots name.gNumberOfStaticSlots = refl
+figure-values_in numbers nodes slots name.gdStaticSlot = refl
+figure-values_in numbers nodes slots name.gdActionPointOffset = refl
+figure-values_in numbers nodes slots name.gdNIT = refl
+figure-values_in numbers nodes slots name.gPayloadLengthStatic = refl
+figure-values_in numbers nodes slots name.gOffsetCorrectionStart = refl
+figure-values_in numbers nodes slots name.gMaxWithoutClockCorrectionPassive = refl
+figure-values_in numbers nodes slots name.gMaxWithoutClockCorrectionFatal = refl
+figure-values_in numbers nodes slots name.pAllowHaltDueToClock = refl
+figure-values_in numbers nodes slots name.pAllowPassiveToActive = refl
+figure-values_in numbers nodes slots name.pClusterDriftDamping = refl
+figure-values_in numbers nodes slots name.pOffsetCorrectionOut = refl
+figure-values_in numbers nodes slots name.pRateCorrectionOut = refl
+figure-values_in numbers nodes slots name.pDelayCompensation = refl
+figure-values_in numbers nodes slots name.pDelayCompensationA = refl
+figure-values_in numbers nodes slots name.pDelayCompensationB = refl
+figure-values_in numbers nodes slots name.xRateBound = refl
+figure-values_in numbers nodes slots name.xChangeBound = refl
+figure-values_in numbers nodes slots name.xDelayError = refl
 
 pub figure-stored : (numbers : List ℤ) (nodes : List NodeSpec) (slots : List SlotSpec) → AreInRange numbers → (n : ParamName)
     → figure (stored numbers nodes slots) n ≡ number_in numbers n
@@ -133,7 +113,10 @@ figure-stored numbers nodes slots h name.pAllowPassiveToActive = held numbers na
 figure-stored numbers nodes slots h name.pClusterDriftDamping = held numbers name.pClusterDriftDamping h
 figure-stored numbers nodes slots h name.pOffsetCorrectionOut = held numbers name.pOffsetCorrectionOut h
 figure-stored numbers nodes slots h name.pRateCorrectionOut = held numbers name.pRateCorrectionOut h
-figure-stored numbers nodes slots h name.pDelayCompensation = held numbers name.pDelayCompensation h
+figure-stored numbers nodes slots h name.pDelayCompensation =
+    rw (held numbers name.pDelayCompensationA h, held numbers name.pDelayCompensationB h) refl
+figure-stored numbers nodes slots h name.pDelayCompensationA = held numbers name.pDelayCompensationA h
+figure-stored numbers nodes slots h name.pDelayCompensationB = held numbers name.pDelayCompensationB h
 figure-stored numbers nodes slots h name.xRateBound = held numbers name.xRateBound h
 figure-stored numbers nodes slots h name.xChangeBound = held numbers name.xChangeBound h
 figure-stored numbers nodes slots h name.xDelayError = held numbers name.xDelayError h

@@ -1,4 +1,4 @@
--- Places of the table and names are one to one.
+-- Places and names are one to one.
 use Rattle.std.proofs.Common.{◌≡◌, ℕ, ◌<◌, ap, sym, ◌∙◌, refl, arith}
 use Rattle.std.specs.Prelude.{slice_index_or}
 use Rattle.fr_cluster.specs.Names.{place}
@@ -27,6 +27,8 @@ named_at-place name.pClusterDriftDamping = refl
 named_at-place name.pOffsetCorrectionOut = refl
 named_at-place name.pRateCorrectionOut = refl
 named_at-place name.pDelayCompensation = refl
+named_at-place name.pDelayCompensationA = refl
+named_at-place name.pDelayCompensationB = refl
 named_at-place name.xRateBound = refl
 named_at-place name.xChangeBound = refl
 named_at-place name.xDelayError = refl
@@ -34,7 +36,7 @@ named_at-place name.xDelayError = refl
 pub place-one : (m n : ParamName) → place m ≡ place n → m ≡ n
 place-one m n e = sym (named_at-place m) ∙ ap named_at e ∙ named_at-place n
 
-pub place-lt : (n : ParamName) → place n < 19
+pub place-lt : (n : ParamName) → place n < 21
 place-lt name.gMacroPerCycle = omega arith
 place-lt name.pMicroPerCycle = omega arith
 place-lt name.gNumberOfStaticSlots = omega arith
@@ -51,6 +53,8 @@ place-lt name.pClusterDriftDamping = omega arith
 place-lt name.pOffsetCorrectionOut = omega arith
 place-lt name.pRateCorrectionOut = omega arith
 place-lt name.pDelayCompensation = omega arith
+place-lt name.pDelayCompensationA = omega arith
+place-lt name.pDelayCompensationB = omega arith
 place-lt name.xRateBound = omega arith
 place-lt name.xChangeBound = omega arith
 place-lt name.xDelayError = omega arith

@@ -1,9 +1,11 @@
--- The table of parameters: how a file spells each, its place, and its range.
+-- The table of parameters: how a file spells each, its place, its range, and the versions of a file that have it.
 use Rattle.std.specs.Prelude.{ℕ, List, Option, codes, find}
 use Rattle.std.specs.Str.{bytes_eq}
 use Rattle.fr_cluster.specs.declared.names.ParamName.{ParamName}
 use Rattle.fr_cluster.specs.declared.names.ParamName.TheVariants as name
-use Rattle.fr_cluster.specs.declared.names.TheConstants.{NAMES}
+use Rattle.fr_cluster.specs.declared.names.Version.{Version}
+use Rattle.fr_cluster.specs.declared.names.Version.TheVariants as version
+use Rattle.fr_cluster.specs.declared.names.TheConstants.{NAMES_OF_ONE, NAMES_OF_TWO}
 
 -- a name as a file spells it
 abbrev pub word_of : ParamName → List ℕ
@@ -23,15 +25,23 @@ word_of name.pClusterDriftDamping = codes "pClusterDriftDamping"
 word_of name.pOffsetCorrectionOut = codes "pOffsetCorrectionOut"
 word_of name.pRateCorrectionOut = codes "pRateCorrectionOut"
 word_of name.pDelayCompensation = codes "pDelayCompensation"
+word_of name.pDelayCompensationA = codes "pDelayCompensationA"
+word_of name.pDelayCompensationB = codes "pDelayCompensationB"
 word_of name.xRateBound = codes "xRateBound"
 word_of name.xChangeBound = codes "xChangeBound"
 word_of name.xDelayError = codes "xDelayError"
 
--- the name that a text spells, if it spells one
-abbrev pub name_of : List ℕ → Option ParamName
-name_of text = find (λ n. bytes_eq text (word_of n)) NAMES
+-- the names of a version's table, in its order: the first version has one delay compensation for both channels, the
+-- second has one for each in its place
+abbrev pub names_of : Version → List ParamName
+names_of version.One = NAMES_OF_ONE
+names_of version.Two = NAMES_OF_TWO
 
--- the place of a name in the table, from 0
+-- the name of a version that a text spells, if it spells one
+abbrev pub name_of : Version → List ℕ → Option ParamName
+name_of v text = find (λ n. bytes_eq text (word_of n)) (names_of v)
+
+-- the place of a name among all names of both versions, from 0
 abbrev pub place : ParamName → ℕ
 place name.gMacroPerCycle = 0
 place name.pMicroPerCycle = 1
@@ -49,9 +59,11 @@ place name.pClusterDriftDamping = 12
 place name.pOffsetCorrectionOut = 13
 place name.pRateCorrectionOut = 14
 place name.pDelayCompensation = 15
-place name.xRateBound = 16
-place name.xChangeBound = 17
-place name.xDelayError = 18
+place name.pDelayCompensationA = 16
+place name.pDelayCompensationB = 17
+place name.xRateBound = 18
+place name.xChangeBound = 19
+place name.xDelayError = 20
 
 -- the least value that a parameter may have
 abbrev pub least : ParamName → ℕ
@@ -71,6 +83,8 @@ least name.pClusterDriftDamping = 0
 least name.pOffsetCorrectionOut = 1
 least name.pRateCorrectionOut = 1
 least name.pDelayCompensation = 0
+least name.pDelayCompensationA = 0
+least name.pDelayCompensationB = 0
 least name.xRateBound = 0
 least name.xChangeBound = 0
 least name.xDelayError = 0
@@ -93,6 +107,8 @@ greatest name.pClusterDriftDamping = 100
 greatest name.pOffsetCorrectionOut = 16_000
 greatest name.pRateCorrectionOut = 2000
 greatest name.pDelayCompensation = 200
+greatest name.pDelayCompensationA = 200
+greatest name.pDelayCompensationB = 200
 greatest name.xRateBound = 1500
 greatest name.xChangeBound = 1500
 greatest name.xDelayError = 10_000_000

@@ -9,10 +9,10 @@ use Rattle.fr_cluster.specs.Values.{Values}
 use Rattle.fr_cluster.specs.Searches.{key_index_in, node_in}
 use Rattle.fr_cluster.specs.declared.nodes.NodeSpec.{NodeSpec}
 
--- the delay compensation of a channel: the one value of the table
+-- the delay compensation of a channel
 abbrev pub compensation_of : Values → Channel → ℤ
-compensation_of p channel.A = p.compensation
-compensation_of p channel.B = p.compensation
+compensation_of p channel.A = p.compensation_a
+compensation_of p channel.B = p.compensation_b
 
 -- the greater of both
 abbrev pub widest_compensation_of : Values → ℤ

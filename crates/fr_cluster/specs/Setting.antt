@@ -1,10 +1,11 @@
 -- What decides a run: the cluster, its oscillators, the delays of its links, and what is done to its frames.
-use Rattle.std.specs.Prelude.{ℕ, ℤ, ◌^◌, ◌<◌, Bool, not, List, All, filter, IfSome}
+use Rattle.std.specs.Prelude.{ℕ, ℤ, ◌^◌, ◌<◌, Bool, not, List, All, filter, Option, IfSome}
 use Rattle.fr_base.specs.Event.{Event}
 use Rattle.fr_base.specs.Event.Event.{Regular, Silent, Flip, Say}
 use Rattle.fr_base.specs.declared.channel.Channel.{Channel}
 use Rattle.fr_cluster.specs.Values.{Values}
 use Rattle.fr_cluster.specs.Sane.{IsSane}
+use Rattle.fr_cluster.specs.declared.join.Join.{Join}
 use Rattle.fr_cluster.specs.declared.nodes.NodeSpec.{NodeSpec}
 
 -- a run, before it begins
@@ -23,6 +24,8 @@ pub record Setting : Type 0 where
   pub is_arbitrary : ℕ → Bool
   -- of a cycle, a sender, a receiver and a channel: what becomes of the sender's frames
   pub event : ℕ → ℕ → ℕ → Channel → Event
+  -- of a node: in which double cycle it listens, and to whom; None: it takes part from cycle 0 on
+  pub join : ℕ → Option Join
 
 -- all other nodes are correct
 abbrev pub is_correct : Setting → ℕ → Bool

@@ -1,6 +1,6 @@
 ghost use Rattle.std.specs.Prelude.{◌≡◌, ◌≢◌, ◌<◌, ◌≤◌, ◌↔◌, ℕ, IsTrue, IfSome, IfNone, IfOk, All, AllPairs, Contains};
 ghost use Rattle.fr_cluster.specs.Names.{greatest};
-ghost use Rattle.fr_cluster.specs.Numbers.{AreInRange, amount_in};
+ghost use Rattle.fr_cluster.specs.Numbers.{AreInRange, amount_in, number_in};
 ghost use Rattle.fr_cluster.specs.Constraints.{ActsInSlot, AllHold, AreFreeSlots, AreKeySlots, CorrectsAfterSlots, FirstFails, HasSyncNodes, IsPassiveFirst, IsWholeCycle, LeavesMicroticks, key_slots, static_macros};
 ghost use Rattle.fr_cluster.specs.declared.names.ParamName.TheVariants as name;
 
@@ -10,7 +10,7 @@ use fr_base::Slot;
 use std::alloc::{AllocError, Global};
 
 // The least number of a constraint that fails, None where all eight hold.
-pub(crate) fn first_failing(numbers: &[i64; 19], keys: &[Slot], slots: &[SlotSpec]) -> Option<u8>
+pub(crate) fn first_failing(numbers: &[i64; 20], keys: &[Slot], slots: &[SlotSpec]) -> Option<u8>
     requires { AreInRange numbers.now }
     ensures failing { IfSome result (λ number. FirstFails number (amount_in numbers.now) keys.now slots.now) }
     ensures all { IfNone result (AllHold (amount_in numbers.now) keys.now slots.now) }
@@ -42,16 +42,43 @@ pub(crate) fn first_failing(numbers: &[i64; 19], keys: &[Slot], slots: &[SlotSpe
     None
 }
 
-fn amount(numbers: &[i64; 19], name: ParamName) -> u64
+fn amount(numbers: &[i64; 20], name: ParamName) -> u64
     requires { AreInRange numbers.now }
     ensures value { result ≡ amount_in numbers.now name }
     ensures most { result ≤ greatest name }
 {
-    let value = numbers[name.place()];
-    value as u64
+    number(numbers, name) as u64
 }
 
-fn static_macros_of(numbers: &[i64; 19]) -> u64
+fn number(numbers: &[i64; 20], name: ParamName) -> i64
+    ensures { result ≡ number_in numbers.now name }
+{
+    match name {
+        ParamName::gMacroPerCycle => numbers[0],
+        ParamName::pMicroPerCycle => numbers[1],
+        ParamName::gNumberOfStaticSlots => numbers[2],
+        ParamName::gdStaticSlot => numbers[3],
+        ParamName::gdActionPointOffset => numbers[4],
+        ParamName::gdNIT => numbers[5],
+        ParamName::gPayloadLengthStatic => numbers[6],
+        ParamName::gOffsetCorrectionStart => numbers[7],
+        ParamName::gMaxWithoutClockCorrectionPassive => numbers[8],
+        ParamName::gMaxWithoutClockCorrectionFatal => numbers[9],
+        ParamName::pAllowHaltDueToClock => numbers[10],
+        ParamName::pAllowPassiveToActive => numbers[11],
+        ParamName::pClusterDriftDamping => numbers[12],
+        ParamName::pOffsetCorrectionOut => numbers[13],
+        ParamName::pRateCorrectionOut => numbers[14],
+        ParamName::pDelayCompensation => numbers[15].max(numbers[16]),
+        ParamName::pDelayCompensationA => numbers[15],
+        ParamName::pDelayCompensationB => numbers[16],
+        ParamName::xRateBound => numbers[17],
+        ParamName::xChangeBound => numbers[18],
+        ParamName::xDelayError => numbers[19],
+    }
+}
+
+fn static_macros_of(numbers: &[i64; 20]) -> u64
     requires { AreInRange numbers.now }
     ensures value { result ≡ static_macros (amount_in numbers.now) }
     ensures most { result ≤ 1023000 }
@@ -59,7 +86,7 @@ fn static_macros_of(numbers: &[i64; 19]) -> u64
     amount(numbers, ParamName::gNumberOfStaticSlots) * amount(numbers, ParamName::gdStaticSlot)
 }
 
-fn is_whole_cycle(numbers: &[i64; 19]) -> bool
+fn is_whole_cycle(numbers: &[i64; 20]) -> bool
     requires { AreInRange numbers.now }
     ensures { IsTrue result ↔ IsWholeCycle (amount_in numbers.now) }
 {
@@ -67,14 +94,14 @@ fn is_whole_cycle(numbers: &[i64; 19]) -> bool
         == static_macros_of(numbers) + amount(numbers, ParamName::gdNIT)
 }
 
-fn acts_in_slot(numbers: &[i64; 19]) -> bool
+fn acts_in_slot(numbers: &[i64; 20]) -> bool
     requires { AreInRange numbers.now }
     ensures { IsTrue result ↔ ActsInSlot (amount_in numbers.now) }
 {
     amount(numbers, ParamName::gdActionPointOffset) < amount(numbers, ParamName::gdStaticSlot)
 }
 
-fn corrects_after_slots(numbers: &[i64; 19]) -> bool
+fn corrects_after_slots(numbers: &[i64; 20]) -> bool
     requires { AreInRange numbers.now }
     ensures { IsTrue result ↔ CorrectsAfterSlots (amount_in numbers.now) }
 {
@@ -82,7 +109,7 @@ fn corrects_after_slots(numbers: &[i64; 19]) -> bool
     static_macros_of(numbers) < start && start < amount(numbers, ParamName::gMacroPerCycle)
 }
 
-fn leaves_microticks(numbers: &[i64; 19]) -> bool
+fn leaves_microticks(numbers: &[i64; 20]) -> bool
     requires { AreInRange numbers.now }
     ensures { IsTrue result ↔ LeavesMicroticks (amount_in numbers.now) }
 {
@@ -96,7 +123,7 @@ fn leaves_microticks(numbers: &[i64; 19]) -> bool
     macros * (correction + offset + 1) <= micros * correction
 }
 
-fn is_passive_first(numbers: &[i64; 19]) -> bool
+fn is_passive_first(numbers: &[i64; 20]) -> bool
     requires { AreInRange numbers.now }
     ensures { IsTrue result ↔ IsPassiveFirst (amount_in numbers.now) }
 {
@@ -117,7 +144,7 @@ fn has_sync_nodes(keys: &[Slot]) -> bool
     1 <= keys.len() && keys.len() <= 15
 }
 
-fn are_key_slots(numbers: &[i64; 19], keys: &[Slot]) -> bool
+fn are_key_slots(numbers: &[i64; 20], keys: &[Slot]) -> bool
     requires { AreInRange numbers.now }
     ensures { IsTrue result ↔ AreKeySlots (amount_in numbers.now name.gNumberOfStaticSlots) keys.now }
 {
@@ -142,7 +169,7 @@ fn is_among(keys: &[Slot], key: &Slot) -> bool
     keys.contains(key)
 }
 
-fn are_free_slots(numbers: &[i64; 19], keys: &[Slot], slots: &[SlotSpec]) -> bool
+fn are_free_slots(numbers: &[i64; 20], keys: &[Slot], slots: &[SlotSpec]) -> bool
     requires { AreInRange numbers.now }
     ensures { IsTrue result ↔ AreFreeSlots (amount_in numbers.now name.gNumberOfStaticSlots) keys.now slots.now }
 {

@@ -22,11 +22,12 @@ pub enum ClusterFault {
 }
 
 impl Params {
-    /// The parameters of these numbers, in the order of the table, of these nodes and further slots, where
-    /// they meet the eight constraints. `Constraint` comes exactly where one fails, but for want of memory.
+    /// The parameters of these numbers, in the order of the second version's table, of these nodes and further
+    /// slots, where they meet the eight constraints. A cluster with one delay compensation for both channels
+    /// gives it twice. `Constraint` comes exactly where one fails, but for want of memory.
     pub fn of(
         alloc: Global,
-        numbers: &[i64; 19],
+        numbers: &[i64; 20],
         nodes: Vec<NodeSpec>,
         slots: Vec<SlotSpec>,
     ) -> Result<Params, ClusterFault>
@@ -47,7 +48,7 @@ impl Params {
 
 fn listed(
     alloc: Global,
-    numbers: &[i64; 19],
+    numbers: &[i64; 20],
     nodes: Vec<NodeSpec>,
     slots: Vec<SlotSpec>,
 ) -> Result<Params, ClusterFault>
@@ -66,7 +67,7 @@ fn listed(
     Ok(params_of(numbers, nodes, slots))
 }
 
-fn params_of(numbers: &[i64; 19], nodes: NodeList, slots: SlotList) -> Params
+fn params_of(numbers: &[i64; 20], nodes: NodeList, slots: SlotList) -> Params
     requires ranged { AreInRange numbers.now }
     requires constraints { AllHold (amount_in numbers.now) (key_slots nodes) slots }
     requires lists { AreSaneLists nodes slots }
@@ -91,10 +92,11 @@ fn params_of(numbers: &[i64; 19], nodes: NodeList, slots: SlotList) -> Params
         damping: numbers[12],
         offset_limit: numbers[13],
         rate_limit: numbers[14],
-        compensation: numbers[15],
-        rate_bound: numbers[16],
-        change_bound: numbers[17],
-        delay_error: numbers[18],
+        compensation_a: numbers[15],
+        compensation_b: numbers[16],
+        rate_bound: numbers[17],
+        change_bound: numbers[18],
+        delay_error: numbers[19],
         nodes,
         slots,
     }

@@ -1,9 +1,9 @@
 ghost use Rattle.std.specs.Prelude.{◌≡◌, pos, find};
 ghost use Rattle.std.specs.Str.{bytes_eq};
-ghost use Rattle.fr_cluster.specs.Names.{greatest, least, name_of, place, word_of};
+ghost use Rattle.fr_cluster.specs.Names.{greatest, least, name_of, names_of, place, word_of};
 
-/// The parameters of a cluster in the order of the table, spelt as in the standard and in a parameter
-/// file. Those that begin with `x` are this program's own.
+/// The parameters of a cluster, spelt as in the standard and in a parameter file, in the order of the tables
+/// of both versions of it. Those that begin with `x` are this program's own.
 #[allow(non_camel_case_types)]
 #[derive(Clone, Copy, Debug, PartialEq, Eq)]
 pub enum ParamName {
@@ -37,18 +37,57 @@ pub enum ParamName {
     pOffsetCorrectionOut,
     /// Limit of the rate term in microticks.
     pRateCorrectionOut,
-    /// Microticks that are taken off each measured arrival.
+    /// Microticks that are taken off each measured arrival, on both channels; where a file has one number
+    /// for each channel, the greater.
     pDelayCompensation,
+    /// Microticks that are taken off each arrival measured on channel A.
+    pDelayCompensationA,
+    /// Microticks that are taken off each arrival measured on channel B.
+    pDelayCompensationB,
     /// Greatest distance of a microtick's length from nominal, in ticks.
     xRateBound,
     /// Greatest change of that length from one cycle to the next, in ticks.
     xChangeBound,
-    /// Greatest distance of a delay from the compensation, in ticks.
+    /// Greatest distance of a delay from its channel's compensation, in ticks.
     xDelayError,
 }
 
-/// All names in the order of the table.
-pub const NAMES: [ParamName; 19] = [
+/// The versions of a parameter file. Their tables differ in the delay compensation alone.
+#[derive(Clone, Copy, Debug, PartialEq, Eq)]
+pub enum Version {
+    /// One delay compensation for both channels.
+    One,
+    /// A delay compensation for each channel.
+    Two,
+}
+
+/// All names of both versions.
+pub const NAMES: [ParamName; 21] = [
+    ParamName::gMacroPerCycle,
+    ParamName::pMicroPerCycle,
+    ParamName::gNumberOfStaticSlots,
+    ParamName::gdStaticSlot,
+    ParamName::gdActionPointOffset,
+    ParamName::gdNIT,
+    ParamName::gPayloadLengthStatic,
+    ParamName::gOffsetCorrectionStart,
+    ParamName::gMaxWithoutClockCorrectionPassive,
+    ParamName::gMaxWithoutClockCorrectionFatal,
+    ParamName::pAllowHaltDueToClock,
+    ParamName::pAllowPassiveToActive,
+    ParamName::pClusterDriftDamping,
+    ParamName::pOffsetCorrectionOut,
+    ParamName::pRateCorrectionOut,
+    ParamName::pDelayCompensation,
+    ParamName::pDelayCompensationA,
+    ParamName::pDelayCompensationB,
+    ParamName::xRateBound,
+    ParamName::xChangeBound,
+    ParamName::xDelayError,
+];
+
+/// The table of the first version, in its order.
+pub const NAMES_OF_ONE: [ParamName; 19] = [
     ParamName::gMacroPerCycle,
     ParamName::pMicroPerCycle,
     ParamName::gNumberOfStaticSlots,
@@ -70,12 +109,46 @@ pub const NAMES: [ParamName; 19] = [
     ParamName::xDelayError,
 ];
 
+/// The table of the second version, in its order.
+pub const NAMES_OF_TWO: [ParamName; 20] = [
+    ParamName::gMacroPerCycle,
+    ParamName::pMicroPerCycle,
+    ParamName::gNumberOfStaticSlots,
+    ParamName::gdStaticSlot,
+    ParamName::gdActionPointOffset,
+    ParamName::gdNIT,
+    ParamName::gPayloadLengthStatic,
+    ParamName::gOffsetCorrectionStart,
+    ParamName::gMaxWithoutClockCorrectionPassive,
+    ParamName::gMaxWithoutClockCorrectionFatal,
+    ParamName::pAllowHaltDueToClock,
+    ParamName::pAllowPassiveToActive,
+    ParamName::pClusterDriftDamping,
+    ParamName::pOffsetCorrectionOut,
+    ParamName::pRateCorrectionOut,
+    ParamName::pDelayCompensationA,
+    ParamName::pDelayCompensationB,
+    ParamName::xRateBound,
+    ParamName::xChangeBound,
+    ParamName::xDelayError,
+];
+
+/// The names of a version's table, in its order.
+pub fn names_of(version: Version) -> &'static [ParamName]
+    ensures { result.now ≡ names_of version }
+{
+    match version {
+        Version::One => &NAMES_OF_ONE,
+        Version::Two => &NAMES_OF_TWO,
+    }
+}
+
 impl ParamName {
-    /// The name that a text spells, if it spells one.
-    pub fn named(text: &[u8]) -> Option<ParamName>
-        ensures { result ≡ name_of text.now }
+    /// The name of a version that a text spells, if it spells one: a name of the other version alone is none.
+    pub fn named(version: Version, text: &[u8]) -> Option<ParamName>
+        ensures { result ≡ name_of version text.now }
     {
-        first_spelt(&NAMES, text)
+        first_spelt(names_of(version), text)
     }
 
     /// The name as a parameter file spells it.
@@ -99,13 +172,15 @@ impl ParamName {
             ParamName::pOffsetCorrectionOut => b"pOffsetCorrectionOut",
             ParamName::pRateCorrectionOut => b"pRateCorrectionOut",
             ParamName::pDelayCompensation => b"pDelayCompensation",
+            ParamName::pDelayCompensationA => b"pDelayCompensationA",
+            ParamName::pDelayCompensationB => b"pDelayCompensationB",
             ParamName::xRateBound => b"xRateBound",
             ParamName::xChangeBound => b"xChangeBound",
             ParamName::xDelayError => b"xDelayError",
         }
     }
 
-    /// Its place in the table, from 0.
+    /// Its place among the names of both versions, from 0.
     pub fn place(self) -> usize
         ensures { result ≡ place self }
     {
@@ -133,6 +208,8 @@ impl ParamName {
             ParamName::pOffsetCorrectionOut => 1,
             ParamName::pRateCorrectionOut => 1,
             ParamName::pDelayCompensation => 0,
+            ParamName::pDelayCompensationA => 0,
+            ParamName::pDelayCompensationB => 0,
             ParamName::xRateBound => 0,
             ParamName::xChangeBound => 0,
             ParamName::xDelayError => 0,
@@ -160,6 +237,8 @@ impl ParamName {
             ParamName::pOffsetCorrectionOut => 16_000,
             ParamName::pRateCorrectionOut => 2000,
             ParamName::pDelayCompensation => 200,
+            ParamName::pDelayCompensationA => 200,
+            ParamName::pDelayCompensationB => 200,
             ParamName::xRateBound => 1500,
             ParamName::xChangeBound => 1500,
             ParamName::xDelayError => 10_000_000,

@@ -48,13 +48,15 @@ pub struct Params {
     pub offset_limit: i64,
     /// Limit of the rate term in microticks.
     pub rate_limit: i64,
-    /// Microticks that are taken off each measured arrival.
-    pub compensation: i64,
+    /// Microticks that are taken off each arrival measured on channel A.
+    pub compensation_a: i64,
+    /// Microticks that are taken off each arrival measured on channel B.
+    pub compensation_b: i64,
     /// Greatest distance of a microtick's length from nominal, in ticks.
     pub rate_bound: i64,
     /// Greatest change of that length from one cycle to the next, in ticks.
     pub change_bound: i64,
-    /// Greatest distance of a delay from the compensation, in ticks.
+    /// Greatest distance of a delay from its channel's compensation, in ticks.
     pub delay_error: i64,
     /// The nodes, in ascending order of id.
     pub nodes: NodeList,
@@ -103,8 +105,8 @@ impl Params {
         ensures to { result ≤ℤ pos 200 }
     {
         match channel {
-            Channel::A => self.value(ParamName::pDelayCompensation),
-            Channel::B => self.value(ParamName::pDelayCompensation),
+            Channel::A => self.value(ParamName::pDelayCompensationA),
+            Channel::B => self.value(ParamName::pDelayCompensationB),
         }
     }
 
@@ -187,7 +189,9 @@ impl Params {
             ParamName::pClusterDriftDamping => self.damping,
             ParamName::pOffsetCorrectionOut => self.offset_limit,
             ParamName::pRateCorrectionOut => self.rate_limit,
-            ParamName::pDelayCompensation => self.compensation,
+            ParamName::pDelayCompensation => self.compensation_a.max(self.compensation_b),
+            ParamName::pDelayCompensationA => self.compensation_a,
+            ParamName::pDelayCompensationB => self.compensation_b,
             ParamName::xRateBound => self.rate_bound,
             ParamName::xChangeBound => self.change_bound,
             ParamName::xDelayError => self.delay_error,

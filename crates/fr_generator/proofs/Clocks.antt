@@ -22,6 +22,7 @@ use Rattle.fr_drift.proofs.Adding.{even-accepted, says-delay, says-doubles, says
 use Rattle.fr_generator.specs.Cluster.{made_values}
 use Rattle.fr_generator.specs.Drawn.{Drawn, draw, drawn_from, in_turn, rest}
 use Rattle.fr_generator.specs.Places.{beside, channel_at, link_at}
+use Rattle.fr_generator.specs.Generated.{IsMadeCount}
 use Rattle.fr_generator.specs.Steps.{after_clock, after_delay, delay_drawn, length_drawn, start_drawn}
 use Rattle.fr_generator.proofs.MadeCluster.{both, known}
 use Rattle.fr_generator.proofs.Apart.{beside-from, beside-other, beside-to, both-first, both-second, link-same, other, same, untrue}
@@ -39,14 +40,22 @@ pub record AreClocks (count : ℕ) (records : List FileRecord) : Type 0 where
   pub starts : (node : ℕ) → count < node → start_at node records ≡ None
   pub delays : (s r : ℕ) (ch : Channel) (from : ℕ) → delay_at s r ch from records ≡ None
 
-clocks-none : (doubles : ℕ) → IsProperCount doubles → AreClocks 0 (doubles_record doubles ∷ [])
+-- a run may have so many double cycles
+runs-so-many : (doubles : ℕ) → IsMadeCount doubles → IsProperCount doubles
+runs-so-many doubles made =
+    let most = made.to in
+    record { from = made.from; to = omega (arith, most) }
+
+clocks-none : (doubles : ℕ) → IsMadeCount doubles → AreClocks 0 (doubles_record doubles ∷ [])
 unfolding looked_up
-clocks-none doubles h = record {
-  accepted = even-accepted made_values doubles h;
-  lengths = λ node above. rw (says-doubles doubles h) refl;
-  starts = λ node above. rw (says-doubles doubles h) refl;
-  delays = λ s r ch from. rw (says-doubles doubles h) refl;
-}
+clocks-none doubles made =
+    let h : IsProperCount doubles = runs-so-many doubles made in
+    record {
+      accepted = even-accepted made_values doubles h;
+      lengths = λ node above. rw (says-doubles doubles h) refl;
+      starts = λ node above. rw (says-doubles doubles h) refl;
+      delays = λ s r ch from. rw (says-doubles doubles h) refl;
+    }
 
 proper-length : (words : Lcg) → IsMicrotickLength (length_drawn words)
 proper-length words = record { from = omega (arith, ints); to = omega (arith, ints) }
@@ -114,7 +123,7 @@ clock-more place records words room h = record {
     quiet_start n above = rw (other (place + 1) n (λ is. absurd (omega (arith, is)))) refl
 
 -- the clocks of the first nodes, in turn
-pub clocks-to : (doubles : ℕ) (words : Lcg) → IsProperCount doubles → (count : ℕ) → count ≤ 8 → AreClocks count (in_turn after_clock count (drawn_from (doubles_record doubles ∷ []) words)).records
+pub clocks-to : (doubles : ℕ) (words : Lcg) → IsMadeCount doubles → (count : ℕ) → count ≤ 8 → AreClocks count (in_turn after_clock count (drawn_from (doubles_record doubles ∷ []) words)).records
 unfolding in_turn
 clocks-to doubles words h zero few = clocks-none doubles h
 clocks-to doubles words h (suc count) few =

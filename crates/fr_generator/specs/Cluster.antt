@@ -5,11 +5,11 @@ use Rattle.fr_cluster.specs.Values.{Values}
 use Rattle.fr_cluster.specs.declared.nodes.NodeSpec.{NodeSpec}
 use Rattle.fr_cluster.specs.declared.nodes.SlotSpec.{SlotSpec}
 
--- the numbers in the order of the table
+-- the numbers in the order of the second version's table
 abbrev pub made_numbers : List ℤ
 made_numbers =
     pos 5_000 ∷ pos 200_000 ∷ pos 140 ∷ pos 30 ∷ pos 7 ∷ pos 800 ∷ pos 8 ∷ pos 4_900 ∷ pos 2 ∷ pos 4 ∷ pos 1 ∷ pos 2 ∷ pos 4 ∷ pos 254 ∷ pos 81 ∷ pos 0
-    ∷ pos 200 ∷ pos 0 ∷ pos 500_000 ∷ []
+    ∷ pos 0 ∷ pos 200 ∷ pos 0 ∷ pos 500_000 ∷ []
 
 -- a coldstart node on both channels, whose key slot has its number
 abbrev pub made_node : ℕ → NodeSpec
@@ -46,7 +46,8 @@ made_values = record {
   damping = pos 4;
   offset_limit = pos 254;
   rate_limit = pos 81;
-  compensation = pos 0;
+  compensation_a = pos 0;
+  compensation_b = pos 0;
   rate_bound = pos 200;
   change_bound = pos 0;
   delay_error = pos 500_000;

@@ -1,5 +1,5 @@
 -- The cluster of a seed: its parameters, its drift and its script, as the files that have these records stand for them.
-use Rattle.std.specs.Prelude.{◌≡◌, ℕ, ◌*◌, [], ◌∷◌}
+use Rattle.std.specs.Prelude.{◌≡◌, ◌≤◌, ℕ, ◌*◌, [], ◌∷◌}
 use Rattle.fr_cluster.specs.Values.{Values}
 use Rattle.fr_drift.specs.Files.{DriftFits, DriftStandsFor}
 use Rattle.fr_drift.specs.View.{DriftView}
@@ -12,6 +12,11 @@ use Rattle.fr_generator.specs.Drawn.{Drawn, drawn_from, first_words, in_turn}
 use Rattle.fr_generator.specs.Steps.{after_chance, after_clock, after_delay}
 use Rattle.fr_generator.specs.declared.generated.Generated.{Generated}
 use Rattle.rand_pcg.specs.Lcg.{Lcg}
+
+-- the cluster of a seed runs 1 to 10,000 double cycles
+pub record IsMadeCount (doubles : ℕ) : Type 0 where
+  pub from : 1 ≤ doubles
+  pub to : doubles ≤ 10_000
 
 -- the records of the drift: the number of double cycles, the clocks of the nodes from 1 to 8, and the delays of all links
 abbrev pub drift_from : Lcg → ℕ → Drawn

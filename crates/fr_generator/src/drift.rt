@@ -1,9 +1,8 @@
 ghost use Rattle.std.specs.Prelude.{◌≡◌, ◌<◌, IfOk};
-ghost use Rattle.fr_drift.specs.Rows.{IsProperCount};
 ghost use Rattle.fr_generator.specs.Cluster.{made_values};
 ghost use Rattle.fr_generator.specs.Steps.{after_clock, after_delay};
 ghost use Rattle.fr_generator.specs.Making.{AddsStep, TakesStep};
-ghost use Rattle.fr_generator.specs.Generated.{IsDriftDrawn};
+ghost use Rattle.fr_generator.specs.Generated.{IsDriftDrawn, IsMadeCount};
 
 use crate::draws::{draw_delay, draw_length, draw_start};
 use crate::places::{link_at, node_of};
@@ -20,7 +19,7 @@ pub(crate) fn drift_of(
     doubles: u32,
 ) -> Result<Drift, DriftFault>
     requires cluster { params.now ≡ made_values }
-    requires proper { IsProperCount doubles }
+    requires proper { IsMadeCount doubles }
     ensures { IfOk result (IsDriftDrawn params.now words.old words.new doubles) }
 {
     let mut drift = Drift::even(alloc, params, doubles);

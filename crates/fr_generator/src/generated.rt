@@ -1,6 +1,5 @@
 ghost use Rattle.std.specs.Prelude.{IfOk};
-ghost use Rattle.fr_drift.specs.Rows.{IsProperCount};
-ghost use Rattle.fr_generator.specs.Generated.{IsGenerated};
+ghost use Rattle.fr_generator.specs.Generated.{IsGenerated, IsMadeCount};
 
 use crate::cluster::cluster;
 use crate::drift::drift_of;
@@ -26,7 +25,7 @@ pub struct Generated {
 /// clocks, its delays and what the arbitrary nodes say are drawn by the words of the seed. An error comes
 /// only where memory ran out.
 pub fn generate(alloc: Global, seed: u32, doubles: u32) -> Result<Generated, AllocError>
-    requires { IsProperCount doubles }
+    requires { IsMadeCount doubles }
     ensures { IfOk result (IsGenerated seed doubles) }
 {
     let mut words = Lcg64Xsh32::new(u64::from(seed), 0);

@@ -1,9 +1,8 @@
 ghost use Rattle.std.specs.Prelude.{◌≡◌, ◌<◌, IfOk};
-ghost use Rattle.fr_drift.specs.Rows.{IsProperCount};
 ghost use Rattle.fr_generator.specs.Cluster.{made_values};
 ghost use Rattle.fr_generator.specs.Steps.{after_chance};
 ghost use Rattle.fr_generator.specs.Making.{AddsSaid, TakesSaid};
-ghost use Rattle.fr_generator.specs.Generated.{IsScriptDrawn};
+ghost use Rattle.fr_generator.specs.Generated.{IsMadeCount, IsScriptDrawn};
 
 use crate::draws::{draw_pass, draw_shift};
 use crate::places::chance_at;
@@ -21,7 +20,7 @@ pub(crate) fn script_of(
     doubles: u32,
 ) -> Result<Script, ScriptFault>
     requires cluster { params.now ≡ made_values }
-    requires proper { IsProperCount doubles }
+    requires proper { IsMadeCount doubles }
     ensures { IfOk result (IsScriptDrawn params.now words.old doubles) }
 {
     let mut script = Script::empty(alloc);

@@ -17,11 +17,28 @@ use Rattle.fr_records.proofs.FormFacts.{IsFault, IsFormed, IsFormedBy, IsRead, i
 use Rattle.fr_cluster.specs.Names.{name_of, place, least, greatest}
 use Rattle.fr_cluster.specs.Ranges.{has_turn, is_keyless_starter}
 use Rattle.fr_cluster.specs.declared.names.ParamName.{ParamName}
-use Rattle.fr_params.specs.Rows.{channels_of, key_of, named_row, node_on, param_file_row, param_node_row, param_row, param_row_of, slot_row, slot_with, some_key}
-use Rattle.fr_params.specs.Reasons.{node_at, param_reason_after, param_row_reason, slot_at, value_at}
-use Rattle.fr_params.specs.Holding.{goes_not_together, has_unknown_node, is_second_row, key_fields, node_form, param_form, param_holds, slot_form, value_fields, value_form}
+use Rattle.fr_cluster.specs.declared.names.Version.{Version}
+use Rattle.fr_params.specs.Rows.{channels_of, key_of, named_row, node_on, param_file_row, param_node_row, param_row, param_row_of, slot_row, slot_with, some_key, version_row}
+use Rattle.fr_params.specs.Reasons.{is_later, node_at, param_reason_after, param_row_reason, slot_at, value_at}
+use Rattle.fr_params.specs.Versions.{version_with}
+use Rattle.fr_params.specs.Holding.{goes_not_together, has_unknown_node, is_second_row, key_fields, node_form, param_form, param_holds_in, param_holds, slot_form, value_fields, value_form, version_form}
 use Rattle.fr_params.specs.declared.rows.Row.{Row}
 use Rattle.fr_params.specs.declared.rows.Row.TheVariants as row
+
+-- a version
+full-three : (a b c : Bool) (name digits range channel : Bool) (x : Result Row Reason) → IsFormed never never false name digits range channel x
+    → IsFormed never never (not (a && (b && (c && true)))) name digits range channel (if not a || not b || not c then Err reason.Shape else x)
+full-three true true true name digits range channel x f = f
+full-three true true false name digits range channel x f = refl
+full-three true false c name digits range channel x f = refl
+full-three false b c name digits range channel x f = refl
+
+version-formed : (r : FileRecord)
+    → IsFormedBy never never (Some (version_form r)) (if not (is_blank (field_of r 2)) || not (is_blank (field_of r 3)) || not (is_blank (field_of r 4)) then Err reason.Shape else version_row (field_of r 1))
+version-formed r =
+    full-three (is_blank (field_of r 2)) (is_blank (field_of r 3)) (is_blank (field_of r 4)) _ _ _ _ (version_row (field_of r 1))
+    (formed-read never never never _ _ _ (λ z. Ok row.Version) (within (pos 2) (pos 2) (number_of (field_of r 1))) (within-read (pos 2) (pos 2) (field_of r 1))
+    (λ z d o e f. (refl, refl, e, f, refl)))
 
 -- a value
 full-two : (a b : Bool) (name digits range channel : Bool) (x : Result Row Reason) → IsFormed never never false name digits range channel x
@@ -37,8 +54,10 @@ named-formed (Some n) text =
     formed-read never never never _ _ _ (λ v. Ok (row.Param n v)) (within (pos (least n)) (pos (greatest n)) (number_of text)) (within-read (pos (least n)) (pos (greatest n)) text)
     (λ v d r e f. (refl, refl, e, f, refl))
 
-value-formed : (r : FileRecord) → IsFormedBy never never (Some (value_form r)) (if not (is_blank (field_of r 3)) || not (is_blank (field_of r 4)) then Err reason.Shape else param_row (field_of r 1) (field_of r 2))
-value-formed r = full-two (is_blank (field_of r 3)) (is_blank (field_of r 4)) _ _ _ _ (param_row (field_of r 1) (field_of r 2)) (named-formed (name_of (field_of r 1)) (field_of r 2))
+value-formed : (version : Version) (r : FileRecord)
+    → IsFormedBy never never (Some (value_form version r)) (if not (is_blank (field_of r 3)) || not (is_blank (field_of r 4)) then Err reason.Shape else param_row version (field_of r 1) (field_of r 2))
+value-formed version r =
+    full-two (is_blank (field_of r 3)) (is_blank (field_of r 4)) _ _ _ _ (param_row version (field_of r 1) (field_of r 2)) (named-formed (name_of version (field_of r 1)) (field_of r 2))
 
 -- a node
 some-read : (d o : Bool) (x : Result ℕ NumberFault) → IsFault never d o x → IsFault never d o (some_key x)
@@ -82,28 +101,36 @@ slot-formed r =
     (λ a d o e f. (refl, refl, e, f, refl))
 
 -- what a record says, against its form
-formed : (r : FileRecord)
-    → IsFormed never never (misses_form 5 r (param_form r)) (has_unknown_name (param_form r)) (has_no_number (param_form r)) (is_out_of_range (param_form r)) (has_bad_channels (param_form r)) (param_row_of r)
+formed : (version : Version) (r : FileRecord)
+    → IsFormed never never (misses_form 5 r (param_form version r)) (has_unknown_name (param_form version r)) (has_no_number (param_form version r)) (is_out_of_range (param_form version r))
+    (has_bad_channels (param_form version r)) (param_row_of version r)
 unfolding param_row_of
-formed r =
-    formed-sized never never (length r == 5) (is_overfull (param_form r)) (has_unknown_name (param_form r)) (has_no_number (param_form r)) (is_out_of_range (param_form r)) (has_bad_channels (param_form r))
-    (param_file_row (field_of r 0) (field_of r 1) (field_of r 2) (field_of r 3) (field_of r 4))
-    (formed-if never never (bytes_eq (field_of r 0) (codes "param")) (Some (value_form r)) _ _ _ (value-formed r)
+formed version r =
+    formed-sized never never (length r == 5) (is_overfull (param_form version r)) (has_unknown_name (param_form version r)) (has_no_number (param_form version r)) (is_out_of_range (param_form version r))
+    (has_bad_channels (param_form version r))
+    (param_file_row version (field_of r 0) (field_of r 1) (field_of r 2) (field_of r 3) (field_of r 4))
+    (formed-if never never (bytes_eq (field_of r 0) (codes "version")) (Some (version_form r)) _ _ _ (version-formed r)
+    (formed-if never never (bytes_eq (field_of r 0) (codes "param")) (Some (value_form version r)) _ _ _ (value-formed version r)
     (formed-if never never (bytes_eq (field_of r 0) (codes "node")) (Some (node_form r)) _ _ _ (node-formed r)
-    (formed-if never never (bytes_eq (field_of r 0) (codes "slot")) (Some (slot_form r)) None _ (Err reason.UnknownName) (slot-formed r) (refl, refl))))
+    (formed-if never never (bytes_eq (field_of r 0) (codes "slot")) (Some (slot_form r)) None _ (Err reason.UnknownName) (slot-formed r) (refl, refl)))))
 
 -- by what it says
-least-row : (test : Reason → Bool) (before : List FileRecord) (x : Result Row Reason)
+least-row : (version : Version) (test : Reason → Bool) (before : List FileRecord) (x : Result Row Reason)
     → IsFormed never never (test reason.Shape) (test reason.UnknownName) (test reason.NotNumber) (test reason.OutOfRange) (test reason.BadChannel) x
-    → test reason.UnknownNode ≡ row_passes (has_unknown_node before) x → test reason.Role ≡ row_passes goes_not_together x → test reason.Link ≡ false → test reason.NotHex ≡ false
-    → test reason.Repeated ≡ row_passes (is_second_row before) x → IsLeastReason test (param_row_reason before x)
-least-row test before (Err why) f node role link hex again = least-formed {Row = Row} never never test why f node
-least-row test before (Ok (row.Param n v)) f node role link hex again =
-    least-first test false false false false false false false false false (is_some (value_at (place n) before)) f.0 f.1 f.2 f.3 node f.4 role link hex again
-least-row test before (Ok (row.Node n)) f node role link hex again =
-    least-first test false false false false false false (is_keyless_starter n) false false (is_some (node_at n.id before)) f.0 f.1 f.2 f.3 node f.4 role link hex again
-least-row test before (Ok (row.Slot s)) f node role link hex again =
-    least-first test false false false false (is_none (node_at s.node before)) false (not (has_turn s)) false false (is_some (slot_at s.slot before)) f.0 f.1 f.2 f.3 node f.4 role link hex again
+    → test reason.UnknownNode ≡ row_passes (has_unknown_node version before) x → test reason.Role ≡ row_passes (goes_not_together before) x → test reason.Link ≡ false → test reason.NotHex ≡ false
+    → test reason.Repeated ≡ row_passes (is_second_row version before) x → IsLeastReason test (param_row_reason version before x)
+least-row version test before (Err why) f node role link hex again = least-formed {Row = Row} never never test why f node
+least-row version test before (Ok row.Version) f node role link hex again =
+    least-first test false false false false false false (is_later before) false false false f.0 f.1 f.2 f.3 node f.4 role link hex again
+least-row version test before (Ok (row.Param n v)) f node role link hex again =
+    least-first test false false false false false false false false false (is_some (value_at version (place n) before)) f.0 f.1 f.2 f.3 node f.4 role link hex again
+least-row version test before (Ok (row.Node n)) f node role link hex again =
+    least-first test false false false false false false (is_keyless_starter n) false false (is_some (node_at version n.id before)) f.0 f.1 f.2 f.3 node f.4 role link hex again
+least-row version test before (Ok (row.Slot s)) f node role link hex again =
+    least-first test false false false false (is_none (node_at version s.node before)) false (not (has_turn s)) false false (is_some (slot_at version s.slot before)) f.0 f.1 f.2 f.3 node f.4 role link hex again
+
+in-version : (version : Version) (before : List FileRecord) (r : FileRecord) → IsLeastReason (param_holds_in version before r) (param_row_reason version before (param_row_of version r))
+in-version version before r = least-row version (param_holds_in version before r) before (param_row_of version r) (formed version r) refl refl refl refl refl
 
 pub gives-least : GivesLeast param_reason_after param_holds
-gives-least before r = least-row (param_holds before r) before (param_row_of r) (formed r) refl refl refl refl refl
+gives-least before r = in-version (version_with before r) before r

@@ -1,7 +1,11 @@
+pub mod TableOfTwo
 pub mod Tables
+pub mod Taking
 pub mod Listing
 pub mod Standing
 pub mod Outcomes
 pub mod LeastReason
 pub mod Deciding
 pub mod Existence
+pub mod ProperRows
+pub mod Accepted

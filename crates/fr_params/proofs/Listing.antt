@@ -6,12 +6,13 @@ use Rattle.std.proofs.lemmas.List.{append-nil, map-append}
 use Rattle.std.proofs.lemmas.List.Elements.{All-nil, All-push, Contains-append_left, Contains-push}
 use Rattle.std.proofs.lemmas.List.Quantifiers.{all_pairs_push}
 use Rattle.fr_records.specs.Records.{FileRecord}
-use Rattle.fr_params.specs.Draft.{entry, IsParamsDraft}
+use Rattle.fr_params.specs.Draft.{entry, AreTables}
 use Rattle.fr_params.specs.Lists.{as_list, listed}
 use Rattle.fr_cluster.specs.Sane.{IsSaneNode, IsSaneSlot, AreSaneLists}
+use Rattle.fr_cluster.specs.declared.names.Version.{Version}
 use Rattle.fr_cluster.specs.declared.nodes.NodeSpec.{NodeSpec}
 use Rattle.fr_cluster.specs.declared.nodes.SlotSpec.{SlotSpec}
-use Rattle.fr_params.specs.declared.draft.Draft.{Draft}
+use Rattle.fr_params.specs.declared.draft.Tables.{Tables}
 
 pub listed-zero : {A : Type 0} (at : ℕ → Option A) → listed 0 at ≡ []
 unfolding listed
@@ -94,9 +95,9 @@ found None e = cc e
 found (Some x) e = (x, refl)
 
 -- the lists of what the tables hold are sane
-pub sane-lists : (d : Draft) (records : List FileRecord) (nodes : List NodeSpec) (slots : List SlotSpec) → IsParamsDraft d records
+pub sane-lists : (version : Version) (d : Tables) (records : List FileRecord) (nodes : List NodeSpec) (slots : List SlotSpec) → AreTables version d records
     → nodes ≡ listed 64 (entry d.nodes) → slots ≡ listed 1023 (entry d.slots) → AreSaneLists nodes slots
-sane-lists d records nodes slots h n s = record {
+sane-lists version d records nodes slots h n s = record {
   nodes_sane = rw n (listed-all IsSaneNode 64 (entry d.nodes) (λ k x le e. let at = h.numbered k x e in record { proper = at.proper; starts = at.starts }));
   slots_sane = rw s (listed-all (IsSaneSlot nodes) 1023 (entry d.slots) (λ k x le e. sane_slot k x e));
   nodes_ascend = rw n (listed-pairs (λ x. x.id) 64 (entry d.nodes) (λ k x e. (h.numbered k x e).at));

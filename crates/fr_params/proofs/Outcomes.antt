@@ -7,15 +7,18 @@ use Rattle.fr_records.specs.Records.{FileRecord, records_of}
 use Rattle.fr_records.specs.Kind.{HasOneAnswer}
 use Rattle.fr_records.proofs.Cuts.{first-same, refused-none}
 use Rattle.fr_cluster.specs.Names.{place}
-use Rattle.fr_params.specs.Reasons.{value_at, param_reason_after}
+use Rattle.fr_params.specs.Reasons.{param_reason_after}
+use Rattle.fr_params.specs.Versions.{is_of, name_at, row_name, version_of}
 use Rattle.fr_cluster.specs.Values.{Values, figure, amount}
 use Rattle.fr_cluster.specs.Constraints.{Amounts, ConstraintHolds, AllHold, FirstFails, key_slots}
-use Rattle.fr_params.specs.Files.{ParamsStandFor, IsParamsFile, IsMissing, FailsConstraint, params_file}
+use Rattle.fr_params.specs.Files.{ParamsStandFor, IsParamsFile, IsMissing, FailsConstraint, params_file, value_named}
 use Rattle.fr_cluster.specs.declared.names.ParamName.{ParamName}
 use Rattle.fr_cluster.specs.declared.names.ParamName.TheVariants as name
 use Rattle.fr_cluster.specs.declared.nodes.SlotSpec.{SlotSpec}
 use Rattle.fr_params.specs.declared.fault.ParamFault.TheVariants as fault
 use Rattle.fr_cluster.proofs.Places.{place-one}
+use Rattle.fr_cluster.specs.declared.names.Version.TheVariants.{Two}
+use Rattle.fr_params.proofs.TableOfTwo.{index, index-lt, row-at, two-at}
 
 some-same : {A : Type 0} (x y : A) → Some x ≡ Some y → x ≡ y
 some-same x y e = cc e
@@ -23,31 +26,32 @@ some-same x y e = cc e
 -- records stand for one value
 stands-same : (p q : Values) (records : List FileRecord) → ParamsStandFor p records → ParamsStandFor q records → p ≡ q
 stands-same p q records f g = λ i. record {
-  macros = figures name.gMacroPerCycle i;
-  micros = figures name.pMicroPerCycle i;
-  static_slots = figures name.gNumberOfStaticSlots i;
-  slot_macros = figures name.gdStaticSlot i;
-  action_offset = figures name.gdActionPointOffset i;
-  idle_macros = figures name.gdNIT i;
-  words = figures name.gPayloadLengthStatic i;
-  correction = figures name.gOffsetCorrectionStart i;
-  max_passive = figures name.gMaxWithoutClockCorrectionPassive i;
-  max_fatal = figures name.gMaxWithoutClockCorrectionFatal i;
-  halt_allowed = figures name.pAllowHaltDueToClock i;
-  to_active = figures name.pAllowPassiveToActive i;
-  damping = figures name.pClusterDriftDamping i;
-  offset_limit = figures name.pOffsetCorrectionOut i;
-  rate_limit = figures name.pRateCorrectionOut i;
-  compensation = figures name.pDelayCompensation i;
-  rate_bound = figures name.xRateBound i;
-  change_bound = figures name.xChangeBound i;
-  delay_error = figures name.xDelayError i;
+  macros = figures name.gMacroPerCycle refl i;
+  micros = figures name.pMicroPerCycle refl i;
+  static_slots = figures name.gNumberOfStaticSlots refl i;
+  slot_macros = figures name.gdStaticSlot refl i;
+  action_offset = figures name.gdActionPointOffset refl i;
+  idle_macros = figures name.gdNIT refl i;
+  words = figures name.gPayloadLengthStatic refl i;
+  correction = figures name.gOffsetCorrectionStart refl i;
+  max_passive = figures name.gMaxWithoutClockCorrectionPassive refl i;
+  max_fatal = figures name.gMaxWithoutClockCorrectionFatal refl i;
+  halt_allowed = figures name.pAllowHaltDueToClock refl i;
+  to_active = figures name.pAllowPassiveToActive refl i;
+  damping = figures name.pClusterDriftDamping refl i;
+  offset_limit = figures name.pOffsetCorrectionOut refl i;
+  rate_limit = figures name.pRateCorrectionOut refl i;
+  compensation_a = figures name.pDelayCompensationA refl i;
+  compensation_b = figures name.pDelayCompensationB refl i;
+  rate_bound = figures name.xRateBound refl i;
+  change_bound = figures name.xChangeBound refl i;
+  delay_error = figures name.xDelayError refl i;
   nodes = nodes i;
   slots = slots i;
 }
   where
-    figures : (n : ParamName) → figure p n ≡ figure q n
-    figures n = some-same (figure p n) (figure q n) (sym (f.figures n) ∙ g.figures n)
+    figures : (n : ParamName) → is_of Two n ≡ true → figure p n ≡ figure q n
+    figures n e = some-same (figure p n) (figure q n) (sym (f.figures n e) ∙ g.figures n e)
 
     nodes : p.nodes ≡ q.nodes
     nodes = f.nodes ∙ sym g.nodes
@@ -68,8 +72,13 @@ holds-of f keys slots h (suc (suc (suc (suc (suc (suc (suc zero))))))) = h.own_s
 holds-of f keys slots h (suc (suc (suc (suc (suc (suc (suc (suc zero)))))))) = h.free_slots
 holds-of f keys slots h (suc (suc (suc (suc (suc (suc (suc (suc (suc k))))))))) = tt
 
-stands-missing : (p : Values) (records : List FileRecord) (n : ParamName) → ParamsStandFor p records → value_at (place n) records ≡ None → ⊥
-stands-missing p records n f none = let there = f.figures n in cc
+-- a name of the version is that of the row of one of the numbers
+stands-missing : (p : Values) (records : List FileRecord) (n : ParamName) → ParamsStandFor p records → is_of (version_of records) n ≡ true → value_named n records ≡ None → ⊥
+stands-missing p records n f known none =
+    let there = f.figures (name_at (index n)) (two-at (index n) (index-lt n)) in
+    let here : row_name (version_of records) (name_at (index n)) ≡ n = row-at (version_of records) n known in
+    let both : Some (figure p (name_at (index n))) ≡ None = sym there ∙ ap (λ (m : ParamName). value_named m records) here ∙ none in
+    cc both
 
 -- the first missing name is one
 missing-same : (records : List FileRecord) (m n : ParamName) → IsMissing m records → IsMissing n records → m ≡ n
@@ -80,11 +89,11 @@ missing-same records m n f g = by (cases_eq (place m) (place n))
     clash (Some x) e s = cc e
 
     order : (b : Bool) → nat_lt (place m) (place n) ≡ b → (place m ≡ place n → ⊥) → m ≡ n
-    order true e ne = absurd (clash (value_at (place m) records) f.missing (g.earlier m (ltb-true (place m) (place n) e)))
+    order true e ne = absurd (clash (value_named m records) f.missing (g.earlier m f.known (ltb-true (place m) (place n) e)))
     order false e ne =
         let high = ltb-false (place m) (place n) e in
         let lt : place n < place m = omega (arith, ne) in
-        absurd (clash (value_at (place n) records) g.missing (f.earlier n lt))
+        absurd (clash (value_named n records) g.missing (f.earlier n g.known lt))
 
     by : (place m ≡ place n) ⊎ (place m ≡ place n → ⊥) → m ≡ n
     by (inl e) = place-one m n e
@@ -123,7 +132,7 @@ constraint-same records j k f g =
 pub reads-same : HasOneAnswer params_file
 reads-same bytes (Ok p) (Ok q) na nb f g = ap (λ (v : Values). Ok v) (stands-same p q (records_of bytes) f.stands g.stands)
 reads-same bytes (Ok p) (Err (fault.Row n why)) na nb f g = absurd (refused-none param_reason_after (records_of bytes) n why g f.none_refused)
-reads-same bytes (Ok p) (Err (fault.Missing m)) na nb f g = absurd (stands-missing p (records_of bytes) m f.stands g.missing)
+reads-same bytes (Ok p) (Err (fault.Missing m)) na nb f g = absurd (stands-missing p (records_of bytes) m f.stands g.known g.missing)
 reads-same bytes (Ok p) (Err (fault.Constraint k)) na nb f g = absurd (file-fails p bytes k f g)
 reads-same bytes (Ok p) (Err fault.NoMemory) na nb f g = absurd (nb refl)
 reads-same bytes (Err (fault.Row n why)) (Ok q) na nb f g = absurd (refused-none param_reason_after (records_of bytes) n why f g.none_refused)
@@ -131,14 +140,14 @@ reads-same bytes (Err (fault.Row n why)) (Err (fault.Row m other)) na nb f g = l
 reads-same bytes (Err (fault.Row n why)) (Err (fault.Missing m)) na nb f g = absurd (refused-none param_reason_after (records_of bytes) n why f g.none_refused)
 reads-same bytes (Err (fault.Row n why)) (Err (fault.Constraint k)) na nb f g = absurd (refused-none param_reason_after (records_of bytes) n why f g.none_refused)
 reads-same bytes (Err (fault.Row n why)) (Err fault.NoMemory) na nb f g = absurd (nb refl)
-reads-same bytes (Err (fault.Missing m)) (Ok q) na nb f g = absurd (stands-missing q (records_of bytes) m g.stands f.missing)
+reads-same bytes (Err (fault.Missing m)) (Ok q) na nb f g = absurd (stands-missing q (records_of bytes) m g.stands f.known f.missing)
 reads-same bytes (Err (fault.Missing m)) (Err (fault.Row n why)) na nb f g = absurd (refused-none param_reason_after (records_of bytes) n why g f.none_refused)
 reads-same bytes (Err (fault.Missing m)) (Err (fault.Missing n)) na nb f g = ap (λ (x : ParamName). Err (fault.Missing x)) (missing-same (records_of bytes) m n f g)
-reads-same bytes (Err (fault.Missing m)) (Err (fault.Constraint k)) na nb f g = absurd (stands-missing g.values (records_of bytes) m g.stands f.missing)
+reads-same bytes (Err (fault.Missing m)) (Err (fault.Constraint k)) na nb f g = absurd (stands-missing g.values (records_of bytes) m g.stands f.known f.missing)
 reads-same bytes (Err (fault.Missing m)) (Err fault.NoMemory) na nb f g = absurd (nb refl)
 reads-same bytes (Err (fault.Constraint k)) (Ok q) na nb f g = absurd (file-fails q bytes k g f)
 reads-same bytes (Err (fault.Constraint k)) (Err (fault.Row n why)) na nb f g = absurd (refused-none param_reason_after (records_of bytes) n why g f.none_refused)
-reads-same bytes (Err (fault.Constraint k)) (Err (fault.Missing m)) na nb f g = absurd (stands-missing f.values (records_of bytes) m f.stands g.missing)
+reads-same bytes (Err (fault.Constraint k)) (Err (fault.Missing m)) na nb f g = absurd (stands-missing f.values (records_of bytes) m f.stands g.known g.missing)
 reads-same bytes (Err (fault.Constraint j)) (Err (fault.Constraint k)) na nb f g = ap (λ (x : ℕ). Err (fault.Constraint x)) (constraint-same (records_of bytes) j k f g)
 reads-same bytes (Err (fault.Constraint k)) (Err fault.NoMemory) na nb f g = absurd (nb refl)
 reads-same bytes (Err fault.NoMemory) b na nb f g = absurd (na refl)

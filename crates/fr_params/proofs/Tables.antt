@@ -14,39 +14,44 @@ use Rattle.fr_cluster.specs.Ranges.{InRange, IsProperNode, IsProperSlot}
 use Rattle.fr_records.specs.Fields.{or_else}
 use Rattle.fr_params.specs.Reasons.{value_said, node_said, slot_said, value_at, node_at, slot_at}
 use Rattle.fr_cluster.specs.Ranges.{has_turn, is_keyless_starter}
-use Rattle.fr_params.specs.Draft.{entry, Shows, IsNodeAt, IsSlotAt, IsParamsDraft}
+use Rattle.fr_params.specs.Draft.{entry, Shows, IsNodeAt, IsSlotAt, AreTables}
 use Rattle.fr_cluster.specs.declared.names.ParamName.{ParamName}
 use Rattle.fr_cluster.specs.declared.nodes.NodeSpec.{NodeSpec}
 use Rattle.fr_cluster.specs.declared.nodes.SlotSpec.{SlotSpec}
 use Rattle.fr_params.specs.declared.rows.Row.{Row}
 use Rattle.fr_params.specs.declared.rows.Row.TheVariants as row
-use Rattle.fr_params.specs.declared.draft.Draft.{Draft}
+use Rattle.fr_params.specs.declared.draft.Tables.{Tables}
+use Rattle.fr_cluster.specs.declared.names.Version.{Version}
 use Rattle.fr_records.proofs.Lookups.{looked_up-more, looked_up-nil, or_else-none}
 use Rattle.fr_cluster.proofs.Places.{place-one, place-lt}
 
 -- what a record of five fields says
-pub row_of-five : (fields : FileRecord) → length fields ≡ 5
-    → param_row_of fields ≡ param_file_row (slice_index_or fields 0 []) (slice_index_or fields 1 []) (slice_index_or fields 2 []) (slice_index_or fields 3 []) (slice_index_or fields 4 [])
+pub row_of-five : (version : Version) (fields : FileRecord) → length fields ≡ 5
+    → param_row_of version fields ≡ param_file_row version (slice_index_or fields 0 []) (slice_index_or fields 1 []) (slice_index_or fields 2 []) (slice_index_or fields 3 []) (slice_index_or fields 4 [])
 unfolding param_row_of
-row_of-five fields e = rw e refl
+row_of-five version fields e = rw e refl
 
 -- the same, of fields that are equal
-pub kind_row-same : (k a b c d k2 a2 b2 c2 d2 : List ℕ) → k ≡ k2 → a ≡ a2 → b ≡ b2 → c ≡ c2 → d ≡ d2 → param_file_row k a b c d ≡ param_file_row k2 a2 b2 c2 d2
-kind_row-same k a b c d k2 a2 b2 c2 d2 e0 e1 e2 e3 e4 =
-    ap (λ (x : List ℕ). param_file_row x a b c d) e0
-    ∙ ap (λ (x : List ℕ). param_file_row k2 x b c d) e1
-    ∙ ap (λ (x : List ℕ). param_file_row k2 a2 x c d) e2
-    ∙ ap (λ (x : List ℕ). param_file_row k2 a2 b2 x d) e3
-    ∙ ap (λ (x : List ℕ). param_file_row k2 a2 b2 c2 x) e4
+pub kind_row-same : (version : Version) (k a b c d k2 a2 b2 c2 d2 : List ℕ) → k ≡ k2 → a ≡ a2 → b ≡ b2 → c ≡ c2 → d ≡ d2
+    → param_file_row version k a b c d ≡ param_file_row version k2 a2 b2 c2 d2
+kind_row-same version k a b c d k2 a2 b2 c2 d2 e0 e1 e2 e3 e4 =
+    ap (λ (x : List ℕ). param_file_row version x a b c d) e0
+    ∙ ap (λ (x : List ℕ). param_file_row version k2 x b c d) e1
+    ∙ ap (λ (x : List ℕ). param_file_row version k2 a2 x c d) e2
+    ∙ ap (λ (x : List ℕ). param_file_row version k2 a2 b2 x d) e3
+    ∙ ap (λ (x : List ℕ). param_file_row version k2 a2 b2 c2 x) e4
 
-value_at-more : (k : ℕ) (done : List FileRecord) (r : FileRecord) (x : Result Row Reason) → param_row_of r ≡ x → value_at k (done ++ r ∷ []) ≡ or_else (value_at k done) (value_said k x)
-value_at-more k done r x e = looked_up-more (value_said k) param_row_of done r x e
+value_at-more : (version : Version) (k : ℕ) (done : List FileRecord) (r : FileRecord) (x : Result Row Reason) → param_row_of version r ≡ x
+    → value_at version k (done ++ r ∷ []) ≡ or_else (value_at version k done) (value_said k x)
+value_at-more version k done r x e = looked_up-more (value_said k) (param_row_of version) done r x e
 
-node_at-more : (k : ℕ) (done : List FileRecord) (r : FileRecord) (x : Result Row Reason) → param_row_of r ≡ x → node_at k (done ++ r ∷ []) ≡ or_else (node_at k done) (node_said k x)
-node_at-more k done r x e = looked_up-more (node_said k) param_row_of done r x e
+node_at-more : (version : Version) (k : ℕ) (done : List FileRecord) (r : FileRecord) (x : Result Row Reason) → param_row_of version r ≡ x
+    → node_at version k (done ++ r ∷ []) ≡ or_else (node_at version k done) (node_said k x)
+node_at-more version k done r x e = looked_up-more (node_said k) (param_row_of version) done r x e
 
-slot_at-more : (k : ℕ) (done : List FileRecord) (r : FileRecord) (x : Result Row Reason) → param_row_of r ≡ x → slot_at k (done ++ r ∷ []) ≡ or_else (slot_at k done) (slot_said k x)
-slot_at-more k done r x e = looked_up-more (slot_said k) param_row_of done r x e
+slot_at-more : (version : Version) (k : ℕ) (done : List FileRecord) (r : FileRecord) (x : Result Row Reason) → param_row_of version r ≡ x
+    → slot_at version k (done ++ r ∷ []) ≡ or_else (slot_at version k done) (slot_said k x)
+slot_at-more version k done r x e = looked_up-more (slot_said k) (param_row_of version) done r x e
 
 pick-same : {A : Type 0} (p j : ℕ) (x y : A) → p ≡ j → (if p == j then x else y) ≡ x
 pick-same p j x y e = rw (eq-eqb p j e) refl
@@ -105,15 +110,38 @@ nothing {A} {P} size k x e = by (ltb k size) refl
         let long : length (replicate size None) ≤ k = omega (arith, length-replicate {A = Option A} size None, ltb-false k size h) in
         none-some (entry (replicate size None) k) x (get_or_past (replicate size None) k None long) e
 
--- a table of nothing
-pub draft-nil : (d : Draft) → d.values ≡ replicate 19 None → d.nodes ≡ replicate 65 None → d.slots ≡ replicate 1024 None → IsParamsDraft d []
-draft-nil d v n s = record {
-  values = rw v (shows-nil 19 value_at (λ k. looked_up-nil (λ q. value_said k (param_row_of q))));
-  nodes = rw n (shows-nil 65 node_at (λ k. looked_up-nil (λ q. node_said k (param_row_of q))));
-  slots = rw s (shows-nil 1024 slot_at (λ k. looked_up-nil (λ q. slot_said k (param_row_of q))));
-  ranged = λ m x e. nothing 19 (place m) x (rw v at e);
+-- tables of nothing
+pub tables-nil : (version : Version) (d : Tables) → d.values ≡ replicate 21 None → d.nodes ≡ replicate 65 None → d.slots ≡ replicate 1024 None → AreTables version d []
+tables-nil version d v n s = record {
+  values = rw v (shows-nil 21 (value_at version) (λ k. looked_up-nil (λ q. value_said k (param_row_of version q))));
+  nodes = rw n (shows-nil 65 (node_at version) (λ k. looked_up-nil (λ q. node_said k (param_row_of version q))));
+  slots = rw s (shows-nil 1024 (slot_at version) (λ k. looked_up-nil (λ q. slot_said k (param_row_of version q))));
+  ranged = λ m x e. nothing 21 (place m) x (rw v at e);
   numbered = λ k x e. nothing 65 k x (rw n at e);
   taken = λ k x e. nothing 1024 k x (rw s at e);
+}
+
+-- tables of no record are the same for both versions
+pub tables-any : (version other : Version) (d : Tables) → AreTables version d [] → AreTables other d []
+tables-any version other d h = record {
+  values = record { long = h.values.long; same = λ k lt. h.values.same k lt ∙ looked_up-nil (λ q. value_said k (param_row_of version q)) ∙ sym (looked_up-nil (λ q. value_said k (param_row_of other q))) };
+  nodes = record { long = h.nodes.long; same = λ k lt. h.nodes.same k lt ∙ looked_up-nil (λ q. node_said k (param_row_of version q)) ∙ sym (looked_up-nil (λ q. node_said k (param_row_of other q))) };
+  slots = record { long = h.slots.long; same = λ k lt. h.slots.same k lt ∙ looked_up-nil (λ q. slot_said k (param_row_of version q)) ∙ sym (looked_up-nil (λ q. slot_said k (param_row_of other q))) };
+  ranged = h.ranged;
+  numbered = h.numbered;
+  taken = h.taken;
+}
+
+-- a record that says the version changes no table
+pub tables-version : (version : Version) (d : Tables) (done : List FileRecord) (r : FileRecord) → AreTables version d done → param_row_of version r ≡ Ok row.Version
+    → AreTables version d (done ++ r ∷ [])
+tables-version version d done r h e = record {
+  values = shows-kept d.values 21 (value_at version) done r h.values (λ j. value_at-more version j done r _ e);
+  nodes = shows-kept d.nodes 65 (node_at version) done r h.nodes (λ j. node_at-more version j done r _ e);
+  slots = shows-kept d.slots 1024 (slot_at version) done r h.slots (λ j. slot_at-more version j done r _ e);
+  ranged = h.ranged;
+  numbered = h.numbered;
+  taken = h.taken;
 }
 
 -- what a test of an entry says
@@ -131,12 +159,12 @@ some-same : {A : Type 0} (x y : A) → Some x ≡ Some y → x ≡ y
 some-same x y e = cc e
 
 -- a value that was not there is taken
-pub draft-value : (d : Draft) (done : List FileRecord) (r : FileRecord) (n : ParamName) (v : ℤ) → IsParamsDraft d done → param_row_of r ≡ Ok (row.Param n v) → InRange n v
-    → entry d.values (place n) ≡ None → IsParamsDraft (record d { values = slice_set d.values (place n) (Some v) }) (done ++ r ∷ [])
-draft-value d done r n v h e fits empty = record {
-  values = shows-taken d.values 19 value_at done r (place n) v h.values (place-lt n) empty (λ j. value_at-more j done r _ e);
-  nodes = shows-kept d.nodes 65 node_at done r h.nodes (λ j. node_at-more j done r _ e);
-  slots = shows-kept d.slots 1024 slot_at done r h.slots (λ j. slot_at-more j done r _ e);
+pub tables-value : (version : Version) (d : Tables) (done : List FileRecord) (r : FileRecord) (n : ParamName) (v : ℤ) → AreTables version d done → param_row_of version r ≡ Ok (row.Param n v) → InRange n v
+    → entry d.values (place n) ≡ None → AreTables version (record d { values = slice_set d.values (place n) (Some v) }) (done ++ r ∷ [])
+tables-value version d done r n v h e fits empty = record {
+  values = shows-taken d.values 21 (value_at version) done r (place n) v h.values (place-lt n) empty (λ j. value_at-more version j done r _ e);
+  nodes = shows-kept d.nodes 65 (node_at version) done r h.nodes (λ j. node_at-more version j done r _ e);
+  slots = shows-kept d.slots 1024 (slot_at version) done r h.slots (λ j. slot_at-more version j done r _ e);
   ranged = λ m w there. by m w there (cases_eq (place m) (place n));
   numbered = h.numbered;
   taken = h.taken;
@@ -160,12 +188,12 @@ is_some-set t p k x lt some = by (cases_eq k p)
     by (inr ne) = rw (entry-others t p k x ne) some
 
 -- a node that was not there is taken
-pub draft-node : (d : Draft) (done : List FileRecord) (r : FileRecord) (node : NodeSpec) → IsParamsDraft d done → param_row_of r ≡ Ok (row.Node node) → IsProperNode node
-    → is_keyless_starter node ≡ false → entry d.nodes node.id ≡ None → IsParamsDraft (record d { nodes = slice_set d.nodes node.id (Some node) }) (done ++ r ∷ [])
-draft-node d done r node h e proper starts empty = record {
-  values = shows-kept d.values 19 value_at done r h.values (λ j. value_at-more j done r _ e);
-  nodes = shows-taken d.nodes 65 node_at done r node.id node h.nodes (omega (arith, proper.to)) empty (λ j. node_at-more j done r _ e);
-  slots = shows-kept d.slots 1024 slot_at done r h.slots (λ j. slot_at-more j done r _ e);
+pub tables-node : (version : Version) (d : Tables) (done : List FileRecord) (r : FileRecord) (node : NodeSpec) → AreTables version d done → param_row_of version r ≡ Ok (row.Node node) → IsProperNode node
+    → is_keyless_starter node ≡ false → entry d.nodes node.id ≡ None → AreTables version (record d { nodes = slice_set d.nodes node.id (Some node) }) (done ++ r ∷ [])
+tables-node version d done r node h e proper starts empty = record {
+  values = shows-kept d.values 21 (value_at version) done r h.values (λ j. value_at-more version j done r _ e);
+  nodes = shows-taken d.nodes 65 (node_at version) done r node.id node h.nodes (omega (arith, proper.to)) empty (λ j. node_at-more version j done r _ e);
+  slots = shows-kept d.slots 1024 (slot_at version) done r h.slots (λ j. slot_at-more version j done r _ e);
   ranged = h.ranged;
   numbered = λ k other there. by k other there (cases_eq k node.id);
   taken = λ k slot there.
@@ -184,13 +212,13 @@ draft-node d done r node h e proper starts empty = record {
     by k other there (inr ne) = h.numbered k other (sym (entry-others d.nodes node.id k node ne) ∙ there)
 
 -- a slot that was not there is taken
-pub draft-slot : (d : Draft) (done : List FileRecord) (r : FileRecord) (slot : SlotSpec) → IsParamsDraft d done → param_row_of r ≡ Ok (row.Slot slot) → IsProperSlot slot
+pub tables-slot : (version : Version) (d : Tables) (done : List FileRecord) (r : FileRecord) (slot : SlotSpec) → AreTables version d done → param_row_of version r ≡ Ok (row.Slot slot) → IsProperSlot slot
     → has_turn slot ≡ true → IsSome (entry d.nodes slot.node) → entry d.slots slot.slot ≡ None
-    → IsParamsDraft (record d { slots = slice_set d.slots slot.slot (Some slot) }) (done ++ r ∷ [])
-draft-slot d done r slot h e proper turn known empty = record {
-  values = shows-kept d.values 19 value_at done r h.values (λ j. value_at-more j done r _ e);
-  nodes = shows-kept d.nodes 65 node_at done r h.nodes (λ j. node_at-more j done r _ e);
-  slots = shows-taken d.slots 1024 slot_at done r slot.slot slot h.slots (omega (arith, proper.to)) empty (λ j. slot_at-more j done r _ e);
+    → AreTables version (record d { slots = slice_set d.slots slot.slot (Some slot) }) (done ++ r ∷ [])
+tables-slot version d done r slot h e proper turn known empty = record {
+  values = shows-kept d.values 21 (value_at version) done r h.values (λ j. value_at-more version j done r _ e);
+  nodes = shows-kept d.nodes 65 (node_at version) done r h.nodes (λ j. node_at-more version j done r _ e);
+  slots = shows-taken d.slots 1024 (slot_at version) done r slot.slot slot h.slots (omega (arith, proper.to)) empty (λ j. slot_at-more version j done r _ e);
   ranged = h.ranged;
   numbered = h.numbered;
   taken = λ k other there. by k other there (cases_eq k slot.slot);

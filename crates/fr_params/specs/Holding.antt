@@ -11,20 +11,32 @@ use Rattle.fr_cluster.specs.Names.{name_of, place, least, greatest}
 use Rattle.fr_cluster.specs.Ranges.{has_turn, is_keyless_starter}
 use Rattle.fr_cluster.specs.declared.names.ParamName.{ParamName}
 use Rattle.fr_params.specs.Rows.{channels_of, param_row_of}
-use Rattle.fr_params.specs.Reasons.{value_at, node_at, slot_at}
+use Rattle.fr_params.specs.Reasons.{is_later, value_at, node_at, slot_at}
+use Rattle.fr_params.specs.Versions.{version_with}
+use Rattle.fr_cluster.specs.declared.names.Version.{Version}
 use Rattle.fr_params.specs.declared.rows.Row.{Row}
 use Rattle.fr_params.specs.declared.rows.Row.TheVariants as row
 
--- `param,NAME,VALUE,,`: the value in the range of its name
+-- `version,2,,,`
+abbrev pub version_form : FileRecord → Form
+version_form r = record {
+  empty = field_of r 2 ∷ field_of r 3 ∷ field_of r 4 ∷ [];
+  known = true;
+  numbers = number_field (field_of r 1) 2 2 ∷ [];
+  short = true;
+  spelt = true;
+}
+
+-- `param,NAME,VALUE,,`: a name of the file's version, and the value in its range
 abbrev pub value_fields : Option ParamName → List ℕ → List NumberField
 value_fields None text = []
 value_fields (Some n) text = number_field text (least n) (greatest n) ∷ []
 
-abbrev pub value_form : FileRecord → Form
-value_form r = record {
+abbrev pub value_form : Version → FileRecord → Form
+value_form version r = record {
   empty = field_of r 3 ∷ field_of r 4 ∷ [];
-  known = is_some (name_of (field_of r 1));
-  numbers = value_fields (name_of (field_of r 1)) (field_of r 2);
+  known = is_some (name_of version (field_of r 1));
+  numbers = value_fields (name_of version (field_of r 1)) (field_of r 2);
   short = true;
   spelt = true;
 }
@@ -52,40 +64,49 @@ slot_form r = record {
   spelt = true;
 }
 
-abbrev pub param_form : FileRecord → Option Form
-param_form r =
-    if bytes_eq (field_of r 0) (codes "param") then Some (value_form r)
+abbrev pub param_form : Version → FileRecord → Option Form
+param_form version r =
+    if bytes_eq (field_of r 0) (codes "version") then Some (version_form r)
+    else if bytes_eq (field_of r 0) (codes "param") then Some (value_form version r)
     else if bytes_eq (field_of r 0) (codes "node") then Some (node_form r)
     else if bytes_eq (field_of r 0) (codes "slot") then Some (slot_form r)
     else None
 
 -- a slot of a node that no earlier record names
-abbrev pub has_unknown_node : List FileRecord → Row → Bool
-has_unknown_node before (row.Param n v) = false
-has_unknown_node before (row.Node node) = false
-has_unknown_node before (row.Slot slot) = is_none (node_at slot.node before)
+abbrev pub has_unknown_node : Version → List FileRecord → Row → Bool
+has_unknown_node version before row.Version = false
+has_unknown_node version before (row.Param n v) = false
+has_unknown_node version before (row.Node node) = false
+has_unknown_node version before (row.Slot slot) = is_none (node_at version slot.node before)
 
--- a coldstart node without a key slot; a slot whose base and repetition do not go together
-abbrev pub goes_not_together : Row → Bool
-goes_not_together (row.Param n v) = false
-goes_not_together (row.Node node) = is_keyless_starter node
-goes_not_together (row.Slot slot) = not (has_turn slot)
+-- a version that is not said by the first record; a coldstart node without a key slot; a slot whose base and repetition
+-- do not go together
+abbrev pub goes_not_together : List FileRecord → Row → Bool
+goes_not_together before row.Version = is_later before
+goes_not_together before (row.Param n v) = false
+goes_not_together before (row.Node node) = is_keyless_starter node
+goes_not_together before (row.Slot slot) = not (has_turn slot)
 
 -- a second row of a name, of a node, of a slot
-abbrev pub is_second_row : List FileRecord → Row → Bool
-is_second_row before (row.Param n v) = is_some (value_at (place n) before)
-is_second_row before (row.Node node) = is_some (node_at node.id before)
-is_second_row before (row.Slot slot) = is_some (slot_at slot.slot before)
+abbrev pub is_second_row : Version → List FileRecord → Row → Bool
+is_second_row version before row.Version = false
+is_second_row version before (row.Param n v) = is_some (value_at version (place n) before)
+is_second_row version before (row.Node node) = is_some (node_at version node.id before)
+is_second_row version before (row.Slot slot) = is_some (slot_at version slot.slot before)
+
+-- whether a reason holds of a record of a file of a version after the records before it
+abbrev pub param_holds_in : Version → List FileRecord → FileRecord → Reason → Bool
+param_holds_in version before r reason.Shape = misses_form 5 r (param_form version r)
+param_holds_in version before r reason.UnknownName = has_unknown_name (param_form version r)
+param_holds_in version before r reason.NotNumber = has_no_number (param_form version r)
+param_holds_in version before r reason.OutOfRange = is_out_of_range (param_form version r)
+param_holds_in version before r reason.UnknownNode = row_passes (has_unknown_node version before) (param_row_of version r)
+param_holds_in version before r reason.BadChannel = has_bad_channels (param_form version r)
+param_holds_in version before r reason.Role = row_passes (goes_not_together before) (param_row_of version r)
+param_holds_in version before r reason.Link = false
+param_holds_in version before r reason.NotHex = false
+param_holds_in version before r reason.Repeated = row_passes (is_second_row version before) (param_row_of version r)
 
 -- whether a reason holds of a record after the records before it
 abbrev pub param_holds : List FileRecord → FileRecord → Reason → Bool
-param_holds before r reason.Shape = misses_form 5 r (param_form r)
-param_holds before r reason.UnknownName = has_unknown_name (param_form r)
-param_holds before r reason.NotNumber = has_no_number (param_form r)
-param_holds before r reason.OutOfRange = is_out_of_range (param_form r)
-param_holds before r reason.UnknownNode = row_passes (has_unknown_node before) (param_row_of r)
-param_holds before r reason.BadChannel = has_bad_channels (param_form r)
-param_holds before r reason.Role = row_passes goes_not_together (param_row_of r)
-param_holds before r reason.Link = false
-param_holds before r reason.NotHex = false
-param_holds before r reason.Repeated = row_passes (is_second_row before) (param_row_of r)
+param_holds before r why = param_holds_in (version_with before r) before r why

@@ -4,8 +4,8 @@ use crate::fault::ParamFault;
 use fr_cluster::{ClusterFault, NodeSpec, Params, SlotSpec};
 use std::alloc::Global;
 
-/// The parameters of these numbers, in the order of the table, of these nodes and further slots, both in
-/// ascending order. They are those of an accepted file. `NoMemory` is its only refusal.
+/// The parameters of these 20 numbers, in the order of the table of version 2, of these nodes and further slots,
+/// both in ascending order. They are those of an accepted file. `NoMemory` is its only refusal.
 pub fn assemble(
     alloc: Global,
     values: &[i64],
@@ -15,7 +15,7 @@ pub fn assemble(
     requires { AreAccepted values.now nodes.now slots.now }
     ensures { Assembles values.now nodes.now slots.now result }
 {
-    let mut numbers = [0; 19];
+    let mut numbers = [0; 20];
     numbers.copy_from_slice(values);
     let Ok(nodes) = Vec::from_slice(alloc, nodes) else {
         return Err(ParamFault::NoMemory);

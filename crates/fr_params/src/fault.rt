@@ -8,7 +8,7 @@ pub enum ParamFault {
     /// The first record that is refused, by its number from 1, and the least reason that holds.
     #[error("record {number} is refused: {reason:?}")]
     Row { number: u64, reason: Reason },
-    /// The first name of the table that has no row.
+    /// The first name of the table of the file's version that has no row.
     #[error("{0:?} is missing")]
     Missing(ParamName),
     /// The least number, from 1 to 8, of a constraint that fails.

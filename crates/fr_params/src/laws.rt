@@ -2,6 +2,7 @@ ghost use Rattle.fr_records.specs.Kind.{HasOneAnswer, HasSomeAnswer};
 ghost use Rattle.fr_records.specs.Least.{GivesLeast};
 ghost use Rattle.fr_params.specs.Reasons.{param_reason_after};
 ghost use Rattle.fr_params.specs.Holding.{param_holds};
+ghost use Rattle.fr_params.specs.Assembling.{AssemblesFiles};
 ghost use Rattle.fr_params.specs.Files.{params_file};
 
 /// The answer to a file is determined by its bytes: two that are not want of memory are the same. So a
@@ -19,4 +20,10 @@ pub fn some_answer()
 /// one holds.
 pub fn refused_for_the_least_reason()
     ensures { GivesLeast param_reason_after param_holds }
+{}
+
+/// The numbers of an accepted file in the order of the table of version 2, its nodes and its further slots are
+/// those of which `assemble` makes parameters, and what it makes of them are the parameters of the file.
+pub fn an_accepted_file_is_assembled()
+    ensures { AssemblesFiles }
 {}

@@ -13,5 +13,7 @@ mod rows;
 pub use assembling::assemble;
 pub use fault::ParamFault;
 pub use kind::ParamsFile;
-pub use laws::{one_answer, refused_for_the_least_reason, some_answer};
+pub use laws::{
+    an_accepted_file_is_assembled, one_answer, refused_for_the_least_reason, some_answer,
+};
 pub use reading::read;

@@ -1,17 +1,20 @@
 ghost use Rattle.std.specs.Prelude.{◌≡◌, ◌<◌, ◌≤◌, ℕ, List, [], length, pos, ◌≤ℤ◌, slice_index_or, codes, IfOk, IfSome};
 ghost use Rattle.csv.specs.Records.{fields_of};
 ghost use Rattle.fr_cluster.specs.Names.{greatest, least};
-ghost use Rattle.fr_params.specs.Rows.{IsProperParamRow, channels_of, key_of, param_file_row, param_node_row, param_row, param_row_of, slot_row};
+ghost use Rattle.fr_params.specs.Rows.{IsProperParamRow, channels_of, key_of, param_file_row, param_node_row, param_row, param_row_of, slot_row, version_row};
+ghost use Rattle.fr_params.specs.Versions.{version_by};
 ghost use Rattle.fr_cluster.specs.Ranges.{IsProperNode, IsProperSlot};
 
 use csv::ByteRecord;
 use fr_base::{NodeId, NumberFault, Reason, Slot, number};
-use fr_cluster::{NodeSpec, ParamName, SlotSpec};
+use fr_cluster::{NodeSpec, ParamName, SlotSpec, Version};
 use fr_records::{both, field, natural, reason_of};
 
 /// What a record of a parameter file says by itself.
 #[derive(Clone, Copy, Debug, PartialEq, Eq)]
 pub enum Row {
+    /// That the file is of version 2.
+    Version,
     /// The value of a parameter.
     Param(ParamName, i64),
     /// A node.
@@ -20,16 +23,30 @@ pub enum Row {
     Slot(SlotSpec),
 }
 
-/// What a record says, or the least of the reasons that it shows by itself: Shape, UnknownName,
-/// NotNumber, OutOfRange, BadChannel.
-pub fn read_row(row: &ByteRecord) -> Result<Row, Reason>
-    ensures said { result ≡ param_row_of (fields_of row.now) }
+/// The version of a file whose first record this is.
+pub fn version_by(row: &ByteRecord) -> Version
+    ensures { result ≡ version_by (fields_of row.now) }
+{
+    match read_row(Version::One, row) {
+        Ok(Row::Version) => Version::Two,
+        Ok(Row::Param(_, _)) => Version::One,
+        Ok(Row::Node(_)) => Version::One,
+        Ok(Row::Slot(_)) => Version::One,
+        Err(_) => Version::One,
+    }
+}
+
+/// What a record says in a file of a version, or the least of the reasons that it shows by itself: Shape,
+/// UnknownName, NotNumber, OutOfRange, BadChannel.
+pub fn read_row(version: Version, row: &ByteRecord) -> Result<Row, Reason>
+    ensures said { result ≡ param_row_of version (fields_of row.now) }
     ensures proper { IfOk result (λ said. IsProperParamRow said) }
 {
     if row.len() != 5 {
         return Err(Reason::Shape);
     }
     read_kind(
+        version,
         field(row, 0),
         field(row, 1),
         field(row, 2),
@@ -39,20 +56,26 @@ pub fn read_row(row: &ByteRecord) -> Result<Row, Reason>
 }
 
 fn read_kind(
+    version: Version,
     kind: &[u8],
     first: &[u8],
     second: &[u8],
     third: &[u8],
     fourth: &[u8],
 ) -> Result<Row, Reason>
-    ensures said { result ≡ param_file_row kind.now first.now second.now third.now fourth.now }
+    ensures said { result ≡ param_file_row version kind.now first.now second.now third.now fourth.now }
     ensures proper { IfOk result (λ said. IsProperParamRow said) }
 {
-    if kind == b"param".as_slice() {
+    if kind == b"version".as_slice() {
+        if !second.is_empty() || !third.is_empty() || !fourth.is_empty() {
+            return Err(Reason::Shape);
+        }
+        read_version(first)
+    } else if kind == b"param".as_slice() {
         if !third.is_empty() || !fourth.is_empty() {
             return Err(Reason::Shape);
         }
-        read_param(first, second)
+        read_param(version, first, second)
     } else if kind == b"node".as_slice() {
         read_node(first, second, third, fourth)
     } else if kind == b"slot".as_slice() {
@@ -62,11 +85,21 @@ fn read_kind(
     }
 }
 
-fn read_param(word: &[u8], value: &[u8]) -> Result<Row, Reason>
-    ensures said { result ≡ param_row word.now value.now }
+fn read_version(value: &[u8]) -> Result<Row, Reason>
+    ensures said { result ≡ version_row value.now }
     ensures proper { IfOk result (λ said. IsProperParamRow said) }
 {
-    let Some(name) = ParamName::named(word) else {
+    match number(value, 2, 2) {
+        Ok(_) => Ok(Row::Version),
+        Err(fault) => Err(reason_of(fault)),
+    }
+}
+
+fn read_param(version: Version, word: &[u8], value: &[u8]) -> Result<Row, Reason>
+    ensures said { result ≡ param_row version word.now value.now }
+    ensures proper { IfOk result (λ said. IsProperParamRow said) }
+{
+    let Some(name) = ParamName::named(version, word) else {
         return Err(Reason::UnknownName);
     };
     match number(value, name.least(), name.greatest()) {

@@ -12,5 +12,5 @@ pub returns-clause-said : goal.returns-clause-said
 returns-clause-said c =
     let five : length (fields_of c.args.row.now) ≡ 5 = sym c.len.ensures ∙ c.if-len-ne5.false in
     c.read_kind.ensures.said
-    ∙ kind_row-same _ _ _ _ _ _ _ _ _ _ c.field.ensures c.field-2.ensures c.field-3.ensures c.field-4.ensures c.field-5.ensures
-    ∙ sym (row_of-five (fields_of c.args.row.now) five)
+    ∙ kind_row-same c.args.version _ _ _ _ _ _ _ _ _ _ c.field.ensures c.field-2.ensures c.field-3.ensures c.field-4.ensures c.field-5.ensures
+    ∙ sym (row_of-five c.args.version (fields_of c.args.row.now) five)

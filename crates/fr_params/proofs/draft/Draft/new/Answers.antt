@@ -1,6 +1,6 @@
 use Rattle.std.proofs.Common.{refl}
-use Rattle.fr_params.proofs.Tables.{draft-nil}
+use Rattle.fr_cluster.specs.declared.names.Version.TheVariants.{One}
 use Rattle.fr_params.proofs.draft.Draft.new.Goals as goal
 
 pub returns : goal.returns
-returns c = draft-nil _ refl refl refl
+returns c = record { version = refl; tables = c.new.ensures One }

@@ -2,11 +2,11 @@ use Rattle.std.proofs.Common.{sym, ◌∙◌, ◌≡◌, ◌<◌, length, arith,
 use Rattle.std.specs.Prelude.{IsSome}
 use Rattle.std.proofs.lemmas.Grind.{common_steps}
 use Rattle.fr_params.specs.Draft.{entry}
-use Rattle.fr_params.proofs.Tables.{draft-slot, entry-none, entry-some}
-use Rattle.fr_params.proofs.draft.Draft.take_slot.Goals as goal
+use Rattle.fr_params.proofs.Tables.{tables-slot, entry-none, entry-some}
+use Rattle.fr_params.proofs.draft.Tables.take_slot.Goals as goal
 
 pub returns : goal.returns
-returns c = record {
+returns c = λ version. record {
   why = grind (arith, common_steps);
   adds = λ done r h e none.
       let room : c.args.slot.slot < length c.args.self.now.slots = omega (arith, h.slots.long, c.requires.to) in
@@ -18,5 +18,5 @@ returns c = record {
       entry-some c.args.self.now.nodes c.args.slot.node _ space (rw c.node_place-node.ensures.value at c.if-is_none.ensures)
       in
       rw c.slot_place-place.ensures.value
-      (draft-slot c.args.self.now done r c.args.slot h e c.requires (sym c.goes_together.ensures ∙ c.if-not-goes_together.false) known empty);
+      (tables-slot version c.args.self.now done r c.args.slot h e c.requires (sym c.goes_together.ensures ∙ c.if-not-goes_together.false) known empty);
 }

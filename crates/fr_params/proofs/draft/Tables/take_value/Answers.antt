@@ -5,11 +5,11 @@ use Rattle.std.proofs.lemmas.Int.{to_z-of_z}
 use Rattle.fr_cluster.specs.Names.{place}
 use Rattle.fr_params.specs.Draft.{entry}
 use Rattle.fr_cluster.proofs.Places.{place-lt}
-use Rattle.fr_params.proofs.Tables.{draft-value, entry-none}
-use Rattle.fr_params.proofs.draft.Draft.take_value.Goals as goal
+use Rattle.fr_params.proofs.Tables.{tables-value, entry-none}
+use Rattle.fr_params.proofs.draft.Tables.take_value.Goals as goal
 
 pub returns : goal.returns
-returns c = record {
+returns c = λ version. record {
   why = search rules;
   adds = λ done r h e none.
       let few = place-lt c.args.name in
@@ -18,5 +18,5 @@ returns c = record {
       entry-none c.args.self.now.values (place c.args.name) _ room (sym (rw c.place-place.ensures at c.if-is_some.ensures))
       in
       let value : to_z w64 (of_z w64 c.args.value) ≡ c.args.value = to_z-of_z w64 c.args.value c.ranges.value in
-      rw (c.place-place.ensures, value) (draft-value c.args.self.now done r c.args.name c.args.value h e c.requires empty);
+      rw (c.place-place.ensures, value) (tables-value version c.args.self.now done r c.args.name c.args.value h e c.requires empty);
 }
