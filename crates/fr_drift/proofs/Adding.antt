@@ -50,7 +50,7 @@ use Rattle.fr_drift.proofs.Making.{made, stands-made}
 -- what is written is read
 pub says-doubles : (n : ℕ) → IsProperCount n → drift_row_of (doubles_record n) ≡ Ok (row.Doubles n)
 unfolding drift_row_of
-says-doubles n h = rw (natural-decimal 1 10_000 n h.from h.to (omega (arith, h.to))) refl
+says-doubles n h = rw (natural-decimal 1 100_000 n h.from h.to (omega (arith, h.to))) refl
 
 pub says-start : (node : ℕ) (s : Start) → 1 ≤ node → node ≤ 64 → IsProperStart s → drift_row_of (start_record node s.ticks s.rate) ≡ Ok (row.Start (record { node = node; start = s }))
 unfolding drift_row_of rate_in

@@ -44,7 +44,7 @@ module _ (limit : ℤ) where
   unfolding far astray
   doubles-formed r =
       formed-four (far limit) astray (is_blank (field_of r 2)) (is_blank (field_of r 3)) (is_blank (field_of r 4)) (is_blank (field_of r 5)) _ _ _ _ (doubles_row (field_of r 1))
-      (formed-read (far limit) astray never _ _ _ (λ n. Ok (row.Doubles n)) (natural_of 1 10_000 (field_of r 1)) (natural-read 1 10_000 (field_of r 1)) (λ n d o e f. (refl, refl, e, f, refl)))
+      (formed-read (far limit) astray never _ _ _ (λ n. Ok (row.Doubles n)) (natural_of 1 100_000 (field_of r 1)) (natural-read 1 100_000 (field_of r 1)) (λ n d o e f. (refl, refl, e, f, refl)))
 
   -- a rate term outside the widest limit is outside this one
   wide : (z : ℤ) → limit ≤ℤ pos 2000 → (int_lt z (negsuc 1999) || int_lt (pos 2000) z) ≡ true → (int_lt z (neg_ℤ limit) || int_lt limit z) ≡ true

@@ -21,7 +21,7 @@ abbrev pub doubles_form : FileRecord → Form
 doubles_form r = record {
   empty = field_of r 2 ∷ field_of r 3 ∷ field_of r 4 ∷ field_of r 5 ∷ [];
   known = true;
-  numbers = number_field (field_of r 1) 1 10_000 ∷ [];
+  numbers = number_field (field_of r 1) 1 100_000 ∷ [];
   short = true;
   spelt = true;
 }

@@ -16,7 +16,7 @@ use Rattle.fr_drift.specs.declared.rows.Row.TheVariants as row
 
 -- the number of double cycles of a run
 abbrev pub doubles_row : List ℕ → Result Row Reason
-doubles_row count = or_reason (λ n. Ok (row.Doubles n)) (natural_of 1 10_000 count)
+doubles_row count = or_reason (λ n. Ok (row.Doubles n)) (natural_of 1 100_000 count)
 
 -- a rate term that a field writes, within 2000 of 0
 unfoldable pub rate_in : List ℕ → Result ℤ NumberFault
@@ -84,10 +84,10 @@ pub record IsProperDelay (ticks : ℤ) : Type 0 where
   pub from : pos 0 ≤ℤ ticks
   pub to : ticks ≤ℤ pos 1_000_000_000
 
--- a run has 1 to 10,000 double cycles
+-- a run has 1 to 100,000 double cycles
 pub record IsProperCount (doubles : ℕ) : Type 0 where
   pub from : 1 ≤ doubles
-  pub to : doubles ≤ 10_000
+  pub to : doubles ≤ 100_000
 
 -- the numbers of a row lie in their ranges
 abbrev pub IsProperDriftRow : Row → Type 0

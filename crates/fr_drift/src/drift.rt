@@ -77,7 +77,7 @@ impl Drift {
     pub fn doubles(&self) -> u32
         ensures value { result ≡ doubles_of self.now }
         ensures from { 1 ≤ result }
-        ensures to { result ≤ 10_000 }
+        ensures to { result ≤ 100_000 }
     {
         self.doubles
     }

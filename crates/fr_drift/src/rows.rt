@@ -115,7 +115,7 @@ fn read_doubles(count: &[u8]) -> Result<Row, Reason>
     ensures said { result ≡ doubles_row count.now }
     ensures proper { IfOk result (λ said. IsProperDriftRow said) }
 {
-    match natural(count, 1, 10_000) {
+    match natural(count, 1, 100_000) {
         Ok(count) => Ok(Row::Doubles(count as u32)),
         Err(fault) => Err(reason_of(fault)),
     }

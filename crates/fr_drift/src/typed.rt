@@ -16,7 +16,7 @@ use std::alloc::{AllocError, Global};
 use std::collections::BTreeMap;
 
 impl Drift {
-    /// The drift of the file with the one record `doubles`, of so many double cycles, 1 to 10,000. It takes
+    /// The drift of the file with the one record `doubles`, of so many double cycles, 1 to 100,000. It takes
     /// no memory.
     pub fn even(alloc: Global, params: &Params, doubles: u32) -> Drift
         requires { IsProperCount doubles }

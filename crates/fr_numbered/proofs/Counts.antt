@@ -28,12 +28,12 @@ choice : (b : Bool) (x y : Result Row Reason) → IsCounted x → IsCounted y �
 choice true x y hx hy = hx
 choice false x y hx hy = hy
 
-run-number : (o : Option ℤ) → IsCounted (or_reason (λ n. Ok (row.Run n)) (natural_within 1 10_000 o))
+run-number : (o : Option ℤ) → IsCounted (or_reason (λ n. Ok (row.Run n)) (natural_within 1 100_000 o))
 run-number None = tt
 run-number (Some (negsuc n)) = tt
-run-number (Some (pos n)) = by (nat_lt n 1 || nat_lt 10_000 n) refl
+run-number (Some (pos n)) = by (nat_lt n 1 || nat_lt 100_000 n) refl
   where
-    by : (b : Bool) → (nat_lt n 1 || nat_lt 10_000 n) ≡ b → IsCounted (or_reason (λ n. Ok (row.Run n)) (if b then Err fault.OutOfRange else Ok n))
+    by : (b : Bool) → (nat_lt n 1 || nat_lt 100_000 n) ≡ b → IsCounted (or_reason (λ n. Ok (row.Run n)) (if b then Err fault.OutOfRange else Ok n))
     by true e = tt
     by false e = grind (arith, nat_tests, e)
 

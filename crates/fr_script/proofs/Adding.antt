@@ -1,6 +1,6 @@
 -- A script with one record more stands for the records with that one more.
-use Rattle.std.proofs.Common.{◌≡◌, ◌<◌, ◌≤◌, ℕ, ℤ, pos, negsuc, ◌≤ℤ◌, Bool, true, false, List, [], ◌∷◌, ◌++◌, length, Option, Some, None, Result, Ok, Err, ap, sym, subst, ◌∙◌, refl, arith, replicate}
-use Rattle.std.specs.Prelude.{◌&&◌, not, is_some, neg_ℤ, slice_index_or, slice_set, if◌then◌else◌}
+use Rattle.std.proofs.Common.{◌≡◌, ◌≤◌, ℕ, ℤ, Bool, true, false, List, [], ◌∷◌, ◌++◌, Option, Some, None, Result, Ok, Err, ap, sym, ◌∙◌, refl, arith, replicate}
+use Rattle.std.specs.Prelude.{not, is_some, neg_ℤ, slice_set, if◌then◌else◌}
 use Rattle.std.proofs.lemmas.Int.{ints}
 use Rattle.std.proofs.lemmas.List.{length-replicate, length-set}
 use Rattle.fr_base.specs.Channels.{channel_of, letter}
@@ -9,7 +9,6 @@ use Rattle.fr_base.specs.declared.channel.Channel.TheVariants as channel
 use Rattle.fr_base.specs.declared.reason.Reason.{Reason}
 use Rattle.fr_base.specs.declared.reason.Reason.TheVariants as reason
 use Rattle.fr_records.specs.Records.{FileRecord}
-use Rattle.fr_records.specs.Refusal.{NoneRefused}
 use Rattle.fr_records.proofs.Cuts.{none-empty}
 use Rattle.fr_records.proofs.Lookups.{or_else-none}
 use Rattle.fr_records.proofs.Written.{natural-decimal, within-signed}

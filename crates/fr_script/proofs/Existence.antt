@@ -68,7 +68,7 @@ all-below : {K V : Type 0} (R : K → K → Ordering) (k : K) (es : List (K × V
 all-below R k [] h = tt
 all-below R k (e ∷ es) h = (less (R k e.0) (first (is_lt (R k e.0)) (below_all R k es) h), all-below R k es (second (is_lt (R k e.0)) (below_all R k es) h))
 
-ordered-keys : {K V : Type 0} (R : K → K → Ordering) (es : List (K × V)) → T (is_sorted R es) → IsStrictlySortedBy R (keys_of es)
+pub ordered-keys : {K V : Type 0} (R : K → K → Ordering) (es : List (K × V)) → T (is_sorted R es) → IsStrictlySortedBy R (keys_of es)
 unfolding IsStrictlySortedBy
 ordered-keys R [] h = tt
 ordered-keys R (e ∷ es) h = (all-below R e.0 es (first (below_all R e.0 es) (is_sorted R es) h), ordered-keys R es (second (below_all R e.0 es) (is_sorted R es) h))

@@ -1,9 +1,9 @@
 -- The senders that have a deed are marked.
-use Rattle.std.proofs.Common.{◌≡◌, ℕ, ◌<◌, ◌≤◌, Bool, true, false, List, [], length, replicate, Option, Some, None, Result, Ok, Err, inl, inr, ◌⊎◌, refl, ap, sym, ◌∙◌, arith}
+use Rattle.std.proofs.Common.{◌≡◌, ℕ, ◌<◌, ◌≤◌, Bool, true, false, List, [], length, replicate, Some, None, Result, Ok, Err, inl, inr, ◌⊎◌, refl, ap, sym, ◌∙◌, arith}
 use Rattle.std.specs.Prelude.{if◌then◌else◌, slice_index_or, slice_set, OnOk, OnErr}
 use Rattle.std.specs.BTreeMap.{is_at}
 use Rattle.std.proofs.lemmas.Bool.{cases_Bool, cases_eq}
-use Rattle.std.proofs.lemmas.List.{get_or-replicate, length-replicate, get_or-set_same, get_or-set_other, length-set}
+use Rattle.std.proofs.lemmas.List.{get_or_default, length-replicate, get_or-set_same, get_or-set_other, length-set}
 use Rattle.fr_script.specs.Deeds.{deed_in, passage_cmp, MarksSenders}
 use Rattle.fr_script.specs.declared.deeds.Passage.{Passage}
 use Rattle.fr_script.specs.declared.deeds.Deed.{Deed}
@@ -62,3 +62,9 @@ pub marks-after : (marks : List Bool) (old new : List (Passage × Deed)) (passag
     → ((q : Passage) → deed_in new q ≡ (if is_at (passage_cmp passage) q then Some deed else deed_in old q)) ⊎ (new ≡ old) → MarksSenders (slice_set marks passage.sender true) new
 marks-after marks old new passage deed low was (inl put) = marks-put marks old new passage deed low was put
 marks-after marks old new passage deed low was (inr same) = marks-kept marks old new passage.sender low was same
+
+-- a sender that is not marked has no deed
+pub unmarked : (marks : List Bool) (deeds : List (Passage × Deed)) (q : Passage) (place : ℕ) → MarksSenders marks deeds → place ≡ q.sender → place ≤ 64 → slice_index_or marks place false ≡ false → deed_in deeds q ≡ None
+unmarked marks deeds q place h is low none =
+    let room : q.sender < length marks = omega (arith, is, low, h.long) in
+    h.silent q (get_or_default marks q.sender true false room ∙ ap (λ (k : ℕ). slice_index_or marks k false) (sym is) ∙ none)

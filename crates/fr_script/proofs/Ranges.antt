@@ -1,105 +1,167 @@
--- The part of a table of deeds between two cycles of one pair of nodes.
-use Rattle.std.proofs.Common.{◌≡◌, ℕ, ◌<◌, ◌≤◌, true, false, Bool, List, [], ◌∷◌, Option, Some, None, ap, sym, ◌∙◌, refl, arith}
-use Rattle.std.specs.Prelude.{IsSome}
-use Rattle.std.specs.declared.cmp.Ordering.{Ordering}
-use Rattle.std.specs.declared.cmp.Ordering.TheVariants.{Less, Equal}
-use Rattle.std.specs.Ordering.{nat_cmp, ordering_then, is_gt}
-use Rattle.std.specs.BTreeMap.{BTreeMap, get}
-use Rattle.std.specs.BTreeMap.Range.{IsRangeOf, IsInRange, IsLeBy}
+-- The part of a table of deeds between two cycles of one sender, and the first deed of it that is of a receiver.
+use Rattle.std.proofs.Common.{◌≡◌, ℕ, ◌<◌, ◌≤◌, true, false, cond, Bool, List, [], ◌∷◌, Option, Some, None, ap, sym, ◌∙◌, refl, arith}
+use Rattle.std.specs.Prelude.{IsSome, ◌==◌, ◌&&◌, not, nat_le, nat_lt, if◌then◌else◌}
+use Rattle.std.specs.declared.cmp.Ordering.TheVariants.{Less}
+use Rattle.std.specs.Ordering.{nat_cmp, ordering_then, is_le}
+use Rattle.std.specs.BTreeMap.{is_at}
+use Rattle.std.specs.BTreeMap.Range.{entries_between}
+use Rattle.std.specs.List.{AllByRecursion}
+use Rattle.std.specs.List.Sorted.{IsStrictlySortedBy}
+use Rattle.std.specs.Map.{keys_of}
 use Rattle.std.specs.declared.ops.Bound.TheVariants.{Included, Excluded}
 use Rattle.std.proofs.lemmas.Bool.Decides.{nat_tests}
 use Rattle.fr_script.specs.declared.deeds.Passage.{Passage}
 use Rattle.fr_script.specs.declared.deeds.Deed.{Deed}
-use Rattle.fr_script.specs.Deeds.{passage_cmp, passage_of}
+use Rattle.fr_script.specs.Deeds.{asked_cmp, deed_in, passage_cmp, passage_of, IsNextCycle}
+use Rattle.fr_script.proofs.Tables.{is_same-at}
 
--- what lies between two cycles of a pair is of that pair
-pub record IsBetween (s r a b : ℕ) (p : Passage) : Type 0 where
-  pub sender : p.sender ≡ s
-  pub receiver : p.receiver ≡ r
-  pub from : a ≤ p.cycle
-  pub to : p.cycle < b
+-- the deeds of a sender between two cycles, the ends cut by a receiver
+abbrev pub part : ℕ → ℕ → ℕ → ℕ → List (Passage × Deed) → List (Passage × Deed)
+part s r a b es = entries_between asked_cmp (Included (passage_of s r a)) (Excluded (passage_of s r b)) es
 
-first_same : (s x : ℕ) (o q : Ordering) → is_gt (ordering_then (nat_cmp s x) o) ≡ false → ordering_then (nat_cmp x s) q ≡ Less → x ≡ s
-first_same s x o q low high = grind (arith, nat_tests)
+-- the cycle of the first of these deeds that is of a receiver, or else the end
+abbrev pub first_cycle : ℕ → ℕ → List (Passage × Deed) → ℕ
+first_cycle r b [] = b
+first_cycle r b (e ∷ es) = if e.0.receiver == r then e.0.cycle else first_cycle r b es
 
-rest_low : (s x : ℕ) (o : Ordering) → x ≡ s → is_gt (ordering_then (nat_cmp s x) o) ≡ false → is_gt o ≡ false
-rest_low s x o e low = grind (arith, nat_tests)
+-- whether a passage is of a pair, from one cycle on and before another
+abbrev hits : ℕ → ℕ → ℕ → ℕ → Passage → Bool
+hits s r a b p = (p.sender == s) && ((p.receiver == r) && (nat_le a p.cycle && nat_lt p.cycle b))
 
-rest_high : (s x : ℕ) (o : Ordering) → x ≡ s → ordering_then (nat_cmp x s) o ≡ Less → o ≡ Less
-rest_high s x o e high = grind (arith, nat_tests)
+-- the cycle of the first deed that is, or else the end
+abbrev found : ℕ → ℕ → ℕ → ℕ → List (Passage × Deed) → ℕ
+found s r a b [] = b
+found s r a b (e ∷ es) = if hits s r a b e.0 then e.0.cycle else found s r a b es
 
-le_of : (a z : ℕ) → is_gt (nat_cmp a z) ≡ false → a ≤ z
-le_of a z low = grind (arith, nat_tests)
+-- whether a passage lies in the part
+abbrev inside : ℕ → ℕ → ℕ → ℕ → Passage → Bool
+inside s r a b p = is_le (asked_cmp (passage_of s r a) p) && not (is_le (asked_cmp (passage_of s r b) p))
 
-lt_of : (z b : ℕ) → nat_cmp z b ≡ Less → z < b
-lt_of z b high = grind (arith, nat_tests)
+within-part : (s r a b x z : ℕ)
+    → (is_le (ordering_then (nat_cmp s x) (ordering_then (nat_cmp a z) (nat_cmp r r))) && not (is_le (ordering_then (nat_cmp s x) (ordering_then (nat_cmp b z) (nat_cmp r r)))))
+    ≡ ((x == s) && (nat_le a z && nat_lt z b))
+within-part s r a b x z = grind (arith, nat_tests)
 
-pub between : (s r a b : ℕ) (p : Passage) → IsInRange passage_cmp (Included (passage_of s r a)) (Excluded (passage_of s r b)) p → IsBetween s r a b p
-between s r a b p h =
-    let one = first_same s p.sender _ _ h.0 h.1 in
-    let low = rest_low s p.sender _ one h.0 in
-    let high = rest_high s p.sender _ one h.1 in
-    let two = first_same r p.receiver _ _ low high in
-    record { sender = one; receiver = two; from = le_of a p.cycle (rest_low r p.receiver _ two low); to = lt_of p.cycle b (rest_high r p.receiver _ two high) }
-
-equal_same : (s : ℕ) → nat_cmp s s ≡ Equal
-equal_same s = grind (arith, nat_tests)
-
-cmp-same : (s r a z : ℕ) → passage_cmp (passage_of s r a) (passage_of s r z) ≡ nat_cmp a z
-cmp-same s r a z = rw (equal_same s, equal_same r) refl
-
-low_of : (a z : ℕ) → a ≤ z → is_gt (nat_cmp a z) ≡ false
-low_of a z h = grind (arith, nat_tests)
-
-less_of : (z b : ℕ) → z < b → nat_cmp z b ≡ Less
-less_of z b h = grind (arith, nat_tests)
-
-within : (s r a b c : ℕ) → a ≤ c → c < b → IsInRange passage_cmp (Included (passage_of s r a)) (Excluded (passage_of s r b)) (passage_of s r c)
-within s r a b c low high = (ap is_gt (cmp-same s r a c) ∙ low_of a c low, cmp-same s r c b ∙ less_of c b high)
-
--- a range without entries is quiet
-pub quiet-none : (m : BTreeMap Passage Deed) (es : List (Passage × Deed)) (s r a b : ℕ) → IsRangeOf passage_cmp (Included (passage_of s r a)) (Excluded (passage_of s r b)) m es
-    → es ≡ [] → (c : ℕ) → a ≤ c → c < b → get passage_cmp m (passage_of s r c) ≡ None
-quiet-none m es s r a b h none c low high = h.5 none (passage_of s r c) (within s r a b c low high)
-
--- and one is quiet before its first entry
-pub quiet-some : (m : BTreeMap Passage Deed) (es rest : List (Passage × Deed)) (p : Passage) (d : Deed) (s r a b : ℕ)
-    → IsRangeOf passage_cmp (Included (passage_of s r a)) (Excluded (passage_of s r b)) m es
-    → es ≡ (p, d) ∷ rest → (c : ℕ) → a ≤ c → c < p.cycle → get passage_cmp m (passage_of s r c) ≡ None
-quiet-some m es rest p d s r a b h first c low high = by (get passage_cmp m (passage_of s r c)) refl
+-- in the part the receiver decides
+inside-hits : (s r a b : ℕ) (p : Passage) (own : Bool) → (p.receiver == r) ≡ own → (inside s r a b p && own) ≡ hits s r a b p
+inside-hits s r a b p true own =
+    let same : p.receiver ≡ r = grind (arith, nat_tests) in
+    and-true (inside s r a b p)
+    ∙ ap (λ (k : ℕ). is_le (ordering_then (nat_cmp s p.sender) (ordering_then (nat_cmp a p.cycle) (nat_cmp r k))) && not (is_le (ordering_then (nat_cmp s p.sender) (ordering_then (nat_cmp b p.cycle) (nat_cmp r k))))) same
+    ∙ within-part s r a b p.sender p.cycle
+    ∙ ap (λ (k : Bool). (p.sender == s) && (k && (nat_le a p.cycle && nat_lt p.cycle b))) (sym own)
   where
-    here : IsBetween s r a b p
-    here = between s r a b p (rw first at h.1).0
-
-    past : (q : Passage) → IsInRange passage_cmp (Included (passage_of s r a)) (Excluded (passage_of s r b)) q → IsSome (get passage_cmp m q) → IsLeBy passage_cmp p q
-    past = rw first at h.2
-
-    not_past : IsLeBy passage_cmp p (passage_of s r c) → ◌≡◌ {A = Bool} true false
-    not_past late =
-        let one = here.sender in
-        let two = here.receiver in
-        let e : passage_cmp p (passage_of s r c) ≡ nat_cmp p.cycle c = rw (one, two, equal_same s, equal_same r) refl in
-        let le : p.cycle ≤ c = le_of p.cycle c (sym (ap is_gt e) ∙ late) in
-        absurd (omega arith)
-
-    by : (o : Option Deed) → get passage_cmp m (passage_of s r c) ≡ o → get passage_cmp m (passage_of s r c) ≡ None
-    by None e = e
-    by (Some x) e =
-        let to : p.cycle < b = here.to in
-        let there : IsSome (get passage_cmp m (passage_of s r c)) = rw e refl in
-        let off = not_past (past (passage_of s r c) (within s r a b c low (omega arith)) there) in cc off
-
--- its first entry is a deed of the pair
-pub stands-some : (m : BTreeMap Passage Deed) (es rest : List (Passage × Deed)) (p : Passage) (d : Deed) (s r a b : ℕ)
-    → IsRangeOf passage_cmp (Included (passage_of s r a)) (Excluded (passage_of s r b)) m es
-    → es ≡ (p, d) ∷ rest → IsSome (get passage_cmp m (passage_of s r p.cycle))
-stands-some m es rest p d s r a b h first = rw (ap (λ (q : Passage). get passage_cmp m q) (sym same) ∙ there) refl
+    and-true : (x : Bool) → (x && true) ≡ x
+    and-true true = refl
+    and-true false = refl
+inside-hits s r a b p false own =
+    and-false (inside s r a b p)
+    ∙ sym (and-false (p.sender == s))
+    ∙ ap (λ (k : Bool). (p.sender == s) && (k && (nat_le a p.cycle && nat_lt p.cycle b))) (sym own)
   where
-    here : IsBetween s r a b p
-    here = between s r a b p (rw first at h.1).0
+    and-false : (x : Bool) → (x && false) ≡ false
+    and-false true = refl
+    and-false false = refl
 
-    same : p ≡ passage_of s r p.cycle
-    same = λ i. record { sender = here.sender i; receiver = here.receiver i; cycle = p.cycle }
+picked : (i : Bool) (r b : ℕ) (e : Passage × Deed) (rest : List (Passage × Deed))
+    → first_cycle r b (cond i (e ∷ rest) rest) ≡ (if i && (e.0.receiver == r) then e.0.cycle else first_cycle r b rest)
+picked true r b e rest = refl
+picked false r b e rest = refl
 
-    there : get passage_cmp m p ≡ Some d
-    there = (rw first at h.1).1
+pub first-found : (s r a b : ℕ) (es : List (Passage × Deed)) → first_cycle r b (part s r a b es) ≡ found s r a b es
+first-found s r a b [] = refl
+first-found s r a b (e ∷ es) =
+    picked (inside s r a b e.0) r b e (part s r a b es)
+    ∙ (λ i. if inside-hits s r a b e.0 (e.0.receiver == r) refl i then e.0.cycle else first-found s r a b es i)
+
+-- ---- what is found
+
+hit-is : (s r a b : ℕ) (p : Passage) → hits s r a b p ≡ true → ((p.sender ≡ s) × (p.receiver ≡ r)) × ((a ≤ p.cycle) × (p.cycle < b))
+hit-is s r a b p h = (
+  (grind (arith, nat_tests), grind (arith, nat_tests)),
+  (grind (arith, nat_tests), grind (arith, nat_tests)),
+)
+
+hit-own : (s r a b c : ℕ) → a ≤ c → c < b → hits s r a b (passage_of s r c) ≡ true
+hit-own s r a b c low high = grind (arith, nat_tests)
+
+from-if : (s r a b n : ℕ) (p : Passage) (h : Bool) → hits s r a b p ≡ h → a ≤ n → n ≤ b → (a ≤ (if h then p.cycle else n)) × ((if h then p.cycle else n) ≤ b)
+from-if s r a b n p true e low high = let is = hit-is s r a b p e in (is.1.0, omega (arith, is.1.1))
+from-if s r a b n p false e low high = (low, high)
+
+found-bounds : (s r a b : ℕ) (es : List (Passage × Deed)) → a ≤ b → (a ≤ found s r a b es) × (found s r a b es ≤ b)
+found-bounds s r a b [] h = (h, omega arith)
+found-bounds s r a b (e ∷ es) h =
+    let rest = found-bounds s r a b es h in from-if s r a b (found s r a b es) e.0 (hits s r a b e.0) refl rest.0 rest.1
+
+at-other : (s r c : ℕ) (p : Passage) (b : Bool) → is_at (passage_cmp (passage_of s r c)) p ≡ b → (p.sender ≡ s → p.receiver ≡ r → p.cycle ≡ c → ⊥) → b ≡ false
+at-other s r c p false e differs = refl
+at-other s r c p true e differs =
+    let same = is_same-at (passage_of s r c) p ∙ e in
+    absurd (differs (grind (arith, nat_tests)) (grind (arith, nat_tests)) (grind (arith, nat_tests)))
+
+-- what comes after a later passage of the pair is not this one
+above : (s r c : ℕ) (p y : Passage) → p.sender ≡ s → c < p.cycle → asked_cmp p y ≡ Less → y.sender ≡ s → y.cycle ≡ c → ⊥
+above s r c p y own late less sender cycle = grind (arith, nat_tests)
+
+none-above : (s r c : ℕ) (p : Passage) (es : List (Passage × Deed)) → p.sender ≡ s → c < p.cycle → AllByRecursion (λ y. asked_cmp p y ≡ Less) (keys_of es) → deed_in es (passage_of s r c) ≡ None
+unfolding deed_in
+none-above s r c p [] own late all = refl
+none-above s r c p (e ∷ es) own late all =
+    let other = at-other s r c e.0 (is_at (passage_cmp (passage_of s r c)) e.0) refl (λ sender receiver cycle. above s r c p e.0 own late all.0 sender cycle) in
+    ap (λ (k : Bool). cond k (Some e.1) (deed_in es (passage_of s r c))) other ∙ none-above s r c p es own late all.1
+
+-- no deed of the pair comes before what is found
+found-quiet : (s r a b c : ℕ) (es : List (Passage × Deed)) → a ≤ b → IsStrictlySortedBy asked_cmp (keys_of es) → a ≤ c → c < found s r a b es → deed_in es (passage_of s r c) ≡ None
+unfolding deed_in IsStrictlySortedBy
+found-quiet s r a b c [] h sorted low high = refl
+found-quiet s r a b c (e ∷ es) h sorted low high = by (hits s r a b e.0) refl high (λ early. found-quiet s r a b c es h sorted.1 low early) (found-bounds s r a b es h).1
+  where
+    missing : hits s r a b e.0 ≡ false → e.0.sender ≡ s → e.0.receiver ≡ r → e.0.cycle ≡ c → c < b → ⊥
+    missing missed sender receiver cycle under = grind (arith, nat_tests)
+
+    by : (k : Bool) → hits s r a b e.0 ≡ k → c < (if k then e.0.cycle else found s r a b es) → (c < found s r a b es → deed_in es (passage_of s r c) ≡ None) → found s r a b es ≤ b
+        → cond (is_at (passage_cmp (passage_of s r c)) e.0) (Some e.1) (deed_in es (passage_of s r c)) ≡ None
+    by true hit early later end =
+        let is = hit-is s r a b e.0 hit in
+        let other = at-other s r c e.0 (is_at (passage_cmp (passage_of s r c)) e.0) refl (λ sender receiver cycle. omega (arith, early, cycle)) in
+        ap (λ (k : Bool). cond k (Some e.1) (deed_in es (passage_of s r c))) other ∙ none-above s r c e.0 es is.0.0 early sorted.0
+    by false missed early later end =
+        let other =
+        at-other s r c e.0 (is_at (passage_cmp (passage_of s r c)) e.0) refl
+        (λ sender receiver cycle. missing missed sender receiver cycle (omega (arith, early, end)))
+        in
+        ap (λ (k : Bool). cond k (Some e.1) (deed_in es (passage_of s r c))) other ∙ later early
+
+-- and what is found is one
+found-stands : (s r a b : ℕ) (es : List (Passage × Deed)) → found s r a b es < b → IsSome (deed_in es (passage_of s r (found s r a b es)))
+unfolding deed_in
+found-stands s r a b [] h = absurd (omega (arith, h))
+found-stands s r a b (e ∷ es) h = by (hits s r a b e.0) refl h (found-stands s r a b es)
+  where
+    some : (k : Bool) (d : Deed) (o : Option Deed) → IsSome o → IsSome (cond k (Some d) o)
+    some true d o there = refl
+    some false d o there = there
+
+    by : (k : Bool) → hits s r a b e.0 ≡ k → (if k then e.0.cycle else found s r a b es) < b
+        → (found s r a b es < b → IsSome (deed_in es (passage_of s r (found s r a b es))))
+        → IsSome (deed_in (e ∷ es) (passage_of s r (if k then e.0.cycle else found s r a b es)))
+    by true hit early later =
+        let is = hit-is s r a b e.0 hit in
+        let here : is_at (passage_cmp (passage_of s r e.0.cycle)) e.0 ≡ true = sym (is_same-at (passage_of s r e.0.cycle) e.0) ∙ grind (arith, nat_tests) in
+        rw here refl
+    by false missed early later =
+        some (is_at (passage_cmp (passage_of s r (found s r a b es))) e.0) e.1 (deed_in es (passage_of s r (found s r a b es))) (later early)
+
+-- the first deed of a pair in a table
+pub next-cycle : (s r a b n : ℕ) (es : List (Passage × Deed)) → a ≤ b → IsStrictlySortedBy asked_cmp (keys_of es) → first_cycle r b (part s r a b es) ≡ n
+    → IsNextCycle (λ c. deed_in es (passage_of s r c) ≡ None) (λ c. IsSome (deed_in es (passage_of s r c))) a b n
+next-cycle s r a b n es h sorted first = rw (← is) (record {
+  from = (found-bounds s r a b es h).0;
+  to = (found-bounds s r a b es h).1;
+  quiet = λ c low high. found-quiet s r a b c es h sorted low high;
+  stands = found-stands s r a b es;
+})
+  where
+    is : found s r a b es ≡ n
+    is = sym (first-found s r a b es) ∙ first

@@ -3,14 +3,25 @@ use Rattle.std.specs.Prelude.{ℕ, ◌≡◌, ◌<◌, ◌≤◌, Bool, true, fa
 use Rattle.std.specs.declared.cmp.Ordering.{Ordering}
 use Rattle.std.specs.Ordering.{nat_cmp, ordering_then}
 use Rattle.std.specs.BTreeMap.{is_at}
+use Rattle.std.specs.FinMap as map
 use Rattle.std.specs.Map.{lookup, keys_of}
 use Rattle.std.specs.List.Sorted.{IsStrictlySortedBy}
 use Rattle.fr_script.specs.declared.deeds.Passage.{Passage}
 use Rattle.fr_script.specs.declared.deeds.Deed.{Deed}
 
--- passages in order: by sender, then by receiver, then by cycle
+-- passages in the order in which contracts see them: by sender, then by receiver, then by cycle; it is not that of the
+-- type `Passage` itself
 abbrev pub passage_cmp : Passage → Passage → Ordering
 passage_cmp a b = ordering_then (nat_cmp a.sender b.sender) (ordering_then (nat_cmp a.receiver b.receiver) (nat_cmp a.cycle b.cycle))
+
+-- passages in the order of the type `Passage`, that of its fields, in which the map of a table has them: by sender, then
+-- by cycle, then by receiver
+abbrev pub asked_cmp : Passage → Passage → Ordering
+asked_cmp a b = ordering_then (nat_cmp a.sender b.sender) (ordering_then (nat_cmp a.cycle b.cycle) (nat_cmp a.receiver b.receiver))
+
+-- deeds that stand in any order, in the order of their passages
+unfoldable pub in_order : List (Passage × Deed) → List (Passage × Deed)
+in_order deeds = map.entries (map.from_entries {R = passage_cmp} deeds)
 
 abbrev pub passage_of : ℕ → ℕ → ℕ → Passage
 passage_of sender receiver cycle = record { sender = sender; receiver = receiver; cycle = cycle }

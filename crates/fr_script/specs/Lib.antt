@@ -1,6 +1,7 @@
 -- what the public contract cites
 pub mod Said
 pub mod Deeds
+pub mod Sayings
 pub mod Rows
 pub mod Reasons
 pub mod View

@@ -1,18 +1,21 @@
-ghost use Rattle.std.specs.Prelude.{◌≡◌, ◌≤◌, ◌<◌, [], is_none, IfOk, IsSome, OnErr, OnOk};
+ghost use Rattle.std.specs.Prelude.{◌≡◌, ◌≤◌, ◌<◌, ◌&&◌, [], None, is_none, is_some, not, IfOk, IsSome, OnErr, OnOk};
 ghost use Rattle.std.specs.Option.{option_copied};
-ghost use Rattle.fr_script.specs.Deeds.{DeedsAscend, IsDeedPut, IsQuiet, deed_in, passage_of};
+ghost use Rattle.fr_script.specs.Deeds.{DeedsAscend, IsDeedPut, IsNextCycle, IsQuiet, MarksSenders, deed_in, passage_of};
 
+use crate::sayings::Sayings;
 use fr_base::NodeId;
 use std::alloc::{AllocError, Global};
 use std::collections::BTreeMap;
 use std::marker::Model;
 
-/// The passage of a sender's frames to a receiver in a cycle.
+/// The passage of a sender's frames to a receiver in a cycle. The map of a table holds passages in the order of these
+/// fields, by sender, cycle and receiver: so what becomes of one sender's frames in one cycle, at each receiver, lies
+/// together.
 #[derive(Clone, Copy, Debug, PartialEq, Eq, PartialOrd, Ord)]
 pub struct Passage {
     pub sender: NodeId,
-    pub receiver: NodeId,
     pub cycle: u32,
+    pub receiver: NodeId,
 }
 
 /// The bytes of a frame that an arbitrary node says, at most 262, seen as their list.
@@ -57,25 +60,30 @@ pub enum Deed {
     },
 }
 
-/// The deeds of one channel by their passage, seen as a list in ascending order.
+/// The deeds of one channel by their passage, seen as a list in ascending order: by sender, then by receiver, then by
+/// cycle.
 #[derive(Drop)]
 pub struct DeedTable {
+    // What arbitrary nodes say, by cycle, sender and receiver, as far as it comes in this order.
+    said: Sayings,
+    // All other deeds, by sender, cycle and receiver.
     rows: BTreeMap<Passage, Deed>,
-    // Whether a sender, by its number, has a deed: most have none, and are not looked up.
+    // Whether a sender, by its number, has a deed in either: most have none, and are not looked up.
+    sayers: [bool; 65],
     senders: [bool; 65],
 }
 
 impl Model for DeedTable {
-    ghost use Rattle.std.specs.Prelude.{List};
+    ghost use Rattle.std.specs.Prelude.{List, ◌++◌};
     ghost use Rattle.fr_script.specs.declared.deeds.Passage.{Passage};
     ghost use Rattle.fr_script.specs.declared.deeds.Deed.{Deed};
-    ghost use Rattle.fr_script.specs.Deeds.{MarksSenders};
+    ghost use Rattle.fr_script.specs.Deeds.{MarksSenders, in_order};
 
     ghost Value = { List (Passage × Deed) };
 
-    ghost view = { λ a. a.rows.entries };
+    ghost view = { λ a. in_order (a.rows.entries ++ a.said) };
 
-    ghost invariant = { λ a. MarksSenders a.senders a.rows.entries };
+    ghost invariant = { λ a. MarksSenders a.senders a.rows.entries × MarksSenders a.sayers a.said };
 }
 
 // The place of a sender's mark.
@@ -91,32 +99,39 @@ impl DeedTable {
         ensures { result ≡ [] }
     {
         DeedTable {
+            said: Sayings::new(alloc),
             rows: BTreeMap::new(alloc),
+            sayers: [false; 65],
             senders: [false; 65],
         }
     }
 
-    #[tactic(auto, unfolding(crate::specs::Deeds::deed_in))]
     pub(crate) fn get(&self, passage: &Passage) -> Option<&Deed>
         ensures { option_copied result ≡ deed_in self.now passage.now }
     {
-        if self.senders[place(passage.sender)] {
-            self.rows.get(passage)
-        } else {
-            None
+        match row_at(&self.senders, &self.rows, passage) {
+            Some(deed) => Some(deed),
+            None => saying_at(&self.sayers, &self.said, passage),
         }
     }
 
     // Puts a deed under its passage in one search, and tells whether the passage was free.
-    #[tactic(auto, unfolding(crate::specs::Deeds::deed_in, crate::specs::Deeds::DeedsAscend))]
     pub(crate) fn put(&mut self, passage: Passage, deed: Deed) -> Result<bool, AllocError>
         ensures there { OnOk result (IsDeedPut self.old self.new passage deed) }
         ensures ordered { OnOk result (DeedsAscend self.old → DeedsAscend self.new) }
         ensures free { IfOk result (λ free. free ≡ is_none (deed_in self.old passage)) }
         ensures kept { OnErr result (self.new ≡ self.old) }
     {
-        self.senders[place(passage.sender)] = true;
-        Ok(self.rows.insert(passage, deed)?.is_none())
+        let place = place(passage.sender);
+        if is_saying(&deed) && !self.senders[place] && self.said.is_behind(&passage) {
+            self.sayers[place] = true;
+            self.said.push(passage, deed)?;
+            return Ok(true);
+        }
+        let said = has_saying(&self.sayers, &self.said, &passage);
+        self.senders[place] = true;
+        let free = self.rows.insert(passage, deed)?.is_none();
+        Ok(is_free(free, said))
     }
 
     // The first cycle from `cycle` on, before `end`, in which a pair of nodes has a deed, or `end`.
@@ -127,19 +142,104 @@ impl DeedTable {
         ensures quiet { IsQuiet self.now sender receiver cycle result }
         ensures stands { result < end → IsSome (deed_in self.now (passage_of sender receiver result)) }
     {
-        let first = Passage {
-            sender,
-            receiver,
-            cycle,
-        };
-        let after = Passage {
-            sender,
-            receiver,
-            cycle: end,
-        };
-        match self.rows.range(first..after).next() {
-            Some((passage, _)) => passage.cycle,
-            None => end,
+        let said = next_said(&self.sayers, &self.said, sender, receiver, cycle, end);
+        next_in(&self.rows, sender, receiver, cycle, said)
+    }
+}
+
+fn is_saying(deed: &Deed) -> bool {
+    matches!(deed, Deed::Say { .. })
+}
+
+// The deed of a passage in a map, where these are the senders that have one there.
+fn row_at<'a>(
+    senders: &[bool; 65],
+    rows: &'a BTreeMap<Passage, Deed>,
+    passage: &Passage,
+) -> Option<&'a Deed>
+    requires { MarksSenders senders.now rows.now.entries }
+    ensures { option_copied result ≡ deed_in rows.now.entries passage.now }
+{
+    if senders[place(passage.sender)] {
+        rows.get(passage)
+    } else {
+        None
+    }
+}
+
+// And among those that came in the order of cycle, sender and receiver.
+fn saying_at<'a>(sayers: &[bool; 65], said: &'a Sayings, passage: &Passage) -> Option<&'a Deed>
+    requires { MarksSenders sayers.now said.now }
+    ensures { option_copied result ≡ deed_in said.now passage.now }
+{
+    if sayers[place(passage.sender)] {
+        said.get(passage)
+    } else {
+        None
+    }
+}
+
+fn has_saying(sayers: &[bool; 65], said: &Sayings, passage: &Passage) -> bool
+    requires { MarksSenders sayers.now said.now }
+    ensures { result ≡ is_some (deed_in said.now passage.now) }
+{
+    saying_at(sayers, said, passage).is_some()
+}
+
+// Whether a passage is free, by whether it is so in the map and whether it is said.
+fn is_free(free: bool, said: bool) -> bool
+    ensures { result ≡ (free && not said) }
+{
+    free && !said
+}
+
+// The first cycle of a pair among those, from `cycle` on and before `end`, or `end`.
+fn next_said(
+    sayers: &[bool; 65],
+    said: &Sayings,
+    sender: NodeId,
+    receiver: NodeId,
+    cycle: u32,
+    end: u32,
+) -> u32
+    requires marks { MarksSenders sayers.now said.now }
+    requires forward { cycle ≤ end }
+    ensures { IsNextCycle (λ c. deed_in said.now (passage_of sender receiver c) ≡ None)
+        (λ c. IsSome (deed_in said.now (passage_of sender receiver c))) cycle end result }
+{
+    if sayers[place(sender)] {
+        said.next(sender, receiver, cycle, end)
+    } else {
+        end
+    }
+}
+
+// The same in a map: the entries of the sender from `cycle` on are looked through.
+fn next_in(
+    rows: &BTreeMap<Passage, Deed>,
+    sender: NodeId,
+    receiver: NodeId,
+    cycle: u32,
+    end: u32,
+) -> u32
+    requires { cycle ≤ end }
+    ensures { IsNextCycle (λ c. deed_in rows.now.entries (passage_of sender receiver c) ≡ None)
+        (λ c. IsSome (deed_in rows.now.entries (passage_of sender receiver c))) cycle end result }
+{
+    let first = Passage {
+        sender,
+        cycle,
+        receiver,
+    };
+    let after = Passage {
+        sender,
+        cycle: end,
+        receiver,
+    };
+    for (passage, _) in rows.range(first..after) {
+        if passage.receiver == receiver {
+            return passage.cycle;
         }
     }
+    end
 }

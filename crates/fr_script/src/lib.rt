@@ -8,6 +8,7 @@ mod kind;
 mod laws;
 mod reading;
 mod rows;
+mod sayings;
 mod script;
 mod typed;
 

@@ -58,7 +58,7 @@ module _ (p : Values) where
   unfolding far astray
   run-formed r =
       formed-six (far p) astray (is_blank (field_of r 2)) (is_blank (field_of r 3)) (is_blank (field_of r 4)) (is_blank (field_of r 5)) (is_blank (field_of r 6)) (is_blank (field_of r 7)) _ _ _ _ (run_row (field_of r 1))
-      (formed-read (far p) astray never _ _ _ (λ n. Ok (row.Run n)) (natural_of 1 10_000 (field_of r 1)) (natural-read 1 10_000 (field_of r 1)) (λ n d o e f. (refl, refl, e, f, refl)))
+      (formed-read (far p) astray never _ _ _ (λ n. Ok (row.Run n)) (natural_of 1 100_000 (field_of r 1)) (natural-read 1 100_000 (field_of r 1)) (λ n d o e f. (refl, refl, e, f, refl)))
 
   arbitrary-formed : (r : FileRecord) → IsFormedBy (far p) astray (Some (arbitrary_form r))
       (short_row (field_of r 2) (field_of r 3) (field_of r 4) (field_of r 5) (field_of r 6) (field_of r 7) (arbitrary_row (field_of r 1)))

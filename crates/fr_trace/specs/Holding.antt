@@ -24,7 +24,7 @@ later_fields r = field_of r 2 ∷ field_of r 3 ∷ field_of r 4 ∷ field_of r 5
 
 -- `run,DOUBLES,,,,,,`
 abbrev pub run_form : FileRecord → Form
-run_form r = record { empty = later_fields r; known = true; numbers = number_field (field_of r 1) 1 10_000 ∷ []; short = true; spelt = true }
+run_form r = record { empty = later_fields r; known = true; numbers = number_field (field_of r 1) 1 100_000 ∷ []; short = true; spelt = true }
 
 -- `arbitrary,NODE,,,,,,`
 abbrev pub arbitrary_form : FileRecord → Form

@@ -25,7 +25,7 @@ pub record IsTracedRecord (r : Record) : Type 0 where
 -- a trace: whole double cycles
 pub record IsTrace (t : TraceView) : Type 0 where
   pub doubles_from : 1 ≤ t.doubles
-  pub doubles_to : t.doubles ≤ 10_000
+  pub doubles_to : t.doubles ≤ 100_000
   pub whole : length t.history ≡ 2 * t.doubles
   pub arbitrary_few : length t.arbitrary ≤ 64
   pub arbitrary_ascend : AllPairs (λ a b. a < b) t.arbitrary

@@ -19,7 +19,7 @@ use Rattle.fr_trace.specs.declared.rows.Row.TheVariants as row
 
 -- the number of double cycles
 abbrev pub run_row : List ℕ → Result Row Reason
-run_row doubles = or_reason (λ n. Ok (row.Run n)) (natural_of 1 10_000 doubles)
+run_row doubles = or_reason (λ n. Ok (row.Run n)) (natural_of 1 100_000 doubles)
 
 -- a node that is arbitrary
 abbrev pub arbitrary_row : List ℕ → Result Row Reason
@@ -108,10 +108,10 @@ trace_row_of fields =
     if length fields == 8 then trace_file_row (field_of fields 0) (field_of fields 1) (field_of fields 2) (field_of fields 3) (field_of fields 4) (field_of fields 5) (field_of fields 6) (field_of fields 7)
     else Err reason.Shape
 
--- a trace has 1 to 10,000 double cycles
+-- a trace has 1 to 100,000 double cycles
 pub record IsProperCount (doubles : ℕ) : Type 0 where
   pub from : 1 ≤ doubles
-  pub to : doubles ≤ 10_000
+  pub to : doubles ≤ 100_000
 
 -- starts lie up to 9 * 10^17 ticks, and a microtick lasts 500,000 to 1,500,000
 pub record IsProperSpan (span : ℤ × ℤ) : Type 0 where

@@ -19,8 +19,8 @@ use Rattle.fr_trace.specs.Items.{Item, Line, items_by, items_in, line_of}
 use Rattle.fr_trace.specs.Trace.{TraceView}
 
 -- the number of double cycles
-abbrev pub run_text : ℕ → List ℕ
-run_text doubles = codes "run," ++ decimal doubles ++ codes ",,,,,,"
+abbrev pub doubles_text : ℕ → List ℕ
+doubles_text doubles = codes "run," ++ decimal doubles ++ codes ",,,,,,"
 
 -- an arbitrary node
 abbrev pub arbitrary_text : ℕ → List ℕ
@@ -33,11 +33,16 @@ clock_text cycle row =
     ++ codes "," ++ signed_decimal row.length ++ codes "," ++ signed_decimal row.rate
     ++ codes "," ++ signed_decimal row.offset ++ codes "," ++ state_text row.state
 
--- a deviation: the cycle and the receiver, the key slot and the channel, and how many microticks
+-- a deviation: the cycle and the receiver, then the key slot and the channel, how many microticks, and two empty fields
+abbrev pub dev_front : ℕ → ℕ → List ℕ
+dev_front cycle receiver = codes "dev," ++ decimal cycle ++ codes "," ++ decimal receiver
+
+abbrev pub dev_after : List ℕ → Dev → List ℕ
+dev_after front dev =
+    front ++ codes "," ++ decimal dev.slot ++ codes "," ++ letter dev.channel ++ codes "," ++ signed_decimal dev.value ++ codes "," ++ codes ","
+
 abbrev pub dev_text : ℕ → Dev → List ℕ
-dev_text cycle dev =
-    codes "dev," ++ decimal cycle ++ codes "," ++ decimal dev.receiver ++ codes "," ++ decimal dev.slot
-    ++ codes "," ++ letter dev.channel ++ codes "," ++ signed_decimal dev.value ++ codes ",,"
+dev_text cycle dev = dev_after (dev_front cycle dev.receiver) dev
 
 -- the line of an item
 abbrev pub line_text : Line → List ℕ
@@ -50,7 +55,7 @@ items_text items = flat_map (λ item. line_text (line_of item)) items
 
 -- the lines before the cycles
 unfoldable pub head_text : ℕ → List ℕ → List ℕ
-head_text doubles arbitrary = line (run_text doubles) ++ flat_map (λ node. line (arbitrary_text node)) arbitrary
+head_text doubles arbitrary = line (doubles_text doubles) ++ flat_map (λ node. line (arbitrary_text node)) arbitrary
 
 -- the lines of the record that follows a history
 abbrev pub cycle_text : History → Record → List ℕ
@@ -85,5 +90,5 @@ abbrev pub devs_text : ℕ → ℕ → List Dev → List ℕ
 devs_text cycle node devs = flat_map (λ dev. if dev.receiver == node then line (dev_text cycle dev) else []) devs
 
 -- the line of a row and those of its node's deviations, for each row
-abbrev pub rows_text : ℕ → List Dev → List NodeRow → List ℕ
-rows_text cycle devs rows = flat_map (λ row. line (clock_text cycle row) ++ devs_text cycle row.node devs) rows
+abbrev pub clock_rows_text : ℕ → List Dev → List NodeRow → List ℕ
+clock_rows_text cycle devs rows = flat_map (λ row. line (clock_text cycle row) ++ devs_text cycle row.node devs) rows

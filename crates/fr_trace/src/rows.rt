@@ -102,7 +102,7 @@ fn read_run(doubles: &[u8]) -> Result<Row, Reason>
     ensures said { result ≡ run_row doubles.now }
     ensures proper { IfOk result (λ said. IsProperTraceRow said) }
 {
-    match natural(doubles, 1, 10_000) {
+    match natural(doubles, 1, 100_000) {
         Ok(doubles) => Ok(Row::Run(doubles as u32)),
         Err(fault) => Err(reason_of(fault)),
     }

@@ -1,22 +1,24 @@
-ghost use Rattle.std.specs.Prelude.{◌≡◌, ◌++◌, ◌==◌, [], drop, length, if◌then◌else◌};
-ghost use Rattle.fr_base.specs.Channels.{letter};
+ghost use Rattle.std.specs.Prelude.{◌≡◌, ℕ, ◌<◌, ◌≤◌, ◌++◌, ◌==◌, [], drop, length, if◌then◌else◌};
 ghost use Rattle.fr_base.specs.Device.{Puts};
-ghost use Rattle.fr_base.specs.States.{state_text};
+ghost use Rattle.fr_base.specs.Rows.{AreAscendingDevs, AreAscendingRows};
 ghost use Rattle.fr_coverage.specs.Decided.{setting_of};
 ghost use Rattle.fr_drift.specs.Questions.{doubles_of};
 ghost use Rattle.fr_history.specs.History.{History};
 ghost use Rattle.fr_history.specs.Recorded.{recorded};
 ghost use Rattle.fr_script.specs.View.{is_arbitrary};
-ghost use Rattle.fr_text.specs.Pieces.{Spells, line};
-ghost use Rattle.fr_trace.specs.Text.{arbitrary_in, arbitrary_text, clock_text, cycle_text, dev_text, devs_text, head_text, named_text, rows_text, run_text};
+ghost use Rattle.fr_text.specs.Pieces.{line};
+ghost use Rattle.fr_trace.specs.Text.{arbitrary_in, arbitrary_text, clock_text, cycle_text, dev_after, dev_front, devs_text, head_text, named_text, clock_rows_text, doubles_text};
 
 use crate::order::node_at;
-use fr_base::{Channel, CycleRow, Dev, NodeId, NodeRow, PutFault, Sink, State};
+use fr_base::{CycleRow, Dev, NodeId, NodeRow, PutFault, Sink};
 use fr_cluster::{NodeList, Params};
 use fr_drift::Drift;
 use fr_script::Script;
 use fr_text::Piece::{Natural, Signed, Word};
-use fr_text::{Line, Piece, line_of};
+use fr_text::{Line, letter_of, state_of};
+
+// The greatest number of bytes in front of what is said of a deviation.
+const FRONT_ROOM: usize = 50;
 
 /// Writes the lines before the cycles of a run's trace: its number of double cycles, and each arbitrary node in
 /// ascending order. Each line is one put. A fault comes only where the sink counted it, and then a front of the text
@@ -30,8 +32,10 @@ pub fn write_head<O: Sink>(
     ensures { Puts result (O.state out.old) (O.state out.new)
         (head_text (doubles_of drift.now) (arbitrary_in (setting_of params.now drift.now script.now))) }
 {
-    out.put(run_line(drift.doubles()).bytes())?;
-    put_named(&params.nodes, 0, script, out)
+    let mut spelt = Line::new();
+    spell_run(drift.doubles(), &mut spelt);
+    out.put(spelt.bytes())?;
+    put_named(&params.nodes, 0, script, &mut spelt, out)
 }
 
 /// Writes the lines of a cycle: each node's row, and then the deviations that it measured, by slot and then by
@@ -41,14 +45,22 @@ pub fn write_cycle<O: Sink>(row: &CycleRow, out: &mut O) -> Result<(), PutFault>
     ensures { (h : History) → length h ≡ row.now.cycle →
         Puts result (O.state out.old) (O.state out.new) (cycle_text h (recorded row.now)) }
 {
-    put_rows(row.cycle, row.rows.as_slice(), row.devs.as_slice(), out)
+    let mut spelt = Line::new();
+    put_rows(
+        row.cycle,
+        row.rows.as_slice(),
+        row.devs.as_slice(),
+        &mut spelt,
+        out,
+    )
 }
 
-// The lines of the arbitrary nodes from a place on.
+// The lines of the arbitrary nodes from a place on. Here and below each line is spelt in the place of the one before it.
 fn put_named<O: Sink>(
     nodes: &NodeList,
     place: usize,
     script: &Script,
+    spelt: &mut Line,
     out: &mut O,
 ) -> Result<(), PutFault>
     ensures { Puts result (O.state out.old) (O.state out.new)
@@ -57,139 +69,185 @@ fn put_named<O: Sink>(
     if place >= nodes.len() {
         return Ok(());
     }
-    put_node(node_at(nodes, place).id, script, out)?;
-    put_named(nodes, place + 1, script, out)
+    put_node(node_at(nodes, place).id, script, spelt, out)?;
+    put_named(nodes, place + 1, script, spelt, out)
 }
 
-fn put_node<O: Sink>(node: NodeId, script: &Script, out: &mut O) -> Result<(), PutFault>
+fn put_node<O: Sink>(
+    node: NodeId,
+    script: &Script,
+    spelt: &mut Line,
+    out: &mut O,
+) -> Result<(), PutFault>
     ensures { Puts result (O.state out.old) (O.state out.new)
         (if is_arbitrary script.now node then line (arbitrary_text node) else []) }
 {
     if script.arbitrary(node) {
-        out.put(arbitrary_line(node).bytes())
+        spell_arbitrary(node, spelt);
+        out.put(spelt.bytes())
     } else {
         Ok(())
     }
 }
 
+// The lines of some rows. The deviations of a row are looked for behind those of the row before it.
 fn put_rows<O: Sink>(
     cycle: u32,
     rows: &[NodeRow],
     devs: &[Dev],
+    spelt: &mut Line,
     out: &mut O,
 ) -> Result<(), PutFault>
-    ensures { Puts result (O.state out.old) (O.state out.new) (rows_text cycle devs.now rows.now) }
+    ensures { AreAscendingRows rows.now → AreAscendingDevs devs.now →
+        Puts result (O.state out.old) (O.state out.new) (clock_rows_text cycle devs.now rows.now) }
 {
     match rows.split_first() {
         Some((row, rest)) => {
-            put_row(cycle, row, devs, out)?;
-            put_rows(cycle, rest, devs, out)
+            put_row(cycle, row, devs, spelt, out)?;
+            put_rows(cycle, rest, devs_behind(row.node, devs), spelt, out)
         }
         None => Ok(()),
     }
 }
 
-fn put_row<O: Sink>(cycle: u32, row: &NodeRow, devs: &[Dev], out: &mut O) -> Result<(), PutFault>
-    ensures { Puts result (O.state out.old) (O.state out.new)
+fn put_row<O: Sink>(
+    cycle: u32,
+    row: &NodeRow,
+    devs: &[Dev],
+    spelt: &mut Line,
+    out: &mut O,
+) -> Result<(), PutFault>
+    ensures { AreAscendingDevs devs.now → Puts result (O.state out.old) (O.state out.new)
         (line (clock_text cycle row.now) ++ devs_text cycle row.now.node devs.now) }
 {
-    out.put(clock_line(cycle, row).bytes())?;
-    put_devs(cycle, row.node, devs, out)
+    spell_clock(cycle, row, spelt);
+    out.put(spelt.bytes())?;
+    put_devs(
+        row.node,
+        devs,
+        dev_front(cycle, row.node).bytes(),
+        spelt,
+        out,
+    )
 }
 
-fn put_devs<O: Sink>(cycle: u32, node: NodeId, devs: &[Dev], out: &mut O) -> Result<(), PutFault>
-    ensures { Puts result (O.state out.old) (O.state out.new) (devs_text cycle node devs.now) }
+// The lines of those of some deviations that a node measured, by what is alike in front of all of them.
+fn put_devs<O: Sink>(
+    node: NodeId,
+    devs: &[Dev],
+    front: &[u8],
+    spelt: &mut Line,
+    out: &mut O,
+) -> Result<(), PutFault>
+    requires { length front.now ≤ FRONT_ROOM }
+    ensures { (cycle : ℕ) → front.now ≡ dev_front cycle node → AreAscendingDevs devs.now →
+        Puts result (O.state out.old) (O.state out.new) (devs_text cycle node devs.now) }
 {
     match devs.split_first() {
         Some((dev, rest)) => {
-            put_dev(cycle, node, dev, out)?;
-            put_devs(cycle, node, rest, out)
+            if node.0 < dev.receiver.0 {
+                return Ok(());
+            }
+            put_dev(node, dev, front, spelt, out)?;
+            put_devs(node, rest, front, spelt, out)
         }
         None => Ok(()),
     }
 }
 
-fn put_dev<O: Sink>(cycle: u32, node: NodeId, dev: &Dev, out: &mut O) -> Result<(), PutFault>
+fn put_dev<O: Sink>(
+    node: NodeId,
+    dev: &Dev,
+    front: &[u8],
+    spelt: &mut Line,
+    out: &mut O,
+) -> Result<(), PutFault>
+    requires { length front.now ≤ FRONT_ROOM }
     ensures { Puts result (O.state out.old) (O.state out.new)
-        (if dev.now.receiver == node then line (dev_text cycle dev.now) else []) }
+        (if dev.now.receiver == node then line (dev_after front.now dev.now) else []) }
 {
     if dev.receiver == node {
-        out.put(dev_line(cycle, dev).bytes())
+        spell_dev(front, dev, spelt);
+        out.put(spelt.bytes())
     } else {
         Ok(())
     }
 }
 
-fn run_line(doubles: u32) -> Line
-    ensures { result ≡ line (run_text doubles) }
+// The deviations without those in front that a node or an earlier one measured. Nothing is missing for a later node.
+fn devs_behind(node: NodeId, devs: &[Dev]) -> &[Dev]
+    ensures later { (cycle other : ℕ) → node < other →
+        devs_text cycle other result.now ≡ devs_text cycle other devs.now }
+    ensures ascending { AreAscendingDevs devs.now → AreAscendingDevs result.now }
 {
-    line_of(&[Word(b"run,"), Natural(u64::from(doubles)), Word(b",,,,,,")])
+    match devs.split_first() {
+        Some((dev, rest)) => {
+            if node.0 < dev.receiver.0 {
+                devs
+            } else {
+                devs_behind(node, rest)
+            }
+        }
+        None => devs,
+    }
 }
 
-fn arbitrary_line(node: NodeId) -> Line
-    ensures { result ≡ line (arbitrary_text node) }
+fn spell_run(doubles: u32, spelt: &mut Line)
+    ensures { spelt.new ≡ line (doubles_text doubles) }
 {
-    line_of(&[
+    spelt.spell(&[Word(b"run,"), Natural(u64::from(doubles)), Word(b",,,,,,")]);
+}
+
+fn spell_arbitrary(node: NodeId, spelt: &mut Line)
+    ensures { spelt.new ≡ line (arbitrary_text node) }
+{
+    spelt.spell(&[
         Word(b"arbitrary,"),
         Natural(u64::from(node.0)),
         Word(b",,,,,,"),
-    ])
+    ]);
 }
 
-fn clock_line(cycle: u32, row: &NodeRow) -> Line
-    ensures { result ≡ line (clock_text cycle row.now) }
+fn spell_clock(cycle: u32, row: &NodeRow, spelt: &mut Line)
+    ensures { spelt.new ≡ line (clock_text cycle row.now) }
 {
-    line_of(&[
-        Word(b"cycle,"),
-        Natural(u64::from(cycle)),
-        Word(b","),
-        Natural(u64::from(row.node.0)),
-        Word(b","),
-        Signed(row.start),
-        Word(b","),
-        Signed(row.length),
-        Word(b","),
-        Signed(i64::from(row.rate)),
-        Word(b","),
-        Signed(i64::from(row.offset)),
-        Word(b","),
-        state_of(row.state),
-    ])
+    spelt.spell_row(
+        b"cycle",
+        &[
+            Natural(u64::from(cycle)),
+            Natural(u64::from(row.node.0)),
+            Signed(row.start),
+            Signed(row.length),
+            Signed(i64::from(row.rate)),
+            Signed(i64::from(row.offset)),
+            state_of(row.state),
+        ],
+    );
 }
 
-fn dev_line(cycle: u32, dev: &Dev) -> Line
-    ensures { result ≡ line (dev_text cycle dev.now) }
+fn spell_dev(front: &[u8], dev: &Dev, spelt: &mut Line)
+    requires { length front.now ≤ FRONT_ROOM }
+    ensures { spelt.new ≡ line (dev_after front.now dev.now) }
 {
-    line_of(&[
-        Word(b"dev,"),
-        Natural(u64::from(cycle)),
-        Word(b","),
-        Natural(u64::from(dev.receiver.0)),
-        Word(b","),
-        Natural(u64::from(dev.slot.0)),
-        Word(b","),
-        letter_of(dev.channel),
-        Word(b","),
-        Signed(i64::from(dev.value)),
-        Word(b",,"),
-    ])
+    spelt.spell_row(
+        front,
+        &[
+            Natural(u64::from(dev.slot.0)),
+            letter_of(dev.channel),
+            Signed(i64::from(dev.value)),
+            Word(b","),
+        ],
+    );
 }
 
-fn letter_of(channel: Channel) -> Piece<'static>
-    ensures { Spells result (letter channel) 1 }
+fn dev_front(cycle: u32, receiver: NodeId) -> Line
+    ensures text { result ≡ dev_front cycle receiver }
+    ensures short { length result ≤ FRONT_ROOM }
 {
-    match channel {
-        Channel::A => Word(b"A"),
-        Channel::B => Word(b"B"),
-    }
-}
-
-fn state_of(state: State) -> Piece<'static>
-    ensures { Spells result (state_text state) 10 }
-{
-    match state {
-        State::Active => Word(b"active"),
-        State::Passive => Word(b"passive"),
-        State::Halt => Word(b"halt"),
-    }
+    let mut front = Line::new();
+    front.spell_front(
+        b"dev",
+        &[Natural(u64::from(cycle)), Natural(u64::from(receiver.0))],
+    );
+    front
 }

@@ -1,7 +1,7 @@
-use Rattle.std.proofs.Common.{◌≡◌, ◌≤◌, ◌<◌, length, arith}
-use Rattle.fr_base.proofs.Putting.{cut, then, puts_none}
+use Rattle.std.proofs.Common.{◌<◌, length, arith}
+use Rattle.fr_base.proofs.Putting.{cut, then}
 use Rattle.fr_script.specs.View.{is_arbitrary}
-use Rattle.fr_trace.proofs.Lines.{named-from, named-past}
+use Rattle.fr_trace.proofs.Lines.{named-from}
 use Rattle.fr_trace.proofs.writing.+put_named.Goals as goal
 
 pub returns-in_err-put_node : goal.returns-in_err-put_node

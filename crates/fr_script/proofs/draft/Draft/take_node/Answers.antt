@@ -1,4 +1,4 @@
-use Rattle.std.proofs.Common.{rules, ◌≡◌, ◌++◌, ◌∷◌, [], Bool, List, subst, sym}
+use Rattle.std.proofs.Common.{rules, ◌++◌, ◌∷◌, [], Bool, List, subst, sym}
 use Rattle.fr_script.specs.Draft.{IsScriptDraft}
 use Rattle.fr_script.proofs.Tables.{draft-node}
 use Rattle.fr_script.proofs.draft.Draft.take_node.Goals as goal

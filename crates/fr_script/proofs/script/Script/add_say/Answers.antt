@@ -1,4 +1,4 @@
-use Rattle.std.proofs.Common.{◌≡◌, ◌≤◌, Ok, ap, sym, subst, refl, rules}
+use Rattle.std.proofs.Common.{◌≡◌, ◌≤◌, Ok, ap, sym, subst, rules}
 use mir.Val.{to_z, of_z}
 use mir.Syntax.{w64}
 use Rattle.std.proofs.lemmas.Int.{to_z-of_z}
