@@ -1,0 +1,3 @@
+-- what the public contract cites
+pub mod Texts
+pub mod Upgrades

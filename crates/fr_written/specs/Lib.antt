@@ -1,0 +1,3 @@
+-- what the laws cite
+pub mod Texts
+pub mod ReadBack
