@@ -10,14 +10,18 @@ use Rattle.fr_params.specs.Files.{params_file}
 use Rattle.fr_records.specs.Kind.{HasOneAnswer}
 use Rattle.fr_ending.specs.Decided.{IsDecided, IsFileTold}
 use Rattle.fr_ending.proofs.OneValue.{one_value}
-use Rattle.fr_answer_bound.specs.BoundAnswer.{AreBoundsOf}
-use Rattle.fr_answer_bound.specs.BoundText.{bound_text}
+use Rattle.fr_answer_bound.specs.BoundAnswer.{AreBoundsOf, AreJoinBoundsOf}
+use Rattle.fr_answer_bound.specs.BoundText.{bound_text, with_join_text}
 use Rattle.fr_answer_bound.specs.SettleAnswer.{IsSettlingFor, IsSettlingOf}
 use Rattle.fr_answer_bound.specs.SettleText.{settle_text}
 
 pub one_bounds : HasOneAnswer params_file → IsDecided IsFileTold AreBoundsOf
 one_bounds one = λ file name shelf other bytes text again told there found more.
     found.shown ∙ ap bound_text (one_value params_file one file name bytes shelf other found.params more.params told there found.has_params more.has_params) ∙ sym more.shown
+
+pub one_join_bounds : HasOneAnswer params_file → IsDecided IsFileTold AreJoinBoundsOf
+one_join_bounds one = λ file name shelf other bytes text again told there found more.
+    found.shown ∙ ap with_join_text (one_value params_file one file name bytes shelf other found.params more.params told there found.has_params more.has_params) ∙ sym more.shown
 
 -- numbers that are not negative are the same where their amounts are
 same_amount : (a b : ℤ) → pos 0 ≤ℤ a → pos 0 ≤ℤ b → nat_abs a ≡ nat_abs b → a ≡ b

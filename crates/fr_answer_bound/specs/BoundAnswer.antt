@@ -8,7 +8,7 @@ use Rattle.fr_ending.specs.declared.failure.Failure.{Failure}
 use Rattle.fr_ending.specs.declared.failure.Failure.TheVariants.{Params}
 use Rattle.fr_ending.specs.declared.status.Status.{Status}
 use Rattle.fr_ending.specs.declared.status.Status.TheVariants as status
-use Rattle.fr_answer_bound.specs.BoundText.{bound_text}
+use Rattle.fr_answer_bound.specs.BoundText.{bound_text, with_join_text}
 use Rattle.fr_ending.specs.Complete.{IsStatusOf}
 
 -- the file is accepted, and these are the lines of its parameters
@@ -16,6 +16,12 @@ pub record AreBoundsOf (file : List ℕ) (shelf : Shelved) (text : List ℕ) : T
   pub params : Values
   pub has_params : Has params_file shelf file params
   pub shown : text ≡ bound_text params
+
+-- the file is accepted, and these are the lines of its parameters and those of a cluster that nodes join
+pub record AreJoinBoundsOf (file : List ℕ) (shelf : Shelved) (text : List ℕ) : Type 0 where
+  pub params : Values
+  pub has_params : Has params_file shelf file params
+  pub shown : text ≡ with_join_text params
 
 -- why a request for bounds stops
 abbrev pub StopsAtParams : List ℕ → Shelved → Shelved → Failure → Type 0

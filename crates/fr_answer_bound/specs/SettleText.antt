@@ -9,8 +9,8 @@ abbrev pub stated_line : ℕ → ℕ → List ℕ
 stated_line start rate = line (codes "start " ++ decimal start ++ codes " rate " ++ decimal rate)
 
 -- how far macroticks may lie apart on the way, in ticks
-abbrev pub peak_line : ℤ → List ℕ
-peak_line peak = line (codes "peak " ++ signed_decimal peak)
+abbrev pub apart_line : ℤ → List ℕ
+apart_line peak = line (codes "peak " ++ signed_decimal peak)
 
 -- a check that fails, with both sides
 abbrev pub failing_line : ℕ → ℤ → ℤ → List ℕ
@@ -23,4 +23,4 @@ verdict_line doubles None = line (codes "settles " ++ decimal doubles)
 verdict_line doubles (Some failed) = failing_line failed.0 failed.1 failed.2
 
 abbrev pub settle_text : ℕ → ℕ → Settling → List ℕ
-settle_text start rate s = stated_line start rate ++ peak_line s.peak ++ verdict_line s.doubles s.failed
+settle_text start rate s = stated_line start rate ++ apart_line s.peak ++ verdict_line s.doubles s.failed

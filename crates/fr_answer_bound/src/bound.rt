@@ -37,7 +37,8 @@ pub fn answer<S: Shelf, O: Sink>(
     Ok(())
 }
 
-fn print<O: Sink>(params: &Params, out: &mut O) -> Result<(), PutFault>
+// Writes the bounds and the checks of each cluster.
+pub(crate) fn print<O: Sink>(params: &Params, out: &mut O) -> Result<(), PutFault>
     ensures { Puts result (O.state out.old) (O.state out.new) (bound_text params.now) }
 {
     put_lines(&lines(params), out)
@@ -61,16 +62,16 @@ fn lines(params: &Params) -> [Option<Line>; 9]
     ]
 }
 
-fn value_line(label: &[u8], value: u64) -> Line
+pub(crate) fn value_line(label: &[u8], value: u64) -> Line
     requires { length label.now ≤ 20 }
     ensures { result ≡ line (label.now ++ decimal value) }
 {
     line_of(&[Word(label), Natural(value)])
 }
 
-fn check_line(params: &Params, number: u8) -> Line
+pub(crate) fn check_line(params: &Params, number: u8) -> Line
     requires from { 1 ≤ number }
-    requires to { number ≤ 5 }
+    requires to { number ≤ 9 }
     ensures { result ≡ check_line number params.now }
 {
     let CheckSides { left, right, holds } = side(params, number);

@@ -1,6 +1,6 @@
 ghost use Rattle.std.specs.Prelude.{ℕ};
 ghost use Rattle.fr_ending.specs.Decided.{IsDecided, IsFileTold};
-ghost use Rattle.fr_answer_bound.specs.BoundAnswer.{AreBoundsOf};
+ghost use Rattle.fr_answer_bound.specs.BoundAnswer.{AreBoundsOf, AreJoinBoundsOf};
 ghost use Rattle.fr_answer_bound.specs.SettleAnswer.{IsSettlingOf};
 
 use fr_bound::one_settling;
@@ -9,6 +9,13 @@ use fr_bound::one_settling;
 /// the same bytes are the same.
 pub fn file_decides_the_bounds()
     ensures { IsDecided IsFileTold AreBoundsOf }
+{
+    fr_params::one_answer();
+}
+
+/// A law: so they do with the lines of a cluster that nodes join.
+pub fn file_decides_the_bounds_of_joining()
+    ensures { IsDecided IsFileTold AreJoinBoundsOf }
 {
     fr_params::one_answer();
 }

@@ -6,7 +6,7 @@ ghost use Rattle.fr_ending.specs.Around.{TextEnds};
 ghost use Rattle.fr_ending.specs.Failure.{EndingWritesNothing};
 ghost use Rattle.fr_answer_bound.specs.BoundAnswer.{StopsAtParams};
 ghost use Rattle.fr_answer_bound.specs.SettleAnswer.{IsSettlingFor, IsSettlingOf};
-ghost use Rattle.fr_answer_bound.specs.SettleText.{failing_line, peak_line, settle_text, stated_line, verdict_line};
+ghost use Rattle.fr_answer_bound.specs.SettleText.{failing_line, apart_line, settle_text, stated_line, verdict_line};
 
 use fr_base::{PutFault, Shelf, Sink};
 use fr_bound::{Settling, settle};
@@ -62,7 +62,7 @@ fn lines(start: u64, rate: u64, settling: &Settling) -> [Option<Line>; 3]
 {
     [
         Some(stated_line(start, rate)),
-        Some(peak_line(settling.peak)),
+        Some(apart_line(settling.peak)),
         Some(verdict_line(settling)),
     ]
 }
@@ -78,8 +78,8 @@ fn stated_line(start: u64, rate: u64) -> Line
     ])
 }
 
-fn peak_line(peak: i64) -> Line
-    ensures { result ≡ peak_line peak }
+fn apart_line(peak: i64) -> Line
+    ensures { result ≡ apart_line peak }
 {
     line_of(&[Word(b"peak "), Signed(peak)])
 }

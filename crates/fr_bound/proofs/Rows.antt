@@ -3,7 +3,7 @@ use Rattle.std.proofs.Common.{◌≡◌, ℕ, ℤ, pos, negsuc, [], ◌∷◌, t
 use Rattle.fr_base.specs.declared.node_row.NodeRow.{NodeRow}
 use Rattle.fr_base.specs.declared.state.State.TheVariants.{Active, Passive}
 use Rattle.fr_cluster.specs.Values.{Values}
-use Rattle.fr_bound.specs.Bounds.{y1_of, lambda_of, pi_of, precision_of}
+use Rattle.fr_bound.specs.Bounds.{arrival_error, follower_error, lambda_of, pi_of, precision_of, reach_of, y1_of}
 use Rattle.fr_bound.specs.Checks.{left_of, right_of, holds_of}
 use Rattle.fr_bound.specs.Sync.{is_in_sync}
 
@@ -26,7 +26,8 @@ cluster damping offset_limit rate_limit action_offset change_bound = record {
   damping = pos damping;
   offset_limit = pos offset_limit;
   rate_limit = pos rate_limit;
-  compensation = pos 0;
+  compensation_a = pos 0;
+  compensation_b = pos 0;
   rate_bound = pos 200;
   change_bound = pos change_bound;
   delay_error = pos 500000;
@@ -72,6 +73,38 @@ wider = (refl, refl, refl)
 wider_holds : (holds_of 1 (cluster 5 318 81 8 1) ≡ true) × (holds_of 2 (cluster 5 318 81 8 1) ≡ true) × (holds_of 3 (cluster 5 318 81 8 1) ≡ true) × (holds_of 4 (cluster 5 318 81 8 1) ≡ true)
     × (holds_of 5 (cluster 5 318 81 8 1) ≡ true)
 wider_holds = (refl, refl, refl, refl, refl)
+
+-- ---- nodes that join: a wider rate limit and offset limit, and a later action point
+
+abbrev joined : Values
+joined = cluster 4 454 84 12 0
+
+joined_bounds : (follower_error joined ≡ 3000400) × (precision_of joined ≡ 252043600) × (reach_of joined ≡ 452077600)
+joined_bounds = (refl, refl, refl)
+
+joined_sides : Sides 6 joined 83983200 83000400 × Sides 7 joined 453909200 453577800 × Sides 8 joined 2393513201600 2262888000000 × Sides 9 joined 3592769302400 2262888000000
+joined_sides = ((refl, refl), (refl, refl), (refl, refl), (refl, refl))
+
+joined_holds : (holds_of 6 joined ≡ true) × (holds_of 7 joined ≡ true) × (holds_of 8 joined ≡ true) × (holds_of 9 joined ≡ true)
+joined_holds = (refl, refl, refl, refl)
+
+joined_early : Sides 8 (cluster 4 454 84 11 0) 2193637184800 2262888000000 × (holds_of 8 (cluster 4 454 84 11 0) ≡ false)
+joined_early = ((refl, refl), refl)
+
+-- the reference has no room for nodes that join
+reference_to_join : Sides 6 reference 80983800 83000400 × (holds_of 6 reference ≡ false)
+reference_to_join = ((refl, refl), refl)
+
+-- ---- compensations of the delay: the greater of both decides
+
+abbrev compensated : ℕ → ℕ → Values
+compensated on_a on_b = record reference { compensation_a = pos on_a; compensation_b = pos on_b }
+
+compensated_bounds : (arrival_error (compensated 1 3) ≡ 500600) × (precision_of (compensated 1 3) ≡ 252084400)
+compensated_bounds = (refl, refl)
+
+greater_decides : (precision_of (compensated 3 1) ≡ precision_of (compensated 1 3)) × (precision_of (compensated 3 3) ≡ precision_of (compensated 1 3))
+greater_decides = (refl, refl)
 
 -- ---- in sync
 

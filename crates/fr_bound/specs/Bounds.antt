@@ -42,3 +42,13 @@ pi_of p = 6 * lambda_of p + 4 * arrival_error p + 8 * longest_micro p
 -- the precision: how far two corresponding macroticks may lie apart
 abbrev pub precision_of : Values → ℕ
 precision_of p = pi_of p + 2 * lambda_of p + 2 * longest_micro p
+
+-- ---- nodes that join
+
+-- the error of a follower: how far the lengths of a node that begins to follow may lie from its reference's odd one
+abbrev pub follower_error : Values → ℕ
+follower_error p = y1_of p + 4 * cycle_change p
+
+-- the reach: how far instants of a node that follows may lie from those of the others
+abbrev pub reach_of : Values → ℕ
+reach_of p = pi_of p + 8 * lambda_of p + 4 * follower_error p + 4 * arrival_error p + 8 * longest_micro p

@@ -1,12 +1,11 @@
 -- How long clocks that begin apart take until they are in sync, and how far they may lie apart on the way (this project's
 -- own; the corrections are those of section 8.6).
 use Rattle.std.specs.Prelude.{ℕ, zero, suc, ◌≡◌, ◌+◌, ◌*◌, ◌/◌, ◌<◌, ◌≤◌, pos, ℤ, Bool, true, false, nat_le, nat_lt, max, Option, Some, None}
-use Rattle.fr_cluster.specs.Values.{Values, amount}
-use Rattle.fr_cluster.specs.declared.names.ParamName.TheVariants as name
+use Rattle.fr_cluster.specs.Values.{Values}
 use Rattle.fr_bound.specs.declared.checking.CheckSides.{CheckSides}
 use Rattle.fr_bound.specs.declared.settling.Spread.{Spread}
-use Rattle.fr_bound.specs.Bounds.{nominal, longest_micro, widest, arrival_error, lambda_of, pi_of}
-use Rattle.fr_bound.specs.Checks.{left_of, right_of}
+use Rattle.fr_bound.specs.Bounds.{longest_micro, arrival_error, lambda_of, pi_of}
+use Rattle.fr_bound.specs.Checks.{back_need_of, front_need_of, left_of, right_of}
 
 -- how far starts and lengths may lie apart in the first double cycle: as is stated, and no less than in sync
 abbrev pub first_spread : Values → ℕ → ℕ → Spread
@@ -46,11 +45,15 @@ pub record IsPeakTo (p : Values) (start rate double peak : ℕ) : Type 0 where
 
 -- ---- the checks for the way: the last three with the peak in place of the precision
 
+-- their numbers
+pub record IsSettleCheck (number : ℕ) : Type 0 where
+  pub from : 1 ≤ number
+  pub to : number ≤ 5
+
 abbrev pub settle_right_of : ℕ → ℕ → Values → ℕ
 settle_right_of (suc (suc (suc zero))) peak p = peak + arrival_error p + longest_micro p
-settle_right_of (suc (suc (suc (suc zero)))) peak p = amount p name.gMacroPerCycle * (peak + amount p name.xDelayError)
-settle_right_of (suc (suc (suc (suc (suc zero))))) peak p =
-    amount p name.gMacroPerCycle * (peak + widest p * nominal + amount p name.xDelayError)
+settle_right_of (suc (suc (suc (suc zero)))) peak p = front_need_of p peak
+settle_right_of (suc (suc (suc (suc (suc zero))))) peak p = back_need_of p peak
 settle_right_of other peak p = right_of other p
 
 abbrev pub settle_holds_of : ℕ → ℕ → Values → Bool

@@ -1,5 +1,5 @@
 ghost use Rattle.std.specs.Prelude.{◌≡◌, ◌≤◌, pos};
-ghost use Rattle.fr_bound.specs.Bounds.{longest_micro, shortest_micro, widest, arrival_error, cycle_change, y1_of, lambda_of, pi_of, precision_of};
+ghost use Rattle.fr_bound.specs.Bounds.{longest_micro, shortest_micro, widest, arrival_error, cycle_change, y1_of, lambda_of, pi_of, precision_of, follower_error, reach_of};
 
 use fr_cluster::{ParamName, Params};
 
@@ -32,6 +32,14 @@ pub fn bounds(params: &Params) -> BoundValues
         pi: pi(params) as i64,
         precision: precision(params) as i64,
     }
+}
+
+/// The reach of these parameters: how far instants of a node that joins may lie from those of the others while it
+/// follows, in ticks. It is wider than the precision.
+pub fn reach(params: &Params) -> i64
+    ensures { result ≡ pos (reach_of params.now) }
+{
+    ticks_of_reach(params) as i64
 }
 
 // The longest microtick.
@@ -102,4 +110,23 @@ pub(crate) fn precision(params: &Params) -> u64
     ensures most { result ≤ 180_000_000_000 }
 {
     pi(params) + 2 * lambda(params) + 2 * longest(params)
+}
+
+// How far the lengths of a node that begins to follow may lie from its reference's odd one.
+pub(crate) fn follower_error(params: &Params) -> u64
+    ensures value { result ≡ follower_error params.now }
+    ensures most { result ≤ 7_000_000_000 }
+{
+    y1(params) + 4 * change(params)
+}
+
+pub(crate) fn ticks_of_reach(params: &Params) -> u64
+    ensures value { result ≡ reach_of params.now }
+    ensures most { result ≤ 330_000_000_000 }
+{
+    pi(params)
+        + 8 * lambda(params)
+        + 4 * follower_error(params)
+        + 4 * arrival_error(params)
+        + 8 * longest(params)
 }

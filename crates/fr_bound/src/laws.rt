@@ -2,7 +2,7 @@ ghost use Rattle.std.specs.Prelude.{◌≡◌, ◌↔◌, ℕ, ℤ, List, Option
 ghost use Rattle.fr_base.specs.declared.node_row.NodeRow.{NodeRow};
 ghost use Rattle.fr_cluster.specs.Values.{Values};
 ghost use Rattle.fr_cluster.specs.Sane.{IsSane};
-ghost use Rattle.fr_bound.specs.Checks.{IsUncut, FirstFailing, AllChecksHold};
+ghost use Rattle.fr_bound.specs.Checks.{IsUncut, FirstFailing, FirstFailingToJoin, AllChecksHold, AllJoinChecksHold};
 ghost use Rattle.fr_bound.specs.Settling.{IsPeakTo, IsSettleVerdict, SettlesAt};
 ghost use Rattle.fr_bound.specs.Sync.{IsInSync, is_in_sync};
 
@@ -16,6 +16,14 @@ pub fn nothing_is_cut()
 pub fn one_first_failing()
     ensures one { (p : Values) (number other : ℕ) → FirstFailing number p → FirstFailing other p → number ≡ other }
     ensures none { (p : Values) (number : ℕ) → FirstFailing number p → AllChecksHold p → ⊥ }
+{}
+
+/// A law: so it is of the checks of a cluster that nodes join.
+pub fn one_first_failing_to_join()
+    ensures one { (p : Values) (number other : ℕ) →
+        FirstFailingToJoin number p → FirstFailingToJoin other p → number ≡ other }
+    ensures none { (p : Values) (number : ℕ) →
+        FirstFailingToJoin number p → AllJoinChecksHold p → ⊥ }
 {}
 
 /// A law: the test of two lists of rows tells whether they are in sync.

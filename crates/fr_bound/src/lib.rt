@@ -7,7 +7,9 @@ mod checking;
 mod laws;
 mod settling;
 
-pub use bounding::{BoundValues, bounds};
-pub use checking::{CheckSides, checks, side};
-pub use laws::{in_sync_is_tested, nothing_is_cut, one_first_failing, one_settling};
+pub use bounding::{BoundValues, bounds, reach};
+pub use checking::{CheckSides, checks, join_checks, side};
+pub use laws::{
+    in_sync_is_tested, nothing_is_cut, one_first_failing, one_first_failing_to_join, one_settling,
+};
 pub use settling::{Settling, Spread, settle};

@@ -1,11 +1,10 @@
 ghost use Rattle.std.specs.Prelude.{◌≡◌, ◌≤◌, ◌≤ℤ◌, ℕ, pos, true, false, nat_abs};
-ghost use Rattle.fr_bound.specs.Checks.{IsCheck};
-ghost use Rattle.fr_bound.specs.Settling.{IsPeakTo, IsSettleCheckOf, IsSettleVerdict, IsSettled};
+ghost use Rattle.fr_bound.specs.Settling.{IsPeakTo, IsSettleCheck, IsSettleCheckOf, IsSettleVerdict, IsSettled};
 ghost use Rattle.fr_bound.specs.Settling.{SettlesAt, apart_in, first_spread, most_stated, next_spread, settle_right_of};
 
-use crate::bounding::{NOMINAL, arrival_error, compensation, lambda, longest, pi};
-use crate::checking::{CheckSides, sides};
-use fr_cluster::{ParamName, Params};
+use crate::bounding::{arrival_error, lambda, longest, pi};
+use crate::checking::{CheckSides, back_need, front_need, sides};
+use fr_cluster::Params;
 
 /// When clocks that begin apart are in sync for certain, and what must hold on the way.
 #[derive(Clone, Copy, Debug, PartialEq, Eq)]
@@ -126,7 +125,7 @@ fn first_failing(params: &Params, peak: u64) -> Option<(u8, i64, i64)>
 }
 
 fn settle_side(params: &Params, number: u8, peak: u64) -> CheckSides
-    requires number { IsCheck number }
+    requires number { IsSettleCheck number }
     requires peak { peak ≤ 8_200_000_000_000 }
     ensures { IsSettleCheckOf number peak params.now result }
 {
@@ -145,7 +144,7 @@ fn settle_side(params: &Params, number: u8, peak: u64) -> CheckSides
 
 // What a check for the way needs: the last three with the peak in place of the precision.
 fn need(params: &Params, number: u8, peak: u64) -> u64
-    requires number { IsCheck number }
+    requires number { IsSettleCheck number }
     requires peak { peak ≤ 8_200_000_000_000 }
     ensures value { result ≡ settle_right_of number peak params.now }
     ensures most { result ≤ 1_000_000_000_000_000_000 }
@@ -156,22 +155,4 @@ fn need(params: &Params, number: u8, peak: u64) -> u64
         5 => back_need(params, peak),
         _ => sides(params, number).1,
     }
-}
-
-fn front_need(params: &Params, peak: u64) -> u64
-    requires { peak ≤ 8_200_000_000_000 }
-    ensures value { result ≡ settle_right_of 4 peak params.now }
-    ensures most { result ≤ 1_000_000_000_000_000_000 }
-{
-    params.natural(ParamName::gMacroPerCycle) * (peak + params.natural(ParamName::xDelayError))
-}
-
-fn back_need(params: &Params, peak: u64) -> u64
-    requires { peak ≤ 8_200_000_000_000 }
-    ensures value { result ≡ settle_right_of 5 peak params.now }
-    ensures most { result ≤ 1_000_000_000_000_000_000 }
-{
-    let delay = compensation(params) * NOMINAL;
-    let within = peak + delay + params.natural(ParamName::xDelayError);
-    params.natural(ParamName::gMacroPerCycle) * within
 }

@@ -1,8 +1,7 @@
 -- Where deviations come from.
 use Rattle.std.proofs.Common.{◌≡◌, ℕ, ◌+◌, ◌-◌, ◌*◌, ◌<◌, ◌≤◌, Bool, true, false, ℤ, pos, refl, ap, sym, ◌∙◌, subst, arith}
 use Rattle.std.specs.Prelude.{◌+ℤ◌, ◌-ℤ◌, ◌*ℤ◌, ◌≤ℤ◌, ◌<ℤ◌, nat_abs}
-use Rattle.std.specs.Int.{int_max}
-use Rattle.std.proofs.lemmas.Int.{ints, clamps}
+use Rattle.std.proofs.lemmas.Int.{ints}
 use Rattle.fr_base.specs.declared.channel.Channel.{Channel}
 use Rattle.fr_base.specs.declared.channel.Channel.TheVariants as channel
 use Rattle.fr_base.specs.declared.node_row.NodeRow.{NodeRow}
@@ -23,23 +22,20 @@ use Rattle.fr_precision.specs.Deviations.{CountedIsDeviation, RecordedIsDeviatio
 use Rattle.fr_precision.proofs.InstantLaws.{before_correction}
 use Rattle.fr_precision.proofs.Lines.{rest_of}
 use Rattle.fr_precision.proofs.OffsetLaws.{micro_lasts}
-use Rattle.fr_precision.proofs.ReceptionLaws.{ends_before}
+use Rattle.fr_precision.proofs.ReceptionLaws.{ends_before, within_widest}
 
 -- an instant up to the offset correction is that of the position by the rule of even cycles
-early_is : (p : Values) (row : NodeRow) (is_odd : Bool) (macrotick : ℤ) → macrotick ≤ℤ p.correction
+pub early_is : (p : Values) (row : NodeRow) (is_odd : Bool) (macrotick : ℤ) → macrotick ≤ℤ p.correction
     → instant_of (grid_for p) row is_odd macrotick ≡ row.start +ℤ (even_position (grid_for p) row.rate macrotick *ℤ row.length)
 early_is p row false macrotick to = refl
 early_is p row true macrotick to = before_correction p row macrotick to
 
 -- the compensation of a channel, and how far a microtick lies from the nominal one
-compensation_range : (u : ℤ) → pos 0 ≤ℤ u → u ≤ℤ pos (nat_abs (int_max u u))
-compensation_range u from = omega (arith, ints, clamps)
+pub compensation_within : (p : Values) (ch : Channel) → IsSane p → (pos 0 ≤ℤ compensation_of p ch) × (compensation_of p ch ≤ℤ pos (widest p))
+compensation_within p channel.A sane = ((sane.ranges name.pDelayCompensationA).0, within_widest p channel.A)
+compensation_within p channel.B sane = ((sane.ranges name.pDelayCompensationB).0, within_widest p channel.B)
 
-compensation_within : (p : Values) (ch : Channel) → IsSane p → (pos 0 ≤ℤ compensation_of p ch) × (compensation_of p ch ≤ℤ pos (widest p))
-compensation_within p channel.A sane = let range = sane.ranges name.pDelayCompensation in (range.0, compensation_range p.compensation range.0)
-compensation_within p channel.B sane = let range = sane.ranges name.pDelayCompensation in (range.0, compensation_range p.compensation range.0)
-
-micro_within : (p : Values) (row : NodeRow) → IsSane p → HasProperMicro p row → IsWithin (pos (amount p name.xRateBound)) (pos nominal -ℤ row.length)
+pub micro_within : (p : Values) (row : NodeRow) → IsSane p → HasProperMicro p row → IsWithin (pos (amount p name.xRateBound)) (pos nominal -ℤ row.length)
 micro_within p row sane micro =
     let drift = sane.ranges name.xRateBound in
     step (amount p name.xRateBound) row.length (most p.rate_bound drift.0 drift.1) micro.least micro.most

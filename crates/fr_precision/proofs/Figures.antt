@@ -43,7 +43,7 @@ change_is (pos n) (negsuc ro) w a b c = absurd (omega (arith, ints))
 change_is (pos n) (pos ro) (negsuc w) a b c = absurd (omega (arith, ints))
 
 -- the range of a drift is that of its bound on both sides
-drift_range : (n q d least most : ℕ) → least + d ≡ q → most ≡ q + d → n * most ≡ n * least + 2 * (n * d)
+pub drift_range : (n q d least most : ℕ) → least + d ≡ q → most ≡ q + d → n * most ≡ n * least + 2 * (n * d)
 drift_range n q d least most low high =
     let up : most ≡ least + (d + d) = omega arith in
     ap (λ k. n * k) up ∙ mul-add n least (d + d) ∙ ap (λ k. n * least + k) (mul-add n d d) ∙ last (n * least) (n * d)

@@ -9,5 +9,6 @@ pub mod OffsetLaws
 pub mod PlacementLaws
 pub mod ReceptionLaws
 pub mod DeviationLaws
+pub mod ReceiverLaws
 pub mod StepLaws
 pub mod Worked

@@ -229,7 +229,7 @@ corrected_end_lies_among p senders lengths reach least greatest row values term 
     high x y a e le = omega (arith, ints)
 
 -- the senders' ends lie no further apart than their starts and both lengths
-ends_near : (p : Values) (starts lengths : ℤ) (senders : List Sender) → All (IsSending p) senders → SendersLieNear p starts lengths senders
+pub ends_near : (p : Values) (starts lengths : ℤ) (senders : List Sender) → All (IsSending p) senders → SendersLieNear p starts lengths senders
     → AreNear (λ sender. end_of p sender.odd) (starts +ℤ (pos 2 *ℤ lengths)) senders
 ends_near p starts lengths senders sending near =
     let Start : Sender → Sender → Type 0 = λ one other. IsWithin starts (one.even.start -ℤ other.even.start) in

@@ -28,7 +28,7 @@ use Rattle.fr_precision.proofs.Lines.{rest_of}
 use Rattle.fr_precision.proofs.OffsetLaws.{deviation_within, micro_lasts}
 
 -- a product of two numbers within bounds
-product_within : (x y a b : ℤ) → IsWithin a x → IsWithin b y → IsWithin (a *ℤ b) (x *ℤ y)
+pub product_within : (x y a b : ℤ) → IsWithin a x → IsWithin b y → IsWithin (a *ℤ b) (x *ℤ y)
 product_within x y a b near also =
     by_lt_z x (pos 0)
     (λ down.
@@ -40,7 +40,7 @@ product_within x y a b near also =
     turned c p n e within = record { low = omega (arith, ints, within.high); high = omega (arith, ints, within.low) }
 
 -- a share of a length that is not negative is not negative
-share_from : (count length parts : ℤ) → pos 0 ≤ℤ count → pos 0 ≤ℤ length → pos 0 <ℤ parts → pos 0 ≤ℤ floor_of (count *ℤ length) parts
+pub share_from : (count length parts : ℤ) → pos 0 ≤ℤ count → pos 0 ≤ℤ length → pos 0 <ℤ parts → pos 0 ≤ℤ floor_of (count *ℤ length) parts
 share_from count length parts from also some =
     let whole : pos 0 ≤ℤ (count *ℤ length) = mulz_from count length from also in
     let rest = rest_of (count *ℤ length) parts some in
@@ -66,7 +66,7 @@ share_from count length parts from also some =
     contrary a b le less = omega (arith, ints)
 
 -- the offset limit is no more than the shortest cycle has microticks
-limit_below : (macros rest limit least : ℕ) → 1 ≤ macros → rest ≤ macros → macros * (rest + limit + 1) ≤ least * rest → limit ≤ least
+pub limit_below : (macros rest limit least : ℕ) → 1 ≤ macros → rest ≤ macros → macros * (rest + limit + 1) ≤ least * rest → limit ≤ least
 limit_below macros rest limit least some fewer fits = elim (cases_lt least limit) [
   | inl less ↦
       let front : macros * (limit + 1) ≤ macros * (rest + limit + 1) = mul-le-mul_left macros (omega arith) in
@@ -97,14 +97,14 @@ within_cycle p value sane near =
     step n r o a b c v e g h le within = record { low = omega (arith, ints, within.low); high = omega (arith, ints, within.high) }
 
 -- how much a cycle changes, as signed numbers
-change_of : (p : Values) → IsSane p → pos (cycle_change p) ≡ (p.micros +ℤ p.rate_limit) *ℤ p.change_bound
+pub change_of : (p : Values) → IsSane p → pos (cycle_change p) ≡ (p.micros +ℤ p.rate_limit) *ℤ p.change_bound
 change_of p sane =
     let micros = sane.ranges name.pMicroPerCycle in
     let rate = sane.ranges name.pRateCorrectionOut in
     let change = sane.ranges name.xChangeBound in
     change_is p.micros p.rate_limit p.change_bound (omega (arith, ints, micros.0)) (omega (arith, ints, rate.0)) (omega (arith, ints, change.0))
 
-steady_within : (p : Values) (even odd : NodeRow) → IsSane p → IsSteady p even odd → IsWithin p.change_bound (odd.length -ℤ even.length)
+pub steady_within : (p : Values) (even odd : NodeRow) → IsSane p → IsSteady p even odd → IsWithin p.change_bound (odd.length -ℤ even.length)
 steady_within p even odd sane steady =
     let change = sane.ranges name.xChangeBound in
     turned p.change_bound (amount p name.xChangeBound) (odd.length -ℤ even.length) (natural p.change_bound (omega (arith, ints, change.0))) steady
@@ -113,12 +113,12 @@ steady_within p even odd sane steady =
     turned w n x e within = record { low = omega (arith, ints, within.low); high = omega (arith, ints, within.high) }
 
 -- from a macrotick of the even cycle to the same of the odd one it is the length of the odd cycle, but for the change
-record Step (p : Values) (even odd : NodeRow) (macrotick : ℤ) : Type 0 where
-  change : ℤ
-  near : IsWithin (pos (cycle_change p)) change
-  is : instant_of (grid_for p) odd true macrotick -ℤ instant_of (grid_for p) even false macrotick ≡ cycle_length_of p odd -ℤ change
+pub record Step (p : Values) (even odd : NodeRow) (macrotick : ℤ) : Type 0 where
+  pub change : ℤ
+  pub near : IsWithin (pos (cycle_change p)) change
+  pub is : instant_of (grid_for p) odd true macrotick -ℤ instant_of (grid_for p) even false macrotick ≡ cycle_length_of p odd -ℤ change
 
-step_of : (p : Values) (even odd : NodeRow) (macrotick : ℤ) → IsSane p → IsRegular p even odd → pos 0 ≤ℤ macrotick → macrotick ≤ℤ p.correction → Step p even odd macrotick
+pub step_of : (p : Values) (even odd : NodeRow) (macrotick : ℤ) → IsSane p → IsRegular p even odd → pos 0 ≤ℤ macrotick → macrotick ≤ℤ p.correction → Step p even odd macrotick
 step_of p even odd macrotick sane regular from to =
     let grid = is_grid_lem p sane in
     let uncut = uncut_lem p sane in

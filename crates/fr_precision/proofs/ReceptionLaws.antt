@@ -8,6 +8,7 @@ use Rattle.fr_base.specs.declared.channel.Channel.{Channel}
 use Rattle.fr_base.specs.declared.channel.Channel.TheVariants as channel
 use Rattle.fr_base.specs.declared.node_row.NodeRow.{NodeRow}
 use Rattle.fr_cluster.specs.Values.{Values, amount}
+use Rattle.fr_cluster.specs.Questions.{compensation_of}
 use Rattle.fr_cluster.specs.Sane.{IsSane}
 use Rattle.fr_cluster.specs.declared.names.ParamName.TheVariants as name
 use Rattle.fr_base.specs.Within.{IsWithin}
@@ -148,13 +149,26 @@ fits_below parts need gap left some a b =
     contrary x y l z e h k m = omega (arith, ints)
 
 -- a delay is from less than the delay error before to that after the widest compensation
-compensated : (u : ℤ) (e : ℕ) (d : ℤ) → pos 0 ≤ℤ u → IsWithin (pos e) (d -ℤ (u *ℤ pos 1_000_000)) → (neg_ℤ (pos e) ≤ℤ d) × (d ≤ℤ (pos (nat_abs (int_max u u) * 1_000_000) +ℤ pos e))
-compensated u e d from within = (omega (arith, ints, clamps, within.low), omega (arith, ints, clamps, within.high))
+compensated : (u : ℤ) (w e : ℕ) (d : ℤ) → pos 0 ≤ℤ u → u ≤ℤ pos w → IsWithin (pos e) (d -ℤ (u *ℤ pos 1_000_000)) → (neg_ℤ (pos e) ≤ℤ d) × (d ≤ℤ (pos (w * 1_000_000) +ℤ pos e))
+compensated u w e d from to within = (omega (arith, ints, within.low), omega (arith, ints, within.high))
+
+-- each channel's compensation is at most the widest
+pub within_widest : (p : Values) (ch : Channel) → compensation_of p ch ≤ℤ pos (widest p)
+within_widest p channel.A = first_of_both p.compensation_a p.compensation_b
+  where
+    first_of_both : (a b : ℤ) → a ≤ℤ pos (nat_abs (int_max a b))
+    first_of_both a b = omega (arith, ints, clamps)
+within_widest p channel.B = second_of_both p.compensation_a p.compensation_b
+  where
+    second_of_both : (a b : ℤ) → b ≤ℤ pos (nat_abs (int_max a b))
+    second_of_both a b = omega (arith, ints, clamps)
 
 delay_range : (p : Values) (ch : Channel) (delay : ℤ) → IsSane p → IsDelay p ch delay
     → (neg_ℤ (pos (amount p name.xDelayError)) ≤ℤ delay) × (delay ≤ℤ (pos (widest p * nominal) +ℤ pos (amount p name.xDelayError)))
-delay_range p channel.A delay sane near = let range = sane.ranges name.pDelayCompensation in compensated p.compensation (amount p name.xDelayError) delay range.0 near
-delay_range p channel.B delay sane near = let range = sane.ranges name.pDelayCompensation in compensated p.compensation (amount p name.xDelayError) delay range.0 near
+delay_range p channel.A delay sane near =
+    compensated p.compensation_a (widest p) (amount p name.xDelayError) delay (sane.ranges name.pDelayCompensationA).0 (within_widest p channel.A) near
+delay_range p channel.B delay sane near =
+    compensated p.compensation_b (widest p) (amount p name.xDelayError) delay (sane.ranges name.pDelayCompensationB).0 (within_widest p channel.B) near
 
 -- a slot and its end before the offset correction
 pub ends_before : (p : Values) (slot : ℕ) → IsSane p → slot ≤ amount p name.gNumberOfStaticSlots → pos (slot_end_of p slot) ≤ℤ p.correction

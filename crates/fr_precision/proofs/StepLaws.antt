@@ -1,5 +1,5 @@
 -- The law of the step, from those of rates, offsets and instants.
-use Rattle.std.proofs.Common.{◌≡◌, ℕ, ◌+◌, ◌*◌, ◌≤◌, true, ℤ, pos, List, [], ◌∷◌, length, map, All, refl, ap, sym, subst, arith}
+use Rattle.std.proofs.Common.{◌≡◌, ℕ, ◌+◌, ◌*◌, true, ℤ, pos, List, [], ◌∷◌, map, All, refl, ap, sym, subst, arith}
 use Rattle.std.specs.Prelude.{◌+ℤ◌, ◌-ℤ◌, ◌*ℤ◌, ◌≤ℤ◌, Contains}
 use Rattle.std.proofs.lemmas.Int.{ints}
 use Rattle.std.proofs.lemmas.List.Elements.{All-cons, All-contains, All-contains_itself, All-head, All-map, All-nil, All-tail}
@@ -12,14 +12,14 @@ use Rattle.fr_bound.specs.Bounds.{arrival_error, lambda_of, longest_micro, pi_of
 use Rattle.fr_bound.specs.Checks.{holds_of}
 use Rattle.fr_bound.specs.Sync.{cycle_length_of, IsInSync, IsCycleLength}
 use Rattle.fr_base.specs.Within.{LieWithin}
-use Rattle.fr_precision.specs.Rows.{corrected_end_of, KeepOne, Sender}
+use Rattle.fr_precision.specs.Rows.{corrected_end_of, Sender}
 use Rattle.fr_precision.specs.Instants.{gap_of, LieNear, Runs}
-use Rattle.fr_precision.specs.Offsets.{IsOffsetRound, IsSending, LimitSuffices, NearAll, ReachAll, SendersLieNear}
-use Rattle.fr_precision.specs.Rates.{IsRateRound}
-use Rattle.fr_precision.specs.Step.{AllKeepOne, AreSpread, AreSynced, ComputesTerms, DrawNear, IsAmong, IsFollowed, IsSpreadDouble, Member, NextIsInSync, NextIsSpread, SpreadsShrink, StaySynced, SyncIsKept, SyncOfAllIsKept, SyncShrinks, TakesPart}
+use Rattle.fr_precision.specs.Offsets.{IsSending, LimitSuffices, NearAll, ReachAll}
+use Rattle.fr_precision.specs.Receivers.{SendNear, TakesIn}
+use Rattle.fr_precision.specs.Step.{AllKeepOne, AreSpread, AreSynced, ComputesTerms, DrawNear, IsAmong, IsFollowed, InSyncIsSpread, IsSpreadDouble, Member, NextIsInSync, NextIsSpread, SpreadsShrink, StaySynced, SyncIsKept, SyncOfAllIsKept, SyncShrinks, TakesPart}
 use Rattle.fr_precision.proofs.InstantLaws.{actions_stay_near, precision_holds_lem}
-use Rattle.fr_precision.proofs.OffsetLaws.{ends_draw_together, offset_terms_are_uncut, third_check_suffices}
-use Rattle.fr_precision.proofs.RateLaws.{half_within, lengths_draw_together_lem, lengths_stay_in_range_lem, rate_terms_are_uncut}
+use Rattle.fr_precision.proofs.OffsetLaws.{third_check_suffices}
+use Rattle.fr_precision.proofs.ReceiverLaws.{comes_near, receivers_draw_near}
 use Rattle.fr_precision.proofs.Senders.{lie_within, All-along, All-both}
 
 pub turned : (bound x y : ℤ) → IsWithin bound (x -ℤ y) → IsWithin bound (y -ℤ x)
@@ -33,109 +33,97 @@ near_turned p starts lengths even odd other_even other_odd near = record {
   by_odd = turned lengths (cycle_length_of p odd) (cycle_length_of p other_odd) near.by_odd;
 }
 
--- the senders of a double cycle, which lie so near each other, and whose action points a reach takes in
-record AreSenders (p : Values) (senders : List Sender) (starts lengths reach : ℤ) : Type 0 where
-  sane : IsSane p
-  first : holds_of 1 p ≡ true
-  second : holds_of 2 p ≡ true
-  limit : LimitSuffices p reach
-  fits : (starts +ℤ (pos 2 *ℤ lengths) +ℤ pos (longest_micro p)) ≤ℤ reach
-  sending : All (IsSending p) senders
-  run : All (λ sender. Runs p sender.even sender.odd) senders
-  near : SendersLieNear p starts lengths senders
-  proper : All (λ sender. IsCycleLength p (cycle_length_of p sender.odd)) senders
+-- the senders of a round as a node hears them whose instants lie so near theirs: a reach takes their action points in
+pub record AreHeard (p : Values) (senders : List Sender) (starts lengths reach : ℤ) : Type 0 where
+  pub sane : IsSane p
+  pub limit : LimitSuffices p reach
+  pub fits : (starts +ℤ (pos 2 *ℤ lengths) +ℤ pos (longest_micro p)) ≤ℤ reach
+  pub sending : All (IsSending p) senders
+  pub run : All (λ sender. Runs p sender.even sender.odd) senders
 
--- a node that lies so near every sender, and has its values of each
-record TakesIn (p : Values) (senders : List Sender) (starts lengths : ℤ) (node : Member) : Type 0 where
-  runs : Runs p node.even node.odd
-  near : All (λ sender. LieNear p starts lengths lengths sender.even sender.odd node.even node.odd) senders
-  by_offset : IsOffsetRound p senders node.odd node.offsets node.offset_term
-  by_rate : IsRateRound p senders node.odd node.rates node.rate_term
+-- a node lies so near every sender
+abbrev pub IsNearAll : Values → List Sender → ℤ → ℤ → Member → Type 0
+IsNearAll p senders starts lengths node = All (λ sender. LieNear p starts lengths lengths sender.even sender.odd node.even node.odd) senders
 
-reach_of : (p : Values) (senders : List Sender) (starts lengths reach : ℤ) (node : Member) → AreSenders p senders starts lengths reach
-    → TakesIn p senders starts lengths node → ReachAll p reach senders node.odd
-reach_of p senders starts lengths reach node are takes =
+pub in_reach : (p : Values) (senders : List Sender) (starts lengths reach : ℤ) (node : Member) → AreHeard p senders starts lengths reach
+    → Runs p node.even node.odd → IsNearAll p senders starts lengths node → ReachAll p reach senders node.odd
+in_reach p senders starts lengths reach node heard runs near =
     let Run : Sender → Type 0 = λ sender. Runs p sender.even sender.odd in
     let Both : Sender → Type 0 = λ sender. IsSending p sender × Runs p sender.even sender.odd in
-    let both = All-both (IsSending p) Run Both senders (λ sender one other. (one, other)) are.sending are.run in
+    let both = All-both (IsSending p) Run Both senders (λ sender one other. (one, other)) heard.sending heard.run in
     All-both Both (λ sender. LieNear p starts lengths lengths sender.even sender.odd node.even node.odd) (λ sender. IsWithin reach (gap_of p true sender.action sender.odd node.odd)) senders
-    (λ sender is near.
-    actions_stay_near p starts lengths reach sender.action true sender.even sender.odd node.even node.odd are.sane is.1 takes.runs near are.fits is.0.acts_from is.0.acts_to) both takes.near
+    (λ sender is close.
+    actions_stay_near p starts lengths reach sender.action true sender.even sender.odd node.even node.odd heard.sane is.1 runs close heard.fits is.0.acts_from is.0.acts_to) both near
 
-near_of : (p : Values) (senders : List Sender) (starts lengths : ℤ) (node : Member) → TakesIn p senders starts lengths node → NearAll p lengths senders node.odd
-near_of p senders starts lengths node takes =
+near_of : (p : Values) (senders : List Sender) (starts lengths : ℤ) (node : Member) → IsNearAll p senders starts lengths node → NearAll p lengths senders node.odd
+near_of p senders starts lengths node near =
     All-along (λ sender. LieNear p starts lengths lengths sender.even sender.odd node.even node.odd) (λ sender. IsWithin lengths (cycle_length_of p node.odd -ℤ cycle_length_of p sender.odd)) senders
-    (λ sender near. turned lengths (cycle_length_of p sender.odd) (cycle_length_of p node.odd) near.by_odd) takes.near
+    (λ sender close. turned lengths (cycle_length_of p sender.odd) (cycle_length_of p node.odd) close.by_odd) near
 
--- two such nodes draw near
-two_draw_near : (p : Values) (senders : List Sender) (starts lengths reach : ℤ) (one other : Member) → AreSenders p senders starts lengths reach
-    → TakesIn p senders starts lengths one → TakesIn p senders starts lengths other
-    → KeepOne one.offsets other.offsets senders → KeepOne one.rates other.rates senders → DrawNear p starts lengths one other
-two_draw_near p senders starts lengths reach one other are takes also keep_offsets keep_rates =
-    let some : 1 ≤ length senders = omega (arith, keep_rates) in
-    let reaches = reach_of p senders starts lengths reach one are takes in
-    let other_reaches = reach_of p senders starts lengths reach other are also in
-    record {
-      uncut = offset_terms_are_uncut p senders reach one.odd one.offsets one.offset_term are.sane are.limit some reaches takes.by_offset;
-      range = rate_terms_are_uncut p senders one.odd one.rates one.rate_term are.sane are.first are.second some are.proper takes.by_rate;
-      ends =
-          ends_draw_together p senders starts lengths reach one.odd other.odd one.offsets other.offsets one.offset_term other.offset_term are.sane are.limit are.sending are.near
-          reaches other_reaches (near_of p senders starts lengths one takes) (near_of p senders starts lengths other also) takes.by_offset also.by_offset keep_offsets;
-      proper = λ even odd next. lengths_stay_in_range_lem p senders one.odd one.rates one.rate_term even odd are.sane are.first are.second some are.proper takes.by_rate next;
-      lengths_draw =
-          λ even odd other_even other_odd next other_next.
-          lengths_draw_together_lem p senders lengths one.odd other.odd one.rates other.rates one.rate_term other.rate_term even odd other_even other_odd are.sane are.first are.second are.proper
-          are.near.by_odd takes.by_rate also.by_rate keep_rates next other_next;
-    }
+-- such a node is a receiver within that reach
+pub takes_near : (p : Values) (senders : List Sender) (starts lengths reach : ℤ) (node : Member) → AreHeard p senders starts lengths reach
+    → ComputesTerms p senders node → IsNearAll p senders starts lengths node → TakesIn p senders reach lengths node
+takes_near p senders starts lengths reach node heard computes near = record {
+  hears = record {
+    suffices = heard.limit;
+    reached = in_reach p senders starts lengths reach node heard computes.runs near;
+    near = near_of p senders starts lengths node near;
+    round = computes.by_offset;
+  };
+  by_rate = computes.by_rate;
+}
+
+-- the senders of a double cycle, which lie so near each other besides
+pub record AreSenders (p : Values) (senders : List Sender) (starts lengths reach : ℤ) : Type 0 where
+  pub heard : AreHeard p senders starts lengths reach
+  pub send : SendNear p starts lengths senders
+  pub proper : All (λ sender. IsCycleLength p (cycle_length_of p sender.odd)) senders
 
 -- ---- in sync: with pi and lambda
-
--- pi and lambda are fixed points
-starts_halved : (pi l e q : ℕ) (x : ℤ) → pi ≡ 6 * l + 4 * e + 8 * q → IsWithin (pos pi +ℤ (pos 6 *ℤ pos l) +ℤ pos (4 * e + 8 * q)) (pos 2 *ℤ x) → IsWithin (pos pi) x
-starts_halved pi l e q x is within = record { low = omega (arith, ints, within.low); high = omega (arith, ints, within.high) }
 
 pub reach_fits : (pi l q : ℕ) → (pos pi +ℤ (pos 2 *ℤ pos l) +ℤ pos q) ≤ℤ pos (pi + 2 * l + 2 * q)
 reach_fits pi l q = omega (arith, ints)
 
+-- pi and lambda are fixed points
+pub sync_shrinks : SyncShrinks
+sync_shrinks p = record { starts_to = twice (pi_of p) (lambda_of p) (arrival_error p) (longest_micro p) refl; lengths_to = omega (arith, ints) }
+  where
+    twice : (pi l e q : ℕ) → pi ≡ 6 * l + 4 * e + 8 * q → (pos pi +ℤ (pos 6 *ℤ pos l) +ℤ pos (4 * e + 8 * q)) ≤ℤ ((pos 2 *ℤ pos pi) +ℤ pos 1)
+    twice pi l e q is = omega (arith, ints)
+
 pub stays_synced : (p : Values) (one other : Member) → IsSane p → Runs p one.even one.odd → Runs p other.even other.odd → AreSynced p one.even one.odd other.even other.odd
     → DrawNear p (pos (pi_of p)) (pos (lambda_of p)) one other → StaySynced p one other
 stays_synced p one other sane runs other_runs near draw =
-    let starts = starts_halved (pi_of p) (lambda_of p) (arrival_error p) (longest_micro p) (corrected_end_of p one.odd -ℤ corrected_end_of p other.odd) refl draw.ends in
+    let come = comes_near p (pos (pi_of p)) (pos (lambda_of p)) (pos (pi_of p)) (pos (lambda_of p)) one other (sync_shrinks p) draw in
     record {
-      uncut = draw.uncut;
-      range = draw.range;
-      starts = starts;
-      precise = λ macrotick is_odd from to. precision_holds_lem p macrotick is_odd one.even one.odd other.even other.odd sane runs other_runs near starts from to;
-      proper = draw.proper;
-      lengths =
-          λ even odd other_even other_odd next other_next.
-          let both = draw.lengths_draw even odd other_even other_odd next other_next in (
-            half_within (pos (lambda_of p)) (cycle_length_of p even -ℤ cycle_length_of p other_even) both.0,
-            half_within (pos (lambda_of p)) (cycle_length_of p odd -ℤ cycle_length_of p other_odd) both.1,
-          );
+      uncut = come.uncut;
+      range = come.range;
+      starts = come.starts;
+      precise = λ macrotick is_odd from to. precision_holds_lem p macrotick is_odd one.even one.odd other.even other.odd sane runs other_runs near come.starts from to;
+      proper = come.proper;
+      lengths = come.lengths;
     }
 
 pub sync_is_kept_lem : SyncIsKept
 sync_is_kept_lem p senders one other sane first second third synced part other_part near keep_offsets keep_rates =
     stays_synced p one other sane part.runs other_part.runs near
     (
-    two_draw_near p senders (pos (pi_of p)) (pos (lambda_of p)) (pos (precision_of p)) one other
-    (record {
-      sane = sane;
-      first = first;
-      second = second;
-      limit = third_check_suffices p third;
-      fits = reach_fits (pi_of p) (lambda_of p) (longest_micro p);
-      sending = synced.sending;
-      run = synced.run;
-      near = synced.near;
-      proper = synced.proper;
-    })
+    receivers_draw_near p senders (pos (pi_of p)) (pos (lambda_of p)) (pos (precision_of p)) one other sane first second
+    (record { sending = synced.sending; near = synced.near }) synced.proper
     (taken one part) (taken other other_part) keep_offsets keep_rates
     )
   where
-    taken : (node : Member) → TakesPart p senders node → TakesIn p senders (pos (pi_of p)) (pos (lambda_of p)) node
-    taken node takes = record { runs = takes.runs; near = takes.near; by_offset = takes.by_offset; by_rate = takes.by_rate }
+    taken : (node : Member) → TakesPart p senders node → TakesIn p senders (pos (precision_of p)) (pos (lambda_of p)) node
+    taken node takes =
+        takes_near p senders (pos (pi_of p)) (pos (lambda_of p)) (pos (precision_of p)) node
+        (record {
+          sane = sane;
+          limit = third_check_suffices p third;
+          fits = reach_fits (pi_of p) (lambda_of p) (longest_micro p);
+          sending = synced.sending;
+          run = synced.run;
+        })
+        (record { runs = takes.runs; by_offset = takes.by_offset; by_rate = takes.by_rate }) takes.near
 
 -- ---- a list of nodes
 
@@ -181,14 +169,14 @@ nodes_near p starts lengths nodes one other spread here there =
     }
 
 -- a sender lies as near each node, and each sender
-sender_near : (p : Values) (starts lengths : ℤ) (nodes : List Member) (sender : Sender) (even odd : NodeRow) → IsAmong nodes sender
+pub sender_near : (p : Values) (starts lengths : ℤ) (nodes : List Member) (sender : Sender) (even odd : NodeRow) → IsAmong nodes sender
     → ((node : Member) → Contains nodes node → LieNear p starts lengths lengths node.even node.odd even odd) → LieNear p starts lengths lengths sender.even sender.odd even odd
 sender_near p starts lengths nodes sender even odd (node, here, same_even, same_odd) near =
     let At : NodeRow → Type 0 = λ row. LieNear p starts lengths lengths row node.odd even odd in
     let Also : NodeRow → Type 0 = λ row. LieNear p starts lengths lengths sender.even row even odd in
     subst Also same_odd (subst At same_even (near node here))
 
-are_senders : (p : Values) (senders : List Sender) (nodes : List Member) (starts lengths reach : ℤ) → IsSpreadDouble p senders nodes starts lengths reach
+pub are_senders : (p : Values) (senders : List Sender) (nodes : List Member) (starts lengths reach : ℤ) → IsSpreadDouble p senders nodes starts lengths reach
     → AreSenders p senders starts lengths reach
 are_senders p senders nodes starts lengths reach is =
     let to_node = λ (sender : Sender) (among : IsAmong nodes sender) (node : Member) (here : Contains nodes node).
@@ -197,23 +185,26 @@ are_senders p senders nodes starts lengths reach is =
     sender_near p starts lengths nodes one other.even other.odd among
     (λ node here. near_turned p starts lengths other.even other.odd node.even node.odd (to_node other also node here)) in
     record {
-      sane = is.sane;
-      first = is.first;
-      second = is.second;
-      limit = is.limit;
-      fits = is.fits;
-      sending = is.sending;
-      run = All-along (IsAmong nodes) (λ sender. Runs p sender.even sender.odd) senders (λ sender among. runs_of sender among) is.among;
-      near = record {
-        by_start =
-            All-along (IsAmong nodes) (λ one. All (λ (other : Sender). IsWithin starts (one.even.start -ℤ other.even.start)) senders) senders
-            (λ one among. All-along (IsAmong nodes) (λ other. IsWithin starts (one.even.start -ℤ other.even.start)) senders (λ other also. (pair one other among also).by_start) is.among) is.among;
-        by_even =
-            All-along (IsAmong nodes) (λ one. All (λ (other : Sender). IsWithin lengths (cycle_length_of p one.even -ℤ cycle_length_of p other.even)) senders) senders
-            (λ one among. All-along (IsAmong nodes) (λ other. IsWithin lengths (cycle_length_of p one.even -ℤ cycle_length_of p other.even)) senders (λ other also. (pair one other among also).by_even) is.among) is.among;
-        by_odd =
-            All-along (IsAmong nodes) (λ one. All (λ (other : Sender). IsWithin lengths (cycle_length_of p one.odd -ℤ cycle_length_of p other.odd)) senders) senders
-            (λ one among. All-along (IsAmong nodes) (λ other. IsWithin lengths (cycle_length_of p one.odd -ℤ cycle_length_of p other.odd)) senders (λ other also. (pair one other among also).by_odd) is.among) is.among;
+      heard = record {
+        sane = is.sane;
+        limit = is.limit;
+        fits = is.fits;
+        sending = is.sending;
+        run = All-along (IsAmong nodes) (λ sender. Runs p sender.even sender.odd) senders (λ sender among. runs_of sender among) is.among;
+      };
+      send = record {
+        sending = is.sending;
+        near = record {
+          by_start =
+              All-along (IsAmong nodes) (λ one. All (λ (other : Sender). IsWithin starts (one.even.start -ℤ other.even.start)) senders) senders
+              (λ one among. All-along (IsAmong nodes) (λ other. IsWithin starts (one.even.start -ℤ other.even.start)) senders (λ other also. (pair one other among also).by_start) is.among) is.among;
+          by_even =
+              All-along (IsAmong nodes) (λ one. All (λ (other : Sender). IsWithin lengths (cycle_length_of p one.even -ℤ cycle_length_of p other.even)) senders) senders
+              (λ one among. All-along (IsAmong nodes) (λ other. IsWithin lengths (cycle_length_of p one.even -ℤ cycle_length_of p other.even)) senders (λ other also. (pair one other among also).by_even) is.among) is.among;
+          by_odd =
+              All-along (IsAmong nodes) (λ one. All (λ (other : Sender). IsWithin lengths (cycle_length_of p one.odd -ℤ cycle_length_of p other.odd)) senders) senders
+              (λ one among. All-along (IsAmong nodes) (λ other. IsWithin lengths (cycle_length_of p one.odd -ℤ cycle_length_of p other.odd)) senders (λ other also. (pair one other among also).by_odd) is.among) is.among;
+        };
       };
       proper = All-along (IsAmong nodes) (λ sender. IsCycleLength p (cycle_length_of p sender.odd)) senders (λ sender among. proper_of sender among) is.among;
     }
@@ -230,23 +221,20 @@ are_senders p senders nodes starts lengths reach is =
         subst At same_odd
         (All-contains (λ (node : Member). IsCycleLength p (cycle_length_of p node.odd)) nodes node (unmapped (λ row. IsCycleLength p (cycle_length_of p row)) (λ (node : Member). node.odd) nodes is.spread.odd_proper) here)
 
-takes_in : (p : Values) (senders : List Sender) (nodes : List Member) (starts lengths reach : ℤ) (node : Member) → IsSpreadDouble p senders nodes starts lengths reach
-    → Contains nodes node → TakesIn p senders starts lengths node
+pub takes_in : (p : Values) (senders : List Sender) (nodes : List Member) (starts lengths reach : ℤ) (node : Member) → IsSpreadDouble p senders nodes starts lengths reach
+    → Contains nodes node → TakesIn p senders reach lengths node
 takes_in p senders nodes starts lengths reach node is here =
-    let own = All-contains (ComputesTerms p senders) nodes node is.computes here in
-    record {
-      runs = own.runs;
-      near =
-          All-along (IsAmong nodes) (λ sender. LieNear p starts lengths lengths sender.even sender.odd node.even node.odd) senders
-          (λ sender among. sender_near p starts lengths nodes sender node.even node.odd among (λ one there. nodes_near p starts lengths nodes one node is.spread there here)) is.among;
-      by_offset = own.by_offset;
-      by_rate = own.by_rate;
-    }
+    takes_near p senders starts lengths reach node (are_senders p senders nodes starts lengths reach is).heard (All-contains (ComputesTerms p senders) nodes node is.computes here)
+    (
+    All-along (IsAmong nodes) (λ sender. LieNear p starts lengths lengths sender.even sender.odd node.even node.odd) senders
+    (λ sender among. sender_near p starts lengths nodes sender node.even node.odd among (λ one there. nodes_near p starts lengths nodes one node is.spread there here)) is.among
+    )
 
 pub spreads_shrink_lem : SpreadsShrink
 spreads_shrink_lem p senders nodes starts lengths reach one other is here there =
     let kept = is.keep one other here there in
-    two_draw_near p senders starts lengths reach one other (are_senders p senders nodes starts lengths reach is)
+    let are = are_senders p senders nodes starts lengths reach is in
+    receivers_draw_near p senders starts lengths reach one other is.sane is.first is.second are.send are.proper
     (takes_in p senders nodes starts lengths reach one is here) (takes_in p senders nodes starts lengths reach other is there) kept.0 kept.1
 
 -- nodes in sync are spread by pi and lambda
@@ -300,45 +288,24 @@ all_lie g bound nodes near =
 pub same_apart : (bound a b x y : ℤ) → a ≡ x → b ≡ y → IsWithin bound (x -ℤ y) → IsWithin bound (a -ℤ b)
 same_apart bound a b x y e g within = record { low = omega (arith, ints, within.low); high = omega (arith, ints, within.high) }
 
--- a number at most half of a bound that is one beyond an even number at most
-shrunk : (bound next x : ℤ) → bound ≤ℤ ((pos 2 *ℤ next) +ℤ pos 1) → IsWithin bound (pos 2 *ℤ x) → IsWithin next x
-shrunk bound next x le within = record { low = omega (arith, ints, within.low); high = omega (arith, ints, within.high) }
-
-pub next_is_spread : NextIsSpread
-next_is_spread p senders nodes starts lengths reach next_starts next_lengths next_even next_odd is shrinks followed =
-    let draw = λ (one other : Member) (here : Contains nodes one) (there : Contains nodes other). spreads_shrink_lem p senders nodes starts lengths reach one other is here there in
-    let Followed : Member → Type 0 = λ node. IsFollowed p node (next_even node) (next_odd node) in
-    let follows = λ (node : Member) (here : Contains nodes node). All-contains Followed nodes node followed here in
+-- the rows that some nodes have next are spread as any two of them
+pub next_spread : (p : Values) (nodes : List Member) (starts lengths : ℤ) (next_even next_odd : Member → NodeRow)
+    → ((one other : Member) → Contains nodes one → Contains nodes other → IsWithin starts ((next_even one).start -ℤ (next_even other).start))
+    → ((one other : Member) → Contains nodes one → Contains nodes other
+    → IsWithin lengths (cycle_length_of p (next_even one) -ℤ cycle_length_of p (next_even other))
+    × IsWithin lengths (cycle_length_of p (next_odd one) -ℤ cycle_length_of p (next_odd other)))
+    → ((node : Member) → Contains nodes node → IsCycleLength p (cycle_length_of p (next_even node)) × IsCycleLength p (cycle_length_of p (next_odd node)))
+    → AreSpread p starts lengths (map next_even nodes) (map next_odd nodes)
+next_spread p nodes starts lengths next_even next_odd near both proper =
     let Near : ℤ → List ℤ → Type 0 = LieWithin in
-    let proper = λ (node : Member) (here : Contains nodes node). (draw node node here here).proper (next_even node) (next_odd node) (follows node here).next in
-    let both = λ (one other : Member) (here : Contains nodes one) (there : Contains nodes other).
-    (draw one other here there).lengths_draw (next_even one) (next_odd one) (next_even other) (next_odd other) (follows one here).next (follows other there).next in
-    let reduced = lengths +ℤ pos (lambda_of p) in
-    let drawn = starts +ℤ (pos 6 *ℤ lengths) +ℤ pos (4 * arrival_error p + 8 * longest_micro p) in
     record {
-      starts_lie =
-          subst (Near next_starts) (sym (mapped_twice (λ (row : NodeRow). row.start) next_even nodes))
-          (
-          all_lie (λ node. (next_even node).start) next_starts nodes
-          (λ one other here there.
-          same_apart next_starts (next_even one).start (next_even other).start (corrected_end_of p one.odd) (corrected_end_of p other.odd)
-          (follows one here).start (follows other there).start
-          (shrunk drawn next_starts (corrected_end_of p one.odd -ℤ corrected_end_of p other.odd) shrinks.starts_to (draw one other here there).ends))
-          );
+      starts_lie = subst (Near starts) (sym (mapped_twice (λ (row : NodeRow). row.start) next_even nodes)) (all_lie (λ node. (next_even node).start) starts nodes near);
       even_lengths =
-          subst (Near next_lengths) (sym (mapped_twice (cycle_length_of p) next_even nodes))
-          (
-          all_lie (λ node. cycle_length_of p (next_even node)) next_lengths nodes
-          (λ one other here there.
-          shrunk reduced next_lengths (cycle_length_of p (next_even one) -ℤ cycle_length_of p (next_even other)) shrinks.lengths_to (both one other here there).0)
-          );
+          subst (Near lengths) (sym (mapped_twice (cycle_length_of p) next_even nodes))
+          (all_lie (λ node. cycle_length_of p (next_even node)) lengths nodes (λ one other here there. (both one other here there).0));
       odd_lengths =
-          subst (Near next_lengths) (sym (mapped_twice (cycle_length_of p) next_odd nodes))
-          (
-          all_lie (λ node. cycle_length_of p (next_odd node)) next_lengths nodes
-          (λ one other here there.
-          shrunk reduced next_lengths (cycle_length_of p (next_odd one) -ℤ cycle_length_of p (next_odd other)) shrinks.lengths_to (both one other here there).1)
-          );
+          subst (Near lengths) (sym (mapped_twice (cycle_length_of p) next_odd nodes))
+          (all_lie (λ node. cycle_length_of p (next_odd node)) lengths nodes (λ one other here there. (both one other here there).1));
       even_proper =
           All-map (λ (row : NodeRow). IsCycleLength p (cycle_length_of p row)) next_even nodes
           (All-along (Contains nodes) (λ node. IsCycleLength p (cycle_length_of p (next_even node))) nodes (λ node here. (proper node here).0) (All-contains_itself nodes));
@@ -347,11 +314,20 @@ next_is_spread p senders nodes starts lengths reach next_starts next_lengths nex
           (All-along (Contains nodes) (λ node. IsCycleLength p (cycle_length_of p (next_odd node))) nodes (λ node here. (proper node here).1) (All-contains_itself nodes));
     }
 
-pub sync_shrinks : SyncShrinks
-sync_shrinks p = record { starts_to = twice (pi_of p) (lambda_of p) (arrival_error p) (longest_micro p) refl; lengths_to = omega (arith, ints) }
-  where
-    twice : (pi l e q : ℕ) → pi ≡ 6 * l + 4 * e + 8 * q → (pos pi +ℤ (pos 6 *ℤ pos l) +ℤ pos (4 * e + 8 * q)) ≤ℤ ((pos 2 *ℤ pos pi) +ℤ pos 1)
-    twice pi l e q is = omega (arith, ints)
+pub next_is_spread : NextIsSpread
+next_is_spread p senders nodes starts lengths reach next_starts next_lengths next_even next_odd is shrinks followed =
+    let come = λ (one other : Member) (here : Contains nodes one) (there : Contains nodes other).
+    comes_near p starts lengths next_starts next_lengths one other shrinks (spreads_shrink_lem p senders nodes starts lengths reach one other is here there) in
+    let Followed : Member → Type 0 = λ node. IsFollowed p node (next_even node) (next_odd node) in
+    let follows = λ (node : Member) (here : Contains nodes node). All-contains Followed nodes node followed here in
+    let proper = λ (node : Member) (here : Contains nodes node). (come node node here here).proper (next_even node) (next_odd node) (follows node here).next in
+    let both = λ (one other : Member) (here : Contains nodes one) (there : Contains nodes other).
+    (come one other here there).lengths (next_even one) (next_odd one) (next_even other) (next_odd other) (follows one here).next (follows other there).next in
+    next_spread p nodes next_starts next_lengths next_even next_odd
+    (λ one other here there.
+    same_apart next_starts (next_even one).start (next_even other).start (corrected_end_of p one.odd) (corrected_end_of p other.odd)
+    (follows one here).start (follows other there).start (come one other here there).starts)
+    both proper
 
 -- all nodes active, and spread by pi and lambda: in sync
 pub spread_is_sync : (p : Values) (evens odds : List NodeRow) → All (λ (row : NodeRow). row.state ≡ Active) evens → All (λ (row : NodeRow). row.state ≡ Active) odds
@@ -365,6 +341,11 @@ spread_is_sync p evens odds even_active odd_active spread = record {
   even_proper = spread.even_proper;
   odd_proper = spread.odd_proper;
 }
+
+-- so in sync is a case of the spread
+pub in_sync_is_spread : InSyncIsSpread
+in_sync_is_spread p evens odds =
+    (λ sync. (sync.active_even, sync.active_odd, sync_is_spread p evens odds sync), λ is. spread_is_sync p evens odds is.0 is.1 is.2)
 
 pub next_is_in_sync : NextIsInSync
 next_is_in_sync p senders nodes next_even next_odd sane first second third sync sending among computes keep followed =

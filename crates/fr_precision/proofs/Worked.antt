@@ -62,7 +62,8 @@ cluster = record {
   damping = pos 4;
   offset_limit = pos 254;
   rate_limit = pos 81;
-  compensation = pos 0;
+  compensation_a = pos 0;
+  compensation_b = pos 0;
   rate_bound = pos 200;
   change_bound = pos 0;
   delay_error = pos 500000;
@@ -87,6 +88,8 @@ in_range name.pClusterDriftDamping = (record { le = tt }, record { le = tt })
 in_range name.pOffsetCorrectionOut = (record { le = tt }, record { le = tt })
 in_range name.pRateCorrectionOut = (record { le = tt }, record { le = tt })
 in_range name.pDelayCompensation = (record { le = tt }, record { le = tt })
+in_range name.pDelayCompensationA = (record { le = tt }, record { le = tt })
+in_range name.pDelayCompensationB = (record { le = tt }, record { le = tt })
 in_range name.xRateBound = (record { le = tt }, record { le = tt })
 in_range name.xChangeBound = (record { le = tt }, record { le = tt })
 in_range name.xDelayError = (record { le = tt }, record { le = tt })

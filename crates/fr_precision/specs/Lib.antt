@@ -4,6 +4,7 @@ pub mod Instants
 pub mod Offsets
 pub mod Placement
 pub mod Rates
+pub mod Receivers
 pub mod Reception
 pub mod Rows
 pub mod Step

@@ -1,5 +1,5 @@
 -- The law of the step: nodes that are in sync in a double cycle are in sync in the next one.
-use Rattle.std.specs.Prelude.{◌≡◌, true, Bool, ◌+◌, ◌*◌, ℤ, pos, ◌+ℤ◌, ◌-ℤ◌, ◌*ℤ◌, ◌≤ℤ◌, List, All, map, Contains}
+use Rattle.std.specs.Prelude.{◌≡◌, ◌↔◌, true, Bool, ◌+◌, ◌*◌, ℤ, pos, ◌+ℤ◌, ◌-ℤ◌, ◌*ℤ◌, ◌≤ℤ◌, List, All, map, Contains}
 use Rattle.fr_base.specs.declared.node_row.NodeRow.{NodeRow}
 use Rattle.fr_base.specs.declared.state.Outcome.TheVariants.{Within}
 use Rattle.fr_base.specs.declared.state.State.TheVariants.{Active}
@@ -165,6 +165,12 @@ pub record Shrinks (p : Values) (starts lengths next_starts next_lengths : ℤ) 
 -- pi and lambda are such numbers
 abbrev pub SyncShrinks : Type 0
 SyncShrinks = (p : Values) → Shrinks p (pos (pi_of p)) (pos (lambda_of p)) (pos (pi_of p)) (pos (lambda_of p))
+
+-- in sync is the case of pi and lambda, of active nodes
+abbrev pub InSyncIsSpread : Type 0
+InSyncIsSpread =
+    (p : Values) (even odd : List NodeRow)
+    → IsInSync p even odd ↔ (All (λ row. row.state ≡ Active) even × All (λ row. row.state ≡ Active) odd × AreSpread p (pos (pi_of p)) (pos (lambda_of p)) even odd)
 
 -- and then the rows of the next double cycle are spread so far
 abbrev pub NextIsSpread : Type 0

@@ -7,6 +7,7 @@ mod instants;
 mod offsets;
 mod placement;
 mod rates;
+mod receivers;
 mod reception;
 mod step;
 
@@ -15,5 +16,6 @@ pub use instants::{macroticks_stay_near, precision_holds};
 pub use offsets::{offsets_stay_in_limit, starts_draw_together};
 pub use placement::rate_values_place_lengths;
 pub use rates::{lengths_draw_together, lengths_stay_in_range};
+pub use receivers::receivers_come_near;
 pub use reception::frames_arrive_in_slots;
-pub use step::{spreads_shrink, sync_is_kept};
+pub use step::{spreads_shrink, sync_is_kept, sync_is_spread};

@@ -1,4 +1,4 @@
-ghost use Rattle.fr_precision.specs.Step.{NextIsInSync, NextIsSpread, SpreadsShrink, SyncIsKept, SyncOfAllIsKept, SyncShrinks};
+ghost use Rattle.fr_precision.specs.Step.{NextIsInSync, NextIsSpread, InSyncIsSpread, SpreadsShrink, SyncIsKept, SyncOfAllIsKept, SyncShrinks};
 
 /// The law of the step with free numbers: where the offset limit suffices for how far action points may lie
 /// apart, nodes that have a value of every sender cut no term, and their next starts and lengths, in ticks,
@@ -18,4 +18,10 @@ pub fn sync_is_kept()
     ensures two { SyncIsKept }
     ensures all { SyncOfAllIsKept }
     ensures next { NextIsInSync }
+{}
+
+/// A law: nodes are in sync in a double cycle where all of them are active, and their starts and lengths are spread
+/// by pi and by lambda, in ticks.
+pub fn sync_is_spread()
+    ensures { InSyncIsSpread }
 {}
