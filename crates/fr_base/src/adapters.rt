@@ -8,7 +8,7 @@ use std::io::{Read, Write};
 use std::rt::Files;
 
 // How many bytes are read at once.
-const CHUNK: usize = 4096;
+const CHUNK: usize = 65_536;
 
 /// A shelf over the files of a runtime. It tells no content, and has one count of faults for all names:
 /// each error of the file system is a fault of every name. Counters stay at their last value.

@@ -3,5 +3,3 @@ pub mod Beginning
 pub mod Filling
 pub mod Walking
 pub mod Rows
-pub mod Eights
-pub mod Seen

@@ -1,5 +1,4 @@
 -- what the public contract cites
-pub mod Entries
 pub mod Frames
 pub mod Rest
 pub mod View

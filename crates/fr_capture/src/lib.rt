@@ -3,8 +3,6 @@
 #![tactic(auto)]
 
 mod capture;
-mod checking;
-mod entries;
 mod fault;
 mod kept;
 mod laws;

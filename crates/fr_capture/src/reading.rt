@@ -1,10 +1,8 @@
-ghost use Rattle.std.specs.Prelude.{◌≡◌, ℕ, ◌+◌, ◌*◌, ◌≤◌, ◌++◌, ◌⊎◌, Some, None, IfSome, IsTrue, length, take, drop};
+ghost use Rattle.std.specs.Prelude.{◌≡◌, ℕ, ◌+◌, ◌*◌, ◌≤◌, ◌++◌, ◌⊎◌, Some, None, IfSome, length, take, drop};
 ghost use Rattle.fr_frame.specs.Frame.{IsFrameWith};
-ghost use Rattle.fr_frame.specs.Reading.{frame_crc_in};
 ghost use Rattle.fr_capture.specs.Rest.{fault_in, wanted};
 ghost use Rattle.fr_capture.specs.View.{HasFault, IsChecked, IsFaultOfWhole, IsOpen};
 
-use crate::checking::frame_crc;
 use crate::fault::{CaptureFault, capture_fault_of};
 use crate::kept::Kept;
 use fr_base::Channel;
@@ -79,17 +77,6 @@ pub(crate) fn whole_in(channel: Channel, kept: &[u8]) -> Option<Checks>
     ensures found { IfSome result (λ checks. IsChecked channel checks kept.now) }
     ensures none { result ≡ None → HasFault channel kept.now }
 {
-    match seen_in(channel, kept) {
-        Some(checks) => Some(checks),
-        None => decoded_in(channel, kept),
-    }
-}
-
-// The same, as `decode` tells it, which has the fault of bytes that are none.
-fn decoded_in(channel: Channel, kept: &[u8]) -> Option<Checks>
-    ensures found { IfSome result (λ checks. IsChecked channel checks kept.now) }
-    ensures none { result ≡ None → HasFault channel kept.now }
-{
     match decode(channel, kept) {
         Ok(frame) => Some(Checks {
             header: frame.header,
@@ -98,58 +85,6 @@ fn decoded_in(channel: Channel, kept: &[u8]) -> Option<Checks>
         }),
         Err(_) => None,
     }
-}
-
-// The same again, quicker; but of bytes for which it answers None nothing is said.
-fn seen_in(channel: Channel, kept: &[u8]) -> Option<Checks>
-    ensures { IfSome result (λ checks. IsChecked channel checks kept.now) }
-{
-    if kept.len() < 8 {
-        return None;
-    }
-    let front = front_of(kept);
-    if front.kept != front.computed {
-        return None;
-    }
-    let end = 5 + 2 * usize::from(front.header.words);
-    if kept.len() != end + 3 {
-        return None;
-    }
-    let trailer = trailer_at(&kept[end..]);
-    let computed = frame_crc(channel, &kept[..end]);
-    if trailer != computed {
-        return None;
-    }
-    if !may_be_sent(&front.header) {
-        return None;
-    }
-    Some(Checks {
-        header: front.header,
-        header_crc: front.kept,
-        frame_crc: trailer,
-    })
-}
-
-// Whether there is a frame ID, and the sync indicator beside the startup indicator.
-fn may_be_sent(header: &Header) -> bool
-    ensures some { IsTrue result → 1 ≤ header.now.id }
-    ensures sync { IsTrue result → IsTrue header.now.startup → IsTrue header.now.sync }
-{
-    if header.id == 0 {
-        return false;
-    }
-    if header.startup {
-        return header.sync;
-    }
-    true
-}
-
-// The frame CRC in three bytes.
-fn trailer_at(back: &[u8]) -> u32
-    requires { length back.now ≡ 3 }
-    ensures { result ≡ frame_crc_in back.now }
-{
-    u32::from(back[0]) * 65536 + u32::from(back[1]) * 256 + u32::from(back[2])
 }
 
 // The frame that the bytes are.

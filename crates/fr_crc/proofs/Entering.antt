@@ -1,8 +1,7 @@
 -- The register after several bits at once, by an entry of a table.
-use Rattle.std.proofs.Common.{◌≡◌, ℕ, ◌+◌, ◌*◌, ◌/◌, ◌%◌, ◌^◌, ◌<◌, ◌≤◌, zero, suc, Bool, true, false, List, [], ◌∷◌, ◌++◌, length, map, get_or, ◌==◌, bit_and, refl, ap, sym, ◌∙◌, subst, lit<, arith, length-append}
+use Rattle.std.proofs.Common.{◌≡◌, ℕ, ◌+◌, ◌*◌, ◌/◌, ◌%◌, ◌^◌, ◌<◌, ◌≤◌, zero, suc, Bool, true, false, List, [], ◌∷◌, ◌++◌, length, get_or, ◌==◌, bit_and, refl, ap, sym, ◌∙◌, subst, lit<, arith, length-append}
 use Rattle.std.specs.Int.{bit_at}
 use Rattle.std.specs.Prelude.{bit_xor}
-use Rattle.std.specs.List.{range_with_len}
 use Rattle.std.proofs.lemmas.Nat.{and_mask, xor_lt, shr-shr, shl-shr}
 use Rattle.std.proofs.lemmas.Nat.Bits.{bit_at-zero, bit_at_cat_low}
 use Rattle.std.proofs.lemmas.List.{append_assoc, append-nil}
@@ -49,12 +48,12 @@ chunk g (h ∷ hi) lo (u ∷ t) (b ∷ m) same wide whole =
     ∙ chunk g hi (lo ++ one) next m (omega arith) next_wide next_whole
     ∙ ap (λ (xs : List Bool). xor xs (after g next (xor hi m))) (sym (zeros_after lo (length m)))
 
-length-after : (g s m : List Bool) → length s ≡ length g → length (after g s m) ≡ length g
+pub length-after : (g s m : List Bool) → length s ≡ length g → length (after g s m) ≡ length g
 length-after g s [] same = same
 length-after g s (b ∷ m) same = length-after g (register_stepped g s b) m (length-stepped g s b same)
 
 -- a number written by as many bits as the register has
-of_register : (w entry : ℕ) (g m : List Bool) → length g ≡ w → entry ≡ number_of_bits (after g (zeros w) m) →
+pub of_register : (w entry : ℕ) (g m : List Bool) → length g ≡ w → entry ≡ number_of_bits (after g (zeros w) m) →
     (entry < 2 ^ w) × (bits w entry ≡ after g (zeros w) m)
 of_register w entry g m wide is =
     let s : List Bool = after g (zeros w) m in
@@ -92,7 +91,7 @@ from_zeros w terms entry m some is =
     let P : List Bool → Type 0 = λ (xs : List Bool). IsCrc (bits w terms) (zeros w) m xs in
     subst P (sym is) (divides (bits w terms) (zeros w) m wide (length-zeros w ∙ sym (length-bits w terms)))
 
-bits-split : (j k n : ℕ) → bits (j + k) n ≡ bits j (n / 2 ^ k) ++ bits k n
+pub bits-split : (j k n : ℕ) → bits (j + k) n ≡ bits j (n / 2 ^ k) ++ bits k n
 bits-split zero k n =
     let none : 0 + k ≡ k = omega arith in
     ap (λ (w : ℕ). bits w n) none ∙ sym (ap (λ (xs : List Bool). xs ++ bits k n) (bits_none (n / 2 ^ k)))

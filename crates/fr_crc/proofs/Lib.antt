@@ -6,3 +6,4 @@ pub mod Steps
 pub mod Rows
 pub mod Existence
 pub mod Entering
+pub mod Eights

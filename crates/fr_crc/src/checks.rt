@@ -1,7 +1,8 @@
 ghost use Rattle.std.specs.Prelude.{◌≡◌, ℕ, ◌≤◌, length};
 ghost use Rattle.fr_crc.specs.Crc.{frame_start, IsHeaderCrc, IsFrameCrc};
 
-use crate::tables::{after_body, after_twenty, covered};
+use crate::body::after_body;
+use crate::tables::{after_twenty, covered};
 use fr_base::Channel;
 
 // The start value of the header CRC, on both channels.

@@ -88,8 +88,8 @@ fn after_byte(register: u32, byte: u8) -> u32
     ((register & 0xFFFF) << 8) ^ frame_entry(first ^ byte)
 }
 
-// The register of the frame CRC after bytes, any number of them.
-pub(crate) fn after_body(mut register: u32, bytes: &[u8]) -> u32
+// The register of the frame CRC after bytes, any number of them, one by one.
+pub(crate) fn after_each(mut register: u32, bytes: &[u8]) -> u32
     requires { register < 2 ^ 24 }
     ensures fits { result < 2 ^ 24 }
     ensures after { bits 24 result ≡

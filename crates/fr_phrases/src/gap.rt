@@ -1,13 +1,12 @@
 ghost use Rattle.std.specs.Prelude.{◌≡◌, ◌≤◌, length};
-ghost use Rattle.fr_base.specs.Channels.{letter};
 ghost use Rattle.fr_coverage.specs.declared.gap.Gap.TheVariants as Gap;
 ghost use Rattle.fr_phrases.specs.Phrases.{gap_text};
-ghost use Rattle.fr_text.specs.Pieces.{line, Spells};
+ghost use Rattle.fr_text.specs.Pieces.{line};
 
 use fr_base::{Channel, NodeId};
 use fr_coverage::Gap;
 use fr_text::Piece::{Natural, Signed, Word};
-use fr_text::{Line, Piece, line_of};
+use fr_text::{Line, letter_of, line_of};
 
 /// The line of a gap, after words in front.
 pub fn gap_line(front: &[u8], gap: Gap) -> Line
@@ -135,13 +134,4 @@ fn link_line(front: &[u8], sender: NodeId, receiver: NodeId, double: u32) -> Lin
         Word(b" "),
         Natural(u64::from(double)),
     ])
-}
-
-fn letter_of(channel: Channel) -> Piece<'static>
-    ensures { Spells result (letter channel) 1 }
-{
-    match channel {
-        Channel::A => Word(b"A"),
-        Channel::B => Word(b"B"),
-    }
 }

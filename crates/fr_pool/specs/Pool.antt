@@ -1,5 +1,5 @@
 -- What contracts see of a pool of cells.
-use Rattle.std.specs.Prelude.{◌≡◌, ℕ, ◌≤◌, Bool, true, false, List, length, slice_get, slice_set, take, replicate, All, Some}
+use Rattle.std.specs.Prelude.{◌≡◌, ℕ, ◌≤◌, Bool, true, false, List, [], length, slice_get, slice_index_or, slice_set, take, replicate, All, Some}
 
 -- A pool: for each of its cells whether it is out, and its bytes.
 pub record PoolView : Type 0 where
@@ -31,6 +31,10 @@ given_back cell pool = record pool { out = slice_set pool.out cell false }
 -- with these bytes in a cell
 abbrev pub written_in : ℕ → List ℕ → PoolView → PoolView
 written_in cell bytes pool = record pool { bytes = slice_set pool.bytes cell bytes }
+
+-- with the bytes of a cell in another
+abbrev pub copied_in : ℕ → ℕ → PoolView → PoolView
+copied_in from to pool = written_in to (slice_index_or pool.bytes from []) pool
 
 -- a cell that was not out is taken out; it is the first that was not
 pub record Takes (old : PoolView) (cell : ℕ) (new : PoolView) : Type 0 where

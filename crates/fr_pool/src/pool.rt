@@ -29,7 +29,7 @@ impl Model for Pool {
 }
 
 impl Pool {
-    ghost use Rattle.fr_pool.specs.Pool.{fresh_pool, given_back, AllOut, IsOut, Takes};
+    ghost use Rattle.fr_pool.specs.Pool.{copied_in, fresh_pool, given_back, AllOut, IsOut, Takes};
     ghost use Rattle.fr_pool.specs.Lending.{LendsCell};
 
     /// A pool of this many cells, from 1 to 4096, none of which is out; every byte is 0. `NoMemory` where there is
@@ -92,6 +92,16 @@ impl Pool {
         ensures whole { length result.now ≡ 264 }
     {
         &self.cells[cell.place]
+    }
+
+    /// Copies the 264 bytes of a cell that is out in this pool into another, or the same, that is out in it too. All
+    /// other cells stay. It takes no memory.
+    pub fn copy(&mut self, from: &Cell, to: &Cell)
+        requires from { IsOut self.old from.now }
+        requires to { IsOut self.old to.now }
+        ensures { self.new ≡ copied_in from.now to.now self.old }
+    {
+        self.cells[to.place] = self.cells[from.place];
     }
 
     /// Takes back a cell that is out in this pool: it alone is no longer out. All bytes stay. It takes no memory.

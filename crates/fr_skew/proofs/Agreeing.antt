@@ -6,6 +6,7 @@ use Rattle.std.proofs.lemmas.Int.{ints, by_lt_z}
 use Rattle.fr_base.specs.declared.node_row.NodeRow.{NodeRow}
 use Rattle.fr_time.specs.declared.grid.Grid.{Grid}
 use Rattle.fr_skew.specs.Spreads.{spread_at}
+use Rattle.fr_skew.specs.Stretches.{IsNoGreater}
 use Rattle.fr_skew.specs.Sweep.{greater_by, greater_of, greatest_after, greatest_within}
 use Rattle.fr_skew.specs.declared.peak.Peak.{Peak}
 
@@ -131,6 +132,28 @@ agree-stretch known grid cycle rows before peak next from to order agree which =
         let To : Option Peak → Type 0 = λ o. Agree known o (greatest_after grid cycle rows (greatest_within grid cycle rows before from) from (to - from)) in
         subst To (sym left.0) (agree-without known grid cycle rows peak (greatest_within grid cycle rows before from) from (to - from) agree
         (λ m above below. left.1 m above (omega (arith, whole, below))))
+
+-- where no macrotick of a stretch has a greater skew, the greatest one stays
+after-kept_by : (grid : Grid) (cycle : ℕ) (rows : List NodeRow) (peak : Peak) (from count : ℕ) → ((macrotick : ℕ) → from ≤ macrotick → macrotick < from + count → spread_at grid cycle rows macrotick ≤ℤ peak.skew)
+    → greatest_after grid cycle rows (Some peak) from count ≡ Some peak
+unfolding greatest_after
+after-kept_by grid cycle rows peak from zero below = refl
+after-kept_by grid cycle rows peak from (suc count) below =
+    let later : Peak = record { skew = spread_at grid cycle rows (from + count); cycle = cycle; macrotick = from + count } in
+    ap (λ (o : Option Peak). Some (greater_of o later)) (after-kept_by grid cycle rows peak from count (λ m above less. below m above (omega arith)))
+    ∙ ap Some (kept peak later (below (from + count) (omega arith) (omega arith)))
+
+pub after-kept : (grid : Grid) (cycle : ℕ) (rows : List NodeRow) (bound : ℤ) (peak : Option Peak) (from to : ℕ) → from ≤ to → IsNoGreater bound peak
+    → ((macrotick : ℕ) → from ≤ macrotick → macrotick < to → spread_at grid cycle rows macrotick ≤ℤ bound)
+    → peak ≡ greatest_after grid cycle rows peak from (to - from)
+after-kept grid cycle rows bound None from to order no_greater below = absurd no_greater
+after-kept grid cycle rows bound (Some peak) from to order no_greater below =
+    let whole : from + (to - from) ≡ to = omega (arith, order) in
+    sym (after-kept_by grid cycle rows peak from (to - from)
+    (λ m above less. chain (spread_at grid cycle rows m) bound peak.skew (below m above (omega (arith, whole, less))) no_greater))
+  where
+    chain : (a b c : ℤ) → a ≤ℤ b → b ≤ℤ c → a ≤ℤ c
+    chain a b c one two = omega (arith, ints)
 
 -- ---- at the end
 

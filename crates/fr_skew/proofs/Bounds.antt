@@ -58,10 +58,10 @@ spread_of_pairs f bound rows from near =
 abbrev pub most : ℤ
 most = pos 1_500_000
 
-int_lt_false : (a b : ℤ) → b ≤ℤ a → int_lt a b ≡ false
+pub int_lt_false : (a b : ℤ) → b ≤ℤ a → int_lt a b ≡ false
 int_lt_false a b le = grind (arith, ints)
 
-int_lt_true : (a b : ℤ) → a <ℤ b → int_lt a b ≡ true
+pub int_lt_true : (a b : ℤ) → a <ℤ b → int_lt a b ≡ true
 int_lt_true a b less = grind (arith, ints)
 
 -- two differences of the same numbers

@@ -8,20 +8,17 @@ use Rattle.fr_base.specs.declared.node_row.NodeRow.{NodeRow}
 use Rattle.fr_time.specs.Cycles.{is_odd}
 use Rattle.fr_time.specs.Instant.{instant_of}
 use Rattle.fr_time.specs.declared.grid.Grid.{Grid}
-use Rattle.fr_skew.specs.Extents.{spread_by, widened, with_instant, with_length, with_start, IsExtent, IsInstant}
+use Rattle.fr_skew.specs.Extents.{spread_by, with_instant, with_length, with_number, with_start, IsExtent, IsInstant}
 use Rattle.fr_skew.specs.Spreads.{running, spread_at, spread_of}
 use Rattle.fr_skew.specs.Sync.{cycle_length_by}
 use Rattle.fr_skew.specs.declared.extent.Extent.{Extent}
 use Rattle.fr_skew.specs.declared.sync.SyncBounds.{SyncBounds}
 
-abbrev with_number : Option Extent → ℤ → Option Extent
-with_number extent x = Some (widened extent x)
-
 fold-some : (low high : ℤ) (xs : List ℤ) → fold with_number (Some (record { low = low; high = high })) xs ≡ Some (record { low = fold int_min low xs; high = fold int_max high xs })
 fold-some low high [] = refl
 fold-some low high (x ∷ xs) = fold-some (int_min low x) (int_max high x) xs
 
-fold-none : (xs : List ℤ) → spread_by (fold with_number None xs) ≡ spread_of xs
+pub fold-none : (xs : List ℤ) → spread_by (fold with_number None xs) ≡ spread_of xs
 fold-none [] = refl
 fold-none (x ∷ xs) = ap spread_by (fold-some x x xs)
 
@@ -62,9 +59,9 @@ instants_are grid cycle macrotick rows =
 
 pub widened_bounds : (extent : Extent) (x : ℤ) → IsExtent extent → IsInstant x → IsExtent (record { low = int_min extent.low x; high = int_max extent.high x })
 widened_bounds extent x is at =
-    let low_from : neg_ℤ (pos 901_000_000_000_000_000) ≤ℤ extent.low = is.low_from in
+    let low_from : neg_ℤ (pos 1_111_000_000_000_000_000) ≤ℤ extent.low = is.low_from in
     let low_to : extent.low ≤ℤ extent.high = is.low_to in
-    let high_to : extent.high ≤ℤ pos 901_000_000_000_000_000 = is.high_to in
-    let from : neg_ℤ (pos 901_000_000_000_000_000) ≤ℤ x = at.low in
-    let to : x ≤ℤ pos 901_000_000_000_000_000 = at.high in
+    let high_to : extent.high ≤ℤ pos 1_111_000_000_000_000_000 = is.high_to in
+    let from : neg_ℤ (pos 1_111_000_000_000_000_000) ≤ℤ x = at.low in
+    let to : x ≤ℤ pos 1_111_000_000_000_000_000 = at.high in
     record { low_from = grind (arith, ints); low_to = grind (arith, ints); high_to = grind (arith, ints) }

@@ -5,3 +5,5 @@ pub mod Sweep
 pub mod Agreeing
 pub mod Sections
 pub mod Closeness
+pub mod Pacing
+pub mod Coursing

@@ -19,7 +19,7 @@ use Rattle.fr_skew.specs.Stretches.{IsStretch}
 use Rattle.fr_skew.proofs.Bounds.{apart_at, before_correction, even_line, late_line, most, pair_apart, spread_of_pairs}
 
 -- over plain numbers: between two ends a difference of two lines is no greater than at one of them
-between : (c e a m b k : ℤ) → a ≤ℤ m → m ≤ℤ b → (c +ℤ (a *ℤ e)) ≤ℤ k → (c +ℤ (b *ℤ e)) ≤ℤ k → (c +ℤ (m *ℤ e)) ≤ℤ k
+pub between : (c e a m b k : ℤ) → a ≤ℤ m → m ≤ℤ b → (c +ℤ (a *ℤ e)) ≤ℤ k → (c +ℤ (b *ℤ e)) ≤ℤ k → (c +ℤ (m *ℤ e)) ≤ℤ k
 between c e a m b k from to at_a at_b =
     by_lt_z e (pos 0)
     (λ falls.

@@ -21,6 +21,9 @@ abbrev pub spread_by : Option Extent → ℤ
 spread_by None = pos 0
 spread_by (Some extent) = extent.high -ℤ extent.low
 
+abbrev pub with_number : Option Extent → ℤ → Option Extent
+with_number extent x = Some (widened extent x)
+
 -- the extent of the instants of a macrotick in the cycles of running nodes, and of one more node
 abbrev pub with_instant : Grid → ℕ → ℕ → Option Extent → NodeRow → Option Extent
 with_instant grid cycle macrotick extent row =
@@ -36,10 +39,10 @@ with_length bounds extent row = Some (widened extent (cycle_length_by bounds row
 
 -- a number of ticks that an instant of a run or the length of a cycle may be
 abbrev pub IsInstant : ℤ → Type 0
-IsInstant at = IsWithin (pos 901_000_000_000_000_000) at
+IsInstant at = IsWithin (pos 1_111_000_000_000_000_000) at
 
 -- the least and the greatest of such numbers
 pub record IsExtent (extent : Extent) : Type 0 where
-  pub low_from : neg_ℤ (pos 901_000_000_000_000_000) ≤ℤ extent.low
+  pub low_from : neg_ℤ (pos 1_111_000_000_000_000_000) ≤ℤ extent.low
   pub low_to : extent.low ≤ℤ extent.high
-  pub high_to : extent.high ≤ℤ pos 901_000_000_000_000_000
+  pub high_to : extent.high ≤ℤ pos 1_111_000_000_000_000_000

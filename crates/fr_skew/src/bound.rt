@@ -2,9 +2,11 @@ ghost use Rattle.std.specs.Prelude.{◌≡◌, ◌<◌, ◌≤ℤ◌, ℕ, nat_a
 ghost use Rattle.fr_base.specs.Within.{IsBetween};
 ghost use Rattle.fr_time.specs.Placed.{IsPlacedRow};
 ghost use Rattle.fr_time.specs.Position.{IsGrid};
+ghost use Rattle.fr_skew.specs.Alike.{AreAlike};
 ghost use Rattle.fr_skew.specs.Spreads.{spread_at};
 ghost use Rattle.fr_skew.specs.Sweep.{greatest_within};
 
+use crate::alike::are_alike;
 use crate::peak::{Peak, macroticks};
 use crate::spread::spread_at;
 use fr_base::NodeRow;
@@ -27,9 +29,34 @@ pub(crate) fn is_greatest(grid: &Grid, cycle: u32, rows: &[NodeRow], before: Opt
 // The greatest length of a microtick, in ticks.
 pub(crate) const MOST: i64 = 1_500_000;
 
-// How far at most the instants of any macrotick of a cycle lie apart, in ticks: between its beginning, the start
-// of the offset correction and its end each node's instants lie on a line, but for a microtick.
+// How far at most the instants of any macrotick of a cycle lie apart, in ticks.
 fn bound_of(grid: &Grid, cycle: u32, rows: &[NodeRow]) -> i64
+    requires grid { IsGrid grid.now }
+    requires rows { All (IsPlacedRow grid.now) rows.now }
+    ensures { (macrotick : ℕ) → pos macrotick ≤ℤ grid.now.macros →
+        spread_at grid.now cycle rows.now macrotick ≤ℤ result }
+{
+    if are_alike(rows) {
+        bound_by_ends(grid, cycle, rows)
+    } else {
+        bound_by_corners(grid, cycle, rows)
+    }
+}
+
+// That bound where all nodes have the same macroticks: then between two of them the distance grows or shrinks all along.
+fn bound_by_ends(grid: &Grid, cycle: u32, rows: &[NodeRow]) -> i64
+    requires grid { IsGrid grid.now }
+    requires rows { All (IsPlacedRow grid.now) rows.now }
+    requires alike { AreAlike rows.now }
+    ensures { (macrotick : ℕ) → pos macrotick ≤ℤ grid.now.macros →
+        spread_at grid.now cycle rows.now macrotick ≤ℤ result }
+{
+    wider_end(grid, cycle, rows, 0, macroticks(grid))
+}
+
+// That bound where they have not: between the beginning of the cycle, the start of the offset correction and the end
+// each node's instants lie on a line, but for a microtick.
+fn bound_by_corners(grid: &Grid, cycle: u32, rows: &[NodeRow]) -> i64
     requires grid { IsGrid grid.now }
     requires rows { All (IsPlacedRow grid.now) rows.now }
     ensures { (macrotick : ℕ) → pos macrotick ≤ℤ grid.now.macros →
@@ -44,13 +71,27 @@ fn bound_of(grid: &Grid, cycle: u32, rows: &[NodeRow]) -> i64
     wider(wider(begins, evenly), wider(turns, ends)) + MOST
 }
 
+// The greater of the spreads of two macroticks of a cycle.
+pub(crate) fn wider_end(grid: &Grid, cycle: u32, rows: &[NodeRow], from: u32, to: u32) -> i64
+    requires rows { All (IsPlacedRow grid.now) rows.now }
+    requires from { pos from ≤ℤ grid.now.macros }
+    requires to { pos to ≤ℤ grid.now.macros }
+    ensures begins { spread_at grid.now cycle rows.now from ≤ℤ result }
+    ensures ends { spread_at grid.now cycle rows.now to ≤ℤ result }
+    ensures within { IsBetween (pos 0) (pos 2_222_000_000_000_000_000) result }
+{
+    let begins = spread_at(grid, cycle, from, rows);
+    let ends = spread_at(grid, cycle, to, rows);
+    wider(begins, ends)
+}
+
 // The greater of two spreads.
 pub(crate) fn wider(one: i64, other: i64) -> i64
-    requires one { IsBetween (pos 0) (pos 1_802_000_000_000_000_000) one }
-    requires other { IsBetween (pos 0) (pos 1_802_000_000_000_000_000) other }
+    requires one { IsBetween (pos 0) (pos 2_222_000_000_000_000_000) one }
+    requires other { IsBetween (pos 0) (pos 2_222_000_000_000_000_000) other }
     ensures first { one ≤ℤ result }
     ensures second { other ≤ℤ result }
-    ensures within { IsBetween (pos 0) (pos 1_802_000_000_000_000_000) result }
+    ensures within { IsBetween (pos 0) (pos 2_222_000_000_000_000_000) result }
 {
     if one < other { other } else { one }
 }

@@ -29,7 +29,7 @@ pub(crate) fn widened(extent: Option<Extent>, at: i64) -> Extent
 pub(crate) fn spread_by(extent: Option<Extent>) -> i64
     requires { IfSome extent IsExtent }
     ensures value { result ≡ spread_by extent }
-    ensures within { IsBetween (pos 0) (pos 1_802_000_000_000_000_000) result }
+    ensures within { IsBetween (pos 0) (pos 2_222_000_000_000_000_000) result }
 {
     match extent {
         None => 0,

@@ -2,7 +2,9 @@
 //! rows alone, of a run or of a trace.
 #![tactic(auto)]
 
+mod alike;
 mod bound;
+mod courses;
 mod extent;
 mod gauge;
 mod laws;
@@ -13,5 +15,6 @@ mod sync;
 
 pub use gauge::Gauge;
 pub use laws::{a_spread_is_the_greatest_difference, in_sync_by_spreads, macroticks_lie_near};
-pub use peak::{Peak, swept, swept_through};
+pub use peak::{Peak, macroticks, swept, swept_through};
+pub use spread::spread_at;
 pub use sync::{SyncBounds, in_sync, in_sync_within, sync_bounds};

@@ -6,7 +6,7 @@ ghost use Rattle.fr_skew.specs.Sweep.{greater_of, greatest_within};
 use crate::bound::is_greatest;
 use crate::spread::spread_at;
 use crate::stretches::swept_by_stretches;
-use fr_base::NodeRow;
+use fr_base::{NodeRow, ROW_ROOM};
 use fr_time::Grid;
 
 /// A skew in ticks, and where it stands.
@@ -21,7 +21,8 @@ pub struct Peak {
 }
 
 /// The greatest skew so far after all macroticks of one more cycle, and its first place. A cycle, or a stretch
-/// of one, in which by its bound no skew can be the greatest is not asked macrotick by macrotick.
+/// of one, in which by its bound no skew can be the greatest is not asked macrotick by macrotick. It takes no
+/// memory; more rows than a cluster has nodes are asked one by one, as `swept_through` asks.
 pub fn swept(grid: &Grid, cycle: u32, rows: &[NodeRow], before: Option<Peak>) -> Option<Peak>
     requires grid { IsGrid grid.now }
     requires rows { All (IsPlacedRow grid.now) rows.now }
@@ -30,8 +31,10 @@ pub fn swept(grid: &Grid, cycle: u32, rows: &[NodeRow], before: Option<Peak>) ->
 {
     if is_greatest(grid, cycle, rows, before) {
         before
-    } else {
+    } else if rows.len() <= ROW_ROOM {
         swept_by_stretches(grid, cycle, rows, before)
+    } else {
+        swept_through(grid, cycle, rows, before)
     }
 }
 
@@ -62,8 +65,8 @@ pub fn swept_through(
     peak
 }
 
-// How many macroticks a cycle has.
-pub(crate) fn macroticks(grid: &Grid) -> u32
+/// How many macroticks a cycle has.
+pub fn macroticks(grid: &Grid) -> u32
     requires { IsGrid grid.now }
     ensures value { result ≡ nat_abs grid.now.macros }
     ensures number { pos result ≡ grid.now.macros }

@@ -14,12 +14,13 @@ use crate::sync::SyncBounds;
 use fr_base::NodeRow;
 use fr_time::{Grid, instant, is_odd};
 
-// How far the instants of a macrotick of a cycle lie apart among the running nodes, in ticks.
-pub(crate) fn spread_at(grid: &Grid, cycle: u32, macrotick: u32, rows: &[NodeRow]) -> i64
+/// How far the instants of a macrotick of a cycle lie apart among the running nodes, in ticks; the macrotick may be
+/// the end of the cycle.
+pub fn spread_at(grid: &Grid, cycle: u32, macrotick: u32, rows: &[NodeRow]) -> i64
     requires rows { All (IsPlacedRow grid.now) rows.now }
     requires macrotick { pos macrotick ≤ℤ grid.now.macros }
     ensures value { result ≡ spread_at grid.now cycle rows.now macrotick }
-    ensures within { IsBetween (pos 0) (pos 1_802_000_000_000_000_000) result }
+    ensures within { IsBetween (pos 0) (pos 2_222_000_000_000_000_000) result }
 {
     spread_by(instants_extent(grid, cycle, macrotick, rows))
 }

@@ -1,12 +1,15 @@
-ghost use Rattle.std.specs.Prelude.{◌≡◌, ◌⊎◌, ◌-◌, ◌≤◌, ◌<◌, ◌≤ℤ◌, ◌<ℤ◌, ℕ, nat_abs, pos, true, All, IsSome};
+ghost use Rattle.std.specs.Prelude.{◌≡◌, ◌⊎◌, ◌-◌, ◌≤◌, ◌<◌, ◌≤ℤ◌, ◌<ℤ◌, ℕ, length, nat_abs, pos, true, All, IsSome};
 ghost use Rattle.fr_base.specs.Within.{IsBetween};
 ghost use Rattle.fr_time.specs.Placed.{IsPlacedRow};
 ghost use Rattle.fr_time.specs.Position.{IsGrid};
+ghost use Rattle.fr_skew.specs.Courses.{AreCourses};
 ghost use Rattle.fr_skew.specs.Spreads.{spread_at};
-ghost use Rattle.fr_skew.specs.Stretches.{IsReached, IsStretch};
+ghost use Rattle.fr_skew.specs.Stretches.{IsNoGreater, IsReached, IsStretch};
 ghost use Rattle.fr_skew.specs.Sweep.{greatest_after, greatest_within};
 
-use crate::bound::{MOST, correction, wider};
+use crate::alike::are_alike;
+use crate::bound::{MOST, correction, wider_end};
+use crate::courses::{Course, courses_of, go_all, next_spread};
 use crate::peak::{Peak, greater, macroticks};
 use crate::spread::spread_at;
 use fr_base::NodeRow;
@@ -15,8 +18,8 @@ use fr_time::{Grid, is_odd};
 // How many macroticks a stretch has at most.
 const STRETCH: u32 = 64;
 
-// The greatest skew after all macroticks of one more cycle. A stretch in which no skew is as great as one that is
-// known to come in the cycle cannot have the greatest, and is left out.
+// The greatest skew after all macroticks of one more cycle. One `Macro` for each running node moves through it, all
+// together. A stretch in which by its bound no skew can be the greatest of the cycle is left out.
 pub(crate) fn swept_by_stretches(
     grid: &Grid,
     cycle: u32,
@@ -25,6 +28,24 @@ pub(crate) fn swept_by_stretches(
 ) -> Option<Peak>
     requires grid { IsGrid grid.now }
     requires rows { All (IsPlacedRow grid.now) rows.now }
+    requires few { length rows.now ≤ 64 }
+    ensures value { result ≡ greatest_within grid.now cycle rows.now before (nat_abs grid.now.macros) }
+    ensures there { IsSome result }
+{
+    let mut courses = courses_of(grid, cycle, rows);
+    swept_along(grid, cycle, rows, courses.as_mut_slice(), before)
+}
+
+fn swept_along(
+    grid: &Grid,
+    cycle: u32,
+    rows: &[NodeRow],
+    courses: &mut [Course],
+    before: Option<Peak>,
+) -> Option<Peak>
+    requires grid { IsGrid grid.now }
+    requires rows { All (IsPlacedRow grid.now) rows.now }
+    requires courses { AreCourses grid.now cycle rows.now courses.old }
     ensures value { result ≡ greatest_within grid.now cycle rows.now before (nat_abs grid.now.macros) }
     ensures there { IsSome result }
 {
@@ -34,68 +55,44 @@ pub(crate) fn swept_by_stretches(
     let mut from = 0;
     while from < macros {
         let to = stretch_end(grid, cycle, from);
-        peak = swept_or_left(grid, cycle, rows, from, to, known, peak);
+        peak = swept_or_left(grid, cycle, rows, courses, from, to, known, peak);
         from = to;
     }
     peak
 }
 
-// The greatest skew after a stretch, which is left out where all its skews are below one that is known.
+// The greatest skew after a stretch. It is left out where all its skews are below one that is known to come in the
+// cycle, or no more than the greatest so far.
 fn swept_or_left(
     grid: &Grid,
     cycle: u32,
     rows: &[NodeRow],
+    courses: &mut [Course],
     from: u32,
     to: u32,
     known: i64,
-    peak: Option<Peak>,
-) -> Option<Peak>
-    requires grid { IsGrid grid.now }
-    requires rows { All (IsPlacedRow grid.now) rows.now }
-    requires stretch { IsStretch grid.now cycle from to }
-    ensures { (result ≡ greatest_after grid.now cycle rows.now peak from (to - from))
-        ⊎ ((result ≡ peak) × ((macrotick : ℕ) → from ≤ macrotick → macrotick < to →
-        spread_at grid.now cycle rows.now macrotick <ℤ known)) }
-{
-    if is_low(grid, cycle, rows, from, to, known) {
-        peak
-    } else {
-        swept_stretch(grid, cycle, rows, from, to, peak)
-    }
-}
-
-// Whether by its bound no macrotick of a stretch has a skew as great as this one: within a stretch each node's
-// instants lie on a line, but for a microtick.
-fn is_low(grid: &Grid, cycle: u32, rows: &[NodeRow], from: u32, to: u32, known: i64) -> bool
-    requires grid { IsGrid grid.now }
-    requires rows { All (IsPlacedRow grid.now) rows.now }
-    requires stretch { IsStretch grid.now cycle from to }
-    ensures { result ≡ true → (macrotick : ℕ) → from ≤ macrotick → macrotick < to →
-        spread_at grid.now cycle rows.now macrotick <ℤ known }
-{
-    let begins = spread_at(grid, cycle, from, rows);
-    let ends = spread_at(grid, cycle, to, rows);
-    wider(begins, ends) + 2 * MOST < known
-}
-
-// The greatest skew after each macrotick of a stretch.
-fn swept_stretch(
-    grid: &Grid,
-    cycle: u32,
-    rows: &[NodeRow],
-    from: u32,
-    to: u32,
     before: Option<Peak>,
 ) -> Option<Peak>
     requires grid { IsGrid grid.now }
     requires rows { All (IsPlacedRow grid.now) rows.now }
-    requires order { from ≤ to }
-    requires within { pos to ≤ℤ grid.now.macros }
-    ensures { result ≡ greatest_after grid.now cycle rows.now before from (to - from) }
+    requires courses { AreCourses grid.now cycle rows.now courses.old }
+    requires stretch { IsStretch grid.now cycle from to }
+    ensures skew { (result ≡ greatest_after grid.now cycle rows.now before from (to - from))
+        ⊎ ((result ≡ before) × ((macrotick : ℕ) → from ≤ macrotick → macrotick < to →
+        spread_at grid.now cycle rows.now macrotick <ℤ known)) }
+    ensures courses { AreCourses grid.now cycle rows.now courses.new }
 {
+    let bound = stretch_bound(grid, cycle, rows, from, to);
+    if bound < known {
+        return before;
+    }
+    if is_no_greater(bound, before) {
+        return before;
+    }
+    go_all(courses, from);
     let mut peak = before;
     for macrotick in from..to {
-        let skew = spread_at(grid, cycle, macrotick, rows);
+        let skew = next_spread(courses);
         peak = Some(greater(
             peak,
             Peak {
@@ -106,6 +103,33 @@ fn swept_stretch(
         ));
     }
     peak
+}
+
+// Whether a skew is no greater than the greatest so far.
+fn is_no_greater(skew: i64, peak: Option<Peak>) -> bool
+    ensures { result ≡ true → IsNoGreater skew peak }
+{
+    match peak {
+        None => false,
+        Some(peak) => skew <= peak.skew,
+    }
+}
+
+// How far at most the instants of any macrotick of a stretch lie apart, in ticks: within a stretch each node's instants
+// lie on a line, but for a microtick, and not even that matters where all nodes have the same macroticks.
+fn stretch_bound(grid: &Grid, cycle: u32, rows: &[NodeRow], from: u32, to: u32) -> i64
+    requires grid { IsGrid grid.now }
+    requires rows { All (IsPlacedRow grid.now) rows.now }
+    requires stretch { IsStretch grid.now cycle from to }
+    ensures { (macrotick : ℕ) → from ≤ macrotick → macrotick < to →
+        spread_at grid.now cycle rows.now macrotick ≤ℤ result }
+{
+    let widest = wider_end(grid, cycle, rows, from, to);
+    if are_alike(rows) {
+        widest
+    } else {
+        widest + 2 * MOST
+    }
 }
 
 // Where the stretch that begins at a macrotick ends. None goes on beyond the start of the offset correction.

@@ -6,8 +6,10 @@ mod line;
 mod lines;
 mod piece;
 mod putting;
+mod words;
 
 pub use line::Line;
 pub use lines::{line_of, row_of};
 pub use piece::Piece;
 pub use putting::put_lines;
+pub use words::{letter_of, state_of};

@@ -1,7 +1,10 @@
-ghost use Rattle.std.specs.Prelude.{◌≡◌, ℕ, ◌+◌, ◌<◌, ◌≤◌, List, [], ◌++◌, length, take};
+ghost use Rattle.std.specs.Prelude.{◌≡◌, ℕ, ◌+◌, ◌/◌, ◌%◌, ◌<◌, ◌≤◌, List, [], ◌∷◌, ◌++◌, length, take};
 ghost use Rattle.std.specs.Fmt.{decimal, signed_decimal};
 ghost use Rattle.fr_text.specs.Numerals.{hexadecimal, digit_of};
+ghost use Rattle.fr_text.specs.Pieces.{fields_after, line, room_of_all, spelt};
 
+use crate::lines::{append_all, append_fields};
+use crate::piece::Piece;
 use std::marker::Model;
 
 /// The greatest number of bytes of a line.
@@ -23,14 +26,61 @@ impl Model for Line {
 }
 
 impl Line {
-    // A line of no bytes.
-    pub(crate) fn new() -> Line
+    /// A line of no bytes.
+    pub fn new() -> Line
         ensures { result ≡ [] }
     {
         Line {
             buffer: [0; LINE_ROOM],
             used: 0,
         }
+    }
+
+    /// Makes the line that of some pieces, one after the other, whatever it was before.
+    pub fn spell(&mut self, pieces: &[Piece<'_>])
+        requires { room_of_all pieces.now < LINE_ROOM }
+        ensures { self.new ≡ spelt pieces.now }
+    {
+        self.clear();
+        append_all(self, pieces);
+        self.byte(b'\n');
+    }
+
+    /// Makes the line that of a record of a file: a word, and fields with a comma before each.
+    pub fn spell_row(&mut self, word: &[u8], fields: &[Piece<'_>])
+        requires { length word.now + room_of_all fields.now < LINE_ROOM }
+        ensures { self.new ≡ line (fields_after word.now fields.now) }
+    {
+        self.spell_front(word, fields);
+        self.byte(b'\n');
+    }
+
+    /// Makes the line the front of such a line, without its end.
+    pub fn spell_front(&mut self, word: &[u8], fields: &[Piece<'_>])
+        requires { length word.now + room_of_all fields.now ≤ LINE_ROOM }
+        ensures bytes { self.new ≡ fields_after word.now fields.now }
+        ensures short { length self.new ≤ length word.now + room_of_all fields.now }
+    {
+        self.clear();
+        self.word(word);
+        append_fields(self, fields);
+    }
+
+    // Removes all bytes.
+    fn clear(&mut self)
+        ensures { self.new ≡ [] }
+    {
+        self.used = 0;
+    }
+
+    // Appends a byte.
+    pub(crate) fn byte(&mut self, byte: u8)
+        requires { length self.old < LINE_ROOM }
+        ensures bytes { self.new ≡ self.old ++ byte ∷ [] }
+        ensures long { length self.new ≡ length self.old + 1 }
+    {
+        self.buffer[self.used] = byte;
+        self.used += 1;
     }
 
     // Appends the bytes of a word.
@@ -50,7 +100,7 @@ impl Line {
         ensures long { length self.new ≡ length self.old + length (signed_decimal value) }
     {
         if value < 0 {
-            self.word(b"-");
+            self.byte(b'-');
         }
         self.natural(value.unsigned_abs());
     }
@@ -61,10 +111,24 @@ impl Line {
         ensures bytes { self.new ≡ self.old ++ decimal value }
         ensures long { length self.new ≡ length self.old + length (decimal value) }
     {
-        if value >= 10 {
-            self.natural(value / 10);
+        if value >= 100 {
+            self.natural(value / 100);
+            self.two_digits((value % 100) as u8);
+        } else if value >= 10 {
+            self.two_digits(value as u8);
+        } else {
+            self.byte(b'0' + value as u8);
         }
-        self.word(&[b'0' + (value % 10) as u8]);
+    }
+
+    // Appends the two digits of a number below 100.
+    fn two_digits(&mut self, value: u8)
+        requires below { value < 100 }
+        requires room { length self.old + 2 ≤ LINE_ROOM }
+        ensures bytes { self.new ≡ self.old ++ (48 + value / 10) ∷ (48 + value % 10) ∷ [] }
+        ensures long { length self.new ≡ length self.old + 2 }
+    {
+        self.word(&[b'0' + value / 10, b'0' + value % 10]);
     }
 
     // Appends the last hexadecimal digits of a number, so many of them, upper case, with leading zeros.
@@ -75,7 +139,7 @@ impl Line {
     {
         if digits > 0 {
             self.hex(value / 16, digits - 1);
-            self.word(&[hex_digit((value % 16) as u8)]);
+            self.byte(hex_digit((value % 16) as u8));
         }
     }
 

@@ -10,8 +10,7 @@ pub fn line_of(pieces: &[Piece<'_>]) -> Line
     ensures { result ≡ spelt pieces.now }
 {
     let mut line = Line::new();
-    append_all(&mut line, pieces);
-    line.word(b"\n");
+    line.spell(pieces);
     line
 }
 
@@ -21,13 +20,12 @@ pub fn row_of(word: &[u8], fields: &[Piece<'_>]) -> Line
     ensures { result ≡ line (fields_after word.now fields.now) }
 {
     let mut line = Line::new();
-    line.word(word);
-    append_fields(&mut line, fields);
-    line.word(b"\n");
+    line.spell_row(word, fields);
     line
 }
 
-fn append_all(line: &mut Line, pieces: &[Piece<'_>])
+// Appends some pieces.
+pub(crate) fn append_all(line: &mut Line, pieces: &[Piece<'_>])
     requires { length line.old + room_of_all pieces.now ≤ LINE_ROOM }
     ensures bytes { line.new ≡ spelt_after line.old pieces.now }
     ensures short { length line.new ≤ length line.old + room_of_all pieces.now }
@@ -38,13 +36,14 @@ fn append_all(line: &mut Line, pieces: &[Piece<'_>])
     }
 }
 
-fn append_fields(line: &mut Line, fields: &[Piece<'_>])
+// Appends some fields, with a comma before each.
+pub(crate) fn append_fields(line: &mut Line, fields: &[Piece<'_>])
     requires { length line.old + room_of_all fields.now ≤ LINE_ROOM }
     ensures bytes { line.new ≡ fields_after line.old fields.now }
     ensures short { length line.new ≤ length line.old + room_of_all fields.now }
 {
     if let Some((field, rest)) = fields.split_first() {
-        line.word(b",");
+        line.byte(b',');
         append(line, field);
         append_fields(line, rest);
     }

@@ -6,7 +6,7 @@ use Rattle.fr_time.specs.Counted.{IsCounted}
 use Rattle.fr_time.specs.declared.grid.Grid.{Grid}
 use Rattle.fr_time.specs.declared.shares.Share.{Share}
 use Rattle.fr_time.specs.Position.{corrected_micros, corrected_position, even_position, floor_of, position_of, IsPlaceable}
-use Rattle.fr_time.specs.Walk.{moved_on, next_position, IsWalk, Walk}
+use Rattle.fr_time.specs.Walk.{moved_on, moved_to, next_position, IsWalk, Walk}
 use Rattle.fr_time.proofs.Ends.{corrected_start, int_lt_false, int_lt_true}
 
 floors : (count length parts : ℕ) → floor_of (pos count *ℤ pos length) (pos parts) ≡ pos (count * length / parts)
@@ -130,3 +130,25 @@ early_more walk start early late is more which = omega (arith, ints, is.early_co
 
 pub late_more : (walk : Walk) (start : ℤ) (early late : Share) → IsCounted walk start early late → walk.next <ℤ walk.grid.macros → walk.odd ≡ true → walk.grid.correction ≤ℤ walk.next → late.count < late.parts
 late_more walk start early late is more odd from = omega (arith, ints, is.late_count odd from, is.late_parts, more)
+
+-- ---- at another macrotick
+
+pub placed_anew : (walk : Walk) (start m : ℤ) (early late early_next late_next : Share) → IsWalk walk → IsCounted walk start early late → pos 0 ≤ℤ m → m ≤ℤ walk.grid.macros
+    → early_next.length ≡ early.length → early_next.parts ≡ early.parts → pos early_next.count ≡ m
+    → late_next.length ≡ late.length → late_next.parts ≡ late.parts
+    → (m ≤ℤ walk.grid.correction → late_next.count ≡ 0) → (walk.grid.correction ≤ℤ m → pos late_next.count ≡ m -ℤ walk.grid.correction)
+    → IsWalk (moved_to walk m) × IsCounted (moved_to walk m) start early_next late_next
+placed_anew walk start m early late early_next late_next walks is from to early_length early_parts early_count late_length late_parts late_none late_count =
+    let placed : IsWalk (moved_to walk m) = record { is_placeable = walks.is_placeable; next_within = record { low = from; high = to } } in
+    let counted : IsCounted (moved_to walk m) start early_next late_next = record {
+      start_is = is.start_is;
+      start_within = is.start_within;
+      early_length = ap pos early_length ∙ is.early_length;
+      early_parts = ap pos early_parts ∙ is.early_parts;
+      late_length = ap pos late_length ∙ is.late_length;
+      late_parts = ap pos late_parts ∙ is.late_parts;
+      early_count = λ which. early_count;
+      late_none = late_none;
+      late_count = λ odd after. late_count after;
+    } in
+    (placed, counted)

@@ -32,3 +32,7 @@ IsNextPosition walk at = (walk.next <ℤ walk.grid.macros) × (at ≡ next_posit
 -- after it
 abbrev pub moved_on : Walk → Walk
 moved_on walk = record walk { next = walk.next +ℤ pos 1 }
+
+-- at another macrotick of its cycle, or at their end
+abbrev pub moved_to : Walk → ℤ → Walk
+moved_to walk macrotick = record walk { next = macrotick }

@@ -39,7 +39,7 @@ pub fn slot_instants(params: &Params, row: &NodeRow, slot: Slot) -> (i64, i64)
 pub fn action_instant(params: &Params, row: &NodeRow, slot: Slot) -> i64
     requires { IsSlotOf params.now row.now slot }
     ensures value { result ≡ action_instant params.now row.now slot }
-    ensures within { IsBetween (pos 0) (pos 901_000_000_000_000_000) result }
+    ensures within { IsBetween (pos 0) (pos 1_111_000_000_000_000_000) result }
 {
     early_instant(params, row, action_point(params, slot))
 }
@@ -60,7 +60,7 @@ fn early_instant(params: &Params, row: &NodeRow, macrotick: i64) -> i64
     requires early { IsEarly params.now macrotick }
     ensures value { result ≡
         row.now.start +ℤ (even_position (grid_for params.now) row.now.rate macrotick *ℤ row.now.length) }
-    ensures within { IsBetween (pos 0) (pos 901_000_000_000_000_000) result }
+    ensures within { IsBetween (pos 0) (pos 1_111_000_000_000_000_000) result }
     ensures in_cycle { IsInCycle row.now result }
 {
     row.start + ticks_of(early_position(params, row.rate, macrotick), row.length)

@@ -1,7 +1,7 @@
 ghost use Rattle.std.specs.Prelude.{◌≡◌, ◌≤ℤ◌, ◌+ℤ◌, ◌-ℤ◌, pos, IfSome, MatchOption};
 ghost use Rattle.fr_base.specs.Within.{IsBetween};
-ghost use Rattle.fr_time.specs.Position.{corrected_micros, even_position, IsPlaceable};
-ghost use Rattle.fr_time.specs.Walk.{first_walk, moved_on, IsNextPosition};
+ghost use Rattle.fr_time.specs.Position.{corrected_micros, even_position, IsGrid, IsPlaceable};
+ghost use Rattle.fr_time.specs.Walk.{first_walk, moved_on, moved_to, IsNextPosition};
 
 use crate::grid::Grid;
 use crate::positions::{even, left};
@@ -9,7 +9,7 @@ use crate::shares::Share;
 use std::marker::Model;
 
 /// The macroticks of a cycle one after the other, each with its position in microticks from the start of
-/// the cycle (section 8.2). It counts, and divides where it begins alone.
+/// the cycle (section 8.2). It counts, and divides only where it begins and where it goes to another macrotick.
 #[derive(Debug, Drop)]
 pub struct Macro {
     grid: Grid,
@@ -76,6 +76,45 @@ impl Macro {
             self.next += 1;
             Some(at)
         }
+    }
+
+    /// Goes before another macrotick of the cycle, counted from 0, or to their end. Nothing is divided where it is
+    /// there already.
+    pub fn go(&mut self, macrotick: i64)
+        requires { IsBetween (pos 0) self.old.grid.macros macrotick }
+        ensures { self.new ≡ moved_to self.old macrotick }
+    {
+        if self.next == macrotick {
+            return;
+        }
+        self.early = self.early.placed(early_count(&self.grid, macrotick));
+        self.late = self.late.placed(late_count(&self.grid, macrotick));
+        self.next = macrotick;
+    }
+}
+
+// How many macroticks come before one.
+fn early_count(grid: &Grid, macrotick: i64) -> u32
+    requires grid { IsGrid grid.now }
+    requires macrotick { IsBetween (pos 0) grid.now.macros macrotick }
+    ensures number { pos result ≡ macrotick }
+    ensures within { pos result ≤ℤ grid.now.macros }
+{
+    macrotick as u32
+}
+
+// How many of those from the start of the offset correction on.
+fn late_count(grid: &Grid, macrotick: i64) -> u32
+    requires grid { IsGrid grid.now }
+    requires macrotick { IsBetween (pos 0) grid.now.macros macrotick }
+    ensures none { macrotick ≤ℤ grid.now.correction → result ≡ 0 }
+    ensures some { grid.now.correction ≤ℤ macrotick → pos result ≡ macrotick -ℤ grid.now.correction }
+    ensures within { pos result ≤ℤ (grid.now.macros -ℤ grid.now.correction) }
+{
+    if macrotick <= grid.correction {
+        0
+    } else {
+        (macrotick - grid.correction) as u32
     }
 }
 

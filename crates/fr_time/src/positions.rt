@@ -30,7 +30,7 @@ pub fn instant(grid: &Grid, row: &NodeRow, odd: bool, macrotick: i64) -> i64
     requires row { IsPlacedRow grid.now row.now }
     requires macrotick { IsBetween (pos 0) grid.now.macros macrotick }
     ensures value { result ≡ instant_of grid.now row.now odd macrotick }
-    ensures within { IsBetween (pos 0) (pos 901_000_000_000_000_000) result }
+    ensures within { IsBetween (pos 0) (pos 1_111_000_000_000_000_000) result }
 {
     let microticks = position(grid, row.rate, row.offset, odd, macrotick);
     row.start + ticks_of(microticks, row.length)

@@ -42,6 +42,24 @@ impl Share {
         }
     }
 
+    // So many of the parts.
+    pub(crate) fn placed(self, count: u32) -> Share
+        requires { count ≤ self.parts }
+        ensures length { result.length ≡ self.length }
+        ensures parts { result.parts ≡ self.parts }
+        ensures count { result.count ≡ count }
+    {
+        Share {
+            count,
+            at: parts_of(count, self.length, self.parts),
+            rest: left_over(count, self.length, self.parts),
+            length: self.length,
+            parts: self.parts,
+            whole: self.whole,
+            part: self.part,
+        }
+    }
+
     // One part more.
     pub(crate) fn more(self) -> Share
         requires { self.count < self.parts }
@@ -96,4 +114,27 @@ impl Share {
             part: self.part,
         }
     }
+}
+
+// So many of the parts of a length, rounded down.
+fn parts_of(count: u32, length: u32, parts: u32) -> u32
+    requires some { 0 < parts }
+    requires few { parts ≤ 16_000 }
+    requires short { length ≤ 700_000 }
+    requires within { count ≤ parts }
+    ensures value { result ≡ count * length / parts }
+    ensures to { result ≤ length }
+{
+    (u64::from(count) * u64::from(length) / u64::from(parts)) as u32
+}
+
+// What the rounding leaves over.
+fn left_over(count: u32, length: u32, parts: u32) -> u32
+    requires some { 0 < parts }
+    requires few { parts ≤ 16_000 }
+    requires short { length ≤ 700_000 }
+    requires within { count ≤ parts }
+    ensures { result ≡ count * length % parts }
+{
+    (u64::from(count) * u64::from(length) % u64::from(parts)) as u32
 }

@@ -5,7 +5,7 @@ use Rattle.fr_text.proofs.line.Line.+hex.Goals as goal
 
 pub returns-then-digits-gt0-clause-bytes : goal.returns-then-digits-gt0-clause-bytes
 returns-then-digits-gt0-clause-bytes t c =
-    c.word.ensures.bytes
+    c.byte.ensures.bytes
     ∙ ap (λ (d : ℕ). c.hex.new.self ++ d ∷ []) c.hex_digit.ensures
     ∙ ap (λ (l : List ℕ). l ++ digit_of (c.args.value % 16) ∷ []) c.hex.ensures.bytes
     ∙ append_last c.args.self.now c.args.digits c.args.value (omega (arith, c.if-digits-gt0.true))

@@ -1,8 +1,0 @@
-use Rattle.std.proofs.Common.{ℕ, get_or, ap}
-use Rattle.fr_crc.specs.Bits.{bits}
-use Rattle.fr_capture.specs.Entries.{entries_before}
-use Rattle.fr_capture.proofs.entries.before_seven.Goals as goal
-
-pub returns : goal.returns
-unfolding bits entries_before
-returns c = ap (λ (i : ℕ). get_or (entries_before 56) i 0) c.from.ensures
