@@ -3,3 +3,4 @@ pub mod Fitting
 pub mod Floors
 pub mod Placing
 pub mod Ending
+pub mod Beginning

@@ -1,8 +1,10 @@
 -- What the calls make of a node: one cycle of one node (chapters 2 and 8).
-use Rattle.std.specs.Prelude.{ℕ, ◌+◌, ℤ, Bool, not, ◌&&◌, if◌then◌else◌, Option, Some, None}
+use Rattle.std.specs.Prelude.{ℕ, ◌+◌, ℤ, Bool, true, false, not, ◌&&◌, if◌then◌else◌, Option, Some, None}
 use Rattle.fr_base.specs.States.{cut_of, is_halted}
 use Rattle.fr_base.specs.declared.channel.Channel.{Channel}
 use Rattle.fr_base.specs.declared.node_row.NodeRow.{NodeRow}
+use Rattle.fr_base.specs.declared.state.Outcome.{Outcome}
+use Rattle.fr_base.specs.declared.state.Outcome.TheVariants.{Exceeded, Missing, Within}
 use Rattle.fr_cluster.specs.Values.{Values}
 use Rattle.fr_cluster.specs.Questions.{key_index_of, own_index}
 use Rattle.fr_time.specs.Cycles.{is_odd}
@@ -15,7 +17,7 @@ use Rattle.fr_correct.specs.Terms.{offset_term_of, rate_term_of}
 use Rattle.fr_poc.specs.Control.{Control, first_status, stepped}
 use Rattle.fr_reception.specs.declared.heard.Heard.{Heard}
 use Rattle.fr_reception.specs.declared.heard.Heard.TheVariants.{Stored, Ignored}
-use Rattle.fr_node.specs.View.{NodeView, node_row_of}
+use Rattle.fr_node.specs.View.{NodeView, node_row_of, state_of_node}
 use Rattle.fr_poc.specs.Limits.{limits_of}
 
 -- before cycle 0
@@ -28,6 +30,8 @@ fresh p id start rate = record {
   rate = rate;
   table = no_readings;
   control = record { limits = limits_of p; status = first_status };
+  follows = false;
+  outcomes = None;
 }
 
 -- its cycle is under way with this length of a microtick; an even cycle begins a new double cycle
@@ -47,16 +51,21 @@ abbrev pub after_hearing : Values → NodeView → ℕ → Channel → Heard →
 after_hearing p node slot channel (Stored value) = with_deviation node (key_index_of p slot) channel value
 after_hearing p node slot channel (Ignored why) = node
 
+-- its place among the senders whose clocks it compares: none where it has no key slot, and none where it follows, since
+-- its clock is not one of theirs yet
+abbrev pub own_index_of_node : Values → NodeView → Option ℕ
+own_index_of_node p node = if node.follows then None else own_index p node.id
+
 -- the offset and the rate term of its deviations (sections 8.6.2 and 8.6.3)
 abbrev pub offset_term_of_node : Values → NodeView → Term
-offset_term_of_node p node = offset_term_of p.offset_limit (values_of (offset_at (reading node.table) (own_index p node.id)))
+offset_term_of_node p node = offset_term_of p.offset_limit (values_of (offset_at (reading node.table) (own_index_of_node p node)))
 
 abbrev pub rate_term_of_node : Values → NodeView → Term
-rate_term_of_node p node = rate_term_of node.rate p.damping p.rate_limit (values_of (rate_at (reading node.table) (own_index p node.id)))
+rate_term_of_node p node = rate_term_of node.rate p.damping p.rate_limit (values_of (rate_at (reading node.table) (own_index_of_node p node)))
 
 -- a node corrects its clock at the end of an odd cycle, unless it is halted
 abbrev pub corrects : NodeView → Bool
-corrects node = is_odd node.cycle && not (is_halted node.control.status.state)
+corrects node = is_odd node.cycle && not (is_halted (state_of_node node))
 
 -- its row where it corrects: the offset term belongs to the cycle that ends
 abbrev pub corrected_row : Values → NodeView → NodeRow
@@ -73,10 +82,21 @@ ended_row_of_node p node = if corrects node then corrected_row p node else node_
 abbrev pub next_rate : Values → NodeView → ℤ
 next_rate p node = if corrects node then (rate_term_of_node p node).value else node.rate
 
--- its operation control from the next cycle on: one step where it corrects
+-- its operation control behind two outcomes: one step, and none where it follows
+abbrev pub control_behind : NodeView → Outcome → Outcome → Control
+control_behind node offset rate = if node.follows then node.control else stepped node.control offset rate
+
+-- its operation control from the next cycle on
 abbrev pub next_control : Values → NodeView → Control
 next_control p node =
-    if corrects node then stepped node.control (offset_term_of_node p node).outcome (rate_term_of_node p node).outcome else node.control
+    if corrects node then control_behind node (offset_term_of_node p node).outcome (rate_term_of_node p node).outcome
+    else node.control
+
+-- how both terms of its last odd cycle ended, from the next cycle on: also where it is halted, and takes none
+abbrev pub next_outcomes : Values → NodeView → Option (Outcome × Outcome)
+next_outcomes p node =
+    if is_odd node.cycle then Some ((offset_term_of_node p node).outcome, (rate_term_of_node p node).outcome)
+    else node.outcomes
 
 -- before the cycle that follows one with this row
 abbrev pub passed : Values → NodeView → NodeRow → ℤ → NodeView
@@ -90,9 +110,28 @@ passed p node row rate = record node {
 -- its cycle has ended with a correction
 abbrev pub ended_corrected : Values → NodeView → NodeView
 ended_corrected p node = record (passed p node (corrected_row p node) (rate_term_of_node p node).value) {
-  control = stepped node.control (offset_term_of_node p node).outcome (rate_term_of_node p node).outcome;
+  control = control_behind node (offset_term_of_node p node).outcome (rate_term_of_node p node).outcome;
 }
+
+-- its cycle has ended, but for what is kept of the outcomes
+abbrev pub ended_but : Values → NodeView → NodeView
+ended_but p node = record (passed p node (ended_row_of_node p node) (next_rate p node)) { control = next_control p node }
 
 -- its cycle has ended
 abbrev pub ended : Values → NodeView → NodeView
-ended p node = record (passed p node (ended_row_of_node p node) (next_rate p node)) { control = next_control p node }
+ended p node = record (ended_but p node) { outcomes = next_outcomes p node }
+
+-- whether a term lay within its limit
+abbrev pub is_within : Outcome → Bool
+is_within Within = true
+is_within Missing = false
+is_within Exceeded = false
+
+-- whether both terms of the last odd cycle that has ended lay within their limits; there is one
+abbrev pub are_within : Option (Outcome × Outcome) → Bool
+are_within None = false
+are_within (Some pair) = is_within pair.0 && is_within pair.1
+
+-- one that followed has joined the cluster: its operation control begins
+abbrev pub joined : NodeView → NodeView
+joined node = record node { follows = false; control = record node.control { status = first_status } }

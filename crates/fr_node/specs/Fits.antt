@@ -11,7 +11,9 @@ use Rattle.fr_time.specs.Instant.{KeepsLimits}
 use Rattle.fr_base.specs.Within.{IsWithin}
 use Rattle.fr_measure.specs.Readings.{reading}
 use Rattle.fr_poc.specs.Limits.{limits_of}
-use Rattle.fr_node.specs.View.{NodeView}
+use Rattle.fr_correct.specs.declared.term.Term.{Term}
+use Rattle.fr_node.specs.Cycle.{offset_term_of_node, rate_term_of_node}
+use Rattle.fr_node.specs.View.{NodeView, state_of_node}
 
 -- a node fits a cluster, whose parameters are sane: it is known there, its rate term lies within the limit, its operation control has the cluster's
 -- limits, and it has no deviation of itself
@@ -38,7 +40,7 @@ pub record CanBegin (node : NodeView) (cycle : ℕ) : Type 0 where
 pub record CanReceive (p : Values) (node : NodeView) (slot : ℕ) (channel : Channel) : Type 0 where
   pub fits : NodeFits p node
   pub under_way : IsSome node.length
-  pub receives : node.control.status.state ≢ Halt
+  pub receives : state_of_node node ≢ Halt
   pub on_channel : IsTrue (has_channel (node_of p node.id) channel)
   pub static_slot : slot ≤ amount p name.gNumberOfStaticSlots
   pub not_itself : own_key p node.id ≢ Some slot
@@ -47,3 +49,10 @@ pub record CanReceive (p : Values) (node : NodeView) (slot : ℕ) (channel : Cha
 pub record IsEndedRow (p : Values) (row : NodeRow) : Type 0 where
   pub proper : KeepsLimits p row
   pub cut : row.cut ≤ 2
+
+-- the terms of a node that fits, by its deviations
+pub record AreTermsOf (p : Values) (node : NodeView) (offset rate : Term) : Type 0 where
+  pub offset_is : offset ≡ offset_term_of_node p node
+  pub offset_within : IsWithin p.offset_limit offset.value
+  pub rate_is : rate ≡ rate_term_of_node p node
+  pub rate_within : IsWithin p.rate_limit rate.value

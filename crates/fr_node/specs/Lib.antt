@@ -2,5 +2,6 @@
 pub mod View
 pub mod Fits
 pub mod Cycle
+pub mod Listening
 -- what only functions inside cite
 pub mod Arrivals

@@ -5,10 +5,12 @@
 mod answers;
 mod corrections;
 mod frames;
+mod listener;
 mod node;
 mod own;
 mod quotients;
 
 pub use fr_reception::{Heard, Ignored};
 pub use frames::{frame_of, regular_read};
+pub use listener::Listener;
 pub use node::Node;

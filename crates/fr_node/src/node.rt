@@ -1,4 +1,4 @@
-ghost use Rattle.std.specs.Prelude.{◌≡◌, ◌<◌, pos, IsSome, IsNone, if◌then◌else◌};
+ghost use Rattle.std.specs.Prelude.{◌≡◌, ◌<◌, pos, true, Some, IsSome, IsNone, if◌then◌else◌};
 ghost use Rattle.fr_base.specs.Timed.{IsLength, IsTimed};
 ghost use Rattle.fr_base.specs.Within.{IsBetween, IsWithin};
 ghost use Rattle.fr_measure.specs.Readings.{no_readings, reading};
@@ -6,9 +6,9 @@ ghost use Rattle.fr_time.specs.Cycles.{is_odd};
 ghost use Rattle.fr_time.specs.Instant.{KeepsLimits};
 ghost use Rattle.fr_cluster.specs.Questions.{node_of};
 ghost use Rattle.fr_cluster.specs.Values.{Values};
-ghost use Rattle.fr_poc.specs.Control.{stepped};
 ghost use Rattle.fr_frame.specs.Reading.{read_as};
 ghost use Rattle.fr_reception.specs.Answers.{answer_of};
+ghost use Rattle.fr_node.specs.Cycle.{is_within};
 
 use crate::answers::{Arrival, answer, read};
 use crate::corrections::{cut_count, offset_term_from, rate_term_from};
@@ -37,6 +37,10 @@ pub struct Node {
     rate: i32,
     table: Table,
     control: Poc,
+    // Whether it follows: it corrects its clock, and sends nothing yet.
+    follows: bool,
+    // How the offset and the rate term of the last odd cycle ended.
+    outcomes: Option<(Outcome, Outcome)>,
 }
 
 impl Model for Node {
@@ -44,15 +48,17 @@ impl Model for Node {
 
     ghost Value = { NodeView };
 
-    ghost view = { λ node. record { id = node.id; cycle = node.cycle; length = node.length; start = node.start; rate = node.rate; table = node.table; control = node.control } };
+    ghost view = { λ node. record { id = node.id; cycle = node.cycle; length = node.length; start = node.start; rate = node.rate; table = node.table; control = node.control; follows = node.follows; outcomes = node.outcomes } };
 
-    ghost invariant = { λ node. IsNode (record { id = node.id; cycle = node.cycle; length = node.length; start = node.start; rate = node.rate; table = node.table; control = node.control }) };
+    ghost invariant = { λ node. IsNode (record { id = node.id; cycle = node.cycle; length = node.length; start = node.start; rate = node.rate; table = node.table; control = node.control; follows = node.follows; outcomes = node.outcomes }) };
 }
 
 impl Node {
-    ghost use Rattle.fr_node.specs.View.{node_row_of};
+    ghost use Rattle.fr_node.specs.View.{node_row_of, state_of_node};
     ghost use Rattle.fr_node.specs.Fits.{CanBegin, CanReceive, IsEndedRow, IsUnderWay, NodeFits};
-    ghost use Rattle.fr_node.specs.Cycle.{after_hearing, in_cycle, corrected_row, corrects, ended, ended_corrected, ended_row_of_node, fresh, offset_term_of_node, passed, rate_term_of_node};
+    ghost use Rattle.fr_node.specs.Cycle.{after_hearing, are_within, control_behind, in_cycle, corrected_row, corrects, ended, ended_but, ended_corrected, ended_row_of_node, fresh, joined, offset_term_of_node, own_index_of_node, passed, rate_term_of_node};
+    ghost use Rattle.fr_node.specs.Fits.{AreTermsOf};
+    ghost use Rattle.fr_node.specs.Listening.{follower_of};
     ghost use Rattle.fr_node.specs.Arrivals.{IfStored};
 
     /// A node before cycle 0: active, with no deviation. The start of cycle 0 is in ticks, the rate term in
@@ -72,6 +78,30 @@ impl Node {
             rate,
             table: Table::new(),
             control: Poc::new(poc_limits(params)),
+            follows: false,
+            outcomes: None,
+        }
+    }
+
+    // A node that begins to follow before a cycle, with its start in ticks and its rate term in microticks.
+    pub(crate) fn following(params: &Params, id: NodeId, cycle: u32, start: i64, rate: i32) -> Node
+        requires known { IsSome (node_of params.now id) }
+        requires in_run { cycle < 200_000 }
+        requires start { IsBetween (pos 0) (pos 904_000_000_000_000_000) start }
+        requires rate { IsWithin params.now.rate_limit rate }
+        ensures value { result ≡ follower_of params.now id cycle start rate }
+        ensures fits { NodeFits params.now result }
+    {
+        Node {
+            id,
+            cycle,
+            length: None,
+            start,
+            rate,
+            table: Table::new(),
+            control: Poc::new(poc_limits(params)),
+            follows: true,
+            outcomes: None,
         }
     }
 
@@ -143,7 +173,7 @@ impl Node {
 
     /// Ends the cycle, and answers its row: an odd one with the offset term that its deviations give, after
     /// which the rate term and one step of operation control hold from the next cycle on, unless the node
-    /// is halted (chapter 2, sections 8.6.2 and 8.6.3).
+    /// is halted (chapter 2, sections 8.6.2 and 8.6.3). Of a node that follows the operation control takes no step.
     pub fn end(&mut self, params: &Params) -> NodeRow
         requires { IsUnderWay params.now self.old }
         ensures row { result ≡ ended_row_of_node params.now self.old }
@@ -151,8 +181,8 @@ impl Node {
         ensures fits { NodeFits params.now self.new }
         ensures ended { IsEndedRow params.now result }
     {
-        if self.corrects() {
-            self.end_corrected(params)
+        if is_odd(self.cycle) {
+            self.end_odd(params)
         } else {
             self.end_plain(params)
         }
@@ -170,7 +200,7 @@ impl Node {
             length: self.length.unwrap(),
             rate: self.rate,
             offset: 0,
-            state: self.control.state(),
+            state: self.state(),
             cut: 0,
         }
     }
@@ -188,7 +218,7 @@ impl Node {
     pub fn next_start(&self) -> i64
         requires { IsNone self.now.length }
         ensures value { result ≡ self.now.start }
-        ensures within { IsBetween (pos 0) (pos 199_999_999_999_999_999) result }
+        ensures within { IsBetween (pos 0) (pos 1_102_000_000_000_000_000) result }
     {
         self.start
     }
@@ -205,9 +235,58 @@ impl Node {
     /// The state in the next cycle.
     pub fn next_state(&self) -> State
         requires { IsNone self.now.length }
-        ensures { result ≡ self.now.control.status.state }
+        ensures { result ≡ state_of_node self.now }
     {
-        self.control.state()
+        self.state()
+    }
+
+    /// Whether it follows: it hears the cluster and corrects its clock, but does not belong to it yet.
+    pub fn follows(&self) -> bool
+        ensures { result ≡ self.now.follows }
+    {
+        self.follows
+    }
+
+    /// Whether both terms of the last odd cycle that has ended lay within their limits; one has ended.
+    pub fn steady(&self) -> bool
+        requires { IsSome self.now.outcomes }
+        ensures { result ≡ are_within self.now.outcomes }
+    {
+        let (offset, rate) = self.outcomes.unwrap();
+        is_within(offset) && is_within(rate)
+    }
+
+    /// Joins the cluster that it follows, between two cycles: its operation control begins active, with both counters
+    /// at 0.
+    pub fn join(&mut self)
+        requires follows { self.old.follows ≡ true }
+        requires between { IsNone self.old.length }
+        ensures value { self.new ≡ joined self.old }
+        ensures fits { (p : Values) → NodeFits p self.old → NodeFits p self.new }
+    {
+        self.follows = false;
+        self.control.restart();
+    }
+
+    // Its state: one that follows is passive.
+    fn state(&self) -> State
+        ensures { result ≡ state_of_node self.now }
+    {
+        if self.follows {
+            State::Passive
+        } else {
+            self.control.state()
+        }
+    }
+
+    // The place of its own key slot among those whose clocks it compares.
+    fn own_index(&self, params: &Params) -> Option<usize>
+        ensures { result ≡ own_index_of_node params.now self.now }
+    {
+        if self.follows {
+            return None;
+        }
+        own_key_index(params, self.id)
     }
 
     // The answer to a frame.
@@ -256,14 +335,14 @@ impl Node {
     fn corrects(&self) -> bool
         ensures { result ≡ corrects self.now }
     {
-        is_odd(self.cycle) && !matches!(self.control.state(), State::Halt)
+        is_odd(self.cycle) && !matches!(self.state(), State::Halt)
     }
 
     fn offset_term(&self, params: &Params) -> Term
         ensures value { result ≡ offset_term_of_node params.now self.now }
         ensures within { IsWithin params.now.offset_limit result.value }
     {
-        offset_term_from(params, &self.table, own_key_index(params, self.id))
+        offset_term_from(params, &self.table, self.own_index(params))
     }
 
     fn rate_term(&self, params: &Params) -> Term
@@ -271,20 +350,25 @@ impl Node {
         ensures value { result ≡ rate_term_of_node params.now self.now }
         ensures within { IsWithin params.now.rate_limit result.value }
     {
-        rate_term_from(
-            params,
-            &self.table,
-            own_key_index(params, self.id),
-            self.rate,
-        )
+        rate_term_from(params, &self.table, self.own_index(params), self.rate)
     }
 
-    // One step of operation control.
+    // One step of operation control, and none where it follows.
     fn step(&mut self, offset: Outcome, rate: Outcome)
-        ensures value { self.new ≡ record self.old { control = stepped self.old.control offset rate } }
+        ensures value { self.new ≡ record self.old { control = control_behind self.old offset rate } }
         ensures fits { (p : Values) → NodeFits p self.old → NodeFits p self.new }
     {
-        self.control.step(offset, rate);
+        if !self.follows {
+            self.control.step(offset, rate);
+        }
+    }
+
+    // Keeps how both terms ended.
+    fn note(&mut self, offset: Outcome, rate: Outcome)
+        ensures value { self.new ≡ record self.old { outcomes = Some (offset, rate) } }
+        ensures fits { (p : Values) → NodeFits p self.old → NodeFits p self.new }
+    {
+        self.outcomes = Some((offset, rate));
     }
 
     // Goes on to the cycle that follows one with this row.
@@ -303,16 +387,47 @@ impl Node {
         self.rate = rate;
     }
 
-    // The end of a cycle with a correction.
-    fn end_corrected(&mut self, params: &Params) -> NodeRow
-        requires { IsUnderWay params.now self.old }
-        ensures row { result ≡ corrected_row params.now self.old }
-        ensures after { self.new ≡ ended_corrected params.now self.old }
+    // The end of an odd cycle.
+    fn end_odd(&mut self, params: &Params) -> NodeRow
+        requires under_way { IsUnderWay params.now self.old }
+        requires odd { is_odd self.old.cycle ≡ true }
+        ensures row { result ≡ ended_row_of_node params.now self.old }
+        ensures after { self.new ≡ ended params.now self.old }
         ensures fits { NodeFits params.now self.new }
         ensures ended { IsEndedRow params.now result }
     {
         let offset = self.offset_term(params);
         let rate = self.rate_term(params);
+        let row = self.end_with(params, offset, rate);
+        self.note(offset.outcome, rate.outcome);
+        row
+    }
+
+    // The same, with both its terms, but for what is kept of the outcomes.
+    fn end_with(&mut self, params: &Params, offset: Term, rate: Term) -> NodeRow
+        requires under_way { IsUnderWay params.now self.old }
+        requires terms { AreTermsOf params.now self.old offset rate }
+        ensures row { result ≡ ended_row_of_node params.now self.old }
+        ensures after { self.new ≡ ended_but params.now self.old }
+        ensures fits { NodeFits params.now self.new }
+        ensures ended { IsEndedRow params.now result }
+    {
+        if self.corrects() {
+            self.end_corrected(params, offset, rate)
+        } else {
+            self.end_plain(params)
+        }
+    }
+
+    // The end of a cycle with a correction.
+    fn end_corrected(&mut self, params: &Params, offset: Term, rate: Term) -> NodeRow
+        requires under_way { IsUnderWay params.now self.old }
+        requires terms { AreTermsOf params.now self.old offset rate }
+        ensures row { result ≡ corrected_row params.now self.old }
+        ensures after { self.new ≡ ended_corrected params.now self.old }
+        ensures fits { NodeFits params.now self.new }
+        ensures ended { IsEndedRow params.now result }
+    {
         let row = NodeRow {
             offset: offset.value,
             cut: cut_count(offset.outcome) + cut_count(rate.outcome),
@@ -335,6 +450,13 @@ impl Node {
         self.pass(params, &plain, plain.rate);
         plain
     }
+}
+
+// Whether a term lay within its limit.
+fn is_within(outcome: Outcome) -> bool
+    ensures { result ≡ is_within outcome }
+{
+    matches!(outcome, Outcome::Within)
 }
 
 // Removes the deviations as an even cycle begins.

@@ -95,6 +95,21 @@ impl Poc {
         self.state()
     }
 
+    /// Begins again: active, with both counters at 0, and with the same limits.
+    pub fn restart(&mut self)
+        ensures { self.new ≡ record self.old { status = first_status } }
+    {
+        self.forget();
+        self.enter(State::Active);
+    }
+
+    // Counts no double cycle with a correction missing.
+    fn forget(&mut self)
+        ensures { self.new ≡ record self.old { status = record self.old.status { bad = 0 } } }
+    {
+        self.bad = 0;
+    }
+
     // Enters a state, and sets `good` to 0.
     fn enter(&mut self, state: State)
         ensures { self.new ≡ record self.old { status = record self.old.status { state = state; good = 0 } } }
@@ -128,7 +143,7 @@ impl Poc {
         requires { self.old.status.state ≢ State.Halt }
         ensures { self.new ≡ record self.old { status = status_after self.old.limits self.old.status self.old.status.state Outcome.Within } }
     {
-        self.bad = 0;
+        self.forget();
         self.good = match self.state {
             State::Passive => (self.good + 1).min(31),
             State::Active | State::Halt => 0,

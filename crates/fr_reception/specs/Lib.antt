@@ -2,3 +2,4 @@
 pub mod Regular
 pub mod Offers
 pub mod Answers
+pub mod Listening

@@ -36,6 +36,8 @@ returns-in-Some-clause-value c =
       rate = c.self.inside.rate;
       table = c.self.inside.table;
       control = c.self.inside.control;
+      follows = c.self.inside.follows;
+      outcomes = c.self.inside.outcomes;
     } in
     let back : to_z w32 (of_z w32 c.in-Stored.value) ≡ c.in-Stored.value = to_z-of_z w32 c.in-Stored.value (search rules) in
     let stores : c.store.new.self ≡ stored node.table c.in-Some.index (is_odd node.cycle) c.args.channel c.in-Stored.value = rw (back, c.is_odd.ensures) at c.store.ensures.value in

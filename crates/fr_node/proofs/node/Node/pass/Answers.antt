@@ -1,5 +1,5 @@
 use Rattle.std.proofs.Common.{◌≡◌, ◌<◌, ◌≤◌, ◌+◌, ◌*◌, pos, ℤ, Option, sym, ap, ◌∙◌, subst, FitsSigned, w32, w64, arith}
-use Rattle.std.specs.Prelude.{IsSome, ◌≤ℤ◌, ◌-ℤ◌}
+use Rattle.std.specs.Prelude.{IsSome, ◌-ℤ◌}
 use Rattle.std.proofs.lemmas.Int.{ints, to_z-of_z}
 use Rattle.fr_base.specs.Within.{IsBetween}
 use Rattle.fr_cluster.specs.declared.names.ParamName.TheVariants as name
@@ -15,7 +15,7 @@ invariant_of-self c =
     let limit = c.requires.under_way.fits.sane.ranges name.pRateCorrectionOut in
     let same : c.args.self.now.length ≡ c.self.inside.length = ap (λ (node : NodeView). node.length) (sym c.self.view_is) in
     let before : c.self.inside.cycle < 200000 = c.self.invariant.in_run (subst (λ (l : Option ℤ). IsSome l) same c.requires.under_way.under_way) in
-    let begins : IsBetween (pos 0) (pos (1000000000000 + 990000000000 * c.self.inside.cycle)) c.self.inside.start = c.self.invariant.start in
+    let begins : IsBetween (pos 0) (pos (904000000000000000 + 990000000000 * c.self.inside.cycle)) c.self.inside.start = c.self.invariant.start in
     let start : c.self.inside.start ≡ c.args.row.now.start = ap (λ (node : NodeView). node.start) c.self.view_is ∙ sym c.requires.start in
     let later : IsBetween (pos 0) (pos 990000000000) (c.next_start-start.result -ℤ c.args.row.now.start) = c.next_start-start.ensures.later in
     let next : FitsSigned w64 c.next_start-start.result = omega (arith, ints, before, begins.low, begins.high, start, later.low, later.high) in
@@ -43,10 +43,12 @@ returns-clause-value c =
       rate = c.self.inside.rate;
       table = c.self.inside.table;
       control = c.self.inside.control;
+      follows = c.self.inside.follows;
+      outcomes = c.self.inside.outcomes;
     } in
     let is : before ≡ c.args.self.now = c.self.view_is in
     let few : c.self.inside.cycle ≤ 200000 = c.self.invariant.few in
-    let begins : IsBetween (pos 0) (pos (1000000000000 + 990000000000 * c.self.inside.cycle)) c.self.inside.start = c.self.invariant.start in
+    let begins : IsBetween (pos 0) (pos (904000000000000000 + 990000000000 * c.self.inside.cycle)) c.self.inside.start = c.self.invariant.start in
     let start : c.self.inside.start ≡ c.args.row.now.start = ap (λ (node : NodeView). node.start) is ∙ sym c.requires.start in
     let later : IsBetween (pos 0) (pos 990000000000) (c.next_start-start.result -ℤ c.args.row.now.start) = c.next_start-start.ensures.later in
     let next : FitsSigned w64 c.next_start-start.result = omega (arith, ints, few, begins.low, begins.high, start, later.low, later.high) in

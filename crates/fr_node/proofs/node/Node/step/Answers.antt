@@ -4,8 +4,8 @@ use Rattle.fr_node.specs.Fits.{NodeFits}
 use Rattle.fr_node.specs.View.{NodeView}
 use Rattle.fr_node.proofs.node.Node.step.Goals as goal
 
-pub returns-clause-fits : goal.returns-clause-fits
-returns-clause-fits c p fits =
+pub returns-then-not-self-clause-fits : goal.returns-then-not-self-clause-fits
+returns-then-not-self-clause-fits c p fits =
     let P : NodeView → Type 0 = λ (node : NodeView). NodeFits p node in
     let old = subst P (sym c.self.view_is) fits in
     record {
