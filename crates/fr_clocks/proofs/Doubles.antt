@@ -21,37 +21,15 @@ use Rattle.fr_precision.specs.Rates.{IsNext}
 use Rattle.fr_history.specs.History.{History, Record, row_of}
 use Rattle.fr_cluster.specs.Setting.{Setting, correct_nodes}
 use Rattle.fr_history.specs.Terms.{offset_term_in, outcomes_by, outcomes_in, rate_term_in, status_in}
-use Rattle.fr_history.specs.Lawful.{is_corrected, offset_after, rate_after, rate_by, start_after, start_by, ClocksRun}
+use Rattle.fr_history.specs.Lawful.{is_corrected, laws_after, offset_after, rate_by, start_by, ClocksRun}
 use Rattle.fr_clocks.specs.Clocks.{ClocksAreCovered, member_of, row_for}
-use Rattle.fr_clocks.proofs.Rows.{HasRow, each_row, has_row}
+use Rattle.fr_clocks.proofs.Rows.{RowRuns, row_runs_by}
 use Rattle.fr_poc.specs.Limits.{limits_of}
 
 -- ---- the laws of a record at a node's row
 
-pub record RowRuns (x : Setting) (h : History) (r : Record) (node : NodeSpec) : Type 0 where
-  pub has : HasRow r.rows node.id
-  pub start : (row_for r.rows node.id).start ≡ start_after x h node.id
-  pub length_is : (row_for r.rows node.id).length ≡ x.microtick node.id (length h)
-  pub rate : (row_for r.rows node.id).rate ≡ rate_after x h node.id
-  pub state : (row_for r.rows node.id).state ≡ (status_in x.params h node.id).state
-  pub offset : (row_for r.rows node.id).offset ≡ offset_after x.params h r (row_for r.rows node.id)
-
-pub row_runs : (x : Setting) (h : History) (r : Record) (node : NodeSpec) → ClocksRun x h r → Contains (correct_nodes x) node → RowRuns x h r node
-row_runs x h r node runs among =
-    let has = has_row (correct_nodes x) r.rows node runs.nodes among in
-    let own = has.number in
-    record {
-      has = has;
-      start = each_row (correct_nodes x) r.rows (λ row. row.start ≡ start_after x h row.node) node runs.nodes among runs.starts ∙ ap (start_after x h) own;
-      length_is =
-          each_row (correct_nodes x) r.rows (λ row. row.length ≡ x.microtick row.node (length h)) node runs.nodes among runs.lengths
-          ∙ ap (λ n. x.microtick n (length h)) own;
-      rate = each_row (correct_nodes x) r.rows (λ row. row.rate ≡ rate_after x h row.node) node runs.nodes among runs.rates ∙ ap (rate_after x h) own;
-      state =
-          each_row (correct_nodes x) r.rows (λ row. row.state ≡ (status_in x.params h row.node).state) node runs.nodes among runs.states
-          ∙ ap (λ n. (status_in x.params h n).state) own;
-      offset = each_row (correct_nodes x) r.rows (λ row. row.offset ≡ offset_after x.params h r row) node runs.nodes among runs.offsets;
-    }
+pub row_runs : (x : Setting) (h : History) (r : Record) (node : NodeSpec) → ClocksRun x h r → Contains (correct_nodes x) node → RowRuns (laws_after x h) (offset_after x.params h r) r.rows node.id
+row_runs x h r node runs among = row_runs_by (laws_after x h) (offset_after x.params h r) (correct_nodes x) r.rows node runs among
 
 -- ---- parities
 
@@ -183,7 +161,7 @@ outcomes_two x h even odd double node counted odd_runs among =
     ∙ ap (λ before. before ++ outcomes_of x even odd node.id ∷ []) (outcomes_even x h even node.id (even_length (length h) double counted))
 
 -- an active node with both terms within their limits stays active
-stays : (x : Setting) (status : Status) → status.state ≡ Active → (step_of (limits_of x.params) status Within Within).state ≡ Active
+pub stays : (x : Setting) (status : Status) → status.state ≡ Active → (step_of (limits_of x.params) status Within Within).state ≡ Active
 stays x status active =
     ap (λ s. (status_after (limits_of x.params) status s Within).state) active
 

@@ -1,5 +1,5 @@
 -- What a supply of deviations owes of two nodes is enough, and a recorded trace supplies it.
-use Rattle.std.proofs.Common.{◌≡◌, ◌⊎◌, ℕ, ◌<◌, ◌==◌, Bool, true, false, not, ℤ, pos, Option, Some, None, List, [], ◌∷◌, length, refl, ap, sym, ◌∙◌, inl, inr, arith, if◌then◌else◌}
+use Rattle.std.proofs.Common.{◌≡◌, ◌⊎◌, ℕ, ◌<◌, ◌==◌, Bool, true, false, not, ℤ, pos, Option, Some, None, List, [], ◌∷◌, refl, ap, sym, ◌∙◌, inl, inr, arith, if◌then◌else◌}
 use Rattle.std.specs.Prelude.{AllPairs, Contains, is_some, option_and_then}
 use Rattle.fr_base.specs.declared.channel.Channel.{Channel}
 use Rattle.fr_cluster.specs.Values.{Values}
@@ -12,11 +12,7 @@ use Rattle.fr_bound.specs.Bounds.{lambda_of, pi_of, precision_of}
 use Rattle.fr_measure.specs.Values.{is_own}
 use Rattle.fr_precision.specs.Instants.{row_in}
 use Rattle.fr_precision.specs.Offsets.{IsDeviation}
-use Rattle.fr_precision.specs.Placement.{IsRegular}
-use Rattle.fr_precision.specs.Step.{Member}
 use Rattle.fr_precision.proofs.DeviationLaws.{recorded_is_deviation}
-use Rattle.fr_precision.proofs.InstantLaws.{actions_stay_near}
-use Rattle.fr_precision.proofs.StepLaws.{nodes_near}
 use Rattle.fr_history.specs.History.{History, Record}
 use Rattle.fr_cluster.specs.Setting.{Setting, correct_nodes, is_correct}
 use Rattle.fr_base.specs.Rows.{dev_in}
@@ -24,11 +20,10 @@ use Rattle.fr_round.specs.Round.{IsItself, IsOther}
 use Rattle.fr_round.proofs.Keys.{key_node_among, key_node_is, key_slot_has, slot_of_index}
 use Rattle.fr_round.proofs.Lists.{Contains-none, filtered, sole_found}
 use Rattle.fr_round.proofs.Senders.{and_then_some}
-use Rattle.fr_round.proofs.Values.{acts_before}
-use Rattle.fr_clocks.specs.Clocks.{IsDrawnDouble, IsSyncedDouble, hearer_of, member_of, round_of, row_for}
+use Rattle.fr_clocks.specs.Clocks.{IsSyncedDouble, hearer_of, round_of, row_for}
 use Rattle.fr_clocks.specs.Heard.{DevsAreBounded, HeardSuffices, HeardSufficesWithin, IsHeardBy, IsLinked, TracesHear, record_in}
-use Rattle.fr_clocks.proofs.Doubles.{double_of, even_length, proper_micro, steady}
-use Rattle.fr_clocks.proofs.Stepping.{is_correct_node, is_member, no_less, node_runs, nodes_of, nodes_spread, synced_is_drawn}
+use Rattle.fr_clocks.proofs.Receivers.{hearers_are_near, is_correct_node, node_runs}
+use Rattle.fr_clocks.proofs.Stepping.{synced_is_drawn}
 use Rattle.fr_cluster.proofs.KeyNodes.{AllPairs-first, AllPairs-rest, Contains-cons_cases}
 
 -- ---- a node and its own index
@@ -140,19 +135,6 @@ only x even odd node index is_odd channel value sane some =
 
 -- ---- what suffices
 
-regular : (x : Setting) (h : History) (even odd : Record) (double : ℕ) (starts lengths reach : ℤ) (node : NodeSpec) → IsDrawnDouble x h even odd double starts lengths reach
-    → Contains (correct_nodes x) node → IsRegular x.params (row_for even.rows node.id) (row_for odd.rows node.id)
-regular x h even odd double starts lengths reach node d among =
-    let counted = d.counted in
-    let within = d.within in
-    record {
-      double = double_of x h even odd node (even_length (length h) double counted) d.even_runs d.odd_runs among;
-      rate_within = d.rates node among;
-      even_micro = proper_micro x h even node d.covered d.even_runs among (omega (arith, counted, within));
-      odd_micro = proper_micro x (even ∷ h) odd node d.covered d.odd_runs among (omega (arith, counted, within));
-      steady = steady x h even odd node d.covered d.even_runs d.odd_runs among (omega (arith, counted, within));
-    }
-
 placed_by : (x : Setting) (even odd : Record) (node sender : NodeSpec) (slot : ℕ) (is_odd : Bool) (channel : Channel) (value : ℤ) → IsHeardBy x even odd sender node slot
     → devs_of even odd is_odd node.id slot channel ≡ Some value
     → IsDeviation x.params is_odd (pos (action_point_of x.params slot)) (row_in is_odd (row_for even.rows node.id) (row_for odd.rows node.id))
@@ -161,26 +143,12 @@ unfolding devs_of
 placed_by x even odd node sender slot false channel value heard is = heard.placed false channel value is
 placed_by x even odd node sender slot true channel value heard is = heard.placed true channel value is
 
-pub heard_suffices_within : HeardSufficesWithin
+pub heard_suffices : HeardSuffices
 unfolding devs_of
-heard_suffices_within x h even odd double starts lengths reach d links node among =
-    let p = x.params in
-    let sane = d.covered.sane in
-    let at : NodeSpec → Member = λ n. member_of x even odd n.id in
-    let runs = λ (n : NodeSpec) (there : Contains (correct_nodes x) n). (node_runs x h even odd double starts lengths reach n d there).runs in
-    let look = λ (index slot : ℕ) (is_odd : Bool) (channel : Channel) (slot_is : key_slot_of p index ≡ Some slot). looked x even odd node index slot is_odd channel slot_is in
+heard_suffices x even odd sane links node among =
+    let look = λ (index slot : ℕ) (is_odd : Bool) (channel : Channel) (slot_is : key_slot_of x.params index ≡ Some slot). looked x even odd node index slot is_odd channel slot_is in
     record {
-      regular = regular x h even odd double starts lengths reach node d among;
-      suffices = d.limit;
       itself = λ index own. itself x even odd node index sane among own;
-      near =
-          λ index slot sender other.
-          let link = linked x even odd node sender index slot sane among other in
-          let near =
-          nodes_near p starts lengths (nodes_of x even odd) (at sender) (at node) (nodes_spread x h even odd starts lengths sane d.even_runs d.odd_runs d.spread)
-          (is_member x even odd sender link.sends) (is_member x even odd node among) in
-          actions_stay_near p starts lengths reach (pos (action_point_of p slot)) false (at sender).even (at sender).odd (at node).even (at node).odd sane
-          (runs sender link.sends) (runs node among) near d.fits (no_less (action_point_of p slot)) (acts_before (round_of x even odd) slot sender sane other.sender);
       placed =
           λ index slot sender is_odd channel value other is.
           placed_by x even odd node sender slot is_odd channel value (links sender node slot (linked x even odd node sender index slot sane among other))
@@ -195,9 +163,9 @@ heard_suffices_within x h even odd double starts lengths reach d links node amon
       only = λ index is_odd channel value is. only x even odd node index is_odd channel value sane is;
     }
 
-pub heard_suffices : HeardSuffices
-heard_suffices x h even odd double s links =
-    heard_suffices_within x h even odd double (pos (pi_of x.params)) (pos (lambda_of x.params)) (pos (precision_of x.params)) (synced_is_drawn x h even odd double s) links
+pub heard_suffices_within : HeardSufficesWithin
+heard_suffices_within x h even odd double starts lengths reach d links =
+    hearers_are_near x h even odd double starts lengths reach d (heard_suffices x even odd d.covered.sane links)
 
 -- ---- a recorded trace
 
@@ -218,7 +186,7 @@ recorded x h even odd double sender receiver slot true channel value s link even
 
 pub traces_hear : TracesHear
 traces_hear x h even odd double s evens odds links =
-    heard_suffices x h even odd double s
+    heard_suffices x even odd s.covered.sane
     (λ sender receiver slot link.
     let there = links sender receiver slot link in
     record {

@@ -1,5 +1,5 @@
 -- The rows of a record are those of its nodes.
-use Rattle.std.proofs.Common.{◌≡◌, ℕ, ◌<◌, ◌==◌, true, false, Option, Some, None, List, [], ◌∷◌, All, map, refl, ap, ap₂, sym, ◌∙◌, subst, inl, inr, arith}
+use Rattle.std.proofs.Common.{◌≡◌, ℕ, ℤ, ◌<◌, ◌==◌, true, false, Option, Some, None, List, [], ◌∷◌, All, map, refl, ap, ap₂, sym, ◌∙◌, subst, inl, inr, arith}
 use Rattle.std.specs.Prelude.{AllPairs, Contains, find, unwrap_or}
 use Rattle.std.proofs.lemmas.List.Elements.{All-contains, All-contains_itself, All-map}
 use Rattle.std.proofs.lemmas.List.Kept.{AllPairs-cons, AllPairs-filter}
@@ -7,7 +7,8 @@ use Rattle.fr_base.specs.declared.node_row.NodeRow.{NodeRow}
 use Rattle.fr_cluster.specs.Sane.{IsSane}
 use Rattle.fr_cluster.specs.declared.nodes.NodeSpec.{NodeSpec}
 use Rattle.fr_precision.proofs.Senders.{All-along}
-use Rattle.fr_history.specs.History.{row_of}
+use Rattle.fr_history.specs.History.{AreRowsOf, row_of}
+use Rattle.fr_history.specs.Lawful.{ClockLaws, RowsRun}
 use Rattle.fr_cluster.specs.Setting.{Setting, correct_nodes, is_correct}
 use Rattle.fr_history.proofs.Lists.{map-map}
 use Rattle.fr_clocks.specs.Clocks.{blank_row, row_for}
@@ -31,10 +32,6 @@ map_contains f (x ∷ xs) y among = elim (Contains-cons_cases (f x) (map f xs) y
 ]
 
 -- ---- rows and nodes
-
--- the rows have the numbers of these nodes, one each
-abbrev pub AreRowsOf : List NodeSpec → List NodeRow → Type 0
-AreRowsOf nodes rows = map (λ (row : NodeRow). row.node) rows ≡ map (λ (node : NodeSpec). node.id) nodes
 
 number_of : NodeRow → ℕ
 number_of row = row.node
@@ -84,9 +81,32 @@ pub each_row : (nodes : List NodeSpec) (rows : List NodeRow) (P : NodeRow → Ty
     → P (row_for rows node.id)
 each_row nodes rows P node are among all = All-contains P rows (row_for rows node.id) all (has_row nodes rows node are among).there
 
+-- the laws of some nodes' rows, at one node's row
+pub record RowRuns (laws : ClockLaws) (offset_by : NodeRow → ℤ) (rows : List NodeRow) (node : ℕ) : Type 0 where
+  pub has : HasRow rows node
+  pub start : (row_for rows node).start ≡ laws.start node
+  pub length_is : (row_for rows node).length ≡ laws.microtick node
+  pub rate : (row_for rows node).rate ≡ laws.rate node
+  pub state : (row_for rows node).state ≡ laws.state node
+  pub offset : (row_for rows node).offset ≡ offset_by (row_for rows node)
+
+pub row_runs_by : (laws : ClockLaws) (offset : NodeRow → ℤ) (nodes : List NodeSpec) (rows : List NodeRow) (node : NodeSpec) → RowsRun laws offset nodes rows → Contains nodes node
+    → RowRuns laws offset rows node.id
+row_runs_by laws offset nodes rows node runs among =
+    let has = has_row nodes rows node runs.nodes among in
+    let own = has.number in
+    record {
+      has = has;
+      start = each_row nodes rows (λ row. row.start ≡ laws.start row.node) node runs.nodes among runs.starts ∙ ap laws.start own;
+      length_is = each_row nodes rows (λ row. row.length ≡ laws.microtick row.node) node runs.nodes among runs.lengths ∙ ap laws.microtick own;
+      rate = each_row nodes rows (λ row. row.rate ≡ laws.rate row.node) node runs.nodes among runs.rates ∙ ap laws.rate own;
+      state = each_row nodes rows (λ row. row.state ≡ laws.state row.node) node runs.nodes among runs.states ∙ ap laws.state own;
+      offset = each_row nodes rows (λ row. row.offset ≡ offset row) node runs.nodes among runs.offsets;
+    }
+
 -- ---- each row is that of its node
 
-abbrev Ascend : List NodeSpec → Type 0
+abbrev pub Ascend : List NodeSpec → Type 0
 Ascend nodes = AllPairs (λ (a : NodeSpec) (b : NodeSpec). a.id < b.id) nodes
 
 ids_ascend : (nodes : List NodeSpec) → Ascend nodes → AllPairs (λ (a : ℕ) (b : ℕ). a < b) (map (λ (node : NodeSpec). node.id) nodes)

@@ -1,15 +1,13 @@
 -- The step over the records of a double cycle.
 use Rattle.std.proofs.Common.{◌≡◌, ℕ, suc, ◌*◌, ◌<◌, true, false, ℤ, pos, Option, Some, None, List, [], ◌∷◌, All, length, map, refl, ap, ap₂, sym, ◌∙◌, subst, arith}
-use Rattle.std.specs.Prelude.{◌≤ℤ◌, Contains}
+use Rattle.std.specs.Prelude.{Contains}
 use Rattle.std.specs.List.{cons_option, filter_map, range_with_len}
-use Rattle.std.proofs.lemmas.Int.{ints}
 use Rattle.std.proofs.lemmas.List.Elements.{All-cons, All-contains_itself, All-map, All-nil}
 use Rattle.fr_base.specs.declared.node_row.NodeRow.{NodeRow}
 use Rattle.fr_base.specs.declared.state.Outcome.{Outcome}
 use Rattle.fr_base.specs.declared.state.Outcome.TheVariants.{Within}
 use Rattle.fr_base.specs.declared.state.State.TheVariants.{Active}
 use Rattle.fr_cluster.specs.Values.{amount}
-use Rattle.fr_cluster.specs.Sane.{IsSane}
 use Rattle.fr_cluster.specs.declared.names.ParamName.TheVariants as name
 use Rattle.fr_cluster.specs.declared.nodes.NodeSpec.{NodeSpec}
 use Rattle.fr_base.specs.Within.{IsWithin}
@@ -17,45 +15,33 @@ use Rattle.fr_time.specs.Slots.{action_point_of}
 use Rattle.fr_bound.specs.Bounds.{lambda_of, longest_micro, pi_of, precision_of}
 use Rattle.fr_correct.proofs.There.{offset_term_is_there, rate_term_is_there}
 use Rattle.fr_precision.specs.Rows.{KeepOne, Sender}
-use Rattle.fr_precision.specs.Instants.{gap_of, Runs}
+use Rattle.fr_precision.specs.Instants.{gap_of}
 use Rattle.fr_precision.specs.Offsets.{IsSending}
 use Rattle.fr_precision.specs.Step.{AllKeepOne, AreSpread, ComputesTerms, DrawNear, IsAmong, IsFollowed, IsSpreadDouble, Member, Shrinks, StaySynced}
-use Rattle.fr_precision.proofs.OffsetLaws.{micro_lasts, third_check_suffices}
+use Rattle.fr_precision.proofs.OffsetLaws.{third_check_suffices}
 use Rattle.fr_precision.proofs.Senders.{All-along}
 use Rattle.fr_precision.proofs.StepLaws.{next_is_spread, nodes_near, reach_fits, spread_is_sync, spreads_shrink_lem, stays_synced, sync_is_spread, sync_shrinks}
 use Rattle.fr_history.specs.History.{History, Record}
-use Rattle.fr_cluster.specs.Setting.{Setting, correct_nodes, is_correct}
+use Rattle.fr_cluster.specs.Setting.{Setting, correct_nodes}
 use Rattle.fr_history.specs.Terms.{status_in}
-use Rattle.fr_history.proofs.Lists.{map-map}
 use Rattle.fr_round.specs.Round.{IsRound, Round, sender_at, sender_with, senders_of}
-use Rattle.fr_round.proofs.Lists.{Contains-here, Contains-there, kept_filtered}
 use Rattle.fr_round.proofs.Senders.{IsFrom, sender_is}
 use Rattle.fr_round.proofs.Values.{acts_before, hearers_keep_one, hears_all}
 use Rattle.fr_clocks.specs.Clocks.{AllHear, AllHearWithin, ClocksDrawNear, ClocksKeepSync, IsDrawnDouble, IsSyncedDouble, hearer_of, member_of, round_of, row_for}
-use Rattle.fr_clocks.proofs.Doubles.{double_of, even_length, follows, next_of, odd_length, offset_applied, outcomes_of, next_rate, proper_micro, row_runs, status_even, status_two}
-use Rattle.fr_clocks.proofs.Rows.{AreRowsOf, all_rows, contains_map, correct_ascend, each_row, has_row, map_contains, rows_are}
+use Rattle.fr_clocks.proofs.Doubles.{even_length, follows, next_of, odd_length, outcomes_of, next_rate, row_runs, status_even, status_two}
+use Rattle.fr_clocks.proofs.Rows.{all_rows, contains_map, correct_ascend, has_row, map_contains}
+use Rattle.fr_clocks.proofs.Receivers.{hearers_are_near, is_correct_node, no_less, node_runs, nodes_of, nodes_spread, regular, rows_by}
 use Rattle.fr_clocks.proofs.Spread.{RowsLie, macrotick_within, spread_within}
 use Rattle.fr_history.specs.Lawful.{ClocksRun}
 
--- ---- nodes of a double cycle
-
-pub nodes_of : Setting → Record → Record → List Member
-nodes_of x even odd = map (λ (node : NodeSpec). member_of x even odd node.id) (correct_nodes x)
-
-pub is_member : (x : Setting) (even odd : Record) (node : NodeSpec) → Contains (correct_nodes x) node → Contains (nodes_of x even odd) (member_of x even odd node.id)
-unfolding nodes_of
-is_member x even odd node among = contains_map (λ (n : NodeSpec). member_of x even odd n.id) (correct_nodes x) node among
-
--- a correct node of the cluster
-pub is_correct_node : (x : Setting) (node : NodeSpec) → Contains x.params.nodes node → is_correct x node.id ≡ true → Contains (correct_nodes x) node
-is_correct_node x node there correct = kept_filtered (λ (n : NodeSpec). is_correct x n.id) x.params.nodes node there correct
+-- ---- the round of a double cycle
 
 round_is : (x : Setting) (h : History) (even odd : Record) (double : ℕ) (starts lengths reach : ℤ) → IsDrawnDouble x h even odd double starts lengths reach
-    → AllHearWithin reach x even odd → IsRound (round_of x even odd)
-round_is x h even odd double starts lengths reach d hear = record {
+    → IsRound (round_of x even odd)
+round_is x h even odd double starts lengths reach d = record {
   sane = d.covered.sane;
   few = d.covered.few;
-  regular = λ node there correct. (hear node (is_correct_node x node there correct)).regular;
+  regular = λ node there correct. regular x h even odd double starts lengths reach node d (is_correct_node x node there correct);
 }
 
 -- what holds of the sender of each key index holds of all senders
@@ -67,38 +53,8 @@ all_given : {X : Type 0} (who : ℕ → Option X) (P : X → Type 0) (is : List 
 all_given who P [] each = All-nil P
 all_given who P (i ∷ is) each = given who P i (filter_map who is) (who i) refl (each i) (all_given who P is each)
 
-all_senders : (r : Round) (P : Sender → Type 0) → ((index : ℕ) (sender : Sender) → IsFrom r index sender → P sender) → All P (senders_of r)
+pub all_senders : (r : Round) (P : Sender → Type 0) → ((index : ℕ) (sender : Sender) → IsFrom r index sender → P sender) → All P (senders_of r)
 all_senders r P each = all_given (sender_at r) P (range_with_len 0 15) (λ index sender some. each index sender (sender_is r index sender some))
-
--- the facts of a node
-pub record NodeRuns (x : Setting) (even odd : Record) (node : NodeSpec) : Type 0 where
-  pub runs : Runs x.params (row_for even.rows node.id) (row_for odd.rows node.id)
-  pub active : (row_for odd.rows node.id).state ≡ Active
-  pub before : (row_for even.rows node.id).state ≡ Active
-  pub offset : (row_for odd.rows node.id).offset ≡ (member_of x even odd node.id).offset_term.value
-
-pub node_runs : (x : Setting) (h : History) (even odd : Record) (double : ℕ) (starts lengths reach : ℤ) (node : NodeSpec) → IsDrawnDouble x h even odd double starts lengths reach
-    → Contains (correct_nodes x) node → NodeRuns x even odd node
-node_runs x h even odd double starts lengths reach node d among =
-    let counted = d.counted in
-    let within = d.within in
-    let sane = d.covered.sane in
-    let early = proper_micro x h even node d.covered d.even_runs among (omega (arith, counted, within)) in
-    let late = proper_micro x (even ∷ h) odd node d.covered d.odd_runs among (omega (arith, counted, within)) in
-    let active = each_row (correct_nodes x) odd.rows (λ row. row.state ≡ Active) node d.odd_runs.nodes among d.active_odd in
-    record {
-      runs = record {
-        double = double_of x h even odd node (even_length (length h) double counted) d.even_runs d.odd_runs among;
-        even_lasts = micro_lasts x.params (row_for even.rows node.id) sane early;
-        odd_lasts = micro_lasts x.params (row_for odd.rows node.id) sane late;
-      };
-      active = active;
-      before = each_row (correct_nodes x) even.rows (λ row. row.state ≡ Active) node d.even_runs.nodes among d.active_even;
-      offset = offset_applied x h even odd node (odd_length (length h) double counted) d.odd_runs among active;
-    }
-
-pub no_less : (n : ℕ) → pos 0 ≤ℤ pos n
-no_less n = omega (arith, ints)
 
 sending : (x : Setting) (h : History) (even odd : Record) (double : ℕ) (starts lengths reach : ℤ) → IsDrawnDouble x h even odd double starts lengths reach
     → All (IsSending x.params) (senders_of (round_of x even odd))
@@ -138,7 +94,7 @@ computes x h even odd double starts lengths reach d hear =
     (
     let runs = node_runs x h even odd double starts lengths reach node d among in
     let hearer = hear node among in
-    let heard = hears_all r reach (hearer_of x even odd node.id) (round_is x h even odd double starts lengths reach d hear) hearer in
+    let heard = hears_all r reach (hearer_of x even odd node.id) (round_is x h even odd double starts lengths reach d) hearer in
     let is : Computes node = record {
       runs = runs.runs;
       by_offset = record {
@@ -167,39 +123,11 @@ keep_one x h even odd double starts lengths reach d hear one other here there =
     let first = map_contains at (correct_nodes x) one here in
     let second = map_contains at (correct_nodes x) other there in
     let kept =
-    hearers_keep_one r reach reach (hearer_of x even odd first.0.id) (hearer_of x even odd second.0.id) (round_is x h even odd double starts lengths reach d hear)
+    hearers_keep_one r reach reach (hearer_of x even odd first.0.id) (hearer_of x even odd second.0.id) (round_is x h even odd double starts lengths reach d)
     (hear first.0 first.1) (hear second.0 second.1) in
     let Keep : Member → Member → Type 0 = λ a b. KeepOne a.offsets b.offsets senders × KeepOne a.rates b.rates senders in
     let First : Member → Type 0 = λ a. Keep a other in
     subst First first.2 (subst (Keep (at first.0)) second.2 kept)
-
--- rows taken by member are the rows of a record
-same_mapped : {X Y : Type 0} (f g : X → Y) (xs : List X) → ((x : X) → Contains xs x → f x ≡ g x) → map f xs ≡ map g xs
-same_mapped f g [] same = refl
-same_mapped {Y = Y} f g (x ∷ xs) same = ap₂ (λ (y : Y) (ys : List Y). y ∷ ys) (same x (Contains-here x xs)) (same_mapped f g xs (λ z among. same z (Contains-there x xs z among)))
-
-rows_by : (x : Setting) (even odd : Record) (rows : List NodeRow) (f : Member → NodeRow) → IsSane x.params → AreRowsOf (correct_nodes x) rows
-    → ((node : NodeSpec) → Contains (correct_nodes x) node → f (member_of x even odd node.id) ≡ row_for rows node.id) → map f (nodes_of x even odd) ≡ rows
-unfolding nodes_of
-rows_by x even odd rows f sane are same =
-    map-map f (λ (node : NodeSpec). member_of x even odd node.id) (correct_nodes x)
-    ∙ same_mapped (λ (node : NodeSpec). f (member_of x even odd node.id)) (λ (node : NodeSpec). row_for rows node.id) (correct_nodes x) same
-    ∙ rows_are (correct_nodes x) rows (correct_ascend x sane) are
-
-even_rows : (x : Setting) (h : History) (even odd : Record) → IsSane x.params → ClocksRun x h even → map (λ (node : Member). node.even) (nodes_of x even odd) ≡ even.rows
-even_rows x h even odd sane runs = rows_by x even odd even.rows (λ (node : Member). node.even) sane runs.nodes (λ node among. refl)
-
-odd_rows : (x : Setting) (h : History) (even odd : Record) → IsSane x.params → ClocksRun x (even ∷ h) odd → map (λ (node : Member). node.odd) (nodes_of x even odd) ≡ odd.rows
-odd_rows x h even odd sane runs = rows_by x even odd odd.rows (λ (node : Member). node.odd) sane runs.nodes (λ node among. refl)
-
--- the nodes of a double cycle are spread as its rows are
-pub nodes_spread : (x : Setting) (h : History) (even odd : Record) (starts lengths : ℤ) → IsSane x.params → ClocksRun x h even → ClocksRun x (even ∷ h) odd
-    → AreSpread x.params starts lengths even.rows odd.rows
-    → AreSpread x.params starts lengths (map (λ (node : Member). node.even) (nodes_of x even odd)) (map (λ (node : Member). node.odd) (nodes_of x even odd))
-nodes_spread x h even odd starts lengths sane even_runs odd_runs spread =
-    let Even : List NodeRow → Type 0 = λ rows. AreSpread x.params starts lengths rows odd.rows in
-    let Odd : List NodeRow → Type 0 = λ rows. AreSpread x.params starts lengths (map (λ (node : Member). node.even) (nodes_of x even odd)) rows in
-    subst Odd (sym (odd_rows x h even odd sane odd_runs)) (subst Even (sym (even_rows x h even odd sane even_runs)) spread)
 
 spread_double : (x : Setting) (h : History) (even odd : Record) (double : ℕ) (starts lengths reach : ℤ) → IsDrawnDouble x h even odd double starts lengths reach
     → AllHearWithin reach x even odd → IsSpreadDouble x.params (senders_of (round_of x even odd)) (nodes_of x even odd) starts lengths reach
@@ -314,27 +242,29 @@ next_spread x h even odd next_even next_odd double starts lengths reach next_sta
     subst Odd odds (subst Even evens spread)
 
 pub clocks_draw_near : ClocksDrawNear
-clocks_draw_near x h even odd double starts lengths reach d hear = record {
-  offset_within = λ node among. (draw_near x h even odd double starts lengths reach node node d hear among among).uncut;
-  rate_within = λ node among. (draw_near x h even odd double starts lengths reach node node d hear among among).range.uncut;
-  active = λ node among. stays_active x h even odd double starts lengths reach node d hear among;
-  next =
-      λ next_starts next_lengths next_even next_odd shrinks more even_runs odd_runs.
-      let next : NextRuns x h even odd next_even next_odd double = record { more = more; even_runs = even_runs; odd_runs = odd_runs } in
-      let ascend = correct_ascend x d.covered.sane in (
-        all_rows (correct_nodes x) next_even.rows (λ row. row.state ≡ Active) ascend even_runs.nodes
-            (λ node among. (next_active x h even odd next_even next_odd double starts lengths reach node d hear next among).0),
-        all_rows (correct_nodes x) next_odd.rows (λ row. row.state ≡ Active) ascend odd_runs.nodes
-            (λ node among. (next_active x h even odd next_even next_odd double starts lengths reach node d hear next among).1),
-        next_spread x h even odd next_even next_odd double starts lengths reach next_starts next_lengths d hear next shrinks,
-      );
-  next_rates =
-      λ next_even node even_runs among.
-      let Limit : ℤ → Type 0 = IsWithin x.params.rate_limit in
-      let runs = node_runs x h even odd double starts lengths reach node d among in
-      let rate = next_rate x h even odd next_even node (odd_length (length h) double d.counted) d.odd_runs even_runs among runs.active in
-      subst Limit (sym rate) (draw_near x h even odd double starts lengths reach node node d hear among among).range.limit;
-}
+clocks_draw_near x h even odd double starts lengths reach d supply =
+    let hear = hearers_are_near x h even odd double starts lengths reach d supply in
+    record {
+      offset_within = λ node among. (draw_near x h even odd double starts lengths reach node node d hear among among).uncut;
+      rate_within = λ node among. (draw_near x h even odd double starts lengths reach node node d hear among among).range.uncut;
+      active = λ node among. stays_active x h even odd double starts lengths reach node d hear among;
+      next =
+          λ next_starts next_lengths next_even next_odd shrinks more even_runs odd_runs.
+          let next : NextRuns x h even odd next_even next_odd double = record { more = more; even_runs = even_runs; odd_runs = odd_runs } in
+          let ascend = correct_ascend x d.covered.sane in (
+            all_rows (correct_nodes x) next_even.rows (λ row. row.state ≡ Active) ascend even_runs.nodes
+                (λ node among. (next_active x h even odd next_even next_odd double starts lengths reach node d hear next among).0),
+            all_rows (correct_nodes x) next_odd.rows (λ row. row.state ≡ Active) ascend odd_runs.nodes
+                (λ node among. (next_active x h even odd next_even next_odd double starts lengths reach node d hear next among).1),
+            next_spread x h even odd next_even next_odd double starts lengths reach next_starts next_lengths d hear next shrinks,
+          );
+      next_rates =
+          λ next_even node even_runs among.
+          let Limit : ℤ → Type 0 = IsWithin x.params.rate_limit in
+          let runs = node_runs x h even odd double starts lengths reach node d among in
+          let rate = next_rate x h even odd next_even node (odd_length (length h) double d.counted) d.odd_runs even_runs among runs.active in
+          subst Limit (sym rate) (draw_near x h even odd double starts lengths reach node node d hear among among).range.limit;
+    }
 
 -- ---- in sync
 
@@ -359,12 +289,13 @@ synced_is_drawn x h even odd double s = record {
 two_stay : (x : Setting) (h : History) (even odd : Record) (double : ℕ) (one other : NodeSpec) → IsSyncedDouble x h even odd double → AllHear x even odd
     → Contains (correct_nodes x) one → Contains (correct_nodes x) other → StaySynced x.params (member_of x even odd one.id) (member_of x even odd other.id)
 unfolding nodes_of
-two_stay x h even odd double one other s hear here there =
+two_stay x h even odd double one other s supply here there =
     let p = x.params in
     let starts = pos (pi_of p) in
     let lengths = pos (lambda_of p) in
     let reach = pos (precision_of p) in
     let d = synced_is_drawn x h even odd double s in
+    let hear = hearers_are_near x h even odd double starts lengths reach d supply in
     let at : NodeSpec → Member = λ node. member_of x even odd node.id in
     let runs = λ (node : NodeSpec) (among : Contains (correct_nodes x) node). (node_runs x h even odd double starts lengths reach node d among).runs in
     stays_synced p (at one) (at other) s.covered.sane (runs one here) (runs other there)

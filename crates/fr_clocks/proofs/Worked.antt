@@ -39,6 +39,7 @@ setting = record {
   delay = λ sender receiver channel cycle. pos 0;
   is_arbitrary = λ id. false;
   event = λ cycle sender receiver channel. Regular;
+  join = λ _. None;
 }
 
 abbrev devs : List Dev

@@ -1,6 +1,6 @@
 -- Clocks that run by their laws, over the rows and the deviations of records (sections 8.2 and 8.6). What the nodes heard is
 -- left open: a run supplies it by its offers, a recorded trace by its own laws.
-use Rattle.std.specs.Prelude.{◌≡◌, ℕ, suc, ◌*◌, ◌<◌, ◌≤ℤ◌, ◌+ℤ◌, ◌-ℤ◌, ◌*ℤ◌, ℤ, pos, true, List, ◌∷◌, length, map, All, Contains, Some, unwrap_or}
+use Rattle.std.specs.Prelude.{◌≡◌, ℕ, suc, ◌*◌, ◌<◌, ◌≤ℤ◌, ◌+ℤ◌, ◌-ℤ◌, ◌*ℤ◌, ℤ, pos, true, List, ◌∷◌, length, All, Contains, Some, unwrap_or}
 use Rattle.fr_base.specs.declared.node_row.NodeRow.{NodeRow}
 use Rattle.fr_base.specs.declared.state.Outcome.TheVariants.{Within}
 use Rattle.fr_base.specs.declared.state.State.TheVariants.{Active, Halt}
@@ -23,7 +23,7 @@ use Rattle.fr_cluster.specs.Setting.{Setting, correct_nodes, is_correct}
 use Rattle.fr_measure.specs.Deviations.{deviations_of, offset_values_of, rate_values_of}
 use Rattle.fr_history.specs.Terms.{latest_devs, status_in}
 use Rattle.fr_history.specs.Lawful.{ClocksRun, CutsRun, is_corrected}
-use Rattle.fr_round.specs.Round.{Hearer, IsHearer, Round, offsets_of, rates_of, sync_count}
+use Rattle.fr_round.specs.Round.{Hearer, IsHeardAt, IsHearer, Round, offsets_of, rates_of, sync_count}
 use Rattle.fr_time.specs.Position.{grid_for}
 use Rattle.fr_skew.specs.Spreads.{spread_at}
 
@@ -93,14 +93,15 @@ pub record IsSyncedDouble (x : Setting) (h : History) (even odd : Record) (doubl
       (node : NodeSpec) → Contains (correct_nodes x) node → IsWithin x.params.rate_limit (row_for even.rows node.id).rate
   pub in_sync : IsInSync x.params even.rows odd.rows
 
--- each correct node has the deviations of each sender, whose action point lies within reach
+-- each correct node has the deviations of each sender, and none of nodes that are neither correct nor arbitrary
+abbrev pub AllHear : Setting → Record → Record → Type 0
+AllHear x even odd =
+    (node : NodeSpec) → Contains (correct_nodes x) node → IsHeardAt (round_of x even odd) (hearer_of x even odd node.id)
+
+-- and the action point of each sender lies within reach, for which the offset limit suffices
 abbrev pub AllHearWithin : ℤ → Setting → Record → Record → Type 0
 AllHearWithin reach x even odd =
     (node : NodeSpec) → Contains (correct_nodes x) node → IsHearer (round_of x even odd) reach (hearer_of x even odd node.id)
-
--- within the precision
-abbrev pub AllHear : Setting → Record → Record → Type 0
-AllHear x = AllHearWithin (pos (precision_of x.params)) x
 
 -- no macrotick of the cycle after a history lies further apart than the precision
 abbrev pub LieTogether : Setting → History → Record → Type 0
@@ -171,7 +172,7 @@ pub record IsDrawn (x : Setting) (h : History) (even odd : Record) (double : ℕ
 abbrev pub ClocksDrawNear : Type 0
 ClocksDrawNear =
     (x : Setting) (h : History) (even odd : Record) (double : ℕ) (starts lengths reach : ℤ)
-    → IsDrawnDouble x h even odd double starts lengths reach → AllHearWithin reach x even odd
+    → IsDrawnDouble x h even odd double starts lengths reach → AllHear x even odd
     → IsDrawn x h even odd double starts lengths
 
 -- ---- cuts

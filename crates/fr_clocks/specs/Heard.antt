@@ -2,6 +2,7 @@
 -- the bounds of its values.
 use Rattle.std.specs.Prelude.{◌≡◌, ◌≢◌, ℕ, ◌≤ℤ◌, ◌+ℤ◌, ◌-ℤ◌, ℤ, pos, Bool, true, false, Contains, Some, IsSome}
 use Rattle.fr_base.specs.declared.channel.Channel.{Channel}
+use Rattle.fr_cluster.specs.Sane.{IsSane}
 use Rattle.fr_cluster.specs.declared.nodes.NodeSpec.{NodeSpec}
 use Rattle.fr_time.specs.Position.{floor_of}
 use Rattle.fr_time.specs.Slots.{action_point_of}
@@ -36,13 +37,20 @@ pub record IsHeardBy (x : Setting) (even odd : Record) (sender receiver : NodeSp
   pub early : IsSome (dev_in even.devs receiver.id slot channel)
   pub late : IsSome (dev_in odd.devs receiver.id slot channel)
 
+-- where this holds of each link all correct nodes hear each other, whatever their clocks are
 abbrev pub HeardSuffices : Type 0
 HeardSuffices =
-    (x : Setting) (h : History) (even odd : Record) (double : ℕ) → IsSyncedDouble x h even odd double
+    (x : Setting) (even odd : Record) → IsSane x.params
     → ((sender receiver : NodeSpec) (slot : ℕ) → IsLinked x sender receiver slot → IsHeardBy x even odd sender receiver slot)
     → AllHear x even odd
 
--- and within another reach, in a double cycle whose starts and lengths lie further apart
+-- in a double cycle whose starts and lengths lie so far apart the action point of each sender lies within reach of each node
+abbrev pub HearersAreNear : Type 0
+HearersAreNear =
+    (x : Setting) (h : History) (even odd : Record) (double : ℕ) (starts lengths reach : ℤ)
+    → IsDrawnDouble x h even odd double starts lengths reach → AllHear x even odd → AllHearWithin reach x even odd
+
+-- so there it suffices within reach
 abbrev pub HeardSufficesWithin : Type 0
 HeardSufficesWithin =
     (x : Setting) (h : History) (even odd : Record) (double : ℕ) (starts lengths reach : ℤ)

@@ -1,5 +1,5 @@
 -- The deviations of a cycle, part by part: what the rules list is what the nodes' rows store, slot by slot.
-use Rattle.std.proofs.Common.{◌≡◌, ◌≢◌, ◌⊎◌, ℕ, ◌≤◌, ◌==◌, ℤ, Bool, true, false, Option, Some, None, IfSome, List, map, length, refl, ap, ◌∙◌, inl, inr, arith}
+use Rattle.std.proofs.Common.{◌≡◌, ◌≢◌, ◌⊎◌, ℕ, ◌≤◌, ◌==◌, ℤ, Bool, true, false, Option, Some, None, IfSome, List, map, length, refl, ap, sym, ◌∙◌, inl, inr, arith}
 use Rattle.std.specs.Prelude.{find, option_and_then}
 use Rattle.std.specs.List.{filter_map, flat_map}
 use Rattle.std.specs.Option.{option_map, option_to_list}
@@ -18,7 +18,7 @@ use Rattle.fr_reception.specs.declared.heard.Heard.{Heard}
 use Rattle.fr_reception.specs.declared.heard.Heard.TheVariants.{Stored, Ignored}
 use Rattle.fr_cluster.specs.Setting.{Setting, correct_nodes}
 use Rattle.fr_history.specs.History.{History}
-use Rattle.fr_history.specs.Offers.{channels, dev_by, dev_of, devs_among, offer_in, offers_among, offers_to, reception_of, receptions_among, static_slots_of, stored_in, value_of}
+use Rattle.fr_history.specs.Offers.{channels, dev_by, dev_of, devs_between, offer_in, offers_between, offers_to, reception_of, static_slots_of, stored_in, value_of}
 use Rattle.fr_history.specs.Next.{early_row, early_rows, next_devs}
 use Rattle.fr_base.specs.Rows.{dev_with, is_dev_of, dev_in}
 use Rattle.fr_history.proofs.Flat.{Among, among_range, filter_map-flat_map, filter_map-map, filter_map-option, find_found, find_nowhere, flat_map_same}
@@ -63,17 +63,17 @@ row_devs x cycle rows row =
     (λ slot _. filter_map-flat_map dev (λ channel. option_to_list (offer_in x cycle rows row slot channel)) channels
     ∙ flat_map_same (λ channel. filter_map dev (option_to_list (offer_in x cycle rows row slot channel))) (stored_at x cycle rows row slot) channels (λ channel _. channel_devs x cycle rows row slot channel))
 
-pub devs_are_stored : (x : Setting) (cycle : ℕ) (rows : List NodeRow) → devs_among (receptions_among x cycle rows) ≡ stored_among x cycle rows rows
-devs_are_stored x cycle rows =
+pub devs_are_stored : (x : Setting) (cycle : ℕ) (rows receivers : List NodeRow) → devs_between x cycle rows receivers ≡ stored_among x cycle rows receivers
+devs_are_stored x cycle rows receivers =
     let pairs : NodeRow → List (NodeRow × Offer) = λ row. map (λ offer. (row, offer)) (offers_to x cycle rows row) in
-    filter_map-map dev_of (reception_of x cycle) (offers_among x cycle rows)
-    ∙ filter_map-flat_map (λ pair. dev_of (reception_of x cycle pair)) pairs rows
-    ∙ flat_map_same (λ row. filter_map (λ pair. dev_of (reception_of x cycle pair)) (pairs row)) (stored_of x cycle rows) rows
+    filter_map-map dev_of (reception_of x cycle) (offers_between x cycle rows receivers)
+    ∙ filter_map-flat_map (λ pair. dev_of (reception_of x cycle pair)) pairs receivers
+    ∙ flat_map_same (λ row. filter_map (λ pair. dev_of (reception_of x cycle pair)) (pairs row)) (stored_of x cycle rows) receivers
     (λ row _. filter_map-map (λ pair. dev_of (reception_of x cycle pair)) (λ offer. (row, offer)) (offers_to x cycle rows row) ∙ row_devs x cycle rows row)
 
 pub next_devs_are : (x : Setting) (h : History) → next_devs x h ≡ stored_among x (length h) (early_rows x h) (early_rows x h)
 unfolding next_devs
-next_devs_are x h = devs_are_stored x (length h) (early_rows x h)
+next_devs_are x h = devs_are_stored x (length h) (early_rows x h) (early_rows x h)
 
 -- ---- one deviation is found again
 
@@ -167,24 +167,36 @@ wanted_value : (receiver slot : ℕ) (channel : Channel) (o : Option ℤ) → op
 wanted_value receiver slot channel None = refl
 wanted_value receiver slot channel (Some value) = refl
 
--- the deviation of a correct node, a slot and a channel is what its row stores
+-- the deviation of one of the receivers, a slot and a channel is what its row stores
+pub dev_in-between : (x : Setting) (cycle : ℕ) (rows : List NodeRow) (row_at : ℕ → NodeRow) (nodes : List NodeSpec) (node : NodeSpec) (slot : ℕ) (channel : Channel)
+    → ((spec : NodeSpec) → Among spec nodes → (row_at spec.id).node ≡ spec.id) → Among node nodes → 1 ≤ slot → slot ≤ amount x.params name.gNumberOfStaticSlots
+    → dev_in (devs_between x cycle rows (map (λ (spec : NodeSpec). row_at spec.id) nodes)) node.id slot channel ≡ stored_in x cycle rows (row_at node.id) slot channel
+unfolding wanted
+dev_in-between x cycle rows row_at nodes node slot channel own is low high =
+    let row : NodeRow = row_at node.id in
+    let t : Option Dev = wanted x cycle rows row slot channel in
+    let p : Dev → Bool = is_dev_of row.node slot channel in
+    let part : NodeSpec → List Dev = λ spec. stored_of x cycle rows (row_at spec.id) in
+    let devs : List Dev = devs_between x cycle rows (map (λ (spec : NodeSpec). row_at spec.id) nodes) in
+    let parts : devs ≡ flat_map part nodes =
+    devs_are_stored x cycle rows (map (λ (spec : NodeSpec). row_at spec.id) nodes) ∙ flat_map-map (stored_of x cycle rows) (λ (spec : NodeSpec). row_at spec.id) nodes in
+    let found : find p (flat_map part nodes) ≡ t =
+    find_found p part t nodes node is (find_in_row x cycle rows row slot channel low high) (λ spec there. by_id spec there (grind arith)) in
+    ap (λ (id : ℕ). dev_in devs id slot channel) (sym (own node is))
+    ∙ ap (λ (listed : List Dev). option_map (λ (dev : Dev). dev.value) (find p listed)) parts
+    ∙ ap (option_map (λ (dev : Dev). dev.value)) found
+    ∙ wanted_value row.node slot channel (stored_in x cycle rows row slot channel)
+  where
+    by_id : (spec : NodeSpec) → Among spec nodes → (spec.id ≡ node.id) ⊎ (spec.id ≢ node.id) →
+        (find (is_dev_of (row_at node.id).node slot channel) (stored_of x cycle rows (row_at spec.id)) ≡ None)
+        ⊎ (find (is_dev_of (row_at node.id).node slot channel) (stored_of x cycle rows (row_at spec.id)) ≡ wanted x cycle rows (row_at node.id) slot channel)
+    by_id spec there (inl same) = inr (ap (λ (id : ℕ). find (is_dev_of (row_at node.id).node slot channel) (stored_of x cycle rows (row_at id))) same ∙ find_in_row x cycle rows (row_at node.id) slot channel low high)
+    by_id spec there (inr ne) =
+        inl (find_in_other x cycle rows (row_at spec.id) (row_at node.id).node slot channel (λ same. ne (sym (own spec there) ∙ same ∙ own node is)))
+
+-- as of a correct node in the record that follows a history
 pub dev_in-next : (x : Setting) (h : History) (node : NodeSpec) (slot : ℕ) (channel : Channel) → Among node (correct_nodes x) → 1 ≤ slot → slot ≤ amount x.params name.gNumberOfStaticSlots →
     dev_in (next_devs x h) node.id slot channel ≡ stored_in x (length h) (early_rows x h) (early_row x h node.id) slot channel
-unfolding early_row wanted
+unfolding early_row next_devs
 dev_in-next x h node slot channel is low high =
-    let rows : List NodeRow = early_rows x h in
-    let t : Option Dev = wanted x (length h) rows (early_row x h node.id) slot channel in
-    let p : Dev → Bool = is_dev_of node.id slot channel in
-    let part : NodeSpec → List Dev = λ spec. stored_of x (length h) rows (early_row x h spec.id) in
-    let parts : next_devs x h ≡ flat_map part (correct_nodes x) = next_devs_are x h ∙ flat_map-map (stored_of x (length h) rows) (λ (spec : NodeSpec). early_row x h spec.id) (correct_nodes x) in
-    let found : find p (flat_map part (correct_nodes x)) ≡ t =
-    find_found p part t (correct_nodes x) node is (find_in_row x (length h) rows (early_row x h node.id) slot channel low high) (λ spec _. by_id spec (grind arith)) in
-    ap (λ (devs : List Dev). option_map (λ (dev : Dev). dev.value) (find p devs)) parts
-    ∙ ap (option_map (λ (dev : Dev). dev.value)) found
-    ∙ wanted_value node.id slot channel (stored_in x (length h) rows (early_row x h node.id) slot channel)
-  where
-    by_id : (spec : NodeSpec) → (spec.id ≡ node.id) ⊎ (spec.id ≢ node.id) →
-        (find (is_dev_of node.id slot channel) (stored_of x (length h) (early_rows x h) (early_row x h spec.id)) ≡ None)
-        ⊎ (find (is_dev_of node.id slot channel) (stored_of x (length h) (early_rows x h) (early_row x h spec.id)) ≡ wanted x (length h) (early_rows x h) (early_row x h node.id) slot channel)
-    by_id spec (inl same) = inr (ap (λ (id : ℕ). find (is_dev_of node.id slot channel) (stored_of x (length h) (early_rows x h) (early_row x h id))) same ∙ find_in_row x (length h) (early_rows x h) (early_row x h node.id) slot channel low high)
-    by_id spec (inr ne) = inl (find_in_other x (length h) (early_rows x h) (early_row x h spec.id) node.id slot channel ne)
+    dev_in-between x (length h) (early_rows x h) (early_row x h) (correct_nodes x) node slot channel (λ spec there. refl) is low high

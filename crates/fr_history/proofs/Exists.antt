@@ -13,19 +13,18 @@ use Rattle.fr_base.specs.declared.channel.Channel.{Channel}
 use Rattle.fr_base.specs.declared.node_row.NodeRow.{NodeRow}
 use Rattle.fr_cluster.specs.Sane.{IsSane}
 use Rattle.fr_cluster.specs.Values.{Values}
-use Rattle.fr_cluster.specs.declared.nodes.NodeSpec.{NodeSpec}
 use Rattle.fr_time.specs.Senders.{sender_of}
 use Rattle.fr_time.specs.declared.senders.Sending.{Sending}
 use Rattle.fr_reception.specs.Answers.{IsAnswer, answer_of}
 use Rattle.fr_reception.specs.Offers.{Offer, flipped}
 use Rattle.fr_reception.specs.Regular.{is_sync_frame, regular_frame}
-use Rattle.fr_cluster.specs.Setting.{IsSetting, SaysBytes, Setting, correct_nodes}
-use Rattle.fr_history.specs.History.{History, row_of}
-use Rattle.fr_history.specs.Offers.{AreReceptions, IsProper, active_offer, is_on, arrived_of, offer_in, offer_pair, offers_among, offers_to, reception_of, receptions_among, said_in_event, said_offer, sender_offer, sent_offer, channels, static_slots_of}
-use Rattle.fr_history.specs.Terms.{status_in}
-use Rattle.fr_history.specs.Lawful.{AreCounts, IsLawful, Obeys, cut_after, offset_after, rate_after, start_after, uncorrected}
-use Rattle.fr_history.specs.Next.{early_record, early_row, early_rows, ended_row, history_of, next_counts, next_devs, next_receptions, next_record}
+use Rattle.fr_cluster.specs.Setting.{IsSetting, SaysBytes, Setting}
+use Rattle.fr_history.specs.History.{History, Record, row_of}
+use Rattle.fr_history.specs.Offers.{AreReceptions, AreReceptionsBetween, IsProper, active_offer, is_on, arrived_of, offer_in, offer_pair, offers_between, offers_to, reception_of, receptions_between, said_in_event, said_offer, sender_offer, sent_offer, channels, static_slots_of}
+use Rattle.fr_history.specs.Lawful.{AreCounts, IsLawful, Obeys, cut_after, laws_after, offset_after, row_nodes, uncorrected}
+use Rattle.fr_history.specs.Next.{early_record, early_row, early_rows, history_of, next_counts, next_devs, next_receptions, next_record}
 use Rattle.fr_history.proofs.Lists.{All-every, All-flat_map, map-map, map_left}
+use Rattle.fr_history.proofs.RowLaws.{cuts_run_by, rows_run_by, uncorrected_by}
 
 -- an offer of bytes has an answer, the one that the function gives
 abbrev pub AnswersExist : Type 0
@@ -122,69 +121,45 @@ listed-good : (o : Option Offer) → IsGood o → All IsOfBytes (option_to_list 
 listed-good None is = All-nil IsOfBytes
 listed-good (Some offer) is = All-cons IsOfBytes offer [] is (All-nil IsOfBytes)
 
-offers-good : FramesAreBytes → (x : Setting) → IsSetting x → (cycle : ℕ) (rows : List NodeRow) → All (λ pair. IsOfBytes pair.1) (offers_among x cycle rows)
-offers-good frames x setting cycle rows =
+offers-good : FramesAreBytes → (x : Setting) → IsSetting x → (cycle : ℕ) (rows receivers : List NodeRow) → All (λ pair. IsOfBytes pair.1) (offers_between x cycle rows receivers)
+offers-good frames x setting cycle rows receivers =
     All-flat_map (λ (pair : NodeRow × Offer). IsOfBytes pair.1) (λ receiver. map (λ offer. (receiver, offer)) (offers_to x cycle rows receiver))
     (λ receiver. All-map (λ (pair : NodeRow × Offer). IsOfBytes pair.1) (λ offer. (receiver, offer)) (offers_to x cycle rows receiver)
     (All-flat_map IsOfBytes (λ slot. flat_map (λ channel. option_to_list (offer_in x cycle rows receiver slot channel)) channels)
     (λ slot. All-flat_map IsOfBytes (λ channel. option_to_list (offer_in x cycle rows receiver slot channel))
     (λ channel. listed-good (offer_in x cycle rows receiver slot channel) (offer-good frames x setting cycle rows receiver slot channel)) channels)
     (static_slots_of x)))
-    rows
+    receivers
 
 -- ---- the receptions that the function gives are those of the laws
 
-pub receptions_are : AnswersExist → FramesAreBytes → (x : Setting) → IsSetting x → (cycle : ℕ) (rows : List NodeRow) → AreReceptions x cycle rows (receptions_among x cycle rows)
-receptions_are answers frames x setting cycle rows =
-    let pairs : List (NodeRow × Offer) = offers_among x cycle rows in
+pub receptions_are : AnswersExist → FramesAreBytes → (x : Setting) → IsSetting x → (cycle : ℕ) (rows receivers : List NodeRow)
+    → AreReceptionsBetween x cycle rows receivers (receptions_between x cycle rows receivers)
+receptions_are answers frames x setting cycle rows receivers =
+    let pairs : List (NodeRow × Offer) = offers_between x cycle rows receivers in
     record {
       whole = map-map offer_pair (reception_of x cycle) pairs ∙ map_left (λ pair. offer_pair (reception_of x cycle pair)) pairs (All-every (λ pair. offer_pair (reception_of x cycle pair) ≡ pair) (λ pair. refl) pairs);
       answered = All-map (IsProper x cycle) (reception_of x cycle) pairs
           (All-weaker (λ (pair : NodeRow × Offer). IsOfBytes pair.1) (λ pair. IsProper x cycle (reception_of x cycle pair))
-          (λ pair small. answers x.params cycle pair.0 pair.1 small) pairs (offers-good frames x setting cycle rows));
+          (λ pair small. answers x.params cycle pair.0 pair.1 small) pairs (offers-good frames x setting cycle rows receivers));
     }
 
 -- ---- the record that the function gives obeys the laws
 
--- a fact of each row of the record
-each_row : (x : Setting) (h : History) (P : NodeRow → Type 0) → ((node : ℕ) → P (ended_row x h (early_record x h) (early_row x h node))) → All P (next_record x h).rows
-unfolding next_record
-each_row x h P each =
-    All-map P (ended_row x h (early_record x h)) (early_rows x h)
-    (All-map (λ row. P (ended_row x h (early_record x h) row)) (λ (node : NodeSpec). early_row x h node.id) (correct_nodes x)
-    (All-every (λ (node : NodeSpec). P (ended_row x h (early_record x h) (early_row x h node.id))) (λ node. each node.id) (correct_nodes x)))
-
--- each record has a row for each correct node, in order
-pub numbers_are : (x : Setting) (h : History) → map (λ row. row.node) (next_record x h).rows ≡ map (λ node. node.id) (correct_nodes x)
-unfolding next_record early_row
-numbers_are x h =
-    map-map (λ (row : NodeRow). row.node) (ended_row x h (early_record x h)) (early_rows x h)
-    ∙ map-map (λ row. (ended_row x h (early_record x h) row).node) (λ (node : NodeSpec). early_row x h node.id) (correct_nodes x)
-
-uncorrected_are : (x : Setting) (h : History) → map uncorrected (next_record x h).rows ≡ early_rows x h
-unfolding next_record early_row
-uncorrected_are x h =
-    map-map uncorrected (ended_row x h (early_record x h)) (early_rows x h)
-    ∙ map-map (λ row. uncorrected (ended_row x h (early_record x h) row)) (λ (node : NodeSpec). early_row x h node.id) (correct_nodes x)
-
 pub record_obeys : AnswersExist → FramesAreBytes → (x : Setting) → IsSetting x → (h : History) → Obeys x h (next_record x h)
 unfolding next_record next_devs next_counts early_row
 record_obeys answers frames x setting h =
-    let rows : map uncorrected (next_record x h).rows ≡ early_rows x h = uncorrected_are x h in
+    let early : Record = early_record x h in
+    let offset : NodeRow → ℤ = offset_after x.params h early in
+    let cut : NodeRow → ℕ = cut_after x.params h early in
+    let rows : map uncorrected (next_record x h).rows ≡ early_rows x h = uncorrected_by (laws_after x h) offset cut (row_nodes x h) in
     let Heard : List NodeRow → Type 0 = λ rs. AreReceptions x (length h) rs (next_receptions x h) in
     let Counted : List NodeRow → Type 0 = λ rs. AreCounts x (length h) rs (next_receptions x h) (next_counts x h) in
     record {
-      clocks = record {
-        nodes = numbers_are x h;
-        starts = each_row x h (λ row. row.start ≡ start_after x h row.node) (λ node. refl);
-        lengths = each_row x h (λ row. row.length ≡ x.microtick row.node (length h)) (λ node. refl);
-        rates = each_row x h (λ row. row.rate ≡ rate_after x h row.node) (λ node. refl);
-        states = each_row x h (λ row. row.state ≡ (status_in x.params h row.node).state) (λ node. refl);
-        offsets = each_row x h (λ row. row.offset ≡ offset_after x.params h (next_record x h) row) (λ node. refl);
-      };
-      cuts = each_row x h (λ row. row.cut ≡ cut_after x.params h (next_record x h) row) (λ node. refl);
+      clocks = rows_run_by (laws_after x h) offset cut (row_nodes x h) (record { same = λ row o c. refl });
+      cuts = cuts_run_by (laws_after x h) offset cut (row_nodes x h) (record { same = λ row o c. refl });
       receptions = next_receptions x h;
-      received = subst Heard (sym rows) (receptions_are answers frames x setting (length h) (early_rows x h));
+      received = subst Heard (sym rows) (receptions_are answers frames x setting (length h) (early_rows x h) (early_rows x h));
       devs = refl;
       counts = subst Counted (sym rows) (record { sent_a = refl; sent_b = refl; xor_a = refl; xor_b = refl; stored = refl; outside = refl; damaged = refl; wrong_id = refl; wrong_cycle = refl; wrong_length = refl; plain = refl });
     }

@@ -1,4 +1,5 @@
 pub mod Lists
+pub mod RowLaws
 pub mod Found
 pub mod Exists
 pub mod Greatest

@@ -55,11 +55,11 @@ cut_of_record (s ∷ h) n r is = cut_of_record_by s h n r (length h == n) refl (
 
 -- ---- the first of a range that passes a test
 
-record IsFirstOf (test : ℕ → Bool) (from count k : ℕ) : Type 0 where
-  from_below : from ≤ k
-  within : k < from + count
-  passes : test k ≡ true
-  earlier : (j : ℕ) → from ≤ j → j < k → test j ≡ false
+pub record IsFirstOf (test : ℕ → Bool) (from count k : ℕ) : Type 0 where
+  pub from_below : from ≤ k
+  pub within : k < from + count
+  pub passes : test k ≡ true
+  pub earlier : (j : ℕ) → from ≤ j → j < k → test j ≡ false
 
 earlier_in : (test : ℕ → Bool) (from count k : ℕ) → test from ≡ false → IsFirstOf test (from + 1) count k → (j : ℕ) → (j ≡ from) ⊎ (from + 1 ≤ j) → j < k → test j ≡ false
 earlier_in test from count k fails rest j (inl same) high = ap test same ∙ fails
@@ -81,7 +81,7 @@ found_first_by test from count k false fails after is =
       earlier = λ j low high. earlier_in test from count k fails rest j (grind arith) high;
     }
 
-found_first : (test : ℕ → Bool) (from count k : ℕ) → find test (range_with_len from count) ≡ Some k → IsFirstOf test from count k
+pub found_first : (test : ℕ → Bool) (from count k : ℕ) → find test (range_with_len from count) ≡ Some k → IsFirstOf test from count k
 found_first test from zero k is = absurd (cc)
 found_first test from (suc count) k is = found_first_by test from count k (test from) refl (found_first test (from + 1) count k) is
 
@@ -96,7 +96,7 @@ none_passes_by test from count false fails after is j low high (inr above) =
     let moved : find test (range_with_len from (suc count)) ≡ find test (range_with_len (from + 1) count) = rw fails refl in
     after (sym moved ∙ is) j above (omega arith)
 
-none_passes : (test : ℕ → Bool) (from count : ℕ) → find test (range_with_len from count) ≡ None → (j : ℕ) → from ≤ j → j < from + count → test j ≡ false
+pub none_passes : (test : ℕ → Bool) (from count : ℕ) → find test (range_with_len from count) ≡ None → (j : ℕ) → from ≤ j → j < from + count → test j ≡ false
 none_passes test from zero is j low high = absurd (omega arith)
 none_passes test from (suc count) is j low high =
     none_passes_by test from count (test from) refl (none_passes test (from + 1) count) is j low high (grind arith)

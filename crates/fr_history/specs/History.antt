@@ -1,8 +1,9 @@
 -- A history of a cluster: a finished list of records, one a cycle (this project's own; clocks by section 8.2).
-use Rattle.std.specs.Prelude.{◌≡◌, ℕ, ◌==◌, List, [], ◌∷◌, ◌++◌, length, Option, Some, None, find, if◌then◌else◌}
+use Rattle.std.specs.Prelude.{◌≡◌, ℕ, ◌==◌, List, [], ◌∷◌, ◌++◌, length, map, Option, Some, None, find, if◌then◌else◌}
 use Rattle.fr_base.specs.declared.cycle_row.Counts.{Counts}
 use Rattle.fr_base.specs.declared.dev.Dev.{Dev}
 use Rattle.fr_base.specs.declared.node_row.NodeRow.{NodeRow}
+use Rattle.fr_cluster.specs.declared.nodes.NodeSpec.{NodeSpec}
 
 -- The record of a cycle: a row for each correct node, in ascending order of node; the deviations that were stored, in
 -- ascending order of receiver, slot and channel; and what became of the frames.
@@ -28,6 +29,10 @@ pub record IsRecordOf (h : History) (cycle : ℕ) (r : Record) : Type 0 where
 unfoldable pub record_at : History → ℕ → Option Record
 record_at [] cycle = None
 record_at (r ∷ h) cycle = if length h == cycle then Some r else record_at h cycle
+
+-- rows have the numbers of these nodes, one each, in their order
+abbrev pub AreRowsOf : List NodeSpec → List NodeRow → Type 0
+AreRowsOf nodes rows = map (λ row. row.node) rows ≡ map (λ node. node.id) nodes
 
 -- the row of a node, if it has one
 abbrev pub row_of : List NodeRow → ℕ → Option NodeRow

@@ -4,6 +4,7 @@ use Rattle.fr_base.specs.States.{is_halted}
 use Rattle.fr_base.specs.declared.channel.Channel.TheVariants.{A, B}
 use Rattle.fr_base.specs.declared.cycle_row.Counts.{Counts}
 use Rattle.fr_base.specs.declared.node_row.NodeRow.{NodeRow}
+use Rattle.fr_base.specs.declared.state.State.{State}
 use Rattle.fr_cluster.specs.Values.{Values}
 use Rattle.fr_cluster.specs.declared.nodes.NodeSpec.{NodeSpec}
 use Rattle.fr_time.specs.Cycles.{is_odd}
@@ -11,7 +12,7 @@ use Rattle.fr_time.specs.Instant.{next_start_of}
 use Rattle.fr_time.specs.Position.{grid_for}
 use Rattle.fr_reception.specs.Regular.{carried_crc}
 use Rattle.fr_cluster.specs.Setting.{Setting, correct_nodes}
-use Rattle.fr_history.specs.History.{History, Record, clock_of, heard_in}
+use Rattle.fr_history.specs.History.{AreRowsOf, History, Record, clock_of, heard_in}
 use Rattle.fr_history.specs.Offers.{AreReceptions, Reception, devs_among, frames_on}
 use Rattle.fr_history.specs.Kinds.{is_stored, is_outside, is_damaged, is_wrong_id, is_wrong_cycle, is_wrong_length, is_plain}
 use Rattle.fr_history.specs.Terms.{cuts_in, offset_term_in, rate_term_in, status_in}
@@ -82,15 +83,34 @@ pub record AreCounts (x : Setting) (cycle : ℕ) (rows : List NodeRow) (receptio
 abbrev pub row_nodes : Setting → History → List NodeSpec
 row_nodes x h = correct_nodes x
 
--- the clocks of a record obey the laws after the records before it, by the deviations that it has; the number of its
--- cycle is how many they are
-pub record ClocksRun (x : Setting) (h : History) (r : Record) : Type 0 where
-  pub nodes : map (λ row. row.node) r.rows ≡ map (λ node. node.id) (row_nodes x h)
-  pub starts : All (λ row. row.start ≡ start_after x h row.node) r.rows
-  pub lengths : All (λ row. row.length ≡ x.microtick row.node (length h)) r.rows
-  pub rates : All (λ row. row.rate ≡ rate_after x h row.node) r.rows
-  pub states : All (λ row. row.state ≡ (status_in x.params h row.node).state) r.rows
-  pub offsets : All (λ row. row.offset ≡ offset_after x.params h r row) r.rows
+-- what clocks run by in a cycle: the start, the length of a microtick, the rate and the state that a node has
+pub record ClockLaws : Type 0 where
+  pub start : ℕ → ℤ
+  pub microtick : ℕ → ℤ
+  pub rate : ℕ → ℤ
+  pub state : ℕ → State
+
+-- rows are those of some nodes and run by such laws, and each ends with the offset that its law gives
+pub record RowsRun (laws : ClockLaws) (offset : NodeRow → ℤ) (members : List NodeSpec) (rows : List NodeRow) : Type 0 where
+  pub nodes : AreRowsOf members rows
+  pub starts : All (λ row. row.start ≡ laws.start row.node) rows
+  pub lengths : All (λ row. row.length ≡ laws.microtick row.node) rows
+  pub rates : All (λ row. row.rate ≡ laws.rate row.node) rows
+  pub states : All (λ row. row.state ≡ laws.state row.node) rows
+  pub offsets : All (λ row. row.offset ≡ offset row) rows
+
+-- what the nodes that have a row run by in the cycle after a history; the number of that cycle is how many records it has
+abbrev pub laws_after : Setting → History → ClockLaws
+laws_after x h = record {
+  start = start_after x h;
+  microtick = λ node. x.microtick node (length h);
+  rate = rate_after x h;
+  state = λ node. (status_in x.params h node).state;
+}
+
+-- the clocks of a record obey the laws after the records before it, by the deviations that it has
+abbrev pub ClocksRun : Setting → History → Record → Type 0
+ClocksRun x h r = RowsRun (laws_after x h) (offset_after x.params h r) (row_nodes x h) r.rows
 
 -- and so does what they tell of cut terms
 abbrev pub CutsRun : Setting → History → Record → Type 0

@@ -117,21 +117,28 @@ abbrev pub offers_between : Setting → ℕ → List NodeRow → List NodeRow �
 offers_between x cycle rows receivers =
     flat_map (λ receiver. map (λ offer. (receiver, offer)) (offers_to x cycle rows receiver)) receivers
 
--- all offers of a cycle: each node that has a row sends and receives
+-- where each of them sends and receives
 abbrev pub offers_among : Setting → ℕ → List NodeRow → List (NodeRow × Offer)
 offers_among x cycle rows = offers_between x cycle rows rows
 
--- the receptions of a cycle: one for each offer, in that order, each with its answer
-pub record AreReceptions (x : Setting) (cycle : ℕ) (rows : List NodeRow) (receptions : List Reception) : Type 0 where
-  pub whole : map offer_pair receptions ≡ offers_among x cycle rows
+-- the receptions of such receivers: one for each offer, in that order, each with its answer
+pub record AreReceptionsBetween (x : Setting) (cycle : ℕ) (rows receivers : List NodeRow) (receptions : List Reception) : Type 0 where
+  pub whole : map offer_pair receptions ≡ offers_between x cycle rows receivers
   pub answered : All (IsProper x cycle) receptions
+
+-- the receptions of a cycle: each node that has a row sends and receives
+abbrev pub AreReceptions : Setting → ℕ → List NodeRow → List Reception → Type 0
+AreReceptions x cycle rows receptions = AreReceptionsBetween x cycle rows rows receptions
 
 -- the same as a function of the rows
 abbrev pub reception_of : Setting → ℕ → NodeRow × Offer → Reception
 reception_of x cycle pair = record { receiver = pair.0; offer = pair.1; heard = answer_of x.params cycle pair.0 pair.1 }
 
+abbrev pub receptions_between : Setting → ℕ → List NodeRow → List NodeRow → List Reception
+receptions_between x cycle rows receivers = map (reception_of x cycle) (offers_between x cycle rows receivers)
+
 abbrev pub receptions_among : Setting → ℕ → List NodeRow → List Reception
-receptions_among x cycle rows = map (reception_of x cycle) (offers_among x cycle rows)
+receptions_among x cycle rows = receptions_between x cycle rows rows
 
 -- the deviation of a reception that was stored
 abbrev pub dev_by : NodeRow → Offer → Heard → Option Dev
@@ -141,9 +148,13 @@ dev_by receiver offer (Ignored why) = None
 abbrev pub dev_of : Reception → Option Dev
 dev_of reception = dev_by reception.receiver reception.offer reception.heard
 
--- the deviations that are stored in a cycle
+-- the deviations of receptions that were stored
 abbrev pub devs_among : List Reception → List Dev
 devs_among receptions = filter_map dev_of receptions
+
+-- the deviations that receivers with those rows store of senders with these
+abbrev pub devs_between : Setting → ℕ → List NodeRow → List NodeRow → List Dev
+devs_between x cycle rows receivers = devs_among (receptions_between x cycle rows receivers)
 
 -- the deviation that an answer stores
 abbrev pub value_of : Heard → Option ℤ

@@ -1,20 +1,18 @@
 -- The correction terms of a node and its operation control, over the deviations that a history records (section 8.6 and
 -- chapter 2).
-use Rattle.std.specs.Prelude.{ℕ, ◌+◌, ◌==◌, ℤ, Bool, false, ◌&&◌, List, [], ◌∷◌, ◌++◌, length, Option, Some, None, find, option_and_then, if◌then◌else◌}
-use Rattle.std.specs.Option.{option_map, option_map_or}
-use Rattle.fr_base.specs.Rows.{channel_rank}
+use Rattle.std.specs.Prelude.{ℕ, ◌+◌, List, [], ◌∷◌, ◌++◌, length, Option, Some, None, if◌then◌else◌}
 use Rattle.fr_base.specs.States.{cut_of}
-use Rattle.fr_base.specs.declared.channel.Channel.{Channel}
 use Rattle.fr_base.specs.declared.dev.Dev.{Dev}
 use Rattle.fr_base.specs.declared.node_row.NodeRow.{NodeRow}
 use Rattle.fr_base.specs.declared.state.Outcome.{Outcome}
+use Rattle.fr_cluster.specs.Questions.{own_index}
 use Rattle.fr_cluster.specs.Values.{Values}
 use Rattle.fr_time.specs.Cycles.{is_odd}
 use Rattle.fr_correct.specs.Terms.{offset_term_of, rate_term_of}
 use Rattle.fr_correct.specs.declared.term.Term.{Term}
 use Rattle.fr_poc.specs.Control.{Status, control_of}
 use Rattle.fr_poc.specs.Limits.{limits_of}
-use Rattle.fr_measure.specs.Deviations.{offset_values_of, rate_values_of}
+use Rattle.fr_measure.specs.Deviations.{offset_values_by, rate_values_by}
 use Rattle.fr_history.specs.History.{History, clock_of, heard_in}
 
 -- the deviations of the latest cycle of a history: where an odd cycle follows, those of the even cycle of its double
@@ -23,19 +21,32 @@ abbrev pub latest_devs : History → List Dev
 latest_devs [] = []
 latest_devs (r ∷ h) = heard_in r
 
+-- the offset term of a receiver at the end of a double cycle, by the deviations of both cycles and by its own key index
+abbrev pub offset_term_by : Values → List Dev → List Dev → ℕ → Option ℕ → Term
+offset_term_by p evens odds node own = offset_term_of p.offset_limit (offset_values_by p evens odds node own)
+
+-- the rate term there, which the next double cycle has; the row is that of the odd cycle
+abbrev pub rate_term_by : Values → List Dev → List Dev → NodeRow → Option ℕ → Term
+rate_term_by p evens odds row own =
+    rate_term_of row.rate p.damping p.rate_limit (rate_values_by p evens odds row.node own)
+
+-- how many of the two terms of a receiver were cut there
+abbrev pub cuts_by : Values → List Dev → List Dev → NodeRow → Option ℕ → ℕ
+cuts_by p evens odds row own =
+    cut_of (offset_term_by p evens odds row.node own).outcome + cut_of (rate_term_by p evens odds row own).outcome
+
 -- the offset term of a node at the end of an odd cycle, by its deviations and those of the even cycle before it, with
 -- which the history ends
 abbrev pub offset_term_in : Values → History → List Dev → ℕ → Term
-offset_term_in p h odds node = offset_term_of p.offset_limit (offset_values_of p (latest_devs h) odds node)
+offset_term_in p h odds node = offset_term_by p (latest_devs h) odds node (own_index p node)
 
--- the rate term there, which the next double cycle has
+-- the rate term there
 abbrev pub rate_term_in : Values → History → List Dev → NodeRow → Term
-rate_term_in p h odds row =
-    rate_term_of row.rate p.damping p.rate_limit (rate_values_of p (latest_devs h) odds row.node)
+rate_term_in p h odds row = rate_term_by p (latest_devs h) odds row (own_index p row.node)
 
 -- how many of the two terms of a node were cut at the end of an odd cycle
 abbrev pub cuts_in : Values → History → List Dev → NodeRow → ℕ
-cuts_in p h odds row = cut_of (offset_term_in p h odds row.node).outcome + cut_of (rate_term_in p h odds row).outcome
+cuts_in p h odds row = cuts_by p (latest_devs h) odds row (own_index p row.node)
 
 -- how both terms of a node ended, in an odd cycle
 abbrev pub outcomes_by : Values → History → List Dev → Option NodeRow → List (Outcome × Outcome)

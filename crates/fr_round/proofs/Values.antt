@@ -20,7 +20,7 @@ use Rattle.fr_precision.proofs.OffsetLaws.{micro_lasts, own_value_is_deviation}
 use Rattle.fr_precision.proofs.PlacementLaws.{difference_places, half_places, own_value_places}
 use Rattle.fr_precision.proofs.ReceptionLaws.{ends_before}
 use Rattle.fr_cluster.specs.Questions.{key_slot_of}
-use Rattle.fr_round.specs.Round.{Hearer, HearersKeepOne, HearsAll, IsHearer, IsOther, IsRound, IsSender, Round, sender_at, sender_with}
+use Rattle.fr_round.specs.Round.{Hearer, HearersKeepOne, HearsAll, IsHeardAt, IsHearer, IsOther, IsRound, IsSender, Round, sender_at, sender_with}
 use Rattle.fr_round.proofs.Keys.{key_node_has, key_node_is, key_slot_within}
 use Rattle.fr_round.proofs.Senders.{AreValues, IsFrom, hears_values, marked, marked_is, sender_found, sender_is, values_keep_one}
 use Rattle.fr_cluster.proofs.KeyNodes.{key_among}
@@ -114,9 +114,9 @@ sole_sender r index slot other_slot node other sane from also slot_is other_is =
     cc
 
 -- the sender of a receiver's own index has its odd row
-own_odd : (r : Round) (reach : ℤ) (n : Hearer) (index : ℕ) (sender : Sender) → IsRound r → IsHearer r reach n → IsFrom r index sender → is_own n.own index ≡ true
+own_odd : (r : Round) (n : Hearer) (index : ℕ) (sender : Sender) → IsRound r → IsHeardAt r n → IsFrom r index sender → is_own n.own index ≡ true
     → sender.odd ≡ n.odd
-own_odd r reach n index sender is hears from own =
+own_odd r n index sender is hears from own =
     let own_one = hears.itself index (own_is n.own index own) in
     let itself = own_one.1.1 in
     let same : own_one.1.0 ≡ from.node = sole_sender r index from.slot own_one.0 from.node own_one.1.0 is.sane from.from itself.sender from.slot_is itself.slot_is in
@@ -129,9 +129,9 @@ no_sender r index slot node sane from slot_is none =
     cc
 
 -- a deviation where there is no sender is of an arbitrary node
-of_arbitrary : (r : Round) (reach : ℤ) (n : Hearer) (index : ℕ) (is_odd : Bool) (channel : Channel) (value : ℤ) → IsRound r → IsHearer r reach n
+of_arbitrary : (r : Round) (n : Hearer) (index : ℕ) (is_odd : Bool) (channel : Channel) (value : ℤ) → IsRound r → IsHeardAt r n
     → sender_at r index ≡ None → n.look index is_odd channel ≡ Some value → marked r index ≡ true
-of_arbitrary r reach n index is_odd channel value is hears none there =
+of_arbitrary r n index is_odd channel value is hears none there =
     let only = hears.only index is_odd channel value there in
     by_kind only.0 only.1.0 only.1.1 only.1.2 only.1.3
   where
@@ -142,8 +142,8 @@ of_arbitrary r reach n index is_odd channel value is hears none there =
         absurd (no_sender r index slot node is.sane (record { there = has.0; rows = rows; key = has.1 }) slot_is none)
     by_kind slot node slot_is node_is (inr arbitrary) = marked_is r index slot node slot_is node_is arbitrary
 
-own_none : (r : Round) (reach : ℤ) (n : Hearer) (index : ℕ) → IsRound r → IsHearer r reach n → sender_at r index ≡ None → is_own n.own index ≡ true → ⊥
-own_none r reach n index is hears none own =
+own_none : (r : Round) (n : Hearer) (index : ℕ) → IsRound r → IsHeardAt r n → sender_at r index ≡ None → is_own n.own index ≡ true → ⊥
+own_none r n index is hears none own =
     let own_one = hears.itself index (own_is n.own index own) in
     let itself = own_one.1.1 in
     no_sender r index own_one.0 own_one.1.0 is.sane itself.sender itself.slot_is none
@@ -160,34 +160,34 @@ offset_said : (r : Round) (reach : ℤ) (n : Hearer) (index : ℕ) (sender : Sen
     → (v : ℤ) × (offset_at n.look n.own index ≡ Some v) × Offsets r n sender v
 unfolding Offsets
 offset_said r reach n index sender true is hears from own =
-    let odd = own_odd r reach n index sender is hears from own in
+    let odd = own_odd r n index sender is hears.supply from own in
     let lasts = micro_lasts r.params n.odd is.sane hears.regular.odd_micro in
     let At : NodeRow → Type 0 = λ row. IsDeviation r.params true sender.action n.odd row (pos 0) in
     (pos 0, own_value n.own index (least_of (n.look index true A) (n.look index true B)) own, subst At (sym odd) (own_value_is_deviation r.params true sender.action n.odd lasts))
 offset_said r reach n index sender false is hears from own =
     let other = other_of r n index sender from own in
-    let heard = hears.heard index from.slot from.node other in
+    let heard = hears.supply.heard index from.slot from.node other in
     let Says : ℤ → Type 0 = λ v. IsDeviation r.params true sender.action n.odd sender.odd v in
     let Of : Sender → ℤ → Type 0 = λ s v. IsDeviation r.params true s.action n.odd s.odd v in
     let each = λ (channel : Channel) (v : ℤ) (there : n.look index true channel ≡ Some v).
-    (let Here : Sender → Type 0 = λ s. Of s v in subst Here from.is (hears.placed index from.slot from.node true channel v other there)) in
+    (let Here : Sender → Type 0 = λ s. Of s v in subst Here from.is (hears.supply.placed index from.slot from.node true channel v other there)) in
     let least =
     least_has Says (n.look index true A) (n.look index true B) (each A) (each B)
     (of_channels (n.look index true) heard.0 (there_by (n.look index true heard.0) heard.2)) in
     (least.0, other_value n.own index (least_of (n.look index true A) (n.look index true B)) own ∙ least.1, least.2)
 
-offset_other : (r : Round) (reach : ℤ) (n : Hearer) (index : ℕ) (v : ℤ) (own : Bool) → IsRound r → IsHearer r reach n → is_own n.own index ≡ own → sender_at r index ≡ None
+offset_other : (r : Round) (n : Hearer) (index : ℕ) (v : ℤ) (own : Bool) → IsRound r → IsHeardAt r n → is_own n.own index ≡ own → sender_at r index ≡ None
     → offset_at n.look n.own index ≡ Some v → marked r index ≡ true
-offset_other r reach n index v true is hears own none some = absurd (own_none r reach n index is hears none own)
-offset_other r reach n index v false is hears own none some =
+offset_other r n index v true is hears own none some = absurd (own_none r n index is hears none own)
+offset_other r n index v false is hears own none some =
     let least : least_of (n.look index true A) (n.look index true B) ≡ Some v = sym (other_value n.own index (least_of (n.look index true A) (n.look index true B)) own) ∙ some in
     let there = channel_of (n.look index true) (least_from (n.look index true A) (n.look index true B) v least) in
-    of_arbitrary r reach n index true there.0 there.1.0 is hears none there.1.1
+    of_arbitrary r n index true there.0 there.1.0 is hears none there.1.1
 
 offsets_told : (r : Round) (reach : ℤ) (n : Hearer) → IsRound r → IsHearer r reach n → AreValues r (Offsets r n) (offset_at n.look n.own)
 offsets_told r reach n is hears = record {
   said = λ index sender some. offset_said r reach n index sender (is_own n.own index) is hears (sender_is r index sender some) refl;
-  other = λ index v none some. offset_other r reach n index v (is_own n.own index) is hears refl none some;
+  other = λ index v none some. offset_other r n index v (is_own n.own index) is hears.supply refl none some;
 }
 
 -- ---- rate values
@@ -218,20 +218,20 @@ change_placed r reach n index slot node channel v is hears other some =
     (is.regular node other.sender.there other.sender.rows) (no_less (action_point_of r.params slot)) (acts_before r slot node is.sane other.sender)
     (record {
       near = hears.near index slot node other;
-      by_even = hears.placed index slot node false channel early other both.1.1;
-      by_odd = hears.placed index slot node true channel late other both.1.2;
+      by_even = hears.supply.placed index slot node false channel early other both.1.1;
+      by_odd = hears.supply.placed index slot node true channel late other both.1.2;
     })
     )
 
 rate_said : (r : Round) (reach : ℤ) (n : Hearer) (index : ℕ) (sender : Sender) (own : Bool) → IsRound r → IsHearer r reach n → IsFrom r index sender → is_own n.own index ≡ own
     → (v : ℤ) × (rate_at n.look n.own index ≡ Some v) × PlacesLength r.params n.odd sender v
 rate_said r reach n index sender true is hears from own =
-    let odd = own_odd r reach n index sender is hears from own in
+    let odd = own_odd r n index sender is hears.supply from own in
     let At : NodeRow → Type 0 = λ row. PlacesLength r.params row sender (pos 0) in
     (pos 0, own_value n.own index (mean_of (change_at n.look index A) (change_at n.look index B)) own, subst At odd (own_value_places r.params sender))
 rate_said r reach n index sender false is hears from own =
     let other = other_of r n index sender from own in
-    let heard = hears.heard index from.slot from.node other in
+    let heard = hears.supply.heard index from.slot from.node other in
     let Says : ℤ → Type 0 = λ v. PlacesLength r.params n.odd sender v in
     let each = λ (channel : Channel) (v : ℤ) (there : change_at n.look index channel ≡ Some v).
     (
@@ -243,19 +243,19 @@ rate_said r reach n index sender false is hears from own =
     (of_channels (change_at n.look index) heard.0 (change_there (n.look index false heard.0) (n.look index true heard.0) heard.1 heard.2)) in
     (mean.0, other_value n.own index (mean_of (change_at n.look index A) (change_at n.look index B)) own ∙ mean.1, mean.2)
 
-rate_other : (r : Round) (reach : ℤ) (n : Hearer) (index : ℕ) (v : ℤ) (own : Bool) → IsRound r → IsHearer r reach n → is_own n.own index ≡ own → sender_at r index ≡ None
+rate_other : (r : Round) (n : Hearer) (index : ℕ) (v : ℤ) (own : Bool) → IsRound r → IsHeardAt r n → is_own n.own index ≡ own → sender_at r index ≡ None
     → rate_at n.look n.own index ≡ Some v → marked r index ≡ true
-rate_other r reach n index v true is hears own none some = absurd (own_none r reach n index is hears none own)
-rate_other r reach n index v false is hears own none some =
+rate_other r n index v true is hears own none some = absurd (own_none r n index is hears none own)
+rate_other r n index v false is hears own none some =
     let mean : mean_of (change_at n.look index A) (change_at n.look index B) ≡ Some v = sym (other_value n.own index (mean_of (change_at n.look index A) (change_at n.look index B)) own) ∙ some in
     let there = channel_of (change_at n.look index) (mean_from (change_at n.look index A) (change_at n.look index B) v mean) in
     let both = change_from (n.look index false there.0) (n.look index true there.0) there.1.0 there.1.1 in
-    of_arbitrary r reach n index true there.0 both.1.0 is hears none both.1.2
+    of_arbitrary r n index true there.0 both.1.0 is hears none both.1.2
 
 rates_told : (r : Round) (reach : ℤ) (n : Hearer) → IsRound r → IsHearer r reach n → AreValues r (PlacesLength r.params n.odd) (rate_at n.look n.own)
 rates_told r reach n is hears = record {
   said = λ index sender some. rate_said r reach n index sender (is_own n.own index) is hears (sender_is r index sender some) refl;
-  other = λ index v none some. rate_other r reach n index v (is_own n.own index) is hears refl none some;
+  other = λ index v none some. rate_other r n index v (is_own n.own index) is hears.supply refl none some;
 }
 
 -- ---- the laws

@@ -97,15 +97,10 @@ pub record IsItself (r : Round) (n : Hearer) (index slot : ℕ) (node : NodeSpec
   pub even : r.even node.id ≡ n.even
   pub odd : r.odd node.id ≡ n.odd
 
--- the deviations of a receiver: those of each other sender are of both rows, and on some channel are there in both cycles;
--- there are none of nodes that are neither senders nor arbitrary
-pub record IsHearer (r : Round) (reach : ℤ) (n : Hearer) : Type 0 where
-  pub regular : IsRegular r.params n.even n.odd
-  pub suffices : LimitSuffices r.params reach
+-- what whoever supplies deviations owes of a receiver: those of each other sender are of both rows, and on some channel are
+-- there in both cycles; there are none of nodes that are neither senders nor arbitrary
+pub record IsHeardAt (r : Round) (n : Hearer) : Type 0 where
   pub itself : (index : ℕ) → n.own ≡ Some index → (slot : ℕ) × ((node : NodeSpec) × IsItself r n index slot node)
-  pub near :
-      (index slot : ℕ) (node : NodeSpec) → IsOther r n index slot node
-      → IsWithin reach (gap_of r.params false (pos (action_point_of r.params slot)) (r.even node.id) n.even)
   pub placed :
       (index slot : ℕ) (node : NodeSpec) (is_odd : Bool) (channel : Channel) (value : ℤ) → IsOther r n index slot node
       → n.look index is_odd channel ≡ Some value
@@ -118,6 +113,16 @@ pub record IsHearer (r : Round) (reach : ℤ) (n : Hearer) : Type 0 where
       (index : ℕ) (is_odd : Bool) (channel : Channel) (value : ℤ) → n.look index is_odd channel ≡ Some value
       → (slot : ℕ) × ((node : NodeSpec) × (key_slot_of r.params index ≡ Some slot) × (key_node_of r.params slot ≡ Some node)
       × ((r.has_rows node.id ≡ true) ⊎ (r.is_arbitrary node.id ≡ true)))
+
+-- such a receiver, with regular rows, within a reach of each other sender for which the offset limit suffices; its clock
+-- tells this, whatever it was supplied with
+pub record IsHearer (r : Round) (reach : ℤ) (n : Hearer) : Type 0 where
+  pub regular : IsRegular r.params n.even n.odd
+  pub suffices : LimitSuffices r.params reach
+  pub near :
+      (index slot : ℕ) (node : NodeSpec) → IsOther r n index slot node
+      → IsWithin reach (gap_of r.params false (pos (action_point_of r.params slot)) (r.even node.id) n.even)
+  pub supply : IsHeardAt r n
 
 -- a receiver has one value of each sender, and few further ones
 pub record HearsRound (r : Round) (n : Hearer) : Type 0 where

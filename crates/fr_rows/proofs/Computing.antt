@@ -23,7 +23,7 @@ use Rattle.fr_coverage.specs.Coverage.{first_gap}
 use Rattle.fr_coverage.specs.First.{first_below, first_in}
 use Rattle.fr_report.specs.Clocks.{last_offset_of}
 use Rattle.fr_report.specs.Sums.{cuts_of, totals_of}
-use Rattle.fr_report.specs.Text.{report_of, text_of, told_lines}
+use Rattle.fr_report.specs.Text.{report_of, told_text, told_lines}
 use Rattle.fr_report.specs.Told.{told_of}
 
 -- the bytes of frames, and what is made of them
@@ -48,7 +48,7 @@ on_sums = tt
 
 -- the report of a history
 unfoldable pub on_reports : ⊤
-unfolding on_histories on_sums outcomes_in values_of midpoint_by_ranks last_offset_of digits hexadecimal report_of text_of told_lines told_of
+unfolding on_histories on_sums outcomes_in values_of midpoint_by_ranks last_offset_of digits hexadecimal report_of told_text told_lines told_of
 on_reports = tt
 
 -- the first gap of a run

@@ -36,6 +36,7 @@ pub record Answer (d : DriftView) (s : ScriptView) (x : Setting) : Type 0 where
   pub lengths : (node cycle : ℕ) → length_of d node cycle ≡ x.microtick node cycle
   pub delays : (sender receiver : ℕ) (channel : Channel) (cycle : ℕ) → delay_of d sender receiver channel cycle ≡ x.delay sender receiver channel cycle
   pub nodes : (node : ℕ) → is_arbitrary s node ≡ x.is_arbitrary node
+  pub joins : (node : ℕ) → x.join node ≡ None
   pub events : (cycle sender receiver : ℕ) (channel : Channel) → event_of s cycle sender receiver channel ≡ x.event cycle sender receiver channel
 
 -- files that answer so decide the run
@@ -49,6 +50,7 @@ decided d s x told i = record {
   delay = λ sender receiver channel cycle. told.delays sender receiver channel cycle i;
   is_arbitrary = λ node. told.nodes node i;
   event = λ cycle sender receiver channel. told.events cycle sender receiver channel i;
+  join = λ node. sym (told.joins node) i;
 }
 
 -- ---- keys

@@ -202,6 +202,7 @@ lost_files_are = decided offset_drift lost_script lost_run (record {
   delays = offset_delays;
   nodes = hit_nodes deed.Lose;
   events = hit_events deed.Lose Silent refl;
+  joins = λ node. refl;
 })
 
 pub flipped_files_are : setting_of flipped_run.params offset_drift flipped_script ≡ flipped_run
@@ -213,6 +214,7 @@ flipped_files_are = decided offset_drift flipped_script flipped_run (record {
   delays = offset_delays;
   nodes = hit_nodes (deed.Flip 0);
   events = hit_events (deed.Flip 0) (Flip 0) refl;
+  joins = λ node. refl;
 })
 
 pub lost_on_one_files_are : setting_of lost_on_one_run.params offset_drift lost_script ≡ lost_on_one_run
@@ -224,4 +226,5 @@ lost_on_one_files_are = decided offset_drift lost_script lost_on_one_run (record
   delays = offset_delays;
   nodes = hit_nodes deed.Lose;
   events = hit_events deed.Lose Silent refl;
+  joins = λ node. refl;
 })

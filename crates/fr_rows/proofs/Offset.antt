@@ -111,4 +111,5 @@ offset_files_are = decided offset_drift plain_script offset_run (record {
   delays = offset_delays;
   nodes = plain_nodes;
   events = plain_events;
+  joins = λ node. refl;
 })

@@ -127,4 +127,5 @@ one_arbitrary_files_are = decided (steady_drift 1) one_arbitrary_script one_arbi
   delays = steady_delays 1;
   nodes = one_arbitrary_nodes;
   events = one_arbitrary_events;
+  joins = λ node. refl;
 })

@@ -85,4 +85,5 @@ quiet_files_are = decided (steady_drift 1) quiet_script quiet_run (record {
   delays = steady_delays 1;
   nodes = quiet_nodes;
   events = quiet_events;
+  joins = λ node. refl;
 })

@@ -119,4 +119,5 @@ rates_files_are = decided rates_drift plain_script rates_run (record {
   delays = rates_delays;
   nodes = plain_nodes;
   events = plain_events;
+  joins = λ node. refl;
 })

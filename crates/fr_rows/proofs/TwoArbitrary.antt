@@ -220,4 +220,5 @@ two_arbitrary_files_are = decided (steady_drift 1) two_arbitrary_script two_arbi
   delays = steady_delays 1;
   nodes = two_arbitrary_nodes;
   events = two_arbitrary_events;
+  joins = λ node. refl;
 })

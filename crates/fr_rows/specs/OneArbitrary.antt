@@ -29,6 +29,7 @@ one_arbitrary_run = record {
   delay = λ _ _ _ _. pos 0;
   is_arbitrary = λ node. node == 4;
   event = λ cycle sender receiver channel. if sender == 4 then said_first (said_to receiver) cycle channel else Regular;
+  join = λ _. None;
 }
 
 -- its script; its drift file has no rows

@@ -1,5 +1,5 @@
 -- A run of three nodes, one of which is arbitrary and says nothing.
-use Rattle.std.specs.Prelude.{ℕ, ◌==◌, pos, true, false, List, [], ◌∷◌, ◌++◌, replicate, if◌then◌else◌, codes, Some}
+use Rattle.std.specs.Prelude.{ℕ, ◌==◌, pos, true, false, List, [], ◌∷◌, ◌++◌, replicate, if◌then◌else◌, codes, Some, None}
 use Rattle.fr_base.specs.Event.Event.{Regular, Silent}
 use Rattle.fr_script.specs.View.{ScriptView}
 use Rattle.fr_cluster.specs.Setting.{Setting}
@@ -21,6 +21,7 @@ quiet_run = record {
   delay = λ _ _ _ _. pos 0;
   is_arbitrary = λ node. node == 3;
   event = λ _ sender _ _. if sender == 3 then Silent else Regular;
+  join = λ _. None;
 }
 
 -- its script: node 3 is arbitrary, and no row says anything; its drift file has no rows

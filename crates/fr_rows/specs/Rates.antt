@@ -23,6 +23,7 @@ rates_run = record {
   delay = λ _ _ _ _. pos 0;
   is_arbitrary = λ _. false;
   event = λ _ _ _ _. Regular;
+  join = λ _. None;
 }
 
 -- its drift file; its script has no rows

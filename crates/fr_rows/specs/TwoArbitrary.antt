@@ -37,6 +37,7 @@ two_arbitrary_run = record {
       if sender == 7 then said_first (said_late_to receiver) cycle channel
       else if sender == 8 then said_first (said_early_to receiver) cycle channel
       else Regular;
+  join = λ _. None;
 }
 
 -- its script; its drift file has no rows

@@ -30,7 +30,8 @@ synced_run x h even odd double covered lawful synced = record {
 
 pub synced_runs_hear : (x : Setting) (h : History) (even odd : Record) (double : ℕ) → IsCovered x → IsLawful x (odd ∷ even ∷ h) → IsSyncedDouble x h even odd double → AllHear x even odd
 synced_runs_hear x h even odd double covered lawful synced =
-    runs_hear x h even odd double (pos (pi_of x.params)) (pos (lambda_of x.params)) (pos (precision_of x.params)) (synced_run x h even odd double covered lawful synced)
+    let hear = runs_hear x h even odd double (pos (pi_of x.params)) (pos (lambda_of x.params)) (pos (precision_of x.params)) (synced_run x h even odd double covered lawful synced) in
+    λ node among. (hear node among).supply
 
 pub precision_is_kept : PrecisionIsKept
 precision_is_kept x h double covered lawful whole in_sync =

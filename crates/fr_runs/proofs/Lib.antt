@@ -1,4 +1,6 @@
 pub mod Nodes
+pub mod Known
+pub mod Links
 pub mod Reception
 pub mod Running
 pub mod Keeping

@@ -1,5 +1,5 @@
 -- Nodes of a cluster found again: by number, by key slot, and among the correct ones.
-use Rattle.std.proofs.Common.{◌≡◌, ℕ, ◌<◌, ◌≤◌, ◌==◌, true, false, Some, IsSome, List, [], ◌∷◌, refl, ap, sym, ◌∙◌, inl, inr, arith}
+use Rattle.std.proofs.Common.{◌≡◌, ℕ, ◌<◌, ◌≤◌, ◌==◌, true, false, Some, IsSome, List, [], ◌∷◌, refl, ap, sym, ◌∙◌, subst, inl, inr, arith}
 use Rattle.std.specs.Prelude.{AllPairs, Contains, find}
 use Rattle.std.proofs.lemmas.Bool.{not-true}
 use Rattle.fr_cluster.specs.Values.{Values, amount}
@@ -9,7 +9,7 @@ use Rattle.fr_cluster.specs.Sane.{IsSane}
 use Rattle.fr_cluster.specs.declared.names.ParamName.TheVariants as name
 use Rattle.fr_cluster.specs.declared.nodes.NodeSpec.{NodeSpec}
 use Rattle.fr_round.proofs.Keys.{key_index_is, key_slot_within}
-use Rattle.fr_round.proofs.Lists.{Contains-none, filtered}
+use Rattle.fr_round.proofs.Lists.{Contains-here, Contains-none, Contains-there, filtered}
 use Rattle.fr_cluster.specs.Setting.{Setting, correct_nodes, is_correct}
 use Rattle.fr_history.proofs.Flat.{Among}
 use Rattle.fr_cluster.proofs.KeyNodes.{key_among, AllPairs-first, AllPairs-rest, Contains-cons_cases}
@@ -21,6 +21,12 @@ among_from (y ∷ ys) x is = elim (Contains-cons_cases y ys x is) [
   | inl same ↦ inl (sym same)
   | inr rest ↦ inr (among_from ys x rest)
 ]
+
+pub among_to : {X : Type 0} (xs : List X) (x : X) → Among x xs → Contains xs x
+unfolding Among
+among_to [] x is = absurd is
+among_to {X = X} (y ∷ ys) x (inl same) = let Has : X → Type 0 = λ z. Contains (y ∷ ys) z in subst Has (sym same) (Contains-here y ys)
+among_to (y ∷ ys) x (inr rest) = Contains-there y ys x (among_to ys x rest)
 
 -- a correct node is one of the cluster
 pub record IsCorrectNode (x : Setting) (node : NodeSpec) : Type 0 where

@@ -2,6 +2,7 @@
 use Rattle.std.proofs.Common.{◌≡◌, ℕ, suc, ◌*◌, ◌<◌, ℤ, pos, Bool, true, false, ◌∷◌, All, length, ap, sym, ◌∙◌, subst, arith}
 use Rattle.std.specs.Prelude.{Contains}
 use Rattle.fr_base.specs.Event.Event.{Regular}
+use Rattle.fr_base.specs.States.{is_halted}
 use Rattle.fr_base.specs.declared.state.State.TheVariants.{Active}
 use Rattle.fr_cluster.specs.Values.{Values}
 use Rattle.fr_cluster.specs.Sane.{IsSane}
@@ -21,10 +22,11 @@ use Rattle.fr_clocks.specs.Clocks.{IsDrawnDouble, member_of, round_of, row_for}
 use Rattle.fr_clocks.specs.Heard.{IsLinked, record_in}
 use Rattle.fr_clocks.proofs.Doubles.{double_of, even_length, proper_micro}
 use Rattle.fr_clocks.proofs.Hearing.{heard_suffices_within}
-use Rattle.fr_clocks.proofs.Rows.{each_row}
-use Rattle.fr_clocks.proofs.Stepping.{is_member, no_less, node_runs, nodes_of, nodes_spread}
+use Rattle.fr_clocks.proofs.Rows.{correct_ascend, each_row}
+use Rattle.fr_clocks.proofs.Receivers.{is_member, no_less, node_runs, nodes_of, nodes_spread}
 use Rattle.fr_runs.specs.Covered.{IsCarried, IsRunDouble, LinksAreHeard, RunsHear, SyncFramesAreStored, cycle_in}
-use Rattle.fr_runs.proofs.Reception.{IsNearCycle, regular_is_stored, stored_is_deviation}
+use Rattle.fr_runs.specs.Exchange.{Exchange, IsExchanged, IsNearExchange}
+use Rattle.fr_runs.proofs.Reception.{recorded_is_placed, regular_is_recorded}
 
 -- ---- the two cycles
 
@@ -93,38 +95,75 @@ actions_lie x h even odd double starts lengths reach is_odd sender receiver slot
     near d.fits (no_less (action_point_of p slot)) (acts_before (round_of x even odd) slot sender sane (record { there = has.0; rows = has.1; key = link.key })))
     is_odd
 
-near_cycle : (x : Setting) (h : History) (even odd : Record) (double : ℕ) (starts lengths reach : ℤ) (is_odd : Bool) → IsRunDouble x h even odd double starts lengths reach
-    → IsNearCycle x (before_in is_odd h even) (record_in is_odd even odd) is_odd reach
-near_cycle x h even odd double starts lengths reach is_odd w =
+-- in a run all correct nodes send, and all receive
+exchange_in : (x : Setting) (h : History) (even odd : Record) (is_odd : Bool) → Exchange
+exchange_in x h even odd is_odd = record {
+  cycle = length (before_in is_odd h even);
+  senders = correct_nodes x;
+  sender_rows = (record_in is_odd even odd).rows;
+  receivers = correct_nodes x;
+  receiver_rows = (record_in is_odd even odd).rows;
+  devs = (record_in is_odd even odd).devs;
+}
+
+linked_by : (x : Setting) (h : History) (even odd : Record) (is_odd : Bool) (sender receiver : NodeSpec) (slot : ℕ) → IsExchanged (exchange_in x h even odd is_odd) sender receiver slot
+    → IsLinked x sender receiver slot
+unfolding exchange_in
+linked_by x h even odd is_odd sender receiver slot link = record { sends = link.sends; hears = link.hears; key = link.key; other = link.other }
+
+exchanged_by : (x : Setting) (h : History) (even odd : Record) (is_odd : Bool) (sender receiver : NodeSpec) (slot : ℕ) → IsLinked x sender receiver slot
+    → IsExchanged (exchange_in x h even odd is_odd) sender receiver slot
+unfolding exchange_in
+exchanged_by x h even odd is_odd sender receiver slot link = record { sends = link.sends; hears = link.hears; key = link.key; other = link.other }
+
+near_exchange : (x : Setting) (h : History) (even odd : Record) (double : ℕ) (starts lengths reach : ℤ) (is_odd : Bool) → IsRunDouble x h even odd double starts lengths reach
+    → IsNearExchange x (exchange_in x h even odd is_odd) is_odd reach
+unfolding exchange_in
+near_exchange x h even odd double starts lengths reach is_odd w =
     let g : History = before_in is_odd h even in
     let r : Record = record_in is_odd even odd in
     let c : IsCycleIn x h even odd double is_odd = cycle_is x h even odd double starts lengths reach is_odd w in
+    let active = λ (node : NodeSpec) (is : Contains (correct_nodes x) node). each_row (correct_nodes x) r.rows (λ row. row.state ≡ Active) node c.runs.nodes is c.active in
     record {
       sane = w.covered.clocks.sane;
-      obeys = c.obeys;
       room = w.room;
-      active = λ node is. each_row (correct_nodes x) r.rows (λ row. row.state ≡ Active) node c.runs.nodes is c.active;
+      is = record {
+        correct_senders = λ node is. is;
+        correct_receivers = λ node is. is;
+        sender_nodes = c.runs.nodes;
+        receiver_nodes = c.runs.nodes;
+        receivers_ascend = correct_ascend x w.covered.clocks.sane;
+        receptions = c.obeys.receptions;
+        received = c.obeys.received;
+        devs = c.obeys.devs;
+      };
+      active = active;
+      hearing = λ node is. ap is_halted (active node is);
       rate = λ node is. rate_in x h even odd double starts lengths reach is_odd node w.drawn is;
       micro = λ node is. proper_micro x g r node w.covered.clocks c.runs is c.within;
-      near = λ sender receiver slot link. actions_lie x h even odd double starts lengths reach is_odd sender receiver slot w.drawn link;
-      delays = λ sender receiver slot channel link share. w.covered.delays sender receiver slot channel (length g) link share c.within;
+      near = λ sender receiver slot link. actions_lie x h even odd double starts lengths reach is_odd sender receiver slot w.drawn (linked_by x h even odd is_odd sender receiver slot link);
+      delays = λ sender receiver slot channel link share. w.covered.delays sender receiver slot channel (length g) (linked_by x h even odd is_odd sender receiver slot link) share c.within;
     }
 
 -- ---- what is heard
 
 pub sync_frames_are_stored : SyncFramesAreStored
+unfolding exchange_in
 sync_frames_are_stored x h even odd double starts lengths reach w is_odd sender receiver slot channel link share regular =
     let counted = (cycle_is x h even odd double starts lengths reach is_odd w).counted in
     let event : x.event (length (before_in is_odd h even)) sender.id receiver.id channel ≡ Regular =
     ap (λ (n : ℕ). x.event n sender.id receiver.id channel) counted ∙ regular in
-    regular_is_stored x (before_in is_odd h even) (record_in is_odd even odd) is_odd reach sender receiver slot channel (near_cycle x h even odd double starts lengths reach is_odd w) link share event
+    regular_is_recorded x (exchange_in x h even odd is_odd) is_odd reach sender receiver slot channel (near_exchange x h even odd double starts lengths reach is_odd w)
+    (exchanged_by x h even odd is_odd sender receiver slot link) share event
 
 pub links_are_heard : LinksAreHeard
+unfolding exchange_in
 links_are_heard x h even odd double starts lengths reach sender receiver slot w link =
     let carried : IsCarried x sender receiver double = w.covered.links sender receiver slot double link w.drawn.within in
     record {
       placed = λ is_odd channel value is.
-          stored_is_deviation x (before_in is_odd h even) (record_in is_odd even odd) is_odd reach sender receiver slot channel value (near_cycle x h even odd double starts lengths reach is_odd w) link is;
+          recorded_is_placed x (exchange_in x h even odd is_odd) is_odd reach sender receiver slot channel value (near_exchange x h even odd double starts lengths reach is_odd w)
+          (exchanged_by x h even odd is_odd sender receiver slot link) is;
       channel = carried.channel;
       early = sync_frames_are_stored x h even odd double starts lengths reach w false sender receiver slot carried.channel link carried.share carried.even;
       late = sync_frames_are_stored x h even odd double starts lengths reach w true sender receiver slot carried.channel link carried.share carried.odd;

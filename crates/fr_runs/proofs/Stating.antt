@@ -13,7 +13,6 @@ use Rattle.fr_correct.specs.Terms.{rate_term_of}
 use Rattle.fr_correct.specs.declared.term.Term.{Term}
 use Rattle.fr_history.specs.History.{History, Record}
 use Rattle.fr_history.specs.Lawful.{Obeys, ClocksRun}
-use Rattle.fr_history.specs.Next.{early_row}
 use Rattle.fr_cluster.specs.Setting.{Setting, correct_nodes}
 use Rattle.fr_history.specs.Terms.{rate_term_in}
 use Rattle.fr_measure.specs.Deviations.{rate_values_of}
@@ -24,7 +23,6 @@ use Rattle.fr_clocks.proofs.Rows.{contains_map, each_row, has_row}
 use Rattle.fr_clocks.proofs.Stepping.{clocks_keep_sync}
 use Rattle.fr_runs.specs.Stated.{EndsInSync, GoesOn, HasNearLength, OffsetsAreKept, RatesAreKept, SyncOfRunsIsKept, node_length, node_start, starts_after}
 use Rattle.fr_runs.proofs.Keeping.{synced_run, synced_runs_hear}
-use Rattle.fr_runs.proofs.Reception.{row_is}
 use Rattle.fr_runs.proofs.Running.{sync_frames_are_stored}
 
 -- ---- the double cycle
@@ -55,8 +53,7 @@ next_synced x h even odd next_even next_odd double w next =
 -- ---- terms
 
 row_node : (x : Setting) (h : History) (r : Record) (node : NodeSpec) → Obeys x h r → Contains (correct_nodes x) node → (row_for r.rows node.id).node ≡ node.id
-unfolding early_row
-row_node x h r node obeys is = ap (λ (row : NodeRow). row.node) (row_is x h r node obeys is)
+row_node x h r node obeys is = (has_row (correct_nodes x) r.rows node obeys.clocks.nodes is).number
 
 rate_term_is : (x : Setting) (h : History) (even odd : Record) (node : NodeSpec) → Obeys x (even ∷ h) odd → Contains (correct_nodes x) node
     → rate_term_in x.params (even ∷ h) odd.devs (row_for odd.rows node.id) ≡ (member_of x even odd node.id).rate_term

@@ -6,5 +6,8 @@
 mod laws;
 mod stated;
 
-pub use laws::{precision_is_kept, sync_frames_are_stored};
+pub use laws::{
+    exchanged_frames_are_recorded, linked_frames_are_stored, precision_is_kept,
+    sync_frames_are_stored,
+};
 pub use stated::{offsets_are_kept, rates_are_kept, sync_of_runs_is_kept};

@@ -4,7 +4,7 @@ use Rattle.std.specs.Prelude.{◌+ℤ◌, ◌-ℤ◌, ◌*ℤ◌, ◌≤ℤ◌, 
 use Rattle.std.proofs.Math.Nat.{le-max_left}
 use Rattle.std.proofs.lemmas.Bool.Decides.{nat_tests}
 use Rattle.std.proofs.lemmas.Int.{ints}
-use Rattle.fr_base.specs.Within.{IsWithin, LieWithin}
+use Rattle.fr_base.specs.Within.{LieWithin}
 use Rattle.fr_base.specs.declared.node_row.NodeRow.{NodeRow}
 use Rattle.fr_cluster.specs.Values.{Values, amount}
 use Rattle.fr_cluster.specs.Sane.{IsSane}
@@ -62,10 +62,6 @@ shrinks p s = record {
 
   lengths : (l lambda n : ℕ) → l + lambda ≤ 2 * n + 1 → (pos l +ℤ pos lambda) ≤ℤ ((pos 2 *ℤ pos n) +ℤ pos 1)
   lengths l lambda n le = omega (arith, ints, le)
-
--- a number whose double lies within what is halved lies within the half
-pub half_within : (z n d : ℤ) → IsWithin z (pos 2 *ℤ d) → z ≤ℤ ((pos 2 *ℤ n) +ℤ pos 1) → IsWithin n d
-half_within z n d within le = record { low = omega (arith, ints, within.low, le); high = omega (arith, ints, within.high, le) }
 
 -- ---- the peak takes in what the step asks for
 

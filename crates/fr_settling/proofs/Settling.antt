@@ -1,6 +1,6 @@
 -- A covered run that begins apart: each double cycle on the way lies as near as is computed.
 use Rattle.std.proofs.Common.{◌≡◌, ◌⊎◌, ℕ, zero, suc, ◌+◌, ◌*◌, ◌/◌, ◌<◌, ◌≤◌, true, false, Bool, ℤ, pos, Option, Some, None, [], ◌∷◌, ◌++◌, All, length, refl, ap, sym, ◌∙◌, subst, inl, inr, arith}
-use Rattle.std.specs.Prelude.{◌≤ℤ◌, ◌+ℤ◌, ◌-ℤ◌, ◌*ℤ◌, Contains}
+use Rattle.std.specs.Prelude.{◌≤ℤ◌, Contains}
 use Rattle.std.specs.Option.{option_map_or}
 use Rattle.std.proofs.lemmas.Bool.{cases_lt}
 use Rattle.std.proofs.lemmas.List.{append_assoc}
@@ -12,13 +12,13 @@ use Rattle.fr_cluster.specs.Setting.{Setting, correct_nodes}
 use Rattle.fr_cluster.specs.declared.names.ParamName.TheVariants as name
 use Rattle.fr_cluster.specs.declared.nodes.NodeSpec.{NodeSpec}
 use Rattle.fr_time.specs.Position.{grid_for}
-use Rattle.fr_bound.specs.Bounds.{arrival_error, longest_micro, pi_of}
+use Rattle.fr_bound.specs.Bounds.{longest_micro, pi_of}
 use Rattle.fr_bound.specs.Settling.{next_spread, spread_after}
 use Rattle.fr_bound.specs.declared.settling.Spread.{Spread}
 use Rattle.fr_precision.specs.Instants.{gap_of, row_in}
-use Rattle.fr_precision.specs.Rows.{corrected_end_of}
 use Rattle.fr_precision.specs.Step.{AreSpread, Member}
 use Rattle.fr_precision.proofs.InstantLaws.{macroticks_lie_within}
+use Rattle.fr_precision.proofs.ReceiverLaws.{comes_near}
 use Rattle.fr_precision.proofs.StepLaws.{nodes_near, spread_is_sync}
 use Rattle.fr_skew.specs.Spreads.{spread_at}
 use Rattle.fr_history.specs.History.{History, Record, record_at}
@@ -32,14 +32,15 @@ use Rattle.fr_clocks.proofs.Doubles.{even_length, odd_length}
 use Rattle.fr_clocks.proofs.Histories.{Part, part_at, rates_lie}
 use Rattle.fr_clocks.proofs.Rows.{all_rows, correct_ascend}
 use Rattle.fr_clocks.proofs.Spread.{RowsLie, macrotick_within, spread_within}
-use Rattle.fr_clocks.proofs.Stepping.{clocks_draw_near, draw_near, is_member, no_less, node_runs, nodes_of, nodes_spread}
+use Rattle.fr_clocks.proofs.Receivers.{is_member, no_less, node_runs, nodes_of, nodes_spread}
+use Rattle.fr_clocks.proofs.Stepping.{clocks_draw_near, draw_near}
 use Rattle.fr_coverage.specs.Decided.{setting_of}
 use Rattle.fr_promise.proofs.Covering.{covered_files_are_covered}
 use Rattle.fr_runs.specs.Covered.{IsCovered, IsRunDouble}
 use Rattle.fr_runs.proofs.Keeping.{lawful_part}
 use Rattle.fr_runs.proofs.Running.{runs_hear}
 use Rattle.fr_settling.specs.Way.{BeginsWithin, FilesSettle, IsSyncedBy, RunsSettle, SettlesBy}
-use Rattle.fr_settling.proofs.Numbers.{end_within, first_wide, fits, fits_twice, half_within, leaves_room, limit_suffices, shrinks, spread_wider}
+use Rattle.fr_settling.proofs.Numbers.{end_within, first_wide, fits, fits_twice, leaves_room, limit_suffices, shrinks, spread_wider}
 
 -- the records of a part of a history
 even_record : (h : History) (k : ℕ) (part : Part h k) → record_at h (2 * k) ≡ Some part.even
@@ -147,7 +148,7 @@ next_drawn x h start rate double peak k later earlier even odd next_even next_od
     let run = (lawful_clocks_run x (next_odd ∷ next_even ∷ odd ∷ even ∷ earlier) lawful).0 in
     let less = w.within in
     let next =
-    (clocks_draw_near x earlier even odd k (pos s.starts) (pos s.lengths) (pos peak) drawn hear).next (pos (next_spread p s).starts) (pos (next_spread p s).lengths) next_even next_odd
+    (clocks_draw_near x earlier even odd k (pos s.starts) (pos s.lengths) (pos peak) drawn (λ node among. (hear node among).supply)).next (pos (next_spread p s).starts) (pos (next_spread p s).lengths) next_even next_odd
     (shrinks p s) (omega (arith, le, less)) run.1.0 run.0 in
     let Near : Spread → Type 0 = λ t. AreSpread p (pos t.starts) (pos t.lengths) next_even.rows next_odd.rows in
     drawn_by x h start rate double peak (suc k) later (odd ∷ even ∷ earlier) next_even next_odd w parted (omega (arith, counted)) le next.0 next.1
@@ -184,11 +185,9 @@ two_lie x h start rate double peak k later earlier even odd is_odd macrotick one
     nodes_near p starts lengths (nodes_of x even odd) (at one) (at other) (nodes_spread x earlier even odd starts lengths sane drawn.even_runs drawn.odd_runs drawn.spread)
     (is_member x even odd one here) (is_member x even odd other there) in
     let draw = draw_near x earlier even odd k starts lengths reach one other drawn hear here there in
-    let ends : IsWithin (pos (next_spread p s).starts) (corrected_end_of p (at one).odd -ℤ corrected_end_of p (at other).odd) =
-    half_within (starts +ℤ (pos 6 *ℤ lengths) +ℤ pos (4 * arrival_error p + 8 * longest_micro p)) (pos (next_spread p s).starts) (corrected_end_of p (at one).odd -ℤ corrected_end_of p (at other).odd)
-    draw.ends (shrinks p s).starts_to in
+    let come = comes_near p starts lengths (pos (next_spread p s).starts) (pos (next_spread p s).lengths) (at one) (at other) (shrinks p s) draw in
     macroticks_lie_within p starts lengths (pos (next_spread p s).starts) reach (pos macrotick) is_odd (at one).even (at one).odd (at other).even (at other).odd sane (runs one here) (runs other there)
-    near ends (fits_twice s.starts s.lengths (longest_micro p) peak (w.by.peak_is.greatest k le)) (end_within p start rate double peak k w.by.settles w.by.peak_is le)
+    near come.starts (fits_twice s.starts s.lengths (longest_micro p) peak (w.by.peak_is.greatest k le)) (end_within p start rate double peak k w.by.settles w.by.peak_is le)
     (no_less macrotick) (macrotick_within p macrotick sane less)
 
 -- both cycles of a double cycle
