@@ -1,0 +1,9 @@
+pub mod Computing
+pub mod Catching
+pub mod Joined
+pub mod Unjoined
+pub mod Alone
+pub mod Exists
+pub mod Found
+pub mod UnfollowedSync
+pub mod Standing

@@ -1,0 +1,5 @@
+pub mod Joining
+pub mod Together
+pub mod Stated
+pub mod AloneStated
+pub mod AloneKept

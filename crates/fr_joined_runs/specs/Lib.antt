@@ -1,0 +1,4 @@
+-- what the public contract cites
+pub mod Runs
+pub mod Stated
+pub mod Alone
