@@ -1,12 +1,11 @@
 -- What is offered in a slot on a channel, by who sends there.
-use Rattle.std.proofs.Common.{◌≡◌, ℕ, Bool, true, false, not, cond, ◌&&◌, ◌||◌, ◌==◌, List, [], ◌∷◌, Option, Some, None, map, refl, ap, sym, subst, ◌∙◌, ap₂, zero, suc, ◌+◌, ◌*◌, ◌≤◌, length, ℤ, arith, add-one}
+use Rattle.std.proofs.Common.{◌≡◌, ℕ, Bool, true, false, not, cond, ◌&&◌, ◌||◌, ◌==◌, List, [], ◌∷◌, Option, Some, None, map, refl, ap, sym, ◌∙◌, ap₂, ◌+◌, ◌≤◌, length, ℤ, arith}
 use Rattle.std.specs.Prelude.{All, if◌then◌else◌, option_and_then}
 use Rattle.std.specs.Option.{option_map}
 use Rattle.std.proofs.lemmas.Bool.{eqb-true, cond_both}
 use Rattle.std.proofs.lemmas.List.Elements.{All-head, All-tail}
 use Rattle.fr_base.specs.States.{is_active, is_halted}
 use Rattle.fr_base.specs.declared.channel.Channel.{Channel}
-use Rattle.fr_base.specs.declared.channel.Channel.TheVariants.{A, B}
 use Rattle.fr_base.specs.declared.cycle_row.Counts.{Counts}
 use Rattle.fr_base.specs.declared.node_row.NodeRow.{NodeRow}
 use Rattle.fr_time.specs.Senders.{sender_of}
@@ -18,7 +17,6 @@ use Rattle.fr_reception.specs.Offers.{Offer}
 use Rattle.fr_reception.specs.declared.heard.Heard.{Heard}
 use Rattle.fr_reception.specs.declared.heard.Heard.TheVariants.{Stored, Ignored}
 use Rattle.fr_node.specs.Cycle.{after_hearing, with_deviation}
-use Rattle.fr_history.proofs.Lists.{map-map}
 use Rattle.fr_world.proofs.Loops.{at_most-frame, at_most-more, at_most-offers}
 use Rattle.fr_reception.specs.Regular.{is_sync_frame, regular_frame}
 use Rattle.fr_script.specs.View.{is_arbitrary}
@@ -26,14 +24,15 @@ use Rattle.fr_node.specs.View.{NodeView, node_row_of}
 use Rattle.fr_cluster.specs.Setting.{Setting}
 use Rattle.fr_history.specs.History.{row_of as row_in}
 use Rattle.fr_history.specs.Offers.{active_frame, active_offer, frame_in, is_on, offer_in, said_offer, sender_offer, sent_offer, sender_frame}
-use Rattle.fr_world.specs.Counting.{counted_frame, counted_offer, counted_offers, counts_after, counts_in, counts_on}
-use Rattle.fr_world.specs.Hearing.{after_channel, after_offer, after_slot, after_slots}
+use Rattle.fr_world.specs.Counting.{counted_frame, counted_offer, counted_offers, counts_on}
+use Rattle.fr_world.specs.Hearing.{after_channel, after_offer, after_slots}
 use Rattle.fr_base.specs.Counts.{AreAtMost}
 use Rattle.fr_world.specs.Cycling.{IsReady}
 use Rattle.fr_world.specs.Files.{setting_in}
 use Rattle.fr_world.specs.Sending.{hears, offer_heard, sending_row_by, sending_row_in}
 use Rattle.fr_world.specs.declared.files.Files.{Files}
 use Rattle.fr_world.specs.declared.turn.Turn.{Turn}
+use Rattle.fr_world.specs.Walk.{walked}
 
 -- ---- offers
 
@@ -217,66 +216,6 @@ channel-rows x cycle rows slot channel [] = refl
 channel-rows x cycle rows slot channel (n ∷ ns) =
     ap₂ (λ r rs. r ∷ rs) (offer-row x cycle n (offer_in x cycle rows (node_row_of n) slot channel)) (channel-rows x cycle rows slot channel ns)
 
-slot-row : (x : Setting) (cycle : ℕ) (rows : List NodeRow) (slot : ℕ) (node : NodeView) → node_row_of (after_slot x cycle rows slot node) ≡ node_row_of node
-slot-row x cycle rows slot node =
-    let first : NodeView = after_channel x cycle rows slot A node in
-    offer-row x cycle first (offer_in x cycle rows (node_row_of first) slot B) ∙ offer-row x cycle node (offer_in x cycle rows (node_row_of node) slot A)
-
-slots-row : (x : Setting) (cycle : ℕ) (rows : List NodeRow) (count : ℕ) (node : NodeView) → node_row_of (after_slots x cycle rows count node) ≡ node_row_of node
-unfolding after_slots
-slots-row x cycle rows zero node = refl
-slots-row x cycle rows (suc earlier) node = slot-row x cycle rows (suc earlier) (after_slots x cycle rows earlier node) ∙ slots-row x cycle rows earlier node
-
-pub slots-rows : (x : Setting) (cycle : ℕ) (rows : List NodeRow) (count : ℕ) (nodes : List NodeView) → map node_row_of (map (after_slots x cycle rows count) nodes) ≡ map node_row_of nodes
-slots-rows x cycle rows count [] = refl
-slots-rows x cycle rows count (n ∷ ns) = ap₂ (λ r rs. r ∷ rs) (slots-row x cycle rows count n) (slots-rows x cycle rows count ns)
-
--- both channels of a slot, one after the other
-pub slot-nodes : (x : Setting) (cycle : ℕ) (slot : ℕ) (nodes first second : List NodeView) →
-    first ≡ map (after_channel x cycle (map node_row_of nodes) slot A) nodes → second ≡ map (after_channel x cycle (map node_row_of first) slot B) first → second ≡ map (after_slot x cycle (map node_row_of nodes) slot) nodes
-slot-nodes x cycle slot nodes first second a b =
-    let rows : List NodeRow = map node_row_of nodes in
-    let same : map node_row_of first ≡ rows = ap (map node_row_of) a ∙ channel-rows x cycle rows slot A nodes in
-    b
-    ∙ ap (λ (rs : List NodeRow). map (after_channel x cycle rs slot B) first) same
-    ∙ ap (map (after_channel x cycle rows slot B)) a
-    ∙ map-map (after_channel x cycle rows slot B) (after_channel x cycle rows slot A) nodes
-
-pub slot-counts : (x : Setting) (cycle : ℕ) (slot : ℕ) (nodes first : List NodeView) (c one two : Counts) →
-    first ≡ map (after_channel x cycle (map node_row_of nodes) slot A) nodes → one ≡ counts_on x cycle (map node_row_of nodes) slot A c → two ≡ counts_on x cycle (map node_row_of first) slot B one → two ≡ counts_in x cycle (map node_row_of nodes) slot c
-slot-counts x cycle slot nodes first c one two a first_counts second_counts =
-    let rows : List NodeRow = map node_row_of nodes in
-    let same : map node_row_of first ≡ rows = ap (map node_row_of) a ∙ channel-rows x cycle rows slot A nodes in
-    second_counts
-    ∙ ap (λ (rs : List NodeRow). counts_on x cycle rs slot B one) same
-    ∙ ap (counts_on x cycle rows slot B) first_counts
-
--- one more slot
-pub slots-more : (x : Setting) (cycle : ℕ) (count : ℕ) (nodes before after : List NodeView) → before ≡ map (after_slots x cycle (map node_row_of nodes) count) nodes →
-    after ≡ map (after_slot x cycle (map node_row_of before) (count + 1)) before → after ≡ map (after_slots x cycle (map node_row_of nodes) (count + 1)) nodes
-unfolding after_slots
-slots-more x cycle count nodes before after so_far now =
-    let rows : List NodeRow = map node_row_of nodes in
-    let same : map node_row_of before ≡ rows = ap (map node_row_of) so_far ∙ slots-rows x cycle rows count nodes in
-    let P : ℕ → Type 0 = λ k. after ≡ map (after_slots x cycle rows k) nodes in
-    subst P (sym (add-one count)) (rw (add-one count) at (
-    now
-    ∙ ap (λ (rs : List NodeRow). map (after_slot x cycle rs (count + 1)) before) same
-    ∙ ap (map (after_slot x cycle rows (count + 1))) so_far
-    ∙ map-map (after_slot x cycle rows (count + 1)) (after_slots x cycle rows count) nodes))
-
-pub counts-more : (x : Setting) (cycle : ℕ) (count : ℕ) (nodes before : List NodeView) (c so_far after : Counts) → before ≡ map (after_slots x cycle (map node_row_of nodes) count) nodes →
-    so_far ≡ counts_after x cycle (map node_row_of nodes) count c → after ≡ counts_in x cycle (map node_row_of before) (count + 1) so_far → after ≡ counts_after x cycle (map node_row_of nodes) (count + 1) c
-unfolding counts_after
-counts-more x cycle count nodes before c so_far after stepped counted now =
-    let rows : List NodeRow = map node_row_of nodes in
-    let same : map node_row_of before ≡ rows = ap (map node_row_of) stepped ∙ slots-rows x cycle rows count nodes in
-    let P : ℕ → Type 0 = λ k. after ≡ counts_after x cycle rows k c in
-    subst P (sym (add-one count)) (rw (add-one count) at (
-    now
-    ∙ ap (λ (rs : List NodeRow). counts_in x cycle rs (count + 1) so_far) same
-    ∙ ap (counts_in x cycle rows (count + 1)) counted))
-
 -- ---- how many there are
 
 pub at_most-on : (x : Setting) (cycle : ℕ) (rows : List NodeRow) (slot : ℕ) (channel : Channel) (n : ℕ) (c : Counts) → length rows ≤ 64 → AreAtMost n c → AreAtMost (n + 65) (counts_on x cycle rows slot channel c)
@@ -285,17 +224,6 @@ at_most-on x cycle rows slot channel n c few most =
     let frame : Option (List ℕ) = frame_in x cycle rows slot channel in
     at_most-more (n + 1 + length rows) (n + 65) (counts_on x cycle rows slot channel c) (omega arith)
     (at_most-offers x cycle o rows (n + 1) (counted_frame channel frame c) (at_most-frame channel frame n c most))
-
-pub at_most-after : (x : Setting) (cycle : ℕ) (rows : List NodeRow) (n count : ℕ) (c : Counts) → length rows ≤ 64 → AreAtMost n c → AreAtMost (n + 130 * count) (counts_after x cycle rows count c)
-unfolding counts_after
-at_most-after x cycle rows n zero c few most = at_most-more n (n + 130 * 0) c (omega arith) most
-at_most-after x cycle rows n (suc earlier) c few most =
-    let before : Counts = counts_after x cycle rows earlier c in
-    let first : Counts = counts_on x cycle rows (suc earlier) A before in
-    let so_far : AreAtMost (n + 130 * earlier) before = at_most-after x cycle rows n earlier c few most in
-    let one : AreAtMost (n + 130 * earlier + 65) first = at_most-on x cycle rows (suc earlier) A (n + 130 * earlier) before few so_far in
-    at_most-more (n + 130 * earlier + 65 + 65) (n + 130 * suc earlier) (counts_on x cycle rows (suc earlier) B first) (omega arith)
-    (at_most-on x cycle rows (suc earlier) B (n + 130 * earlier + 65) first few one)
 
 -- an arbitrary node's frame is not one of a correct node
 pub arbitrary-frame : (f : Files) (turn : Turn) (nodes : List NodeView) (sending : Sending) → sender_of f.params turn.slot turn.cycle ≡ Some sending → All (IsReady f turn.cycle) nodes → is_arbitrary f.script sending.node ≡ true →
@@ -307,6 +235,6 @@ arbitrary-frame f turn nodes sending sends ready arbitrary =
 
 -- before the first slot
 pub slots-none : (x : Setting) (cycle : ℕ) (rows : List NodeRow) (nodes : List NodeView) → nodes ≡ map (after_slots x cycle rows 0) nodes
-unfolding after_slots
+unfolding walked
 slots-none x cycle rows [] = refl
 slots-none x cycle rows (n ∷ ns) = ap (λ (ms : List NodeView). n ∷ ms) (slots-none x cycle rows ns)

@@ -4,15 +4,15 @@ use Rattle.std.specs.Prelude.{slice_get}
 use Rattle.std.proofs.lemmas.Bool.{cases_eq}
 use Rattle.std.proofs.lemmas.List.{get_or-set_other, get_or-set_same, get_or_append_left, get_or_past, get_or_push, get_or-take, length-set, length-replicate, length-take, length-take-le, length_push, get_or-replicate}
 use Rattle.std.proofs.lemmas.Option.{get_or_from_slice_get, none-some, slice_get-get_or, slice_get_within}
-use Rattle.fr_pool.specs.Pool.{PoolView, IsFree, IsOut, Takes, fresh_pool, given_back, taken_out}
-use Rattle.fr_world.specs.Cells.{numbered, HasTwoFree, HaveCells, HavePlaces, IsMemory, Stands}
+use Rattle.fr_pool.specs.Pool.{PoolView, HasFree, IsOut, Takes, fresh_pool, given_back, taken_out, written_in}
+use Rattle.fr_world.specs.Cells.{number_at, numbered, HaveCells, HavePlaces, IsMemory, IsThere, Stands}
 use Rattle.fr_world.specs.declared.memory.Message.{Message}
 use Rattle.fr_world.proofs.Staying.{out-set-other, out-set-same}
 
 -- ---- what is out
 
 -- the cell that is taken is the next: all below are out, and it was not
-pub taken-next : (pool new : PoolView) (messages : List Message) (cell : ℕ) → HaveCells pool messages → Takes pool cell new → cell ≡ length messages
+pub taken-next : (pool new : PoolView) (messages : List Message) (cell : ℕ) → HaveCells pool messages None → Takes pool cell new → cell ≡ length messages
 taken-next pool new messages cell have takes =
     let m : ℕ = length messages in
     let within : cell < length pool.out = slice_get_within pool.out cell false takes.free in
@@ -22,7 +22,7 @@ taken-next pool new messages cell have takes =
     let most : (m < cell) → ⊥ = λ less.
     let few = length-take cell pool.out in
     let out_before : get_or pool.out m true ≡ true = sym (get_or-take cell pool.out m true less) ∙ takes.first m true (omega arith) in
-    let not_out : get_or pool.out m true ≡ false = get_or_from_slice_get pool.out m false true (have.free m (omega arith) (omega arith)) in
+    let not_out : get_or pool.out m true ≡ false = get_or_from_slice_get pool.out m false true (have.free m (omega arith) (omega arith) (none-some m)) in
     let both : true ≡ false = sym out_before ∙ not_out in
     cc in
     elim (cases_eq cell m) [
@@ -31,14 +31,14 @@ taken-next pool new messages cell have takes =
     ]
 
 -- with one message more
-pub cells-more : (pool new : PoolView) (messages more : List Message) (place : ℕ) → HaveCells pool messages → length messages < length pool.out → new ≡ taken_out (length messages) pool →
-    more ≡ messages ++ record { place = place; cell = length messages } ∷ [] → HaveCells new more
+pub cells-more : (pool new : PoolView) (messages more : List Message) (place : ℕ) → HaveCells pool messages None → length messages < length pool.out → new ≡ taken_out (length messages) pool →
+    more ≡ messages ++ record { place = place; cell = length messages } ∷ [] → HaveCells new more None
 cells-more pool new messages more place have room taken pushed =
     let m : ℕ = length messages in
     let last : Message = record { place = place; cell = m } in
     let long : length (messages ++ last ∷ []) ≡ m + 1 = length_push messages last in
-    let P : List Message → Type 0 = λ ms. HaveCells (taken_out m pool) ms in
-    let Q : PoolView → Type 0 = λ p. HaveCells p more in
+    let P : List Message → Type 0 = λ ms. HaveCells (taken_out m pool) ms None in
+    let Q : PoolView → Type 0 = λ p. HaveCells p more None in
     subst Q (sym taken) (subst P (sym pushed) (record {
       order = λ k d lt. elim (cases_eq k m) [
         | inl same ↦ ap (λ (message : Message). message.cell) (get_or_push messages last d k (sym same)) ∙ sym same
@@ -48,9 +48,10 @@ cells-more pool new messages more place have room taken pushed =
         | inl same ↦ subst (λ j. slice_get (set pool.out m true) j ≡ Some true) (sym same) (out-set-same pool.out m true room)
         | inr apart ↦ out-set-other pool.out m k true true apart (have.out k (omega (arith, long, apart)))
       ];
-      free = λ k ge lt.
+      said_out = λ k is. absurd (none-some k is);
+      free = λ k ge lt unsaid.
           let inside : k < length pool.out = rw length-set at lt in
-          out-set-other pool.out m k true false (omega (arith, long)) (have.free k (omega (arith, long)) inside);
+          out-set-other pool.out m k true false (omega (arith, long)) (have.free k (omega (arith, long)) inside unsaid);
     }))
 
 -- ---- places
@@ -122,8 +123,8 @@ places-more messages more places room place have lt none pushed =
     })
 
 -- the whole memory
-pub memory-more : (pool new : PoolView) (messages more : List Message) (places : List (Option ℕ)) (room place cell : ℕ) → IsMemory pool messages places room → place < length places → get_or places place None ≡ None →
-    Takes pool cell new → more ≡ messages ++ record { place = place; cell = length messages } ∷ [] → IsMemory new more (set places place (Some (length messages))) room
+pub memory-more : (pool new : PoolView) (messages more : List Message) (places : List (Option ℕ)) (room place cell : ℕ) → IsMemory pool messages places room None → place < length places → get_or places place None ≡ None →
+    Takes pool cell new → more ≡ messages ++ record { place = place; cell = length messages } ∷ [] → IsMemory new more (set places place (Some (length messages))) room None
 memory-more pool new messages more places room place cell is lt none takes pushed =
     let left : length messages < length places = room-left messages places room place is.at_places lt none in
     let next : cell ≡ length messages = taken-next pool new messages cell is.cells takes in
@@ -141,39 +142,43 @@ memory-more pool new messages more places room place cell is lt none takes pushe
 pub messages-le : (messages : List Message) (places : List (Option ℕ)) (room : ℕ) → HavePlaces messages places room → length messages ≤ length places
 messages-le messages places room have = omega (arith, have.counted, numbered-le-length places)
 
-pub spare-cell : (pool : PoolView) (messages : List Message) (places : List (Option ℕ)) (room : ℕ) → IsMemory pool messages places room → IsFree pool (length messages)
-spare-cell pool messages places room is =
+pub spare : (pool : PoolView) (messages : List Message) (places : List (Option ℕ)) (room : ℕ) (said : Option ℕ) → IsMemory pool messages places room said → HasFree pool
+spare pool messages places room None is =
     let le : length messages ≤ length places = messages-le messages places room is.at_places in
-    is.cells.free (length messages) (omega arith) (omega (arith, is.sizes, le))
+    (length messages, is.cells.free (length messages) (omega arith) (omega (arith, is.sizes, le)) (none-some (length messages)))
+spare pool messages places room (Some cell) is =
+    let le : length messages ≤ length places = messages-le messages places room is.at_places in
+    let m : ℕ = length messages in
+    let other : (k : ℕ) → cell ≢ k → Some cell ≢ Some k = λ k apart same. apart (cc) in
+    elim (cases_eq cell m) [
+      | inl same ↦ (m + 1, is.cells.free (m + 1) (omega arith) (omega (arith, is.sizes, le)) (other (m + 1) (λ equal. absurd (omega (arith, same, equal)))))
+      | inr apart ↦ (m, is.cells.free m (omega arith) (omega (arith, is.sizes, le)) (other m apart))
+    ]
 
-pub two-free : (pool : PoolView) (messages : List Message) (places : List (Option ℕ)) (room : ℕ) → IsMemory pool messages places room → HasTwoFree pool
-two-free pool messages places room is =
-    let le : length messages ≤ length places = messages-le messages places room is.at_places in record {
-      one = length messages;
-      other = length messages + 1;
-      apart = omega arith;
-      one_free = spare-cell pool messages places room is;
-      other_free = is.cells.free (length messages + 1) (omega arith) (omega (arith, is.sizes, le));
-    }
+-- the cell of a message, or of what is said, is out
+pub number-out : (pool : PoolView) (messages : List Message) (said cell : Option ℕ) → HaveCells pool messages said → IsThere messages said cell → IsOut pool (number_at messages said cell)
+number-out pool messages None None have there = absurd (cc)
+number-out pool messages (Some k) None have there = (have.said_out k refl).1
+number-out pool messages said (Some k) have there = subst (IsOut pool) (sym (have.order k (record { place = 0; cell = 0 }) there)) (have.out k there)
 
--- the frame of a message stands in its cell
-pub stands-kept : (pool : PoolView) (messages : List Message) (places : List (Option ℕ)) (room bytes k cell : ℕ) (read : List ℕ) → IsMemory pool messages places room → bytes ≤ 262 → k < length messages → cell ≡ k →
-    slice_get pool.bytes cell ≡ Some read → length read ≡ 264 → Stands pool cell bytes
-stands-kept pool messages places room bytes k cell read is short lt number got long =
+-- a frame stands in it
+pub stands-on : (pool : PoolView) (messages : List Message) (places : List (Option ℕ)) (room bytes : ℕ) (said cell : Option ℕ) (read : List ℕ) → IsMemory pool messages places room said → bytes ≤ 262 → IsThere messages said cell →
+    slice_get pool.bytes (number_at messages said cell) ≡ Some read → length read ≡ 264 → Stands pool (number_at messages said cell) bytes
+stands-on pool messages places room bytes said cell read is short there got long =
     record {
-      out = subst (IsOut pool) (sym number) (is.cells.out k lt);
+      out = number-out pool messages said cell is.cells there;
       whole = is.whole;
-      within = ap (λ (stored : List ℕ). length (take bytes stored)) (get_or_from_slice_get pool.bytes cell read [] got) ∙ length-take-le bytes read (omega (arith, long));
+      within = ap (λ (stored : List ℕ). length (take bytes stored)) (get_or_from_slice_get pool.bytes (number_at messages said cell) read [] got) ∙ length-take-le bytes read (omega (arith, long));
       short = short;
-      spare = (length messages, spare-cell pool messages places room is);
+      spare = spare pool messages places room said is;
     }
 
 -- a memory with no message
-pub memory-fresh : (pool : PoolView) (messages : List Message) (places : List (Option ℕ)) (n room : ℕ) → pool ≡ fresh_pool (n + 2) → messages ≡ [] → places ≡ replicate n None → n ≤ room → IsMemory pool messages places room
+pub memory-fresh : (pool : PoolView) (messages : List Message) (places : List (Option ℕ)) (n room : ℕ) → pool ≡ fresh_pool (n + 2) → messages ≡ [] → places ≡ replicate n None → n ≤ room → IsMemory pool messages places room None
 memory-fresh pool messages places n room fresh empty blank le =
-    let P : PoolView → Type 0 = λ p. IsMemory p messages places room in
-    let Q : List Message → Type 0 = λ ms. IsMemory (fresh_pool (n + 2)) ms places room in
-    let R : List (Option ℕ) → Type 0 = λ ps. IsMemory (fresh_pool (n + 2)) [] ps room in
+    let P : PoolView → Type 0 = λ p. IsMemory p messages places room None in
+    let Q : List Message → Type 0 = λ ms. IsMemory (fresh_pool (n + 2)) ms places room None in
+    let R : List (Option ℕ) → Type 0 = λ ps. IsMemory (fresh_pool (n + 2)) [] ps room None in
     let unset : (place : ℕ) → get_or (replicate n None) place None ≡ None = λ place. elim (le_or_lt n place) [
       | inl past ↦ get_or_past (replicate n None) place None (rw length-replicate past)
       | inr within ↦ get_or-replicate n place None None within
@@ -184,7 +189,8 @@ memory-fresh pool messages places n room fresh empty blank le =
       cells = record {
         order = λ k d lt. absurd (omega arith);
         out = λ k lt. absurd (omega arith);
-        free = λ k ge lt. slice_get-get_or (replicate (n + 2) false) k false lt ∙ ap (λ (b : Bool). Some b) (get_or-replicate (n + 2) k false false (rw length-replicate at lt));
+        said_out = λ k is. absurd (none-some k is);
+        free = λ k ge lt unsaid. slice_get-get_or (replicate (n + 2) false) k false lt ∙ ap (λ (b : Bool). Some b) (get_or-replicate (n + 2) k false false (rw length-replicate at lt));
       };
       at_places = record {
         room_is = rw length-replicate le;
@@ -198,22 +204,82 @@ memory-fresh pool messages places n room fresh empty blank le =
 -- ---- cells that are given back
 
 -- with one message fewer, whose cell was given back
-pub cells-fewer : (pool new : PoolView) (messages rest : List Message) (message : Message) → HaveCells pool messages → messages ≡ rest ++ message ∷ [] → new ≡ given_back message.cell pool → HaveCells new rest
+pub cells-fewer : (pool new : PoolView) (messages rest : List Message) (message : Message) → HaveCells pool messages None → messages ≡ rest ++ message ∷ [] → new ≡ given_back message.cell pool → HaveCells new rest None
 cells-fewer pool new messages rest message have popped gave =
     let m : ℕ = length rest in
-    let all : HaveCells pool (rest ++ message ∷ []) = subst (HaveCells pool) popped have in
+    let P : List Message → Type 0 = λ ms. HaveCells pool ms None in
+    let all : HaveCells pool (rest ++ message ∷ []) None = subst P popped have in
     let long : length (rest ++ message ∷ []) ≡ m + 1 = length_push rest message in
     let number : message.cell ≡ m = ap (λ (last : Message). last.cell) (sym (get_or_push rest message message m refl)) ∙ all.order m message (omega (arith, long)) in
     let inside : m < length pool.out = slice_get_within pool.out m true (all.out m (omega (arith, long))) in
     let is : new ≡ given_back m pool = gave ∙ ap (λ (k : ℕ). given_back k pool) number in
-    let P : PoolView → Type 0 = λ p. HaveCells p rest in
-    subst P (sym is) (record {
+    let Q : PoolView → Type 0 = λ p. HaveCells p rest None in
+    subst Q (sym is) (record {
       order = λ k d lt. ap (λ (one : Message). one.cell) (sym (get_or_append_left rest (message ∷ []) d k lt)) ∙ all.order k d (omega (arith, long));
       out = λ k lt. out-set-other pool.out m k false true (λ same. absurd (omega arith)) (all.out k (omega (arith, long)));
-      free = λ k ge lt.
+      said_out = λ k none. absurd (none-some k none);
+      free = λ k ge lt unsaid.
           let less : k < length pool.out = rw length-set at lt in
           elim (cases_eq k m) [
             | inl same ↦ subst (λ j. slice_get (set pool.out m false) j ≡ Some false) (sym same) (out-set-same pool.out m false inside)
-            | inr apart ↦ out-set-other pool.out m k false false apart (all.free k (omega (arith, long, apart)) less)
+            | inr apart ↦ out-set-other pool.out m k false false apart (all.free k (omega (arith, long, apart)) less unsaid)
           ];
+    })
+
+-- ---- what is said
+
+-- a further cell is taken, and written
+pub memory-said : (pool new : PoolView) (messages : List Message) (places : List (Option ℕ)) (room cell : ℕ) (written : List ℕ) → IsMemory pool messages places room None → Takes pool cell new →
+    IsMemory (written_in cell written new) messages places room (Some cell)
+memory-said pool new messages places room cell written is takes =
+    let m : ℕ = length messages in
+    let next : cell ≡ m = taken-next pool new messages cell is.cells takes in
+    let inside : cell < length pool.out = slice_get_within pool.out cell false takes.free in
+    let P : PoolView → Type 0 = λ p. IsMemory (written_in cell written p) messages places room (Some cell) in
+    subst P (sym takes.taken) (record {
+      sizes = length-set pool.out cell true ∙ is.sizes;
+      whole = length-set pool.bytes cell written ∙ is.whole ∙ sym (length-set pool.out cell true);
+      cells = record {
+        order = is.cells.order;
+        out = λ k lt. out-set-other pool.out cell k true true (λ same. absurd (omega (arith, same, next))) (is.cells.out k lt);
+        said_out = λ k same.
+            let e : cell ≡ k = cc in
+            (omega (arith, e, next), subst (λ j. slice_get (set pool.out cell true) j ≡ Some true) e (out-set-same pool.out cell true inside));
+        free = λ k ge lt unsaid.
+            let less : k < length pool.out = rw length-set at lt in
+            out-set-other pool.out cell k true false (λ same. unsaid (ap (λ (i : ℕ). Some i) (sym same))) (is.cells.free k ge less (none-some k));
+      };
+      at_places = is.at_places;
+    })
+
+-- it is given back
+cells-unsaid : (pool : PoolView) (messages : List Message) (cell : ℕ) → HaveCells pool messages (Some cell) → HaveCells (given_back cell pool) messages None
+cells-unsaid pool messages cell have =
+    let said = have.said_out cell refl in
+    let inside : cell < length pool.out = slice_get_within pool.out cell true said.1 in
+    record {
+      order = have.order;
+      out = λ k lt. out-set-other pool.out cell k false true (λ same. absurd (omega (arith, same, said.0))) (have.out k lt);
+      said_out = λ k none. absurd (none-some k none);
+      free = λ k ge lt unsaid.
+          let less : k < length pool.out = rw length-set at lt in
+          elim (cases_eq k cell) [
+            | inl same ↦ subst (λ j. slice_get (set pool.out cell false) j ≡ Some false) (sym same) (out-set-same pool.out cell false inside)
+            | inr apart ↦ out-set-other pool.out cell k false false apart (have.free k ge less (λ equal. apart (sym (cc))))
+          ];
+    }
+
+pub gave-said : (pool new : PoolView) (messages : List Message) (cell : ℕ) → HaveCells pool messages (Some cell) → new ≡ given_back cell pool → HaveCells new messages None
+gave-said pool new messages cell have gave =
+    let P : PoolView → Type 0 = λ p. HaveCells p messages None in
+    subst P (sym gave) (cells-unsaid pool messages cell have)
+
+pub memory-unsaid : (pool new : PoolView) (messages : List Message) (places : List (Option ℕ)) (room cell : ℕ) → IsMemory pool messages places room (Some cell) → new ≡ given_back cell pool → IsMemory new messages places room None
+memory-unsaid pool new messages places room cell is gave =
+    let P : PoolView → Type 0 = λ p. IsMemory p messages places room None in
+    subst P (sym gave) (record {
+      sizes = length-set pool.out cell false ∙ is.sizes;
+      whole = is.whole ∙ sym (length-set pool.out cell false);
+      cells = cells-unsaid pool messages cell is.cells;
+      at_places = is.at_places;
     })

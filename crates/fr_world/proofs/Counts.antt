@@ -27,6 +27,7 @@ use Rattle.fr_history.specs.Offers.{channels, frame_in, offer_in, offers_among, 
 use Rattle.fr_world.specs.Counting.{with_answer, counted_frame, counted_offer, counted_offers, counted_sent, counts_after, counts_in, counts_on}
 use Rattle.fr_base.specs.Counts.{no_counts}
 use Rattle.fr_world.proofs.Sums.{range_more, sum_by-flat_map, sum_by-map, sum_by-more, sum_by-plus, sum_by-same, sum_by-turned}
+use Rattle.fr_world.specs.Walk.{walked}
 
 -- ---- one kind of answers
 
@@ -87,7 +88,7 @@ slot_count test count kind x cycle rows slot c =
 
 slots_count : (test : Heard → Bool) (count : Counts → ℕ) → IsKind test count → (x : Setting) (cycle : ℕ) (rows : List NodeRow) (slots : ℕ) →
     count (counts_after x cycle rows slots no_counts) ≡ sum_by (λ slot. hits_on test x cycle rows slot A + hits_on test x cycle rows slot B) (range_with_len 1 slots)
-unfolding counts_after
+unfolding walked
 slots_count test count kind x cycle rows zero = kind.none
 slots_count test count kind x cycle rows (suc earlier) =
     let here : ℕ → ℕ = λ slot. hits_on test x cycle rows slot A + hits_on test x cycle rows slot B in
@@ -352,7 +353,7 @@ slot_sent_a x cycle rows slot c =
 slots_sent_a : (x : Setting) (cycle : ℕ) (rows : List NodeRow) (slots : ℕ) →
     ((counts_after x cycle rows slots no_counts).sent_a ≡ length (filter_map (λ slot. frame_in x cycle rows slot A) (range_with_len 1 slots)))
     × ((counts_after x cycle rows slots no_counts).xor_a ≡ crcs_sum (filter_map (λ slot. frame_in x cycle rows slot A) (range_with_len 1 slots)))
-unfolding counts_after
+unfolding walked
 slots_sent_a x cycle rows zero = (refl, refl)
 slots_sent_a x cycle rows (suc earlier) =
     let before = slots_sent_a x cycle rows earlier in
@@ -380,7 +381,7 @@ slot_sent_b x cycle rows slot c =
 slots_sent_b : (x : Setting) (cycle : ℕ) (rows : List NodeRow) (slots : ℕ) →
     ((counts_after x cycle rows slots no_counts).sent_b ≡ length (filter_map (λ slot. frame_in x cycle rows slot B) (range_with_len 1 slots)))
     × ((counts_after x cycle rows slots no_counts).xor_b ≡ crcs_sum (filter_map (λ slot. frame_in x cycle rows slot B) (range_with_len 1 slots)))
-unfolding counts_after
+unfolding walked
 slots_sent_b x cycle rows zero = (refl, refl)
 slots_sent_b x cycle rows (suc earlier) =
     let before = slots_sent_b x cycle rows earlier in

@@ -18,3 +18,4 @@ pub mod Staying
 pub mod Claiming
 pub mod Messages
 pub mod Remembered
+pub mod Stages

@@ -16,7 +16,7 @@ use Rattle.fr_cluster.specs.declared.nodes.NodeSpec.{NodeSpec}
 use Rattle.fr_time.proofs.SoleSenders.{key_slot_sender}
 use Rattle.fr_time.specs.Senders.{sender_of}
 use Rattle.fr_reception.specs.Offers.{Offer}
-use Rattle.fr_node.specs.View.{NodeView, node_row_of}
+use Rattle.fr_node.specs.View.{NodeView, node_row_of, state_of_node}
 use Rattle.fr_cluster.specs.Setting.{Setting}
 use Rattle.fr_world.specs.Files.{setting_in}
 use Rattle.std.specs.Borrow.{Bor}
@@ -68,14 +68,14 @@ pub can_hear : (f : Files) (turn : Turn) (node : NodeView) (sender : ℕ) → Is
     option_map (λ sending. sending.node) (sender_of f.params turn.slot turn.cycle) ≡ Some sender → hears (setting_in f) (node_row_of node) sender turn.channel ≡ true → CanHear f turn node
 can_hear f turn node sender ready static_slot sends heard =
     let p : Values = f.params in
-    let both : ((not (is_halted node.control.status.state) && has_channel (node_of p node.id) turn.channel) ≡ true) × (not (sender == node.id) ≡ true) = and_parts _ _ heard in
-    let first : (not (is_halted node.control.status.state) ≡ true) × (has_channel (node_of p node.id) turn.channel ≡ true) = and_parts _ _ both.0 in
+    let both : ((not (is_halted (state_of_node node)) && has_channel (node_of p node.id) turn.channel) ≡ true) × (not (sender == node.id) ≡ true) = and_parts _ _ heard in
+    let first : (not (is_halted (state_of_node node)) ≡ true) × (has_channel (node_of p node.id) turn.channel ≡ true) = and_parts _ _ both.0 in
     record {
       ready = ready;
       receives = record {
         fits = ready.fits;
         under_way = ready.under_way;
-        receives = not_halted node.control.status.state first.0;
+        receives = not_halted (state_of_node node) first.0;
         on_channel = first.1;
         static_slot = static_slot;
         not_itself = λ (own : own_key p node.id ≡ Some turn.slot).

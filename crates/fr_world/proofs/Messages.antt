@@ -1,5 +1,5 @@
 -- The message memory: what is sent goes into the cell of its place, and nothing else changes.
-use Rattle.std.proofs.Common.{◌≡◌, ◌≢◌, ℕ, zero, suc, ◌<◌, ◌==◌, Bool, true, false, cond, List, [], ◌∷◌, ◌++◌, length, map, take, get_or, set, Option, Some, None, inl, inr, refl, ap, sym, subst, ◌∙◌, arith}
+use Rattle.std.proofs.Common.{◌≡◌, ◌≢◌, ℕ, zero, suc, ◌<◌, ◌≤◌, ◌==◌, Bool, true, false, cond, List, [], ◌∷◌, ◌++◌, length, map, take, get_or, set, Option, Some, None, inl, inr, refl, ap, ap₂, sym, subst, ◌∙◌, arith}
 use Rattle.std.specs.Prelude.{find, nat_lt, option_map, position}
 use Rattle.std.specs.List.{position_or_len}
 use Rattle.std.proofs.lemmas.List.Sums.{position_or_len_is}
@@ -7,12 +7,19 @@ use Rattle.std.proofs.lemmas.Bool.{cond_both, eqb-true, eq-eqb, cases_eq}
 use Rattle.std.proofs.lemmas.List.{get_or_default, get_or_push, get_or_read, get_or-map, get_or-set_other, get_or-set_same, length-map, length-set, length_push, map_push, same_lists, set_at}
 use Rattle.std.proofs.lemmas.Option.{none-some, slice_get_within}
 use Rattle.fr_pool.specs.Pool.{PoolView, IsOut, written_in}
-use Rattle.fr_world.specs.Cells.{held_of, HaveCells, HavePlaces, IsClaimed, IsMemory, Stays}
-use Rattle.fr_world.specs.Memory.{Held, cell_of, frame_at, frame_of, held_at, is_of, sent_at, with_frame, IsPoolOf}
+use Rattle.fr_world.specs.Cells.{held_of, number_at, said_in, HaveCells, HavePlaces, IsClaimed, IsMemory, IsThere, Stays}
+use Rattle.fr_world.specs.Memory.{Held, cell_of, frame_at, frame_of, frame_on, held_at, is_of, sent_at, with_frame, HasFrame, IsPoolOf, MemoryView}
 use Rattle.fr_world.specs.declared.memory.Message.{Message}
 
 abbrev pub blank : Held
 blank = record { place = 0; frame = [] }
+
+-- what stands in a cell, by its parts
+abbrev pub made : ℕ → List ℕ → Held
+made place frame = record { place = place; frame = frame }
+
+abbrev pub none : Message
+none = record { place = 0; cell = 0 }
 
 -- what is sent at a place that is first at a cell goes there
 pub sent_at-found : (place : ℕ) (frame : List ℕ) (held : List Held) (k : ℕ) → k < length held → (get_or held k blank).place ≡ place →
@@ -71,6 +78,11 @@ found-none p held first =
     not-below : (a : ℕ) → nat_lt a a ≡ false
     not-below a = grind arith
 
+-- the number of the first that is of a place
+pub position-at : (place : ℕ) (held : List Held) (k : ℕ) → k < length held → (get_or held k blank).place ≡ place → ((j : ℕ) → j < k → (get_or held j blank).place ≢ place) → position (is_of place) held ≡ Some k
+position-at place held k lt is other =
+    found-at (is_of place) held k (position_or_len_is (is_of place) held k blank (omega arith) (λ j less. other-eqb (get_or held j blank).place place (other j less)) (λ within. eq-eqb (get_or held k blank).place place is)) lt
+
 -- what stands in the cells, by number
 pub place-held : (bytes : ℕ) (pool : PoolView) (messages : List Message) (k : ℕ) (d : Message) → k < length messages →
     (get_or (map (held_of bytes pool) messages) k blank).place ≡ (get_or messages k d).place
@@ -87,9 +99,9 @@ other-places messages places room have j k d first second apart same =
     apart e
 
 -- where other cells change, what stands in these stays
-pub held-stays : (bytes : ℕ) (old new : PoolView) (messages : List Message) → HaveCells old messages → Stays old new →
+pub held-stays : (bytes : ℕ) (old new : PoolView) (messages : List Message) (said : Option ℕ) → HaveCells old messages said → Stays old new →
     map (held_of bytes new) messages ≡ map (held_of bytes old) messages
-held-stays bytes old new messages have stays =
+held-stays bytes old new messages said have stays =
     same_lists (map (held_of bytes new) messages) (map (held_of bytes old) messages)
     (length-map messages (held_of bytes new) ∙ sym (length-map messages (held_of bytes old)))
     (λ k d short. let lt : k < length messages = rw length-map at short in
@@ -99,27 +111,26 @@ held-stays bytes old new messages have stays =
     ∙ ap (λ (stored : List ℕ). let made : Held = record { place = (get_or messages k (record { place = 0; cell = 0 })).place; frame = take bytes stored } in made) (stays.same cell out)
     ∙ sym (get_or-map (held_of bytes old) messages k (record { place = 0; cell = 0 }) d lt))
 
-pub cells-stay : (old new : PoolView) (messages : List Message) → HaveCells old messages → Stays old new → HaveCells new messages
-cells-stay old new messages have stays = record {
+pub cells-stay : (old new : PoolView) (messages : List Message) (said : Option ℕ) → HaveCells old messages said → Stays old new → HaveCells new messages said
+cells-stay old new messages said have stays = record {
   order = have.order;
   out = λ k lt. rw stays.out (have.out k lt);
-  free = λ k ge lt. rw stays.out (have.free k ge (rw stays.out at lt));
+  said_out = λ k is. ((have.said_out k is).0, rw stays.out ((have.said_out k is).1));
+  free = λ k ge lt unsaid. rw stays.out (have.free k ge (rw stays.out at lt) unsaid);
 }
 
-pub memory-stays : (old new : PoolView) (messages : List Message) (places : List (Option ℕ)) (room : ℕ) → IsMemory old messages places room → Stays old new → IsMemory new messages places room
-memory-stays old new messages places room is stays = record {
+-- and what is said
+pub said-stays : (bytes : ℕ) (old new : PoolView) (messages : List Message) (said : Option ℕ) → HaveCells old messages said → Stays old new → said_in bytes new said ≡ said_in bytes old said
+said-stays bytes old new messages None have stays = refl
+said-stays bytes old new messages (Some cell) have stays = ap (λ (stored : List ℕ). Some (take bytes stored)) (stays.same cell ((have.said_out cell refl).1))
+
+pub memory-stays : (old new : PoolView) (messages : List Message) (places : List (Option ℕ)) (room : ℕ) (said : Option ℕ) → IsMemory old messages places room said → Stays old new → IsMemory new messages places room said
+memory-stays old new messages places room said is stays = record {
   sizes = ap length stays.out ∙ is.sizes;
   whole = stays.whole ∙ is.whole ∙ sym (ap length stays.out);
-  cells = cells-stay old new messages is.cells stays;
+  cells = cells-stay old new messages said is.cells stays;
   at_places = is.at_places;
 }
-
--- what stands in a cell, by its parts
-abbrev pub made : ℕ → List ℕ → Held
-made place frame = record { place = place; frame = frame }
-
-abbrev pub none : Message
-none = record { place = 0; cell = 0 }
 
 written-here : (bytes : ℕ) (pool : PoolView) (messages : List Message) (k : ℕ) (written : List ℕ) (d : Held) → k < length messages → k < length pool.bytes →
     made (get_or messages k none).place (take bytes (get_or (set pool.bytes k written) k [])) ≡ get_or (with_frame k (take bytes written) (map (held_of bytes pool) messages)) k d
@@ -130,9 +141,9 @@ written-here bytes pool messages k written d lt within =
     ∙ ap (λ (place : ℕ). made place (take bytes written)) (sym (place-held bytes pool messages k none lt))
     ∙ sym (get_or-set_same old k (made (held_at old k).place (take bytes written)) d long)
 
-written-there : (bytes : ℕ) (pool : PoolView) (messages : List Message) (k j : ℕ) (written : List ℕ) (d : Held) → HaveCells pool messages → j < length messages → j ≢ k →
+written-there : (bytes : ℕ) (pool : PoolView) (messages : List Message) (k j : ℕ) (written : List ℕ) (d : Held) (said : Option ℕ) → HaveCells pool messages said → j < length messages → j ≢ k →
     made (get_or messages j none).place (take bytes (get_or (set pool.bytes k written) j [])) ≡ get_or (with_frame k (take bytes written) (map (held_of bytes pool) messages)) j d
-written-there bytes pool messages k j written d have less apart =
+written-there bytes pool messages k j written d said have less apart =
     let old : List Held = map (held_of bytes pool) messages in
     ap (λ (stored : List ℕ). made (get_or messages j none).place (take bytes stored)) (get_or-set_other pool.bytes k j written [] apart)
     ∙ ap (λ (cell : ℕ). made (get_or messages j none).place (take bytes (get_or pool.bytes cell []))) (sym (have.order j none less))
@@ -140,9 +151,9 @@ written-there bytes pool messages k j written d have less apart =
     ∙ sym (get_or-set_other old k j (made (held_at old k).place (take bytes written)) d apart)
 
 -- with a frame written into the cell of a message
-pub held-written : (bytes : ℕ) (pool : PoolView) (messages : List Message) (k : ℕ) (written : List ℕ) → HaveCells pool messages → k < length messages → length pool.bytes ≡ length pool.out →
+pub held-written : (bytes : ℕ) (pool : PoolView) (messages : List Message) (k : ℕ) (written : List ℕ) (said : Option ℕ) → HaveCells pool messages said → k < length messages → length pool.bytes ≡ length pool.out →
     map (held_of bytes (written_in k written pool)) messages ≡ with_frame k (take bytes written) (map (held_of bytes pool) messages)
-held-written bytes pool messages k written have lt whole =
+held-written bytes pool messages k written said have lt whole =
     let old : List Held = map (held_of bytes pool) messages in
     let within : k < length pool.bytes = omega (arith, whole, slice_get_within pool.out k true (have.out k lt)) in
     same_lists (map (held_of bytes (written_in k written pool)) messages) (with_frame k (take bytes written) old)
@@ -154,8 +165,35 @@ held-written bytes pool messages k written have lt whole =
       | inl same ↦
           let P : ℕ → Type 0 = λ i. made (get_or messages i none).place (take bytes (get_or (set pool.bytes k written) i [])) ≡ get_or (with_frame k (take bytes written) old) i d in
           subst P (sym same) (written-here bytes pool messages k written d lt within)
-      | inr apart ↦ written-there bytes pool messages k j written d have less apart
+      | inr apart ↦ written-there bytes pool messages k j written d said have less apart
     ])
+
+-- bytes written into another cell change none of them
+pub held-beside : (bytes : ℕ) (pool new : PoolView) (messages : List Message) (cell : ℕ) (written : List ℕ) → HaveCells pool messages None → length messages ≤ cell → new.bytes ≡ pool.bytes →
+    map (held_of bytes (written_in cell written new)) messages ≡ map (held_of bytes pool) messages
+held-beside bytes pool new messages cell written have past same =
+    same_lists (map (held_of bytes (written_in cell written new)) messages) (map (held_of bytes pool) messages)
+    (length-map messages (held_of bytes (written_in cell written new)) ∙ sym (length-map messages (held_of bytes pool)))
+    (λ k d short. let lt : k < length messages = rw length-map at short in
+    let number : (get_or messages k none).cell ≡ k = have.order k none lt in
+    get_or-map (held_of bytes (written_in cell written new)) messages k none d lt
+    ∙ ap (λ (stored : List ℕ). made (get_or messages k none).place (take bytes stored))
+    (get_or-set_other new.bytes cell (get_or messages k none).cell written [] (λ equal. absurd (omega (arith, equal, number)))
+    ∙ ap (λ (stored : List (List ℕ)). get_or stored (get_or messages k none).cell []) same)
+    ∙ sym (get_or-map (held_of bytes pool) messages k none d lt))
+
+pub said-beside : (bytes : ℕ) (pool : PoolView) (messages : List Message) (k : ℕ) (written : List ℕ) (said : Option ℕ) → HaveCells pool messages said → k < length messages →
+    said_in bytes (written_in k written pool) said ≡ said_in bytes pool said
+said-beside bytes pool messages k written None have lt = refl
+said-beside bytes pool messages k written (Some cell) have lt =
+    ap (λ (stored : List ℕ). Some (take bytes stored)) (get_or-set_other pool.bytes k cell written [] (λ same. absurd (omega (arith, same, (have.said_out cell refl).0))))
+
+-- where other cells change, a memory is seen as it was
+pub memory-same : (places bytes : ℕ) (old new : PoolView) (messages : List Message) (said : Option ℕ) → HaveCells old messages said → Stays old new →
+    (let now : MemoryView = record { places = places; bytes = bytes; held = map (held_of bytes new) messages; said = said_in bytes new said } in now) ≡ record { places = places; bytes = bytes; held = map (held_of bytes old) messages; said = said_in bytes old said }
+memory-same places bytes old new messages said have stays =
+    ap₂ (λ (held : List Held) (frame : Option (List ℕ)). let now : MemoryView = record { places = places; bytes = bytes; held = held; said = frame } in now)
+    (held-stays bytes old new messages said have stays) (said-stays bytes old new messages said have stays)
 
 -- what is read of the places
 pub at-place : (places : List (Option ℕ)) (place : ℕ) (read wanted : Option ℕ) → place < length places → read ≡ get_or places place read → read ≡ wanted → get_or places place None ≡ wanted
@@ -201,14 +239,32 @@ claimed-new bytes old new messages more places room place have at same_bytes pus
           ∙ have.placed j none (omega (arith, long)))));
     })
 
+-- nothing is being said
+pub unsaid : (bytes : ℕ) (pool : PoolView) (said : Option ℕ) → said_in bytes pool said ≡ None → said ≡ None
+unsaid bytes pool None is = refl
+unsaid bytes pool (Some cell) is = absurd (cc)
+
+-- where a frame stands
+pub there : (bytes : ℕ) (pool : PoolView) (messages : List Message) (said cell : Option ℕ) (places : ℕ) →
+    HasFrame (record { places = places; bytes = bytes; held = map (held_of bytes pool) messages; said = said_in bytes pool said }) cell → IsThere messages said cell
+there bytes pool messages None None places has = absurd (cc)
+there bytes pool messages (Some k) None places has = refl
+there bytes pool messages said (Some k) places has = rw length-map at has
+
+pub frame-there : (bytes : ℕ) (pool : PoolView) (messages : List Message) (said cell : Option ℕ) (places : ℕ) → IsThere messages said cell →
+    frame_on (record { places = places; bytes = bytes; held = map (held_of bytes pool) messages; said = said_in bytes pool said }) cell ≡ frame_at pool (number_at messages said cell) bytes
+frame-there bytes pool messages None None places is = absurd (cc)
+frame-there bytes pool messages (Some k) None places is = refl
+frame-there bytes pool messages said (Some k) places is = ap (λ (h : Held). h.frame) (get_or-map (held_of bytes pool) messages k none blank is)
+
 -- the pool of a memory
-pub pool-of : (bytes : ℕ) (pool : PoolView) (messages : List Message) (places : List (Option ℕ)) (room : ℕ) → IsMemory pool messages places room →
-    IsPoolOf (record { places = length places; bytes = bytes; held = map (held_of bytes pool) messages }) pool
-pool-of bytes pool messages places room is =
+pub pool-of : (bytes : ℕ) (pool : PoolView) (messages : List Message) (places : List (Option ℕ)) (room : ℕ) (said : Option ℕ) → IsMemory pool messages places room said → said_in bytes pool said ≡ None →
+    IsPoolOf (record { places = length places; bytes = bytes; held = map (held_of bytes pool) messages; said = said_in bytes pool said }) pool
+pool-of bytes pool messages places room said is quiet =
     let long : length (map (held_of bytes pool) messages) ≡ length messages = length-map messages (held_of bytes pool) in record {
       cells = is.sizes;
       kept = λ cell lt. is.cells.out cell (omega (arith, long));
-      others = λ cell ge lt. is.cells.free cell (omega (arith, long)) lt;
+      others = λ cell ge lt. is.cells.free cell (omega (arith, long)) lt (λ some. none-some cell (sym (unsaid bytes pool said quiet) ∙ some));
       frames = λ cell lt.
           let less : cell < length messages = omega (arith, long) in
           ap (λ (h : Held). h.frame) (get_or-map (held_of bytes pool) messages cell none blank less)
@@ -216,9 +272,9 @@ pool-of bytes pool messages places room is =
     }
 
 -- the number of the cell of a place, and what was sent there last, where it has one
-pub cell-found : (bytes : ℕ) (pool : PoolView) (messages : List Message) (places : List (Option ℕ)) (room place k : ℕ) → IsMemory pool messages places room → get_or places place None ≡ Some k →
+pub cell-found : (bytes : ℕ) (pool : PoolView) (messages : List Message) (places : List (Option ℕ)) (room place k : ℕ) (said : Option ℕ) → IsMemory pool messages places room said → get_or places place None ≡ Some k →
     Some (get_or messages k none).cell ≡ cell_of (map (held_of bytes pool) messages) place
-cell-found bytes pool messages places room place k is at =
+cell-found bytes pool messages places room place k said is at =
     let held : List Held = map (held_of bytes pool) messages in
     let have = is.at_places in
     let lt : k < length messages = have.found place k at in
@@ -230,9 +286,9 @@ cell-found bytes pool messages places room place k is at =
     (λ within. eq-eqb (get_or held k blank).place place here) in
     ap (λ (i : ℕ). Some i) (is.cells.order k none lt) ∙ sym (found-at (is_of place) held k first (omega (arith, long)))
 
-pub frame-found : (bytes : ℕ) (pool : PoolView) (messages : List Message) (places : List (Option ℕ)) (room place k : ℕ) → IsMemory pool messages places room → get_or places place None ≡ Some k →
+pub frame-found : (bytes : ℕ) (pool : PoolView) (messages : List Message) (places : List (Option ℕ)) (room place k : ℕ) (said : Option ℕ) → IsMemory pool messages places room said → get_or places place None ≡ Some k →
     Some (frame_at pool (get_or messages k none).cell bytes) ≡ frame_of (map (held_of bytes pool) messages) place
-frame-found bytes pool messages places room place k is at =
+frame-found bytes pool messages places room place k said is at =
     let held : List Held = map (held_of bytes pool) messages in
     let have = is.at_places in
     let lt : k < length messages = have.found place k at in
@@ -250,16 +306,16 @@ none-there bytes pool messages places room place have at j less same =
     let lt : j < length messages = rw length-map at less in
     none-some j (sym at ∙ ap (λ (i : ℕ). get_or places i None) (sym same ∙ place-held bytes pool messages j none lt) ∙ have.placed j none lt)
 
-pub cell-none : (bytes : ℕ) (pool : PoolView) (messages : List Message) (places : List (Option ℕ)) (room place : ℕ) → IsMemory pool messages places room → get_or places place None ≡ None →
+pub cell-none : (bytes : ℕ) (pool : PoolView) (messages : List Message) (places : List (Option ℕ)) (room place : ℕ) (said : Option ℕ) → IsMemory pool messages places room said → get_or places place None ≡ None →
     None ≡ cell_of (map (held_of bytes pool) messages) place
-cell-none bytes pool messages places room place is at =
+cell-none bytes pool messages places room place said is at =
     let held : List Held = map (held_of bytes pool) messages in
     sym (found-none (is_of place) held (position_or_len_is (is_of place) held (length held) blank (omega arith)
     (λ j less. other-eqb (get_or held j blank).place place (none-there bytes pool messages places room place is.at_places at j less)) (λ less. absurd (omega arith))))
 
-pub frame-none : (bytes : ℕ) (pool : PoolView) (messages : List Message) (places : List (Option ℕ)) (room place : ℕ) → IsMemory pool messages places room → get_or places place None ≡ None →
+pub frame-none : (bytes : ℕ) (pool : PoolView) (messages : List Message) (places : List (Option ℕ)) (room place : ℕ) (said : Option ℕ) → IsMemory pool messages places room said → get_or places place None ≡ None →
     None ≡ frame_of (map (held_of bytes pool) messages) place
-frame-none bytes pool messages places room place is at =
+frame-none bytes pool messages places room place said is at =
     sym (ap (option_map (λ (h : Held). h.frame)) (find-none place (map (held_of bytes pool) messages) (none-there bytes pool messages places room place is.at_places at)))
 
 -- the frame that was put into a cell

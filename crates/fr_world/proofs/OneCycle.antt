@@ -174,27 +174,6 @@ keys-ascend x keys are =
         let b = get_or-range_with_len 1 n j d within in
         omega (arith, a, b)
 
-heard-named : (x : Setting) (h : History) (node : NodeSpec) → (heard_node x h node.id).id ≡ node.id
-unfolding node_after
-heard-named x h node = refl
-
-pub nodes-ascend : (x : Setting) → IsSane x.params → (h : History) (nodes : List NodeView) → nodes ≡ map (λ node. heard_node x h node.id) (correct_nodes x) → NodesAscend nodes
-nodes-ascend x sane h nodes are =
-    let P : List NodeView → Type 0 = λ ns. NodesAscend ns in
-    subst P (sym are) (mapped (correct_nodes x) (AllPairs-filter (λ a b. a.id < b.id) (λ node. is_correct x node.id) x.params.nodes sane.lists.nodes_ascend))
-  where
-    mapped : (specs : List NodeSpec) → AllPairs (λ a b. a.id < b.id) specs → NodesAscend (map (λ node. heard_node x h node.id) specs)
-    mapped [] pairs i j d less short = absurd (omega arith)
-    mapped (s ∷ ss) pairs i j d less short =
-        let f : NodeSpec → NodeView = λ node. heard_node x h node.id in
-        let long = length-map (s ∷ ss) f in
-        let a : get_or (map f (s ∷ ss)) i d ≡ f (get_or (s ∷ ss) i s) = get_or-map f (s ∷ ss) i s d (omega arith) in
-        let b : get_or (map f (s ∷ ss)) j d ≡ f (get_or (s ∷ ss) j s) = get_or-map f (s ∷ ss) j s d (omega arith) in
-        let first : (get_or (map f (s ∷ ss)) i d).id ≡ (get_or (s ∷ ss) i s).id = ap (λ (n : NodeView). n.id) a ∙ heard-named x h (get_or (s ∷ ss) i s) in
-        let second : (get_or (map f (s ∷ ss)) j d).id ≡ (get_or (s ∷ ss) j s).id = ap (λ (n : NodeView). n.id) b ∙ heard-named x h (get_or (s ∷ ss) j s) in
-        let lt : (get_or (s ∷ ss) i s).id < (get_or (s ∷ ss) j s).id = pairs i j s less (omega arith) in
-        omega (arith, first, second, lt)
-
 pub length-kept : {X : Type 0} (p : X → Bool) (xs : List X) → length (filter p xs) ≤ length xs
 length-kept p [] = omega arith
 length-kept p (x ∷ xs) =
@@ -206,8 +185,51 @@ nodes-few x sane h nodes are =
     let long : length nodes ≡ length (correct_nodes x) = ap length are ∙ length-map (correct_nodes x) (λ node. node_after x h node.id) in
     omega (arith, long, length-kept (λ node. is_correct x node.id) x.params.nodes, sane.lists.few_nodes)
 
+-- nodes of the cluster's numbers are in ascending order, and at most as many as it has
+listable : (x : Setting) → IsSane x.params → (e : ℕ → NodeView) → ((id : ℕ) → (e id).id ≡ id) → (nodes : List NodeView) → nodes ≡ map (λ node. e node.id) (correct_nodes x) → AreListable nodes
+listable x sane e named nodes are =
+    let P : List NodeView → Type 0 = λ ns. NodesAscend ns in
+    let long : length nodes ≡ length (correct_nodes x) = ap length are ∙ length-map (correct_nodes x) (λ node. e node.id) in record {
+      ascending = subst P (sym are) (mapped (correct_nodes x) (AllPairs-filter (λ a b. a.id < b.id) (λ node. is_correct x node.id) x.params.nodes sane.lists.nodes_ascend));
+      few = omega (arith, long, length-kept (λ node. is_correct x node.id) x.params.nodes, sane.lists.few_nodes);
+    }
+  where
+    mapped : (specs : List NodeSpec) → AllPairs (λ a b. a.id < b.id) specs → NodesAscend (map (λ node. e node.id) specs)
+    mapped [] pairs i j d less short = absurd (omega arith)
+    mapped (s ∷ ss) pairs i j d less short =
+        let f : NodeSpec → NodeView = λ node. e node.id in
+        let long = length-map (s ∷ ss) f in
+        let a : get_or (map f (s ∷ ss)) i d ≡ f (get_or (s ∷ ss) i s) = get_or-map f (s ∷ ss) i s d (omega arith) in
+        let b : get_or (map f (s ∷ ss)) j d ≡ f (get_or (s ∷ ss) j s) = get_or-map f (s ∷ ss) j s d (omega arith) in
+        let first : (get_or (map f (s ∷ ss)) i d).id ≡ (get_or (s ∷ ss) i s).id = ap (λ (n : NodeView). n.id) a ∙ named (get_or (s ∷ ss) i s).id in
+        let second : (get_or (map f (s ∷ ss)) j d).id ≡ (get_or (s ∷ ss) j s).id = ap (λ (n : NodeView). n.id) b ∙ named (get_or (s ∷ ss) j s).id in
+        let lt : (get_or (s ∷ ss) i s).id < (get_or (s ∷ ss) j s).id = pairs i j s less (omega arith) in
+        omega (arith, first, second, lt)
+
+after-named : (x : Setting) (h : History) (id : ℕ) → (node_after x h id).id ≡ id
+unfolding node_after
+after-named x h id = refl
+
+heard-named : (x : Setting) (h : History) (id : ℕ) → (heard_node x h id).id ≡ id
+unfolding node_after
+heard-named x h id = refl
+
+pub waiting-listable : (x : Setting) → IsSane x.params → (h : History) (nodes : List NodeView) → nodes ≡ nodes_after x h → AreListable nodes
+waiting-listable x sane h nodes are = listable x sane (node_after x h) (after-named x h) nodes are
+
 pub are-listable : (x : Setting) → IsSane x.params → (h : History) (nodes : List NodeView) → nodes ≡ map (λ node. heard_node x h node.id) (correct_nodes x) → AreListable nodes
-are-listable x sane h nodes are =
-    let long : length nodes ≡ length (correct_nodes x) = ap length are ∙ length-map (correct_nodes x) (λ node. heard_node x h node.id) in
-    let same : length (nodes_after x h) ≡ length (correct_nodes x) = length-map (correct_nodes x) (λ node. node_after x h node.id) in
-    record { ascending = nodes-ascend x sane h nodes are; few = omega (arith, long, same, nodes-few x sane h (nodes_after x h) refl) }
+are-listable x sane h nodes are = listable x sane (heard_node x h) (heard-named x h) nodes are
+
+-- nodes whose cycle has begun have the same numbers
+pub begun-listable : (f : Files) (cycle : ℕ) (nodes : List NodeView) → AreListable nodes → AreListable (map (begun_in f cycle) nodes)
+begun-listable f cycle nodes is =
+    let g : NodeView → NodeView = begun_in f cycle in
+    let long : length (map g nodes) ≡ length nodes = length-map nodes g in record {
+      ascending = λ i j d less short.
+          let within : j < length nodes = omega (arith, long, short) in
+          let first : (get_or (map g nodes) i d).id ≡ (get_or nodes i d).id = ap (λ (n : NodeView). n.id) (get_or-map g nodes i d d (omega arith)) in
+          let second : (get_or (map g nodes) j d).id ≡ (get_or nodes j d).id = ap (λ (n : NodeView). n.id) (get_or-map g nodes j d d within) in
+          let lt : (get_or nodes i d).id < (get_or nodes j d).id = is.ascending i j d less within in
+          omega (arith, first, second, lt);
+      few = omega (arith, long, is.few);
+    }

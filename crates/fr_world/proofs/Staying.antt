@@ -1,12 +1,12 @@
 -- A frame that stands in a cell stays there while other cells are taken, written and given back.
-use Rattle.std.proofs.Common.{◌≡◌, ◌≢◌, ℕ, ◌<◌, ◌≤◌, Bool, true, false, List, [], length, take, ◌++◌, set, Some, inl, inr, refl, ap, sym, subst, ◌∙◌, arith}
+use Rattle.std.proofs.Common.{◌≡◌, ◌≢◌, ℕ, ◌<◌, ◌-◌, ◌/◌, ◌%◌, ◌^◌, bit_xor, Bool, true, false, List, [], length, take, drop, get_or, ◌++◌, set, Some, refl, ap, sym, subst, ◌∙◌, arith}
 use Rattle.std.specs.Prelude.{slice_get}
-use Rattle.std.proofs.lemmas.List.{get_or-set_other, get_or-set_same, length-set, take_at}
+use Rattle.std.proofs.lemmas.List.{get_or-set_other, get_or-set_same, length-set, set-set, take_at}
 use Rattle.std.proofs.lemmas.Option.{get_or_from_slice_get, slice_get-get_or, slice_get_within}
-use Rattle.fr_pool.specs.Pool.{PoolView, IsOut, Takes, given_back, taken_out, written_in}
+use Rattle.fr_pool.specs.Pool.{PoolView, IsOut, Takes, copied_in, given_back, taken_out, written_in}
+use Rattle.fr_reception.specs.Offers.{flipped}
 use Rattle.fr_pool.proofs.Returning.{set-returned}
-use Rattle.std.proofs.lemmas.Bool.{cases_eq}
-use Rattle.fr_world.specs.Cells.{HasTwoFree, Stands, Stays}
+use Rattle.fr_world.specs.Cells.{Stands, Stays}
 use Rattle.fr_world.specs.Memory.{frame_at}
 
 -- what is out with one cell changed
@@ -23,25 +23,6 @@ out-set-other out k j b c apart is =
 
 pub stays-same : (pool : PoolView) → Stays pool pool
 stays-same pool = record { out = refl; whole = refl; same = λ cell out. refl }
-
-pub stays-more : (first second third : PoolView) → Stays first second → Stays second third → Stays first third
-stays-more first second third a b = record {
-  out = b.out ∙ a.out;
-  whole = b.whole ∙ a.whole;
-  same = λ cell out. b.same cell (subst (λ flags. slice_get flags cell ≡ Some true) (sym a.out) out) ∙ a.same cell out;
-}
-
-pub frame-stays : (old new : PoolView) (cell bytes : ℕ) → IsOut old cell → Stays old new → frame_at new cell bytes ≡ frame_at old cell bytes
-frame-stays old new cell bytes out stays = ap (take bytes) (stays.same cell out)
-
-pub stands-stay : (old new : PoolView) (cell bytes : ℕ) → Stands old cell bytes → Stays old new → Stands new cell bytes
-stands-stay old new cell bytes stands stays = record {
-  out = rw stays.out stands.out;
-  whole = stays.whole ∙ stands.whole ∙ sym (ap length stays.out);
-  within = ap length (frame-stays old new cell bytes stands.out stays) ∙ stands.within;
-  short = stands.short;
-  spare = (stands.spare.0, rw stays.out stands.spare.1);
-}
 
 -- a cell that is taken, written and given back leaves all that was out as it was
 pub stays-lent : (old taken after last : PoolView) (cell : ℕ) (written : List ℕ) → Takes old cell taken → Stays (written_in cell written taken) after → last ≡ given_back cell after → Stays old last
@@ -63,24 +44,6 @@ stays-lent old taken after last cell written takes stays gave =
 pub front-written : (pool : PoolView) (cell bytes : ℕ) (front rest : List ℕ) → cell < length pool.bytes → length front ≡ bytes → frame_at (written_in cell (front ++ rest) pool) cell bytes ≡ front
 front-written pool cell bytes front rest lt long = ap (take bytes) (get_or-set_same pool.bytes cell (front ++ rest) [] lt) ∙ take_at front rest bytes long
 
--- a frame that is written at the front of a cell that was taken stands there, where another cell is free
-pub stands-fresh : (old taken : PoolView) (cell bytes : ℕ) (front rest : List ℕ) → Takes old cell taken → HasTwoFree old → length old.bytes ≡ length old.out → length front ≡ bytes → bytes ≤ 262 →
-    Stands (written_in cell (front ++ rest) taken) cell bytes
-stands-fresh old taken cell bytes front rest takes two whole long short =
-    let inside : cell < length old.out = slice_get_within old.out cell false takes.free in
-    let P : PoolView → Type 0 = λ pool. Stands (written_in cell (front ++ rest) pool) cell bytes in
-    let within : frame_at (written_in cell (front ++ rest) (taken_out cell old)) cell bytes ≡ front = front-written (taken_out cell old) cell bytes front rest (omega (arith, whole, inside)) long in
-    subst P (sym takes.taken) (record {
-      out = out-set-same old.out cell true inside;
-      whole = length-set old.bytes cell (front ++ rest) ∙ whole ∙ sym (length-set old.out cell true);
-      within = ap length within ∙ long;
-      short = short;
-      spare = elim (cases_eq two.one cell) [
-        | inl same ↦ (two.other, out-set-other old.out cell two.other true false (λ equal. absurd (omega (arith, same, equal, two.apart))) two.other_free)
-        | inr apart ↦ (two.one, out-set-other old.out cell two.one true false apart two.one_free)
-      ];
-    })
-
 -- a cell that is taken is out
 pub out-taken : (old taken : PoolView) (cell : ℕ) → Takes old cell taken → IsOut taken cell
 out-taken old taken cell takes =
@@ -95,3 +58,42 @@ read-back old taken cell front rest got takes whole is =
     let lt : cell < length taken.bytes = omega (arith, whole, inside, long) in
     ap (take (length front)) (sym (get_or_from_slice_get (set taken.bytes cell (front ++ rest)) cell got [] is) ∙ get_or-set_same taken.bytes cell (front ++ rest) [] lt)
     ∙ take_at front rest (length front) refl
+
+-- a cell that was out still is once another is taken
+pub out-kept : (old taken : PoolView) (cell other : ℕ) → Takes old cell taken → IsOut old other → IsOut taken other
+out-kept old taken cell other takes out =
+    let apart : other ≢ cell = λ equal.
+    let both : Some true ≡ Some false = sym out ∙ ap (slice_get old.out) equal ∙ takes.free in
+    cc in
+    let P : PoolView → Type 0 = λ pool. IsOut pool other in
+    subst P (sym takes.taken) (out-set-other old.out cell other true true apart out)
+
+length-flipped : (bit : ℕ) (bytes : List ℕ) → length (flipped bit bytes) ≡ length bytes
+unfolding flipped
+length-flipped bit bytes = length-set bytes (bit / 8) (bit_xor (get_or bytes (bit / 8) 0) (2 ^ (7 - bit % 8)))
+
+-- what is read of a cell in which a bit of a copied frame was inverted
+pub copy-read : (old taken copied : PoolView) (cell copy bytes bit : ℕ) (whole written got : List ℕ) → Takes old copy taken → Stands old cell bytes → copied ≡ copied_in cell copy taken → slice_get copied.bytes copy ≡ Some whole →
+    written ≡ flipped bit (take bytes whole) ++ drop bytes whole → slice_get (set copied.bytes copy written) copy ≡ Some got → take bytes got ≡ flipped bit (frame_at old cell bytes)
+copy-read old taken copied cell copy bytes bit whole written got takes stands is has now read =
+    let inside : copy < length old.out = slice_get_within old.out copy false takes.free in
+    let all : taken.bytes ≡ old.bytes = ap (λ (p : PoolView). p.bytes) takes.taken in
+    let lt : copy < length taken.bytes = omega (arith, ap length all, stands.whole, inside) in
+    let long : copy < length copied.bytes = omega (arith, ap (λ (p : PoolView). length p.bytes) is, length-set taken.bytes copy (get_or taken.bytes cell []), lt) in
+    let stored : get_or copied.bytes copy [] ≡ get_or old.bytes cell [] =
+    ap (λ (p : PoolView). get_or p.bytes copy []) is
+    ∙ get_or-set_same taken.bytes copy (get_or taken.bytes cell []) [] lt
+    ∙ ap (λ (stored : List (List ℕ)). get_or stored cell []) all in
+    let frame : take bytes whole ≡ frame_at old cell bytes = ap (take bytes) (sym (get_or_from_slice_get copied.bytes copy whole [] has) ∙ stored) in
+    let front : length (flipped bit (take bytes whole)) ≡ bytes = length-flipped bit (take bytes whole) ∙ ap length frame ∙ stands.within in
+    ap (take bytes) (sym (get_or_from_slice_get (set copied.bytes copy written) copy got [] read) ∙ get_or-set_same copied.bytes copy written [] long ∙ now)
+    ∙ take_at (flipped bit (take bytes whole)) (drop bytes whole) bytes front
+    ∙ ap (flipped bit) frame
+
+-- a cell that is taken, copied into, written and given back leaves all that was out as it was
+pub copy-lent : (old taken copied last : PoolView) (cell copy : ℕ) (written : List ℕ) → Takes old copy taken → copied ≡ copied_in cell copy taken → last ≡ given_back copy (written_in copy written copied) → Stays old last
+copy-lent old taken copied last cell copy written takes is gave =
+    let twice : written_in copy written (copied_in cell copy taken) ≡ written_in copy written taken =
+    ap (λ (stored : List (List ℕ)). let pool : PoolView = record taken { bytes = stored } in pool) (set-set taken.bytes copy (get_or taken.bytes cell []) written) in
+    stays-lent old taken (written_in copy written taken) last copy written takes (stays-same (written_in copy written taken))
+    (gave ∙ ap (λ (p : PoolView). given_back copy (written_in copy written p)) is ∙ ap (given_back copy) twice)

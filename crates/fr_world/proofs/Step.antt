@@ -1,5 +1,6 @@
 -- One cycle of a node: after the next record of the history it stands as the history says.
-use Rattle.std.proofs.Common.{◌≡◌, ℕ, ◌+◌, ℤ, pos, Bool, true, false, not, ◌&&◌, Option, None, [], ◌∷◌, ◌++◌, length, refl, ap, sym, ◌∙◌, append-nil, if◌then◌else◌, add-one}
+use Rattle.std.proofs.Common.{◌≡◌, ℕ, ◌+◌, ℤ, pos, Bool, true, false, not, ◌&&◌, Option, Some, None, List, [], ◌∷◌, ◌++◌, length, refl, ap, sym, ◌∙◌, append-nil, if◌then◌else◌, add-one}
+use Rattle.std.proofs.lemmas.List.Sums.{fold-append}
 use Rattle.fr_base.specs.States.{cut_of, is_halted}
 use Rattle.fr_base.specs.declared.node_row.NodeRow.{NodeRow}
 use Rattle.fr_base.specs.declared.state.Outcome.{Outcome}
@@ -19,7 +20,7 @@ use Rattle.fr_correct.specs.Terms.{offset_term_of, rate_term_of}
 use Rattle.fr_correct.specs.declared.term.Term.{Term}
 use Rattle.fr_poc.specs.Control.{Control, Status, control_of, status_after, step_of, stepped, worse_of}
 use Rattle.fr_poc.specs.declared.control.PocLimits.{PocLimits}
-use Rattle.fr_node.specs.Cycle.{in_cycle, corrects, ended, next_control, next_rate}
+use Rattle.fr_node.specs.Cycle.{in_cycle, corrects, ended, next_control, next_outcomes, next_rate}
 use Rattle.fr_node.specs.Cycle as node_cycle
 use Rattle.fr_poc.specs.Limits.{limits_of}
 use Rattle.fr_node.specs.View.{NodeView, node_row_of}
@@ -29,7 +30,7 @@ use Rattle.fr_history.specs.Lawful.{rate_after, rate_by, start_after, start_by}
 use Rattle.fr_history.specs.Next.{early_row, early_rows, next_devs, next_record}
 use Rattle.fr_history.specs.Terms.{cuts_in, latest_devs, offset_term_in, outcomes_in, rate_term_in, status_in}
 use Rattle.fr_world.specs.Hearing.{after_slots}
-use Rattle.fr_world.specs.Standing.{node_after, readings_after, readings_of}
+use Rattle.fr_world.specs.Standing.{later_pair, latest_pair, node_after, readings_after, readings_of}
 use Rattle.fr_world.proofs.Columns.{next_table, offset_values_same, rate_values_same}
 use Rattle.fr_history.proofs.Flat.{Among}
 use Rattle.fr_history.proofs.Rows.{more_control, next_row, outcomes-next, row_of-next}
@@ -155,13 +156,39 @@ control_is x h node is =
     ∙ ap (λ (status : Status). let made : Control = record { limits = limits_of x.params; status = status } in made)
     (status_by x h node is (is_odd (length h)) (is_halted (status_in x.params h node.id).state) refl refl ∙ sym (ap (control_of (limits_of x.params)) (outcomes-next x h node is)))
 
+-- ---- the outcomes
+
+-- those of an odd cycle come last
+outcomes_by : (x : Setting) (h : History) (node : ℕ) (odd : Bool) → is_odd (length h) ≡ odd →
+    (if odd then Some ((node_cycle.offset_term_of_node x.params (heard_node x h node)).outcome, (node_cycle.rate_term_of_node x.params (heard_node x h node)).outcome) else latest_pair (outcomes_in x.params h node))
+    ≡ latest_pair (outcomes_in x.params h node ++ (if odd then ((offset_term_in x.params h (next_devs x h) node).outcome, (rate_term_in x.params h (next_devs x h) (early_row x h node)).outcome) ∷ [] else []))
+outcomes_by x h node false odd = sym (ap latest_pair (append-nil (outcomes_in x.params h node)))
+outcomes_by x h node true odd =
+    ap (λ (t : Term). let o : Option (Outcome × Outcome) = Some (t.outcome, (node_cycle.rate_term_of_node x.params (heard_node x h node)).outcome) in o) (offset_same x h node odd)
+    ∙ ap (λ (t : Term). let o : Option (Outcome × Outcome) = Some ((offset_term_in x.params h (next_devs x h) node).outcome, t.outcome) in o) (rate_same x h node odd)
+    ∙ sym (fold-append later_pair None (outcomes_in x.params h node) (((offset_term_in x.params h (next_devs x h) node).outcome, (rate_term_in x.params h (next_devs x h) (early_row x h node)).outcome) ∷ []))
+
+outcomes_are : (x : Setting) (h : History) (node : NodeSpec) → Among node (correct_nodes x) → next_outcomes x.params (heard_node x h node.id) ≡ latest_pair (outcomes_in x.params (next_record x h ∷ h) node.id)
+unfolding node_after
+outcomes_are x h node is = outcomes_by x h node.id (is_odd (length h)) refl ∙ sym (ap latest_pair (outcomes-next x h node is))
+
 -- ---- the node
 
-abbrev made_node : ℕ → ℕ → ℤ → ℤ → Readings → Control → NodeView
-made_node id cycle start rate table control = record { id = id; cycle = cycle; length = None; start = start; rate = rate; table = table; control = control }
+abbrev made_node : ℕ → ℕ → ℤ → ℤ → Readings → Control → Option (Outcome × Outcome) → NodeView
+made_node id cycle start rate table control outcomes = record {
+  id = id;
+  cycle = cycle;
+  length = None;
+  start = start;
+  rate = rate;
+  table = table;
+  control = control;
+  follows = false;
+  outcomes = outcomes;
+}
 
-node_same : (id c d : ℕ) (s t r q : ℤ) (table : Readings) (k l : Control) → c ≡ d → s ≡ t → r ≡ q → k ≡ l → made_node id c s r table k ≡ made_node id d t q table l
-node_same id c d s t r q table k l cycles starts rates controls = cc
+node_same : (id c d : ℕ) (s t r q : ℤ) (table : Readings) (k l : Control) (o m : Option (Outcome × Outcome)) → c ≡ d → s ≡ t → r ≡ q → k ≡ l → o ≡ m → made_node id c s r table k o ≡ made_node id d t q table l m
+node_same id c d s t r q table k l o m cycles starts rates controls outcomes = cc
 
 pub ended_is : (x : Setting) (h : History) (node : NodeSpec) → Among node (correct_nodes x) → ended x.params (heard_node x h node.id) ≡ node_after x (next_record x h ∷ h) node.id
 unfolding node_after
@@ -171,4 +198,5 @@ ended_is x h node is =
     (next_rate x.params (heard_node x h node.id)) (rate_after x (next_record x h ∷ h) node.id)
     (readings_after x (next_record x h ∷ h) node.id)
     (next_control x.params (heard_node x h node.id)) (record { limits = limits_of x.params; status = status_in x.params (next_record x h ∷ h) node.id })
-    (add-one (length h)) (start_is x h node is) (next_rate_is x h node is) (control_is x h node is)
+    (next_outcomes x.params (heard_node x h node.id)) (latest_pair (outcomes_in x.params (next_record x h ∷ h) node.id))
+    (add-one (length h)) (start_is x h node is) (next_rate_is x h node is) (control_is x h node is) (outcomes_are x h node is)

@@ -24,6 +24,10 @@ use Rattle.fr_world.specs.Listing.{listed_among, listed_at, listed_of}
 pub all-more : {X : Type 0} (P : X → Type 0) (xs : List X) (i : ℕ) (new : X) → i < length xs → P new → All P (take i xs) → All P (take (i + 1) (set xs i new))
 all-more P xs i new lt now so_far = rw (take_more_set xs i new lt) (All-push P (take i xs) new so_far now)
 
+-- a fact of all is one of the element at a place
+pub All-at : {X : Type 0} (P : X → Type 0) (xs : List X) (i : ℕ) (x : X) → i < length xs → x ≡ get_or xs i x → All P xs → P x
+All-at P xs i x lt at all = subst P (sym at) (all i x lt)
+
 -- earlier elements are below
 pub below : {X : Type 0} (R : X → X → Type 0) (xs : List X) (i : ℕ) (x : X) → AllPairs R xs → i < length xs → x ≡ get_or xs i x → All (λ y. R y x) (take i xs)
 below {X = X} R xs i x pairs lt at k d short =

@@ -20,6 +20,7 @@ use Rattle.fr_history.specs.Offers.{offer_in, stored_in, value_of}
 use Rattle.fr_world.specs.Hearing.{after_channel, after_offer, after_slot, after_slots}
 use Rattle.fr_history.proofs.Marks.{HasMarks, offer_in-marked}
 use Rattle.fr_world.proofs.Store.{IsTable, stored-table, stored_even, stored_here, stored_index, stored_odd, stored_on_a, stored_on_b}
+use Rattle.fr_world.specs.Walk.{on_both, walked}
 
 -- a node with the deviation of a slot on a channel, if there is one
 abbrev with_value : Values → NodeView → ℕ → Channel → Option ℤ → NodeView
@@ -103,16 +104,17 @@ table_with-on_b (Some k) index odd (Some value) t = stored_on_b t k index odd va
 
 -- ---- a slot, and the slots of a cycle
 
--- what a slot makes of a table
-abbrev slot_table : Setting → ℕ → List NodeRow → NodeRow → Bool → ℕ → Readings → Readings
-slot_table x cycle rows row odd slot t =
-    table_with (key_index_of x.params slot) odd B (stored_in x cycle rows row slot B)
-    (table_with (key_index_of x.params slot) odd A (stored_in x cycle rows row slot A) t)
+-- what a slot on a channel makes of a table
+abbrev table_on : Setting → ℕ → List NodeRow → NodeRow → Bool → ℕ → Channel → Readings → Readings
+table_on x cycle rows row odd slot channel t = table_with (key_index_of x.params slot) odd channel (stored_in x cycle rows row slot channel) t
 
--- and what so many slots do
-unfoldable pub table_after : Setting → ℕ → List NodeRow → NodeRow → Bool → ℕ → Readings → Readings
-table_after x cycle rows row odd zero t = t
-table_after x cycle rows row odd (suc earlier) t = slot_table x cycle rows row odd (suc earlier) (table_after x cycle rows row odd earlier t)
+-- a slot on both channels
+abbrev slot_table : Setting → ℕ → List NodeRow → NodeRow → Bool → ℕ → Readings → Readings
+slot_table x cycle rows row odd slot t = on_both (table_on x cycle rows row odd) slot t
+
+-- and so many slots
+abbrev pub table_after : Setting → ℕ → List NodeRow → NodeRow → Bool → ℕ → Readings → Readings
+table_after x cycle rows row odd count t = walked (table_on x cycle rows row odd) count t
 
 channel_with_table : (x : Setting) (cycle : ℕ) (rows : List NodeRow) (slot : ℕ) (channel : Channel) (node : NodeView) (t : Readings) →
     after_channel x cycle rows slot channel (with_table node t) ≡ with_table node (table_with (key_index_of x.params slot) (is_odd node.cycle) channel (stored_in x cycle rows (node_row_of node) slot channel) t)
@@ -130,7 +132,7 @@ slot_with_table x cycle rows slot node t =
 
 pub slots_with_table : (x : Setting) (cycle : ℕ) (rows : List NodeRow) (node : NodeView) (count : ℕ) →
     after_slots x cycle rows count node ≡ with_table node (table_after x cycle rows (node_row_of node) (is_odd node.cycle) count node.table)
-unfolding after_slots table_after
+unfolding walked
 slots_with_table x cycle rows node zero = refl
 slots_with_table x cycle rows node (suc earlier) =
     ap (after_slot x cycle rows (suc earlier)) (slots_with_table x cycle rows node earlier)
@@ -142,7 +144,7 @@ slot_table-table x cycle rows row odd slot t is =
     (table_with-table (key_index_of x.params slot) odd A (stored_in x cycle rows row slot A) t is)
 
 pub table_after-table : (x : Setting) (cycle : ℕ) (rows : List NodeRow) (row : NodeRow) (odd : Bool) (count : ℕ) (t : Readings) → IsTable t → IsTable (table_after x cycle rows row odd count t)
-unfolding table_after
+unfolding walked
 table_after-table x cycle rows row odd zero t is = is
 table_after-table x cycle rows row odd (suc earlier) t is = slot_table-table x cycle rows row odd (suc earlier) (table_after x cycle rows row odd earlier t) (table_after-table x cycle rows row odd earlier t is)
 
@@ -190,7 +192,7 @@ AreOneToOne p = (slot other index : ℕ) → key_index_of p slot ≡ Some index 
 
 unused_reading : (x : Setting) (cycle : ℕ) (rows : List NodeRow) (row : NodeRow) (odd : Bool) (t : Readings) (index : ℕ) (p : Bool) (c : Channel) (count : ℕ) →
     ((slot : ℕ) → slot ≤ count → key_index_of x.params slot ≢ Some index) → reading (table_after x cycle rows row odd count t) index p c ≡ reading t index p c
-unfolding table_after
+unfolding walked
 unused_reading x cycle rows row odd t index p c zero unused = refl
 unused_reading x cycle rows row odd t index p c (suc earlier) unused =
     slot_other x cycle rows row odd (suc earlier) (table_after x cycle rows row odd earlier t) index p c (unused (suc earlier) (omega arith))
@@ -199,7 +201,7 @@ unused_reading x cycle rows row odd t index p c (suc earlier) unused =
 -- after its slot it is what was stored there
 pub used_reading : (x : Setting) → AreOneToOne x.params → (cycle : ℕ) (rows : List NodeRow) (row : NodeRow) (odd : Bool) (t : Readings) → IsTable t → (index slot : ℕ) (c : Channel) → index < 15 →
     key_index_of x.params slot ≡ Some index → reading t index odd c ≡ None → (count : ℕ) → 1 ≤ slot → slot ≤ count → reading (table_after x cycle rows row odd count t) index odd c ≡ stored_in x cycle rows row slot c
-unfolding table_after
+unfolding walked
 used_reading x one cycle rows row odd t is index slot c below same none zero low high = absurd (omega arith)
 used_reading x one cycle rows row odd t is index slot c below same none (suc earlier) low high =
     by_place (used_reading x one cycle rows row odd t is index slot c below same none earlier low) (grind arith)
@@ -230,7 +232,7 @@ table_with-column (Some k) true channel (Some value) t c = stored_odd t k channe
 table_with-column (Some k) false channel (Some value) t c = stored_even t k channel c value
 
 pub other_column : (x : Setting) (cycle : ℕ) (rows : List NodeRow) (row : NodeRow) (odd : Bool) (t : Readings) (c : Channel) (count : ℕ) → column (table_after x cycle rows row odd count t) (not odd) c ≡ column t (not odd) c
-unfolding table_after
+unfolding walked
 other_column x cycle rows row odd t c zero = refl
 other_column x cycle rows row odd t c (suc earlier) =
     let k : Option ℕ = key_index_of x.params (suc earlier) in

@@ -1,5 +1,5 @@
 -- What holds of the parts of a message memory, and of a frame that stands in a cell while it is offered.
-use Rattle.std.specs.Prelude.{◌≡◌, ℕ, ◌+◌, ◌<◌, ◌≤◌, List, [], ◌∷◌, length, slice_index_or, slice_set, Option, Some, None}
+use Rattle.std.specs.Prelude.{◌≡◌, ◌≢◌, ℕ, ◌+◌, ◌<◌, ◌≤◌, List, [], ◌∷◌, length, slice_index_or, slice_set, Option, Some, None, IsSome, option_map, unwrap_or}
 use Rattle.fr_pool.specs.Pool.{PoolView, HasFree, IsFree, IsOut}
 use Rattle.fr_world.specs.Memory.{Held, frame_at, sent_at}
 use Rattle.fr_world.specs.declared.memory.Message.{Message}
@@ -8,11 +8,26 @@ use Rattle.fr_world.specs.declared.memory.Message.{Message}
 abbrev pub held_of : ℕ → PoolView → Message → Held
 held_of bytes pool message = record { place = message.place; frame = frame_at pool message.cell bytes }
 
--- each message is in the cell of its own number, and the cells of the messages are out and no others
-pub record HaveCells (pool : PoolView) (messages : List Message) : Type 0 where
+-- each message is in the cell of its own number, and the cells of the messages and of what is said are out and no others
+pub record HaveCells (pool : PoolView) (messages : List Message) (said : Option ℕ) : Type 0 where
   pub order : (k : ℕ) (d : Message) → k < length messages → (slice_index_or messages k d).cell ≡ k
   pub out : (k : ℕ) → k < length messages → IsOut pool k
-  pub free : (k : ℕ) → length messages ≤ k → k < length pool.out → IsFree pool k
+  pub said_out : (k : ℕ) → said ≡ Some k → (length messages ≤ k) × IsOut pool k
+  pub free : (k : ℕ) → length messages ≤ k → k < length pool.out → said ≢ Some k → IsFree pool k
+
+-- the number of the cell of a message, or of that of what is said
+abbrev pub number_at : List Message → Option ℕ → Option ℕ → ℕ
+number_at messages said None = unwrap_or said 0
+number_at messages said (Some k) = (slice_index_or messages k (record { place = 0; cell = 0 })).cell
+
+-- there is one
+abbrev pub IsThere : List Message → Option ℕ → Option ℕ → Type 0
+IsThere messages said None = IsSome said
+IsThere messages said (Some k) = k < length messages
+
+-- what is said
+abbrev pub said_in : ℕ → PoolView → Option ℕ → Option (List ℕ)
+said_in bytes pool said = option_map (λ cell. frame_at pool cell bytes) said
 
 -- how many places have a number
 abbrev pub numbered : List (Option ℕ) → ℕ
@@ -29,10 +44,10 @@ pub record HavePlaces (messages : List Message) (places : List (Option ℕ)) (ro
   pub placed : (k : ℕ) (d : Message) → k < length messages → slice_index_or places (slice_index_or messages k d).place None ≡ Some k
 
 -- what holds of the parts of a memory: there are two more cells than places
-pub record IsMemory (pool : PoolView) (messages : List Message) (places : List (Option ℕ)) (room : ℕ) : Type 0 where
+pub record IsMemory (pool : PoolView) (messages : List Message) (places : List (Option ℕ)) (room : ℕ) (said : Option ℕ) : Type 0 where
   pub sizes : length pool.out ≡ length places + 2
   pub whole : length pool.bytes ≡ length pool.out
-  pub cells : HaveCells pool messages
+  pub cells : HaveCells pool messages said
   pub at_places : HavePlaces messages places room
 
 -- the cell with this number is the one of a place, and it takes what is sent there
@@ -54,11 +69,3 @@ pub record Stays (old new : PoolView) : Type 0 where
   pub out : new.out ≡ old.out
   pub whole : length new.bytes ≡ length old.bytes
   pub same : (cell : ℕ) → IsOut old cell → slice_index_or new.bytes cell [] ≡ slice_index_or old.bytes cell []
-
--- two cells are free
-pub record HasTwoFree (pool : PoolView) : Type 0 where
-  pub one : ℕ
-  pub other : ℕ
-  pub apart : one < other
-  pub one_free : IsFree pool one
-  pub other_free : IsFree pool other

@@ -1,6 +1,6 @@
 -- How the frames of a cycle are counted: slot by slot, and in each slot channel by channel, the frame that is sent and
 -- then the answers of all receivers.
-use Rattle.std.specs.Prelude.{ℕ, zero, suc, ◌+◌, bit_xor, List, fold, Option, Some, None}
+use Rattle.std.specs.Prelude.{ℕ, ◌+◌, bit_xor, List, fold, Option, Some, None}
 use Rattle.fr_base.specs.declared.channel.Channel.{Channel}
 use Rattle.fr_base.specs.declared.channel.Channel.TheVariants.{A, B}
 use Rattle.fr_base.specs.declared.cycle_row.Counts.{Counts}
@@ -13,6 +13,7 @@ use Rattle.fr_reception.specs.declared.heard.Heard.TheVariants.{Stored, Ignored}
 use Rattle.fr_reception.specs.declared.heard.Ignored.TheVariants as reason
 use Rattle.fr_cluster.specs.Setting.{Setting}
 use Rattle.fr_history.specs.Offers.{frame_in, offer_in}
+use Rattle.fr_world.specs.Walk.{on_both, walked}
 
 -- with one more answer
 abbrev pub with_answer : Heard → Counts → Counts
@@ -51,9 +52,8 @@ counts_on x cycle rows slot channel counts =
 
 -- after a slot on both channels
 abbrev pub counts_in : Setting → ℕ → List NodeRow → ℕ → Counts → Counts
-counts_in x cycle rows slot counts = counts_on x cycle rows slot B (counts_on x cycle rows slot A counts)
+counts_in x cycle rows slot counts = on_both (counts_on x cycle rows) slot counts
 
 -- after so many slots of the cycle
-unfoldable pub counts_after : Setting → ℕ → List NodeRow → ℕ → Counts → Counts
-counts_after x cycle rows zero counts = counts
-counts_after x cycle rows (suc earlier) counts = counts_in x cycle rows (suc earlier) (counts_after x cycle rows earlier counts)
+abbrev pub counts_after : Setting → ℕ → List NodeRow → ℕ → Counts → Counts
+counts_after x cycle rows count counts = walked (counts_on x cycle rows) count counts

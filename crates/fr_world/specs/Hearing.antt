@@ -1,7 +1,6 @@
 -- What a node hears in the slots of a cycle, one after the other.
-use Rattle.std.specs.Prelude.{ℕ, zero, suc, List, Option, Some, None}
+use Rattle.std.specs.Prelude.{ℕ, List, Option, Some, None}
 use Rattle.fr_base.specs.declared.channel.Channel.{Channel}
-use Rattle.fr_base.specs.declared.channel.Channel.TheVariants.{A, B}
 use Rattle.fr_base.specs.declared.node_row.NodeRow.{NodeRow}
 use Rattle.fr_reception.specs.Answers.{answer_of}
 use Rattle.fr_reception.specs.Offers.{Offer}
@@ -9,6 +8,7 @@ use Rattle.fr_node.specs.Cycle.{after_hearing}
 use Rattle.fr_node.specs.View.{NodeView, node_row_of}
 use Rattle.fr_cluster.specs.Setting.{Setting}
 use Rattle.fr_history.specs.Offers.{offer_in}
+use Rattle.fr_world.specs.Walk.{on_both, walked}
 
 -- a node after its answer to what is offered to it, if something is
 abbrev pub after_offer : Setting → ℕ → NodeView → Option Offer → NodeView
@@ -22,9 +22,8 @@ after_channel x cycle rows slot channel node = after_offer x cycle node (offer_i
 
 -- after a slot on both channels
 abbrev pub after_slot : Setting → ℕ → List NodeRow → ℕ → NodeView → NodeView
-after_slot x cycle rows slot node = after_channel x cycle rows slot B (after_channel x cycle rows slot A node)
+after_slot x cycle rows slot node = on_both (after_channel x cycle rows) slot node
 
 -- after so many slots of the cycle
-unfoldable pub after_slots : Setting → ℕ → List NodeRow → ℕ → NodeView → NodeView
-after_slots x cycle rows zero node = node
-after_slots x cycle rows (suc earlier) node = after_slot x cycle rows (suc earlier) (after_slots x cycle rows earlier node)
+abbrev pub after_slots : Setting → ℕ → List NodeRow → ℕ → NodeView → NodeView
+after_slots x cycle rows count node = walked (after_channel x cycle rows) count node

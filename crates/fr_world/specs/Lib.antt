@@ -2,6 +2,7 @@
 pub mod Standing
 pub mod Files
 pub mod Listing
+pub mod Walk
 pub mod World
 pub mod Ends
 pub mod Memory
@@ -11,5 +12,6 @@ pub mod Counting
 pub mod Sending
 pub mod Cycling
 pub mod Turns
+pub mod Stage
 pub mod Kept
 pub mod Cells

@@ -1,8 +1,7 @@
 -- The message memory of a world: a cell of a pool for each slot and channel in which a correct node sent a frame.
-use Rattle.std.specs.Prelude.{◌≡◌, ◌<◌, ◌≤◌, Bool, find, position, option_map, ℕ, zero, suc, ◌+◌, ◌-◌, ◌*◌, ◌==◌, List, [], ◌∷◌, length, take, slice_index_or, slice_set, Option, Some, None, if◌then◌else◌}
+use Rattle.std.specs.Prelude.{◌≡◌, ◌<◌, ◌≤◌, Bool, find, position, option_map, ℕ, ◌+◌, ◌-◌, ◌*◌, ◌==◌, List, [], ◌∷◌, length, take, slice_index_or, slice_set, Option, Some, None, IsSome, unwrap_or, if◌then◌else◌}
 use Rattle.fr_base.specs.Rows.{channel_rank}
 use Rattle.fr_base.specs.declared.channel.Channel.{Channel}
-use Rattle.fr_base.specs.declared.channel.Channel.TheVariants.{A, B}
 use Rattle.fr_base.specs.declared.node_row.NodeRow.{NodeRow}
 use Rattle.fr_cluster.specs.Values.{Values, amount}
 use Rattle.fr_cluster.specs.declared.names.ParamName.TheVariants as name
@@ -11,6 +10,7 @@ use Rattle.fr_reception.specs.Regular.{payload_bytes}
 use Rattle.fr_history.specs.History.{History}
 use Rattle.fr_history.specs.Next.{early_rows}
 use Rattle.fr_history.specs.Offers.{frame_in}
+use Rattle.fr_world.specs.Walk.{walked}
 use Rattle.fr_pool.specs.Pool.{PoolView, IsFree, IsOut}
 
 -- a slot on a channel, as one number: both channels of a slot stand side by side
@@ -45,14 +45,9 @@ with_sent place (Some frame) held = sent_at place frame held
 abbrev pub held_on : Setting → ℕ → List NodeRow → ℕ → Channel → List Held → List Held
 held_on x cycle rows slot channel held = with_sent (place_of_slot slot channel) (frame_in x cycle rows slot channel) held
 
--- after a slot on both channels
-abbrev pub held_in : Setting → ℕ → List NodeRow → ℕ → List Held → List Held
-held_in x cycle rows slot held = held_on x cycle rows slot B (held_on x cycle rows slot A held)
-
 -- after so many slots of the cycle
-unfoldable pub held_slots : Setting → ℕ → List NodeRow → ℕ → List Held → List Held
-held_slots x cycle rows zero held = held
-held_slots x cycle rows (suc earlier) held = held_in x cycle rows (suc earlier) (held_slots x cycle rows earlier held)
+abbrev pub held_slots : Setting → ℕ → List NodeRow → ℕ → List Held → List Held
+held_slots x cycle rows count held = walked (held_on x cycle rows) count held
 
 -- what stands in the cells after a history, each cell at its number
 unfoldable pub held_after : Setting → History → List Held
@@ -60,16 +55,27 @@ held_after x [] = []
 held_after x (r ∷ h) =
     held_slots x (length h) (early_rows x h) (amount x.params name.gNumberOfStaticSlots) (held_after x h)
 
--- A message memory: for how many slots and channels there is room, how many bytes a frame has, and what stands in the
--- cells that are kept.
+-- A message memory: for how many slots and channels there is room, how many bytes a frame has, what stands in the cells
+-- that are kept, and the frame that is being said, if one is.
 pub record MemoryView : Type 0 where
   pub places : ℕ
   pub bytes : ℕ
   pub held : List Held
+  pub said : Option (List ℕ)
 
--- a memory of a cluster with these in its cells
+-- a memory of a cluster with these in its cells, between turns
 abbrev pub memory_with : Values → List Held → MemoryView
-memory_with p held = record { places = 2 * amount p name.gNumberOfStaticSlots; bytes = 8 + payload_bytes p; held = held }
+memory_with p held = record { places = 2 * amount p name.gNumberOfStaticSlots; bytes = 8 + payload_bytes p; held = held; said = None }
+
+-- what stands in a kept cell, or else what is being said
+abbrev pub frame_on : MemoryView → Option ℕ → List ℕ
+frame_on memory None = unwrap_or memory.said []
+frame_on memory (Some cell) = (held_at memory.held cell).frame
+
+-- there is such a frame
+abbrev pub HasFrame : MemoryView → Option ℕ → Type 0
+HasFrame memory None = IsSome memory.said
+HasFrame memory (Some cell) = cell < length memory.held
 
 -- the bytes at the front of a cell
 abbrev pub frame_at : PoolView → ℕ → ℕ → List ℕ

@@ -72,7 +72,7 @@ sent_instant x turn sender receiver =
 -- the instant at which a correct sender with this row sends
 pub record IsDue (f : Files) (turn : Turn) (sender : NodeRow) (due : ℤ) : Type 0 where
   pub value : due ≡ action_instant f.params sender turn.slot
-  pub within : IsBetween (pos 0) (pos 901_000_000_000_000_000) due
+  pub within : IsBetween (pos 0) (pos 1_111_000_000_000_000_000) due
 
 -- the instant at which what is said comes: so many ticks later than the receiver expects a frame
 abbrev pub said_instant : Setting → Turn → NodeRow → ℤ → ℤ

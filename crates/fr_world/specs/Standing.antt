@@ -1,9 +1,10 @@
 -- How the nodes of a world stand after a history.
-use Rattle.std.specs.Prelude.{ℕ, ℤ, List, [], ◌∷◌, length, map, Option, None, option_and_then, if◌then◌else◌}
+use Rattle.std.specs.Prelude.{ℕ, ℤ, false, List, [], ◌∷◌, fold, length, map, Option, Some, None, option_and_then, if◌then◌else◌}
 use Rattle.std.specs.List.{range_with_len}
 use Rattle.fr_base.specs.declared.channel.Channel.{Channel}
 use Rattle.fr_base.specs.declared.channel.Channel.TheVariants.{A, B}
 use Rattle.fr_base.specs.declared.dev.Dev.{Dev}
+use Rattle.fr_base.specs.declared.state.Outcome.{Outcome}
 use Rattle.fr_cluster.specs.Values.{Values}
 use Rattle.fr_time.specs.Cycles.{is_odd}
 use Rattle.fr_measure.specs.Readings.{Readings, no_readings}
@@ -12,7 +13,7 @@ use Rattle.fr_node.specs.View.{NodeView}
 use Rattle.fr_cluster.specs.Setting.{Setting}
 use Rattle.fr_history.specs.History.{History}
 use Rattle.fr_history.specs.Lawful.{rate_after, row_nodes, start_after}
-use Rattle.fr_history.specs.Terms.{latest_devs, status_in}
+use Rattle.fr_history.specs.Terms.{latest_devs, outcomes_in, status_in}
 use Rattle.fr_base.specs.Rows.{dev_in}
 use Rattle.fr_cluster.specs.Questions.{key_slot_of}
 
@@ -39,7 +40,14 @@ readings_after x [] node = no_readings
 readings_after x (r ∷ h) node =
     if is_odd (length h) then readings_of x.params (latest_devs h) r.devs node else readings_of x.params r.devs [] node
 
--- a node after a history, before its next cycle
+-- the last of some pairs of outcomes, if there is one
+abbrev pub later_pair : Option (Outcome × Outcome) → Outcome × Outcome → Option (Outcome × Outcome)
+later_pair earlier pair = Some pair
+
+abbrev pub latest_pair : List (Outcome × Outcome) → Option (Outcome × Outcome)
+latest_pair pairs = fold later_pair None pairs
+
+-- a node after a history, before its next cycle: none follows
 unfoldable pub node_after : Setting → History → ℕ → NodeView
 node_after x h node = record {
   id = node;
@@ -49,6 +57,8 @@ node_after x h node = record {
   rate = rate_after x h node;
   table = readings_after x h node;
   control = record { limits = limits_of x.params; status = status_in x.params h node };
+  follows = false;
+  outcomes = latest_pair (outcomes_in x.params h node);
 }
 
 -- the nodes with a row in the cycle after a history, in ascending order

@@ -22,6 +22,7 @@ use Rattle.fr_time.specs.Position.{grid_for}
 use Rattle.fr_base.specs.Counts.{AreAtMost}
 use Rattle.fr_world.specs.Listing.{HasRoom, ordered_keys}
 use Rattle.fr_world.specs.Memory.{MemoryView, held_after, memory_with}
+use Rattle.fr_world.specs.Stage.{StageView}
 use Rattle.fr_world.specs.Standing.{node_after, nodes_after}
 use Rattle.fr_world.specs.declared.files.Files.{Files}
 
@@ -43,24 +44,24 @@ pub record IsRowOf (x : Setting) (cycle : ℕ) (row : CycleRow) : Type 0 where
   pub placed : All (IsPlacedRow (grid_for x.params)) row.rows
   pub few : AreAtMost 1_000_000 row.counts
 
--- the nodes of a world stand after the history of so many cycles, its key slots are the cluster's, and the list of deviations
--- has room for those of a cycle
-pub record StandAfter (f : Files) (cycles : ℕ) (keys : List ℕ) (nodes : List NodeView) (devs : Roomy) : Type 0 where
-  pub keys_are : keys ≡ ordered_keys f.params
-  pub nodes_are : nodes ≡ nodes_after (setting_in f) (history_of (setting_in f) cycles)
-  pub fitting : All (NodeFits f.params) nodes
-  pub room : HasRoom keys devs
-
 -- the message memory of a world of these files after so many cycles
 abbrev pub memory_after : Files → ℕ → MemoryView
 memory_after f cycles = memory_with f.params (held_after (setting_in f) (history_of (setting_in f) cycles))
 
--- what holds of the parts of a world: the drift fits the parameters, the nodes stand after the history of the cycles so
--- far, what was sent in them stands in the memory, and the row is its latest
-pub record IsWorld (f : Files) (keys : List ℕ) (nodes : List NodeView) (memory : MemoryView) (row : CycleRow) (next : ℕ) : Type 0 where
+-- the nodes of a world stand after the history of so many cycles, what was sent in them stands in its memory, its key
+-- slots are the cluster's, and the list of deviations has room for those of a cycle
+pub record StandAfter (f : Files) (cycles : ℕ) (keys : List ℕ) (stage : StageView) (devs : Roomy) : Type 0 where
+  pub keys_are : keys ≡ ordered_keys f.params
+  pub nodes_are : stage.nodes ≡ nodes_after (setting_in f) (history_of (setting_in f) cycles)
+  pub fitting : All (NodeFits f.params) stage.nodes
+  pub remembers : stage.memory ≡ memory_after f cycles
+  pub room : HasRoom keys devs
+
+-- what holds of the parts of a world: the drift fits the parameters, its stage stands after the history of the cycles so
+-- far, and the row is its latest
+pub record IsWorld (f : Files) (keys : List ℕ) (stage : StageView) (row : CycleRow) (next : ℕ) : Type 0 where
   pub drift_fits : DriftFits f.params f.drift
-  pub stands : StandAfter f next keys nodes row.devs
-  pub remembers : memory ≡ memory_after f next
+  pub stands : StandAfter f next keys stage row.devs
   pub in_run : next ≤ 2 * doubles_of f.drift
   pub latest : (earlier : ℕ) → next ≡ earlier + 1 → IsRowOf (setting_in f) earlier row
 

@@ -1,5 +1,7 @@
-ghost use Rattle.std.specs.Prelude.{All};
+ghost use Rattle.std.specs.Prelude.{◌≡◌, map, All};
+ghost use Rattle.fr_node.specs.View.{node_row_of};
 ghost use Rattle.fr_world.specs.Cycling.{AreListable, HasBegun, HaveBegun, HaveEnded, IsReady, IsWaiting};
+ghost use Rattle.fr_world.specs.Sending.{IsEarlyRow};
 
 use crate::files::{Files, sane};
 use fr_base::RowList;
@@ -21,6 +23,19 @@ pub(crate) fn begin_all(files: &Files, cycle: u32, nodes: &mut [Node])
 {
     for node in nodes.iter_mut() {
         begin_one(files, cycle, node);
+    }
+}
+
+// Lists the rows of nodes whose cycle is under way, before its corrections.
+pub(crate) fn list_rows(files: &Files, cycle: u32, nodes: &[Node], rows: &mut RowList)
+    requires ready { All (IsReady files.now cycle) nodes.now }
+    requires nodes { AreListable nodes.now }
+    ensures rows { rows.new ≡ map node_row_of nodes.now }
+    ensures early { All (IsEarlyRow files.now.params) rows.new }
+{
+    rows.clear();
+    for node in nodes {
+        rows.push(node.row());
     }
 }
 

@@ -1,17 +1,12 @@
-ghost use Rattle.std.specs.Prelude.{◌≡◌, ◌-◌, ◌^◌, ◌<◌, ◌≤◌, length, take};
+ghost use Rattle.std.specs.Prelude.{◌≡◌, ◌-◌, ◌^◌, ◌<◌, ◌≤◌, ◌++◌, drop, length, take};
 ghost use Rattle.fr_reception.specs.Offers.{flipped};
 
-// The bytes of a frame with one bit inverted, at the start of a buffer. The bit counts from 0, the first
-// bit sent.
-pub(crate) fn with_flipped(frame: &[u8], bit: u32) -> [u8; 262]
-    requires { length frame.now ≤ 262 }
-    ensures { take (length frame.now) result ≡ flipped bit frame.now }
+// Inverts a bit of so many bytes at the front of others. The bit counts from 0, the first bit sent.
+pub(crate) fn flip_front(bytes: &mut [u8], count: usize, bit: u32)
+    requires { count ≤ length bytes.old }
+    ensures { bytes.new ≡ flipped bit (take count bytes.old) ++ drop count bytes.old }
 {
-    let mut bytes = [0; 262];
-    let part = &mut bytes[..frame.len()];
-    part.copy_from_slice(frame);
-    flip(part, bit);
-    bytes
+    flip(&mut bytes[..count], bit);
 }
 
 // Inverts a bit of bytes.

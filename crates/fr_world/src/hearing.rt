@@ -1,19 +1,17 @@
-ghost use Rattle.std.specs.Prelude.{◌≡◌, ◌≤◌, pos, length, Some};
-ghost use Rattle.fr_base.specs.Counts.{AreAtMost};
+ghost use Rattle.std.specs.Prelude.{◌≡◌, ◌≤◌, pos, length};
 ghost use Rattle.fr_base.specs.Within.{IsWithin};
 ghost use Rattle.fr_frame.specs.Reading.{read_as};
 ghost use Rattle.fr_pool.specs.Pool.{HasFree};
+ghost use Rattle.fr_reception.specs.Offers.{flipped};
 ghost use Rattle.fr_world.specs.Cells.{Stands, Stays};
 ghost use Rattle.fr_world.specs.Memory.{frame_at};
 ghost use Rattle.fr_world.specs.Sending.{coming_offer, offer_at, IsComing};
-ghost use Rattle.fr_world.specs.Turns.{CanHear, HasHeard, HasAnswered};
+ghost use Rattle.fr_world.specs.Turns.{CanHear, HasAnswered};
 
-use crate::cells::{put_front, take_spare};
+use crate::cells::{give_back, put_front, take_spare};
 use crate::files::Files;
-use crate::flipping::with_flipped;
-use crate::tally::count;
+use crate::flipping::flip_front;
 use crate::turn::{Bytes, Coming, Turn};
-use fr_base::Counts;
 use fr_frame::{FrameFault, Header};
 use fr_node::{Heard, Node};
 use fr_pool::{Cell, Pool};
@@ -70,12 +68,39 @@ fn hear_copy(
     let copy = take_spare(pool);
     put_front(pool.write(&copy), bytes);
     let heard = hear_bytes(files, turn, arrival, &pool.read(&copy)[..bytes.len()], node);
-    pool.give(copy);
+    give_back(pool, copy);
     heard
 }
 
-// What a node answers to what comes to it.
-fn answer(
+// A node hears the frame that stands in a cell with one bit inverted: a copy of it stands in a further cell, in which
+// the bit is inverted.
+fn hear_flipped(
+    files: &Files,
+    turn: &Turn,
+    arrival: i64,
+    pool: &mut Pool,
+    cell: &Cell,
+    bytes: usize,
+    bit: u32,
+    node: &mut Node,
+) -> Heard
+    requires hears { CanHear files.now turn.now node.old }
+    requires arrival { IsWithin (pos 4_000_000_000_000_000_000) arrival }
+    requires stands { Stands pool.old cell.now bytes }
+    ensures answered { HasAnswered files.now turn.now (offer_at turn.now arrival (flipped bit (frame_at pool.old cell.now bytes)))
+        node.old node.new result }
+    ensures stays { Stays pool.old pool.new }
+{
+    let copy = take_spare(pool);
+    pool.copy(cell, &copy);
+    flip_front(pool.write(&copy), bytes, bit);
+    let heard = hear_bytes(files, turn, arrival, &pool.read(&copy)[..bytes], node);
+    give_back(pool, copy);
+    heard
+}
+
+// What a node answers to what comes to it of the frame that stands in a cell.
+pub(crate) fn answer(
     files: &Files,
     turn: &Turn,
     coming: &Coming<'_>,
@@ -96,35 +121,7 @@ fn answer(
     let arrival = coming.arrival;
     match coming.bytes {
         Bytes::Frame => hear_frame(files, turn, arrival, pool, cell, bytes, told, node),
-        Bytes::Flipped(bit) => {
-            let flipped = with_flipped(&pool.read(cell)[..bytes], bit);
-            hear_copy(files, turn, arrival, &flipped[..bytes], pool, node)
-        }
+        Bytes::Flipped(bit) => hear_flipped(files, turn, arrival, pool, cell, bytes, bit, node),
         Bytes::Said(said) => hear_copy(files, turn, arrival, said, pool, node),
     }
-}
-
-// A node hears what comes to it, and its answer is counted.
-pub(crate) fn hear(
-    files: &Files,
-    turn: &Turn,
-    coming: &Coming<'_>,
-    pool: &mut Pool,
-    cell: &Cell,
-    bytes: usize,
-    told: &Result<Header, FrameFault>,
-    node: &mut Node,
-    counts: &mut Counts,
-)
-    requires hears { CanHear files.now turn.now node.old }
-    requires coming { IsComing coming.now }
-    requires stands { Stands pool.old cell.now bytes }
-    requires told { told.now ≡ read_as turn.now.channel (frame_at pool.old cell.now bytes) }
-    requires few { AreAtMost 2_000_000 counts.old }
-    ensures heard { HasHeard files.now turn.now (Some (coming_offer turn.now (frame_at pool.old cell.now bytes) coming.now))
-        node.old counts.old node.new counts.new }
-    ensures stays { Stays pool.old pool.new }
-{
-    let heard = answer(files, turn, coming, pool, cell, bytes, told, node);
-    count(counts, &heard);
 }

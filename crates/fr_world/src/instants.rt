@@ -60,7 +60,7 @@ fn expected_at(params: &Params, receiver: &NodeRow, slot: Slot, channel: Channel
     requires { IsSlotOf params.now receiver.now slot }
     ensures value { result
         ≡ action_instant params.now receiver.now slot +ℤ (compensation_of params.now channel *ℤ receiver.now.length) }
-    ensures within { IsWithin (pos 1_000_000_000_000_000_000) result }
+    ensures within { IsWithin (pos 1_200_000_000_000_000_000) result }
 {
     action_instant(params, receiver, slot) + ticks_of(params.compensation(channel), receiver.length)
 }

@@ -15,7 +15,7 @@ mod listing;
 mod memory;
 mod offering;
 mod running;
-mod slots;
+mod stage;
 mod tally;
 mod turn;
 mod world;

@@ -1,27 +1,24 @@
-ghost use Rattle.std.specs.Prelude.{◌≡◌, ℕ, ◌+◌, ◌*◌, ◌<◌, ◌≤◌, ◌++◌, ◌∷◌, [], length, slice_index_or, None, option_copied, vec_capacity, IfOk, Some};
+ghost use Rattle.std.specs.Prelude.{◌≡◌, ℕ, ◌+◌, ◌*◌, ◌<◌, ◌≤◌, ◌++◌, ◌∷◌, List, [], length, slice_index_or, None, option_copied, vec_capacity, IfOk, IfSome, Some};
 ghost use Rattle.fr_base.specs.Counts.{AreAtMost};
-ghost use Rattle.fr_cluster.specs.Values.{amount};
-ghost use Rattle.fr_cluster.specs.declared.names.ParamName.TheVariants as name;
-ghost use Rattle.fr_frame.specs.Reading.{read_as};
 ghost use Rattle.fr_pool.specs.Pool.{IsFree, IsOut};
 ghost use Rattle.fr_reception.specs.Regular.{payload_bytes};
 ghost use Rattle.fr_time.specs.Senders.{sender_of};
-ghost use Rattle.fr_world.specs.Cells.{HasTwoFree, HaveCells, HavePlaces, IsClaimed, IsMemory, Stays};
+ghost use Rattle.fr_world.specs.Cells.{number_at, HaveCells, IsClaimed, IsMemory, IsThere};
+ghost use Rattle.fr_world.specs.declared.memory.Message.{Message};
 ghost use Rattle.fr_world.specs.Counting.{counted_sent};
-ghost use Rattle.fr_world.specs.Memory.{cell_of, frame_of, held_at, IsPoolOf, memory_with, place_of_slot, sent_at, with_frame};
-ghost use Rattle.fr_world.specs.Sending.{IsEarlyRow};
-ghost use Rattle.fr_world.specs.Turns.{frame_of_turn, AreReady, HaveHeardFrame, HaveHeardSending, IsOnAir, SendsInTurn};
+ghost use Rattle.fr_world.specs.Memory.{cell_of, frame_of, frame_on, held_at, IsPoolOf, memory_with, place_of_slot, sent_at, with_frame};
+ghost use Rattle.fr_world.specs.Sending.{coming_offer, IsComing};
+ghost use Rattle.fr_world.specs.Turns.{frame_of_turn, CanHear, HasAnswered, IsOnAir, SendsInTurn};
 
-use crate::cells::take_spare;
+use crate::cells::{take_spare, write_frame};
 use crate::fault::BuildFault;
 use crate::files::{Files, sane};
-use crate::offering::offer_to_all;
+use crate::hearing::answer;
 use crate::tally::count_sent;
-use crate::turn::{Sender, Turn};
-use fr_base::{Channel, Counts, NodeRow, Slot};
+use crate::turn::{Air, Coming, Turn};
+use fr_base::{Channel, Counts, Slot};
 use fr_cluster::{ParamName, Params};
-use fr_frame::{FrameFault, Header};
-use fr_node::{Node, frame_of, regular_read};
+use fr_node::{Heard, Node};
 use fr_pool::{Cell, Pool};
 use fr_time::Sending;
 use std::alloc::Global;
@@ -42,18 +39,20 @@ pub(crate) struct Memory {
     places: Vec<Option<usize>>,
     // How many bytes a frame has.
     bytes: usize,
+    // The cell in which a frame stands while it is being said.
+    said: Option<Cell>,
 }
 
 impl Model for Memory {
     ghost use Rattle.std.specs.Prelude.{◌≤◌, length, map, vec_capacity};
-    ghost use Rattle.fr_world.specs.Cells.{held_of, IsMemory};
+    ghost use Rattle.fr_world.specs.Cells.{held_of, said_in, IsMemory};
     ghost use Rattle.fr_world.specs.Memory.{MemoryView};
 
     ghost Value = { MemoryView };
 
-    ghost view = { λ m. record { places = length m.places.items; bytes = m.bytes; held = map (held_of m.bytes m.pool) m.messages.items } };
+    ghost view = { λ m. record { places = length m.places.items; bytes = m.bytes; held = map (held_of m.bytes m.pool) m.messages.items; said = said_in m.bytes m.pool m.said } };
 
-    ghost invariant = { λ m. IsMemory m.pool m.messages.items m.places.items (vec_capacity m.messages) × (m.bytes ≤ 262) };
+    ghost invariant = { λ m. IsMemory m.pool m.messages.items m.places.items (vec_capacity m.messages) m.said × (m.bytes ≤ 262) };
 }
 
 impl Drop for Memory {
@@ -63,14 +62,29 @@ impl Drop for Memory {
             messages,
             places: _,
             bytes: _,
+            said,
         } = self;
-        let _pool = give_all(pool, messages);
+        let _pool = give_all(give_said(pool, said), messages);
+    }
+}
+
+// Gives the cell of what is being said back to its pool.
+fn give_said(mut pool: Pool, said: Option<Cell>) -> Pool
+    requires { IfSome said (IsOut pool) }
+    ensures { (messages : List Message) → HaveCells pool messages said → HaveCells result messages None }
+{
+    match said {
+        None => pool,
+        Some(cell) => {
+            pool.give(cell);
+            pool
+        }
     }
 }
 
 // Gives the cells of all messages back to their pool.
 fn give_all(mut pool: Pool, mut messages: Vec<Message>) -> Pool
-    requires { HaveCells pool messages.items }
+    requires { HaveCells pool messages.items None }
     ensures { (cell : ℕ) → cell < length result.out → IsFree result cell }
 {
     while let Some(message) = messages.pop() {
@@ -100,14 +114,14 @@ fn take_for(
     places: &mut Vec<Option<usize>>,
     place: usize,
 ) -> usize
-    requires memory { IsMemory pool.old messages.old.items places.old.items (vec_capacity messages.old) }
+    requires memory { IsMemory pool.old messages.old.items places.old.items (vec_capacity messages.old) None }
     requires within { place < length places.old.items }
     requires none { slice_index_or places.old.items place None ≡ None }
     ensures cell { result ≡ length messages.old.items }
     ensures message { messages.new.items ≡ messages.old.items ++ record { place = place; cell = result } ∷ [] }
     ensures bytes { pool.new.bytes ≡ pool.old.bytes }
     ensures long { length places.new.items ≡ length places.old.items }
-    ensures memory { IsMemory pool.new messages.new.items places.new.items (vec_capacity messages.new) }
+    ensures memory { IsMemory pool.new messages.new.items places.new.items (vec_capacity messages.new) None }
 {
     let cell = take_spare(pool);
     let number = messages.len();
@@ -116,41 +130,18 @@ fn take_for(
     number
 }
 
-// Says the frame of a sender that is not correct, in a further cell, to all nodes.
-fn say_in(
-    files: &Files,
-    turn: &Turn,
-    sending: &Sending,
-    pool: &mut Pool,
-    nodes: &mut [Node],
-    counts: &mut Counts,
-)
-    requires sending { SendsInTurn files.now turn.now sending.now }
-    requires ready { AreReady files.now turn.now.cycle 500_000 nodes.old counts.old }
-    requires free { HasTwoFree pool.old }
-    requires whole { length pool.old.bytes ≡ length pool.old.out }
-    ensures heard { HaveHeardSending files.now turn.now sending.now None nodes.old counts.old nodes.new counts.new }
-    ensures stays { Stays pool.old pool.new }
+// The cell of a message, by its number, or that of what is being said.
+fn cell_at<'a>(messages: &'a Vec<Message>, said: &'a Option<Cell>, cell: Option<usize>) -> &'a Cell
+    requires { IsThere messages.now.items said.now cell }
+    ensures { result.now ≡ number_at messages.now.items said.now cell }
 {
-    sane(&files.params);
-    let cell = take_spare(pool);
-    let bytes = frame_of(
-        &files.params,
-        sending,
-        turn.slot,
-        turn.cycle,
-        turn.channel,
-        pool.write(&cell),
-    );
-    let sender = Sender {
-        node: sending.node,
-        row: None,
-    };
-    let told = regular_read(&files.params, sending, turn.slot, turn.cycle, turn.channel);
-    offer_to_all(
-        files, turn, &sender, pool, &cell, bytes, &told, nodes, counts,
-    );
-    pool.give(cell);
+    match cell {
+        Some(number) => &messages[number].cell,
+        None => match said {
+            Some(cell) => cell,
+            None => unreachable!(),
+        },
+    }
 }
 
 impl Memory {
@@ -169,11 +160,13 @@ impl Memory {
             messages,
             places,
             bytes: 8 + 2 * words,
+            said: None,
         })
     }
 
-    // The pool, in which the cells that are kept are out and no others.
+    // The pool, in which the cells that are kept are out and no others, where nothing is being said.
     pub(crate) fn pool(&self) -> &Pool
+        requires { self.now.said ≡ None }
         ensures { IsPoolOf self.now result.now }
     {
         &self.pool
@@ -207,7 +200,8 @@ impl Memory {
 
     // The cell of a slot on a channel, which is taken where it has none.
     fn claim(&mut self, place: usize) -> usize
-        requires { place < self.old.places }
+        requires within { place < self.old.places }
+        requires none { self.old.said ≡ None }
         ensures claimed { IsClaimed self.old.held self.new.held place result }
         ensures rest { self.new ≡ record self.old { held = self.new.held } }
     {
@@ -227,18 +221,16 @@ impl Memory {
         ensures long { length (frame_of_turn files.now turn.now sending.now) ≡ self.old.bytes }
     {
         sane(&files.params);
-        frame_of(
-            &files.params,
+        write_frame(
+            files,
+            turn,
             sending,
-            turn.slot,
-            turn.cycle,
-            turn.channel,
             self.pool.write(&self.messages[cell].cell),
         );
     }
 
     // Counts the frame that stands in a cell as sent.
-    fn count(&self, turn: &Turn, cell: usize, counts: &mut Counts)
+    pub(crate) fn count(&self, turn: &Turn, cell: usize, counts: &mut Counts)
         requires kept { cell < length self.now.held }
         requires long { 3 ≤ length (held_at self.now.held cell).frame }
         requires few { AreAtMost 2_000_000 counts.old }
@@ -248,87 +240,76 @@ impl Memory {
         count_sent(counts, turn.channel, frame);
     }
 
-    // Offers the frame that stands in a cell to all nodes.
-    fn offer(
-        &mut self,
-        files: &Files,
-        turn: &Turn,
-        sender: &Sender,
-        cell: usize,
-        told: &Result<Header, FrameFault>,
-        nodes: &mut [Node],
-        counts: &mut Counts,
-    )
-        requires kept { cell < length self.old.held }
-        requires told { told.now ≡ read_as turn.now.channel (held_at self.old.held cell).frame }
-        requires air { IsOnAir files.now turn.now sender.now }
-        requires ready { AreReady files.now turn.now.cycle 1_000_000 nodes.old counts.old }
-        ensures heard { HaveHeardFrame files.now turn.now sender.now (held_at self.old.held cell).frame
-            nodes.old counts.old nodes.new counts.new }
-        ensures stays { self.new ≡ self.old }
-    {
-        // What is read says how many bytes there are.
-        let _frame = self.pool.read(&self.messages[cell].cell);
-        offer_to_all(
-            files,
-            turn,
-            sender,
-            &mut self.pool,
-            &self.messages[cell].cell,
-            self.bytes,
-            told,
-            nodes,
-            counts,
-        );
-    }
-
-    // Sends the frame of a correct sender with this row to all nodes: it is written once, into its cell, and counted.
-    pub(crate) fn send(
-        &mut self,
-        files: &Files,
-        turn: &Turn,
-        sending: &Sending,
-        row: NodeRow,
-        nodes: &mut [Node],
-        counts: &mut Counts,
-    )
+    // Writes the frame of a turn straight into the cell of its slot on its channel, and answers the cell's number.
+    pub(crate) fn keep(&mut self, files: &Files, turn: &Turn, sending: &Sending) -> usize
         requires sending { SendsInTurn files.now turn.now sending.now }
-        requires row { IsEarlyRow files.now.params row }
-        requires ready { AreReady files.now turn.now.cycle 500_000 nodes.old counts.old }
         requires memory { self.old ≡ memory_with files.now.params self.old.held }
-        ensures heard { HaveHeardSending files.now turn.now sending.now (Some row)
-            nodes.old counts.old nodes.new counts.new }
-        ensures sent { self.new ≡ record self.old {
+        ensures kept { self.new ≡ record self.old {
           held = sent_at (place_of_slot turn.now.slot turn.now.channel)
               (frame_of_turn files.now turn.now sending.now) self.old.held;
         } }
+        ensures within { result < length self.new.held }
+        ensures frame { (held_at self.new.held result).frame ≡ frame_of_turn files.now turn.now sending.now }
+        ensures long { 8 ≤ length (frame_of_turn files.now turn.now sending.now) }
     {
         let cell = self.claim(place_of_slot(turn.slot, turn.channel));
         self.encode(files, turn, sending, cell);
-        self.count(turn, cell, counts);
-        let sender = Sender {
-            node: sending.node,
-            row: Some(row),
-        };
-        let told = regular_read(&files.params, sending, turn.slot, turn.cycle, turn.channel);
-        self.offer(files, turn, &sender, cell, &told, nodes, counts);
+        cell
     }
 
-    // Says the frame of a sender that is not correct to all nodes.
-    pub(crate) fn say(
+    // Writes the frame of a turn into a further cell, where it stands while it is being said.
+    pub(crate) fn begin_saying(&mut self, files: &Files, turn: &Turn, sending: &Sending)
+        requires sends { sender_of files.now.params turn.now.slot turn.now.cycle ≡ Some sending.now }
+        requires none { self.old.said ≡ None }
+        requires bytes { self.old.bytes ≡ 8 + payload_bytes files.now.params }
+        ensures { self.new ≡ record self.old { said = Some (frame_of_turn files.now turn.now sending.now) } }
+    {
+        sane(&files.params);
+        let cell = take_spare(&mut self.pool);
+        write_frame(files, turn, sending, self.pool.write(&cell));
+        match self.said.replace(cell) {
+            None => {}
+            Some(former) => self.pool.give(former),
+        }
+    }
+
+    // Gives the cell of what was said back.
+    pub(crate) fn end_saying(&mut self)
+        ensures { self.new ≡ record self.old { said = None } }
+    {
+        if let Some(cell) = self.said.take() {
+            self.pool.give(cell);
+        }
+    }
+
+    // What a node answers to what comes to it of a frame on the air.
+    pub(crate) fn hear(
         &mut self,
         files: &Files,
-        turn: &Turn,
-        sending: &Sending,
-        nodes: &mut [Node],
-        counts: &mut Counts,
-    )
-        requires sending { SendsInTurn files.now turn.now sending.now }
-        requires ready { AreReady files.now turn.now.cycle 500_000 nodes.old counts.old }
-        ensures heard { HaveHeardSending files.now turn.now sending.now None
-            nodes.old counts.old nodes.new counts.new }
+        air: &Air<'_>,
+        coming: &Coming<'_>,
+        node: &mut Node,
+    ) -> Heard
+        requires hears { CanHear files.now air.now.turn.now node.old }
+        requires air { IsOnAir files.now air.now self.old }
+        requires coming { IsComing coming.now }
+        ensures answered { HasAnswered files.now air.now.turn.now
+            (coming_offer air.now.turn.now (frame_on self.old air.now.cell) coming.now) node.old node.new result }
         ensures stays { self.new ≡ self.old }
     {
-        say_in(files, turn, sending, &mut self.pool, nodes, counts);
+        // What is read says how many bytes there are.
+        let _frame = self
+            .pool
+            .read(cell_at(&self.messages, &self.said, air.cell));
+        answer(
+            files,
+            air.turn,
+            coming,
+            &mut self.pool,
+            cell_at(&self.messages, &self.said, air.cell),
+            self.bytes,
+            air.told,
+            node,
+        )
     }
 }

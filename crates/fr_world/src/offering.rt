@@ -1,23 +1,20 @@
-ghost use Rattle.std.specs.Prelude.{◌≡◌, ℕ, List, IfSome};
+ghost use Rattle.std.specs.Prelude.{◌≡◌, ℕ, List, Some};
 ghost use Rattle.fr_base.specs.Counts.{AreAtMost};
-ghost use Rattle.fr_frame.specs.Reading.{read_as};
 ghost use Rattle.fr_node.specs.View.{node_row_of};
 ghost use Rattle.fr_time.specs.Instant.{IsSlotOf};
-ghost use Rattle.fr_world.specs.Cells.{Stands, Stays};
 ghost use Rattle.fr_world.specs.Cycling.{IsReady};
 ghost use Rattle.fr_world.specs.Files.{setting_in};
-ghost use Rattle.fr_world.specs.Memory.{frame_at};
-ghost use Rattle.fr_world.specs.Sending.{hears, offer_heard, said_by, said_with, sent_with, ComesAs, IsDue, IsEarlyRow};
-ghost use Rattle.fr_world.specs.Turns.{AreReady, HasHeard, HaveHeardFrame, IsOnAir};
+ghost use Rattle.fr_world.specs.Memory.{frame_on};
+ghost use Rattle.fr_world.specs.Sending.{coming_offer, hears, offer_heard, said_by, said_with, sent_with, ComesAs, IsComing, IsDue, IsEarlyRow};
+ghost use Rattle.fr_world.specs.Turns.{offer_on, AreReady, CanHear, HasHeard, HaveHeard, IsOnAir, IsSent};
 
 use crate::files::Files;
-use crate::hearing::hear;
-use crate::instants::{due_at, said_at, sent_at};
-use crate::turn::{Bytes, Coming, Sender, Turn};
+use crate::instants::{said_at, sent_at};
+use crate::memory::Memory;
+use crate::tally::count;
+use crate::turn::{Air, Bytes, Coming, Turn};
 use fr_base::{Channel, Counts, NodeId, NodeRow, State};
-use fr_frame::{FrameFault, Header};
 use fr_node::Node;
-use fr_pool::{Cell, Pool};
 use fr_script::Event;
 
 // Whether a receiver with this row hears a sender on a channel.
@@ -93,112 +90,74 @@ fn said_to<'a>(
     }
 }
 
-// What comes to a receiver of the frame of a sender, where it hears the sender.
-fn coming_to<'a>(
-    files: &'a Files,
-    turn: &Turn,
-    sender: &Sender,
-    due: i64,
-    receiver: &NodeRow,
-) -> Option<Coming<'a>>
-    requires air { IsOnAir files.now turn.now sender.now }
-    requires due { IfSome sender.now.row (λ row. IsDue files.now turn.now row due) }
+// What comes to a receiver of a frame on the air, where it hears its sender.
+fn coming_to<'a>(files: &'a Files, air: &Air<'_>, receiver: &NodeRow) -> Option<Coming<'a>>
+    requires sent { IsSent files.now air.now }
     requires receiver { IsEarlyRow files.now.params receiver.now }
-    ensures { (frame : List ℕ) → ComesAs turn.now frame
-        (offer_heard (setting_in files.now) turn.now sender.now.node sender.now.row frame receiver.now) result }
+    ensures { (frame : List ℕ) → ComesAs air.now.turn.now frame
+        (offer_heard (setting_in files.now) air.now.turn.now air.now.sender.now.node air.now.sender.now.row frame receiver.now) result }
 {
-    if !hears(files, receiver, sender.node, turn.channel) {
+    let sender = air.sender;
+    if !hears(files, receiver, sender.node, air.turn.channel) {
         return None;
     }
     match &sender.row {
-        Some(row) => sent_to(files, turn, row, due, receiver),
-        None => said_to(files, turn, sender.node, receiver),
+        Some(row) => sent_to(files, air.turn, row, air.due, receiver),
+        None => said_to(files, air.turn, sender.node, receiver),
     }
 }
 
-// Offers the frame that stands in a cell to a node, where it hears its sender.
-fn offer_to(
+// A node hears what comes to it of a frame on the air, and its answer is counted.
+fn hear(
     files: &Files,
-    turn: &Turn,
-    sender: &Sender,
-    due: i64,
-    pool: &mut Pool,
-    cell: &Cell,
-    bytes: usize,
-    told: &Result<Header, FrameFault>,
+    air: &Air<'_>,
+    coming: &Coming<'_>,
+    memory: &mut Memory,
     node: &mut Node,
     counts: &mut Counts,
 )
-    requires stands { Stands pool.old cell.now bytes }
-    requires told { told.now ≡ read_as turn.now.channel (frame_at pool.old cell.now bytes) }
-    requires air { IsOnAir files.now turn.now sender.now }
-    requires due { IfSome sender.now.row (λ row. IsDue files.now turn.now row due) }
-    requires ready { IsReady files.now turn.now.cycle node.old }
+    requires hears { CanHear files.now air.now.turn.now node.old }
+    requires air { IsOnAir files.now air.now memory.old }
+    requires coming { IsComing coming.now }
     requires few { AreAtMost 2_000_000 counts.old }
-    ensures heard { HasHeard files.now turn.now
-        (offer_heard (setting_in files.now) turn.now sender.now.node sender.now.row
-        (frame_at pool.old cell.now bytes) (node_row_of node.old))
+    ensures heard { HasHeard files.now air.now.turn.now (Some (coming_offer air.now.turn.now (frame_on memory.old air.now.cell) coming.now))
         node.old counts.old node.new counts.new }
-    ensures stays { Stays pool.old pool.new }
+    ensures stays { memory.new ≡ memory.old }
+{
+    let heard = memory.hear(files, air, coming, node);
+    count(counts, &heard);
+}
+
+// Offers a frame on the air to a node, where it hears its sender.
+fn offer_to(files: &Files, air: &Air<'_>, memory: &mut Memory, node: &mut Node, counts: &mut Counts)
+    requires air { IsOnAir files.now air.now memory.old }
+    requires ready { IsReady files.now air.now.turn.now.cycle node.old }
+    requires few { AreAtMost 2_000_000 counts.old }
+    ensures heard { HasHeard files.now air.now.turn.now (offer_on files.now air.now memory.old (node_row_of node.old))
+        node.old counts.old node.new counts.new }
+    ensures stays { memory.new ≡ memory.old }
 {
     let receiver = node.row();
-    if let Some(coming) = coming_to(files, turn, sender, due, &receiver) {
-        hear(files, turn, &coming, pool, cell, bytes, told, node, counts);
+    if let Some(coming) = coming_to(files, air, &receiver) {
+        hear(files, air, &coming, memory, node, counts);
     }
 }
 
-// Offers the frame that stands in a cell, and is due at an instant, to each node that hears its sender.
-fn offer_each(
-    files: &Files,
-    turn: &Turn,
-    sender: &Sender,
-    due: i64,
-    pool: &mut Pool,
-    cell: &Cell,
-    bytes: usize,
-    told: &Result<Header, FrameFault>,
-    nodes: &mut [Node],
-    counts: &mut Counts,
-)
-    requires stands { Stands pool.old cell.now bytes }
-    requires told { told.now ≡ read_as turn.now.channel (frame_at pool.old cell.now bytes) }
-    requires air { IsOnAir files.now turn.now sender.now }
-    requires due { IfSome sender.now.row (λ row. IsDue files.now turn.now row due) }
-    requires ready { AreReady files.now turn.now.cycle 1_000_000 nodes.old counts.old }
-    ensures heard { HaveHeardFrame files.now turn.now sender.now (frame_at pool.old cell.now bytes)
-        nodes.old counts.old nodes.new counts.new }
-    ensures stays { Stays pool.old pool.new }
-{
-    for node in nodes.iter_mut() {
-        offer_to(
-            files, turn, sender, due, pool, cell, bytes, told, node, counts,
-        );
-    }
-}
-
-// Offers the frame that stands in a cell to each node that hears its sender: the frame is known once for all, and so
-// is the instant at which it is sent.
+// Offers a frame on the air to each node that hears its sender.
 pub(crate) fn offer_to_all(
     files: &Files,
-    turn: &Turn,
-    sender: &Sender,
-    pool: &mut Pool,
-    cell: &Cell,
-    bytes: usize,
-    told: &Result<Header, FrameFault>,
+    air: &Air<'_>,
+    memory: &mut Memory,
     nodes: &mut [Node],
     counts: &mut Counts,
 )
-    requires stands { Stands pool.old cell.now bytes }
-    requires told { told.now ≡ read_as turn.now.channel (frame_at pool.old cell.now bytes) }
-    requires air { IsOnAir files.now turn.now sender.now }
-    requires ready { AreReady files.now turn.now.cycle 1_000_000 nodes.old counts.old }
-    ensures heard { HaveHeardFrame files.now turn.now sender.now (frame_at pool.old cell.now bytes)
+    requires air { IsOnAir files.now air.now memory.old }
+    requires ready { AreReady files.now air.now.turn.now.cycle 1_000_000 nodes.old counts.old }
+    ensures heard { HaveHeard files.now air.now.turn.now.cycle (offer_on files.now air.now memory.old)
         nodes.old counts.old nodes.new counts.new }
-    ensures stays { Stays pool.old pool.new }
+    ensures stays { memory.new ≡ memory.old }
 {
-    let due = due_at(files, turn, &sender.row);
-    offer_each(
-        files, turn, sender, due, pool, cell, bytes, told, nodes, counts,
-    );
+    for node in nodes.iter_mut() {
+        offer_to(files, air, memory, node, counts);
+    }
 }

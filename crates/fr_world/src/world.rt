@@ -17,6 +17,7 @@ use crate::files::{Files, sane};
 use crate::kept::KeptDrift;
 use crate::memory::{Memory, place_of_slot};
 use crate::running::run_cycle;
+use crate::stage::Stage;
 use fr_base::{Channel, Counts, CycleRow, DevList, NodeId, RowList, Slot};
 use fr_cluster::Params;
 use fr_drift::Drift;
@@ -34,10 +35,8 @@ pub struct World {
     files: Files,
     // The key slots in ascending order.
     keys: Vec<Slot>,
-    // The correct nodes in ascending order.
-    nodes: Vec<Node>,
-    // What was sent last, each frame in its cell.
-    memory: Memory,
+    // The correct nodes, and what they sent last, each frame in its cell.
+    stage: Stage,
     // The row of the last cycle that was run.
     row: CycleRow,
     // The cycle that comes next.
@@ -53,7 +52,7 @@ impl Model for World {
 
     ghost view = { λ w. record { params = w.files.params; drift = w.files.drift; script = w.files.script; cycles = w.next } };
 
-    ghost invariant = { λ w. IsWorld w.files w.keys.items w.nodes.items w.memory w.row w.next };
+    ghost invariant = { λ w. IsWorld w.files w.keys.items w.stage w.row w.next };
 }
 
 impl World {
@@ -78,12 +77,12 @@ impl World {
         let keys = key_slots_of(alloc, &files.params)?;
         let nodes = fresh_nodes(alloc, &files)?;
         let memory = Memory::new(alloc, &files.params)?;
+        let stage = Stage::new(nodes, memory);
         let row = blank_row(alloc, &keys)?;
         Ok(World {
             files,
             keys,
-            nodes,
-            memory,
+            stage,
             row,
             next: 0,
         })
@@ -107,8 +106,7 @@ impl World {
             &self.files,
             self.keys.as_slice(),
             self.next,
-            &mut self.memory,
-            self.nodes.as_mut_slice(),
+            &mut self.stage,
             &mut self.row,
         );
         self.next += 1;
@@ -134,7 +132,7 @@ impl World {
         // What is asked of a node between cycles can be asked of it.
         ensures between { IfSome result (λ node. IsNone node.now.length) }
     {
-        node_among(self.nodes.as_slice(), id)
+        node_among(self.stage.nodes(), id)
     }
 
     /// The nodes that have a clock, in ascending order, as they stand before the next cycle.
@@ -143,7 +141,7 @@ impl World {
         // What is asked of a node between cycles can be asked of each.
         ensures between { All (λ node. IsNone node.length) result.now }
     {
-        self.nodes.as_slice()
+        self.stage.nodes()
     }
 
     /// The pool of the cells that its frames stand in: two for each static slot, and two more. The cells that are out
@@ -151,14 +149,14 @@ impl World {
     pub fn pool(&self) -> &Pool
         ensures { IsPoolOf (memory_of self.now) result.now }
     {
-        self.memory.pool()
+        self.stage.memory().pool()
     }
 
     /// The cell of a slot on a channel, in `pool`; None exactly where no correct node sent a frame there so far.
     pub fn cell(&self, slot: Slot, channel: Channel) -> Option<&Cell>
         ensures { option_copied result ≡ cell_of (memory_of self.now).held (place_of_slot slot channel) }
     {
-        self.memory.cell(place_of_slot(slot, channel))
+        self.stage.memory().cell(place_of_slot(slot, channel))
     }
 
     /// The last frame that a correct node sent in a slot on a channel, as it was sent: the bytes at the front of its
@@ -166,7 +164,7 @@ impl World {
     pub fn last(&self, slot: Slot, channel: Channel) -> Option<&[u8]>
         ensures { option_copied result ≡ frame_of (memory_of self.now).held (place_of_slot slot channel) }
     {
-        self.memory.last(place_of_slot(slot, channel))
+        self.stage.memory().last(place_of_slot(slot, channel))
     }
 
     /// The parameters of the cluster.

@@ -10,8 +10,8 @@ use Rattle.fr_world.proofs.hearing.hear_copy.Goals as goal
 pub read-requires : goal.read-requires
 read-requires c = out-taken c.args.pool.now c.take_spare-copy.new.pool c.take_spare-copy.result c.take_spare-copy.ensures
 
-pub give-requires : goal.give-requires
-give-requires c = out-taken c.args.pool.now c.take_spare-copy.new.pool c.take_spare-copy.result c.take_spare-copy.ensures
+pub give_back-requires : goal.give_back-requires
+give_back-requires c = out-taken c.args.pool.now c.take_spare-copy.new.pool c.take_spare-copy.result c.take_spare-copy.ensures
 
 pub returns-clause-answered : goal.returns-clause-answered
 returns-clause-answered c =
@@ -29,5 +29,5 @@ returns-clause-answered c =
 pub returns-clause-stays : goal.returns-clause-stays
 returns-clause-stays c =
     let taken = c.take_spare-copy in
-    stays-lent c.args.pool.now taken.new.pool (written_in taken.result c.put_front.new.out taken.new.pool) c.give.new.self taken.result c.put_front.new.out taken.ensures
-    (stays-same (written_in taken.result c.put_front.new.out taken.new.pool)) c.give.ensures
+    stays-lent c.args.pool.now taken.new.pool (written_in taken.result c.put_front.new.out taken.new.pool) c.give_back.new.pool taken.result c.put_front.new.out taken.ensures
+    (stays-same (written_in taken.result c.put_front.new.out taken.new.pool)) c.give_back.ensures

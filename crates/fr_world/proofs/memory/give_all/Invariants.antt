@@ -1,10 +1,10 @@
-use Rattle.std.proofs.Common.{length}
+use Rattle.std.proofs.Common.{length, None}
 use Rattle.fr_world.specs.Cells.{HaveCells}
 use Rattle.fr_world.proofs.memory.give_all.Given as goal
 
 -- the cells of the messages that are left are out, and no others
 abbrev pub invariant-loop-message : goal.invariant-loop-message
-invariant-loop-message l = HaveCells l.pool l.messages.items
+invariant-loop-message l = HaveCells l.pool l.messages.items None
 
 -- each turn gives one back
 abbrev pub decreases-loop-message : goal.decreases-loop-message

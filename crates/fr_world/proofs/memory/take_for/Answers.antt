@@ -1,15 +1,15 @@
-use Rattle.std.proofs.Common.{◌≡◌, ◌++◌, [], ◌∷◌, ◌∙◌, ℕ, Some, length, set, ap, sym, subst, arith}
+use Rattle.std.proofs.Common.{◌≡◌, ◌++◌, [], ◌∷◌, ◌∙◌, ℕ, Some, None, length, set, ap, sym, subst, arith}
 use Rattle.std.specs.Prelude.{vec_capacity}
 use Rattle.fr_world.specs.Cells.{IsMemory}
 use Rattle.fr_world.specs.declared.memory.Message.{Message}
-use Rattle.fr_world.proofs.Claiming.{memory-more, room-left, spare-cell, taken-next}
+use Rattle.fr_world.proofs.Claiming.{memory-more, room-left, spare, taken-next}
 use Rattle.fr_world.proofs.memory.take_for.Goals as goal
 
 pub take_spare-cell-requires : goal.take_spare-cell-requires
 take_spare-cell-requires c =
     let a = c.args in
     let is = c.requires.memory in
-    (length a.messages.now.items, spare-cell a.pool.now a.messages.now.items a.places.now.items (vec_capacity a.messages.now) is)
+    spare a.pool.now a.messages.now.items a.places.now.items (vec_capacity a.messages.now) None is
 
 pub push_reserved-requires : goal.push_reserved-requires
 push_reserved-requires c =
@@ -32,7 +32,7 @@ returns-clause-memory c =
     let number : length a.messages.now.items ≡ c.len-number.result = omega (arith, c.len-number.ensures) in
     let pushed : c.push_reserved.new.self.items ≡ a.messages.now.items ++ (let last : Message = record { place = a.place; cell = length a.messages.now.items } in last ∷ []) =
     c.push_reserved.ensures.items ∙ ap (λ (k : ℕ). let last : Message = record { place = a.place; cell = k } in a.messages.now.items ++ last ∷ []) next in
-    let P : ℕ → Type 0 = λ k. IsMemory c.take_spare-cell.new.pool c.push_reserved.new.self.items (set a.places.now.items a.place (Some k)) (vec_capacity c.push_reserved.new.self) in
-    let Q : ℕ → Type 0 = λ room. IsMemory c.take_spare-cell.new.pool c.push_reserved.new.self.items (set a.places.now.items a.place (Some (length a.messages.now.items))) room in
+    let P : ℕ → Type 0 = λ k. IsMemory c.take_spare-cell.new.pool c.push_reserved.new.self.items (set a.places.now.items a.place (Some k)) (vec_capacity c.push_reserved.new.self) None in
+    let Q : ℕ → Type 0 = λ room. IsMemory c.take_spare-cell.new.pool c.push_reserved.new.self.items (set a.places.now.items a.place (Some (length a.messages.now.items))) room None in
     subst P number (subst Q (sym c.push_reserved.ensures.capacity)
     (memory-more a.pool.now c.take_spare-cell.new.pool a.messages.now.items c.push_reserved.new.self.items a.places.now.items (vec_capacity a.messages.now) a.place c.take_spare-cell.result c.requires.memory c.requires.within c.requires.none c.take_spare-cell.ensures pushed))

@@ -11,7 +11,7 @@ pub returns-then-place-len : goal.returns-then-place-len
 returns-then-place-len c =
     let m = c.self.inside in
     let P : MemoryView → Type 0 = λ memory. None ≡ frame_of memory.held c.args.place in
-    subst P c.self.view_is (frame-none m.bytes m.pool m.messages.items m.places.items (vec_capacity m.messages) c.args.place c.self.invariant.0 (get_or_past m.places.items c.args.place None (omega arith)))
+    subst P c.self.view_is (frame-none m.bytes m.pool m.messages.items m.places.items (vec_capacity m.messages) c.args.place m.said c.self.invariant.0 (get_or_past m.places.items c.args.place None (omega arith)))
 
 pub index-requires-in-Some : goal.index-requires-in-Some
 index-requires-in-Some c =
@@ -32,7 +32,7 @@ returns-in-Some c =
     subst P c.self.view_is (
     ap (λ (stored : List ℕ). Some (take m.bytes stored)) (sym (get_or_from_slice_get m.pool.bytes c.index-in-Some.result.now.cell c.read.result.now [] c.read.ensures.bytes))
     ∙ ap (λ (one : Message). Some (frame_at m.pool one.cell m.bytes)) message
-    ∙ frame-found m.bytes m.pool m.messages.items m.places.items (vec_capacity m.messages) c.args.place c.in-Some.cell c.self.invariant.0 at)
+    ∙ frame-found m.bytes m.pool m.messages.items m.places.items (vec_capacity m.messages) c.args.place c.in-Some.cell m.said c.self.invariant.0 at)
 
 pub returns-in-None : goal.returns-in-None
 returns-in-None c =
@@ -40,4 +40,4 @@ returns-in-None c =
     let lt : c.args.place < length m.places.items = omega arith in
     let at : get_or m.places.items c.args.place None ≡ None = at-place m.places.items c.args.place c.index.result.now None lt c.index.ensures c.in-None.is in
     let P : MemoryView → Type 0 = λ memory. None ≡ frame_of memory.held c.args.place in
-    subst P c.self.view_is (frame-none m.bytes m.pool m.messages.items m.places.items (vec_capacity m.messages) c.args.place c.self.invariant.0 at)
+    subst P c.self.view_is (frame-none m.bytes m.pool m.messages.items m.places.items (vec_capacity m.messages) c.args.place m.said c.self.invariant.0 at)

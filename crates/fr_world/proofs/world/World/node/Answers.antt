@@ -16,7 +16,7 @@ returns c =
     let value : option_copied c.node_among.result ≡ node_seen c.args.self.now c.args.id =
     subst P c.self.view_is
     (c.node_among.ensures
-    ∙ ap (λ (nodes : List NodeView). find (λ node. node.id == c.args.id) nodes) (c.as_slice.ensures.value ∙ c.self.invariant.stands.nodes_are)
+    ∙ ap (λ (nodes : List NodeView). find (λ node. node.id == c.args.id) nodes) (c.nodes.ensures ∙ c.self.invariant.stands.nodes_are)
     ∙ node-found x (history_of x c.self.inside.next) c.args.id f.params.nodes) in record {
       value = value;
       between = copied_between c.node_among.result (node_seen c.args.self.now c.args.id) value (node-between c.args.self.now c.args.id);

@@ -13,7 +13,7 @@ pub returns : goal.returns
 returns c =
     let x = setting_in c.self.inside.files in
     let h = history_of x c.self.inside.next in
-    let are : c.as_slice.result.now ≡ nodes_after x h = c.as_slice.ensures.value ∙ c.self.invariant.stands.nodes_are in
-    let P : WorldView → Type 0 = λ w. c.as_slice.result.now ≡ nodes_after (setting_after w) (history_of (setting_after w) w.cycles) in
+    let are : c.nodes.result.now ≡ nodes_after x h = c.nodes.ensures ∙ c.self.invariant.stands.nodes_are in
+    let P : WorldView → Type 0 = λ w. c.nodes.result.now ≡ nodes_after (setting_after w) (history_of (setting_after w) w.cycles) in
     let Q : List NodeView → Type 0 = All (λ node. IsNone node.length) in
     record { value = subst P c.self.view_is are; between = subst Q (sym are) (all_between x h (row_nodes x h)) }

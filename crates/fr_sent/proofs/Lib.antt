@@ -1,0 +1,3 @@
+mod Sent
+mod Cells
+mod Both

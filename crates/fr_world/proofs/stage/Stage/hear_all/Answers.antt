@@ -1,0 +1,19 @@
+use Rattle.std.proofs.Common.{◌+◌, ◌-◌, ◌*◌, refl, arith}
+use Rattle.fr_world.proofs.Stages.{stage-more, walk-more}
+use Rattle.fr_world.specs.Files.{setting_in}
+use Rattle.fr_world.specs.Walk.{walked}
+use Rattle.fr_world.proofs.stage.Stage.hear_all.Goals as goal
+
+pub loop-earlier-init : goal.loop-earlier-init
+unfolding walked
+loop-earlier-init c = (refl, stage-more c.args.files.now c.args.cycle 0 (130 * 0) c.args.self.now (omega arith) c.requires)
+
+pub hear_slot-requires-clause-stage : goal.hear_slot-requires-clause-stage
+hear_slot-requires-clause-stage c =
+    let i = c.loop-earlier in
+    stage-more c.args.files.now c.args.cycle (130 * i.earlier) (130 * (i.earlier + 1 - 1)) i.self (omega arith) i.invariant.1
+
+pub loop-earlier-preserved : goal.loop-earlier-preserved
+loop-earlier-preserved c =
+    let i = c.loop-earlier in
+    (walk-more (setting_in c.args.files.now) c.args.cycle i.earlier c.args.self.now i.self c.hear_slot.new.self i.invariant.0 c.hear_slot.ensures.heard, c.hear_slot.ensures.stage)

@@ -1,0 +1,24 @@
+use Rattle.std.proofs.Common.{◌∙◌, List, None, ap, sym, subst}
+use Rattle.fr_world.proofs.Stages.{before-ready, quiet-again}
+use Rattle.fr_world.specs.Files.{setting_in}
+use Rattle.fr_world.specs.Memory.{frame_on}
+use Rattle.fr_world.specs.Sending.{offer_heard}
+use Rattle.fr_world.specs.Stage.{StageView, answered, saying}
+use Rattle.fr_world.specs.Turns.{frame_of_turn, AreReady}
+use Rattle.fr_world.proofs.stage.Stage.say.Goals as goal
+
+pub offer-requires-clause-ready : goal.offer-requires-clause-ready
+offer-requires-clause-ready c =
+    let a = c.args in
+    subst (λ (s : StageView). AreReady a.files.now a.turn.now.cycle 1000000 s.nodes s.counts) (sym c.begin_saying.ensures) (before-ready a.files.now a.turn.now a.self.now c.sane.ensures c.requires.before)
+
+pub returns-clause-heard : goal.returns-clause-heard
+returns-clause-heard c =
+    let a = c.args in
+    let t = a.turn.now in
+    let x = setting_in a.files.now in
+    let frame : List _ = frame_of_turn a.files.now t a.sending.now in
+    c.end_saying.ensures
+    ∙ ap (saying None) (c.offer.ensures.heard
+    ∙ ap (λ (s : StageView). answered x t.cycle (offer_heard x t a.sending.now.node None (frame_on s.memory None)) s) c.begin_saying.ensures)
+    ∙ quiet-again x t.cycle (offer_heard x t a.sending.now.node None frame) a.self.now frame (ap (λ memory. memory.said) c.requires.before.is_stage.memory_is)

@@ -1,0 +1,21 @@
+use Rattle.std.proofs.Common.{◌∙◌, ℕ, List, Some, ap}
+use Rattle.fr_world.proofs.Stages.{sent-ready}
+use Rattle.fr_world.specs.Files.{setting_in}
+use Rattle.fr_world.specs.Sending.{offer_heard}
+use Rattle.fr_world.specs.Stage.{answered}
+use Rattle.fr_world.specs.Turns.{frame_of_turn}
+use Rattle.fr_world.proofs.stage.Stage.send.Goals as goal
+
+pub offer-requires-clause-ready : goal.offer-requires-clause-ready
+offer-requires-clause-ready c =
+    let a = c.args in
+    sent-ready a.files.now a.turn.now a.self.now c.keep-cell.new.self (Some (frame_of_turn a.files.now a.turn.now a.sending.now)) c.sane.ensures c.requires.before c.keep-cell.ensures.sent
+
+pub returns-clause-heard : goal.returns-clause-heard
+returns-clause-heard c =
+    let a = c.args in
+    let t = a.turn.now in
+    let x = setting_in a.files.now in
+    c.offer.ensures.heard
+    ∙ ap (λ (frame : List ℕ). answered x t.cycle (offer_heard x t a.sending.now.node (Some a.row) frame) c.keep-cell.new.self) c.keep-cell.ensures.frame
+    ∙ ap (answered x t.cycle (offer_heard x t a.sending.now.node (Some a.row) (frame_of_turn a.files.now t a.sending.now))) c.keep-cell.ensures.sent

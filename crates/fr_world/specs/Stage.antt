@@ -1,0 +1,87 @@
+-- A cycle on its way through a world: the nodes and their rows, the counts, and the message memory.
+use Rattle.std.specs.Prelude.{◌≡◌, ℕ, ◌+◌, ◌-◌, ◌*◌, ◌≤◌, List, All, length, map, Option}
+use Rattle.fr_base.specs.Rows.{channel_rank}
+use Rattle.fr_base.specs.Counts.{AreAtMost, no_counts}
+use Rattle.fr_base.specs.declared.channel.Channel.{Channel}
+use Rattle.fr_base.specs.declared.cycle_row.Counts.{Counts}
+use Rattle.fr_base.specs.declared.node_row.NodeRow.{NodeRow}
+use Rattle.fr_cluster.specs.Setting.{Setting}
+use Rattle.fr_cluster.specs.Values.{amount}
+use Rattle.fr_cluster.specs.declared.names.ParamName.TheVariants as name
+use Rattle.fr_reception.specs.Offers.{Offer}
+use Rattle.fr_node.specs.View.{NodeView, node_row_of}
+use Rattle.fr_history.specs.Offers.{frame_in, offer_in}
+use Rattle.fr_world.specs.Counting.{counted_frame, counted_offers}
+use Rattle.fr_world.specs.Cycling.{begun_in, IsReady}
+use Rattle.fr_world.specs.Files.{setting_in}
+use Rattle.fr_world.specs.Hearing.{after_offer}
+use Rattle.fr_world.specs.Memory.{MemoryView, memory_with, place_of_slot, with_sent}
+use Rattle.fr_world.specs.Sending.{IsEarlyRow}
+use Rattle.fr_world.specs.Walk.{walked}
+use Rattle.fr_world.specs.declared.files.Files.{Files}
+use Rattle.fr_world.specs.declared.turn.Turn.{Turn}
+
+-- The rows of the cycle before its corrections, the nodes, the counts so far, and what was sent.
+pub record StageView : Type 0 where
+  pub rows : List NodeRow
+  pub nodes : List NodeView
+  pub counts : Counts
+  pub memory : MemoryView
+
+-- with its cycle begun: each node with its row, and nothing counted
+abbrev pub begun_stage : Files → ℕ → StageView → StageView
+begun_stage f cycle stage = record stage {
+  rows = map node_row_of (map (begun_in f cycle) stage.nodes);
+  nodes = map (begun_in f cycle) stage.nodes;
+  counts = no_counts;
+}
+
+-- with a frame that is sent in a slot on a channel, if one is: it is counted, and stands in its cell
+abbrev pub sent_on : ℕ → Channel → Option (List ℕ) → StageView → StageView
+sent_on slot channel frame stage = record stage {
+  counts = counted_frame channel frame stage.counts;
+  memory = record stage.memory { held = with_sent (place_of_slot slot channel) frame stage.memory.held };
+}
+
+-- with a frame that is being said, or with none
+abbrev pub saying : Option (List ℕ) → StageView → StageView
+saying frame stage = record stage { memory = record stage.memory { said = frame } }
+
+-- after each node has answered what it is offered
+abbrev pub answered : Setting → ℕ → (NodeRow → Option Offer) → StageView → StageView
+answered x cycle offer stage = record stage {
+  nodes = map (λ node. after_offer x cycle node (offer (node_row_of node))) stage.nodes;
+  counts = counted_offers x cycle offer stage.rows stage.counts;
+}
+
+-- after a slot on a channel
+abbrev pub heard_on : Setting → ℕ → ℕ → Channel → StageView → StageView
+heard_on x cycle slot channel stage =
+    answered x cycle (λ receiver. offer_in x cycle stage.rows receiver slot channel) (sent_on slot channel (frame_in x cycle stage.rows slot channel) stage)
+
+-- after so many slots of the cycle
+abbrev pub heard_after : Setting → ℕ → ℕ → StageView → StageView
+heard_after x cycle count stage = walked (heard_on x cycle) count stage
+
+-- The cycle is under way: each node is ready and has its row, no number that was counted so far is above this one, and
+-- nothing is being said.
+pub record IsStage (f : Files) (cycle most : ℕ) (stage : StageView) : Type 0 where
+  pub rows_are : stage.rows ≡ map node_row_of stage.nodes
+  pub ready : All (IsReady f cycle) stage.nodes
+  pub early : All (IsEarlyRow f.params) stage.rows
+  pub few_nodes : length stage.nodes ≤ 64
+  pub few : AreAtMost most stage.counts
+  pub memory_is : stage.memory ≡ memory_with f.params stage.memory.held
+
+-- no number that was counted before a turn is above this one: at most one frame and 64 answers are counted in each
+abbrev pub most_before : Turn → ℕ
+most_before turn = 130 * (turn.slot - 1) + 65 * channel_rank turn.channel
+
+-- a stage before a turn of a static slot, and what it becomes by it
+pub record IsBefore (f : Files) (turn : Turn) (stage : StageView) : Type 0 where
+  pub slot : turn.slot ≤ amount f.params name.gNumberOfStaticSlots
+  pub is_stage : IsStage f turn.cycle (most_before turn) stage
+
+pub record Hears (f : Files) (turn : Turn) (before after : StageView) : Type 0 where
+  pub heard : after ≡ heard_on (setting_in f) turn.cycle turn.slot turn.channel before
+  pub is_stage : IsStage f turn.cycle (most_before turn + 65) after

@@ -1,0 +1,349 @@
+ghost use Rattle.std.specs.Prelude.{◌≡◌, ◌≤◌, ◌<◌, ◌-◌, ◌*◌, false, map, true, All, AllPairs, IfSome, Some, None};
+ghost use Rattle.std.specs.Option.{option_copied};
+ghost use Rattle.fr_base.specs.Counts.{AreAtMost};
+ghost use Rattle.fr_cluster.specs.Values.{amount};
+ghost use Rattle.fr_cluster.specs.declared.names.ParamName.TheVariants as name;
+ghost use Rattle.fr_reception.specs.Regular.{is_sync_frame};
+ghost use Rattle.fr_history.specs.History.{row_of as row_in};
+ghost use Rattle.fr_world.specs.Files.{setting_in};
+ghost use Rattle.fr_world.specs.Cycling.{AreListable, HaveEnded, IsReady, IsWaiting};
+ghost use Rattle.fr_world.specs.Listing.{listed_among, HasRoom, IsListed};
+ghost use Rattle.fr_world.specs.Memory.{frame_on, HasFrame};
+ghost use Rattle.fr_world.specs.Walk.{on_both};
+ghost use Rattle.fr_world.specs.Sending.{offer_heard, sending_row_by, sending_row_in, IsEarlyRow};
+ghost use Rattle.fr_world.specs.Stage.{answered, begun_stage, heard_after, heard_on, saying, sent_on, Hears, IsBefore, IsStage};
+ghost use Rattle.fr_world.specs.Turns.{frame_of_turn, offer_on, AreReady, IsOnAir, IsRowFound};
+ghost use Rattle.fr_node.specs.View.{node_row_of};
+ghost use Rattle.fr_script.specs.View.{is_arbitrary};
+ghost use Rattle.fr_time.specs.Cycles.{is_odd};
+ghost use Rattle.fr_time.specs.Senders.{sender_of};
+
+use crate::cycling::{begin_all, end_all, list_rows};
+use crate::files::{Files, sane};
+use crate::instants::due_at;
+use crate::listing::list_devs;
+use crate::memory::Memory;
+use crate::offering::offer_to_all;
+use crate::turn::{Air, Sender, Turn};
+use fr_base::{Channel, Counts, CycleRow, NodeId, NodeRow, RowList, Slot, State};
+use fr_cluster::ParamName;
+use fr_node::{Node, regular_read};
+use fr_time::{Kind, Sending, is_odd, sender};
+use std::marker::Model;
+
+// A cycle on its way: the correct nodes in ascending order, the row of each before its corrections, what was counted so
+// far, and what was sent last, each frame in its cell.
+#[derive(Drop)]
+pub(crate) struct Stage {
+    rows: RowList,
+    nodes: Vec<Node>,
+    counts: Counts,
+    memory: Memory,
+}
+
+impl Model for Stage {
+    ghost use Rattle.fr_world.specs.Stage.{StageView};
+
+    ghost Value = { StageView };
+
+    ghost view = { λ s. record { rows = s.rows; nodes = s.nodes.items; counts = s.counts; memory = s.memory } };
+}
+
+// The row of a node, if it is among these.
+fn row_among(rows: &[NodeRow], id: NodeId) -> Option<&NodeRow>
+    ensures { option_copied result ≡ row_in rows.now id }
+{
+    rows.iter().find(|row| row.node == id)
+}
+
+// The row of a node, if it sends on a channel: it is active and has the channel.
+fn row_if_sends(files: &Files, turn: &Turn, row: &NodeRow, id: NodeId) -> Option<NodeRow>
+    requires { IsEarlyRow files.now.params row.now }
+    ensures value { result ≡ sending_row_by (setting_in files.now) (Some row.now) id turn.now.channel }
+    ensures early { IfSome result (IsEarlyRow files.now.params) }
+{
+    if matches!(row.state, State::Active) && files.params.common(id, id, turn.channel) {
+        Some(*row)
+    } else {
+        None
+    }
+}
+
+// The row of a node, if it is among these and sends on a channel.
+fn sending_row(files: &Files, turn: &Turn, rows: &[NodeRow], id: NodeId) -> Option<NodeRow>
+    requires { All (IsEarlyRow files.now.params) rows.now }
+    ensures { IsRowFound files.now (sending_row_in (setting_in files.now) rows.now id turn.now.channel) result }
+{
+    match row_among(rows, id) {
+        Some(row) => row_if_sends(files, turn, row, id),
+        None => None,
+    }
+}
+
+// Whether a frame is one of a key slot.
+fn is_sync(kind: Kind) -> bool
+    ensures { result ≡ is_sync_frame kind }
+{
+    matches!(kind, Kind::SyncFrame)
+}
+
+impl Stage {
+    // A stage before the first cycle.
+    pub(crate) fn new(nodes: Vec<Node>, memory: Memory) -> Stage
+        ensures nodes { result.nodes ≡ nodes.items }
+        ensures memory { result.memory ≡ memory }
+    {
+        Stage {
+            rows: RowList::new(),
+            nodes,
+            counts: Counts::none(),
+            memory,
+        }
+    }
+
+    // The nodes.
+    pub(crate) fn nodes(&self) -> &[Node]
+        ensures { result.now ≡ self.now.nodes }
+    {
+        self.nodes.as_slice()
+    }
+
+    // What was sent.
+    pub(crate) fn memory(&self) -> &Memory
+        ensures { result.now ≡ self.now.memory }
+    {
+        &self.memory
+    }
+
+    // The rows of the cycle.
+    fn rows(&self) -> &[NodeRow]
+        ensures { result.now ≡ self.now.rows }
+    {
+        self.rows.as_slice()
+    }
+
+    // Begins a cycle.
+    pub(crate) fn begin(&mut self, files: &Files, cycle: u32)
+        requires waiting { All (IsWaiting files.now cycle) self.old.nodes }
+        requires nodes { AreListable self.old.nodes }
+        ensures begun { self.new ≡ begun_stage files.now cycle self.old }
+        ensures ready { All (IsReady files.now cycle) self.new.nodes }
+        ensures early { All (IsEarlyRow files.now.params) self.new.rows }
+    {
+        begin_all(files, cycle, self.nodes.as_mut_slice());
+        list_rows(files, cycle, self.nodes.as_slice(), &mut self.rows);
+        self.counts = Counts::none();
+    }
+
+    // Offers a frame on the air to all nodes.
+    fn offer(&mut self, files: &Files, air: &Air<'_>)
+        requires air { IsOnAir files.now air.now self.old.memory }
+        requires rows { self.old.rows ≡ map node_row_of self.old.nodes }
+        requires ready { AreReady files.now air.now.turn.now.cycle 1_000_000 self.old.nodes self.old.counts }
+        ensures heard { self.new ≡ answered (setting_in files.now) air.now.turn.now.cycle
+            (offer_on files.now air.now self.old.memory) self.old }
+        ensures ready { All (IsReady files.now air.now.turn.now.cycle) self.new.nodes }
+    {
+        offer_to_all(
+            files,
+            air,
+            &mut self.memory,
+            self.nodes.as_mut_slice(),
+            &mut self.counts,
+        );
+    }
+
+    // Writes the frame of a correct sender into its cell, and counts it; answers the number of the cell.
+    fn keep(&mut self, files: &Files, turn: &Turn, sending: &Sending) -> usize
+        requires before { IsBefore files.now turn.now self.old }
+        requires sends { sender_of files.now.params turn.now.slot turn.now.cycle ≡ Some sending.now }
+        ensures sent { self.new ≡ sent_on turn.now.slot turn.now.channel (Some (frame_of_turn files.now turn.now sending.now)) self.old }
+        ensures kept { HasFrame self.new.memory (Some result) }
+        ensures frame { frame_on self.new.memory (Some result) ≡ frame_of_turn files.now turn.now sending.now }
+    {
+        sane(&files.params);
+        let cell = self.memory.keep(files, turn, sending);
+        self.memory.count(turn, cell, &mut self.counts);
+        cell
+    }
+
+    // Sends the frame of a correct sender with this row to all nodes: it is written once, into its cell, and counted.
+    fn send(&mut self, files: &Files, turn: &Turn, sending: &Sending, row: NodeRow)
+        requires before { IsBefore files.now turn.now self.old }
+        requires sends { sender_of files.now.params turn.now.slot turn.now.cycle ≡ Some sending.now }
+        requires row { IsEarlyRow files.now.params row }
+        ensures heard { self.new ≡ answered (setting_in files.now) turn.now.cycle
+            (offer_heard (setting_in files.now) turn.now sending.now.node (Some row) (frame_of_turn files.now turn.now sending.now))
+            (sent_on turn.now.slot turn.now.channel (Some (frame_of_turn files.now turn.now sending.now)) self.old) }
+        ensures ready { All (IsReady files.now turn.now.cycle) self.new.nodes }
+    {
+        sane(&files.params);
+        let cell = self.keep(files, turn, sending);
+        let sender = Sender {
+            node: sending.node,
+            row: Some(row),
+        };
+        let due = due_at(files, turn, &sender.row);
+        let told = regular_read(&files.params, sending, turn.slot, turn.cycle, turn.channel);
+        let air = Air {
+            turn,
+            sender: &sender,
+            due,
+            cell: Some(cell),
+            told: &told,
+        };
+        self.offer(files, &air);
+    }
+
+    // Writes the frame of an arbitrary sender into a further cell.
+    fn begin_saying(&mut self, files: &Files, turn: &Turn, sending: &Sending)
+        requires before { IsBefore files.now turn.now self.old }
+        requires sends { sender_of files.now.params turn.now.slot turn.now.cycle ≡ Some sending.now }
+        ensures { self.new ≡ saying (Some (frame_of_turn files.now turn.now sending.now)) self.old }
+    {
+        self.memory.begin_saying(files, turn, sending);
+    }
+
+    // Gives that cell back.
+    fn end_saying(&mut self)
+        ensures { self.new ≡ saying None self.old }
+    {
+        self.memory.end_saying();
+    }
+
+    // Says the frame of an arbitrary sender to all nodes: it stands in a further cell all the while.
+    fn say(&mut self, files: &Files, turn: &Turn, sending: &Sending)
+        requires before { IsBefore files.now turn.now self.old }
+        requires sends { sender_of files.now.params turn.now.slot turn.now.cycle ≡ Some sending.now }
+        ensures heard { self.new ≡ answered (setting_in files.now) turn.now.cycle
+            (offer_heard (setting_in files.now) turn.now sending.now.node None (frame_of_turn files.now turn.now sending.now)) self.old }
+        ensures ready { All (IsReady files.now turn.now.cycle) self.new.nodes }
+    {
+        sane(&files.params);
+        self.begin_saying(files, turn, sending);
+        let sender = Sender {
+            node: sending.node,
+            row: None,
+        };
+        let told = regular_read(&files.params, sending, turn.slot, turn.cycle, turn.channel);
+        let air = Air {
+            turn,
+            sender: &sender,
+            due: 0,
+            cell: None,
+            told: &told,
+        };
+        self.offer(files, &air);
+        self.end_saying();
+    }
+
+    // What an arbitrary sender says in a slot on a channel is heard.
+    fn hear_said(&mut self, files: &Files, turn: &Turn, sending: &Sending)
+        requires before { IsBefore files.now turn.now self.old }
+        requires sends { sender_of files.now.params turn.now.slot turn.now.cycle ≡ Some sending.now }
+        requires arbitrary { is_arbitrary files.now.script sending.now.node ≡ true }
+        ensures { Hears files.now turn.now self.old self.new }
+    {
+        if is_sync(sending.kind) {
+            self.say(files, turn, sending);
+        }
+    }
+
+    // What a correct sender sends in a slot on a channel is heard.
+    fn hear_sent(&mut self, files: &Files, turn: &Turn, sending: &Sending)
+        requires before { IsBefore files.now turn.now self.old }
+        requires sends { sender_of files.now.params turn.now.slot turn.now.cycle ≡ Some sending.now }
+        requires correct { is_arbitrary files.now.script sending.now.node ≡ false }
+        ensures { Hears files.now turn.now self.old self.new }
+    {
+        if let Some(row) = sending_row(files, turn, self.rows(), sending.node) {
+            self.send(files, turn, sending, row);
+        }
+    }
+
+    // The nodes hear a slot on a channel, in which a node sends.
+    fn hear_on(&mut self, files: &Files, turn: &Turn, sending: &Sending)
+        requires before { IsBefore files.now turn.now self.old }
+        requires sends { sender_of files.now.params turn.now.slot turn.now.cycle ≡ Some sending.now }
+        ensures { Hears files.now turn.now self.old self.new }
+    {
+        if files.script.arbitrary(sending.node) {
+            self.hear_said(files, turn, sending);
+        } else {
+            self.hear_sent(files, turn, sending);
+        }
+    }
+
+    // The nodes hear a slot in which a node sends, first on channel A and then on channel B.
+    fn hear_both(&mut self, files: &Files, cycle: u32, slot: Slot, sending: &Sending)
+        requires slot { slot ≤ amount files.now.params name.gNumberOfStaticSlots }
+        requires stage { IsStage files.now cycle (130 * (slot - 1)) self.old }
+        requires sends { sender_of files.now.params slot cycle ≡ Some sending.now }
+        ensures heard { self.new ≡ on_both (heard_on (setting_in files.now) cycle) slot self.old }
+        ensures stage { IsStage files.now cycle (130 * slot) self.new }
+    {
+        let on_a = Turn {
+            cycle,
+            slot,
+            channel: Channel::A,
+        };
+        self.hear_on(files, &on_a, sending);
+        let on_b = Turn {
+            cycle,
+            slot,
+            channel: Channel::B,
+        };
+        self.hear_on(files, &on_b, sending);
+    }
+
+    // The nodes hear a slot: who sends in it is asked once for both channels.
+    fn hear_slot(&mut self, files: &Files, cycle: u32, slot: Slot)
+        requires slot { slot ≤ amount files.now.params name.gNumberOfStaticSlots }
+        requires stage { IsStage files.now cycle (130 * (slot - 1)) self.old }
+        ensures heard { self.new ≡ on_both (heard_on (setting_in files.now) cycle) slot self.old }
+        ensures stage { IsStage files.now cycle (130 * slot) self.new }
+    {
+        if let Some(sending) = sender(&files.params, slot, cycle) {
+            self.hear_both(files, cycle, slot, &sending);
+        }
+    }
+
+    // The nodes hear all static slots of a cycle.
+    pub(crate) fn hear_all(&mut self, files: &Files, cycle: u32)
+        requires { IsStage files.now cycle 0 self.old }
+        ensures heard { self.new ≡ heard_after (setting_in files.now) cycle
+            (amount files.now.params name.gNumberOfStaticSlots) self.old }
+        ensures few { AreAtMost 1_000_000 self.new.counts }
+        ensures ready { All (IsReady files.now cycle) self.new.nodes }
+    {
+        let slots = files.params.natural(ParamName::gNumberOfStaticSlots);
+        for earlier in 0..slots {
+            let slot = Slot(earlier as u16 + 1);
+            self.hear_slot(files, cycle, slot);
+        }
+    }
+
+    // Ends the cycle, and writes its row.
+    pub(crate) fn end(&mut self, files: &Files, keys: &[Slot], cycle: u32, row: &mut CycleRow)
+        requires keys { AllPairs (λ a b. a < b) keys.now }
+        requires ready { All (IsReady files.now cycle) self.old.nodes }
+        requires nodes { AreListable self.old.nodes }
+        requires room { HasRoom keys.now row.old.devs }
+        ensures rest { self.new ≡ record self.old { nodes = self.new.nodes } }
+        ensures ended { HaveEnded files.now self.old.nodes self.new.nodes row.new.rows }
+        ensures listed { IsListed keys.now (listed_among files.now.params (is_odd cycle) keys.now self.old.nodes) row.new.devs }
+        ensures counts { row.new.counts ≡ self.old.counts }
+        ensures cycle { row.new.cycle ≡ cycle }
+    {
+        list_devs(
+            &files.params,
+            is_odd(cycle),
+            keys,
+            self.nodes.as_slice(),
+            &mut row.devs,
+        );
+        end_all(files, cycle, self.nodes.as_mut_slice(), &mut row.rows);
+        row.counts = self.counts;
+        row.cycle = cycle;
+    }
+}
