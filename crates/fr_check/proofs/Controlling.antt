@@ -1,7 +1,9 @@
 -- Operation control of the nodes of a trace, record by record.
 use Rattle.std.proofs.Common.{◌≡◌, ◌≢◌, ◌⊎◌, inl, inr, get_or, set, get_or-set_same, get_or-set_other, length-set, ℕ, ◌+◌, ◌<◌, ◌≤◌, ◌%◌, ◌==◌, Bool, true, false, List, [], ◌∷◌, ◌++◌, length, Option, Some, None, refl, ap, ap₂, sym, ◌∙◌, arith}
-use Rattle.std.specs.Prelude.{if◌then◌else◌}
+use Rattle.std.specs.Prelude.{All, if◌then◌else◌}
+use Rattle.std.specs.Option.{option_or}
 use Rattle.std.proofs.lemmas.Bool.{cases_eq}
+use Rattle.std.proofs.lemmas.List.Folds.{find-append}
 use Rattle.fr_base.specs.declared.dev.Dev.{Dev}
 use Rattle.fr_base.specs.declared.node_row.NodeRow.{NodeRow}
 use Rattle.fr_base.specs.declared.state.Outcome.{Outcome}
@@ -15,8 +17,10 @@ use Rattle.fr_poc.specs.declared.control.PocLimits.{PocLimits}
 use Rattle.fr_time.specs.Cycles.{is_odd}
 use Rattle.fr_trace.specs.Cycles.{history_by}
 use Rattle.fr_trace.specs.declared.trace.TracedCycle.{TracedCycle}
-use Rattle.fr_trace_gap.proofs.Parts.{history_length}
+use Rattle.fr_trace_gap.proofs.Parts.{all_rest, history_length}
 use Rattle.fr_check.specs.Controls.{HasStepped, Hold, Stands, control_at}
+use Rattle.fr_check.specs.Corrections.{IsCorrection, correction_at}
+use Rattle.fr_check.specs.declared.corrections.Correction.{Correction}
 
 pub fresh_stands : (p : Values) (limits : PocLimits) (controls : List Control) (node : ℕ) → limits ≡ limits_of p → control_at controls node ≡ record { limits = limits; status = first_status } → Stands p [] controls node
 unfolding outcomes_in
@@ -45,6 +49,54 @@ has_stepped p h odds rows old new node row offset rate stands some moved by_offs
     ∙ ap₂ (λ (a b : Outcome). let control : Control = record { limits = limits_of p; status = step_of (limits_of p) (status_in p h node) a b } in control) by_offset by_rate
     ∙ sym (ap (λ (status : Status). let control : Control = record { limits = limits_of p; status = status } in control)
     (ap (control_of (limits_of p)) outcomes ∙ more_control (limits_of p) (outcomes_in p h node) o r))
+
+stands_where_none : (p : Values) (h : History) (odds : List Dev) (rows : List NodeRow) (controls : List Control) (node : ℕ) → HasStepped p h odds rows controls node → row_of rows node ≡ None → Stands p h controls node
+stands_where_none p h odds rows controls node so none =
+    let same : outcomes_in p h node ++ outcomes_by p h odds (row_of rows node) ≡ outcomes_in p h node =
+    ap (λ (o : Option NodeRow). outcomes_in p h node ++ outcomes_by p h odds o) none ∙ appended_none (outcomes_in p h node) in
+    so ∙ ap (λ (outcomes : List (Outcome × Outcome)). let control : Control = record { limits = limits_of p; status = control_of (limits_of p) outcomes } in control) same
+
+-- ---- one more row, of a node with a greater number
+
+none_below : (rows : List NodeRow) (node : ℕ) → All (λ row. row.node < node) rows → row_of rows node ≡ None
+none_below [] node below = refl
+none_below (row ∷ rows) node below =
+    let lower : row.node < node = below 0 row (omega arith) in
+    let other : (row.node == node) ≡ false = grind arith in
+    rw other (none_below rows node (all_rest (λ (r : NodeRow). r.node < node) row rows below))
+
+with_one_more : (rows more : List NodeRow) (row : NodeRow) (node : ℕ) → more ≡ rows ++ row ∷ [] → row_of more node ≡ option_or (row_of rows node) (if row.node == node then Some row else None)
+with_one_more rows more row node parted = ap (λ (xs : List NodeRow). row_of xs node) parted ∙ find-append (λ (r : NodeRow). r.node == node) rows (row ∷ [])
+
+or_nothing : (o : Option NodeRow) → option_or o None ≡ o
+or_nothing None = refl
+or_nothing (Some row) = refl
+
+pub one_stepped : (p : Values) (h : History) (odds : List Dev) (rows more : List NodeRow) (row : NodeRow) (corrections : List Correction) (old new : List Control) (node : ℕ)
+    → more ≡ rows ++ row ∷ [] → All (λ earlier. earlier.node < row.node) rows → IsCorrection p h odds corrections row → HasStepped p h odds rows old node
+    → control_at new row.node ≡ stepped (control_at old row.node) (correction_at corrections row.node).offset.outcome (correction_at corrections row.node).rate.outcome
+    → ((other : ℕ) → other ≢ row.node → control_at new other ≡ control_at old other)
+    → HasStepped p h odds more new node
+one_stepped p h odds rows more row corrections old new node parted below kept before here others = by_node (cases_eq node row.node)
+  where
+    by_node : (node ≡ row.node) ⊎ (node ≡ row.node → ⊥) → HasStepped p h odds more new node
+    by_node (inl same) =
+        let offset : Outcome = (correction_at corrections row.node).offset.outcome in
+        let rate : Outcome = (correction_at corrections row.node).rate.outcome in
+        let none : row_of rows node ≡ None = ap (row_of rows) same ∙ none_below rows row.node below in
+        let own : (row.node == node) ≡ true = grind arith in
+        let some : row_of more node ≡ Some row =
+        with_one_more rows more row node parted ∙ ap₂ (λ (o : Option NodeRow) (b : Bool). option_or o (if b then Some row else None)) none own in
+        let moved : control_at new node ≡ stepped (control_at old node) offset rate =
+        ap (control_at new) same ∙ here ∙ sym (ap (λ (n : ℕ). stepped (control_at old n) offset rate) same) in
+        has_stepped p h odds more old new node row offset rate (stands_where_none p h odds rows old node before none) some moved
+        (ap (λ (both : Correction). both.offset.outcome) kept) (ap (λ (both : Correction). both.rate.outcome) kept)
+    by_node (inr differs) =
+        let other : (row.node == node) ≡ false = grind arith in
+        let same : row_of more node ≡ row_of rows node =
+        with_one_more rows more row node parted ∙ ap (λ (b : Bool). option_or (row_of rows node) (if b then Some row else None)) other ∙ or_nothing (row_of rows node) in
+        others node differs ∙ before
+        ∙ sym (ap (λ (o : Option NodeRow). let control : Control = record { limits = limits_of p; status = control_of (limits_of p) (outcomes_in p h node ++ outcomes_by p h odds o) } in control) same)
 
 -- ---- the number of cycles
 

@@ -16,6 +16,8 @@ use Rattle.fr_trace.specs.Items.{first_number, items_by, items_in}
 use Rattle.fr_trace.specs.Trace.{TraceView}
 use Rattle.fr_trace.specs.declared.trace.TracedCycle.{TracedCycle}
 use Rattle.fr_check.specs.Controls.{Hold}
+use Rattle.fr_check.specs.Corrections.{AreLatest}
+use Rattle.fr_check.specs.declared.corrections.Correction.{Correction}
 use Rattle.fr_trace_gap.specs.Sound.{IsSound}
 use Rattle.fr_verdict.specs.Search.{first_breach_of, first_from}
 use Rattle.fr_verdict.specs.declared.unlawful.Unlawful.{Unlawful}
@@ -79,3 +81,7 @@ gauge_none p g same = subst (λ (v : GaugeView). GaugeHolds p v []) (sym same) (
 pub hold_none : (p : Values) (controls : List Control) → Hold p [] controls → Hold p (history_by []) controls
 unfolding history_by
 hold_none p controls hold = hold
+
+pub latest_none : (p : Values) (corrections : List Correction) → AreLatest p (history_by []) corrections
+unfolding history_by
+latest_none p corrections = tt

@@ -5,3 +5,5 @@ mod Walking
 mod Sounded
 mod Gathering
 mod Judging
+mod Kept
+mod Quotients

@@ -99,7 +99,10 @@ sound_record p t r sane traced fits = record {
   few = traced.few;
   ascend = traced.rows_ascend;
   rows = λ k d lt. record { timed = (traced.rows_proper k d lt).0; rate = fits.rates k d lt; offset = fits.offsets k d lt };
-  devs = λ k d lt. record { within = traced.devs_proper k d lt; static_slot = (keyed p (slice_index_or r.devs k d) sane (fits.devs k d lt)).1 };
+  devs = record {
+    ascend = traced.devs_ascend;
+    each = λ k d lt. record { within = traced.devs_proper k d lt; static_slot = (keyed p (slice_index_or r.devs k d) sane (fits.devs k d lt)).1 };
+  };
   few_devs = devs_few p t r sane traced fits;
 }
 
@@ -107,7 +110,7 @@ pub sound_each : (p : Values) (t : TraceView) (cycles : List TracedCycle) → Is
 sound_each p t cycles sane trace fits same =
     kept_each (IsSound p) cycles (subst (All (IsSound p)) (sym same) (λ k d lt. sound_record p t (slice_index_or t.history k d) sane (trace.records k d lt) (fits.records k d lt)))
 
-pub cycles_few : (t : TraceView) (cycles : List TracedCycle) → IsTrace t → history_by cycles ≡ t.history → length cycles ≤ 20_000
+pub cycles_few : (t : TraceView) (cycles : List TracedCycle) → IsTrace t → history_by cycles ≡ t.history → length cycles ≤ 200_000
 cycles_few t cycles trace same =
     let long = history_length cycles in
     let whole = trace.whole in
@@ -115,7 +118,11 @@ cycles_few t cycles trace same =
     let lengths : length (history_by cycles) ≡ length t.history = ap length same in
     omega arith
 
--- ---- rows that are copied one after the other
+-- ---- rows one after the other
+
+-- the element at a place of a list that is another's
+pub item_of : {X : Type 0} (xs ys : List X) (i : ℕ) (x : X) → ys ≡ xs → x ≡ get_or ys i x → get_or xs i x ≡ x
+item_of xs ys i x same is = sym (subst (λ zs. x ≡ get_or zs i x) same is)
 
 below : {X : Type 0} (R : X → X → Type 0) (xs : List X) (i : ℕ) (x : X) → AllPairs R xs → i < length xs → x ≡ get_or xs i x → All (λ y. R y x) (take i xs)
 below {X = X} R xs i x pairs lt at k d short =

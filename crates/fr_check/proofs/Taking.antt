@@ -1,6 +1,6 @@
 -- A table takes in the recorded deviations of a receiver.
 use Rattle.std.proofs.Common.{◌≡◌, ◌≢◌, ℕ, zero, suc, ◌+◌, ◌<◌, ◌≤◌, ◌==◌, ℤ, Bool, true, false, ◌&&◌, List, [], ◌∷◌, ◌++◌, Option, Some, None, refl, ap, ap₂, sym, ◌∙◌, ◌⊎◌, inl, inr, arith}
-use Rattle.std.specs.Prelude.{find, if◌then◌else◌, option_and_then}
+use Rattle.std.specs.Prelude.{filter, find, if◌then◌else◌, option_and_then}
 use Rattle.std.specs.List.{cons_option, filter_map, range_with_len}
 use Rattle.std.specs.Option.{option_map, option_or}
 use Rattle.std.proofs.lemmas.Bool.{cases_eq}
@@ -169,6 +169,37 @@ more_taken p devs more dev node odd first old new parted a b = record {
   others = λ index other channel ne. b.others index other channel ne ∙ a.others index other channel ne;
 }
 
+-- ---- those of one receiver alone
+
+same_found : (p q : Dev → Bool) (devs : List Dev) → ((dev : Dev) → q dev ≡ false → p dev ≡ false) → find p (filter q devs) ≡ find p devs
+same_found p q [] fails = refl
+same_found p q (dev ∷ devs) fails = by_test (q dev) refl (p dev) refl (same_found p q devs fails)
+  where
+    by_test : (b : Bool) → q dev ≡ b → (c : Bool) → p dev ≡ c → find p (filter q devs) ≡ find p devs → find p (filter q (dev ∷ devs)) ≡ find p (dev ∷ devs)
+    by_test true e true own rest = rw (e, own) refl
+    by_test true e false own rest = rw (e, own) rest
+    by_test false e c own rest = let other : p dev ≡ false = fails dev e in rw (e, other) rest
+
+other_receiver : (node slot : ℕ) (channel : Channel) (dev : Dev) → (dev.receiver == node) ≡ false → is_dev_of node slot channel dev ≡ false
+other_receiver node slot channel dev e = rw e refl
+
+look_own : (p : Values) (devs : List Dev) (node index : ℕ) (channel : Channel) → look_among p (filter (λ dev. dev.receiver == node) devs) node index channel ≡ look_among p devs node index channel
+look_own p devs node index channel = by_slot (key_slot_of p index)
+  where
+    by_slot : (o : Option ℕ) → option_and_then (λ slot. dev_in (filter (λ dev. dev.receiver == node) devs) node slot channel) o ≡ option_and_then (λ slot. dev_in devs node slot channel) o
+    by_slot None = refl
+    by_slot (Some slot) = ap (option_map (λ d. d.value)) (same_found (is_dev_of node slot channel) (λ dev. dev.receiver == node) devs (other_receiver node slot channel))
+
+pub own_taken : (p : Values) (devs own : List Dev) (node : ℕ) (odd : Bool) (old new : Readings) → own ≡ filter (λ dev. dev.receiver == node) devs
+    → TakesIn odd (look_among p own node) old new → TakesIn odd (look_among p devs node) old new
+own_taken p devs own node odd old new is a = record {
+  own =
+      λ index channel lt.
+      a.own index channel lt
+      ∙ ap (option_or (reading old index odd channel)) (ap (λ (xs : List Dev). look_among p xs node index channel) is ∙ look_own p devs node index channel);
+  others = a.others;
+}
+
 -- ---- the table of a double cycle
 
 differ_bool : (a b : Bool) → a ≢ b → b ≢ a
@@ -185,11 +216,6 @@ table_holds p evens odds node empty even both none a b index false channel lt =
 table_holds p evens odds node empty even both none a b index true channel lt =
     b.own index channel lt ∙ ap (λ (o : Option ℤ). option_or o (look_among p odds node index channel)) (a.others index true channel true_not_false ∙ none index true channel)
 
-pub odd_table_holds : (p : Values) (odds : List Dev) (node : ℕ) (empty odd : Readings) → IsEmpty empty → TakesIn true (look_among p odds node) empty odd
-    → (index : ℕ) (channel : Channel) → index < 15 → reading odd index true channel ≡ look_among p odds node index channel
-odd_table_holds p odds node empty odd none a index channel lt =
-    a.own index channel lt ∙ ap (λ (o : Option ℤ). option_or o (look_among p odds node index channel)) (none index true channel)
-
 -- ---- the values of such a table
 
 abbrev AgreeBelow : LookUp → LookUp → Type 0
@@ -204,16 +230,11 @@ filtered_same f g from (suc count) same =
         → cons_option a (filter_map f (range_with_len (from + 1) count)) ≡ cons_option b (filter_map g (range_with_len (from + 1) count))
     step a b e rest = ap₂ (λ (o : Option ℤ) (xs : List ℤ). cons_option o xs) e rest
 
--- offset values are of the odd cycle alone
-pub odd_values_same : (a b : LookUp) (own : Option ℕ) → ((index : ℕ) (channel : Channel) → index < 15 → a index true channel ≡ b index true channel)
-    → values_of (offset_at a own) ≡ values_of (offset_at b own)
-unfolding values_of
-odd_values_same a b own same =
-    filtered_same (offset_at a own) (offset_at b own) 0 15
-    (λ k low high. ap₂ (λ (x y : Option ℤ). own_value_or own k (least_of x y)) (same k A (omega arith)) (same k B (omega arith)))
-
 pub offset_values_same : (a b : LookUp) (own : Option ℕ) → AgreeBelow a b → values_of (offset_at a own) ≡ values_of (offset_at b own)
-offset_values_same a b own same = odd_values_same a b own (λ index channel low. same index true channel low)
+unfolding values_of
+offset_values_same a b own same =
+    filtered_same (offset_at a own) (offset_at b own) 0 15
+    (λ k low high. ap₂ (λ (x y : Option ℤ). own_value_or own k (least_of x y)) (same k true A (omega arith)) (same k true B (omega arith)))
 
 pub rate_values_same : (a b : LookUp) (own : Option ℕ) → AgreeBelow a b → values_of (rate_at a own) ≡ values_of (rate_at b own)
 unfolding values_of

@@ -1,20 +1,24 @@
 -- The search along deviations, rows and cycles, one more at a time.
-use Rattle.std.proofs.Common.{◌≡◌, ℕ, suc, ◌+◌, ◌==◌, true, false, List, [], ◌∷◌, ◌++◌, length, take, drop, map, append_assoc, take-append-drop, length-append, Option, Some, None, refl, ap, sym, ◌∙◌, arith}
-use Rattle.std.specs.Prelude.{filter, fold}
+use Rattle.std.proofs.Common.{◌≡◌, ℕ, suc, ◌+◌, ◌<◌, ◌≤◌, ◌==◌, Bool, true, false, List, [], ◌∷◌, ◌++◌, length, take, drop, map, get_or, append_assoc, take-append-drop, length-append, Option, Some, None, refl, ap, ap₂, sym, ◌∙◌, subst, arith}
+use Rattle.std.specs.Prelude.{All, filter, fold}
 use Rattle.std.specs.Option.{option_or}
-use Rattle.std.proofs.lemmas.List.{map-append}
-use Rattle.std.proofs.lemmas.List.Elements.{filter-append}
+use Rattle.std.proofs.lemmas.List.{length-map, length-take, map-append}
+use Rattle.std.proofs.lemmas.List.Elements.{All-filter, filter_passes}
 use Rattle.std.proofs.lemmas.List.Sums.{fold-append}
 use Rattle.fr_base.specs.declared.dev.Dev.{Dev}
 use Rattle.fr_base.specs.declared.node_row.NodeRow.{NodeRow}
 use Rattle.fr_cluster.specs.Values.{Values}
-use Rattle.fr_history.specs.History.{History, Record}
+use Rattle.fr_history.specs.History.{History, Record, row_of}
+use Rattle.fr_time.specs.Cycles.{is_odd}
 use Rattle.fr_trace.specs.Cycles.{and_then, history_by, kept_of}
 use Rattle.fr_trace.specs.Items.{Item, items_by, items_in}
 use Rattle.fr_trace.specs.Items.Item.{Clock, Heard}
 use Rattle.fr_trace.specs.declared.trace.TracedCycle.{TracedCycle}
 use Rattle.fr_verdict.specs.Search.{breach_at, first_from}
+use Rattle.fr_trace_gap.specs.Sound.{IsSoundDev}
+use Rattle.fr_check.specs.Allowed.{allowed_by}
 use Rattle.fr_check.specs.Walked.{heard_by}
+use Rattle.fr_check.specs.declared.deviations.Allowed.{Allowed}
 use Rattle.fr_verdict.specs.declared.unlawful.Unlawful.{Unlawful}
 use Rattle.fr_verdict.proofs.Passing.{passes_in_parts}
 
@@ -52,11 +56,53 @@ first_parts xs i = sym (take-append-drop i xs)
 
 -- ---- the deviations of a receiver, and the rows of a record
 
-filtered : (node : ℕ) (xs ys : List Dev) → filter (λ dev. dev.receiver == node) (xs ++ ys) ≡ filter (λ dev. dev.receiver == node) xs ++ filter (λ dev. dev.receiver == node) ys
-filtered node xs ys = filter-append (λ dev. dev.receiver == node) xs ys
+pub heard_along : (h : History) (r : Record) → GoAlong (map (Heard h r))
+heard_along h r xs ys = map-append (Heard h r) xs ys
 
-pub heard_along : (h : History) (r : Record) (node : ℕ) → GoAlong (heard_by h r node)
-heard_along h r node xs ys = ap (map (Heard h r)) (filtered node xs ys) ∙ map-append (Heard h r) (filter (λ dev. dev.receiver == node) xs) (filter (λ dev. dev.receiver == node) ys)
+-- ---- the deviations of one receiver
+
+own_all : (p : Dev → Bool) (P : Dev → Type 0) (devs own : List Dev) (i : ℕ) (dev : Dev) → All P (filter p devs) → own ≡ filter p devs → i < length own → dev ≡ get_or own i dev → P dev
+own_all p P devs own i dev all is lt at = let each : All P own = subst (All P) (sym is) all in subst P (sym at) (each i dev lt)
+
+pub own_sound : (p : Values) (devs own : List Dev) (node i : ℕ) (dev : Dev) → All (IsSoundDev p) devs → own ≡ filter (λ d. d.receiver == node) devs → i < length own → dev ≡ get_or own i dev → IsSoundDev p dev
+own_sound p devs own node i dev all is lt at =
+    own_all (λ (d : Dev). d.receiver == node) (IsSoundDev p) devs own i dev (All-filter (λ (d : Dev). d.receiver == node) (IsSoundDev p) devs all) is lt at
+
+pub own_receiver : (devs own : List Dev) (node i : ℕ) (dev : Dev) → own ≡ filter (λ d. d.receiver == node) devs → i < length own → dev ≡ get_or own i dev → dev.receiver ≡ node
+own_receiver devs own node i dev is lt at =
+    let passes : (dev.receiver == node) ≡ true =
+    own_all (λ (d : Dev). d.receiver == node) (λ (d : Dev). (d.receiver == node) ≡ true) devs own i dev (filter_passes (λ (d : Dev). d.receiver == node) devs) is lt at in
+    grind arith
+
+fewer : (p : Dev → Bool) (xs : List Dev) → length (filter p xs) ≤ length xs
+fewer p [] = omega arith
+fewer p (x ∷ xs) = by_test (p x) refl (fewer p xs)
+  where
+    by_test : (b : Bool) → p x ≡ b → length (filter p xs) ≤ length xs → length (filter p (x ∷ xs)) ≤ length (x ∷ xs)
+    by_test true e rest = rw e (omega arith)
+    by_test false e rest = rw e (omega arith)
+
+pub own_few : (devs own : List Dev) (node : ℕ) → own ≡ filter (λ d. d.receiver == node) devs → length own ≤ length devs
+own_few devs own node is =
+    let same : length own ≡ length (filter (λ d. d.receiver == node) devs) = ap (λ (xs : List Dev). length xs) is in
+    let few = fewer (λ (d : Dev). d.receiver == node) devs in
+    omega arith
+
+pub heard_few : (h : History) (r : Record) (own : List Dev) (k : ℕ) → length (map (Heard h r) (take k own)) ≤ length own
+heard_few h r own k =
+    let same : length (map (Heard h r) (take k own)) ≡ length (take k own) = length-map (take k own) (Heard h r) in
+    let short = length-take k own in
+    omega arith
+
+-- what they may be, where that is by the row of their receiver
+pub allowed_here : (p : Values) (h : History) (r : Record) (odd : Bool) (o : Option NodeRow) (dev : Dev) (allowed : Allowed) (node : ℕ) → allowed ≡ allowed_by p odd r o dev.slot → odd ≡ is_odd (length h)
+    → o ≡ row_of r.rows node → dev.receiver ≡ node → allowed ≡ allowed_by p (is_odd (length h)) r (row_of r.rows dev.receiver) dev.slot
+allowed_here p h r odd o dev allowed node is turn row same =
+    is ∙ ap₂ (λ (b : Bool) (receiver : Option NodeRow). allowed_by p b r receiver dev.slot) turn (row ∙ ap (row_of r.rows) (sym same))
+
+-- it is right for its own slot
+pub allowed_again : (p : Values) (odd : Bool) (r : Record) (o : Option NodeRow) (dev : Dev) (allowed : Allowed) → allowed ≡ allowed_by p odd r o dev.slot → allowed ≡ allowed_by p odd r o allowed.slot
+allowed_again p odd r o dev allowed is = is ∙ ap (allowed_by p odd r o) (sym (ap (λ (a : Allowed). a.slot) is))
 
 pub rows_along : (h : History) (r : Record) → GoAlong (items_by h r)
 unfolding items_by
@@ -64,13 +110,6 @@ rows_along h r [] ys = refl
 rows_along h r (row ∷ xs) ys =
     ap (λ (rest : List Item). Clock h r row ∷ map (Heard h r) (filter (λ dev. dev.receiver == row.node) r.devs) ++ rest) (rows_along h r xs ys)
     ∙ ap (λ (rest : List Item). Clock h r row ∷ rest) (sym (append_assoc (map (Heard h r) (filter (λ dev. dev.receiver == row.node) r.devs)) (items_by h r xs) (items_by h r ys)))
-
--- one deviation
-pub heard_one : (h : History) (r : Record) (node : ℕ) (dev : Dev) → (dev.receiver == node) ≡ true → heard_by h r node (dev ∷ []) ≡ Heard h r dev ∷ []
-heard_one h r node dev e = rw e refl
-
-pub heard_other : (h : History) (r : Record) (node : ℕ) (dev : Dev) → (dev.receiver == node) ≡ false → heard_by h r node (dev ∷ []) ≡ []
-heard_other h r node dev e = rw e refl
 
 pub one_item : (p : Values) (n : ℕ) (item : Item) (o : Option Unlawful) → breach_at p n item ≡ o → first_from p n (item ∷ []) ≡ o
 unfolding first_from

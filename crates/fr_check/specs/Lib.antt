@@ -2,3 +2,5 @@
 pub mod Measured
 pub mod Controls
 pub mod Walked
+pub mod Corrections
+pub mod Allowed

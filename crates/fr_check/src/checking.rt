@@ -11,6 +11,7 @@ ghost use Rattle.fr_verdict.specs.Search.{first_breach_of};
 ghost use Rattle.fr_trace_gap.specs.Sound.{AreSound, IsSound};
 
 use crate::control::Controls;
+use crate::corrections::Corrections;
 use crate::walk::pass_cycle;
 use fr_base::{NodeRow, RowList};
 use fr_cluster::Params;
@@ -91,17 +92,23 @@ fn fill(rows: &[NodeRow], list: &mut RowList)
     }
 }
 
-// Gathers the clocks of a cycle.
-fn gather(params: &Params, gauge: &mut Gauge, behind: &[TracedCycle], cycle: &TracedCycle)
+// Gathers the clocks of a cycle, by a list of rows that is filled anew.
+fn gather(
+    params: &Params,
+    gauge: &mut Gauge,
+    rows: &mut RowList,
+    behind: &[TracedCycle],
+    cycle: &TracedCycle,
+)
     requires cycle { IsSound params.now (kept_of cycle.now) }
     requires few { length behind.now < 200_000 }
     requires holds { GaugeHolds params.now gauge.old (history_by behind.now) }
     ensures { GaugeHolds params.now gauge.new (kept_of cycle.now ∷ history_by behind.now) }
 {
     let _grid = grid_of(params);
-    let mut rows = RowList::new();
-    fill(&cycle.rows, &mut rows);
-    gauge.add(&rows);
+    rows.clear();
+    fill(&cycle.rows, rows);
+    gauge.add(rows);
 }
 
 // The clocks of a trace, gathered while its records are passed in the order of their file, or its first breach.
@@ -114,16 +121,19 @@ fn gauged(params: &Params, trace: &Trace) -> Result<Gauge, Unlawful>
     let cycles = sound_cycles(params, trace);
     let mut number = 2 + u64::from(trace.arbitrary());
     let mut controls = Controls::new(params);
+    let mut corrections = Corrections::new();
     let mut gauge = Gauge::new(params);
+    let mut rows = RowList::new();
     for n in 0..cycles.len() {
         let behind = &cycles[..n];
         let cycle = &cycles[n];
-        match pass_cycle(params, number, behind, cycle, &controls) {
+        corrections.reach(params, behind, cycle);
+        match pass_cycle(params, number, behind, cycle, &controls, &corrections) {
             Ok(next) => number = next,
             Err(breach) => return Err(breach),
         }
-        controls.pass(params, behind, cycle);
-        gather(params, &mut gauge, behind, cycle);
+        controls.pass(behind, cycle, &corrections);
+        gather(params, &mut gauge, &mut rows, behind, cycle);
     }
     Ok(gauge)
 }
@@ -133,7 +143,7 @@ fn sound_cycles<'a>(params: &Params, trace: &'a Trace) -> &'a [TracedCycle]
     requires { TraceFits params.now trace.now }
     ensures history { history_by result.now ≡ trace.now.history }
     ensures sound { AreSound params.now result.now }
-    ensures few { length result.now ≤ 20_000 }
+    ensures few { length result.now ≤ 200_000 }
 {
     let _nodes = &params.nodes;
     trace.cycles()

@@ -1,22 +1,21 @@
-ghost use Rattle.std.specs.Prelude.{◌≡◌, ◌≢◌, ◌<◌, ◌≤◌, ◌∷◌, [], ℕ, length};
-ghost use Rattle.fr_base.specs.Within.{IsWithin};
+ghost use Rattle.std.specs.Prelude.{◌≡◌, ◌≢◌, ◌<◌, ◌≤◌, ◌∷◌, [], ℕ, All, List, length};
+ghost use Rattle.fr_base.specs.Rows.{AreAscendingRows};
+ghost use Rattle.fr_base.specs.declared.dev.Dev.{Dev};
 ghost use Rattle.fr_cluster.specs.Sane.{IsSane};
 ghost use Rattle.fr_cluster.specs.Values.{Values};
 ghost use Rattle.fr_history.specs.History.{History};
-ghost use Rattle.fr_history.specs.Terms.{offset_term_in, rate_term_in, status_in};
+ghost use Rattle.fr_history.specs.Terms.{status_in};
 ghost use Rattle.fr_poc.specs.Control.{first_status, stepped, ArePocLimits};
 ghost use Rattle.fr_poc.specs.Limits.{limits_of};
 ghost use Rattle.fr_trace.specs.Cycles.{history_by, kept_of};
 ghost use Rattle.fr_check.specs.Controls.{control_at, HasStepped, Hold, Stands};
-ghost use Rattle.fr_trace_gap.specs.Sound.{AreSound, IsSound};
+ghost use Rattle.fr_check.specs.Corrections.{AreCorrections, IsCorrection, correction_at};
 
-use crate::past::latest_devs;
-use crate::terms::terms_of;
+use crate::corrections::Corrections;
 use fr_base::{NodeId, NodeRow, Outcome, State};
 use fr_cluster::{ParamName, Params};
 use fr_poc::{Poc, PocLimits};
 use fr_trace::TracedCycle;
-use fr_trace_gap::row_of;
 use std::array;
 use std::marker::Model;
 
@@ -101,63 +100,41 @@ impl Controls {
         self.by_node[usize::from(node.0)].step(offset, rate);
     }
 
-    // Takes the step of a node at the end of an odd cycle, if it has a row there.
-    fn end_of(&mut self, params: &Params, behind: &[TracedCycle], cycle: &TracedCycle, node: NodeId)
-        requires behind { AreSound params.now behind.now }
-        requires cycle { IsSound params.now (kept_of cycle.now) }
-        requires stands { Stands params.now (history_by behind.now) self.old node }
-        ensures stepped { HasStepped params.now (history_by behind.now) cycle.now.devs.items cycle.now.rows.items self.new node }
-        ensures others { (other : ℕ) → other ≢ node → control_at self.new other ≡ control_at self.old other }
+    // Takes the step of the node of a row at the end of an odd cycle.
+    fn end_of(&mut self, corrections: &Corrections, row: &NodeRow)
+        ensures here { control_at self.new row.now.node ≡ stepped (control_at self.old row.now.node)
+            (correction_at corrections.now row.now.node).offset.outcome (correction_at corrections.now row.now.node).rate.outcome }
+        ensures others { (other : ℕ) → other ≢ row.now.node → control_at self.new other ≡ control_at self.old other }
     {
-        match row_of(&cycle.rows, node) {
-            None => {}
-            Some(row) => {
-                let (offset, rate) = outcomes(params, behind, cycle, row);
-                self.step(node, offset, rate);
-            }
+        let correction = corrections.of(row.node);
+        self.step(row.node, correction.offset.outcome, correction.rate.outcome);
+    }
+
+    // Takes the steps of the nodes of all rows at the end of an odd cycle.
+    fn end(&mut self, corrections: &Corrections, rows: &[NodeRow])
+        requires { AreAscendingRows rows.now }
+        ensures { (p : Values) (h : History) (odds : List Dev) →
+            All (IsCorrection p h odds corrections.now) rows.now → Hold p h self.old →
+            (node : ℕ) → 1 ≤ node → node ≤ 64 → HasStepped p h odds rows.now self.new node }
+    {
+        for row in rows {
+            self.end_of(corrections, row);
         }
     }
 
-    // Takes the steps of all nodes at the end of an odd cycle.
-    fn end(&mut self, params: &Params, behind: &[TracedCycle], cycle: &TracedCycle)
-        requires behind { AreSound params.now behind.now }
-        requires cycle { IsSound params.now (kept_of cycle.now) }
-        requires hold { Hold params.now (history_by behind.now) self.old }
-        ensures { (node : ℕ) → 1 ≤ node → node ≤ 64 →
-            HasStepped params.now (history_by behind.now) cycle.now.devs.items cycle.now.rows.items self.new node }
-    {
-        for number in 1..65 {
-            self.end_of(params, behind, cycle, NodeId(number));
-        }
-    }
-
-    // Goes on behind one more cycle.
-    pub(crate) fn pass(&mut self, params: &Params, behind: &[TracedCycle], cycle: &TracedCycle)
-        requires behind { AreSound params.now behind.now }
-        requires cycle { IsSound params.now (kept_of cycle.now) }
-        requires hold { Hold params.now (history_by behind.now) self.old }
-        ensures { Hold params.now (kept_of cycle.now ∷ history_by behind.now) self.new }
+    // Goes on behind one more cycle, with the terms of its rows if it is odd.
+    pub(crate) fn pass(
+        &mut self,
+        behind: &[TracedCycle],
+        cycle: &TracedCycle,
+        corrections: &Corrections,
+    )
+        requires { AreAscendingRows cycle.now.rows.items }
+        ensures { (p : Values) → AreCorrections p (history_by behind.now) (kept_of cycle.now) corrections.now →
+            Hold p (history_by behind.now) self.old → Hold p (kept_of cycle.now ∷ history_by behind.now) self.new }
     {
         if behind.len() % 2 == 1 {
-            self.end(params, behind, cycle);
+            self.end(corrections, &cycle.rows);
         }
     }
-}
-
-// How both terms of a node end in an odd cycle.
-fn outcomes(
-    params: &Params,
-    behind: &[TracedCycle],
-    cycle: &TracedCycle,
-    row: &NodeRow,
-) -> (Outcome, Outcome)
-    requires behind { AreSound params.now behind.now }
-    requires cycle { IsSound params.now (kept_of cycle.now) }
-    requires row { IsWithin params.now.rate_limit row.now.rate }
-    ensures offset { result.0 ≡ (offset_term_in params.now (history_by behind.now) cycle.now.devs.items row.now.node).outcome }
-    ensures rate { result.1 ≡ (rate_term_in params.now (history_by behind.now) cycle.now.devs.items row.now).outcome }
-{
-    let evens = latest_devs(behind);
-    let (offset, rate) = terms_of(params, evens, &cycle.devs, row);
-    (offset.outcome, rate.outcome)
 }

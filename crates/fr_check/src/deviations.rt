@@ -1,11 +1,11 @@
-ghost use Rattle.std.specs.Prelude.{◌≡◌, ◌≤◌, ◌+ℤ◌, ◌-ℤ◌, ◌||◌, int_lt, pos, length, IfSome, Some, None, if◌then◌else◌};
+ghost use Rattle.std.specs.Prelude.{◌≡◌, ◌≤◌, ◌+ℤ◌, ◌-ℤ◌, ◌*ℤ◌, int_lt, pos, length, IfSome, Some};
 ghost use Rattle.std.specs.Option.{option_copied, option_map};
 ghost use Rattle.fr_base.specs.Timed.{IsLength};
 ghost use Rattle.fr_base.specs.Within.{IsBetween, IsWithin};
 ghost use Rattle.fr_bound.specs.Bounds.{arrival_error};
-ghost use Rattle.fr_cluster.specs.Values.{amount};
+ghost use Rattle.fr_cluster.specs.Values.{amount, Values};
 ghost use Rattle.fr_cluster.specs.declared.names.ParamName.TheVariants as name;
-ghost use Rattle.fr_history.specs.History.{row_of};
+ghost use Rattle.fr_history.specs.History.{History, Record, row_of};
 ghost use Rattle.fr_precision.specs.Instants.{gap_of};
 ghost use Rattle.fr_time.specs.Instant.{instant_of, KeepsLimits};
 ghost use Rattle.fr_time.specs.Cycles.{is_odd};
@@ -14,8 +14,9 @@ ghost use Rattle.fr_time.specs.Slots.{action_point_of, IsEarly};
 ghost use Rattle.fr_trace.specs.Cycles.{history_by, kept_of};
 ghost use Rattle.fr_trace.specs.Items.{Item};
 ghost use Rattle.fr_verdict.specs.Breach.{halted_state, sender_row, silent_state};
-ghost use Rattle.fr_verdict.specs.Search.{breach_at, outside_by};
-ghost use Rattle.fr_trace_gap.specs.Sound.{IsSound, IsSoundDev};
+ghost use Rattle.fr_verdict.specs.Search.{breach_at};
+ghost use Rattle.fr_trace_gap.specs.Sound.{IsSound};
+ghost use Rattle.fr_check.specs.Allowed.{allowed_by, limits_by, limits_of, outside_of, AreTicks, IsRight};
 
 use crate::first::first_of;
 use crate::past::sound_row;
@@ -93,7 +94,7 @@ fn action_instant(params: &Params, odd: bool, row: &NodeRow, action: i64) -> i64
     requires row { KeepsLimits params.now row.now }
     requires action { IsEarly params.now action }
     ensures value { result ≡ instant_of (grid_for params.now) row.now odd action }
-    ensures within { IsBetween (pos 0) (pos 901_000_000_000_000_000) result }
+    ensures within { IsBetween (pos 0) (pos 1_111_000_000_000_000_000) result }
 {
     instant(&grid_of(params), row, odd, action)
 }
@@ -104,7 +105,7 @@ fn gap(params: &Params, odd: bool, slot: Slot, sender: &NodeRow, receiver: &Node
     requires sender { KeepsLimits params.now sender.now }
     requires receiver { KeepsLimits params.now receiver.now }
     ensures value { result ≡ gap_of params.now odd (pos (action_point_of params.now slot)) sender.now receiver.now }
-    ensures within { IsWithin (pos 901_000_000_000_000_000) result }
+    ensures within { IsWithin (pos 1_111_000_000_000_000_000) result }
 {
     let action = action_point(params, slot);
     difference(
@@ -115,147 +116,225 @@ fn gap(params: &Params, odd: bool, slot: Slot, sender: &NodeRow, receiver: &Node
 
 // How far an instant lies after another.
 fn difference(one: i64, other: i64) -> i64
-    requires one { IsBetween (pos 0) (pos 901_000_000_000_000_000) one }
-    requires other { IsBetween (pos 0) (pos 901_000_000_000_000_000) other }
+    requires one { IsBetween (pos 0) (pos 1_111_000_000_000_000_000) one }
+    requires other { IsBetween (pos 0) (pos 1_111_000_000_000_000_000) other }
     ensures value { result ≡ one -ℤ other }
-    ensures within { IsWithin (pos 901_000_000_000_000_000) result }
+    ensures within { IsWithin (pos 1_111_000_000_000_000_000) result }
 {
     one - other
 }
 
 // A number of ticks less an error, and more by it.
 fn less(ticks: i64, error: i64) -> i64
-    requires ticks { IsWithin (pos 901_000_000_000_000_000) ticks }
+    requires ticks { IsWithin (pos 1_111_000_000_000_000_000) ticks }
     requires error { IsBetween (pos 0) (pos 10_300_000) error }
     ensures value { result ≡ ticks -ℤ error }
-    ensures within { IsWithin (pos 902_000_000_000_000_000) result }
+    ensures within { IsWithin (pos 1_112_000_000_000_000_000) result }
 {
     ticks - error
 }
 
 fn more(ticks: i64, error: i64) -> i64
-    requires ticks { IsWithin (pos 901_000_000_000_000_000) ticks }
+    requires ticks { IsWithin (pos 1_111_000_000_000_000_000) ticks }
     requires error { IsBetween (pos 0) (pos 10_300_000) error }
     ensures value { result ≡ ticks +ℤ error }
-    ensures within { IsWithin (pos 902_000_000_000_000_000) result }
+    ensures within { IsWithin (pos 1_112_000_000_000_000_000) result }
 {
     ticks + error
 }
 
 // A quotient rounded down.
 fn floor(n: i64, length: i64) -> i64
-    requires n { IsWithin (pos 902_000_000_000_000_000) n }
+    requires n { IsWithin (pos 1_112_000_000_000_000_000) n }
     requires length { IsLength length }
     ensures { result ≡ floor_of n length }
 {
     n.div_euclid(length)
 }
 
-// The least deviation that a gap of instants allows, in microticks of a length.
-fn low(gap: i64, error: i64, length: i64) -> i64
-    requires gap { IsWithin (pos 901_000_000_000_000_000) gap }
-    requires error { IsBetween (pos 0) (pos 10_300_000) error }
+// What so many microticks of a length are, in ticks.
+fn ticks(count: i64, length: i64) -> i64
+    requires count { IsWithin (pos 2_147_483_648) count }
     requires length { IsLength length }
-    ensures { result ≡ floor_of (gap -ℤ error) length }
+    ensures { result ≡ count *ℤ length }
 {
-    floor(less(gap, error), length)
+    count * length
 }
 
-// The greatest deviation that it allows.
-fn high(gap: i64, error: i64, length: i64) -> i64
-    requires gap { IsWithin (pos 901_000_000_000_000_000) gap }
-    requires error { IsBetween (pos 0) (pos 10_300_000) error }
+// Whether a deviation is less than so many ticks, rounded down to microticks. It divides nothing.
+fn is_less(value: i32, ticks_least: i64, length: i64) -> bool
+    requires least { IsWithin (pos 1_112_000_000_000_000_000) ticks_least }
     requires length { IsLength length }
-    ensures { result ≡ floor_of (gap +ℤ error) length }
+    ensures { result ≡ int_lt value (floor_of ticks_least length) }
 {
-    floor(more(gap, error), length)
+    ticks(i64::from(value), length) <= ticks_least - length
 }
 
-// The breach of a deviation that lies outside of them.
-fn judged(number: u64, dev: &Dev, low: i64, high: i64) -> Option<Unlawful>
-    ensures { result ≡ (if int_lt dev.now.value low || int_lt high dev.now.value
-        then Some (Unlawful.Deviation number dev.now.value low high) else None) }
+// Whether it is more.
+fn is_more(value: i32, ticks_most: i64, length: i64) -> bool
+    requires length { IsLength length }
+    ensures { result ≡ int_lt (floor_of ticks_most length) value }
 {
-    let value = i64::from(dev.value);
-    if value < low || high < value {
+    ticks_most < ticks(i64::from(value), length)
+}
+
+// The breach of a deviation that lies outside of limits.
+fn judged(number: u64, dev: &Dev, limits: Limits) -> Option<Unlawful>
+    requires { AreTicks limits }
+    ensures { result ≡ outside_of number dev.now (Some limits) }
+{
+    if is_less(dev.value, limits.least, limits.length)
+        || is_more(dev.value, limits.most, limits.length)
+    {
         Some(Unlawful::Deviation {
             number,
             kept: dev.value,
-            low,
-            high,
+            low: floor(limits.least, limits.length),
+            high: floor(limits.most, limits.length),
         })
     } else {
         None
     }
 }
 
-fn outside_of(
-    params: &Params,
-    number: u64,
-    odd: bool,
-    dev: &Dev,
-    sender: &NodeRow,
-    receiver: &NodeRow,
-) -> Option<Unlawful>
-    requires dev { IsSoundDev params.now dev.now }
-    requires sender { KeepsLimits params.now sender.now }
-    requires receiver { KeepsLimits params.now receiver.now }
-    ensures { result ≡ outside_by params.now number odd dev.now (Some sender.now) (Some receiver.now) }
-{
-    let gap = gap(params, odd, dev.slot, sender, receiver);
-    let error = arrival_error(params);
-    let low = low(gap, error, receiver.length);
-    let high = high(gap, error, receiver.length);
-    judged(number, dev, low, high)
+// The limits of the deviations of a slot at a receiver: the least and the most ticks, and the length of its microtick.
+// A deviation is compared with both rounded down to microticks.
+#[derive(Clone, Copy, Debug, PartialEq, Eq)]
+pub(crate) struct Limits {
+    pub(crate) least: i64,
+    pub(crate) most: i64,
+    pub(crate) length: i64,
 }
 
-fn outside(
+// What the deviations of a slot may be at a receiver: the state for which there can be none, and their limits.
+#[derive(Clone, Copy, Debug, PartialEq, Eq)]
+pub(crate) struct Allowed {
+    pub(crate) slot: u16,
+    pub(crate) silent: Option<State>,
+    pub(crate) limits: Option<Limits>,
+}
+
+fn limits_of(params: &Params, odd: bool, slot: Slot, sender: &NodeRow, receiver: &NodeRow) -> Limits
+    requires slot { slot ≤ amount params.now name.gNumberOfStaticSlots }
+    requires sender { KeepsLimits params.now sender.now }
+    requires receiver { KeepsLimits params.now receiver.now }
+    ensures value { result ≡ limits_of params.now odd slot sender.now receiver.now }
+    ensures ticks { AreTicks result }
+{
+    let gap = gap(params, odd, slot, sender, receiver);
+    let error = arrival_error(params);
+    Limits {
+        least: less(gap, error),
+        most: more(gap, error),
+        length: receiver.length,
+    }
+}
+
+fn limits_by(
     params: &Params,
-    number: u64,
     odd: bool,
-    dev: &Dev,
+    slot: Slot,
     sender: Option<&NodeRow>,
     receiver: Option<&NodeRow>,
-) -> Option<Unlawful>
-    requires dev { IsSoundDev params.now dev.now }
+) -> Option<Limits>
+    requires slot { slot ≤ amount params.now name.gNumberOfStaticSlots }
     requires sender { IfSome sender (λ row. KeepsLimits params.now row.now) }
     requires receiver { IfSome receiver (λ row. KeepsLimits params.now row.now) }
-    ensures { result ≡ outside_by params.now number odd dev.now (option_copied sender.entry) (option_copied receiver.entry) }
+    ensures value { result ≡ limits_by params.now odd slot (option_copied sender.entry) (option_copied receiver.entry) }
+    ensures ticks { IfSome result AreTicks }
 {
     match sender {
         None => None,
         Some(sender) => match receiver {
             None => None,
-            Some(receiver) => outside_of(params, number, odd, dev, sender, receiver),
+            Some(receiver) => Some(limits_of(params, odd, slot, sender, receiver)),
         },
     }
 }
 
+// What the deviations of a slot may be at a receiver, by its row in their cycle.
+fn allowed_in(
+    params: &Params,
+    odd: bool,
+    cycle: &TracedCycle,
+    receiver: Option<&NodeRow>,
+    slot: Slot,
+) -> Allowed
+    requires cycle { IsSound params.now (kept_of cycle.now) }
+    requires keeps { IfSome receiver (λ row. KeepsLimits params.now row.now) }
+    requires slot { slot ≤ amount params.now name.gNumberOfStaticSlots }
+    ensures value { result ≡ allowed_by params.now odd (kept_of cycle.now) (option_copied receiver.entry) slot }
+    ensures ticks { IfSome result.limits AreTicks }
+{
+    let sender = sender_row(params, cycle, slot);
+    Allowed {
+        slot: slot.0,
+        silent: silent_state(sender, receiver),
+        limits: limits_by(params, odd, slot, sender, receiver),
+    }
+}
+
+impl Allowed {
+    // That of no slot: slots are numbered from 1.
+    pub(crate) fn of_no_slot() -> Allowed
+        ensures slot { result.slot ≡ 0 }
+        ensures ticks { IfSome result.limits AreTicks }
+    {
+        Allowed {
+            slot: 0,
+            silent: None,
+            limits: None,
+        }
+    }
+
+    // Goes on to a deviation of a slot: both deviations of a slot have the same.
+    pub(crate) fn reach(
+        &mut self,
+        params: &Params,
+        odd: bool,
+        cycle: &TracedCycle,
+        receiver: Option<&NodeRow>,
+        slot: Slot,
+    )
+        requires cycle { IsSound params.now (kept_of cycle.now) }
+        requires keeps { IfSome receiver (λ row. KeepsLimits params.now row.now) }
+        requires kept { IsRight params.now odd (kept_of cycle.now) (option_copied receiver) self.old }
+        requires ticks { IfSome self.old.limits AreTicks }
+        requires slot { slot ≤ amount params.now name.gNumberOfStaticSlots }
+        ensures value { self.new ≡ allowed_by params.now odd (kept_of cycle.now) (option_copied receiver.entry) slot }
+        ensures ticks { IfSome self.new.limits AreTicks }
+    {
+        if self.slot != slot.0 {
+            *self = allowed_in(params, odd, cycle, receiver, slot);
+        }
+    }
+}
+
+fn outside(number: u64, dev: &Dev, limits: Option<Limits>) -> Option<Unlawful>
+    requires { IfSome limits AreTicks }
+    ensures { result ≡ outside_of number dev.now limits }
+{
+    match limits {
+        None => None,
+        Some(limits) => judged(number, dev, limits),
+    }
+}
+
 // Whether the cycle after some cycles is odd.
-fn is_odd_behind(behind: &[TracedCycle]) -> bool
+pub(crate) fn is_odd_behind(behind: &[TracedCycle]) -> bool
     ensures { result ≡ is_odd (length (history_by behind.now)) }
 {
     behind.len() % 2 == 1
 }
 
-// The first law that a deviation of a cycle breaks, with its record number, by the row of its receiver.
-pub(crate) fn dev_breach(
-    params: &Params,
-    number: u64,
-    behind: &[TracedCycle],
-    cycle: &TracedCycle,
-    receiver: Option<&NodeRow>,
-    dev: &Dev,
-) -> Option<Unlawful>
-    requires cycle { IsSound params.now (kept_of cycle.now) }
-    requires receiver { option_copied receiver ≡ row_of cycle.now.rows.items dev.now.receiver }
-    requires keeps { IfSome receiver (λ row. KeepsLimits params.now row.now) }
-    requires dev { IsSoundDev params.now dev.now }
-    ensures { result ≡ breach_at params.now number (Item.Heard (history_by behind.now) (kept_of cycle.now) dev.now) }
+// The first law that a deviation breaks, with its record number, by what the deviations of its slot may be.
+pub(crate) fn dev_breach(number: u64, allowed: &Allowed, dev: &Dev) -> Option<Unlawful>
+    requires { IfSome allowed.now.limits AreTicks }
+    ensures { (p : Values) (h : History) (r : Record) →
+        allowed.now ≡ allowed_by p (is_odd (length h)) r (row_of r.rows dev.now.receiver) dev.now.slot →
+        result ≡ breach_at p number (Item.Heard h r dev.now) }
 {
-    let sender = sender_row(params, cycle, dev.slot);
-    let odd = is_odd_behind(behind);
-    let silent = silent(number, silent_state(sender, receiver));
-    let outside = outside(params, number, odd, dev, sender, receiver);
+    let silent = silent(number, allowed.silent);
+    let outside = outside(number, dev, allowed.limits);
     first_of(silent, outside)
 }

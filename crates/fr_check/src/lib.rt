@@ -4,6 +4,7 @@
 
 mod checking;
 mod control;
+mod corrections;
 mod deviations;
 mod first;
 mod past;

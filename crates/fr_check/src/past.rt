@@ -1,16 +1,17 @@
-ghost use Rattle.std.specs.Prelude.{◌≡◌, ◌∷◌, [], All, IfSome, MatchOption};
+ghost use Rattle.std.specs.Prelude.{◌≡◌, ◌==◌, ◌∷◌, [], filter, IfSome, MatchOption};
+ghost use Rattle.fr_base.specs.Rows.{AreAscendingDevs};
 ghost use Rattle.fr_cluster.specs.Values.{Values};
 ghost use Rattle.fr_history.specs.History.{row_of};
 ghost use Rattle.fr_history.specs.Terms.{latest_devs};
 ghost use Rattle.fr_time.specs.Instant.{KeepsLimits};
 ghost use Rattle.fr_trace.specs.Cycles.{history_by, kept_of};
-ghost use Rattle.fr_trace_gap.specs.Sound.{AreSound, IsSound, IsSoundDev};
+ghost use Rattle.fr_trace_gap.specs.Sound.{AreSound, AreSoundDevs, IsSound};
 ghost use Rattle.std.specs.Option.{option_copied};
 
 use fr_base::{Dev, NodeId, NodeRow};
 use fr_cluster::Params;
 use fr_trace::TracedCycle;
-use fr_trace_gap::row_of;
+use fr_trace_gap::{devs_of, row_of};
 
 // The last of some cycles, and those before it.
 pub(crate) fn last_cycle(cycles: &[TracedCycle]) -> Option<(&TracedCycle, &[TracedCycle])>
@@ -28,7 +29,7 @@ pub(crate) fn last_cycle(cycles: &[TracedCycle]) -> Option<(&TracedCycle, &[Trac
 // The deviations of the last of some cycles.
 pub(crate) fn latest_devs(cycles: &[TracedCycle]) -> &[Dev]
     ensures value { result.now ≡ latest_devs (history_by cycles.now) }
-    ensures sound { (p : Values) → AreSound p cycles.now → All (IsSoundDev p) result.now }
+    ensures sound { (p : Values) → AreSound p cycles.now → AreSoundDevs p result.now }
 {
     match last_cycle(cycles) {
         None => &[],
@@ -48,4 +49,19 @@ pub(crate) fn sound_row<'a>(
 {
     let _nodes = &params.nodes;
     row_of(&cycle.rows, node)
+}
+
+// The row of a node in a cycle, of which nothing is known.
+pub(crate) fn any_row(cycle: &TracedCycle, node: NodeId) -> Option<&NodeRow>
+    ensures { option_copied result ≡ row_of cycle.now.rows.items node }
+{
+    row_of(&cycle.rows, node)
+}
+
+// The deviations of a receiver in a cycle.
+pub(crate) fn own_devs(cycle: &TracedCycle, node: NodeId) -> &[Dev]
+    requires { AreAscendingDevs cycle.now.devs.items }
+    ensures { result.now ≡ filter (λ dev. dev.receiver == node) cycle.now.devs.items }
+{
+    devs_of(&cycle.devs, node)
 }

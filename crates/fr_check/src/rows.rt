@@ -1,19 +1,22 @@
 ghost use Rattle.std.specs.Prelude.{◌≡◌, IfSome, Some};
 ghost use Rattle.std.specs.Option.{option_copied};
-ghost use Rattle.fr_history.specs.History.{row_of};
+ghost use Rattle.fr_cluster.specs.Values.{Values};
+ghost use Rattle.fr_history.specs.History.{Record, row_of};
 ghost use Rattle.fr_history.specs.Lawful.{is_corrected, offset_after, rate_by, start_by};
 ghost use Rattle.fr_time.specs.Instant.{KeepsLimits};
 ghost use Rattle.fr_trace.specs.Cycles.{history_by, kept_of};
 ghost use Rattle.fr_trace.specs.Items.{Item};
 ghost use Rattle.fr_verdict.specs.Breach.{rate_behind, start_behind};
 ghost use Rattle.fr_check.specs.Controls.{Hold};
-ghost use Rattle.fr_verdict.specs.Search.{breach_at, turned, wrong_offset, wrong_rate, wrong_start, wrong_turn};
-ghost use Rattle.fr_trace_gap.specs.Sound.{AreSound, IsSound};
+ghost use Rattle.fr_check.specs.Corrections.{AreCorrections, AreLatest, IsKept};
+ghost use Rattle.fr_verdict.specs.Search.{breach_at, is_same, turned, unless, wrong_start};
+ghost use Rattle.fr_verdict.specs.declared.unlawful.Unlawful.TheVariants as unlawful;
+ghost use Rattle.fr_trace_gap.specs.Sound.{AreSound};
 
 use crate::control::Controls;
+use crate::corrections::Corrections;
 use crate::first::first_of;
-use crate::past::{last_cycle, latest_devs, sound_row};
-use crate::terms::{offset_term_of, rate_term_of};
+use crate::past::{any_row, last_cycle, sound_row};
 use fr_base::{NodeRow, State};
 use fr_cluster::Params;
 use fr_time::next_start;
@@ -49,51 +52,52 @@ fn start_behind(params: &Params, behind: &[TracedCycle], row: &NodeRow) -> i64
     }
 }
 
-// The rate that follows a row of the last cycle.
-fn rate_after(params: &Params, earlier: &[TracedCycle], last: &TracedCycle, before: &NodeRow) -> i32
-    requires earlier { AreSound params.now earlier.now }
-    requires last { IsSound params.now (kept_of last.now) }
-    requires before { KeepsLimits params.now before.now }
-    ensures { result ≡ rate_by params.now (history_by earlier.now) (kept_of last.now) (Some before.now) }
+// The rate that follows a row of the last cycle, by the terms that are kept of it.
+fn rate_after(earlier: &[TracedCycle], before: &NodeRow, corrections: &Corrections) -> i32
+    ensures { (p : Values) (last : Record) → IsKept p (history_by earlier.now) last corrections.now before.now →
+        result ≡ rate_by p (history_by earlier.now) last (Some before.now) }
 {
     if is_corrected(earlier, before) {
-        rate_term_of(params, latest_devs(earlier), &last.devs, before).value
+        corrections.of(before.node).rate.value
     } else {
         before.rate
     }
 }
 
 // The rate by the row of the cycle before.
-fn rate_by(params: &Params, earlier: &[TracedCycle], last: &TracedCycle, row: &NodeRow) -> i32
-    requires earlier { AreSound params.now earlier.now }
-    requires last { IsSound params.now (kept_of last.now) }
-    ensures { result ≡ rate_by params.now (history_by earlier.now) (kept_of last.now) (row_of last.now.rows.items row.now.node) }
+fn rate_by(
+    earlier: &[TracedCycle],
+    last: &TracedCycle,
+    row: &NodeRow,
+    corrections: &Corrections,
+) -> i32
+    ensures { (p : Values) → AreCorrections p (history_by earlier.now) (kept_of last.now) corrections.now →
+        result ≡ rate_by p (history_by earlier.now) (kept_of last.now) (row_of last.now.rows.items row.now.node) }
 {
-    match sound_row(params, last, row.node) {
+    match any_row(last, row.node) {
         None => 0,
-        Some(before) => rate_after(params, earlier, last, before),
+        Some(before) => rate_after(earlier, before, corrections),
     }
 }
 
 // The rate that a row must have behind some cycles.
-fn rate_behind(params: &Params, behind: &[TracedCycle], row: &NodeRow) -> i32
-    requires { AreSound params.now behind.now }
-    ensures { result ≡ rate_behind params.now (history_by behind.now) row.now }
+fn rate_behind(behind: &[TracedCycle], row: &NodeRow, corrections: &Corrections) -> i32
+    ensures { (p : Values) → AreLatest p (history_by behind.now) corrections.now →
+        result ≡ rate_behind p (history_by behind.now) row.now }
 {
     match last_cycle(behind) {
         None => row.rate,
-        Some((last, earlier)) => rate_by(params, earlier, last, row),
+        Some((last, earlier)) => rate_by(earlier, last, row, corrections),
     }
 }
 
-// The offset that a row of a cycle must have behind some cycles.
-fn offset_after(params: &Params, behind: &[TracedCycle], cycle: &TracedCycle, row: &NodeRow) -> i32
-    requires behind { AreSound params.now behind.now }
-    requires cycle { IsSound params.now (kept_of cycle.now) }
-    ensures { result ≡ offset_after params.now (history_by behind.now) (kept_of cycle.now) row.now }
+// The offset that a row of a cycle must have behind some cycles, by the terms that are kept of the cycle.
+fn offset_after(behind: &[TracedCycle], row: &NodeRow, corrections: &Corrections) -> i32
+    ensures { (p : Values) (here : Record) → IsKept p (history_by behind.now) here corrections.now row.now →
+        result ≡ offset_after p (history_by behind.now) here row.now }
 {
     if is_corrected(behind, row) {
-        offset_term_of(params, &cycle.devs, row.node).value
+        corrections.of(row.node).offset.value
     } else {
         0
     }
@@ -120,22 +124,15 @@ fn wrong_start(
     }
 }
 
-fn wrong_rate(
-    params: &Params,
-    number: u64,
-    behind: &[TracedCycle],
-    row: &NodeRow,
-) -> Option<Unlawful>
-    requires { AreSound params.now behind.now }
-    ensures { result ≡ wrong_rate params.now number (history_by behind.now) row.now }
+fn wrong_rate(number: u64, kept: i32, wanted: i32) -> Option<Unlawful>
+    ensures { result ≡ unless (is_same kept wanted) (unlawful.Rate number kept wanted) }
 {
-    let wanted = rate_behind(params, behind, row);
-    if row.rate == wanted {
+    if kept == wanted {
         None
     } else {
         Some(Unlawful::Rate {
             number,
-            kept: row.rate,
+            kept,
             wanted,
         })
     }
@@ -155,46 +152,39 @@ fn wrong_turn(number: u64, kept: State, wanted: State) -> Option<Unlawful>
     }
 }
 
-fn wrong_offset(
-    params: &Params,
-    number: u64,
-    behind: &[TracedCycle],
-    cycle: &TracedCycle,
-    row: &NodeRow,
-) -> Option<Unlawful>
-    requires behind { AreSound params.now behind.now }
-    requires cycle { IsSound params.now (kept_of cycle.now) }
-    ensures { result ≡ wrong_offset params.now number (history_by behind.now) (kept_of cycle.now) row.now }
+fn wrong_offset(number: u64, kept: i32, wanted: i32) -> Option<Unlawful>
+    ensures { result ≡ unless (is_same kept wanted) (unlawful.Offset number kept wanted) }
 {
-    let wanted = offset_after(params, behind, cycle, row);
-    if row.offset == wanted {
+    if kept == wanted {
         None
     } else {
         Some(Unlawful::Offset {
             number,
-            kept: row.offset,
+            kept,
             wanted,
         })
     }
 }
 
-// The first law that a row of a cycle breaks, with its record number.
+// The first law that a row breaks, with its record number, by the cycles behind it and the terms that are kept of its
+// own.
 pub(crate) fn row_breach(
     params: &Params,
     number: u64,
     behind: &[TracedCycle],
-    cycle: &TracedCycle,
     row: &NodeRow,
     controls: &Controls,
+    corrections: &Corrections,
 ) -> Option<Unlawful>
     requires behind { AreSound params.now behind.now }
-    requires cycle { IsSound params.now (kept_of cycle.now) }
     requires hold { Hold params.now (history_by behind.now) controls.now }
-    ensures { result ≡ breach_at params.now number (Item.Clock (history_by behind.now) (kept_of cycle.now) row.now) }
+    requires latest { AreLatest params.now (history_by behind.now) corrections.now }
+    ensures { (here : Record) → IsKept params.now (history_by behind.now) here corrections.now row.now →
+        result ≡ breach_at params.now number (Item.Clock (history_by behind.now) here row.now) }
 {
     let start = wrong_start(params, number, behind, row);
-    let rate = wrong_rate(params, number, behind, row);
+    let rate = wrong_rate(number, row.rate, rate_behind(behind, row, corrections));
     let turn = wrong_turn(number, row.state, controls.state(row.node));
-    let offset = wrong_offset(params, number, behind, cycle, row);
+    let offset = wrong_offset(number, row.offset, offset_after(behind, row, corrections));
     first_of(first_of(first_of(start, rate), turn), offset)
 }

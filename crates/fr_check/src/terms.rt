@@ -1,4 +1,4 @@
-ghost use Rattle.std.specs.Prelude.{◌≡◌, ◌≢◌, ◌⊎◌, ◌<◌, ◌≤◌, pos, true, All, List, ℕ, Bool, Some};
+ghost use Rattle.std.specs.Prelude.{◌≡◌, ◌≢◌, ◌⊎◌, ◌<◌, ◌≤◌, pos, true, All, ℕ, Bool, Some};
 ghost use Rattle.std.specs.Option.{option_or};
 ghost use Rattle.fr_base.specs.Within.{IsBetween, IsWithin};
 ghost use Rattle.fr_base.specs.declared.channel.Channel.{Channel as Line};
@@ -9,13 +9,14 @@ ghost use Rattle.fr_measure.specs.Deviations.{deviations_of, offset_values_of, r
 ghost use Rattle.fr_measure.specs.Readings.{reading};
 ghost use Rattle.fr_measure.specs.Values.{offset_at, rate_at, values_of};
 ghost use Rattle.fr_check.specs.Measured.{look_among, told_by, TakesIn};
-ghost use Rattle.fr_trace_gap.specs.Sound.{IsSoundDev};
+ghost use Rattle.fr_trace_gap.specs.Sound.{AreSoundDevs, IsSoundDev};
 
 use fr_base::{Dev, NodeId, NodeRow};
 use fr_cluster::{ParamName, Params};
 use fr_correct::{Term, offset_term, rate_term};
 use fr_measure::Table;
 use fr_midpoint::List15;
+use fr_trace_gap::devs_of;
 
 // The place of a node's own key slot among the key slots.
 fn own_key_index(params: &Params, id: NodeId) -> Option<usize>
@@ -90,27 +91,24 @@ fn take_devs(params: &Params, table: &mut Table, devs: &[Dev], node: NodeId, odd
     }
 }
 
+// Takes in this receiver's deviations of the even or the odd cycle, by looking at no others.
+fn take_own(params: &Params, table: &mut Table, devs: &[Dev], node: NodeId, odd: bool)
+    requires { AreSoundDevs params.now devs.now }
+    ensures { TakesIn odd (look_among params.now devs.now node) table.old table.new }
+{
+    take_devs(params, table, devs_of(devs, node), node, odd);
+}
+
 // The recorded deviations of a receiver in a double cycle.
 fn table_of(params: &Params, evens: &[Dev], odds: &[Dev], node: NodeId) -> Table
-    requires evens { All (IsSoundDev params.now) evens.now }
-    requires odds { All (IsSoundDev params.now) odds.now }
+    requires evens { AreSoundDevs params.now evens.now }
+    requires odds { AreSoundDevs params.now odds.now }
     ensures { (index : ℕ) (odd : Bool) (channel : Line) → index < 15 →
         reading result index odd channel ≡ deviations_of params.now evens.now odds.now node index odd channel }
 {
     let mut table = Table::new();
-    take_devs(params, &mut table, evens, node, false);
-    take_devs(params, &mut table, odds, node, true);
-    table
-}
-
-// The recorded deviations of a receiver in an odd cycle, and none of the even one.
-fn odd_table_of(params: &Params, odds: &[Dev], node: NodeId) -> Table
-    requires { All (IsSoundDev params.now) odds.now }
-    ensures { (index : ℕ) (channel : Line) → index < 15 →
-        reading result index true channel ≡ look_among params.now odds.now node index channel }
-{
-    let mut table = Table::new();
-    take_devs(params, &mut table, odds, node, true);
+    take_own(params, &mut table, evens, node, false);
+    take_own(params, &mut table, odds, node, true);
     table
 }
 
@@ -134,32 +132,10 @@ fn rate_term_from(params: &Params, table: &Table, own: Option<usize>, row: &Node
     rate_term(row.rate, damping(params), rate_limit(params), &mut values)
 }
 
-// The offset term of a node at the end of an odd cycle with these deviations: those of the even cycle do not matter.
-pub(crate) fn offset_term_of(params: &Params, odds: &[Dev], node: NodeId) -> Term
-    requires { All (IsSoundDev params.now) odds.now }
-    ensures { (evens : List Dev) →
-        result ≡ offset_term_of params.now.offset_limit (offset_values_of params.now evens odds.now node) }
-{
-    let table = odd_table_of(params, odds, node);
-    offset_term_from(params, &table, own_key_index(params, node))
-}
-
-// The rate term of the node of a row there.
-pub(crate) fn rate_term_of(params: &Params, evens: &[Dev], odds: &[Dev], row: &NodeRow) -> Term
-    requires evens { All (IsSoundDev params.now) evens.now }
-    requires odds { All (IsSoundDev params.now) odds.now }
-    requires rate { IsWithin params.now.rate_limit row.now.rate }
-    ensures { result ≡ rate_term_of row.now.rate params.now.damping params.now.rate_limit
-        (rate_values_of params.now evens.now odds.now row.now.node) }
-{
-    let table = table_of(params, evens, odds, row.node);
-    rate_term_from(params, &table, own_key_index(params, row.node), row)
-}
-
-// Both terms of the node of a row there.
+// Both terms of the node of a row at the end of an odd cycle, by the deviations of its double cycle.
 pub(crate) fn terms_of(params: &Params, evens: &[Dev], odds: &[Dev], row: &NodeRow) -> (Term, Term)
-    requires evens { All (IsSoundDev params.now) evens.now }
-    requires odds { All (IsSoundDev params.now) odds.now }
+    requires evens { AreSoundDevs params.now evens.now }
+    requires odds { AreSoundDevs params.now odds.now }
     requires rate { IsWithin params.now.rate_limit row.now.rate }
     ensures offset { result.0 ≡ offset_term_of params.now.offset_limit
         (offset_values_of params.now evens.now odds.now row.now.node) }

@@ -1,55 +1,21 @@
-ghost use Rattle.std.specs.Prelude.{◌≡◌, ◌≤◌, ◌+◌, ◌∷◌, [], length, IfErr, IfOk, IfSome, None, Some};
-ghost use Rattle.std.specs.Option.{option_copied};
-ghost use Rattle.fr_history.specs.History.{row_of};
-ghost use Rattle.fr_time.specs.Instant.{KeepsLimits};
+ghost use Rattle.std.specs.Prelude.{◌≡◌, ◌≤◌, ◌+◌, ◌∷◌, [], length, IfErr, IfOk, None, Some};
 ghost use Rattle.fr_trace.specs.Cycles.{history_by, kept_of};
 ghost use Rattle.fr_trace.specs.Items.{items_by};
 ghost use Rattle.fr_check.specs.Controls.{Hold};
+ghost use Rattle.fr_check.specs.Corrections.{AreCorrections, AreLatest, IsKept};
 ghost use Rattle.fr_verdict.specs.Search.{first_from};
-ghost use Rattle.fr_trace_gap.specs.Sound.{AreSound, IsSound, IsSoundDev};
+ghost use Rattle.fr_trace_gap.specs.Sound.{AreSound, IsSound};
 ghost use Rattle.fr_check.specs.Walked.{heard_by};
 
 use crate::control::Controls;
-use crate::deviations::dev_breach;
-use crate::past::sound_row;
+use crate::corrections::Corrections;
+use crate::deviations::{Allowed, dev_breach, is_odd_behind};
+use crate::past::{own_devs, sound_row};
 use crate::rows::row_breach;
-use fr_base::{Dev, NodeId, NodeRow};
+use fr_base::{NodeId, NodeRow};
 use fr_cluster::Params;
 use fr_trace::TracedCycle;
 use fr_verdict::Unlawful;
-
-// Passes a deviation, if it is one of this receiver: the number of the record after it, or its breach.
-fn pass_dev(
-    params: &Params,
-    number: u64,
-    behind: &[TracedCycle],
-    cycle: &TracedCycle,
-    node: NodeId,
-    receiver: Option<&NodeRow>,
-    dev: &Dev,
-) -> Result<u64, Unlawful>
-    requires number { number ≤ 1_000_000_000_000_000 }
-    requires cycle { IsSound params.now (kept_of cycle.now) }
-    requires receiver { option_copied receiver ≡ row_of cycle.now.rows.items node }
-    requires keeps { IfSome receiver (λ row. KeepsLimits params.now row.now) }
-    requires dev { IsSoundDev params.now dev.now }
-    ensures found { IfErr result (λ breach.
-        first_from params.now number (heard_by (history_by behind.now) (kept_of cycle.now) node (dev.now ∷ [])) ≡ Some breach) }
-    ensures none { IfOk result (λ next.
-        first_from params.now number (heard_by (history_by behind.now) (kept_of cycle.now) node (dev.now ∷ [])) ≡ None) }
-    ensures next { IfOk result (λ next.
-        next ≡ number + length (heard_by (history_by behind.now) (kept_of cycle.now) node (dev.now ∷ []))) }
-    ensures most { IfOk result (λ next. next ≤ number + 1) }
-{
-    if dev.receiver == node {
-        match dev_breach(params, number, behind, cycle, receiver, dev) {
-            Some(breach) => Err(breach),
-            None => Ok(number + 1),
-        }
-    } else {
-        Ok(number)
-    }
-}
 
 // Passes the deviations of a receiver in a cycle.
 fn pass_devs(
@@ -70,11 +36,15 @@ fn pass_devs(
     ensures most { IfOk result (λ next. next ≤ number + 140_000) }
 {
     let receiver = sound_row(params, cycle, node);
+    let odd = is_odd_behind(behind);
+    let own = own_devs(cycle, node);
     let mut next = number;
-    for dev in &cycle.devs {
-        match pass_dev(params, next, behind, cycle, node, receiver, dev) {
-            Ok(after) => next = after,
-            Err(breach) => return Err(breach),
+    let mut allowed = Allowed::of_no_slot();
+    for dev in own {
+        allowed.reach(params, odd, cycle, receiver, dev.slot);
+        match dev_breach(next, &allowed, dev) {
+            Some(breach) => return Err(breach),
+            None => next += 1,
         }
     }
     Ok(next)
@@ -87,12 +57,15 @@ fn pass_row(
     behind: &[TracedCycle],
     cycle: &TracedCycle,
     controls: &Controls,
+    corrections: &Corrections,
     row: &NodeRow,
 ) -> Result<u64, Unlawful>
     requires number { number ≤ 800_000_000_000_000 }
     requires behind { AreSound params.now behind.now }
     requires cycle { IsSound params.now (kept_of cycle.now) }
     requires hold { Hold params.now (history_by behind.now) controls.now }
+    requires latest { AreLatest params.now (history_by behind.now) corrections.now }
+    requires kept { IsKept params.now (history_by behind.now) (kept_of cycle.now) corrections.now row.now }
     ensures found { IfErr result (λ breach.
         first_from params.now number (items_by (history_by behind.now) (kept_of cycle.now) (row.now ∷ [])) ≡ Some breach) }
     ensures none { IfOk result (λ next.
@@ -101,7 +74,7 @@ fn pass_row(
         next ≡ number + length (items_by (history_by behind.now) (kept_of cycle.now) (row.now ∷ []))) }
     ensures most { IfOk result (λ next. next ≤ number + 140_001) }
 {
-    match row_breach(params, number, behind, cycle, row, controls) {
+    match row_breach(params, number, behind, row, controls, corrections) {
         Some(breach) => Err(breach),
         None => match pass_devs(params, number + 1, behind, cycle, row.node) {
             Ok(next) => Ok(next),
@@ -117,11 +90,14 @@ pub(crate) fn pass_cycle(
     behind: &[TracedCycle],
     cycle: &TracedCycle,
     controls: &Controls,
+    corrections: &Corrections,
 ) -> Result<u64, Unlawful>
     requires number { number ≤ 700_000_000_000_000 }
     requires behind { AreSound params.now behind.now }
     requires cycle { IsSound params.now (kept_of cycle.now) }
     requires hold { Hold params.now (history_by behind.now) controls.now }
+    requires latest { AreLatest params.now (history_by behind.now) corrections.now }
+    requires here { AreCorrections params.now (history_by behind.now) (kept_of cycle.now) corrections.now }
     ensures found { IfErr result (λ breach.
         first_from params.now number (items_by (history_by behind.now) (kept_of cycle.now) cycle.now.rows.items) ≡ Some breach) }
     ensures none { IfOk result (λ next.
@@ -132,7 +108,7 @@ pub(crate) fn pass_cycle(
 {
     let mut next = number;
     for row in &cycle.rows {
-        match pass_row(params, next, behind, cycle, controls, row) {
+        match pass_row(params, next, behind, cycle, controls, corrections, row) {
             Ok(after) => next = after,
             Err(breach) => return Err(breach),
         }

@@ -1,3 +1,4 @@
+pub mod Both
 pub mod Earlier
 pub mod Found
 pub mod OneValue

@@ -54,20 +54,20 @@ status_of (Unlawful why) = status.No
 status_of NoMemory = status.NoMemory
 status_of WriteFault = status.WriteFault
 
--- what is said of it
-abbrev pub failure_text : Failure → List ℕ
-failure_text Usage = codes "usage: flexray COMMAND WORDS"
-failure_text (Frame stop) = stop_text (codes "frame") frame_fault_text stop
-failure_text (Params stop) = stop_text (codes "params") param_fault_text stop
-failure_text (Drift stop) = stop_text (codes "drift") drift_fault_text stop
-failure_text (Script stop) = stop_text (codes "script") script_fault_text stop
-failure_text (Capture why) = unread_text (codes "capture") why
-failure_text (Power stop) = stop_text (codes "power") power_fault_text stop
-failure_text (Vectors stop) = stop_text (codes "vectors") vectors_fault_text stop
-failure_text (Trace stop) = stop_text (codes "trace") trace_fault_text stop
-failure_text (Unlawful why) = unlawful_text why
-failure_text NoMemory = codes "no memory"
-failure_text WriteFault = codes "write fault"
+-- what is said of it, by what a program says of words that are no request
+abbrev pub failure_text : List ℕ → Failure → List ℕ
+failure_text usage Usage = usage
+failure_text usage (Frame stop) = stop_text (codes "frame") frame_fault_text stop
+failure_text usage (Params stop) = stop_text (codes "params") param_fault_text stop
+failure_text usage (Drift stop) = stop_text (codes "drift") drift_fault_text stop
+failure_text usage (Script stop) = stop_text (codes "script") script_fault_text stop
+failure_text usage (Capture why) = unread_text (codes "capture") why
+failure_text usage (Power stop) = stop_text (codes "power") power_fault_text stop
+failure_text usage (Vectors stop) = stop_text (codes "vectors") vectors_fault_text stop
+failure_text usage (Trace stop) = stop_text (codes "trace") trace_fault_text stop
+failure_text usage (Unlawful why) = unlawful_text why
+failure_text usage NoMemory = codes "no memory"
+failure_text usage WriteFault = codes "write fault"
 
 -- the exit status of an ending
 abbrev pub ending_status : Ending → Status
@@ -75,9 +75,9 @@ ending_status (Ok done) = status.Done
 ending_status (Err failure) = status_of failure
 
 -- the line of an ending was put where it is a failure
-abbrev pub IsTold : Sunk → Sunk → Ending → Type 0
-IsTold before after (Ok done) = Unit {0}
-IsTold before after (Err failure) = IsLinePut before after (line (failure_text failure))
+abbrev pub IsTold : List ℕ → Sunk → Sunk → Ending → Type 0
+IsTold usage before after (Ok done) = Unit {0}
+IsTold usage before after (Err failure) = IsLinePut before after (line (failure_text usage failure))
 
 -- with this ending nothing was written
 abbrev pub EndingWritesNothing : Ending → Type 0

@@ -1,12 +1,13 @@
 ghost use Rattle.std.specs.Prelude.{◌≡◌, ◌≤◌, length};
 ghost use Rattle.fr_text.specs.Pieces.{line};
+ghost use Rattle.fr_ending.specs.Around.{IsLinePut};
 ghost use Rattle.fr_ending.specs.declared.failure.Failure.TheVariants as failure;
 ghost use Rattle.fr_ending.specs.Failure.{failure_text, status_of, stop_status, unread_status, unread_text};
 
 use crate::fault_line::stop_line;
 use crate::status::Status;
 use crate::unlawful_line::unlawful_line;
-use fr_base::PutFault;
+use fr_base::{PutFault, Sink};
 use fr_cold::PowerFault;
 use fr_drift::DriftFault;
 use fr_frame::FrameFault;
@@ -80,12 +81,22 @@ impl Failure {
         }
     }
 
-    /// The line that says so.
-    pub fn line(&self) -> Line
-        ensures { result ≡ line (failure_text self.now) }
+    /// Puts the line that says so, in one put; of words that are no request it is `usage`. What becomes of it changes
+    /// nothing else.
+    pub fn tell<E: Sink>(&self, usage: &[u8], err: &mut E)
+        requires { length usage.now ≤ 100 }
+        ensures { IsLinePut (E.state err.old) (E.state err.new) (line (failure_text usage.now self.now)) }
+    {
+        let _ = err.put(self.line(usage).bytes());
+    }
+
+    // The line that says so.
+    fn line(&self, usage: &[u8]) -> Line
+        requires { length usage.now ≤ 100 }
+        ensures { result ≡ line (failure_text usage.now self.now) }
     {
         match self {
-            Failure::Usage => line_of(&[Word(b"usage: flexray COMMAND WORDS")]),
+            Failure::Usage => line_of(&[Word(usage)]),
             Failure::Frame(stop) => stop_line(b"frame", stop),
             Failure::Params(stop) => stop_line(b"params", stop),
             Failure::Drift(stop) => stop_line(b"drift", stop),

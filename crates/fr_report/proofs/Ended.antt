@@ -6,7 +6,8 @@ use Rattle.fr_base.specs.declared.channel.Channel.TheVariants.{A, B}
 use Rattle.fr_coverage.specs.declared.gap.Gap.{Gap}
 use Rattle.fr_cluster.specs.Setting.{Setting}
 use Rattle.fr_history.specs.History.{History}
-use Rattle.fr_report.specs.Text.{clock_text, covered_text, cut_text, heard_text, nodes_text, peak_line, precision_text, report_of, sent_text, sync_text, text_of, told_lines}
+use Rattle.fr_phrases.specs.Phrases.{precision_text, sync_text}
+use Rattle.fr_report.specs.Text.{node_text, covered_text, cut_text, heard_text, nodes_text, greatest_line, report_of, sent_text, told_text, told_lines}
 use Rattle.fr_report.specs.Told.{told_of}
 use Rattle.fr_report.specs.declared.told.Told.{Told}
 use Rattle.fr_text.specs.Lines.{IsEnded, shown}
@@ -30,12 +31,12 @@ run_ended told =
     ++ line (precision_text told.precision)
     ++ line (covered_text told.gap)
     ++ line (sync_text told.synced)
-    ++ shown (option_map peak_line told.greatest)
+    ++ shown (option_map greatest_line told.greatest)
     ++ line (sent_text A told.sums.sent_a told.sums.xor_a)
     ++ line (sent_text B told.sums.sent_b told.sums.xor_b)
     ++ line (heard_text told.sums))
     (cut_text told.cut)
 
 pub report_ended : (x : Setting) (gap : Option Gap) (h : History) → IsEnded (report_of x gap h)
-unfolding report_of text_of
-report_ended x gap h = ended_before clock_text (told_lines (told_of x gap h)) (told_of x gap h).clocks (run_ended (told_of x gap h))
+unfolding report_of told_text
+report_ended x gap h = ended_before node_text (told_lines (told_of x gap h)) (told_of x gap h).clocks (run_ended (told_of x gap h))

@@ -10,7 +10,7 @@ use Rattle.fr_history.specs.Lawful.{row_nodes}
 use Rattle.fr_cluster.specs.Setting.{Setting}
 use Rattle.fr_node.specs.View.{NodeView}
 use Rattle.fr_world.specs.Standing.{node_after, nodes_after}
-use Rattle.fr_report.specs.Clocks.{clock_after, clock_in, last_offset_of, offset_by}
+use Rattle.fr_report.specs.Clocks.{clock_after, clock_between, last_offset_of, offset_by}
 use Rattle.fr_report.specs.Held.{ReportHolds, ReportView, last_odd_of}
 use Rattle.fr_report.specs.Told.{arbitrary_nodes, told_of}
 use Rattle.fr_report.specs.declared.told.Told.{Told}
@@ -27,11 +27,11 @@ last_offset_is [] node = refl
 last_offset_is (r ∷ h) node = last_offset-next r h node (is_odd (length h)) refl (last_offset_is h node)
 
 -- the clock of a node after a history, by its rows
-clock_is : (x : Setting) (h : History) (node : NodeSpec) → clock_in (last_odd_of h) (node_after x h node.id) ≡ clock_after x h node
+clock_is : (x : Setting) (h : History) (node : NodeSpec) → clock_between (last_odd_of h) (node_after x h node.id) ≡ clock_after x h node
 unfolding node_after
 clock_is x h node = rw (last_offset_is h node.id) refl
 
-clocks_are : (x : Setting) (h : History) (nodes : List NodeSpec) → map (clock_in (last_odd_of h)) (map (λ node. node_after x h node.id) nodes) ≡ map (clock_after x h) nodes
+clocks_are : (x : Setting) (h : History) (nodes : List NodeSpec) → map (clock_between (last_odd_of h)) (map (λ node. node_after x h node.id) nodes) ≡ map (clock_after x h) nodes
 clocks_are x h [] = refl
 clocks_are x h (node ∷ nodes) = ap₂ (λ clock clocks. clock ∷ clocks) (clock_is x h node) (clocks_are x h nodes)
 
@@ -48,7 +48,7 @@ told_by x gap report nodes = record {
   greatest = report.gauge.greatest;
   sums = report.sums;
   cut = report.cut;
-  clocks = map (clock_in report.odd) nodes;
+  clocks = map (clock_between report.odd) nodes;
 }
 
 pub told_is : (x : Setting) (gap : Option Gap) (report : ReportView) (nodes : List NodeView) (h : History) → nodes ≡ nodes_after x h → ReportHolds x.params report h → told_by x gap report nodes ≡ told_of x gap h

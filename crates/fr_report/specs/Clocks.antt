@@ -7,7 +7,7 @@ use Rattle.fr_history.specs.History.{History, row_of}
 use Rattle.fr_history.specs.Lawful.{rate_after, start_after}
 use Rattle.fr_cluster.specs.Setting.{Setting}
 use Rattle.fr_history.specs.Terms.{status_in}
-use Rattle.fr_node.specs.View.{NodeView}
+use Rattle.fr_node.specs.View.{NodeView, state_of_node}
 use Rattle.fr_report.specs.declared.clocks.Clock.{Clock}
 
 -- the offset term of a row; 0 where there is none
@@ -31,10 +31,10 @@ clock_after x h node = record {
 }
 
 -- a node between cycles, by the rows of the last odd cycle
-abbrev pub clock_in : List NodeRow → NodeView → Clock
-clock_in odd node = record {
+abbrev pub clock_between : List NodeRow → NodeView → Clock
+clock_between odd node = record {
   node = node.id;
-  state = node.control.status.state;
+  state = state_of_node node;
   start = node.start;
   rate = node.rate;
   offset = offset_by (row_of odd node.id);

@@ -1,7 +1,7 @@
 ghost use Rattle.std.specs.Prelude.{◌≡◌, ◌<◌, ◌≤◌, ◌++◌, ◌∷◌, [], length, map, All, IsNone};
 ghost use Rattle.std.specs.Option.{option_copied};
 ghost use Rattle.fr_history.specs.History.{row_of};
-ghost use Rattle.fr_report.specs.Clocks.{clock_in, offset_by};
+ghost use Rattle.fr_report.specs.Clocks.{clock_between, offset_by};
 
 use fr_base::{NodeId, NodeRow, State};
 use fr_node::Node;
@@ -78,7 +78,7 @@ impl ClockList {
 pub(crate) fn clocks_of(nodes: &[Node], odd: &[NodeRow]) -> ClockList
     requires few { length nodes.now ≤ 64 }
     requires between { All (λ node. IsNone node.length) nodes.now }
-    ensures { result ≡ map (clock_in odd.now) nodes.now }
+    ensures { result ≡ map (clock_between odd.now) nodes.now }
 {
     let mut clocks = ClockList::new();
     for node in nodes {
@@ -89,7 +89,7 @@ pub(crate) fn clocks_of(nodes: &[Node], odd: &[NodeRow]) -> ClockList
 
 fn clock_of(node: &Node, odd: &[NodeRow]) -> Clock
     requires { IsNone node.now.length }
-    ensures { result ≡ clock_in odd.now node.now }
+    ensures { result ≡ clock_between odd.now node.now }
 {
     Clock {
         node: node.id(),

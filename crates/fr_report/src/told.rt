@@ -1,15 +1,15 @@
 ghost use Rattle.std.specs.Prelude.{◌≡◌};
 ghost use Rattle.fr_base.specs.Device.{Puts};
-ghost use Rattle.fr_report.specs.Text.{clocks_text, told_lines, text_of};
+ghost use Rattle.fr_report.specs.Text.{clocks_text, told_lines, told_text};
 ghost use Rattle.fr_text.specs.Lines.{joined_lines};
 
 use crate::clocks::{Clock, ClockList};
 use crate::lines::{
-    clock_line, covered_line, cut_line, heard_line, nodes_line, precision_line, sent_line,
-    skew_line, sync_line,
+    clock_line, covered_line, cut_line, greatest_line, heard_line, nodes_line, sent_line,
 };
 use fr_base::{Channel, Counts, PutFault, Sink};
 use fr_coverage::Gap;
+use fr_phrases::{precision_line, sync_line};
 use fr_skew::Peak;
 use fr_text::{Line, put_lines};
 
@@ -46,7 +46,7 @@ impl Told {
     /// receivers made of them, how many terms were cut, and each correct node. Each line is one put. A fault
     /// comes only where the sink counted it, and then a front of the text was put.
     pub fn write<O: Sink>(&self, out: &mut O) -> Result<(), PutFault>
-        ensures { Puts result (O.state out.old) (O.state out.new) (text_of self.now) }
+        ensures { Puts result (O.state out.old) (O.state out.new) (told_text self.now) }
     {
         put_lines(&self.lines(), out)?;
         put_clocks(self.clocks.as_slice(), out)
@@ -61,7 +61,7 @@ impl Told {
             Some(precision_line(self.precision)),
             Some(covered_line(&self.gap)),
             Some(sync_line(self.synced)),
-            skew_line(self.greatest),
+            greatest_line(self.greatest),
             Some(sent_line(Channel::A, self.sums.sent_a, self.sums.xor_a)),
             Some(sent_line(Channel::B, self.sums.sent_b, self.sums.xor_b)),
             Some(heard_line(&self.sums)),

@@ -10,7 +10,7 @@ use Rattle.fr_history.specs.Next.{history_of, next_record}
 use Rattle.fr_history.proofs.Exists.{length-history_of}
 use Rattle.fr_series.specs.Figures.{figures_of}
 use Rattle.fr_series.specs.Scale.{followed, scale_of}
-use Rattle.fr_series.specs.Text.{double_by, rows_text}
+use Rattle.fr_series.specs.Text.{double_by, series_rows}
 use Rattle.fr_series.proofs.Following.{figures-next}
 
 -- the rows of the cycle of such a number
@@ -39,37 +39,37 @@ figures-at x double =
     ap (figures_of x.params) (history-two x double)
     ∙ figures-next x.params (history_of x (2 * double)) (next_record x (history_of x (2 * double))) (next_record x (history_of x (2 * double + 1))) double (length-history_of x (2 * double))
 
-pub rows-none : (x : Setting) → rows_text x.params (history_of x (2 * 0)) ≡ []
-unfolding history_of rows_text
+pub rows-none : (x : Setting) → series_rows x.params (history_of x (2 * 0)) ≡ []
+unfolding history_of series_rows
 rows-none x = refl
 
 rows-two : (x : Setting) (double : ℕ) → length (history_of x (2 * double)) ≡ 2 * double
-    → rows_text x.params (next_record x (history_of x (2 * double + 1)) ∷ next_record x (history_of x (2 * double)) ∷ history_of x (2 * double))
-    ≡ rows_text x.params (history_of x (2 * double)) ++ text_at x double
-unfolding rows_text
+    → series_rows x.params (next_record x (history_of x (2 * double + 1)) ∷ next_record x (history_of x (2 * double)) ∷ history_of x (2 * double))
+    ≡ series_rows x.params (history_of x (2 * double)) ++ text_at x double
+unfolding series_rows
 rows-two x double long = rw (long, in_sync_is x.params (rows_at x (2 * double)) (rows_at x (2 * double + 1))) refl
 
-pub rows-next : (x : Setting) (double : ℕ) → rows_text x.params (history_of x (2 * (double + 1))) ≡ rows_text x.params (history_of x (2 * double)) ++ text_at x double
-rows-next x double = ap (rows_text x.params) (history-two x double) ∙ rows-two x double (length-history_of x (2 * double))
+pub rows-next : (x : Setting) (double : ℕ) → series_rows x.params (history_of x (2 * (double + 1))) ≡ series_rows x.params (history_of x (2 * double)) ++ text_at x double
+rows-next x double = ap (series_rows x.params) (history-two x double) ∙ rows-two x double (length-history_of x (2 * double))
 
 -- what follows the text of so many double cycles
-rows-rest : (x : Setting) (n more : ℕ) → (rest : List ℕ) × (rows_text x.params (history_of x (2 * (n + more))) ≡ rows_text x.params (history_of x (2 * n)) ++ rest)
+rows-rest : (x : Setting) (n more : ℕ) → (rest : List ℕ) × (series_rows x.params (history_of x (2 * (n + more))) ≡ series_rows x.params (history_of x (2 * n)) ++ rest)
 rows-rest x n zero =
     let same : n + 0 ≡ n = omega arith in
-    ([], ap (λ (k : ℕ). rows_text x.params (history_of x (2 * k))) same ∙ sym (append-nil (rows_text x.params (history_of x (2 * n)))))
+    ([], ap (λ (k : ℕ). series_rows x.params (history_of x (2 * k))) same ∙ sym (append-nil (series_rows x.params (history_of x (2 * n)))))
 rows-rest x n (suc more) =
     let before = rows-rest x n more in
     let one : n + suc more ≡ (n + more) + 1 = omega arith in
     let last = text_at x (n + more) in (
       before.0 ++ last,
-      ap (λ (k : ℕ). rows_text x.params (history_of x (2 * k))) one
+      ap (λ (k : ℕ). series_rows x.params (history_of x (2 * k))) one
           ∙ rows-next x (n + more)
           ∙ ap (λ (l : List ℕ). l ++ last) before.1
-          ∙ append_assoc (rows_text x.params (history_of x (2 * n))) before.0 last,
+          ∙ append_assoc (series_rows x.params (history_of x (2 * n))) before.0 last,
     )
 
-pub rows-upto : (x : Setting) (n all : ℕ) → n ≤ all → (rest : List ℕ) × (rows_text x.params (history_of x (2 * all)) ≡ rows_text x.params (history_of x (2 * n)) ++ rest)
+pub rows-upto : (x : Setting) (n all : ℕ) → n ≤ all → (rest : List ℕ) × (series_rows x.params (history_of x (2 * all)) ≡ series_rows x.params (history_of x (2 * n)) ++ rest)
 rows-upto x n all le =
     let found = rows-rest x n (all - n) in
     let same : all ≡ n + (all - n) = omega (arith, le) in
-    (found.0, ap (λ (k : ℕ). rows_text x.params (history_of x (2 * k))) same ∙ found.1)
+    (found.0, ap (λ (k : ℕ). series_rows x.params (history_of x (2 * k))) same ∙ found.1)

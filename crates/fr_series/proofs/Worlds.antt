@@ -6,7 +6,7 @@ use Rattle.fr_history.specs.Next.{history_of}
 use Rattle.fr_world.specs.World.{WorldView, setting_after}
 use Rattle.fr_series.specs.Figures.{figures_of}
 use Rattle.fr_series.specs.Scale.{followed, scale_of}
-use Rattle.fr_series.specs.Text.{rows_text}
+use Rattle.fr_series.specs.Text.{series_rows}
 use Rattle.fr_series.specs.Writing.{rows_of, text_of_double}
 use Rattle.fr_series.specs.declared.figures.Figures.{Figures}
 use Rattle.fr_series.specs.declared.scale.Scale.{Scale}
@@ -33,10 +33,10 @@ text-of w v n scale at is =
     ∙ ap (λ (odd : List NodeRow). text_of_double (scale_of w.params) n (rows_at (setting_after w) (2 * n)) odd) (odd-rows w v n at)
 
 pub text-more : (w v : WorldView) (n : ℕ) (scale : Scale) → v ≡ record w { cycles = 2 * n } → scale ≡ scale_of w.params
-    → rows_text w.params (history_of (setting_after w) (2 * n)) ++ text_of_double scale n (rows_of v v.cycles) (rows_of v (v.cycles + 1))
-    ≡ rows_text w.params (history_of (setting_after w) (2 * (n + 1)))
+    → series_rows w.params (history_of (setting_after w) (2 * n)) ++ text_of_double scale n (rows_of v v.cycles) (rows_of v (v.cycles + 1))
+    ≡ series_rows w.params (history_of (setting_after w) (2 * (n + 1)))
 text-more w v n scale at is =
-    ap (λ (l : List ℕ). rows_text w.params (history_of (setting_after w) (2 * n)) ++ l) (text-of w v n scale at is)
+    ap (λ (l : List ℕ). series_rows w.params (history_of (setting_after w) (2 * n)) ++ l) (text-of w v n scale at is)
     ∙ sym (rows-next (setting_after w) n)
 
 pub figures-more : (w v : WorldView) (n : ℕ) (scale : Scale) (old new : Figures) → v ≡ record w { cycles = 2 * n } → scale ≡ scale_of w.params

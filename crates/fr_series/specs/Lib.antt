@@ -1,5 +1,4 @@
 -- what the public contract cites
-pub mod Extents
 pub mod Figures
 pub mod Scale
 pub mod Text

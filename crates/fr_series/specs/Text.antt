@@ -17,8 +17,8 @@ use Rattle.fr_series.specs.Figures.{figures_of}
 use Rattle.fr_series.specs.Scale.{peak_by}
 use Rattle.fr_series.specs.declared.figures.Figures.{Figures}
 
-abbrev pub head_text : List ℕ
-head_text = codes "cycle,in_sync,skew,macrotick"
+abbrev pub series_head : List ℕ
+series_head = codes "cycle,in_sync,skew,macrotick"
 
 abbrev pub yes_or_no : Bool → List ℕ
 yes_or_no true = codes "yes"
@@ -30,22 +30,22 @@ peak_text None = codes "-,-"
 peak_text (Some peak) = signed_decimal peak.skew ++ codes "," ++ decimal peak.macrotick
 
 -- a cycle: its number, whether its double cycle is in sync, and its greatest skew with its first macrotick
-abbrev pub cycle_text : ℕ → Bool → Option Peak → List ℕ
-cycle_text cycle in_sync peak = decimal cycle ++ codes "," ++ yes_or_no in_sync ++ codes "," ++ peak_text peak
+abbrev pub series_row : ℕ → Bool → Option Peak → List ℕ
+series_row cycle in_sync peak = decimal cycle ++ codes "," ++ yes_or_no in_sync ++ codes "," ++ peak_text peak
 
 -- the two cycles of a double cycle
 abbrev pub double_by : Grid → Bool → ℕ → List NodeRow → List NodeRow → List ℕ
 double_by grid in_sync cycle even odd =
-    line (cycle_text cycle in_sync (peak_by grid cycle even)) ++ line (cycle_text (cycle + 1) in_sync (peak_by grid (cycle + 1) odd))
+    line (series_row cycle in_sync (peak_by grid cycle even)) ++ line (series_row (cycle + 1) in_sync (peak_by grid (cycle + 1) odd))
 
 abbrev pub double_text : Values → ℕ → Record → Record → List ℕ
 double_text p cycle even odd = double_by (grid_for p) (is_in_sync p even.rows odd.rows) cycle even.rows odd.rows
 
 -- the cycles of a history of whole double cycles
-unfoldable pub rows_text : Values → History → List ℕ
-rows_text p [] = []
-rows_text p (r ∷ []) = []
-rows_text p (odd ∷ even ∷ h) = rows_text p h ++ double_text p (length h) even odd
+unfoldable pub series_rows : Values → History → List ℕ
+series_rows p [] = []
+series_rows p (r ∷ []) = []
+series_rows p (odd ∷ even ∷ h) = series_rows p h ++ double_text p (length h) even odd
 
 -- the greatest skew since the first double cycle in sync, and its first place
 abbrev pub greatest_text : Option Peak → List ℕ
@@ -68,13 +68,13 @@ within_text None above = codes "within,-,,"
 within_text (Some first) above = above_text above
 
 -- the lines at the end
-unfoldable pub end_text : Figures → List ℕ
-end_text figures =
+unfoldable pub series_end : Figures → List ℕ
+series_end figures =
     line (greatest_text figures.greatest) ++ line (synced_text figures.lost) ++ line (within_text figures.synced figures.above)
 
 -- the series of a history
 unfoldable pub series_of : Values → History → List ℕ
-series_of p h = line head_text ++ rows_text p h ++ end_text (figures_of p h)
+series_of p h = line series_head ++ series_rows p h ++ series_end (figures_of p h)
 
 -- the series of the run of some parameters, a drift and a script, over all its cycles
 abbrev pub series_text : Values → DriftView → ScriptView → List ℕ

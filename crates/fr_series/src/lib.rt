@@ -2,7 +2,6 @@
 //! whether they stayed so; written as the run goes on.
 #![tactic(auto)]
 
-mod extent;
 mod figures;
 mod lines;
 mod scale;

@@ -1,5 +1,5 @@
 ghost use Rattle.std.specs.Prelude.{◌≡◌};
-ghost use Rattle.fr_series.specs.Text.{above_text, cycle_text, end_text, greatest_text, head_text, synced_text, within_text, yes_or_no};
+ghost use Rattle.fr_series.specs.Text.{above_text, series_row, series_end, greatest_text, series_head, synced_text, within_text, yes_or_no};
 ghost use Rattle.fr_text.specs.Lines.{joined_lines};
 ghost use Rattle.fr_text.specs.Pieces.{Spells, line};
 
@@ -9,13 +9,13 @@ use fr_text::Piece::{Natural, Signed, Word};
 use fr_text::{Line, Piece, line_of};
 
 pub(crate) fn head_line() -> Line
-    ensures { result ≡ line head_text }
+    ensures { result ≡ line series_head }
 {
     line_of(&[Word(b"cycle,in_sync,skew,macrotick")])
 }
 
 pub(crate) fn cycle_line(cycle: u32, in_sync: bool, peak: Option<Peak>) -> Line
-    ensures { result ≡ line (cycle_text cycle in_sync peak) }
+    ensures { result ≡ line (series_row cycle in_sync peak) }
 {
     match peak {
         None => line_of(&[
@@ -44,9 +44,9 @@ fn yes_or_no(is: bool) -> Piece<'static>
 }
 
 // The lines at the end.
-#[tactic(auto, unfolding(crate::specs::Text::end_text))]
+#[tactic(auto, unfolding(crate::specs::Text::series_end))]
 pub(crate) fn end_lines(figures: &Figures) -> [Option<Line>; 3]
-    ensures { joined_lines result ≡ end_text figures.now }
+    ensures { joined_lines result ≡ series_end figures.now }
 {
     [
         Some(greatest_line(figures.greatest)),

@@ -8,7 +8,7 @@ ghost use Rattle.fr_time.specs.Position.{grid_for};
 ghost use Rattle.fr_world.specs.World.{setting_after};
 ghost use Rattle.fr_series.specs.Figures.{figures_of};
 ghost use Rattle.fr_series.specs.Scale.{IsScale, followed, scale_of};
-ghost use Rattle.fr_series.specs.Text.{double_by, end_text, rows_text, series_text};
+ghost use Rattle.fr_series.specs.Text.{double_by, series_end, series_rows, series_text};
 ghost use Rattle.fr_series.specs.Writing.{IsAtDouble, rows_of, text_of_double};
 
 use crate::figures::Figures;
@@ -42,7 +42,7 @@ fn write_rows<O: Sink>(
     requires fresh { world.old.cycles ≡ 0 }
     requires none { figures.old ≡ figures_of world.old.params [] }
     ensures text { Puts result (O.state out.old) (O.state out.new)
-        (rows_text world.old.params (whole_history (setting_after world.old))) }
+        (series_rows world.old.params (whole_history (setting_after world.old))) }
     ensures figures { IsOk result →
         figures.new ≡ figures_of world.old.params (whole_history (setting_after world.old)) }
 {
@@ -69,7 +69,8 @@ fn write_double<O: Sink>(
     ensures figures { figures.new ≡ followed scale.now double
         (rows_of world.old world.old.cycles) (rows_of world.old (world.old.cycles + 1)) figures.old }
     ensures text { Puts result (O.state out.old) (O.state out.new)
-        (text_of_double scale.now double (rows_of world.old world.old.cycles) (rows_of world.old (world.old.cycles + 1))) }
+        (text_of_double scale.now double
+        (rows_of world.old world.old.cycles) (rows_of world.old (world.old.cycles + 1))) }
 {
     let mut even = RowList::new();
     let mut odd = RowList::new();

@@ -1,3 +1,5 @@
 pub mod Parts
 pub mod Records
 pub mod Stepping
+pub mod Receivers
+mod Whole

@@ -8,7 +8,7 @@ use Rattle.fr_trace.specs.Cycles.{and_then, history_by, kept_of}
 use Rattle.fr_trace.specs.Trace.{row_at}
 use Rattle.fr_trace.specs.declared.trace.TracedCycle.{TracedCycle}
 use Rattle.fr_trace.specs.Lasting.{IsTracedRecord}
-use Rattle.fr_trace_gap.specs.Sound.{AreTimed}
+use Rattle.fr_trace_gap.specs.Sound.{AreOrdered, AreTimed}
 use Rattle.fr_trace_gap.proofs.Parts.{history_length}
 use Rattle.fr_trace_gap.proofs.Parts.{all_cons, all_rest}
 
@@ -67,3 +67,6 @@ kept_each P cycles all = (kept_all P [] cycles all).1
 
 pub timed_each : (cycles : List TracedCycle) → All IsTracedRecord (history_by cycles) → AreTimed cycles
 timed_each cycles all = λ k d lt i row less. let r : IsTracedRecord (kept_of (slice_index_or cycles k d)) = kept_each IsTracedRecord cycles all k d lt in (r.rows_proper i row less).0
+
+pub ordered_each : (cycles : List TracedCycle) → All IsTracedRecord (history_by cycles) → AreOrdered cycles
+ordered_each cycles all = λ k d lt. let r : IsTracedRecord (kept_of (slice_index_or cycles k d)) = kept_each IsTracedRecord cycles all k d lt in r.devs_ascend

@@ -1,3 +1,4 @@
 -- what only functions inside and above cite
 pub mod Sound
 pub mod Counted
+pub mod Doubles

@@ -1,6 +1,6 @@
-ghost use Rattle.std.specs.Prelude.{◌≡◌, ◌≤◌, ◌==◌, length, false, true, All, IfSome, find, option_and_then, is_some};
+ghost use Rattle.std.specs.Prelude.{◌≡◌, ◌≤◌, ◌==◌, length, false, true, All, IfSome, find, option_and_then, is_some, None};
 ghost use Rattle.std.specs.Option.{option_copied};
-ghost use Rattle.fr_base.specs.Rows.{channel_rank, dev_in, is_dev_of};
+ghost use Rattle.fr_base.specs.Rows.{AreAscendingDevs, channel_rank, dev_in, is_dev_of};
 ghost use Rattle.fr_base.specs.Timed.{IsTimed};
 ghost use Rattle.fr_coverage.specs.Coverage.{checks_gap, has_jumped, is_off, outweighs};
 ghost use Rattle.fr_coverage.specs.First.{first_below, first_in};
@@ -12,9 +12,11 @@ ghost use Rattle.fr_trace.specs.Trace.{is_named, row_at};
 ghost use Rattle.fr_verdict.specs.FirstGap.{change_by, change_gap, changes_gap, count_gap, first_gap_of, is_early, length_by, length_gap, lengths_gap, link_gap, links_gap, pairs_gap, weighed};
 ghost use Rattle.fr_verdict.specs.Gaps.{has_dev, is_heard, is_heard_on, is_pair};
 ghost use Rattle.fr_trace_gap.specs.Counted.{count_in, is_counted};
-ghost use Rattle.fr_trace_gap.specs.Sound.{AreTimed};
+ghost use Rattle.fr_trace_gap.specs.Doubles.{double_gap, pair_gap_in};
+ghost use Rattle.fr_trace_gap.specs.Sound.{AreOrdered, AreTimed};
 
 use crate::found::row_of;
+use crate::ordered::first_place;
 use crate::searching::{Search, first_among};
 use fr_base::{Channel, Dev, NodeId, NodeRow, Slot};
 use fr_bound::{checks, side};
@@ -78,12 +80,48 @@ fn wrong_change(params: &Params, trace: &Trace) -> Option<Gap>
 fn broken_link(params: &Params, trace: &Trace, synced: Option<u32>) -> Option<Gap>
     ensures { result ≡ pairs_gap params.now trace.now synced }
 {
+    if is_linked(params, trace, synced) {
+        None
+    } else {
+        first_broken(params, trace, synced)
+    }
+}
+
+fn first_broken(params: &Params, trace: &Trace, synced: Option<u32>) -> Option<Gap>
+    ensures { result ≡ pairs_gap params.now trace.now synced }
+{
     let asked = Asked {
         params,
         trace,
         synced,
     };
     first_among(&params.nodes, &Links(asked))
+}
+
+// Whether no link is broken. It goes from double cycle to double cycle, so that what is recorded of one is looked at
+// for all pairs of nodes at once.
+fn is_linked(params: &Params, trace: &Trace, synced: Option<u32>) -> bool
+    ensures { result ≡ true → pairs_gap params.now trace.now synced ≡ None }
+{
+    for double in 0..trace.doubles() {
+        match broken_in(params, trace, synced, double) {
+            Some(_) => return false,
+            None => {}
+        }
+    }
+    true
+}
+
+// The gap of the first pair of nodes that has one in a double cycle.
+fn broken_in(params: &Params, trace: &Trace, synced: Option<u32>, double: u32) -> Option<Gap>
+    ensures { result ≡ double_gap params.now trace.now synced double }
+{
+    let asked = Asked {
+        params,
+        trace,
+        synced,
+    };
+    first_among(&params.nodes, &LinksIn { asked, double })
 }
 
 fn failing_check(params: &Params) -> Option<Gap>
@@ -169,7 +207,7 @@ fn outweighed(nodes: &NodeList, trace: &Trace) -> Option<Gap>
 fn timed_cycles(trace: &Trace) -> &[TracedCycle]
     ensures history { history_by result.now ≡ trace.now.history }
     ensures timed { AreTimed result.now }
-    ensures few { length result.now ≤ 20_000 }
+    ensures few { length result.now ≤ 200_000 }
 {
     trace.cycles()
 }
@@ -278,7 +316,7 @@ fn change_gap(params: &Params, cycles: &[TracedCycle], node: NodeId, cycle: u32)
 // The first gap of a node's microticks.
 fn first_length(params: &Params, cycles: &[TracedCycle], node: NodeId) -> Option<Gap>
     requires timed { AreTimed cycles.now }
-    requires few { length cycles.now ≤ 20_000 }
+    requires few { length cycles.now ≤ 200_000 }
     ensures { result ≡ first_below (length_gap params.now (history_by cycles.now) node) (length cycles.now) }
 {
     let count = cycles.len() as u32;
@@ -294,7 +332,7 @@ fn first_length(params: &Params, cycles: &[TracedCycle], node: NodeId) -> Option
 // The first gap of their changes.
 fn first_change(params: &Params, cycles: &[TracedCycle], node: NodeId) -> Option<Gap>
     requires timed { AreTimed cycles.now }
-    requires few { length cycles.now ≤ 20_000 }
+    requires few { length cycles.now ≤ 200_000 }
     ensures { result ≡ first_below (change_gap params.now (history_by cycles.now) node) (length cycles.now) }
 {
     let count = cycles.len() as u32;
@@ -309,8 +347,17 @@ fn first_change(params: &Params, cycles: &[TracedCycle], node: NodeId) -> Option
 
 // ---- links
 
+// The cycles of a trace.
+fn ordered_cycles(trace: &Trace) -> &[TracedCycle]
+    ensures history { history_by result.now ≡ trace.now.history }
+    ensures ordered { AreOrdered result.now }
+{
+    trace.cycles()
+}
+
 // The deviation of a receiver in a slot on a channel.
 fn dev_in(devs: &[Dev], receiver: NodeId, slot: Slot, channel: Channel) -> Option<i32>
+    requires { AreAscendingDevs devs.now }
     ensures { result ≡ dev_in devs.now receiver slot channel }
 {
     match found_dev(devs, receiver.0, slot.0, channel) {
@@ -320,6 +367,14 @@ fn dev_in(devs: &[Dev], receiver: NodeId, slot: Slot, channel: Channel) -> Optio
 }
 
 fn found_dev(devs: &[Dev], receiver: u8, slot: u16, channel: Channel) -> Option<&Dev>
+    requires { AreAscendingDevs devs.now }
+    ensures { option_copied result ≡ find (is_dev_of receiver slot channel) devs.now }
+{
+    let place = first_place(devs, receiver);
+    found_among(&devs[place..], receiver, slot, channel)
+}
+
+fn found_among(devs: &[Dev], receiver: u8, slot: u16, channel: Channel) -> Option<&Dev>
     ensures { option_copied result ≡ find (is_dev_of receiver slot channel) devs.now }
 {
     devs.iter()
@@ -349,6 +404,7 @@ fn has_dev(
     receiver: &NodeSpec,
     channel: Channel,
 ) -> bool
+    requires { AreOrdered cycles.now }
     ensures { result ≡ has_dev (history_by cycles.now) cycle sender.now receiver.now channel }
 {
     if cycle < cycles.len() {
@@ -359,6 +415,7 @@ fn has_dev(
 }
 
 fn has_dev_in(cycle: &TracedCycle, sender: &NodeSpec, receiver: &NodeSpec, channel: Channel) -> bool
+    requires { AreAscendingDevs cycle.now.devs.items }
     ensures { result ≡ is_some (option_and_then (λ slot. dev_in cycle.now.devs.items receiver.now.id slot channel) sender.now.key) }
 {
     match sender.key {
@@ -384,10 +441,9 @@ fn is_heard_on(
     double: u32,
     channel: Channel,
 ) -> bool
-    requires { double ≤ 100_000 }
     ensures { result ≡ is_heard_on trace.now sender.now receiver.now double channel }
 {
-    let cycles = trace.cycles();
+    let cycles = ordered_cycles(trace);
     let even = 2 * double as usize;
     shares(sender, receiver, channel)
         && has_dev(cycles, even, sender, receiver, channel)
@@ -395,7 +451,6 @@ fn is_heard_on(
 }
 
 fn is_heard(trace: &Trace, sender: &NodeSpec, receiver: &NodeSpec, double: u32) -> bool
-    requires { double ≤ 100_000 }
     ensures { result ≡ is_heard trace.now sender.now receiver.now double }
 {
     is_heard_on(trace, sender, receiver, double, Channel::A)
@@ -429,7 +484,6 @@ fn link_gap(
     receiver: &NodeSpec,
     double: u32,
 ) -> Option<Gap>
-    requires { double ≤ 100_000 }
     ensures { result ≡ link_gap trace.now synced sender.now receiver.now double }
 {
     if is_early(synced, double) || is_heard(trace, sender, receiver, double) {
@@ -532,5 +586,50 @@ impl Search for LinksFrom<'_> {
             return None;
         }
         first_link(asked.trace, asked.synced, self.sender, node)
+    }
+}
+
+// Looks for links of a sender that are broken in one double cycle.
+#[derive(Clone, Copy)]
+struct LinksIn<'a> {
+    asked: Asked<'a>,
+    double: u32,
+}
+
+impl Search for LinksIn<'_> {
+    ghost found = { λ a node. first_in (pair_gap_in a.asked.trace.now a.asked.synced a.double node) a.asked.params.now.nodes };
+
+    fn find(&self, node: &NodeSpec) -> Option<Gap> {
+        let asked = self.asked;
+        let params = asked.params;
+        let double = self.double;
+        first_among(
+            &params.nodes,
+            &LinksFromIn {
+                asked,
+                sender: node,
+                double,
+            },
+        )
+    }
+}
+
+// Looks for one of them at a receiver.
+#[derive(Clone, Copy)]
+struct LinksFromIn<'a> {
+    asked: Asked<'a>,
+    sender: &'a NodeSpec,
+    double: u32,
+}
+
+impl Search for LinksFromIn<'_> {
+    ghost found = { λ a. pair_gap_in a.asked.trace.now a.asked.synced a.double a.sender.now };
+
+    fn find(&self, node: &NodeSpec) -> Option<Gap> {
+        let asked = self.asked;
+        if !is_pair(asked.trace, self.sender, node) {
+            return None;
+        }
+        link_gap(asked.trace, asked.synced, self.sender, node, self.double)
     }
 }

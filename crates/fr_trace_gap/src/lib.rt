@@ -3,7 +3,9 @@
 
 mod covering;
 mod found;
+mod ordered;
 mod searching;
 
 pub use covering::first_gap;
 pub use found::row_of;
+pub use ordered::devs_of;

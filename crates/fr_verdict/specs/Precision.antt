@@ -1,5 +1,5 @@
 -- The precision of a trace that passes: its clocks ran as the precision theorem asks, so it speaks of them.
-use Rattle.std.specs.Prelude.{◌≡◌, ℕ, pos, Some}
+use Rattle.std.specs.Prelude.{◌≡◌, ℕ, pos, Some, None}
 use Rattle.fr_base.specs.Event.Event.{Regular}
 use Rattle.fr_cluster.specs.Sane.{IsSane}
 use Rattle.fr_cluster.specs.Setting.{Setting}
@@ -25,6 +25,7 @@ traced p t = record {
   delay = λ _ _ _ _. pos 0;
   is_arbitrary = is_named t;
   event = λ _ _ _ _. Regular;
+  join = λ _. None;
 }
 
 -- what a verdict promises of the recorded trace: where it has a first double cycle in sync, from there to the end the clocks of

@@ -2,12 +2,14 @@ use Rattle.std.proofs.Common.{◌≡◌, ◌+◌, ◌*◌, ◌<◌, ◌≤◌, �
 use Rattle.std.proofs.lemmas.List.{take_all}
 use Rattle.fr_history.specs.Gauged.{GaugeHolds}
 use Rattle.fr_history.specs.History.{History}
-use Rattle.fr_trace.specs.Cycles.{history_by}
+use Rattle.fr_trace.specs.Cycles.{history_by, kept_of}
 use Rattle.fr_trace.specs.Items.{first_number, items_in}
 use Rattle.fr_trace.specs.declared.trace.TracedCycle.{TracedCycle}
+use Rattle.fr_trace_gap.specs.Sound.{IsSound}
 use Rattle.fr_check.specs.Controls.{Hold}
+use Rattle.fr_check.specs.Corrections.{AreLatest}
 use Rattle.fr_verdict.specs.Search.{first_from}
-use Rattle.fr_check.proofs.Gathering.{breach_is, found_at, gauge_none, hold_none, passed_more, passed_none, taken_more}
+use Rattle.fr_check.proofs.Gathering.{breach_is, found_at, gauge_none, hold_none, latest_none, passed_more, passed_none, taken_more}
 use Rattle.fr_check.proofs.checking.gauged.Goals as goal
 
 pub loop-n-init : goal.loop-n-init
@@ -18,7 +20,7 @@ loop-n-init c =
     let count = c.from-number.ensures in
     let none = passed_none p (first_number t) in
     let same : 2 + c.from-number.result ≡ 2 + length t.arbitrary = ap (λ (n : ℕ). 2 + n) (c.from-number.ensures ∙ c.arbitrary.ensures.count) in
-    ((none.0, same ∙ none.1), (omega arith, (hold_none p c.new-controls.result c.new-controls.ensures, gauge_none p c.new-gauge.result c.new-gauge.ensures)))
+    ((none.0, same ∙ none.1), (omega arith, (hold_none p c.new-controls.result c.new-controls.ensures, (latest_none p c.new-corrections.result, gauge_none p c.new-gauge.result c.new-gauge.ensures))))
 
 pub returns-in-Err-clause-found : goal.returns-in-Err-clause-found
 returns-in-Err-clause-found c =
@@ -28,6 +30,14 @@ returns-in-Err-clause-found c =
     let lt : c.loop-n.n < length cycles = omega arith in
     breach_is p t (first_number t) cycles (Some c.in-Err.breach) refl c.sound_cycles-cycles.ensures.history
     (found_at p (first_number t) c.loop-n.number cycles c.loop-n.n c.index-cycles-n.result c.in-Err.breach lt c.index-cycles-n.is c.loop-n.invariant.0 c.in-Err.ensures.found)
+
+pub pass-requires : goal.pass-requires
+pass-requires c =
+    let p = c.args.params.now in
+    let lt : c.loop-n.n < length c.sound_cycles-cycles.result.now = omega arith in
+    let sound : IsSound p (kept_of c.index-cycles-n.result) =
+    subst (λ (cycle : TracedCycle). IsSound p (kept_of cycle)) (sym c.index-cycles-n.is) (c.sound_cycles-cycles.ensures.sound c.loop-n.n c.index-cycles-n.result lt) in
+    sound.ascend
 
 pub loop-n-preserved : goal.loop-n-preserved
 loop-n-preserved c =
@@ -41,7 +51,10 @@ loop-n-preserved c =
       passed_more p (first_number t) c.loop-n.number c.in-Ok.next cycles c.loop-n.n c.index-cycles-n.result lt c.index-cycles-n.is c.loop-n.invariant.0 c.in-Ok.ensures.none c.in-Ok.ensures.next,
       (
         omega arith,
-        (subst (λ (h : History). Hold p h c.pass.new.self) (sym grown) c.pass.ensures, subst (λ (h : History). GaugeHolds p c.gather.new.gauge h) (sym grown) c.gather.ensures),
+        (
+          subst (λ (h : History). Hold p h c.pass.new.self) (sym grown) (c.pass.ensures p c.reach.ensures.here c.loop-n.invariant.1.1.0),
+          (subst (λ (h : History). AreLatest p h c.reach.new.self) (sym grown) c.reach.ensures.here, subst (λ (h : History). GaugeHolds p c.gather.new.gauge h) (sym grown) c.gather.ensures),
+        ),
       ),
     )
 

@@ -3,6 +3,7 @@ use Rattle.fr_history.specs.Gauged.{GaugeHolds}
 use Rattle.fr_trace.specs.Cycles.{history_by}
 use Rattle.fr_trace.specs.Items.{first_number}
 use Rattle.fr_check.specs.Controls.{Hold}
+use Rattle.fr_check.specs.Corrections.{AreLatest}
 use Rattle.fr_check.proofs.Gathering.{Passed}
 use Rattle.fr_check.proofs.checking.gauged.Given as goal
 
@@ -12,4 +13,5 @@ invariant-loop-n l =
     Passed l.params (first_number l.trace) l.number (history_by (take l.n l.cycles))
     × ((l.number ≤ 66 + 9_000_000 * l.n)
     × (Hold l.params (history_by (take l.n l.cycles)) l.controls
-    × GaugeHolds l.params l.gauge (history_by (take l.n l.cycles))))
+    × (AreLatest l.params (history_by (take l.n l.cycles)) l.corrections
+    × GaugeHolds l.params l.gauge (history_by (take l.n l.cycles)))))

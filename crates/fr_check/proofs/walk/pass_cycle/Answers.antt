@@ -1,13 +1,24 @@
-use Rattle.std.proofs.Common.{◌+◌, take, drop, arith}
+use Rattle.std.proofs.Common.{◌+◌, ◌<◌, List, length, take, drop, subst, arith}
+use Rattle.fr_base.specs.declared.node_row.NodeRow.{NodeRow}
 use Rattle.fr_trace.specs.Cycles.{history_by, kept_of}
 use Rattle.fr_trace.specs.Items.{items_by}
 use Rattle.fr_trace_gap.proofs.Parts.{take_one_of}
+use Rattle.fr_check.specs.Corrections.{IsCorrection}
+use Rattle.fr_check.proofs.Sounded.{item_of}
 use Rattle.fr_check.proofs.Walking.{along_found, along_more, first_parts, no_item, rows_along}
 use Rattle.fr_check.proofs.walk.pass_cycle.Goals as goal
 
 pub loop-row-init : goal.loop-row-init
 unfolding items_by
 loop-row-init c = (no_item c.args.params.now c.args.number, omega arith, omega arith)
+
+pub pass_row-requires-clause-kept : goal.pass_row-requires-clause-kept
+pass_row-requires-clause-kept c = λ odd.
+    let rows = c.args.cycle.now.rows.items in
+    let p = c.args.params.now in
+    subst (IsCorrection p (history_by c.args.behind.now) c.args.cycle.now.devs.items c.args.corrections.now)
+    (item_of rows c.deref-row-items.result.now c.loop-row.row-index c.row-item.result c.deref-row-items.ensures.value c.row-item.is)
+    (c.requires.here odd c.loop-row.row-index c.row-item.result (subst (λ (xs : List NodeRow). c.loop-row.row-index < length xs) c.deref-row-items.ensures.value c.loop-row-test.true))
 
 pub returns-in-Err-clause-found : goal.returns-in-Err-clause-found
 returns-in-Err-clause-found c =

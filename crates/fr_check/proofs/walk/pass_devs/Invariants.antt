@@ -1,12 +1,17 @@
-use Rattle.std.proofs.Common.{◌≡◌, ◌+◌, ◌≤◌, length, take, None}
+use Rattle.std.proofs.Common.{◌≡◌, ◌+◌, length, map, take, None}
+use Rattle.std.specs.Prelude.{IfSome}
+use Rattle.std.specs.Option.{option_copied}
 use Rattle.fr_trace.specs.Cycles.{history_by, kept_of}
+use Rattle.fr_trace.specs.Items.Item.{Heard}
 use Rattle.fr_verdict.specs.Search.{first_from}
-use Rattle.fr_check.specs.Walked.{heard_by}
+use Rattle.fr_check.specs.Allowed.{AreTicks, IsRight}
 use Rattle.fr_check.proofs.walk.pass_devs.Given as goal
 
--- no breach so far
+-- no breach so far, and what is kept is right for its slot
 abbrev pub invariant-loop-dev : goal.invariant-loop-dev
 invariant-loop-dev l =
-    (first_from l.params l.number (heard_by (history_by l.behind) (kept_of l.cycle) l.node (take l.dev-index l.cycle.devs.items)) ≡ None)
-    × (l.next ≡ l.number + length (heard_by (history_by l.behind) (kept_of l.cycle) l.node (take l.dev-index l.cycle.devs.items)))
-    × (l.next ≤ l.number + l.dev-index)
+    (first_from l.params l.number (map (Heard (history_by l.behind) (kept_of l.cycle)) (take l.dev-index l.own)) ≡ None)
+    × (l.next ≡ l.number + length (map (Heard (history_by l.behind) (kept_of l.cycle)) (take l.dev-index l.own)))
+    × (l.next ≡ l.number + l.dev-index)
+    × IsRight l.params l.odd (kept_of l.cycle) (option_copied l.receiver) l.allowed
+    × IfSome l.allowed.limits AreTicks

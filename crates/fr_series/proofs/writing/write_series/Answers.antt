@@ -8,7 +8,7 @@ use Rattle.fr_text.specs.Lines.{joined_lines}
 use Rattle.fr_text.specs.Pieces.{line}
 use Rattle.fr_world.specs.World.{setting_after}
 use Rattle.fr_series.specs.Figures.{figures_of}
-use Rattle.fr_series.specs.Text.{end_text, head_text, rows_text, series_of}
+use Rattle.fr_series.specs.Text.{series_end, series_head, series_rows, series_of}
 use Rattle.fr_series.proofs.Following.{figures-none}
 use Rattle.fr_series.proofs.writing.write_series.Goals as goal
 
@@ -20,10 +20,10 @@ unfolding series_of
 returns-in_err-put g c =
     let w = c.args.world.now in
     let h : History = whole_history (setting_after w) in
-    let rest = rows_text w.params h ++ end_text (figures_of w.params h) in
-    let head : c.bytes.result.now ≡ line head_text = c.bytes.ensures ∙ c.head_line.ensures in
+    let rest = series_rows w.params h ++ series_end (figures_of w.params h) in
+    let head : c.bytes.result.now ≡ line series_head = c.bytes.ensures ∙ c.head_line.ensures in
     let P : List ℕ → Type 0 = λ l. Puts c.from_residual.result (g.O.Sink.state c.args.out.now) (g.O.Sink.state c.put.new.self) l in
-    subst P (ap (λ (l : List ℕ). l ++ rest) head ∙ sym (append_assoc (line head_text) (rows_text w.params h) (end_text (figures_of w.params h))))
+    subst P (ap (λ (l : List ℕ). l ++ rest) head ∙ sym (append_assoc (line series_head) (series_rows w.params h) (series_end (figures_of w.params h))))
     (cut c.from_residual.result rest c.in_err-put.ensures c.from_residual.ensures.0)
 
 pub returns-in_err-write_rows : goal.returns-in_err-write_rows
@@ -31,21 +31,21 @@ unfolding series_of
 returns-in_err-write_rows g c =
     let w = c.args.world.now in
     let h : History = whole_history (setting_after w) in
-    let rest = end_text (figures_of w.params h) in
-    let head : c.bytes.result.now ≡ line head_text = c.bytes.ensures ∙ c.head_line.ensures in
+    let rest = series_end (figures_of w.params h) in
+    let head : c.bytes.result.now ≡ line series_head = c.bytes.ensures ∙ c.head_line.ensures in
     let both = then _ c.in_ok-put.ensures c.in_err-write_rows.ensures.text in
     let P : List ℕ → Type 0 = λ l. Puts c.from_residual-in_err-write_rows.result (g.O.Sink.state c.args.out.now) (g.O.Sink.state c.write_rows.new.out) l in
-    subst P (ap (λ (l : List ℕ). (l ++ rows_text w.params h) ++ rest) head) (cut c.from_residual-in_err-write_rows.result rest both c.from_residual-in_err-write_rows.ensures.0)
+    subst P (ap (λ (l : List ℕ). (l ++ series_rows w.params h) ++ rest) head) (cut c.from_residual-in_err-write_rows.result rest both c.from_residual-in_err-write_rows.ensures.0)
 
 pub returns : goal.returns
 unfolding series_of
 returns g c =
     let w = c.args.world.now in
     let h : History = whole_history (setting_after w) in
-    let head : c.bytes.result.now ≡ line head_text = c.bytes.ensures ∙ c.head_line.ensures in
+    let head : c.bytes.result.now ≡ line series_head = c.bytes.ensures ∙ c.head_line.ensures in
     let ok : IsOk c.write_rows.result = search rules in
     let figures : c.write_rows.new.figures ≡ figures_of w.params h = c.write_rows.ensures.figures ok in
-    let ends : joined_lines c.end_lines.result ≡ end_text (figures_of w.params h) = c.end_lines.ensures ∙ ap end_text figures in
+    let ends : joined_lines c.end_lines.result ≡ series_end (figures_of w.params h) = c.end_lines.ensures ∙ ap series_end figures in
     let P : List ℕ → Type 0 = λ l. Puts c.put_lines.result (g.O.Sink.state c.args.out.now) (g.O.Sink.state c.put_lines.new.out) l in
-    subst P (ap₂ (λ (l m : List ℕ). (l ++ rows_text w.params h) ++ m) head ends)
+    subst P (ap₂ (λ (l m : List ℕ). (l ++ series_rows w.params h) ++ m) head ends)
     (then c.put_lines.result (then (Ok tt) c.in_ok-put.ensures c.in_ok-write_rows.ensures.text) c.put_lines.ensures)

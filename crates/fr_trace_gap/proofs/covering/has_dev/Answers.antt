@@ -1,9 +1,14 @@
-use Rattle.std.proofs.Common.{◌∙◌, ap, sym, Option}
+use Rattle.std.proofs.Common.{◌∙◌, ap, sym, subst, Option}
 use Rattle.std.specs.Prelude.{is_some, option_and_then}
-use Rattle.fr_base.specs.Rows.{dev_in}
+use Rattle.fr_base.specs.Rows.{AreAscendingDevs, dev_in}
 use Rattle.fr_history.specs.History.{Record}
+use Rattle.fr_trace.specs.declared.trace.TracedCycle.{TracedCycle}
 use Rattle.fr_trace_gap.proofs.Records.{no_record, record_of_cycle}
 use Rattle.fr_trace_gap.proofs.covering.has_dev.Goals as goal
+
+pub has_dev_in-requires : goal.has_dev_in-requires
+has_dev_in-requires c =
+    subst (λ (cycle : TracedCycle). AreAscendingDevs cycle.devs.items) (sym c.index-cycles-cycle.is) (c.requires c.args.cycle c.index-cycles-cycle.result c.if-cycle-cycles.true)
 
 pub returns-then-cycle-cycles : goal.returns-then-cycle-cycles
 returns-then-cycle-cycles c =

@@ -1,11 +1,14 @@
-use Rattle.std.proofs.Common.{ℕ, ◌<◌, ◌≤◌}
-use Rattle.fr_trace.specs.Cycles.{history_by}
-use Rattle.fr_check.specs.Controls.{HasStepped, Stands}
+use Rattle.std.proofs.Common.{ℕ, ◌≤◌, List, take}
+use Rattle.std.specs.Prelude.{All}
+use Rattle.fr_base.specs.declared.dev.Dev.{Dev}
+use Rattle.fr_cluster.specs.Values.{Values}
+use Rattle.fr_history.specs.History.{History}
+use Rattle.fr_check.specs.Controls.{HasStepped, Hold}
+use Rattle.fr_check.specs.Corrections.{IsCorrection}
 use Rattle.fr_check.proofs.control.Controls.end.Given as goal
 
--- the nodes below have stepped, the others stand as before
-abbrev pub invariant-loop-number : goal.invariant-loop-number
-invariant-loop-number l =
-    (node : ℕ) → 1 ≤ node → node ≤ 64
-    → (node < l.number → HasStepped l.params (history_by l.behind) l.cycle.devs.items l.cycle.rows.items l.self node)
-    × (l.number ≤ node → Stands l.params (history_by l.behind) l.self node)
+-- the nodes of the rows so far have stepped, the others stand as before
+abbrev pub invariant-loop-row : goal.invariant-loop-row
+invariant-loop-row l =
+    (p : Values) (h : History) (odds : List Dev) → All (IsCorrection p h odds l.corrections) l.rows → Hold p h l.initial.self
+    → (node : ℕ) → 1 ≤ node → node ≤ 64 → HasStepped p h odds (take l.row-index l.rows) l.self node

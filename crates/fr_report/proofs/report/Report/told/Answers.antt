@@ -9,7 +9,7 @@ use Rattle.fr_cluster.specs.declared.nodes.NodeSpec.{NodeSpec}
 use Rattle.fr_script.specs.View.{ScriptView, is_arbitrary}
 use Rattle.fr_world.specs.World.{setting_after}
 use Rattle.fr_world.proofs.OneCycle.{nodes-few}
-use Rattle.fr_report.specs.Clocks.{clock_in}
+use Rattle.fr_report.specs.Clocks.{clock_between}
 use Rattle.fr_report.specs.Held.{run_history, ReportView}
 use Rattle.fr_report.specs.Told.{arbitrary_nodes}
 use Rattle.fr_report.proofs.Telling.{told_is}
@@ -41,7 +41,7 @@ returns c =
     let greatest : c.greatest.result ≡ report.gauge.greatest = c.greatest.ensures.value ∙ ap (λ (r : ReportView). r.gauge.greatest) c.self.view_is in
     let sums : c.self.inside.sums ≡ report.sums = ap (λ (r : ReportView). r.sums) c.self.view_is in
     let cut : c.self.inside.cut ≡ report.cut = ap (λ (r : ReportView). r.cut) c.self.view_is in
-    let clocks : c.clocks_of.result ≡ map (clock_in report.odd) c.nodes.result.now =
-    c.clocks_of.ensures ∙ ap (λ odd. map (clock_in odd) c.nodes.result.now) (c.as_slice.ensures.rows ∙ ap (λ (r : ReportView). r.odd) c.self.view_is) in
+    let clocks : c.clocks_of.result ≡ map (clock_between report.odd) c.nodes.result.now =
+    c.clocks_of.ensures ∙ ap (λ odd. map (clock_between odd) c.nodes.result.now) (c.as_slice.ensures.rows ∙ ap (λ (r : ReportView). r.odd) c.self.view_is) in
     rw (nodes, sync, arbitrary, doubles, precision, gap, synced, greatest, sums, cut, clocks)
     (told_is x (result_err c.args.gap) report c.nodes.result.now (run_history w) c.nodes.ensures.value c.requires)

@@ -6,15 +6,15 @@ use Rattle.fr_cluster.specs.Setting.{Setting}
 use Rattle.fr_coverage.specs.declared.gap.Gap.{Gap}
 use Rattle.std.proofs.Common.{Option}
 use Rattle.fr_report.specs.Held.{run_history}
-use Rattle.fr_report.specs.Text.{report_of, text_of}
+use Rattle.fr_report.specs.Text.{report_of, told_text}
 use Rattle.fr_report.specs.Told.{told_of}
 use Rattle.fr_report.specs.declared.told.Told.{Told}
 use Rattle.fr_world.specs.World.{setting_after}
 use Rattle.fr_report.proofs.report.Report.write.Goals as goal
 
-report_is : (x : Setting) (gap : Option Gap) (h : History) (told : Told) → told ≡ told_of x gap h → text_of told ≡ report_of x gap h
+report_is : (x : Setting) (gap : Option Gap) (h : History) (told : Told) → told ≡ told_of x gap h → told_text told ≡ report_of x gap h
 unfolding report_of
-report_is x gap h told is = ap text_of is
+report_is x gap h told is = ap told_text is
 
 pub returns-clause-any : goal.returns-clause-any
 returns-clause-any g c =

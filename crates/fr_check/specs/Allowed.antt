@@ -1,0 +1,55 @@
+-- What the deviations of a slot may be at a receiver.
+use Rattle.std.specs.Prelude.{◌≡◌, ◌≢◌, ℕ, ◌||◌, ◌+ℤ◌, ◌-ℤ◌, pos, int_lt, Bool, Option, Some, None, if◌then◌else◌}
+use Rattle.fr_base.specs.Timed.{IsLength}
+use Rattle.fr_base.specs.Within.{IsWithin}
+use Rattle.fr_base.specs.declared.dev.Dev.{Dev}
+use Rattle.fr_base.specs.declared.node_row.NodeRow.{NodeRow}
+use Rattle.fr_bound.specs.Bounds.{arrival_error}
+use Rattle.fr_cluster.specs.Values.{Values}
+use Rattle.fr_history.specs.History.{Record}
+use Rattle.fr_precision.specs.Instants.{gap_of}
+use Rattle.fr_time.specs.Position.{floor_of}
+use Rattle.fr_time.specs.Slots.{action_point_of}
+use Rattle.fr_verdict.specs.Breach.{sender_row, silent_state}
+use Rattle.fr_verdict.specs.declared.unlawful.Unlawful.{Unlawful}
+use Rattle.fr_verdict.specs.declared.unlawful.Unlawful.TheVariants as unlawful
+use Rattle.fr_check.specs.declared.deviations.Allowed.{Allowed}
+use Rattle.fr_check.specs.declared.deviations.Limits.{Limits}
+
+-- their limits in ticks, where both the sender and the receiver have a row
+abbrev pub limits_of : Values → Bool → ℕ → NodeRow → NodeRow → Limits
+limits_of p odd slot sender receiver = record {
+  least = gap_of p odd (pos (action_point_of p slot)) sender receiver -ℤ pos (arrival_error p);
+  most = gap_of p odd (pos (action_point_of p slot)) sender receiver +ℤ pos (arrival_error p);
+  length = receiver.length;
+}
+
+-- limits with which can be computed
+pub record AreTicks (limits : Limits) : Type 0 where
+  pub least : IsWithin (pos 1_112_000_000_000_000_000) limits.least
+  pub most : IsWithin (pos 1_112_000_000_000_000_000) limits.most
+  pub lasts : IsLength limits.length
+
+abbrev pub limits_by : Values → Bool → ℕ → Option NodeRow → Option NodeRow → Option Limits
+limits_by p odd slot None receiver = None
+limits_by p odd slot (Some sender) None = None
+limits_by p odd slot (Some sender) (Some receiver) = Some (limits_of p odd slot sender receiver)
+
+-- what they may be in a record, at a receiver with this row
+abbrev pub allowed_by : Values → Bool → Record → Option NodeRow → ℕ → Allowed
+allowed_by p odd r receiver slot = record {
+  slot = slot;
+  silent = silent_state (sender_row p r slot) receiver;
+  limits = limits_by p odd slot (sender_row p r slot) receiver;
+}
+
+-- what is kept is that of no slot, or right for its own
+abbrev pub IsRight : Values → Bool → Record → Option NodeRow → Allowed → Type 0
+IsRight p odd r receiver kept = (kept.slot ≢ 0) → kept ≡ allowed_by p odd r receiver kept.slot
+
+-- the breach of a deviation outside of limits
+abbrev pub outside_of : ℕ → Dev → Option Limits → Option Unlawful
+outside_of n dev None = None
+outside_of n dev (Some limits) =
+    if int_lt dev.value (floor_of limits.least limits.length) || int_lt (floor_of limits.most limits.length) dev.value
+    then Some (unlawful.Deviation n dev.value (floor_of limits.least limits.length) (floor_of limits.most limits.length)) else None
