@@ -12,7 +12,8 @@ use Rattle.fr_base.specs.declared.channel.Channel.TheVariants.{A, B}
 use Rattle.fr_base.specs.declared.numbers.NumberFault.{NumberFault}
 use Rattle.fr_bound.specs.Settling.{most_stated}
 use Rattle.fr_records.specs.Fields.{natural_of}
-use Rattle.fr_answer.specs.Request.{Asked, AsksFor, frame, bound, settle, run, capture, nm, texts, cold, make, trace, check}
+use Rattle.fr_ending.specs.Program.{texts}
+use Rattle.fr_answer.specs.Request.{Asked, AsksFor, frame, bound, bound_join, upgrade, settle, run, capture, nm, cold, make, trace, check}
 
 -- two numbers that are there
 abbrev settle_in : List ℕ → Result ℕ NumberFault → Result ℕ NumberFault → Option Asked
@@ -27,6 +28,9 @@ abbrev nm_in : List ℕ → Result ℕ NumberFault → Option Asked
 nm_in file (Ok width) = Some (nm width file)
 nm_in file (Err fault) = None
 
+abbrev bound_in : List ℕ → List ℕ → Option Asked
+bound_in file word = if bytes_eq word (codes "join") then Some (bound_join file) else None
+
 -- three words
 abbrev asked_in_three : List ℕ → List ℕ → List ℕ → Option Asked
 asked_in_three command first second =
@@ -35,7 +39,8 @@ asked_in_three command first second =
     else (if bytes_eq command (codes "capture") then option_map (λ ch. capture ch second) (channel_of first)
     else (if bytes_eq command (codes "cold") then Some (cold (record { params = first; power = second }))
     else (if bytes_eq command (codes "check") then Some (check (record { params = first; trace = second }))
-    else (if bytes_eq command (codes "nm") then nm_in second (natural_of 1 12 first) else None)))))
+    else (if bytes_eq command (codes "nm") then nm_in second (natural_of 1 12 first)
+    else (if bytes_eq command (codes "bound") then bound_in first second else None))))))
 
 -- four words
 abbrev asked_in_four : List ℕ → List ℕ → List ℕ → List ℕ → Option Asked
@@ -46,7 +51,7 @@ asked_in_four command first second third =
 
 -- what words ask for, read back by their number
 abbrev asked_in : List (List ℕ) → Option Asked
-asked_in (command ∷ file ∷ []) = if bytes_eq command (codes "bound") then Some (bound file) else None
+asked_in (command ∷ file ∷ []) = if bytes_eq command (codes "bound") then Some (bound file) else (if bytes_eq command (codes "upgrade") then Some (upgrade file) else None)
 asked_in (command ∷ first ∷ second ∷ []) = asked_in_three command first second
 asked_in (command ∷ first ∷ second ∷ third ∷ []) = asked_in_four command first second third
 asked_in other = None
@@ -55,6 +60,8 @@ asked_again : (words : List (List ℕ)) (asked : Asked) → AsksFor words asked 
 asked_again words (frame A file) asks = ap asked_in asks
 asked_again words (frame B file) asks = ap asked_in asks
 asked_again words (bound file) asks = ap asked_in asks
+asked_again words (bound_join file) asks = ap asked_in asks
+asked_again words (upgrade file) asks = ap asked_in asks
 asked_again words (settle file start rate) asks = ap asked_in asks.spelt ∙ ap₂ (settle_in file) asks.start_is asks.rate_is
 asked_again words (run names) asks = ap asked_in asks
 asked_again words (capture A file) asks = ap asked_in asks
@@ -69,6 +76,8 @@ asked_again words (check names) asks = ap asked_in asks
 asks_length : (words : List (List ℕ)) (asked : Asked) → AsksFor words asked → (2 ≤ length words) × (length words ≤ 4)
 asks_length words (frame channel file) asks = let long : length words ≡ 3 = ap length asks in (omega (arith, long), omega (arith, long))
 asks_length words (bound file) asks = let long : length words ≡ 2 = ap length asks in (omega (arith, long), omega (arith, long))
+asks_length words (bound_join file) asks = let long : length words ≡ 3 = ap length asks in (omega (arith, long), omega (arith, long))
+asks_length words (upgrade file) asks = let long : length words ≡ 2 = ap length asks in (omega (arith, long), omega (arith, long))
 asks_length words (settle file start rate) asks = let long : length words ≡ 4 = ap length asks.spelt in (omega (arith, long), omega (arith, long))
 asks_length words (run names) asks = let long : length words ≡ 4 = ap length asks in (omega (arith, long), omega (arith, long))
 asks_length words (capture channel file) asks = let long : length words ≡ 3 = ap length asks in (omega (arith, long), omega (arith, long))

@@ -1,22 +1,23 @@
 -- The answer to a request: how it ends, its status and its line.
-use Rattle.std.specs.Prelude.{◌≡◌, ℕ, ◌+◌, ◌≤◌, List, Err}
-use Rattle.fr_base.specs.Device.{Sunk}
-use Rattle.fr_ending.specs.declared.failure.Failure.TheVariants.{Usage}
+use Rattle.std.specs.Prelude.{◌≡◌, ℕ, codes}
 use Rattle.fr_ending.specs.declared.status.Status.{Status}
 use Rattle.fr_ending.specs.Around.{Around, Ending, TextEnds, files_until}
-use Rattle.fr_answer_bound.specs.BoundAnswer.{AreBoundsOf, IsBoundStatus, StopsAtParams}
+use Rattle.fr_answer_bound.specs.BoundAnswer.{AreBoundsOf, AreJoinBoundsOf, IsBoundStatus, StopsAtParams}
 use Rattle.fr_answer_bound.specs.SettleAnswer.{IsSettlingOf}
 use Rattle.fr_ending.specs.Complete.{IsComplete}
-use Rattle.fr_ending.specs.Failure.{IsTold, ending_status}
+use Rattle.fr_ending.specs.Program.{Program}
 use Rattle.fr_answer_capture.specs.CaptureAnswer.{IsCaptureOf, IsCaptureStatus, StopsAtCapture}
 use Rattle.fr_answer_frame.specs.FrameAnswer.{IsFrameStatus, IsLineOf, StopsAtFrame}
-use Rattle.fr_answer.specs.Request.{Asked, AsksFor, IsNoRequest, frame, bound, settle, run, capture, nm, cold, make, trace, check}
-use Rattle.fr_answer_check.specs.CheckAnswer.{IsCheckComplete, IsChecked, StopsAtTrace, check_files_until}
+use Rattle.fr_answer.specs.Request.{Asked, AsksFor, frame, bound, bound_join, upgrade, settle, run, capture, nm, cold, make, trace, check}
+use Rattle.fr_answer_check.specs.CheckAnswer.{IsCheckComplete, IsVerdictOf, StopsAtTrace, check_files_until}
 use Rattle.fr_answer_cold.specs.ColdAnswer.{IsColdComplete, IsColdRun, StopsAtPower, cold_files_until}
 use Rattle.fr_answer_nm.specs.NmAnswer.{AreVectorsOf, IsVectorsStatus, StopsAtVectors}
 use Rattle.fr_answer_run.specs.MakeAnswer.{IsMadeReport, IsMakeComplete, StopsMaking}
-use Rattle.fr_answer_run.specs.RunAnswer.{IsRunReport, IsRunComplete, StopsAtFile}
+use Rattle.fr_answer_run.specs.RunAnswer.{IsRunReport}
+use Rattle.fr_run_files.specs.Files.{StopsAtFile}
+use Rattle.fr_run_files.specs.Statuses.{IsRunComplete}
 use Rattle.fr_answer_trace.specs.TraceAnswer.{IsRunTrace}
+use Rattle.fr_answer_upgrade.specs.UpgradeAnswer.{IsUpgradeOf, IsUpgradeStatus, StopsUpgrading}
 
 -- how a request ends that loads no file: the shelf is as it was
 pub record LoadsNothing (around : Around) (TextEnded : Type 0) : Type 0 where
@@ -28,6 +29,9 @@ abbrev pub Ends : Asked → Around → Ending → Type 0
 Ends (frame channel file) around ending =
     TextEnds (IsLineOf channel file around.shelf_before) (StopsAtFrame channel file around.shelf_before around.shelf_after) around.out_before around.out_after ending
 Ends (bound file) around ending = TextEnds (AreBoundsOf file around.shelf_before) (StopsAtParams file around.shelf_before around.shelf_after) around.out_before around.out_after ending
+Ends (bound_join file) around ending =
+    TextEnds (AreJoinBoundsOf file around.shelf_before) (StopsAtParams file around.shelf_before around.shelf_after) around.out_before around.out_after ending
+Ends (upgrade file) around ending = TextEnds (IsUpgradeOf file around.shelf_before) (StopsUpgrading file around.shelf_before around.shelf_after) around.out_before around.out_after ending
 Ends (settle file start rate) around ending =
     TextEnds (IsSettlingOf start rate file around.shelf_before) (StopsAtParams file around.shelf_before around.shelf_after) around.out_before around.out_after ending
 Ends (run names) around ending = TextEnds (IsRunReport names around.shelf_before) (StopsAtFile names around.shelf_before around.shelf_after) around.out_before around.out_after ending
@@ -40,12 +44,14 @@ Ends (cold names) around ending =
     TextEnds (IsColdRun names around.shelf_before) (StopsAtPower names around.shelf_before around.shelf_after) around.out_before around.out_after ending
 Ends (trace names) around ending = TextEnds (IsRunTrace names around.shelf_before) (StopsAtFile names around.shelf_before around.shelf_after) around.out_before around.out_after ending
 Ends (check names) around ending =
-    TextEnds (IsChecked names around.shelf_before) (StopsAtTrace names around.shelf_before around.shelf_after) around.out_before around.out_after ending
+    TextEnds (IsVerdictOf names around.shelf_before) (StopsAtTrace names around.shelf_before around.shelf_after) around.out_before around.out_after ending
 
 -- the status that the bytes of the files define, where they are told and no fault is counted
 abbrev pub IsDefinedBy : Asked → Around → Status → Type 0
 IsDefinedBy (frame channel file) around answer = IsComplete (IsFrameStatus channel) file around answer
 IsDefinedBy (bound file) around answer = IsComplete IsBoundStatus file around answer
+IsDefinedBy (bound_join file) around answer = IsComplete IsBoundStatus file around answer
+IsDefinedBy (upgrade file) around answer = IsComplete IsUpgradeStatus file around answer
 IsDefinedBy (settle file start rate) around answer = IsComplete IsBoundStatus file around answer
 IsDefinedBy (run names) around answer = IsRunComplete names around answer
 IsDefinedBy (make seed doubles) around answer = IsMakeComplete around answer
@@ -59,6 +65,8 @@ IsDefinedBy (check names) around answer = IsCheckComplete names around answer
 abbrev pub file_count : Asked → Ending → ℕ
 file_count (frame channel file) ending = 1
 file_count (bound file) ending = 1
+file_count (bound_join file) ending = 1
+file_count (upgrade file) ending = 1
 file_count (settle file start rate) ending = 1
 file_count (run names) ending = files_until ending
 file_count (make seed doubles) ending = 0
@@ -68,16 +76,6 @@ file_count (cold names) ending = cold_files_until ending
 file_count (trace names) ending = files_until ending
 file_count (check names) ending = check_files_until ending
 
--- how words end, whether they ask for something or not: there are no more loads than files up to the one at which it
--- ends, so none is loaded twice and no other
-pub record WordsEnd (words : List (List ℕ)) (around : Around) (ending : Ending) : Type 0 where
-  pub ends : (asked : Asked) → AsksFor words asked → Ends asked around ending
-  pub loads : (asked : Asked) → AsksFor words asked → around.shelf_after.loads ≤ around.shelf_before.loads + file_count asked ending
-  pub none : IsNoRequest words → ending ≡ Err Usage
-
--- there is an ending of the words whose status and line are these
-pub record IsProgramAnswer (words : List (List ℕ)) (around : Around) (told_before told_after : Sunk) (answer : Status) : Type 0 where
-  pub ending : Ending
-  pub ends : WordsEnd words around ending
-  pub status : answer ≡ ending_status ending
-  pub told : IsTold told_before told_after ending
+-- the program
+abbrev pub flexray_program : Program Asked
+flexray_program = record { asks_for = AsksFor; ends = Ends; file_count = file_count; usage = codes "usage: flexray COMMAND WORDS" }

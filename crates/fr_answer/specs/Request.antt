@@ -1,31 +1,27 @@
 -- What words ask for.
-use Rattle.std.specs.Prelude.{◌≡◌, ℕ, ◌≤◌, List, [], ◌∷◌, map, codes, String, Option, Some, None, Ok}
-use Rattle.std.specs.String.{string_bytes}
-use Rattle.std.specs.declared.alloc.Global.{Global}
+use Rattle.std.specs.Prelude.{◌≡◌, ℕ, ◌≤◌, List, [], ◌∷◌, codes, Option, Some, None, Ok}
 use Rattle.fr_base.specs.Channels.{letter}
 use Rattle.fr_base.specs.declared.channel.Channel.{Channel}
 use Rattle.fr_bound.specs.Settling.{most_stated}
-use Rattle.fr_drift.specs.Rows.{IsProperCount}
+use Rattle.fr_generator.specs.Generated.{IsMadeCount}
 use Rattle.fr_records.specs.Fields.{natural_of}
 use Rattle.fr_answer.specs.declared.request.Request.{Request}
 use Rattle.fr_answer_check.specs.CheckAnswer.{CheckNames, check_names}
 use Rattle.fr_answer_cold.specs.ColdAnswer.{ColdNames, cold_names}
-use Rattle.fr_answer_run.specs.Names.{RunNames, names_of}
-use Rattle.fr_answer.specs.declared.request.Request.TheVariants.{Frame, Bound, Settle, Run, Capture, Nm, Cold, Make, Trace, Check}
+use Rattle.fr_run_files.specs.Names.{RunNames, names_of}
+use Rattle.fr_answer.specs.declared.request.Request.TheVariants.{Frame, Bound, BoundJoin, Upgrade, Settle, Run, Capture, Nm, Cold, Make, Trace, Check}
 
--- the bytes of each word
-abbrev pub texts : List (String Global) → List (List ℕ)
-texts words = map string_bytes words
-
--- decode the bytes of the file as a frame on the channel; print the bounds and checks of the parameters in the file, or how
--- long clocks that begin so far apart take until they are in sync; run the cluster that the files decide, or the
--- cluster of a seed over so many double cycles, and print the report; print the trace of the run that the files decide; list
--- the frames of the recording in the file; print the network management vectors of the recording in the file, of so
--- many bytes; print who leads the startup that the files decide; say whether a recorded trace is that of a lawful and
--- covered run
+-- decode the bytes of the file as a frame on the channel; print the bounds and checks of the parameters in the file;
+-- print these and those of a cluster that nodes join; print the parameters as a file of version 2; print how long clocks
+-- that begin so far apart take until they are in sync; run the cluster that the files decide, or the cluster of a seed over so many double cycles, and print the
+-- report; print the trace of the run that the files decide; list the frames of the recording in the file; print the
+-- network management vectors of the recording in the file, of so many bytes; print who leads the startup that the files
+-- decide; say whether a recorded trace is that of a lawful and covered run
 pub data Asked : Type 0 where
   frame : (channel : Channel) (file : List ℕ) → Asked
   bound : (file : List ℕ) → Asked
+  bound_join : (file : List ℕ) → Asked
+  upgrade : (file : List ℕ) → Asked
   settle : (file : List ℕ) (start rate : ℕ) → Asked
   run : (names : RunNames) → Asked
   make : (seed doubles : ℕ) → Asked
@@ -57,12 +53,14 @@ pub record AsksNm (words : List (List ℕ)) (width : ℕ) (file : List ℕ) : Ty
   pub spelt : words ≡ codes "nm" ∷ width_text ∷ file ∷ []
   pub width_is : natural_of 1 12 width_text ≡ Ok width
 
--- the words ask for this: `frame A FILE` or `frame B FILE`; `bound PARAMS`; `settle PARAMS START RATE`; `run PARAMS DRIFT SCRIPT`;
--- `make SEED DOUBLES`; `trace PARAMS DRIFT SCRIPT`; `capture A FILE` or `capture B FILE`; `nm WIDTH FILE`;
--- `cold PARAMS POWER`; `check PARAMS TRACE`
+-- the words ask for this: `frame A FILE` or `frame B FILE`; `bound PARAMS`; `bound PARAMS join`; `upgrade
+-- PARAMS`; `settle PARAMS START RATE`; `run PARAMS DRIFT SCRIPT`; `make SEED DOUBLES`; `trace PARAMS DRIFT SCRIPT`;
+-- `capture A FILE` or `capture B FILE`; `nm WIDTH FILE`; `cold PARAMS POWER`; `check PARAMS TRACE`
 abbrev pub AsksFor : List (List ℕ) → Asked → Type 0
 AsksFor words (frame channel file) = words ≡ codes "frame" ∷ letter channel ∷ file ∷ []
 AsksFor words (bound file) = words ≡ codes "bound" ∷ file ∷ []
+AsksFor words (bound_join file) = words ≡ codes "bound" ∷ file ∷ codes "join" ∷ []
+AsksFor words (upgrade file) = words ≡ codes "upgrade" ∷ file ∷ []
 AsksFor words (settle file start rate) = AsksSettle words file start rate
 AsksFor words (run names) = words ≡ codes "run" ∷ names.params ∷ names.drift ∷ names.script ∷ []
 AsksFor words (make seed doubles) = AsksMake words seed doubles
@@ -72,14 +70,12 @@ AsksFor words (cold names) = words ≡ codes "cold" ∷ names.params ∷ names.p
 AsksFor words (trace names) = words ≡ codes "trace" ∷ names.params ∷ names.drift ∷ names.script ∷ []
 AsksFor words (check names) = words ≡ codes "check" ∷ names.params ∷ names.trace ∷ []
 
--- the words are no request
-abbrev pub IsNoRequest : List (List ℕ) → Type 0
-IsNoRequest words = (asked : Asked) → AsksFor words asked → ⊥
-
 -- what a request asks for
 abbrev pub asked_of : Request → Asked
 asked_of (Frame channel file) = frame channel file.now
 asked_of (Bound file) = bound file.now
+asked_of (BoundJoin file) = bound_join file.now
+asked_of (Upgrade file) = upgrade file.now
 asked_of (Settle file start rate) = settle file.now start rate
 asked_of (Run files) = run (names_of files)
 asked_of (Make seed doubles) = make seed doubles
@@ -91,12 +87,12 @@ asked_of (Check files) = check (check_names files)
 
 -- what words are read as: a request that asks for what they ask for, or none
 abbrev pub IsRequestOf : List (List ℕ) → Option Request → Type 0
-IsRequestOf words None = IsNoRequest words
+IsRequestOf words None = (asked : Asked) → AsksFor words asked → ⊥
 IsRequestOf words (Some request) = AsksFor words (asked_of request)
 
 -- its numbers lie in their ranges
 abbrev pub IsInRange : Request → Type 0
 IsInRange (Settle file start rate) = (start ≤ most_stated) × (rate ≤ most_stated)
-IsInRange (Make seed doubles) = IsProperCount doubles
+IsInRange (Make seed doubles) = IsMadeCount doubles
 IsInRange (Nm width file) = (1 ≤ width) × (width ≤ 12)
 IsInRange other = Unit {0}

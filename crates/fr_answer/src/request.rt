@@ -1,11 +1,12 @@
 ghost use Rattle.std.specs.Prelude.{◌∷◌, [], codes, IfSome};
-ghost use Rattle.fr_answer.specs.Request.{IsInRange, IsRequestOf, texts};
+ghost use Rattle.fr_ending.specs.Program.{texts};
+ghost use Rattle.fr_answer.specs.Request.{IsInRange, IsRequestOf};
 
 use fr_answer_check::CheckFiles;
 use fr_answer_cold::ColdFiles;
-use fr_answer_run::RunFiles;
 use fr_base::Channel;
 use fr_records::natural;
+use fr_run_files::RunFiles;
 
 // The greatest number of ticks that may be stated.
 const MOST_STATED: u64 = 1_000_000_000_000;
@@ -20,6 +21,14 @@ pub enum Request<'a> {
     },
     /// Print the bounds and checks of the parameters in the file.
     Bound {
+        file: &'a str,
+    },
+    /// Print these, and those of a cluster that nodes join.
+    BoundJoin {
+        file: &'a str,
+    },
+    /// Print the parameters in the file as a file of version 2.
+    Upgrade {
         file: &'a str,
     },
     /// Print how long clocks take until they are in sync that begin at most so many ticks apart, and the lengths of whose
@@ -64,7 +73,7 @@ pub fn request_of(words: &[String]) -> Option<Request<'_>>
         [command, channel, file] => {
             request_of_three(command.as_str(), channel.as_str(), file.as_str())
         }
-        [command, file] => bound_request(command.as_str(), file.as_str()),
+        [command, file] => request_of_two(command.as_str(), file.as_str()),
         [command, first, second, third] => request_of_four(
             command.as_str(),
             first.as_str(),
@@ -81,6 +90,7 @@ fn request_of_three<'a>(command: &str, first: &'a str, second: &'a str) -> Optio
 {
     match command {
         "frame" => frame_request(first, second),
+        "bound" => bound_join_request(first, second),
         "capture" => capture_request(first, second),
         "make" => make_request(first, second),
         "nm" => nm_request(first, second),
@@ -141,12 +151,23 @@ fn nm_request<'a>(width: &str, file: &'a str) -> Option<Request<'a>>
     }
 }
 
-fn bound_request<'a>(command: &str, file: &'a str) -> Option<Request<'a>>
+fn request_of_two<'a>(command: &str, file: &'a str) -> Option<Request<'a>>
     ensures asks { IsRequestOf (command.now ∷ file.now ∷ []) result }
     ensures range { IfSome result IsInRange }
 {
     match command {
         "bound" => Some(Request::Bound { file }),
+        "upgrade" => Some(Request::Upgrade { file }),
+        _ => None,
+    }
+}
+
+fn bound_join_request<'a>(file: &'a str, word: &str) -> Option<Request<'a>>
+    ensures asks { IsRequestOf (codes "bound" ∷ file.now ∷ word.now ∷ []) result }
+    ensures range { IfSome result IsInRange }
+{
+    match word {
+        "join" => Some(Request::BoundJoin { file }),
         _ => None,
     }
 }

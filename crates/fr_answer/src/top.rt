@@ -1,10 +1,10 @@
 ghost use Rattle.std.specs.Prelude.{◌≡◌, ◌↔◌, ◌+◌, ◌≤◌, Err};
-ghost use Rattle.fr_text.specs.Pieces.{line};
 ghost use Rattle.fr_ending.specs.declared.failure.Failure.TheVariants.{Usage};
-ghost use Rattle.fr_answer.specs.Answer.{Ends, IsProgramAnswer, IsDefinedBy, WordsEnd, file_count};
-ghost use Rattle.fr_ending.specs.Around.{IsLinePut, around_of};
-ghost use Rattle.fr_ending.specs.Failure.{EndingWritesNothing, WritesNothing, failure_text};
-ghost use Rattle.fr_answer.specs.Request.{Asked, AsksFor, IsInRange, IsNoRequest, asked_of, texts};
+ghost use Rattle.fr_ending.specs.Around.{around_of};
+ghost use Rattle.fr_ending.specs.Failure.{EndingWritesNothing, WritesNothing};
+ghost use Rattle.fr_ending.specs.Program.{IsNoRequest, IsProgramAnswer, WordsEnd, texts};
+ghost use Rattle.fr_answer.specs.Answer.{Ends, IsDefinedBy, file_count, flexray_program};
+ghost use Rattle.fr_answer.specs.Request.{Asked, AsksFor, IsInRange, asked_of};
 
 use crate::request::{Request, request_of};
 use fr_base::{Shelf, Sink};
@@ -23,11 +23,11 @@ pub fn flexray<S: Shelf, O: Sink, E: Sink>(
 ) -> Status
     // Words that are no request, and no others, are answered Usage, whatever the shelf and the sinks do, and
     // nothing is loaded then.
-    ensures usage { (result ≡ Status.Usage) ↔ IsNoRequest (texts words.now) }
+    ensures usage { (result ≡ Status.Usage) ↔ IsNoRequest flexray_program (texts words.now) }
     ensures unread { result ≡ Status.Usage → shelf.new ≡ shelf.old }
 
     // What each status says of what was asked for, what was written, and the line of a failure.
-    ensures ends { IsProgramAnswer (texts words.now)
+    ensures ends { IsProgramAnswer flexray_program (texts words.now)
         (around_of (S.state shelf.old) (S.state shelf.new) (O.state out.old) (O.state out.new))
         (E.state err.old) (E.state err.new) result }
 
@@ -42,7 +42,7 @@ pub fn flexray<S: Shelf, O: Sink, E: Sink>(
     match answer(alloc, words, shelf, out) {
         Ok(()) => Status::Done,
         Err(failure) => {
-            tell(err, &failure);
+            failure.tell(b"usage: flexray COMMAND WORDS", err);
             failure.status()
         }
     }
@@ -55,9 +55,9 @@ fn answer<S: Shelf, O: Sink>(
     shelf: &mut S,
     out: &mut O,
 ) -> Result<(), Failure>
-    ensures usage { (result ≡ Err Usage) → IsNoRequest (texts words.now) }
+    ensures usage { (result ≡ Err Usage) → IsNoRequest flexray_program (texts words.now) }
     ensures unread { result ≡ Err Usage → shelf.new ≡ shelf.old }
-    ensures ends { WordsEnd (texts words.now)
+    ensures ends { WordsEnd flexray_program (texts words.now)
         (around_of (S.state shelf.old) (S.state shelf.new) (O.state out.old) (O.state out.new)) result }
     ensures unwritten { EndingWritesNothing result → out.new ≡ out.old }
 {
@@ -84,6 +84,8 @@ fn carry_out<S: Shelf, O: Sink>(
             alloc, channel, file, shelf, out,
         ),
         Request::Bound { file } => fr_answer_bound::answer(alloc, file, shelf, out),
+        Request::BoundJoin { file } => fr_answer_bound::join_answer(alloc, file, shelf, out),
+        Request::Upgrade { file } => fr_answer_upgrade::answer(alloc, file, shelf, out),
         Request::Settle { file, start, rate } => {
             fr_answer_bound::settle_answer(alloc, file, start, rate, shelf, out)
         }
@@ -97,11 +99,4 @@ fn carry_out<S: Shelf, O: Sink>(
         Request::Trace(files) => fr_answer_trace::answer(alloc, files, shelf, out),
         Request::Check(files) => fr_answer_check::answer(alloc, files, shelf, out),
     }
-}
-
-// Puts the line of the failure. What becomes of it changes nothing else.
-fn tell<E: Sink>(err: &mut E, failure: &Failure)
-    ensures { IsLinePut (E.state err.old) (E.state err.new) (line (failure_text failure.now)) }
-{
-    let _ = err.put(failure.line().bytes());
 }

@@ -25,7 +25,7 @@ use Rattle.fr_capture.proofs.Beginning.{fault_of_few, no_fault}
 use Rattle.fr_capture.proofs.Filling.{nothing_begins, stopped_stays, whole_frames}
 use Rattle.fr_capture.proofs.Standing.{frames_are, frames_are_one, front_of_frames, rest_begins_none, stand_more}
 use Rattle.fr_capture.proofs.Walking.{frames_found}
-use Rattle.fr_answer_capture.specs.CaptureText.{PutsFrames, WasFed, capture_text, closed_by, end_text, found_line, frames_text, fresh_capture, line_at, shown_text}
+use Rattle.fr_answer_capture.specs.CaptureText.{PutsFrames, WasFed, capture_text, closed_by, closing_text, found_line, frames_text, fresh_capture, line_at, shown_text}
 
 -- what a capture was fed of bytes so far, and what was put of their frames
 pub record Going (channel : Channel) (capture : CaptureView) (bytes : List ℕ) (done count : ℕ) (before after : Sunk) : Type 0 where
@@ -205,7 +205,7 @@ begins_text channel capture bytes fed done small same fed_is stands =
     let joined : fed ++ drop done bytes ≡ bytes = ap (λ (xs : List ℕ). xs ++ drop done bytes) fed_is ∙ take-append-drop done bytes in
     let stand = subst (λ (xs : List ℕ). AreFrom channel 0 stands.frames xs (rest_of capture ++ drop done bytes)) joined (stand_more channel 0 stands.frames fed (rest_of capture) (drop done bytes) are.stand) in
     let part = front_of_frames channel 0 stands.frames all.frames bytes (rest_of capture ++ drop done bytes) all.rest (found.longest stands.frames (rest_of capture ++ drop done bytes) stand) stand found.stand in
-    let end : List ℕ = end_text (length all.frames) (closed_by (length bytes - length all.rest) (reason_of channel all.rest)) in (
+    let end : List ℕ = closing_text (length all.frames) (closed_by (length bytes - length all.rest) (reason_of channel all.rest)) in (
       frames_text channel part.0 ++ end,
       ap (λ (fs : List Found). frames_text channel fs ++ end) part.1
           ∙ ap (λ (xs : List ℕ). xs ++ end) (frames_text-append channel stands.frames part.0)
@@ -264,20 +264,20 @@ mended channel told is lasting =
     subst IsLasting (sym same) lasting
 
 stopped_text : (channel : Channel) (bytes : List ℕ) (place : ℕ) (told : CaptureFault) → All (λ b. b < 2 ^ 8) bytes → (s : IsStopped channel bytes place told) →
-    capture_text channel bytes ≡ frames_text channel s.frames ++ end_text (length s.frames) (Err (place, told))
+    capture_text channel bytes ≡ frames_text channel s.frames ++ closing_text (length s.frames) (Err (place, told))
 stopped_text channel bytes place told small s =
     whole_text channel bytes s.rest s.frames small s.are
-    ∙ ap (λ (o : Option CaptureFault). frames_text channel s.frames ++ end_text (length s.frames) (closed_by (length bytes - length s.rest) o)) (reason_is s.rest s.some s.first)
-    ∙ ap (λ (n : ℕ). frames_text channel s.frames ++ end_text (length s.frames) (Err (n, told))) (omega (arith, s.placed))
+    ∙ ap (λ (o : Option CaptureFault). frames_text channel s.frames ++ closing_text (length s.frames) (closed_by (length bytes - length s.rest) o)) (reason_is s.rest s.some s.first)
+    ∙ ap (λ (n : ℕ). frames_text channel s.frames ++ closing_text (length s.frames) (Err (n, told))) (omega (arith, s.placed))
   where
     reason_is : (xs : List ℕ) → 1 ≤ length xs → fault_in channel xs ≡ Some told → reason_of channel xs ≡ Some told
     reason_is [] some is = absurd (omega arith)
     reason_is (x ∷ xs) some is = is
 
 whole_is_text : (channel : Channel) (bytes : List ℕ) (frames : List Found) → All (λ b. b < 2 ^ 8) bytes → AreFrames channel bytes frames [] →
-    capture_text channel bytes ≡ frames_text channel frames ++ end_text (length frames) (Ok (length bytes))
+    capture_text channel bytes ≡ frames_text channel frames ++ closing_text (length frames) (Ok (length bytes))
 whole_is_text channel bytes frames small are =
-    whole_text channel bytes [] frames small are ∙ ap (λ (n : ℕ). frames_text channel frames ++ end_text (length frames) (Ok n)) (omega arith)
+    whole_text channel bytes [] frames small are ∙ ap (λ (n : ℕ). frames_text channel frames ++ closing_text (length frames) (Ok n)) (omega arith)
 
 -- a stop of the same bytes
 here : (channel : Channel) (fed bytes : List ℕ) (place : ℕ) (told : CaptureFault) → (s : IsStopped channel fed place told) → bytes ≡ fed → (t : IsStopped channel bytes place told) × (t.frames ≡ s.frames)
@@ -293,12 +293,12 @@ there channel fed behind bytes rest place told s cut shown same =
 
 -- the capture was fed, and its end is told: this is the text
 pub closes : (channel : Channel) (capture : CaptureView) (bytes : List ℕ) (a b : Sunk) (count : ℕ) (end : Result ℕ (ℕ × CaptureFault)) → All (λ b. b < 2 ^ 8) bytes → (fed : WasFed channel capture bytes a b count) →
-    ((bs : List ℕ) → StandsFor capture bs → IsEndOf capture.channel bs end) → capture_text channel bytes ≡ frames_text channel fed.stands.frames ++ end_text count end
+    ((bs : List ℕ) → StandsFor capture bs → IsEndOf capture.channel bs end) → capture_text channel bytes ≡ frames_text channel fed.stands.frames ++ closing_text count end
 closes channel capture bytes a b count end small fed ends =
-    subst (λ (ch : Channel). capture_text ch bytes ≡ frames_text ch fed.stands.frames ++ end_text count end) fed.same
-    (closed end (ends fed.fed fed.stands) ∙ ap (λ (n : ℕ). frames_text capture.channel fed.stands.frames ++ end_text n end) (sym fed.counted))
+    subst (λ (ch : Channel). capture_text ch bytes ≡ frames_text ch fed.stands.frames ++ closing_text count end) fed.same
+    (closed end (ends fed.fed fed.stands) ∙ ap (λ (n : ℕ). frames_text capture.channel fed.stands.frames ++ closing_text n end) (sym fed.counted))
   where
-    closed : (e : Result ℕ (ℕ × CaptureFault)) → IsEndOf capture.channel fed.fed e → capture_text capture.channel bytes ≡ frames_text capture.channel fed.stands.frames ++ end_text (length fed.stands.frames) e
+    closed : (e : Result ℕ (ℕ × CaptureFault)) → IsEndOf capture.channel fed.fed e → capture_text capture.channel bytes ≡ frames_text capture.channel fed.stands.frames ++ closing_text (length fed.stands.frames) e
     closed (Ok n) w =
         let same = frames_are_one capture.channel fed.fed fed.stands.frames w.frames (rest_of capture) [] fed.stands.are w.are in
         let none : fed.behind ≡ [] = elim fed.over [
@@ -309,7 +309,7 @@ closes channel capture bytes a b count end small fed ends =
         let are : AreFrames capture.channel bytes fed.stands.frames [] =
         subst (λ (xs : List ℕ). AreFrames capture.channel xs fed.stands.frames []) (sym all) (subst (λ (xs : List ℕ). AreFrames capture.channel fed.fed fed.stands.frames xs) same.1 fed.stands.are) in
         whole_is_text capture.channel bytes fed.stands.frames small are
-        ∙ ap (λ (k : ℕ). frames_text capture.channel fed.stands.frames ++ end_text (length fed.stands.frames) (Ok k)) (ap length all ∙ sym w.counted)
+        ∙ ap (λ (k : ℕ). frames_text capture.channel fed.stands.frames ++ closing_text (length fed.stands.frames) (Ok k)) (ap length all ∙ sym w.counted)
     closed (Err stop) s =
         let same = frames_are_one capture.channel fed.fed s.frames fed.stands.frames s.rest (rest_of capture) s.are fed.stands.are in
         let told : (t : IsStopped capture.channel bytes stop.0 stop.1) × (t.frames ≡ s.frames) = elim fed.over [
@@ -317,10 +317,10 @@ closes channel capture bytes a b count end small fed ends =
           | inr shown ↦ there capture.channel fed.fed fed.behind bytes (rest_of capture) stop.0 stop.1 s fed.cut shown same.1
         ] in
         stopped_text capture.channel bytes stop.0 stop.1 small told.0
-        ∙ ap (λ (fs : List Found). frames_text capture.channel fs ++ end_text (length fs) (Err stop)) (told.1 ∙ same.0)
+        ∙ ap (λ (fs : List Found). frames_text capture.channel fs ++ closing_text (length fs) (Err stop)) (told.1 ∙ same.0)
 
 -- the last lines were put, too
 pub printed : (channel : Channel) (capture : CaptureView) (bytes : List ℕ) (a b c : Sunk) (count : ℕ) (end : Result ℕ (ℕ × CaptureFault)) (result : Result (Unit {0}) PutFault) → All (λ b. b < 2 ^ 8) bytes → (fed : WasFed channel capture bytes a b count) →
-    ((bs : List ℕ) → StandsFor capture bs → IsEndOf capture.channel bs end) → Puts result b c (end_text count end) → Puts result a c (capture_text channel bytes)
+    ((bs : List ℕ) → StandsFor capture bs → IsEndOf capture.channel bs end) → Puts result b c (closing_text count end) → Puts result a c (capture_text channel bytes)
 printed channel capture bytes a b c count end result small fed ends put =
     subst (λ (text : List ℕ). Puts result a c text) (sym (closes channel capture bytes a b count end small fed ends)) (then result fed.put put)

@@ -30,8 +30,8 @@ frames_text channel [] = []
 frames_text channel (found ∷ frames) = found_line channel found ++ frames_text channel frames
 
 -- how many frames there are, and how many bytes these have
-abbrev pub total_line : ℕ → ℕ → List ℕ
-total_line count bytes = line (codes "frames " ++ decimal count ++ codes " bytes " ++ decimal bytes)
+abbrev pub frames_line : ℕ → ℕ → List ℕ
+frames_line count bytes = line (codes "frames " ++ decimal count ++ codes " bytes " ++ decimal bytes)
 
 -- the place behind the last frame, and why no further one begins there
 abbrev pub fault_line : ℕ → CaptureFault → List ℕ
@@ -44,9 +44,9 @@ fault_line place fault.ZeroId = line (codes "fault " ++ decimal place ++ codes "
 fault_line place fault.StartupNotSync = line (codes "fault " ++ decimal place ++ codes " startup without sync")
 
 -- the last two lines, by the number of frames and how the recording ends
-abbrev pub end_text : ℕ → Result ℕ (ℕ × CaptureFault) → List ℕ
-end_text count (Ok bytes) = total_line count bytes ++ line (codes "fault none")
-end_text count (Err stop) = total_line count stop.0 ++ fault_line stop.0 stop.1
+abbrev pub closing_text : ℕ → Result ℕ (ℕ × CaptureFault) → List ℕ
+closing_text count (Ok bytes) = frames_line count bytes ++ line (codes "fault none")
+closing_text count (Err stop) = frames_line count stop.0 ++ fault_line stop.0 stop.1
 
 -- how it ends behind the last frame
 abbrev pub closed_by : ℕ → Option CaptureFault → Result ℕ (ℕ × CaptureFault)
@@ -55,7 +55,7 @@ closed_by place (Some why) = Err (place, why)
 
 -- the text of a recording with these frames and this rest
 abbrev pub shown_text : Channel → List ℕ → List Found → List ℕ → List ℕ
-shown_text channel bytes frames rest = frames_text channel frames ++ end_text (length frames) (closed_by (length bytes - length rest) (reason_of channel rest))
+shown_text channel bytes frames rest = frames_text channel frames ++ closing_text (length frames) (closed_by (length bytes - length rest) (reason_of channel rest))
 
 abbrev pub capture_text : Channel → List ℕ → List ℕ
 capture_text channel bytes = shown_text channel bytes (frames_in channel bytes).frames (frames_in channel bytes).rest

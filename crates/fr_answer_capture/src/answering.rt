@@ -47,7 +47,8 @@ pub fn answer<S: Shelf, O: Sink>(
 fn print<O: Sink>(channel: Channel, bytes: &[u8], out: &mut O) -> Result<(), PutFault>
     requires { length bytes.now ≤ MAX_FILE }
     ensures puts { Puts result (O.state out.old) (O.state out.new) (capture_text channel bytes.now) }
-    ensures frames { AreFrames channel bytes.now (frames_in channel bytes.now).frames (frames_in channel bytes.now).rest }
+    ensures frames { AreFrames channel bytes.now
+        (frames_in channel bytes.now).frames (frames_in channel bytes.now).rest }
 {
     let mut capture = Capture::new(channel);
     let count = put_frames(&mut capture, bytes, out)?;

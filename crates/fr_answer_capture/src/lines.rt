@@ -1,7 +1,7 @@
 ghost use Rattle.std.specs.Prelude.{◌≡◌};
 ghost use Rattle.fr_text.specs.Lines.{joined_lines};
 ghost use Rattle.fr_capture.specs.declared.fault.CaptureFault.TheVariants.{FrameCrc};
-ghost use Rattle.fr_answer_capture.specs.CaptureText.{end_text, fault_line, line_at, total_line};
+ghost use Rattle.fr_answer_capture.specs.CaptureText.{closing_text, fault_line, line_at, frames_line};
 
 use crate::line_end::LineEnd;
 use fr_capture::CaptureFault;
@@ -30,22 +30,22 @@ pub(crate) fn frame_line(place: u64, frame: &Frame<'_>) -> LineEnd
 
 // How many frames and bytes there are, and how the recording ends.
 pub(crate) fn end_lines(count: u64, end: Result<u64, (u64, CaptureFault)>) -> [Option<Line>; 2]
-    ensures { joined_lines result ≡ end_text count end }
+    ensures { joined_lines result ≡ closing_text count end }
 {
     match end {
         Ok(bytes) => [
-            Some(total_line(count, bytes)),
+            Some(frames_line(count, bytes)),
             Some(line_of(&[Word(b"fault none")])),
         ],
         Err((place, fault)) => [
-            Some(total_line(count, place)),
+            Some(frames_line(count, place)),
             Some(fault_line(place, fault)),
         ],
     }
 }
 
-fn total_line(count: u64, bytes: u64) -> Line
-    ensures { result ≡ total_line count bytes }
+fn frames_line(count: u64, bytes: u64) -> Line
+    ensures { result ≡ frames_line count bytes }
 {
     line_of(&[
         Word(b"frames "),

@@ -10,12 +10,12 @@ use Rattle.fr_verdict.specs.Answer.{IsAnswer}
 use Rattle.fr_verdict.specs.Precision.{KeepsItsPrecision}
 use Rattle.fr_verdict.specs.declared.unlawful.Verdict.{Verdict}
 use Rattle.fr_ending.proofs.Earlier.{has_earlier}
-use Rattle.fr_answer_check.specs.CheckAnswer.{CheckNames, IsChecked}
+use Rattle.fr_answer_check.specs.CheckAnswer.{CheckNames, IsVerdictOf}
 use Rattle.fr_answer_check.specs.VerdictText.{verdict_text}
 
 pub checked : (names : CheckNames) (first second : Shelved) (p : Values) (t : TraceView) (verdict : Verdict) → IsOneLoadLater first second
     → Has params_file first names.params p → Has (trace_file p) second names.trace t → IsAnswer p t (Ok verdict) → KeepsItsPrecision p t verdict
-    → IsChecked names first (verdict_text p t verdict)
+    → IsVerdictOf names first (verdict_text p t verdict)
 checked names first second p t verdict later params trace answered precise = record {
   params = p;
   trace = t;

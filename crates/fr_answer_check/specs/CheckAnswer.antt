@@ -1,13 +1,11 @@
 -- What each ending of a request to check a trace says.
-use Rattle.std.specs.Prelude.{◌≡◌, ℕ, ◌⊎◌, List, Some, Result, Ok, Err}
-use Rattle.fr_base.specs.Device.{IsFaulty, Rose, Shelved}
+use Rattle.std.specs.Prelude.{◌≡◌, ℕ, List, Result, Ok, Err}
+use Rattle.fr_base.specs.Device.{Shelved}
 use Rattle.fr_cluster.specs.Values.{Values}
 use Rattle.fr_params.specs.Files.{params_file}
 use Rattle.fr_records.specs.Kind.{AreBytes, Has, StopsAt}
-use Rattle.fr_records.specs.declared.kind.Stop.{Stop}
 use Rattle.fr_trace.specs.Files.{trace_file}
 use Rattle.fr_trace.specs.Trace.{TraceView}
-use Rattle.fr_trace.specs.declared.fault.TraceFault.{TraceFault}
 use Rattle.fr_verdict.specs.Answer.{IsAnswer}
 use Rattle.fr_verdict.specs.Precision.{KeepsItsPrecision}
 use Rattle.fr_verdict.specs.declared.unlawful.Unlawful.{Unlawful}
@@ -17,7 +15,7 @@ use Rattle.fr_ending.specs.declared.failure.Failure.TheVariants as failure
 use Rattle.fr_ending.specs.declared.status.Status.{Status}
 use Rattle.fr_ending.specs.declared.status.Status.TheVariants as status
 use Rattle.fr_ending.specs.Around.{Around}
-use Rattle.fr_ending.specs.Complete.{IsStatusOf}
+use Rattle.fr_ending.specs.TwoFiles.{AreBothTold, IsCompleteForBoth, OneOfBothDecides, StopsAfterParams, TwoFiles}
 use Rattle.fr_ending.specs.UnlawfulText.{unlawful_text}
 use Rattle.fr_text.specs.Pieces.{line}
 use Rattle.fr_answer_check.specs.VerdictText.{verdict_text}
@@ -33,7 +31,7 @@ check_names files = record { params = files.params.now; trace = files.trace.now 
 
 -- both files were loaded and are accepted, one against the other; the trace is that of a lawful and covered run, from its
 -- first double cycle in sync on its clocks keep within the precision, and this is the text of the verdict
-pub record IsChecked (names : CheckNames) (shelf : Shelved) (text : List ℕ) : Type 0 where
+pub record IsVerdictOf (names : CheckNames) (shelf : Shelved) (text : List ℕ) : Type 0 where
   pub params : Values
   pub trace : TraceView
   pub has_params : Has params_file shelf names.params params
@@ -42,12 +40,6 @@ pub record IsChecked (names : CheckNames) (shelf : Shelved) (text : List ℕ) : 
   pub answered : IsAnswer params trace (Ok verdict)
   pub precise : KeepsItsPrecision params trace verdict
   pub shown : text ≡ verdict_text params trace verdict
-
--- the parameters are accepted, and it stops at the trace
-pub record StopsAfterParams (names : CheckNames) (before after : Shelved) (stop : Stop TraceFault) : Type 0 where
-  pub params : Values
-  pub has_params : Has params_file before names.params params
-  pub stops : StopsAt (trace_file params) before after names.trace stop
 
 -- both files are accepted, and this is the first record that breaks a law, or the first gap
 pub record IsRejected (names : CheckNames) (shelf : Shelved) (why : Unlawful) : Type 0 where
@@ -66,7 +58,7 @@ pub record IsToldOf (names : CheckNames) (shelf : Shelved) (text : List ℕ) : T
 -- why it stops: at one of its files, of which the one before it is accepted, or since the trace does not pass
 abbrev pub StopsAtTrace : CheckNames → Shelved → Shelved → Failure → Type 0
 StopsAtTrace names before after (failure.Params stop) = StopsAt params_file before after names.params stop
-StopsAtTrace names before after (failure.Trace stop) = StopsAfterParams names before after stop
+StopsAtTrace names before after (failure.Trace stop) = StopsAfterParams trace_file names.params names.trace before after stop
 StopsAtTrace names before after (failure.Unlawful why) = IsRejected names before why
 StopsAtTrace names before after other = ⊥
 
@@ -76,43 +68,25 @@ check_files_until (Ok value) = 2
 check_files_until (Err (failure.Params stop)) = 1
 check_files_until (Err other) = 2
 
--- the bytes of the two files
-pub record CheckBytes : Type 0 where
-  pub params : List ℕ
-  pub trace : List ℕ
-
--- they are accepted, one against the other, and this is the answer to the trace
-pub record AreAnswered (bytes : CheckBytes) (answer : Result Verdict Unlawful) : Type 0 where
+-- the files are accepted, one against the other, and this is the answer to the trace
+pub record AreAnswered (bytes : TwoFiles) (answer : Result Verdict Unlawful) : Type 0 where
   pub params : Values
   pub trace : TraceView
   pub are_params : AreBytes params_file bytes.params params
-  pub are_trace : AreBytes (trace_file params) bytes.trace trace
+  pub are_trace : AreBytes (trace_file params) bytes.second trace
   pub answered : IsAnswer params trace answer
-
--- the parameters are accepted, and the trace decides
-pub record TraceDecides (bytes : CheckBytes) (answer : Status) : Type 0 where
-  pub params : Values
-  pub are_params : AreBytes params_file bytes.params params
-  pub decides : IsStatusOf (trace_file params) bytes.trace answer
 
 -- the status that the bytes define, or want of memory: the first file that is not accepted decides; where both are, the trace
 -- has a verdict, or a first record that breaks a law or a first gap
-abbrev pub IsCheckStatus : CheckBytes → Status → Type 0
+abbrev pub IsCheckStatus : TwoFiles → Status → Type 0
 IsCheckStatus bytes status.Done = (verdict : Verdict) × AreAnswered bytes (Ok verdict)
 IsCheckStatus bytes status.No = (why : Unlawful) × AreAnswered bytes (Err why)
-IsCheckStatus bytes other = IsStatusOf params_file bytes.params other ⊎ TraceDecides bytes other
+IsCheckStatus bytes other = OneOfBothDecides trace_file bytes other
 
 -- a shelf tells the bytes of the files
-pub record AreTold (names : CheckNames) (shelf : Shelved) (bytes : CheckBytes) : Type 0 where
-  pub params : shelf.held names.params ≡ Some bytes.params
-  pub trace : shelf.held names.trace ≡ Some bytes.trace
-
--- no fault of a file was counted, and none of the first sink
-pub record AreFaultless (names : CheckNames) (around : Around) : Type 0 where
-  pub params : IsFaulty around.shelf_before around.shelf_after names.params → ⊥
-  pub trace : IsFaulty around.shelf_before around.shelf_after names.trace → ⊥
-  pub written : Rose around.out_before.faults around.out_after.faults → ⊥
+abbrev pub AreCheckTold : CheckNames → Shelved → TwoFiles → Type 0
+AreCheckTold names = AreBothTold names.params names.trace
 
 -- the status is one that the bytes of the files define
 abbrev pub IsCheckComplete : CheckNames → Around → Status → Type 0
-IsCheckComplete names around answer = (bytes : CheckBytes) → AreTold names around.shelf_before bytes → AreFaultless names around → IsCheckStatus bytes answer
+IsCheckComplete names = IsCompleteForBoth IsCheckStatus names.params names.trace

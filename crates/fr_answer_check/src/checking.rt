@@ -1,7 +1,7 @@
 ghost use Rattle.std.specs.Prelude.{◌≡◌, ◌+◌, ◌≤◌};
 ghost use Rattle.fr_ending.specs.Around.{TextEnds};
 ghost use Rattle.fr_ending.specs.Failure.{EndingWritesNothing};
-ghost use Rattle.fr_answer_check.specs.CheckAnswer.{IsChecked, StopsAtTrace, check_files_until, check_names};
+ghost use Rattle.fr_answer_check.specs.CheckAnswer.{IsVerdictOf, StopsAtTrace, check_files_until, check_names};
 
 use crate::files::CheckFiles;
 use crate::printing::print;
@@ -24,8 +24,9 @@ pub fn answer<S: Shelf, O: Sink>(
     shelf: &mut S,
     out: &mut O,
 ) -> Result<(), Failure>
-    ensures ends { TextEnds (IsChecked (check_names files.entry) (S.state shelf.old))
-        (StopsAtTrace (check_names files.entry) (S.state shelf.old) (S.state shelf.new)) (O.state out.old) (O.state out.new) result }
+    ensures ends { TextEnds (IsVerdictOf (check_names files.entry) (S.state shelf.old))
+        (StopsAtTrace (check_names files.entry) (S.state shelf.old) (S.state shelf.new))
+        (O.state out.old) (O.state out.new) result }
     ensures loads { (S.state shelf.new).loads ≤ (S.state shelf.old).loads + check_files_until result }
     ensures unwritten { EndingWritesNothing result → out.new ≡ out.old }
 {

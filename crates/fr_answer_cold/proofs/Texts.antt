@@ -11,7 +11,7 @@ use Rattle.fr_cold.specs.Questions.{end_of, switches_of}
 use Rattle.fr_cold.specs.Leads.{leads_of}
 use Rattle.fr_startup.specs.Laws.{IsNumber}
 use Rattle.fr_cold.specs.declared.cold.Lead.{Lead}
-use Rattle.fr_answer_cold.specs.ColdText.{apart_in, cold_text, head_text, does_any_lead, found_or, is_apart, lead_line, lead_text, leading_line, leading_lines, leading_text, lines_or_none, one_more, pair_in, paired_or, starters_up_to}
+use Rattle.fr_answer_cold.specs.ColdText.{least_apart, cold_text, startup_head, does_any_lead, first_or, are_apart, lead_line, lead_text, leading_line, leading_lines, leading_text, lines_or_none, one_more, pair_in, paired_or, starters_up_to}
 
 -- counting
 pub starters-none : (p : Values) → starters_up_to p 0 ≡ 0
@@ -27,23 +27,23 @@ starters-more p (suc n) count some e =
     ap (one_more (is_starter p (suc n))) (e ∙ ap (λ (k : ℕ). starters_up_to p k) here) ∙ ap (λ (k : ℕ). starters_up_to p k) (sym next)
 
 -- looking for two nodes that are apart
-pub apart-not : (p : Values) (a n : ℕ) → n ≤ 64 → is_apart p a n ≡ false → apart_in p a n (65 - n) ≡ apart_in p a (n + 1) (65 - (n + 1))
-unfolding apart_in
+pub apart-not : (p : Values) (a n : ℕ) → n ≤ 64 → are_apart p a n ≡ false → least_apart p a n (65 - n) ≡ least_apart p a (n + 1) (65 - (n + 1))
+unfolding least_apart
 apart-not p a n few e =
     let more : 65 - n ≡ suc (64 - n) = omega arith in
     let next : n + 1 ≡ suc n = omega arith in
     let left : 65 - suc n ≡ 64 - n = omega arith in
     rw (more, e, next, left) refl
 
-pub apart-found : (p : Values) (a n : ℕ) → n ≤ 64 → is_apart p a n ≡ true → apart_in p a n (65 - n) ≡ Some n
-unfolding apart_in
+pub apart-found : (p : Values) (a n : ℕ) → n ≤ 64 → are_apart p a n ≡ true → least_apart p a n (65 - n) ≡ Some n
+unfolding least_apart
 apart-found p a n few e = let more : 65 - n ≡ suc (64 - n) = omega arith in rw (more, e) refl
 
-pub apart-over : (p : Values) (a n : ℕ) → 65 ≤ n → apart_in p a n (65 - n) ≡ None
-unfolding apart_in
+pub apart-over : (p : Values) (a n : ℕ) → 65 ≤ n → least_apart p a n (65 - n) ≡ None
+unfolding least_apart
 apart-over p a n past = let none : 65 - n ≡ 0 = omega arith in rw none refl
 
-pub pair-not : (p : Values) (n : ℕ) → n ≤ 64 → apart_in p n (suc n) (64 - n) ≡ None → pair_in p n (65 - n) ≡ pair_in p (n + 1) (65 - (n + 1))
+pub pair-not : (p : Values) (n : ℕ) → n ≤ 64 → least_apart p n (suc n) (64 - n) ≡ None → pair_in p n (65 - n) ≡ pair_in p (n + 1) (65 - (n + 1))
 unfolding pair_in
 pair-not p n few e =
     let more : 65 - n ≡ suc (64 - n) = omega arith in
@@ -51,7 +51,7 @@ pair-not p n few e =
     let left : 65 - suc n ≡ 64 - n = omega arith in
     rw (more, e, next, left) refl
 
-pub pair-found : (p : Values) (n other : ℕ) → n ≤ 64 → apart_in p n (suc n) (64 - n) ≡ Some other → pair_in p n (65 - n) ≡ Some (n, other)
+pub pair-found : (p : Values) (n other : ℕ) → n ≤ 64 → least_apart p n (suc n) (64 - n) ≡ Some other → pair_in p n (65 - n) ≡ Some (n, other)
 unfolding pair_in
 pair-found p n other few e = let more : 65 - n ≡ suc (64 - n) = omega arith in rw (more, e) refl
 
@@ -118,7 +118,7 @@ unfolding leading_text
 leading-none states e = rw e refl
 
 -- the whole text by its parts
-pub whole-text : (p : Values) (v : PowerView) (head : List ℕ) (leads : List Lead) (states : States) → head ≡ head_text p v → leads ≡ leads_of p v
+pub whole-text : (p : Values) (v : PowerView) (head : List ℕ) (leads : List Lead) (states : States) → head ≡ startup_head p v → leads ≡ leads_of p v
     → ((j : ℕ) → IsNumber j → states j ≡ states_at p (switches_of p v) (end_of p v) j) → head ++ (lead_text leads ++ leading_text states) ≡ cold_text p v
 unfolding cold_text
 whole-text p v head leads states h l e = λ i. h i ++ (lead_text (l i) ++ leading-same states (states_at p (switches_of p v) (end_of p v)) e i)

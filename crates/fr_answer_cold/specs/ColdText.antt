@@ -22,18 +22,18 @@ starters_up_to p zero = 0
 starters_up_to p (suc n) = one_more (is_starter p (suc n)) (starters_up_to p n)
 
 -- two coldstart nodes that share no channel
-abbrev pub is_apart : Values → ℕ → ℕ → Bool
-is_apart p a b = is_starter p a && (is_starter p b && not (is_sharing p a b))
+abbrev pub are_apart : Values → ℕ → ℕ → Bool
+are_apart p a b = is_starter p a && (is_starter p b && not (is_sharing p a b))
 
 -- an answer, where there is one, or another
-abbrev pub found_or : {A : Type 0} → Bool → A → Option A → Option A
-found_or true found other = Some found
-found_or false found other = other
+abbrev pub first_or : {A : Type 0} → Bool → A → Option A → Option A
+first_or true found other = Some found
+first_or false found other = other
 
 -- of so many nodes from one on, the least that is apart from a node
-unfoldable pub apart_in : Values → ℕ → ℕ → ℕ → Option ℕ
-apart_in p a b zero = None
-apart_in p a b (suc n) = found_or (is_apart p a b) b (apart_in p a (suc b) n)
+unfoldable pub least_apart : Values → ℕ → ℕ → ℕ → Option ℕ
+least_apart p a b zero = None
+least_apart p a b (suc n) = first_or (are_apart p a b) b (least_apart p a (suc b) n)
 
 -- of so many nodes from one on, the least that is apart from a later one, and the least such
 abbrev pub paired_or : ℕ → Option ℕ → Option (ℕ × ℕ) → Option (ℕ × ℕ)
@@ -42,7 +42,7 @@ paired_or a None other = other
 
 unfoldable pub pair_in : Values → ℕ → ℕ → Option (ℕ × ℕ)
 pair_in p a zero = None
-pair_in p a (suc n) = paired_or a (apart_in p a (suc a) (64 - a)) (pair_in p (suc a) n)
+pair_in p a (suc n) = paired_or a (least_apart p a (suc a) (64 - a)) (pair_in p (suc a) n)
 
 -- whether every two coldstart nodes share a channel, or the least two that do not
 abbrev pub connected_line : Option (ℕ × ℕ) → List ℕ
@@ -53,8 +53,8 @@ connected_line (Some pair) = line (codes "connected no " ++ decimal pair.0 ++ co
 abbrev pub counts_line : Values → PowerView → List ℕ
 counts_line p v = line (codes "coldstart " ++ decimal (starters_up_to p 64) ++ codes " cycles " ++ decimal (cycles_of v))
 
-abbrev pub head_text : Values → PowerView → List ℕ
-head_text p v = counts_line p v ++ connected_line (pair_in p 1 64)
+abbrev pub startup_head : Values → PowerView → List ℕ
+startup_head p v = counts_line p v ++ connected_line (pair_in p 1 64)
 
 -- a begin of leading, and all of them
 abbrev pub lead_line : Lead → List ℕ
@@ -88,7 +88,7 @@ leading_text states = lines_or_none (does_any_lead states 64) (leading_lines sta
 
 -- the text: the nodes and cycles, the begins of leading by time and then by node, and who leads at the end
 unfoldable pub cold_text : Values → PowerView → List ℕ
-cold_text p v = head_text p v ++ (lead_text (leads_of p v) ++ leading_text (states_at p (switches_of p v) (end_of p v)))
+cold_text p v = startup_head p v ++ (lead_text (leads_of p v) ++ leading_text (states_at p (switches_of p v) (end_of p v)))
 
 -- a startup stands at the end of its run
 pub record IsAtEnd (p : Values) (v : PowerView) (c : ColdView) : Type 0 where

@@ -24,7 +24,8 @@ pub fn answer<S: Shelf, O: Sink>(
     out: &mut O,
 ) -> Result<(), Failure>
     ensures ends { TextEnds (IsColdRun (cold_names files.entry) (S.state shelf.old))
-        (StopsAtPower (cold_names files.entry) (S.state shelf.old) (S.state shelf.new)) (O.state out.old) (O.state out.new) result }
+        (StopsAtPower (cold_names files.entry) (S.state shelf.old) (S.state shelf.new))
+        (O.state out.old) (O.state out.new) result }
     ensures loads { (S.state shelf.new).loads ≤ (S.state shelf.old).loads + cold_files_until result }
     ensures unwritten { EndingWritesNothing result → out.new ≡ out.old }
 {

@@ -1,6 +1,6 @@
 ghost use Rattle.std.specs.Prelude.{◌≡◌, ◌≤◌, ◌-◌, suc};
 ghost use Rattle.fr_startup.specs.Cluster.{is_starter};
-ghost use Rattle.fr_answer_cold.specs.ColdText.{apart_in, is_apart, one_more, pair_in, starters_up_to};
+ghost use Rattle.fr_answer_cold.specs.ColdText.{least_apart, are_apart, one_more, pair_in, starters_up_to};
 
 use fr_base::{Channel, NodeId};
 use fr_cluster::Params;
@@ -48,7 +48,7 @@ pub(crate) fn first_apart(params: &Params) -> Option<(NodeId, NodeId)>
 
 // The least node after one that is apart from it.
 fn apart_after(params: &Params, node: NodeId) -> Option<NodeId>
-    ensures { result ≡ apart_in params.now node (suc node) (64 - node) }
+    ensures { result ≡ least_apart params.now node (suc node) (64 - node) }
 {
     for number in node.0 + 1..65 {
         let other = NodeId(number);
@@ -60,7 +60,7 @@ fn apart_after(params: &Params, node: NodeId) -> Option<NodeId>
 }
 
 fn are_apart(params: &Params, a: NodeId, b: NodeId) -> bool
-    ensures { result ≡ is_apart params.now a b }
+    ensures { result ≡ are_apart params.now a b }
 {
     is_starter(params, a)
         && is_starter(params, b)

@@ -3,7 +3,7 @@ ghost use Rattle.fr_cluster.specs.Values.{Values};
 ghost use Rattle.fr_cold.specs.Files.{PowerFits};
 ghost use Rattle.fr_cold.specs.View.{PowerView};
 ghost use Rattle.fr_ending.specs.Decided.{IsDecided};
-ghost use Rattle.fr_answer_cold.specs.ColdAnswer.{AreTold, IsColdRun};
+ghost use Rattle.fr_answer_cold.specs.ColdAnswer.{AreColdTold, IsColdRun};
 ghost use Rattle.fr_answer_cold.specs.ColdText.{IsColdText, cold_text};
 
 use fr_cold::switched_on_once;
@@ -22,7 +22,7 @@ pub fn a_startup_has_one_leader()
 /// A law: the bytes of the files decide what is written. Two texts that the answer's clause allows for files
 /// of the same bytes are the same.
 pub fn files_decide_the_leaders()
-    ensures { IsDecided AreTold IsColdRun }
+    ensures { IsDecided AreColdTold IsColdRun }
 {
     fr_params::one_answer();
     fr_cold::one_answer();

@@ -3,7 +3,7 @@ ghost use Rattle.fr_base.specs.Device.{Puts};
 ghost use Rattle.fr_text.specs.Lines.{joined_lines};
 ghost use Rattle.fr_startup.specs.Node.{is_leading};
 ghost use Rattle.fr_cold.specs.Cold.{StandsForStartup, rest_of, state_in};
-ghost use Rattle.fr_answer_cold.specs.ColdText.{IsAtEnd, cold_text, connected_line, counts_line, does_any_lead, head_text, lead_line, lead_text, leading_line, leading_lines, leading_text};
+ghost use Rattle.fr_answer_cold.specs.ColdText.{IsAtEnd, cold_text, connected_line, counts_line, does_any_lead, startup_head, lead_line, lead_text, leading_line, leading_lines, leading_text};
 
 use crate::connected::{first_apart, starter_count};
 use fr_base::{NodeId, PutFault, Sink};
@@ -24,7 +24,7 @@ pub(crate) fn print<O: Sink>(params: &Params, power: &Power, out: &mut O) -> Res
 
 // How many coldstart nodes and cycles there are, and whether every two of the nodes share a channel.
 fn head(params: &Params, power: &Power) -> [Option<Line>; 2]
-    ensures { joined_lines result ≡ head_text params.now power.now }
+    ensures { joined_lines result ≡ startup_head params.now power.now }
 {
     [
         Some(counts(params, power)),
@@ -120,7 +120,8 @@ fn either(first: bool, second: bool) -> bool
 fn put_each_leading<O: Sink>(cold: &Cold, number: u8, out: &mut O) -> Result<(), PutFault>
     requires from { 1 ≤ number }
     requires to { number ≤ 65 }
-    ensures { Puts result (O.state out.old) (O.state out.new) (leading_lines (state_in cold.now.states) number (65 - number)) }
+    ensures { Puts result (O.state out.old) (O.state out.new)
+        (leading_lines (state_in cold.now.states) number (65 - number)) }
 {
     if number > 64 {
         return Ok(());
@@ -130,7 +131,8 @@ fn put_each_leading<O: Sink>(cold: &Cold, number: u8, out: &mut O) -> Result<(),
 }
 
 fn put_if_leading<O: Sink>(cold: &Cold, node: NodeId, out: &mut O) -> Result<(), PutFault>
-    ensures { Puts result (O.state out.old) (O.state out.new) (leading_line (is_leading (state_in cold.now.states node)) node) }
+    ensures { Puts result (O.state out.old) (O.state out.new)
+        (leading_line (is_leading (state_in cold.now.states node)) node) }
 {
     if cold.leads(node) {
         put_lines(

@@ -23,7 +23,8 @@ pub fn answer<S: Shelf, O: Sink>(
     out: &mut O,
 ) -> Result<(), Failure>
     ensures ends { TextEnds (IsLineOf channel file.now (S.state shelf.old))
-        (StopsAtFrame channel file.now (S.state shelf.old) (S.state shelf.new)) (O.state out.old) (O.state out.new) result }
+        (StopsAtFrame channel file.now (S.state shelf.old) (S.state shelf.new))
+        (O.state out.old) (O.state out.new) result }
     ensures loads { (S.state shelf.new).loads ≤ (S.state shelf.old).loads + 1 }
     ensures unwritten { EndingWritesNothing result → out.new ≡ out.old }
 {

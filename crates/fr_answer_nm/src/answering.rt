@@ -23,7 +23,8 @@ pub fn answer<S: Shelf, O: Sink>(
     requires from { 1 ≤ width }
     requires to { width ≤ 12 }
     ensures ends { TextEnds (AreVectorsOf width file.now (S.state shelf.old))
-        (StopsAtVectors width file.now (S.state shelf.old) (S.state shelf.new)) (O.state out.old) (O.state out.new) result }
+        (StopsAtVectors width file.now (S.state shelf.old) (S.state shelf.new))
+        (O.state out.old) (O.state out.new) result }
     ensures loads { (S.state shelf.new).loads ≤ (S.state shelf.old).loads + 1 }
     ensures unwritten { EndingWritesNothing result → out.new ≡ out.old }
 {

@@ -1,4 +1,3 @@
 pub mod Decided
-pub mod Ended
 pub mod Figures
 pub mod MadeEnded

@@ -1,5 +1,4 @@
 -- what the public contract cites
-pub mod Names
 pub mod RunAnswer
 pub mod RunText
 pub mod MakeAnswer

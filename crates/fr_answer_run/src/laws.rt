@@ -8,7 +8,8 @@ ghost use Rattle.fr_history.specs.Next.{whole_history};
 ghost use Rattle.fr_promise.specs.Files.{IsPrecise};
 ghost use Rattle.fr_ending.specs.Decided.{IsDecided};
 ghost use Rattle.fr_answer_run.specs.MakeAnswer.{OneMadeReport};
-ghost use Rattle.fr_answer_run.specs.RunAnswer.{AreTold, IsRunReport};
+ghost use Rattle.fr_run_files.specs.Statuses.{AreTold};
+ghost use Rattle.fr_answer_run.specs.RunAnswer.{IsRunReport};
 ghost use Rattle.fr_answer_run.specs.RunText.{IsRunText, run_text};
 
 use fr_coverage::{covered_run_has_no_gap, found_gap_is_first};

@@ -1,6 +1,5 @@
 ghost use Rattle.std.specs.Prelude.{◌≡◌, IfErr, IfOk};
-ghost use Rattle.fr_drift.specs.Rows.{IsProperCount};
-ghost use Rattle.fr_generator.specs.Generated.{IsGenerated};
+ghost use Rattle.fr_generator.specs.Generated.{IsGenerated, IsMadeCount};
 ghost use Rattle.fr_ending.specs.Around.{TextEnds};
 ghost use Rattle.fr_ending.specs.Failure.{EndingWritesNothing};
 ghost use Rattle.fr_ending.specs.declared.failure.Failure.TheVariants as failure;
@@ -24,7 +23,7 @@ pub fn answer_made<O: Sink>(
     doubles: u32,
     out: &mut O,
 ) -> Result<(), Failure>
-    requires { IsProperCount doubles }
+    requires { IsMadeCount doubles }
     ensures ends { TextEnds (IsMadeReport seed doubles) StopsMaking (O.state out.old) (O.state out.new) result }
     ensures unwritten { EndingWritesNothing result → out.new ≡ out.old }
 {
@@ -38,9 +37,10 @@ pub fn answer_made<O: Sink>(
 
 // The world of a seed, before its first cycle.
 fn made_world(alloc: Global, seed: u32, doubles: u32) -> Result<World, Failure>
-    requires { IsProperCount doubles }
+    requires { IsMadeCount doubles }
     ensures fresh { IfOk result (λ world. world.cycles ≡ 0) }
-    ensures made { IfOk result (λ world. IsGenerated seed doubles (record { params = world.params; drift = world.drift; script = world.script })) }
+    ensures made { IfOk result (λ world.
+        IsGenerated seed doubles (record { params = world.params; drift = world.drift; script = world.script })) }
     ensures failed { IfErr result (λ why. why ≡ failure.NoMemory) }
 {
     let Ok(made) = generate(alloc, seed, doubles) else {
@@ -59,7 +59,8 @@ fn made_world(alloc: Global, seed: u32, doubles: u32) -> Result<World, Failure>
 
 // The text of a world's run is the report of its one lawful history.
 fn report_is_lawful(world: &World)
-    ensures { IsRunText world.now.params world.now.drift world.now.script (run_text world.now.params world.now.drift world.now.script) }
+    ensures { IsRunText world.now.params world.now.drift world.now.script
+        (run_text world.now.params world.now.drift world.now.script) }
 {
     a_run_is_lawful();
     let _ = world.params();

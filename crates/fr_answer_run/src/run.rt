@@ -1,19 +1,15 @@
-ghost use Rattle.std.specs.Prelude.{◌≡◌, ◌+◌, ◌≤◌, IfOk, IfErr};
+ghost use Rattle.std.specs.Prelude.{◌≡◌, ◌+◌, ◌≤◌};
 ghost use Rattle.fr_ending.specs.Around.{TextEnds, files_until};
 ghost use Rattle.fr_ending.specs.Failure.{EndingWritesNothing};
-ghost use Rattle.fr_answer_run.specs.Names.{names_of};
-ghost use Rattle.fr_answer_run.specs.RunAnswer.{HaveFiles, IsRunReport, StopsAtFile};
+ghost use Rattle.fr_run_files.specs.Files.{StopsAtFile};
+ghost use Rattle.fr_run_files.specs.Names.{names_of};
+ghost use Rattle.fr_answer_run.specs.RunAnswer.{IsRunReport};
 
-use crate::files::RunFiles;
 use crate::laws::a_run_is_lawful;
 use crate::playing::play;
 use fr_base::{Shelf, Sink};
-use fr_drift::DriftFile;
 use fr_ending::Failure;
-use fr_params::ParamsFile;
-use fr_records::accepted;
-use fr_script::ScriptFile;
-use fr_world::{BuildFault, World};
+use fr_run_files::{RunFiles, world_of};
 use std::alloc::Global;
 
 /// Reads the three files, one after the other, runs the cluster that they decide, and writes the report. Each
@@ -27,7 +23,8 @@ pub fn answer<S: Shelf, O: Sink>(
     out: &mut O,
 ) -> Result<(), Failure>
     ensures ends { TextEnds (IsRunReport (names_of files.entry) (S.state shelf.old))
-        (StopsAtFile (names_of files.entry) (S.state shelf.old) (S.state shelf.new)) (O.state out.old) (O.state out.new) result }
+        (StopsAtFile (names_of files.entry) (S.state shelf.old) (S.state shelf.new))
+        (O.state out.old) (O.state out.new) result }
     ensures loads { (S.state shelf.new).loads ≤ (S.state shelf.old).loads + files_until result }
     ensures unwritten { EndingWritesNothing result → out.new ≡ out.old }
 {
@@ -36,23 +33,5 @@ pub fn answer<S: Shelf, O: Sink>(
     match play(&mut world, out) {
         Ok(()) => Ok(()),
         Err(_) => Err(Failure::WriteFault),
-    }
-}
-
-// The world of the three files, before its first cycle. Each file is loaded once those before it are
-// accepted.
-fn world_of<S: Shelf>(alloc: Global, files: RunFiles<'_>, shelf: &mut S) -> Result<World, Failure>
-    ensures fresh { IfOk result (λ world. world.cycles ≡ 0) }
-    ensures files { IfOk result (λ world.
-        HaveFiles (S.state shelf.old) (names_of files.entry) world.params world.drift world.script) }
-    ensures stops { IfErr result (StopsAtFile (names_of files.entry) (S.state shelf.old) (S.state shelf.new)) }
-    ensures loads { (S.state shelf.new).loads ≤ (S.state shelf.old).loads + files_until result }
-{
-    let params = accepted(alloc, &ParamsFile {}, files.params, shelf)?;
-    let drift = accepted(alloc, &DriftFile { params: &params }, files.drift, shelf)?;
-    let script = accepted(alloc, &ScriptFile { params: &params }, files.script, shelf)?;
-    match World::build(alloc, params, drift, script) {
-        Ok(world) => Ok(world),
-        Err(BuildFault::NoMemory) => Err(Failure::NoMemory),
     }
 }

@@ -4,8 +4,9 @@ use Rattle.std.specs.Prelude.{String, get_or}
 use Rattle.std.specs.String.{string_bytes}
 use Rattle.std.specs.declared.alloc.Global.{Global}
 use Rattle.std.proofs.lemmas.List.{length-map}
-use Rattle.fr_answer_run.specs.Names.{RunNames}
-use Rattle.fr_answer_series.specs.Request.{AsksSeries, texts}
+use Rattle.fr_run_files.specs.Names.{RunNames}
+use Rattle.fr_ending.specs.Program.{texts}
+use Rattle.fr_answer_series.specs.Request.{AsksSeries}
 
 three : (words : List (String Global)) (names : RunNames) → AsksSeries (texts words) names → length words ≡ 3
 three words names asks = sym (length-map words string_bytes) ∙ ap length asks

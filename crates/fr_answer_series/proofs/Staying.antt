@@ -31,7 +31,7 @@ use Rattle.fr_skew.specs.Spreads.{spread_at}
 use Rattle.fr_series.specs.Figures.{above_from, figures_of, lost_of}
 use Rattle.fr_series.specs.Scale.{first_above}
 use Rattle.fr_series.proofs.Above.{none_above}
-use Rattle.fr_answer_series.specs.SeriesAnswer.{StaysInSync}
+use Rattle.fr_answer_series.specs.SeriesAnswer.{TellsInSync}
 
 -- ---- within the precision
 
@@ -98,7 +98,7 @@ last_synced x (odd ∷ even ∷ t) first covered lawful whole sync =
 
 stays_by : CoveredFilesAreCovered → FilesKeepPrecision → (p : Values) (d : DriftView) (s : ScriptView) (h : History) (double : ℕ)
     → IsSane p → DriftFits p d → first_gap p d s ≡ None → IsLawful (setting_of p d s) h → length h ≡ 2 * doubles_of d → IsInSyncAt p h double
-    → (found : Option ℕ) → first_sync_of p h ≡ found → StaysInSync p h
+    → (found : Option ℕ) → first_sync_of p h ≡ found → TellsInSync p h
 unfolding figures_of IsBelow
 stays_by covers keeps p d s h double sane fits none lawful whole sync None is = absurd (never_in_sync p h is double sync)
 stays_by covers keeps p d s h double sane fits none lawful whole sync (Some first) is =
@@ -109,6 +109,6 @@ stays_by covers keeps p d s h double sane fits none lawful whole sync (Some firs
     record { synced = rw lost refl; within = rw (is, above) refl }
 
 pub stays_in_sync : CoveredFilesAreCovered → FilesKeepPrecision → (p : Values) (d : DriftView) (s : ScriptView) (h : History) (double : ℕ)
-    → IsSane p → DriftFits p d → first_gap p d s ≡ None → IsLawful (setting_of p d s) h → length h ≡ 2 * doubles_of d → IsInSyncAt p h double → StaysInSync p h
+    → IsSane p → DriftFits p d → first_gap p d s ≡ None → IsLawful (setting_of p d s) h → length h ≡ 2 * doubles_of d → IsInSyncAt p h double → TellsInSync p h
 stays_in_sync covers keeps p d s h double sane fits none lawful whole sync =
     stays_by covers keeps p d s h double sane fits none lawful whole sync (first_sync_of p h) refl

@@ -12,12 +12,12 @@ use Rattle.fr_history.specs.Lawful.{IsLawful}
 use Rattle.fr_history.specs.Sync.{IsInSyncAt}
 use Rattle.fr_series.specs.Figures.{figures_of}
 use Rattle.fr_series.specs.Text.{above_text, series_of, synced_text, within_text}
-use Rattle.fr_answer_run.specs.Names.{RunNames}
-use Rattle.fr_answer_run.specs.RunAnswer.{HaveFiles}
+use Rattle.fr_run_files.specs.Files.{IsOfRun}
+use Rattle.fr_run_files.specs.Names.{RunNames}
 
 -- what is told at the end of a history that kept its precision since it came into sync: the last double cycle is in sync,
 -- and the skew stayed within the precision
-pub record StaysInSync (params : Values) (h : History) : Type 0 where
+pub record TellsInSync (params : Values) (h : History) : Type 0 where
   pub synced : synced_text (figures_of params h).lost ≡ synced_text None
   pub within : within_text (figures_of params h).synced (figures_of params h).above ≡ above_text None
 
@@ -28,12 +28,8 @@ pub record IsSeriesText (params : Values) (drift : DriftView) (script : ScriptVi
   pub lawful : IsLawful (setting_of params drift script) history
   pub whole : length history ≡ 2 * doubles_of drift
   pub shown : text ≡ series_of params history
-  pub stays : first_gap params drift script ≡ None → (double : ℕ) → IsInSyncAt params history double → StaysInSync params history
+  pub stays : first_gap params drift script ≡ None → (double : ℕ) → IsInSyncAt params history double → TellsInSync params history
 
 -- the files are accepted, and this is the series of the run that they decide
-pub record IsRunSeries (names : RunNames) (shelf : Shelved) (text : List ℕ) : Type 0 where
-  pub params : Values
-  pub drift : DriftView
-  pub script : ScriptView
-  pub files : HaveFiles shelf names params drift script
-  pub shown : IsSeriesText params drift script text
+abbrev pub IsRunSeries : RunNames → Shelved → List ℕ → Type 0
+IsRunSeries = IsOfRun IsSeriesText

@@ -11,9 +11,9 @@ ghost use Rattle.fr_history.specs.History.{History};
 ghost use Rattle.fr_history.specs.Lawful.{IsLawful};
 ghost use Rattle.fr_history.specs.Sync.{IsInSyncAt};
 ghost use Rattle.fr_ending.specs.Decided.{IsDecided};
-ghost use Rattle.fr_answer_run.specs.RunAnswer.{AreTold};
+ghost use Rattle.fr_run_files.specs.Statuses.{AreTold};
 ghost use Rattle.fr_series.specs.Text.{series_text};
-ghost use Rattle.fr_answer_series.specs.SeriesAnswer.{IsRunSeries, IsSeriesText, StaysInSync};
+ghost use Rattle.fr_answer_series.specs.SeriesAnswer.{IsRunSeries, IsSeriesText, TellsInSync};
 
 use fr_history::one_lawful_history;
 use fr_promise::{covered_files_are_covered, files_keep_precision};
@@ -47,7 +47,7 @@ pub fn files_decide_the_series()
 pub fn a_covered_run_stays_in_sync()
     ensures { (p : Values) (d : DriftView) (s : ScriptView) (h : History) (double : ℕ) →
         IsSane p → DriftFits p d → first_gap p d s ≡ None →
-        IsLawful (setting_of p d s) h → length h ≡ 2 * doubles_of d → IsInSyncAt p h double → StaysInSync p h }
+        IsLawful (setting_of p d s) h → length h ≡ 2 * doubles_of d → IsInSyncAt p h double → TellsInSync p h }
 {
     covered_files_are_covered();
     files_keep_precision();

@@ -1,18 +1,16 @@
 ghost use Rattle.std.specs.Prelude.{◌≡◌, ◌↔◌, ◌∷◌, [], Err, None, Some};
-ghost use Rattle.fr_text.specs.Pieces.{line};
 ghost use Rattle.fr_ending.specs.declared.failure.Failure.TheVariants.{Usage};
-ghost use Rattle.fr_ending.specs.Around.{IsLinePut, around_of};
+ghost use Rattle.fr_ending.specs.Around.{around_of};
 ghost use Rattle.fr_ending.specs.Failure.{EndingWritesNothing, WritesNothing};
-ghost use Rattle.fr_answer_run.specs.Names.{RunNames, names_of};
-ghost use Rattle.fr_answer_run.specs.RunAnswer.{IsRunComplete};
-ghost use Rattle.fr_answer_series.specs.Request.{AsksSeries, IsNoRequest, IsProgramAnswer, IsRequestOf, WordsEnd, texts, told_text};
+ghost use Rattle.fr_ending.specs.Program.{IsNoRequest, IsProgramAnswer, WordsEnd, texts};
+ghost use Rattle.fr_run_files.specs.Names.{RunNames, names_of};
+ghost use Rattle.fr_run_files.specs.Statuses.{IsRunComplete};
+ghost use Rattle.fr_answer_series.specs.Request.{AreFilesOf, AsksSeries, series_program};
 
 use crate::series;
-use fr_answer_run::RunFiles;
 use fr_base::{Shelf, Sink};
 use fr_ending::{Failure, Status};
-use fr_text::Piece::Word;
-use fr_text::{Line, line_of};
+use fr_run_files::RunFiles;
 use std::alloc::Global;
 
 /// Does what the words ask for, which are those after the program's name, the names of three files: loads these from
@@ -27,11 +25,11 @@ pub fn flexray_series<S: Shelf, O: Sink, E: Sink>(
 ) -> Status
     // Words that are no request, and no others, are answered Usage, whatever the shelf and the sinks do, and
     // nothing is loaded then.
-    ensures usage { (result ≡ Status.Usage) ↔ IsNoRequest (texts words.now) }
+    ensures usage { (result ≡ Status.Usage) ↔ IsNoRequest series_program (texts words.now) }
     ensures unread { result ≡ Status.Usage → shelf.new ≡ shelf.old }
 
     // What each status says of what was asked for, what was written, and the line of a failure.
-    ensures ends { IsProgramAnswer (texts words.now)
+    ensures ends { IsProgramAnswer series_program (texts words.now)
         (around_of (S.state shelf.old) (S.state shelf.new) (O.state out.old) (O.state out.new))
         (E.state err.old) (E.state err.new) result }
 
@@ -46,7 +44,7 @@ pub fn flexray_series<S: Shelf, O: Sink, E: Sink>(
     match answer(alloc, words, shelf, out) {
         Ok(()) => Status::Done,
         Err(failure) => {
-            tell(err, &failure);
+            failure.tell(b"usage: flexray-series PARAMS DRIFT SCRIPT", err);
             failure.status()
         }
     }
@@ -59,9 +57,9 @@ fn answer<S: Shelf, O: Sink>(
     shelf: &mut S,
     out: &mut O,
 ) -> Result<(), Failure>
-    ensures usage { (result ≡ Err Usage) → IsNoRequest (texts words.now) }
+    ensures usage { (result ≡ Err Usage) → IsNoRequest series_program (texts words.now) }
     ensures unread { result ≡ Err Usage → shelf.new ≡ shelf.old }
-    ensures ends { WordsEnd (texts words.now)
+    ensures ends { WordsEnd series_program (texts words.now)
         (around_of (S.state shelf.old) (S.state shelf.new) (O.state out.old) (O.state out.new)) result }
     ensures unwritten { EndingWritesNothing result → out.new ≡ out.old }
 {
@@ -74,7 +72,7 @@ fn answer<S: Shelf, O: Sink>(
 // Reads the words by position. It takes no memory.
 #[tactic(auto, using(crate::proofs::Requests::asks_not_short, crate::proofs::Requests::asks_not_long))]
 fn files_of(words: &[String]) -> Option<RunFiles<'_>>
-    ensures { IsRequestOf (texts words.now) result }
+    ensures { AreFilesOf (texts words.now) result }
 {
     match words {
         [params, drift, script] => Some(RunFiles {
@@ -83,22 +81,5 @@ fn files_of(words: &[String]) -> Option<RunFiles<'_>>
             script: script.as_str(),
         }),
         _ => None,
-    }
-}
-
-// Puts the line of the failure. What becomes of it changes nothing else.
-fn tell<E: Sink>(err: &mut E, failure: &Failure)
-    ensures { IsLinePut (E.state err.old) (E.state err.new) (line (told_text failure.now)) }
-{
-    let _ = err.put(line_told(failure).bytes());
-}
-
-// The line that says why, of this program.
-fn line_told(failure: &Failure) -> Line
-    ensures { result ≡ line (told_text failure.now) }
-{
-    match failure {
-        Failure::Usage => line_of(&[Word(b"usage: flexray-series PARAMS DRIFT SCRIPT")]),
-        other => other.line(),
     }
 }

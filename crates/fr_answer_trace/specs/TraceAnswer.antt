@@ -9,8 +9,8 @@ use Rattle.fr_script.specs.View.{ScriptView}
 use Rattle.fr_history.specs.History.{History}
 use Rattle.fr_history.specs.Lawful.{IsLawful}
 use Rattle.fr_trace.specs.Text.{text_of, trace_in}
-use Rattle.fr_answer_run.specs.Names.{RunNames}
-use Rattle.fr_answer_run.specs.RunAnswer.{HaveFiles}
+use Rattle.fr_run_files.specs.Files.{IsOfRun}
+use Rattle.fr_run_files.specs.Names.{RunNames}
 
 -- a text is that of the trace of a lawful history of that run over all its cycles: there is one such history and no other
 pub record IsTraceText (params : Values) (drift : DriftView) (script : ScriptView) (text : List ℕ) : Type 0 where
@@ -20,9 +20,5 @@ pub record IsTraceText (params : Values) (drift : DriftView) (script : ScriptVie
   pub shown : text ≡ text_of (trace_in (setting_of params drift script) history)
 
 -- the files are accepted, and this is the trace of the run that they decide
-pub record IsRunTrace (names : RunNames) (shelf : Shelved) (text : List ℕ) : Type 0 where
-  pub params : Values
-  pub drift : DriftView
-  pub script : ScriptView
-  pub files : HaveFiles shelf names params drift script
-  pub shown : IsTraceText params drift script text
+abbrev pub IsRunTrace : RunNames → Shelved → List ℕ → Type 0
+IsRunTrace = IsOfRun IsTraceText

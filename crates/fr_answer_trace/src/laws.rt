@@ -4,7 +4,7 @@ ghost use Rattle.fr_drift.specs.Files.{DriftFits};
 ghost use Rattle.fr_drift.specs.View.{DriftView};
 ghost use Rattle.fr_script.specs.View.{IsScript, ScriptView};
 ghost use Rattle.fr_ending.specs.Decided.{IsDecided};
-ghost use Rattle.fr_answer_run.specs.RunAnswer.{AreTold};
+ghost use Rattle.fr_run_files.specs.Statuses.{AreTold};
 ghost use Rattle.fr_trace.specs.Text.{trace_text};
 ghost use Rattle.fr_answer_trace.specs.TraceAnswer.{IsRunTrace, IsTraceText};
 

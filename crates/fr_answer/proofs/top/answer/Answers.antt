@@ -1,7 +1,8 @@
 use Rattle.std.proofs.Common.{◌+◌, ◌≤◌, subst}
 use Rattle.fr_answer.specs.Answer.{Ends, file_count}
 use Rattle.fr_ending.specs.Around.{Around, around_of}
-use Rattle.fr_answer.specs.Request.{Asked, asked_of, texts}
+use Rattle.fr_ending.specs.Program.{texts}
+use Rattle.fr_answer.specs.Request.{Asked, asked_of}
 use Rattle.fr_answer.proofs.Requests.{one_asked}
 use Rattle.fr_answer.proofs.top.answer.Goals as goal
 

@@ -1,8 +1,10 @@
-use Rattle.std.proofs.Common.{Ok, Err, subst, sym}
+use Rattle.std.proofs.Common.{◌∙◌, Ok, Err, ap, subst, sym}
 use Rattle.fr_ending.specs.declared.status.Status.{Status}
 use Rattle.fr_answer.specs.Answer.{IsDefinedBy}
 use Rattle.fr_ending.specs.Around.{Around, around_of}
+use Rattle.fr_ending.specs.Failure.{ending_status}
 use Rattle.fr_answer.proofs.Endings.{complete}
+use Rattle.fr_answer.proofs.Usages.{usage_alone}
 use Rattle.fr_answer.proofs.top.flexray.Goals as goal
 
 pub returns-in-Ok-clause-complete : goal.returns-in-Ok-clause-complete
@@ -13,3 +15,9 @@ returns-in-Err-clause-complete g c = λ asked asks.
     let around : Around = around_of (g.S.Shelf.state c.args.shelf.now) (g.S.Shelf.state c.answer.new.shelf) (g.O.Sink.state c.args.out.now) (g.O.Sink.state c.answer.new.out) in
     let P : Status → Type 0 = IsDefinedBy asked around in
     subst P (sym c.status.ensures) (complete asked around (Err c.in-Err.failure) (c.in-Err.ensures.ends.ends asked asks))
+
+pub returns-in-Err-clause-usage : goal.returns-in-Err-clause-usage
+returns-in-Err-clause-usage g c = (
+  (λ e. c.in-Err.ensures.usage (ap Err (usage_alone c.in-Err.failure (sym c.status.ensures ∙ e)))),
+  (λ none. c.status.ensures ∙ ap ending_status (c.in-Err.ensures.ends.none none)),
+)

@@ -1,7 +1,8 @@
 use Rattle.std.proofs.Common.{subst}
 use Rattle.fr_ending.specs.Around.{Around, around_of}
-use Rattle.fr_answer_run.specs.Names.{RunNames, names_of}
-use Rattle.fr_answer_series.specs.Request.{SeriesEnds, texts}
+use Rattle.fr_run_files.specs.Names.{RunNames, names_of}
+use Rattle.fr_ending.specs.Program.{texts}
+use Rattle.fr_answer_series.specs.Request.{SeriesEnds}
 use Rattle.fr_answer_series.proofs.Requests.{one_asked}
 use Rattle.fr_answer_series.proofs.top.answer.Goals as goal
 
