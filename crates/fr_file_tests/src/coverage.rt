@@ -136,13 +136,13 @@ const LARGEST_GAPS: &[(&str, &str, &str)] = &[
     ("", "", ""),
     (
         "",
-        "lose,19999,15,64,A,,\nlose,19998,15,64,B,,",
-        "link 15 64 9999",
+        "lose,199999,15,64,A,,\nlose,199998,15,64,B,,",
+        "link 15 64 99999",
     ),
     (
-        "length,64,19999,1000201,,",
-        "lose,19999,15,64,A,,\nlose,19998,15,64,B,,",
-        "length 64 19999 1000201",
+        "length,64,199999,1000201,,",
+        "lose,199999,15,64,A,,\nlose,199998,15,64,B,,",
+        "length 64 199999 1000201",
     ),
 ];
 
@@ -225,7 +225,7 @@ fn most_nodes(alloc: Global) -> Result<String, AllocError> {
 fn looks_through_the_largest_cluster(rt: HostRuntime) -> Result<(), Fail> {
     let params = params_of(rt.alloc(), &[], &most_nodes(rt.alloc())?)?;
     for (rows, script, want) in LARGEST_GAPS {
-        let drift = format!(in rt.alloc(); "doubles,10000,,,,\n{rows}")?;
+        let drift = format!(in rt.alloc(); "doubles,100000,,,,\n{rows}")?;
         let gap = gap_of(rt.alloc(), &params, &drift, script)?;
         assert_eq!(rt; gap.as_str(), *want, "at {rows:?} {script:?}");
     }

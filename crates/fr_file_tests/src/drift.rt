@@ -16,7 +16,7 @@ const RECORDS: &[&[u8]] = &[
     b"length,1,9,600000,,",
     b"length,1,4,700000,,",
     b"start,2,12,-81,,",
-    b"doubles,10000,,,,",
+    b"doubles,100000,,,,",
 ];
 
 // A further record, and the least reason for which it is refused, None where it is accepted.
@@ -35,7 +35,7 @@ const REASONS: &[(&[u8], Option<Reason>)] = &[
         Some(Reason::NotNumber),
     ),
     (b"doubles,0,,,,", Some(Reason::OutOfRange)),
-    (b"doubles,10001,,,,", Some(Reason::OutOfRange)),
+    (b"doubles,100001,,,,", Some(Reason::OutOfRange)),
     (b"start,9,0,82,,", Some(Reason::OutOfRange)),
     (b"start,1,0,-82,,", Some(Reason::OutOfRange)),
     (b"start,1,1000000000001,0,,", Some(Reason::OutOfRange)),
@@ -182,7 +182,7 @@ fn named(number: u8) -> NodeId {
 #[test]
 fn answers_what_the_file_says(rt: HostRuntime) -> Result<(), Fail> {
     let drift = drift_of(rt.alloc())?;
-    assert_eq!(rt; drift.doubles(), 10_000);
+    assert_eq!(rt; drift.doubles(), 100_000);
     assert_eq!(rt; (drift.start(NodeId(2)), drift.rate(NodeId(2))), (12, -81));
     assert_eq!(rt; (drift.start(NodeId(1)), drift.rate(NodeId(1))), (0, 0));
     Ok(())

@@ -22,8 +22,10 @@ mod startup;
 #[cfg(test)]
 mod trace;
 #[cfg(test)]
-mod typed;
+mod upgrades;
 #[cfg(test)]
 mod vectors;
 #[cfg(test)]
 mod verdict;
+#[cfg(test)]
+mod versions;

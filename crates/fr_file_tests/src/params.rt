@@ -157,7 +157,7 @@ const REASONS: &[(u64, &[u8], Option<Reason>)] = &[
     (6, b"param,gdNIT,\"800,,", Some(Reason::Shape)),
     (6, b" param,gdNIT,800,,", Some(Reason::UnknownName)),
     (6, b"param, gdNIT,800,,", Some(Reason::UnknownName)),
-    (6, b"version,2,,,", Some(Reason::UnknownName)),
+    (6, b"version,2,,,", Some(Reason::Role)),
     (6, b"param,gdNIT, 800,,", Some(Reason::NotNumber)),
     (6, b"param,gdNIT,800,,\r", None),
     (1, b"\xEF\xBB\xBFparam,gMacroPerCycle,5000,,", None),

@@ -37,7 +37,7 @@ const CHANGED: &[(usize, &str, Option<Reason>)] = &[
     ),
     (1, "cycle,0,1,,1,0,0,active", Some(Reason::NotNumber)),
     (0, "run,0,,,,,,", Some(Reason::OutOfRange)),
-    (0, "run,10001,,,,,,", Some(Reason::OutOfRange)),
+    (0, "run,100001,,,,,,", Some(Reason::OutOfRange)),
     (
         1,
         "cycle,0,1,900000000000000001,1000000,0,0,active",
@@ -75,10 +75,14 @@ const CHANGED: &[(usize, &str, Option<Reason>)] = &[
     (3, "dev,0,1,2,A,2,,", Some(Reason::Role)),
     (3, "cycle,1,2,0,1000000,0,0,active", Some(Reason::Role)),
     (8, "cycle,2,1,0,1000000,0,0,active", Some(Reason::Role)),
+    (8, "cycle,199999,1,0,1000000,0,0,active", Some(Reason::Role)),
     (0, "cycle,0,1,0,1000000,0,0,active", Some(Reason::Role)),
     (2, "dev,0,1,2,A,-1000000,,", None),
     (5, "cycle,1,1,007,1500000,-81,254,halt", None),
 ];
+
+// First records of a longer run than the rows are of, the longest last.
+const LONGER: &[&str] = &["run,2,,,,,,", "run,100000,,,,,,"];
 
 fn row(number: u64, reason: Reason) -> Option<TraceFault> {
     Some(TraceFault::Row { number, reason })
@@ -143,11 +147,14 @@ fn is_whole_with_its_last_row(rt: HostRuntime) -> Result<(), Fail> {
             "at {count}"
         );
     }
-    let longer = text_of(rt.alloc(), 9, 0, "run,2,,,,,,")?;
-    assert_eq!(rt;
-        fault_of(rt.alloc(), &params, longer.as_str()),
-        Some(TraceFault::Incomplete { rows: 9 })
-    );
+    for longer in LONGER {
+        let text = text_of(rt.alloc(), 9, 0, longer)?;
+        assert_eq!(rt;
+            fault_of(rt.alloc(), &params, text.as_str()),
+            Some(TraceFault::Incomplete { rows: 9 }),
+            "at {longer:?}"
+        );
+    }
     Ok(())
 }
 

@@ -1,9 +1,10 @@
 ghost use Rattle.std.specs.Prelude.{◌≡◌, All};
 ghost use Rattle.fr_base.specs.Timed.{IsTimed};
+ghost use Rattle.fr_bound.specs.Checks.{IsCheck};
 
-use fr_base::{NodeId, NodeRow, RowList, State};
-use fr_bound::{CheckSides, bounds, checks, side};
-use fr_cluster::Params;
+use fr_base::{Channel, NodeId, NodeRow, RowList, State};
+use fr_bound::{CheckSides, bounds, checks, join_checks, reach, side};
+use fr_cluster::{ParamName, Params};
 use fr_skew::in_sync;
 use std::alloc::Global;
 use std::test::Fail;
@@ -24,6 +25,68 @@ fn the_first_failing_check_is_named(rt: HostRuntime) -> Result<(), Fail> {
         (left, right, holds),
         (1_194_275_097_200, 1_262_718_000_000, false)
     );
+    Ok(())
+}
+
+// A compensation of one microtick on channel A, and of three on channel B.
+const COMPENSATED: &[(&str, &str)] = &[
+    (
+        "param,gMacroPerCycle",
+        "version,2,,,\nparam,gMacroPerCycle,5000,,",
+    ),
+    (
+        "param,pDelayCompensation",
+        "param,pDelayCompensationA,1,,\nparam,pDelayCompensationB,3,,",
+    ),
+];
+
+#[test]
+fn the_greater_compensation_decides(rt: HostRuntime) -> Result<(), Fail> {
+    let params = fr_samples::params_of(rt.alloc(), COMPENSATED, "node,1,1,A,1\n")?;
+    assert_eq!(rt; params.compensation(Channel::A), 1);
+    assert_eq!(rt; params.compensation(Channel::B), 3);
+    assert_eq!(rt; params.widest_compensation(), 3);
+    assert_eq!(rt; params.value(ParamName::pDelayCompensation), 3);
+    assert_eq!(rt; bounds(&params).precision, 252_084_400);
+    Ok(())
+}
+
+// A wider rate limit and offset limit, and a later action point, which leave room for nodes that join.
+fn wide_params_of(alloc: Global, action: &'static str) -> Result<Params, Fail> {
+    let offset = "param,pOffsetCorrectionOut";
+    let rate = "param,pRateCorrectionOut";
+    let changes = [
+        ("param,gdActionPointOffset", action),
+        (offset, "param,pOffsetCorrectionOut,454,,"),
+        (rate, "param,pRateCorrectionOut,84,,"),
+    ];
+    Ok(fr_samples::params_of(alloc, &changes, "node,1,1,A,1\n")?)
+}
+
+fn sides_of(params: &Params, number: u8) -> (i64, i64, bool)
+    requires { IsCheck number }
+{
+    let CheckSides { left, right, holds } = side(params, number);
+    (left, right, holds)
+}
+
+#[test]
+fn the_checks_of_nodes_that_join(rt: HostRuntime) -> Result<(), Fail> {
+    let params = wide_params_of(rt.alloc(), "param,gdActionPointOffset,12,,")?;
+    let rate = sides_of(&params, 6);
+    let offset = sides_of(&params, 7);
+    let front = sides_of(&params, 8);
+    let back = sides_of(&params, 9);
+    let early = wide_params_of(rt.alloc(), "param,gdActionPointOffset,11,,")?;
+    let early_front = sides_of(&early, 8);
+    assert_eq!(rt; reach(&params), 452_077_600);
+    assert_eq!(rt; join_checks(&params), Ok(()));
+    assert_eq!(rt; rate, (83_983_200, 83_000_400, true));
+    assert_eq!(rt; offset, (453_909_200, 453_577_800, true));
+    assert_eq!(rt; front, (2_393_513_201_600, 2_262_888_000_000, true));
+    assert_eq!(rt; back, (3_592_769_302_400, 2_262_888_000_000, true));
+    assert_eq!(rt; join_checks(&early), Err(8));
+    assert_eq!(rt; early_front, (2_193_637_184_800, 2_262_888_000_000, false));
     Ok(())
 }
 

@@ -18,6 +18,8 @@ mod frames;
 #[cfg(test)]
 mod lines;
 #[cfg(test)]
+mod listener;
+#[cfg(test)]
 mod lists;
 #[cfg(test)]
 mod midpoint;

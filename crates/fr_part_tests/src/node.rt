@@ -181,7 +181,7 @@ fn hears(
 }
 
 // Begins a cycle whose microticks are nominal.
-fn begin(params: &Params, node: &mut Node, cycle: u32)
+pub(crate) fn begin(params: &Params, node: &mut Node, cycle: u32)
     requires fits { NodeFits params.now node.old }
     requires next { CanBegin node.old cycle }
     ensures under_way { IsUnderWay params.now node.new }
@@ -345,22 +345,36 @@ fn halts_without_values(rt: HostRuntime) -> Result<(), Fail> {
     Ok(())
 }
 
-// A delay of 40 microticks that is taken off.
-const DELAYED: &[(&str, &str)] = &[("param,pDelayCompensation", "param,pDelayCompensation,40,,")];
+// A delay of 40 microticks that is taken off on both channels, and one that is taken off on channel B alone.
+const DELAYED: &[&[(&str, &str)]] = &[
+    &[("param,pDelayCompensation", "param,pDelayCompensation,40,,")],
+    &[
+        (
+            "param,gMacroPerCycle",
+            "version,2,,,\nparam,gMacroPerCycle,5000,,",
+        ),
+        (
+            "param,pDelayCompensation",
+            "param,pDelayCompensationA,7,,\nparam,pDelayCompensationB,40,,",
+        ),
+    ],
+];
 
 // A sync frame in slot 1 of cycle 0 on channel B, which is also a null frame.
 const SYNC_ON_B: &[u8] = b"\x18\x01\x00\x6F\x00\x71\x6B\x40";
 
 #[test]
 fn takes_off_the_delay(rt: HostRuntime) -> Result<(), Fail> {
-    let params = params_of(rt.alloc(), DELAYED, TWO_ON_BOTH)?;
-    let mut node = made(&params, 2, 0).ok_or("no node 2")?;
-    node.begin(0, 1_000_000);
-    let heard = hears(&params, &mut node, 1, Channel::B, 321_000_000, SYNC_ON_B);
-    let on_a = node.deviation(0, false, Channel::A);
-    let on_b = node.deviation(0, false, Channel::B);
-    assert_eq!(rt; heard, Some(Heard::Stored(1)));
-    assert_eq!(rt; (on_a, on_b), (None, Some(1)));
+    for delayed in DELAYED {
+        let params = params_of(rt.alloc(), delayed, TWO_ON_BOTH)?;
+        let mut node = made(&params, 2, 0).ok_or("no node 2")?;
+        node.begin(0, 1_000_000);
+        let heard = hears(&params, &mut node, 1, Channel::B, 321_000_000, SYNC_ON_B);
+        let on_a = node.deviation(0, false, Channel::A);
+        let on_b = node.deviation(0, false, Channel::B);
+        assert_eq!(rt; heard, Some(Heard::Stored(1)));
+        assert_eq!(rt; (on_a, on_b), (None, Some(1)));
+    }
     Ok(())
 }
 

@@ -97,6 +97,29 @@ fn sweeps_by_stretches_as_macrotick_by_macrotick(rt: HostRuntime) {
     }
 }
 
+// A ten thousandth slower, with the same terms.
+const LATER: NodeRow = NodeRow {
+    node: NodeId(2),
+    start: 700_000,
+    length: 1_000_100,
+    ..FIRST
+};
+
+// Where the terms are the same the clocks part by 1,000 ticks a macrotick all along, from 700,000 ticks on.
+#[test]
+fn sweeps_clocks_with_the_same_terms(rt: HostRuntime) {
+    let rows = [FIRST, LATER];
+    for (before, found) in [
+        (None, peak(1_099_000, 1, 399)),
+        (peak(1_098_999, 0, 5), peak(1_099_000, 1, 399)),
+        (peak(1_099_000, 0, 5), peak(1_099_000, 0, 5)),
+        (peak(1_100_000, 0, 5), peak(1_100_000, 0, 5)),
+    ] {
+        assert_eq!(rt; swept_through(&LONG, 1, &rows, before), found);
+        assert_eq!(rt; swept(&LONG, 1, &rows, before), found);
+    }
+}
+
 fn peak(skew: i64, cycle: u32, macrotick: u32) -> Option<Peak> {
     Some(Peak {
         skew,

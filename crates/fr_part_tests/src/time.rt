@@ -77,6 +77,20 @@ fn walks_through_the_cycle(rt: HostRuntime) {
     assert_eq!(rt; instant(&ODD, &row, true, 9), 23_002_800);
 }
 
+// Ahead and back, on both sides of the start of the offset correction, and to the end.
+#[test]
+fn goes_to_any_macrotick(rt: HostRuntime) {
+    let mut odd = Macro::begin(&ODD, 0, 2, true);
+    odd.go(9);
+    assert_eq!(rt; odd.next(), Some(23));
+    odd.go(3);
+    assert_eq!(rt; odd.next(), Some(7));
+    odd.go(4);
+    assert_eq!(rt; odd.next(), Some(10));
+    odd.go(10);
+    assert_eq!(rt; odd.next(), None);
+}
+
 // 26 microticks lie over seven macroticks, and what is left in an odd cycle, 14, over three.
 const UNEVEN: Grid = Grid {
     macros: 7,
