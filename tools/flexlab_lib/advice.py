@@ -10,6 +10,10 @@ WHY = {
     3: "the offset limit has to suffice for the precision",
     4: "an early arrival must not fall before its slot",
     5: "a late arrival must not fall behind its slot",
+    6: "the rate limit has to suffice for what the first rate of a node that joins may be off",
+    7: "the offset limit has to suffice for the reach of a node that joins",
+    8: "an early arrival within reach must not fall before its slot",
+    9: "a late arrival within reach must not fall behind its slot",
 }
 FORMULA = {
     1: "pClusterDriftDamping * Qm >= y1 + 2 J",
@@ -19,18 +23,30 @@ FORMULA = {
        ">= gMacroPerCycle * (precision + xDelayError)",
     5: "((gdStaticSlot - gdActionPointOffset) * (pMicroPerCycle - pRateCorrectionOut) - gMacroPerCycle) * Qm "
        "> gMacroPerCycle * (precision + pDelayCompensation * 1000000 + xDelayError)",
+    6: "pRateCorrectionOut * Qm >= 2 * pMicroPerCycle * xRateBound + y1 + 4 J",
+    7: "pOffsetCorrectionOut * Qm >= reach + E1 + Qp",
+    8: "(gdActionPointOffset * (pMicroPerCycle - pRateCorrectionOut) - gMacroPerCycle) * Qm "
+       ">= gMacroPerCycle * (reach + xDelayError)",
+    9: "((gdStaticSlot - gdActionPointOffset) * (pMicroPerCycle - pRateCorrectionOut) - gMacroPerCycle) * Qm "
+       "> gMacroPerCycle * (reach + pDelayCompensation * 1000000 + xDelayError)",
 }
 LETTERS = ("Qm = 1000000 - xRateBound, Qp = 1000000 + xRateBound, E1 = xDelayError + pDelayCompensation * xRateBound, "
-           "J = (pMicroPerCycle + pRateCorrectionOut) * xChangeBound")
+           "J = (pMicroPerCycle + pRateCorrectionOut) * xChangeBound; in a file of version 2 pDelayCompensation is the "
+           "greater of both compensations")
 OR = {
     1: "lower xChangeBound or xDelayError",
     2: "lower xRateBound, if the oscillators are better",
     3: "lower xChangeBound, xDelayError or pClusterDriftDamping, which widen the precision",
     4: "lower what widens the precision (as for C3), or make a macrotick longer",
     5: "lower what widens the precision (as for C3), or gdActionPointOffset",
+    6: "lower xRateBound, xDelayError or xChangeBound",
+    7: "lower xChangeBound, xDelayError or pClusterDriftDamping, which widen the reach",
+    8: "lower what widens the reach (as for C7), or make a macrotick longer",
+    9: "lower what widens the reach (as for C7), or gdActionPointOffset",
 }
 TURNS = {1: "pClusterDriftDamping", 2: "pRateCorrectionOut", 3: "pOffsetCorrectionOut",
-         4: "gdActionPointOffset", 5: "gdStaticSlot"}
+         4: "gdActionPointOffset", 5: "gdStaticSlot", 6: "pRateCorrectionOut", 7: "pOffsetCorrectionOut",
+         8: "gdActionPointOffset", 9: "gdStaticSlot"}
 
 
 def up(value):
@@ -42,11 +58,15 @@ def least(number, right, parameters):
     shortest = 1000000 - parameters["xRateBound"]
     macros = parameters["gMacroPerCycle"]
     micros = parameters["pMicroPerCycle"] - parameters["pRateCorrectionOut"]
-    if number in (1, 2, 3):
+    if number in (1, 2, 3, 7):
         return up(Fraction(right, shortest))
-    if number == 4:
+    if number in (4, 8):
         return up((Fraction(right, shortest) + macros) / micros)
-    # C5 asks for more than its right side.
+    if number == 6:
+        # Its right side has the rate limit too, in seven changes of a cycle.
+        change = 7 * parameters["xChangeBound"]
+        return up(Fraction(right - change * parameters["pRateCorrectionOut"], shortest - change))
+    # C5 and C9 ask for more than their right sides.
     return parameters["gdActionPointOffset"] + up((Fraction(right + 1, shortest) + macros) / micros)
 
 
@@ -69,12 +89,12 @@ def latest_start(parameters):
 
 def also(number, parameters, value):
     """What else has to fit where that value is taken: constraints of docs/PROTOCOL.md."""
-    if number == 3 or number == 2:
+    if number in (2, 3, 6, 7):
         start = latest_start(dict(parameters, **{TURNS[number]: value}))
         if start is None:
             return "constraint 4 then asks for a gOffsetCorrectionStart within the static slots, which is none"
         if start < parameters["gOffsetCorrectionStart"]:
             return f"constraint 4 then asks for an earlier gOffsetCorrectionStart, {start} at most"
-    if number == 5:
+    if number in (5, 9):
         return "constraint 1 then asks for fewer static slots, a shorter gdNIT or a longer cycle"
     return None

@@ -9,19 +9,21 @@ from .constraints import explain_constraint
 from .ending import FILE, NO, DONE, Stop
 from .forms import FORMS
 from .gaps import check_words, gap_words
-from .known import Known
-from .ranges import FILE_BYTES, PARAMETERS
+from .known import Known, version_of
+from .ranges import FILE_BYTES, NAMES, table
 from .reasons import EXPLAIN, MEANING, short
 from .records import load
 from . import program as programs
 
 ROLES = {
-    "frame": {"frame": 2}, "bound": {"params": 1}, "settle": {"params": 1}, "nm": {"vectors": 2},
+    "frame": {"frame": 2}, "bound": {"params": 1}, "upgrade": {"params": 1},
+    "settle": {"params": 1}, "nm": {"vectors": 2},
     "run": {"params": 1, "drift": 2, "script": 3}, "trace": {"params": 1, "drift": 2, "script": 3},
     "capture": {"capture": 2}, "cold": {"params": 1, "power": 2}, "make": {}, "check": {"params": 1, "trace": 2},
 }
 USAGE = {
-    "frame": "frame A FILE or frame B FILE", "bound": "bound PARAMS", "settle": "settle PARAMS START RATE",
+    "frame": "frame A FILE or frame B FILE", "bound": "bound PARAMS or bound PARAMS join",
+    "upgrade": "upgrade PARAMS", "settle": "settle PARAMS START RATE",
     "nm": "nm WIDTH FILE", "run": "run PARAMS DRIFT SCRIPT", "trace": "trace PARAMS DRIFT SCRIPT",
     "check": "check PARAMS TRACE", "make": "make SEED DOUBLES", "capture": "capture A FILE or capture B "
                                                                            "FILE", "cold": "cold PARAMS POWER",
@@ -95,14 +97,15 @@ def explain_read(role, path):
 
 def explain_missing(role, name, words):
     path = file_of(role, words)
-    if name in PARAMETERS:
-        least, most, unit, meaning = PARAMETERS[name]
-        missing = [other for other in PARAMETERS if other not in known_of(words).values]
+    if name in NAMES:
+        least, most, unit, meaning = NAMES[name]
+        known = known_of(words)
+        missing = [other for other in table(version_of(known.records)) if other not in known.values]
         return [f"{path}: there is no record `param,{name},VALUE,,`",
                 f"{name} is from {least} to {most} {unit}".rstrip() + f": {meaning}",
                 *([f"these are missing too: {', '.join(other for other in missing if other != name)}"]
                   if len(missing) > 1 else [])]
-    form = {"doubles": "`doubles,COUNT,,,,` with how many double cycles the run has, 1 to 10000",
+    form = {"doubles": "`doubles,COUNT,,,,` with how many double cycles the run has, 1 to 100000",
             "cycles": "`cycles,COUNT,` with how many cycles the startup has, 1 to 1000"}.get(name, f"`{name}`")
     return [f"{path}: there is no record {form}"]
 
@@ -181,7 +184,7 @@ def explain_answer(text, words):
     """What an accepted request's text says that needs explanation: failing checks, and the first gap."""
     found = []
     for line in text.splitlines():
-        check = re.fullmatch(r"(?:C([1-5]) fails|covered no check ([1-5])|settles no check ([1-5])) (\d+) (\d+)", line)
+        check = re.fullmatch(r"(?:C([1-9]) fails|covered no check ([1-9])|settles no check ([1-5])) (\d+) (\d+)", line)
         if check:
             number = int(check[1] or check[2] or check[3])
             found += [line, *("  " + told for told in explain_check(number, int(check[4]), int(check[5]), words))]

@@ -1,6 +1,6 @@
 """The forms of records in each of flexray's files: which fields, of what kind, in which range."""
 from . import ranges
-from .ranges import PARAMETERS
+from .ranges import NAMES
 
 
 
@@ -23,6 +23,7 @@ FROM = number("FROM", *ranges.CYCLES, "cycles")
 
 FORMS = {
     "params": (5, {
+        "version": [number("VERSION", 2, 2), EMPTY, EMPTY, EMPTY],
         "param": [plain("NAME", "name"), plain("VALUE", "value"), EMPTY, EMPTY],
         "node": [number("ID", 1, 64), ("KEY", "key", 1, 1023, ""), plain("CHANNELS", "channels"),
                  number("COLD", 0, 1)],
@@ -78,7 +79,7 @@ def span(described, record, cluster):
     """(least, most, unit) of a numeric field, or None; parameters decide some."""
     name, kind, least, most, unit = described
     if kind == "value":
-        found = PARAMETERS.get(record.fields[1])
+        found = NAMES.get(record.fields[1])
         return found[:3] if found else None
     if kind in ("rate", "offset"):
         limit = cluster.parameter("pRateCorrectionOut" if kind == "rate" else "pOffsetCorrectionOut")

@@ -32,11 +32,13 @@ def gap_words(gap, cluster):
                 f"which is more than xChangeBound, {parameters['xChangeBound']}",
                 "turn limits.change_ppm_per_cycle, or let the oscillator change more slowly"]
     if kind == "delay":
-        expected = parameters["pDelayCompensation"] * 1000000
+        own = "pDelayCompensation" + channel
+        name = own if own in parameters else "pDelayCompensation"
+        expected = parameters[name] * 1000000
         return [f"in cycle {numbers[2]} frames of node {numbers[0]} travel {microseconds(numbers[3], unit)} to node "
                 f"{numbers[1]} on channel {channel}; the compensation is {microseconds(expected, unit)}, and "
                 f"xDelayError allows for {microseconds(parameters['xDelayError'], unit)} beside it",
-                "turn limits.delay_error_us, or pDelayCompensation"]
+                f"turn limits.delay_error_us, or {name}"]
     return [f"in double cycle {numbers[2]} no channel carries the frames of node {numbers[0]} to node {numbers[1]} in "
             f"both its cycles (cycles {2 * numbers[2]} and {2 * numbers[2] + 1})",
             "let one channel be free of `lose` and `flip` there, or give both nodes channels AB"]

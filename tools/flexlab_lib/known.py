@@ -1,12 +1,18 @@
 """What a parameter file says of a cluster, as far as its records can be read."""
 import re
 
-from .ranges import PARAMETERS
+from .ranges import NAMES
 from .records import load
 
 
 def whole(text):
     return int(text) if re.fullmatch(r"-?\d{1,18}", text, re.ASCII) else None
+
+
+def version_of(records):
+    """The version of a parameter file: 2 where its first record says so."""
+    first = records[0].fields if records else []
+    return 2 if first[:1] == ["version"] and len(first) == 5 and whole(first[1]) == 2 and not any(first[2:]) else 1
 
 
 class Known:
@@ -15,7 +21,7 @@ class Known:
         self.values, self.nodes, self.slots = {}, {}, {}
         for record in self.records:
             fields = record.fields + [""] * 5
-            if fields[0] == "param" and fields[1] in PARAMETERS and whole(fields[2]) is not None:
+            if fields[0] == "param" and fields[1] in NAMES and whole(fields[2]) is not None:
                 self.values.setdefault(fields[1], (whole(fields[2]), record))
             elif fields[0] == "node" and whole(fields[1]) is not None:
                 self.nodes.setdefault(whole(fields[1]), (whole(fields[2]), fields[3], fields[4], record))

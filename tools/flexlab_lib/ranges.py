@@ -22,7 +22,23 @@ PARAMETERS = {
     "xDelayError": (0, 10000000, "ticks", "the greatest distance of a delay from the compensation"),
 }
 
-DOUBLES = (1, 10000)
+# In a file of version 2 each channel has a compensation of its own.
+OF_CHANNELS = {
+    f"pDelayCompensation{channel}": (0, 200, "microticks", f"taken off each arrival measured on channel {channel}")
+    for channel in "AB"
+}
+NAMES = {**PARAMETERS, **OF_CHANNELS}
+
+
+def table(version):
+    """The parameters of a file of this version, in the order of its table."""
+    if version == 1:
+        return PARAMETERS
+    names = [other for name in PARAMETERS for other in (OF_CHANNELS if name == "pDelayCompensation" else (name,))]
+    return {name: NAMES[name] for name in names}
+
+
+DOUBLES = (1, 100000)
 CYCLES = (0, 199999)
 LENGTH = (500000, 1500000)
 DELAY = (0, 1000000000)

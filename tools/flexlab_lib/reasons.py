@@ -2,8 +2,8 @@
 import re
 
 from .forms import FORMS, form_of, placed, span
-from .known import whole
-from .ranges import PARAMETERS, REPETITIONS
+from .known import version_of, whole
+from .ranges import REPETITIONS, table
 from .values import near
 
 MEANING = {
@@ -60,8 +60,10 @@ def unknown_name(role, record, cluster, earlier):
     if record.fields[0] not in kinds and "" not in kinds:
         yield f"{at(1, 'kind', record.fields[0])}, and kinds are {', '.join(kinds)}{hint(record.fields[0], kinds)}"
     for place, described, text in placed(role, record):
-        if described[1] == "name" and text not in PARAMETERS:
-            yield f"{at(place, 'NAME', text)}, which is no parameter{hint(text, PARAMETERS)}"
+        version = version_of([*earlier, record])
+        if described[1] == "name" and text not in table(version):
+            yield (f"{at(place, 'NAME', text)}, which is no parameter of a file of version {version}"
+                   f"{hint(text, table(version))}")
         if described[1] == "state" and text not in ("active", "passive", "halt"):
             yield f"{at(place, 'STATE', text)}, and states are active, passive, halt"
 
@@ -142,6 +144,8 @@ def role_of(role, record, cluster, earlier):
     kind, fields = record.fields[0], record.fields
     if role == "params" and kind == "node" and whole(fields[4]) == 1 and not fields[2]:
         yield "COLD is 1 and KEY is empty: a coldstart node needs a key slot"
+    if role == "params" and kind == "version":
+        yield f"a `version` record is the first of its file, and line {earlier[0].line} comes before it"
     if role == "params" and kind == "slot":
         base, repetition = whole(fields[3]), whole(fields[4])
         if repetition not in REPETITIONS:

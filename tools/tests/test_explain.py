@@ -57,6 +57,14 @@ CASES = (
                                                                          "the 140"),
     ("params", "slot,6,2,0,2", "slot,5,2,0,2", "params: constraint 8", "line 25: slot 5 of node 2 is the key slot "
                                                                        "of node 5"),
+    ("params", "param,pDelayCompensation,0,,", "param,pDelayCompensationA,0,,", "params: record 16: UnknownName",
+     "which is no parameter of a file of version 1; did you mean `pDelayCompensation`?"),
+    ("params", "param,gMacroPerCycle,5000,,", "version,2,,,\nparam,gMacroPerCycle,5000,,",
+     "params: record 17: UnknownName", "which is no parameter of a file of version 2"),
+    ("params", "param,gMacroPerCycle,5000,,", "version,3,,,\nparam,gMacroPerCycle,5000,,",
+     "params: record 1: OutOfRange", "field 2 (VERSION) is \"3\", which is not from 2 to 2"),
+    ("params", "slot,6,2,0,2", "version,2,,,", "params: record 25: Role", "a `version` record is the first of its "
+                                                                         "file"),
     ("drift", "doubles,2,,,,\n", "", "drift: missing doubles", "`doubles,COUNT,,,,`"),
     ("drift", "start,3,2500000,0,,", "start,9,2500000,0,,", "drift: record 2: UnknownNode",
      'field 2 (NODE) is "9", and the parameters have the nodes 1, 2, 3, 4, 5'),
@@ -182,6 +190,10 @@ class Explain(Bench):
                 self.assertIn(told, out)
                 self.assertIn("Qm = 1000000 - xRateBound", out)
                 self.assertIn("covered no check", self.flexlab("explain", *words)[0])
+        self.files()
+        joining = self.flexlab("explain", "bound", "params.csv", "join")[0]
+        for told in ("C6 asks for 84 at least", "C7 asks for 454 at least", "C8 asks for 12 at least"):
+            self.assertIn(told, joining)
         words = self.files(script=SCRIPT.replace("lose,2,2,4,A,,", "lose,2,2,4,A,,\nlose,2,2,4,B,,"))
         self.assertIn("no channel carries the frames of node 2 to node 4", self.flexlab("explain", *words)[0])
         self.assertIn("nothing in its answer needs", self.flexlab("explain", *self.files())[0])

@@ -24,7 +24,7 @@ REFUSED = (
     ("oscillator_ppm = 200", "oscillator_ppm = 200\nxRateBound = 3", "one of both"),
     ("delay_error_us = 0.0125", "delay_error_us = 0.3", "limits.delay_error_us: 0.3 is not a number from 0 to 0.25 us"),
     ("delay_error_us = 0.0125", "delay_error_us = 0.01\ndelay_error_ns = 1", "it wants one of `delay_error_us`"),
-    ("double_cycles = 200", "double_cycles = 0", "run.double_cycles: 0 is not a whole number from 1 to 10000"),
+    ("double_cycles = 200", "double_cycles = 0", "run.double_cycles: 0 is not a whole number from 1 to 100000"),
     ("id = 4", "id = 3", "node[4].id: node 3 is there already"),
     ("id = 4", "id = 65", "node[4].id: 65 is not a whole number from 1 to 64"),
     ("ppm = -40", 'ppm = "speed"', 'node[3].ppm: "speed" is neither a number from -333333 to 1000000 ppm nor a name of '
