@@ -1,5 +1,5 @@
 -- Parameters that are made of numbers by the place of their name.
-use Rattle.std.proofs.Common.{◌≡◌, ℤ, pos, ◌≤◌, List, ap, sym, refl, arith, subst}
+use Rattle.std.proofs.Common.{◌≡◌, ℤ, pos, ◌≤◌, List, ap, sym, refl, arith, subst, rules}
 use Rattle.std.specs.Prelude.{nat_abs, slice_index_or}
 use mir.Val.{to_z, of_z, SFits}
 use mir.Syntax.{w64}
@@ -17,27 +17,7 @@ use Rattle.fr_cluster.specs.declared.nodes.SlotSpec.{SlotSpec}
 
 -- no range ends above this number
 greatest-le : (n : ParamName) → greatest n ≤ 10000000
-greatest-le name.gMacroPerCycle = omega arith
-greatest-le name.pMicroPerCycle = omega arith
-greatest-le name.gNumberOfStaticSlots = omega arith
-greatest-le name.gdStaticSlot = omega arith
-greatest-le name.gdActionPointOffset = omega arith
-greatest-le name.gdNIT = omega arith
-greatest-le name.gPayloadLengthStatic = omega arith
-greatest-le name.gOffsetCorrectionStart = omega arith
-greatest-le name.gMaxWithoutClockCorrectionPassive = omega arith
-greatest-le name.gMaxWithoutClockCorrectionFatal = omega arith
-greatest-le name.pAllowHaltDueToClock = omega arith
-greatest-le name.pAllowPassiveToActive = omega arith
-greatest-le name.pClusterDriftDamping = omega arith
-greatest-le name.pOffsetCorrectionOut = omega arith
-greatest-le name.pRateCorrectionOut = omega arith
-greatest-le name.pDelayCompensation = omega arith
-greatest-le name.pDelayCompensationA = omega arith
-greatest-le name.pDelayCompensationB = omega arith
-greatest-le name.xRateBound = omega arith
-greatest-le name.xChangeBound = omega arith
-greatest-le name.xDelayError = omega arith
+greatest-le n = search rules
 
 fits : (n : ParamName) (z : ℤ) → InRange n z → SFits w64 z
 fits n z h = let most = greatest-le n in omega (arith, ints, h.0, h.1)
@@ -74,52 +54,13 @@ stored numbers nodes slots = record {
 }
 
 pub figure-values_in : (numbers : List ℤ) (nodes : List NodeSpec) (slots : List SlotSpec) (n : ParamName) → figure (values_in numbers nodes slots) n ≡ number_in numbers n
-figure-values_in numbers nodes slots name.gMacroPerCycle = refl
-figure-values_in numbers nodes slots name.pMicroPerCycle = refl
-figure-values_in numbers nodes slots name.gNumberOfStaticSlots = refl
-figure-values_in numbers nodes slots name.gdStaticSlot = refl
-figure-values_in numbers nodes slots name.gdActionPointOffset = refl
-figure-values_in numbers nodes slots name.gdNIT = refl
-figure-values_in numbers nodes slots name.gPayloadLengthStatic = refl
-figure-values_in numbers nodes slots name.gOffsetCorrectionStart = refl
-figure-values_in numbers nodes slots name.gMaxWithoutClockCorrectionPassive = refl
-figure-values_in numbers nodes slots name.gMaxWithoutClockCorrectionFatal = refl
-figure-values_in numbers nodes slots name.pAllowHaltDueToClock = refl
-figure-values_in numbers nodes slots name.pAllowPassiveToActive = refl
-figure-values_in numbers nodes slots name.pClusterDriftDamping = refl
-figure-values_in numbers nodes slots name.pOffsetCorrectionOut = refl
-figure-values_in numbers nodes slots name.pRateCorrectionOut = refl
-figure-values_in numbers nodes slots name.pDelayCompensation = refl
-figure-values_in numbers nodes slots name.pDelayCompensationA = refl
-figure-values_in numbers nodes slots name.pDelayCompensationB = refl
-figure-values_in numbers nodes slots name.xRateBound = refl
-figure-values_in numbers nodes slots name.xChangeBound = refl
-figure-values_in numbers nodes slots name.xDelayError = refl
+figure-values_in numbers nodes slots n = search rules
 
 pub figure-stored : (numbers : List ℤ) (nodes : List NodeSpec) (slots : List SlotSpec) → AreInRange numbers → (n : ParamName)
     → figure (stored numbers nodes slots) n ≡ number_in numbers n
-figure-stored numbers nodes slots h name.gMacroPerCycle = held numbers name.gMacroPerCycle h
-figure-stored numbers nodes slots h name.pMicroPerCycle = held numbers name.pMicroPerCycle h
-figure-stored numbers nodes slots h name.gNumberOfStaticSlots = held numbers name.gNumberOfStaticSlots h
-figure-stored numbers nodes slots h name.gdStaticSlot = held numbers name.gdStaticSlot h
-figure-stored numbers nodes slots h name.gdActionPointOffset = held numbers name.gdActionPointOffset h
-figure-stored numbers nodes slots h name.gdNIT = held numbers name.gdNIT h
-figure-stored numbers nodes slots h name.gPayloadLengthStatic = held numbers name.gPayloadLengthStatic h
-figure-stored numbers nodes slots h name.gOffsetCorrectionStart = held numbers name.gOffsetCorrectionStart h
-figure-stored numbers nodes slots h name.gMaxWithoutClockCorrectionPassive = held numbers name.gMaxWithoutClockCorrectionPassive h
-figure-stored numbers nodes slots h name.gMaxWithoutClockCorrectionFatal = held numbers name.gMaxWithoutClockCorrectionFatal h
-figure-stored numbers nodes slots h name.pAllowHaltDueToClock = held numbers name.pAllowHaltDueToClock h
-figure-stored numbers nodes slots h name.pAllowPassiveToActive = held numbers name.pAllowPassiveToActive h
-figure-stored numbers nodes slots h name.pClusterDriftDamping = held numbers name.pClusterDriftDamping h
-figure-stored numbers nodes slots h name.pOffsetCorrectionOut = held numbers name.pOffsetCorrectionOut h
-figure-stored numbers nodes slots h name.pRateCorrectionOut = held numbers name.pRateCorrectionOut h
 figure-stored numbers nodes slots h name.pDelayCompensation =
     rw (held numbers name.pDelayCompensationA h, held numbers name.pDelayCompensationB h) refl
-figure-stored numbers nodes slots h name.pDelayCompensationA = held numbers name.pDelayCompensationA h
-figure-stored numbers nodes slots h name.pDelayCompensationB = held numbers name.pDelayCompensationB h
-figure-stored numbers nodes slots h name.xRateBound = held numbers name.xRateBound h
-figure-stored numbers nodes slots h name.xChangeBound = held numbers name.xChangeBound h
-figure-stored numbers nodes slots h name.xDelayError = held numbers name.xDelayError h
+figure-stored numbers nodes slots h n = held numbers n h
 
 -- equal numbers of each name are the same numbers
 pub amount-same : (p : Values) (numbers : List ℤ) → ((n : ParamName) → figure p n ≡ number_in numbers n) → amount_in numbers ≡ amount p

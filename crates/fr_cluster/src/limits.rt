@@ -8,6 +8,9 @@ use crate::names::ParamName;
 use crate::nodes::{NodeSpec, SlotSpec};
 use fr_base::Slot;
 use std::alloc::{AllocError, Global};
+use std::cmp::Ordering;
+
+const GREATER_COMPENSATION: usize = ParamName::pDelayCompensation as usize;
 
 // The least number of a constraint that fails, None where all eight hold.
 pub(crate) fn first_failing(numbers: &[i64; 20], keys: &[Slot], slots: &[SlotSpec]) -> Option<u8>
@@ -50,31 +53,16 @@ fn amount(numbers: &[i64; 20], name: ParamName) -> u64
     number(numbers, name) as u64
 }
 
+// The numbers stand in the order of the second version's table. It has no number for the greater of both
+// compensations, so those after this name stand one place before their name's.
 fn number(numbers: &[i64; 20], name: ParamName) -> i64
     ensures { result ≡ number_in numbers.now name }
 {
-    match name {
-        ParamName::gMacroPerCycle => numbers[0],
-        ParamName::pMicroPerCycle => numbers[1],
-        ParamName::gNumberOfStaticSlots => numbers[2],
-        ParamName::gdStaticSlot => numbers[3],
-        ParamName::gdActionPointOffset => numbers[4],
-        ParamName::gdNIT => numbers[5],
-        ParamName::gPayloadLengthStatic => numbers[6],
-        ParamName::gOffsetCorrectionStart => numbers[7],
-        ParamName::gMaxWithoutClockCorrectionPassive => numbers[8],
-        ParamName::gMaxWithoutClockCorrectionFatal => numbers[9],
-        ParamName::pAllowHaltDueToClock => numbers[10],
-        ParamName::pAllowPassiveToActive => numbers[11],
-        ParamName::pClusterDriftDamping => numbers[12],
-        ParamName::pOffsetCorrectionOut => numbers[13],
-        ParamName::pRateCorrectionOut => numbers[14],
-        ParamName::pDelayCompensation => numbers[15].max(numbers[16]),
-        ParamName::pDelayCompensationA => numbers[15],
-        ParamName::pDelayCompensationB => numbers[16],
-        ParamName::xRateBound => numbers[17],
-        ParamName::xChangeBound => numbers[18],
-        ParamName::xDelayError => numbers[19],
+    let place = name.place();
+    match place.cmp(&GREATER_COMPENSATION) {
+        Ordering::Less => numbers[place],
+        Ordering::Equal => numbers[GREATER_COMPENSATION].max(numbers[GREATER_COMPENSATION + 1]),
+        Ordering::Greater => numbers[place - 1],
     }
 }
 

@@ -61,77 +61,86 @@ pub enum Version {
     Two,
 }
 
+// The table of parameters: a line for each name with the range of its values, in the order of the enum. It stands in
+// four groups, by the versions of a file that have the name. The constants below are made of it by macros, since the
+// value of a constant calls no function.
+macro_rules! of_table {
+    ($made:ident) => {
+        $made! {
+            both {
+                gMacroPerCycle(10..=16_000),
+                pMicroPerCycle(10..=640_000),
+                gNumberOfStaticSlots(1..=1023),
+                gdStaticSlot(2..=1000),
+                gdActionPointOffset(1..=63),
+                gdNIT(1..=15_999),
+                gPayloadLengthStatic(0..=127),
+                gOffsetCorrectionStart(1..=15_999),
+                gMaxWithoutClockCorrectionPassive(1..=15),
+                gMaxWithoutClockCorrectionFatal(1..=15),
+                pAllowHaltDueToClock(0..=1),
+                pAllowPassiveToActive(0..=31),
+                pClusterDriftDamping(0..=100),
+                pOffsetCorrectionOut(1..=16_000),
+                pRateCorrectionOut(1..=2000),
+            }
+            one {
+                pDelayCompensation(0..=200),
+            }
+            two {
+                pDelayCompensationA(0..=200),
+                pDelayCompensationB(0..=200),
+            }
+            both {
+                xRateBound(0..=1500),
+                xChangeBound(0..=1500),
+                xDelayError(0..=10_000_000),
+            }
+        }
+    };
+}
+
+macro_rules! entries {
+    ($($group:ident { $($name:ident($least:literal..=$greatest:literal),)* })*) => {
+        [$($(Entry { word: stringify!($name), least: $least, greatest: $greatest },)*)*]
+    };
+}
+
+macro_rules! all_names {
+    ($($group:ident { $($name:ident $range:tt,)* })*) => {
+        [$($(ParamName::$name,)*)*]
+    };
+}
+
+macro_rules! names_of_one {
+    (both $front:tt one $own:tt two $other:tt both $rest:tt) => {
+        all_names! { both $front one $own both $rest }
+    };
+}
+
+macro_rules! names_of_two {
+    (both $front:tt one $other:tt two $own:tt both $rest:tt) => {
+        all_names! { both $front two $own both $rest }
+    };
+}
+
+// What a file has of a name: how it is spelt, and the range of its values.
+struct Entry {
+    word: &'static str,
+    least: i64,
+    greatest: i64,
+}
+
+const TABLE: [Entry; 21] = of_table!(entries);
+
 /// All names of both versions.
-pub const NAMES: [ParamName; 21] = [
-    ParamName::gMacroPerCycle,
-    ParamName::pMicroPerCycle,
-    ParamName::gNumberOfStaticSlots,
-    ParamName::gdStaticSlot,
-    ParamName::gdActionPointOffset,
-    ParamName::gdNIT,
-    ParamName::gPayloadLengthStatic,
-    ParamName::gOffsetCorrectionStart,
-    ParamName::gMaxWithoutClockCorrectionPassive,
-    ParamName::gMaxWithoutClockCorrectionFatal,
-    ParamName::pAllowHaltDueToClock,
-    ParamName::pAllowPassiveToActive,
-    ParamName::pClusterDriftDamping,
-    ParamName::pOffsetCorrectionOut,
-    ParamName::pRateCorrectionOut,
-    ParamName::pDelayCompensation,
-    ParamName::pDelayCompensationA,
-    ParamName::pDelayCompensationB,
-    ParamName::xRateBound,
-    ParamName::xChangeBound,
-    ParamName::xDelayError,
-];
+pub const NAMES: [ParamName; 21] = of_table!(all_names);
 
 /// The table of the first version, in its order.
-pub const NAMES_OF_ONE: [ParamName; 19] = [
-    ParamName::gMacroPerCycle,
-    ParamName::pMicroPerCycle,
-    ParamName::gNumberOfStaticSlots,
-    ParamName::gdStaticSlot,
-    ParamName::gdActionPointOffset,
-    ParamName::gdNIT,
-    ParamName::gPayloadLengthStatic,
-    ParamName::gOffsetCorrectionStart,
-    ParamName::gMaxWithoutClockCorrectionPassive,
-    ParamName::gMaxWithoutClockCorrectionFatal,
-    ParamName::pAllowHaltDueToClock,
-    ParamName::pAllowPassiveToActive,
-    ParamName::pClusterDriftDamping,
-    ParamName::pOffsetCorrectionOut,
-    ParamName::pRateCorrectionOut,
-    ParamName::pDelayCompensation,
-    ParamName::xRateBound,
-    ParamName::xChangeBound,
-    ParamName::xDelayError,
-];
+pub const NAMES_OF_ONE: [ParamName; 19] = of_table!(names_of_one);
 
 /// The table of the second version, in its order.
-pub const NAMES_OF_TWO: [ParamName; 20] = [
-    ParamName::gMacroPerCycle,
-    ParamName::pMicroPerCycle,
-    ParamName::gNumberOfStaticSlots,
-    ParamName::gdStaticSlot,
-    ParamName::gdActionPointOffset,
-    ParamName::gdNIT,
-    ParamName::gPayloadLengthStatic,
-    ParamName::gOffsetCorrectionStart,
-    ParamName::gMaxWithoutClockCorrectionPassive,
-    ParamName::gMaxWithoutClockCorrectionFatal,
-    ParamName::pAllowHaltDueToClock,
-    ParamName::pAllowPassiveToActive,
-    ParamName::pClusterDriftDamping,
-    ParamName::pOffsetCorrectionOut,
-    ParamName::pRateCorrectionOut,
-    ParamName::pDelayCompensationA,
-    ParamName::pDelayCompensationB,
-    ParamName::xRateBound,
-    ParamName::xChangeBound,
-    ParamName::xDelayError,
-];
+pub const NAMES_OF_TWO: [ParamName; 20] = of_table!(names_of_two);
 
 /// The names of a version's table, in its order.
 pub fn names_of(version: Version) -> &'static [ParamName]
@@ -155,29 +164,7 @@ impl ParamName {
     pub fn word(self) -> &'static [u8]
         ensures { result.now ≡ word_of self }
     {
-        match self {
-            ParamName::gMacroPerCycle => b"gMacroPerCycle",
-            ParamName::pMicroPerCycle => b"pMicroPerCycle",
-            ParamName::gNumberOfStaticSlots => b"gNumberOfStaticSlots",
-            ParamName::gdStaticSlot => b"gdStaticSlot",
-            ParamName::gdActionPointOffset => b"gdActionPointOffset",
-            ParamName::gdNIT => b"gdNIT",
-            ParamName::gPayloadLengthStatic => b"gPayloadLengthStatic",
-            ParamName::gOffsetCorrectionStart => b"gOffsetCorrectionStart",
-            ParamName::gMaxWithoutClockCorrectionPassive => b"gMaxWithoutClockCorrectionPassive",
-            ParamName::gMaxWithoutClockCorrectionFatal => b"gMaxWithoutClockCorrectionFatal",
-            ParamName::pAllowHaltDueToClock => b"pAllowHaltDueToClock",
-            ParamName::pAllowPassiveToActive => b"pAllowPassiveToActive",
-            ParamName::pClusterDriftDamping => b"pClusterDriftDamping",
-            ParamName::pOffsetCorrectionOut => b"pOffsetCorrectionOut",
-            ParamName::pRateCorrectionOut => b"pRateCorrectionOut",
-            ParamName::pDelayCompensation => b"pDelayCompensation",
-            ParamName::pDelayCompensationA => b"pDelayCompensationA",
-            ParamName::pDelayCompensationB => b"pDelayCompensationB",
-            ParamName::xRateBound => b"xRateBound",
-            ParamName::xChangeBound => b"xChangeBound",
-            ParamName::xDelayError => b"xDelayError",
-        }
+        self.entry().word.as_bytes()
     }
 
     /// Its place among the names of both versions, from 0.
@@ -191,58 +178,22 @@ impl ParamName {
     pub fn least(self) -> i64
         ensures { result ≡ pos (least self) }
     {
-        match self {
-            ParamName::gMacroPerCycle => 10,
-            ParamName::pMicroPerCycle => 10,
-            ParamName::gNumberOfStaticSlots => 1,
-            ParamName::gdStaticSlot => 2,
-            ParamName::gdActionPointOffset => 1,
-            ParamName::gdNIT => 1,
-            ParamName::gPayloadLengthStatic => 0,
-            ParamName::gOffsetCorrectionStart => 1,
-            ParamName::gMaxWithoutClockCorrectionPassive => 1,
-            ParamName::gMaxWithoutClockCorrectionFatal => 1,
-            ParamName::pAllowHaltDueToClock => 0,
-            ParamName::pAllowPassiveToActive => 0,
-            ParamName::pClusterDriftDamping => 0,
-            ParamName::pOffsetCorrectionOut => 1,
-            ParamName::pRateCorrectionOut => 1,
-            ParamName::pDelayCompensation => 0,
-            ParamName::pDelayCompensationA => 0,
-            ParamName::pDelayCompensationB => 0,
-            ParamName::xRateBound => 0,
-            ParamName::xChangeBound => 0,
-            ParamName::xDelayError => 0,
-        }
+        self.entry().least
     }
 
     /// The greatest value that it may have.
     pub fn greatest(self) -> i64
         ensures { result ≡ pos (greatest self) }
     {
-        match self {
-            ParamName::gMacroPerCycle => 16_000,
-            ParamName::pMicroPerCycle => 640_000,
-            ParamName::gNumberOfStaticSlots => 1023,
-            ParamName::gdStaticSlot => 1000,
-            ParamName::gdActionPointOffset => 63,
-            ParamName::gdNIT => 15_999,
-            ParamName::gPayloadLengthStatic => 127,
-            ParamName::gOffsetCorrectionStart => 15_999,
-            ParamName::gMaxWithoutClockCorrectionPassive => 15,
-            ParamName::gMaxWithoutClockCorrectionFatal => 15,
-            ParamName::pAllowHaltDueToClock => 1,
-            ParamName::pAllowPassiveToActive => 31,
-            ParamName::pClusterDriftDamping => 100,
-            ParamName::pOffsetCorrectionOut => 16_000,
-            ParamName::pRateCorrectionOut => 2000,
-            ParamName::pDelayCompensation => 200,
-            ParamName::pDelayCompensationA => 200,
-            ParamName::pDelayCompensationB => 200,
-            ParamName::xRateBound => 1500,
-            ParamName::xChangeBound => 1500,
-            ParamName::xDelayError => 10_000_000,
-        }
+        self.entry().greatest
+    }
+
+    fn entry(self) -> &'static Entry
+        ensures word { result.now.word.now ≡ word_of self }
+        ensures least { result.now.least ≡ pos (least self) }
+        ensures greatest { result.now.greatest ≡ pos (greatest self) }
+    {
+        &TABLE[self as usize]
     }
 }
 
