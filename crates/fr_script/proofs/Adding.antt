@@ -10,14 +10,14 @@ use Rattle.fr_base.specs.declared.reason.Reason.{Reason}
 use Rattle.fr_base.specs.declared.reason.Reason.TheVariants as reason
 use Rattle.fr_records.specs.Records.{FileRecord}
 use Rattle.fr_records.proofs.Cuts.{none-empty}
-use Rattle.fr_records.proofs.Lookups.{or_else-none}
+use Rattle.fr_records.proofs.Lookups.{looked_up-nil, or_else-none}
 use Rattle.fr_records.proofs.Written.{natural-decimal, within-signed}
 use Rattle.fr_cluster.specs.Values.{Values}
 use Rattle.fr_cluster.specs.Questions.{is_common}
 use Rattle.fr_script.specs.Deeds.{deed_in, passage_of, DeedsAscend}
 use Rattle.fr_script.specs.Rows.{IsProperDeed, IsProperSay, farthest, script_row_of}
-use Rattle.fr_script.specs.Reasons.{deed_by, deed_reason, is_misplaced, is_named, knows_both, script_reason_after, script_row_reason}
-use Rattle.fr_script.specs.View.{AreDeeds, IsScript, ScriptView, deeds_on, is_arbitrary}
+use Rattle.fr_script.specs.Reasons.{deed_by, deed_reason, is_misplaced, is_named, join_said, knows_both, script_reason_after, script_row_reason}
+use Rattle.fr_script.specs.View.{AreDeeds, IsScript, ScriptView, deeds_on, is_arbitrary, join_of}
 use Rattle.fr_script.specs.Files.{ScriptFits, ScriptStandsFor}
 use Rattle.fr_script.specs.Written.{arbitrary_record, say_record}
 use Rattle.fr_script.specs.Adding.{AddsScriptRecord, EntersDeed, HasScriptRecord, IsDeedEntered, TakesScriptRecord}
@@ -28,7 +28,7 @@ use Rattle.fr_script.specs.declared.fault.ScriptFault.{ScriptFault}
 use Rattle.fr_script.specs.declared.rows.DeedRow.{DeedRow}
 use Rattle.fr_script.specs.declared.rows.Row.{Row}
 use Rattle.fr_script.specs.declared.rows.Row.TheVariants as row
-use Rattle.fr_script.proofs.Tables.{deed_by-more, deed_by-nil, deed_in-nil, deed_line, deeds-nil, deeds-put, is_named-more, kept, marked, nothing-named, or-false, taken}
+use Rattle.fr_script.proofs.Tables.{deed_by-more, deed_by-nil, deed_in-nil, deed_line, deeds-nil, deeds-put, is_named-more, join_by-more, kept, marked, no-joins, nothing-named, or-false, taken}
 
 -- what is written is read
 pub says-arbitrary : (node : ℕ) → 1 ≤ node → node ≤ 64 → script_row_of (arbitrary_record node) ≡ Ok (row.Arbitrary node)
@@ -57,11 +57,13 @@ says-say cycle sender receiver ch shift late a b c d h =
     refl
 
 -- the script of no records
-pub none-stands : (s : ScriptView) → s.arbitrary ≡ replicate 65 false → s.on_a ≡ [] → s.on_b ≡ [] → ScriptStandsFor s []
-unfolding is_arbitrary
-none-stands s marks a b = record {
+pub none-stands : (s : ScriptView) → s.arbitrary ≡ replicate 65 false → s.joins ≡ replicate 65 None → s.on_a ≡ [] → s.on_b ≡ [] → ScriptStandsFor s []
+unfolding is_arbitrary join_of
+none-stands s marks joins a b = record {
   long = rw marks (length-replicate 65 false);
+  joins_long = rw joins no-joins.0;
   nodes = λ k h. rw marks (nothing-named k h);
+  joins = λ k h. rw joins (no-joins.1 k h ∙ sym (looked_up-nil (λ r. join_said k (script_row_of r))));
   deeds = λ ch q. deeds ch q;
   ascending = λ ch. ascending ch;
 }
@@ -74,8 +76,8 @@ none-stands s marks a b = record {
     ascending channel.A = rw a deeds-nil.ascending
     ascending channel.B = rw b deeds-nil.ascending
 
-pub none-sane : (s : ScriptView) → s.arbitrary ≡ replicate 65 false → s.on_a ≡ [] → s.on_b ≡ [] → IsScript s
-none-sane s marks a b = record { long = rw marks (length-replicate 65 false); deeds_a = rw a deeds-nil; deeds_b = rw b deeds-nil }
+pub none-sane : (s : ScriptView) → s.arbitrary ≡ replicate 65 false → s.joins ≡ replicate 65 None → s.on_a ≡ [] → s.on_b ≡ [] → IsScript s
+none-sane s marks joins a b = record { long = rw marks (length-replicate 65 false); joins_long = rw joins no-joins.0; deeds_a = rw a deeds-nil; deeds_b = rw b deeds-nil }
 
 pub none-fits : (p : Values) (s : ScriptView) → ScriptStandsFor s [] → ScriptFits p s
 none-fits p s h = record { records = []; none_refused = none-empty (script_reason_after p); stands = h }
@@ -91,10 +93,12 @@ has p before after r more t = record {
 -- a node more is named
 more-named : (s : ScriptView) (node : ℕ) (records : List FileRecord) (r : FileRecord) → node ≤ 64 → script_row_of r ≡ Ok (row.Arbitrary node) → ScriptStandsFor s records
     → ScriptStandsFor (record s { arbitrary = slice_set s.arbitrary node true }) (records ++ r ∷ [])
-unfolding is_arbitrary
+unfolding is_arbitrary join_of
 more-named s node records r low e h = record {
   long = length-set s.arbitrary node true ∙ h.long;
+  joins_long = h.joins_long;
   nodes = λ k below. marked s.arbitrary node k _ h.long low (h.nodes k below) ∙ sym (is_named-more k records r _ e);
+  joins = λ k below. h.joins k below ∙ sym (join_by-more k records r _ e ∙ or_else-none _);
   deeds = λ ch q. deeds ch q;
   ascending = λ ch. ascending ch;
 }
@@ -114,15 +118,17 @@ adds-arbitrary p s node marks low high e t =
     (λ records h. more-named s node records (arbitrary_record node) low (says-arbitrary node high low) h) t)
 
 pub sane-arbitrary : (s : ScriptView) (node : ℕ) (marks : List Bool) → marks ≡ slice_set s.arbitrary node true → IsScript s → IsScript (record s { arbitrary = marks })
-sane-arbitrary s node marks e h = rw e (record { long = length-set s.arbitrary node true ∙ h.long; deeds_a = h.deeds_a; deeds_b = h.deeds_b })
+sane-arbitrary s node marks e h = rw e (record { long = length-set s.arbitrary node true ∙ h.long; joins_long = h.joins_long; deeds_a = h.deeds_a; deeds_b = h.deeds_b })
 
 -- a deed more of channel A, and of channel B
 more-deeds_a : (s : ScriptView) (new : List (Passage × Deed)) (passage : Passage) (what : Deed) (records : List FileRecord) (r : FileRecord) → script_row_of r ≡ deed_line channel.A passage what
     → deed_in s.on_a passage ≡ None → IsDeedEntered s.on_a new passage what → ScriptStandsFor s records → ScriptStandsFor (record s { on_a = new }) (records ++ r ∷ [])
-unfolding is_arbitrary
+unfolding is_arbitrary join_of
 more-deeds_a s new passage what records r e empty put h = record {
   long = h.long;
+  joins_long = h.joins_long;
   nodes = λ k below. h.nodes k below ∙ sym (is_named-more k records r _ e ∙ or-false (is_named k records));
+  joins = λ k below. h.joins k below ∙ sym (join_by-more k records r _ e ∙ or_else-none _);
   deeds = λ ch q. deeds ch q;
   ascending = λ ch. ascending ch;
 }
@@ -137,10 +143,12 @@ more-deeds_a s new passage what records r e empty put h = record {
 
 more-deeds_b : (s : ScriptView) (new : List (Passage × Deed)) (passage : Passage) (what : Deed) (records : List FileRecord) (r : FileRecord) → script_row_of r ≡ deed_line channel.B passage what
     → deed_in s.on_b passage ≡ None → IsDeedEntered s.on_b new passage what → ScriptStandsFor s records → ScriptStandsFor (record s { on_b = new }) (records ++ r ∷ [])
-unfolding is_arbitrary
+unfolding is_arbitrary join_of
 more-deeds_b s new passage what records r e empty put h = record {
   long = h.long;
+  joins_long = h.joins_long;
   nodes = λ k below. h.nodes k below ∙ sym (is_named-more k records r _ e ∙ or-false (is_named k records));
+  joins = λ k below. h.joins k below ∙ sym (join_by-more k records r _ e ∙ or_else-none _);
   deeds = λ ch q. deeds ch q;
   ascending = λ ch. ascending ch;
 }
@@ -184,11 +192,11 @@ sane-deeds old new passage what (Err why) h proper put = rw put.1 h
 
 pub sane-say_a : (s : ScriptView) (new : List (Passage × Deed)) (passage : Passage) (what : Deed) (result : Result (Unit {0}) ScriptFault) → IsScript s → IsProperDeed what
     → EntersDeed s.on_a new passage what result → IsScript (record s { on_a = new })
-sane-say_a s new passage what result h proper put = record { long = h.long; deeds_a = sane-deeds s.on_a new passage what result h.deeds_a proper put; deeds_b = h.deeds_b }
+sane-say_a s new passage what result h proper put = record { long = h.long; joins_long = h.joins_long; deeds_a = sane-deeds s.on_a new passage what result h.deeds_a proper put; deeds_b = h.deeds_b }
 
 pub sane-say_b : (s : ScriptView) (new : List (Passage × Deed)) (passage : Passage) (what : Deed) (result : Result (Unit {0}) ScriptFault) → IsScript s → IsProperDeed what
     → EntersDeed s.on_b new passage what result → IsScript (record s { on_b = new })
-sane-say_b s new passage what result h proper put = record { long = h.long; deeds_a = h.deeds_a; deeds_b = sane-deeds s.on_b new passage what result h.deeds_b proper put }
+sane-say_b s new passage what result h proper put = record { long = h.long; joins_long = h.joins_long; deeds_a = h.deeds_a; deeds_b = sane-deeds s.on_b new passage what result h.deeds_b proper put }
 
 pub adds-say_a : (p : Values) (s : ScriptView) (new : List (Passage × Deed)) (r : FileRecord) (cycle sender receiver : ℕ) (shift : ℤ) (result : Result (Unit {0}) ScriptFault)
     → script_row_of r ≡ Ok (row.Deed (said_row cycle sender receiver channel.A shift)) → TakesScriptRecord p s r

@@ -22,8 +22,8 @@ use Rattle.fr_cluster.specs.Values.{Values}
 use Rattle.fr_records.specs.Fields.{is_channel, or_else, looked_up}
 use Rattle.fr_script.specs.Deeds.{DeedsAscend, deed_in, passage_cmp}
 use Rattle.fr_script.specs.Rows.{script_row_of}
-use Rattle.fr_script.specs.Reasons.{deed_by, deed_said, is_named, is_same, script_reason_after}
-use Rattle.fr_script.specs.View.{ScriptView, deeds_on, is_arbitrary}
+use Rattle.fr_script.specs.Reasons.{deed_by, deed_said, is_named, is_same, join_by, script_reason_after}
+use Rattle.fr_script.specs.View.{ScriptView, deeds_on, is_arbitrary, join_of}
 use Rattle.fr_script.specs.Files.{ScriptStandsFor, script_file}
 use Rattle.fr_script.specs.declared.deeds.Passage.{Passage}
 use Rattle.fr_script.specs.declared.deeds.Deed.{Deed}
@@ -35,20 +35,20 @@ use Rattle.fr_script.proofs.Outcomes.{find-lookup, passages_total}
 use Rattle.fr_script.proofs.Tables.{is_same-at}
 
 -- the first answers of a function, as a list
-answers : (ℕ → Bool) → ℕ → List Bool
+answers : {A : Type 0} → (ℕ → A) → ℕ → List A
 answers f zero = []
 answers f (suc n) = f zero ∷ answers (λ k. f (suc k)) n
 
-length-answers : (f : ℕ → Bool) (n : ℕ) → length (answers f n) ≡ n
+length-answers : {A : Type 0} (f : ℕ → A) (n : ℕ) → length (answers f n) ≡ n
 unfolding answers
 length-answers f zero = refl
 length-answers f (suc n) = ap suc (length-answers (λ k. f (suc k)) n)
 
-get_or-answers : (f : ℕ → Bool) (n k : ℕ) → k < n → slice_index_or (answers f n) k false ≡ f k
+get_or-answers : {A : Type 0} (d : A) (f : ℕ → A) (n k : ℕ) → k < n → slice_index_or (answers f n) k d ≡ f k
 unfolding answers
-get_or-answers f zero k h = absurd (omega arith)
-get_or-answers f (suc n) zero h = refl
-get_or-answers f (suc n) (suc k) h = get_or-answers (λ k. f (suc k)) n k (omega arith)
+get_or-answers d f zero k h = absurd (omega arith)
+get_or-answers d f (suc n) zero h = refl
+get_or-answers d f (suc n) (suc k) h = get_or-answers d (λ k. f (suc k)) n k (omega arith)
 
 -- entries in the order of their keys, by either word for it
 first : (a b : Bool) → T (a && b) → T a
@@ -82,6 +82,7 @@ entry_if false passage what = None
 entry : Channel → Result Row Reason → Option (Passage × Deed)
 entry ch (Ok (row.Arbitrary node)) = None
 entry ch (Ok (row.Deed d)) = entry_if (is_channel ch d.channel) d.passage d.deed
+entry ch (Ok (row.Join j)) = None
 entry ch (Err why) = None
 
 -- what an entry says of a passage
@@ -104,6 +105,7 @@ said-entry : (ch : Channel) (q : Passage) (x : Result Row Reason) → deed_said 
 unfolding entry said_by
 said-entry ch q (Ok (row.Arbitrary node)) = refl
 said-entry ch q (Ok (row.Deed d)) = said-if (is_channel ch d.channel) d.passage q d.deed
+said-entry ch q (Ok (row.Join j)) = refl
 said-entry ch q (Err why) = refl
 
 -- the deeds on a channel that the records say, as a finite map: that of a passage is the first said of it
@@ -145,15 +147,18 @@ ascending-told ch records = ordered-keys passage_cmp (map.entries (deeds_told ch
 script_told : List FileRecord → ScriptView
 script_told records = record {
   arbitrary = answers (λ node. is_named node records) 65;
+  joins = answers (λ node. join_by node records) 65;
   on_a = map.entries (deeds_told channel.A records);
   on_b = map.entries (deeds_told channel.B records);
 }
 
 stands-told : (records : List FileRecord) → ScriptStandsFor (script_told records) records
-unfolding script_told is_arbitrary
+unfolding script_told is_arbitrary join_of
 stands-told records = record {
   long = length-answers (λ node. is_named node records) 65;
-  nodes = λ node low. get_or-answers (λ node. is_named node records) 65 node (omega arith);
+  joins_long = length-answers (λ node. join_by node records) 65;
+  nodes = λ node low. get_or-answers false (λ node. is_named node records) 65 node (omega arith);
+  joins = λ node low. get_or-answers None (λ node. join_by node records) 65 node (omega arith);
   deeds = λ ch q. deeds ch q;
   ascending = λ ch. ascending ch;
 }

@@ -1,6 +1,6 @@
 -- The reason of a record of a script is the least that holds.
 use Rattle.std.proofs.Common.{◌≡◌, ℕ, ℤ, pos, negsuc, ◌-◌, ◌≤◌, ◌≤ℤ◌, Bool, true, false, List, [], ◌∷◌, length, Option, Some, None, Result, Ok, Err, arith, refl, sym, ◌∙◌}
-use Rattle.std.specs.Prelude.{neg_ℤ, nat_abs, nat_lt, nat_le, not, ◌||◌, ◌==◌, codes, is_none, is_some, if◌then◌else◌}
+use Rattle.std.specs.Prelude.{neg_ℤ, nat_abs, nat_lt, nat_le, not, ◌||◌, ◌&&◌, ◌==◌, codes, is_none, is_some, if◌then◌else◌}
 use Rattle.std.specs.Str.{bytes_eq}
 use Rattle.std.proofs.lemmas.Bool.Decides.{nat_tests}
 use Rattle.std.proofs.lemmas.Int.{ints}
@@ -21,9 +21,9 @@ use Rattle.fr_cluster.specs.Values.{Values, amount}
 use Rattle.fr_cluster.specs.Sane.{IsSane}
 use Rattle.fr_cluster.specs.Questions.{is_common, node_of, own_key}
 use Rattle.fr_cluster.specs.declared.names.ParamName.TheVariants as name
-use Rattle.fr_script.specs.Rows.{arbitrary_row, deed_row, digits_in, farthest, flip_row, joined, lose_row, passage_in, said_in, say_deed, say_row, script_file_row, script_row_of, shift_in}
-use Rattle.fr_script.specs.Reasons.{bits_of, deed_by, has_acted, is_after_frame, is_misplaced, is_named, is_say, knows_both, script_reason_after, script_row_reason}
-use Rattle.fr_script.specs.Holding.{arbitrary_form, flip_form, is_not_hex, is_of_stranger, is_off_channel, is_second, lose_form, may_not_stand, passage_fields, say_form, script_form, script_holds}
+use Rattle.fr_script.specs.Rows.{arbitrary_row, deed_row, digits_in, farthest, flip_row, join_in, join_row, joining, lose_row, passage_in, passage_of_numbers, said_in, say_deed, say_row, script_file_row, script_row_of, shift_in}
+use Rattle.fr_script.specs.Reasons.{bits_of, deed_by, has_acted, is_after_frame, is_misplaced, is_named, is_say, join_by, knows_both, knows_joining, may_not_join, script_reason_after, script_row_reason, share_channel}
+use Rattle.fr_script.specs.Holding.{arbitrary_form, flip_form, join_form, is_not_hex, is_of_stranger, is_off_channel, is_second, lose_form, may_not_stand, passage_fields, say_form, script_form, script_holds}
 use Rattle.fr_script.specs.declared.deeds.Passage.{Passage}
 use Rattle.fr_script.specs.declared.deeds.Deed.{Deed}
 use Rattle.fr_script.specs.declared.deeds.Deed.TheVariants as deed
@@ -34,20 +34,22 @@ use Rattle.fr_script.specs.declared.rows.Row.TheVariants as row
 far : Values → Row → Bool
 far p (row.Arbitrary node) = false
 far p (row.Deed d) = is_after_frame p d.deed
+far p (row.Join j) = false
 
 astray : Row → Bool
 astray (row.Arbitrary node) = false
 astray (row.Deed d) = is_none d.channel
+astray (row.Join j) = false
 
 spelt : (o : Option Channel) → not (is_some o) ≡ is_none o
 spelt None = refl
 spelt (Some ch) = refl
 
 -- a passage
-joined-read : (d o : Bool) (x : Result (ℕ × (ℕ × ℕ)) NumberFault) → IsFault (λ (q : ℕ × (ℕ × ℕ)). never q.0 || (never q.1.0 || never q.1.1)) d o x → IsFault never d o (joined x)
-joined-read d o (Ok q) f = f
-joined-read d o (Err fault.NotDigits) f = f
-joined-read d o (Err fault.OutOfRange) f = f
+numbers-read : (d o : Bool) (x : Result (ℕ × (ℕ × ℕ)) NumberFault) → IsFault (λ (q : ℕ × (ℕ × ℕ)). never q.0 || (never q.1.0 || never q.1.1)) d o x → IsFault never d o (passage_of_numbers x)
+numbers-read d o (Ok q) f = f
+numbers-read d o (Err fault.NotDigits) f = f
+numbers-read d o (Err fault.OutOfRange) f = f
 
 passage-read : (r : FileRecord) → IsRead never (passage_fields r) true (passage_in r)
 passage-read r =
@@ -59,7 +61,7 @@ passage-read r =
     read-both never (λ (q : ℕ × ℕ). never q.0 || never q.1) (number_field (field_of r 1) 0 199_999 ∷ []) (number_field (field_of r 2) 1 64 ∷ number_field (field_of r 3) 1 64 ∷ []) true true
     (natural_of 0 199_999 (field_of r 1)) (both_of (natural_of 1 64 (field_of r 2)) (natural_of 1 64 (field_of r 3))) (natural-read 0 199_999 (field_of r 1)) rest
     in
-    joined-read _ _ (both_of (natural_of 0 199_999 (field_of r 1)) (both_of (natural_of 1 64 (field_of r 2)) (natural_of 1 64 (field_of r 3)))) all
+    numbers-read _ _ (both_of (natural_of 0 199_999 (field_of r 1)) (both_of (natural_of 1 64 (field_of r 2)) (natural_of 1 64 (field_of r 3)))) all
 
 -- a node
 arbitrary-formed : (p : Values) (r : FileRecord) → IsFormedBy (far p) astray (Some (arbitrary_form r)) (arbitrary_row r)
@@ -133,6 +135,36 @@ flip-formed p r from to =
     (formed-read (far p) astray (λ (q : Passage × ℕ). never q.0 || nat_le (bits_of p) q.1) _ _ _ (λ numbers. Ok (deed_row r numbers.0 (Some (deed.Flip numbers.1))))
     (both_of (passage_in r) (natural_of 0 2095 (field_of r 5))) all (λ a d o e f. (refl, refl, e, f, spelt (channel_of (field_of r 4)))))
 
+-- a node that joins
+joining-read : (d o : Bool) (x : Result (ℕ × (ℕ × ℕ)) NumberFault) → IsFault (λ (q : ℕ × (ℕ × ℕ)). never q.0 || (never q.1.0 || never q.1.1)) d o x → IsFault never d o (joining x)
+joining-read d o (Ok q) f = f
+joining-read d o (Err fault.NotDigits) f = f
+joining-read d o (Err fault.OutOfRange) f = f
+
+join-numbers : (r : FileRecord) → IsRead never (number_field (field_of r 1) 0 99_999 ∷ number_field (field_of r 2) 1 64 ∷ number_field (field_of r 3) 1 64 ∷ []) true (join_in r)
+join-numbers r =
+    let rest =
+    read-both never never (number_field (field_of r 2) 1 64 ∷ []) (number_field (field_of r 3) 1 64 ∷ []) true true (natural_of 1 64 (field_of r 2)) (natural_of 1 64 (field_of r 3))
+    (natural-read 1 64 (field_of r 2)) (natural-read 1 64 (field_of r 3))
+    in
+    let all =
+    read-both never (λ (q : ℕ × ℕ). never q.0 || never q.1) (number_field (field_of r 1) 0 99_999 ∷ []) (number_field (field_of r 2) 1 64 ∷ number_field (field_of r 3) 1 64 ∷ []) true true
+    (natural_of 0 99_999 (field_of r 1)) (both_of (natural_of 1 64 (field_of r 2)) (natural_of 1 64 (field_of r 3))) (natural-read 0 99_999 (field_of r 1)) rest
+    in
+    joining-read _ _ (both_of (natural_of 0 99_999 (field_of r 1)) (both_of (natural_of 1 64 (field_of r 2)) (natural_of 1 64 (field_of r 3)))) all
+
+-- three fields are left empty
+formed-three : (out bad : Row → Bool) (a b c name digits range channel : Bool) (x : Result Row Reason) → IsFormed out bad false name digits range channel x
+    → IsFormed out bad (not (a && (b && (c && true)))) name digits range channel (if a && b && c then x else Err reason.Shape)
+formed-three out bad true b c name digits range channel x f = formed-two out bad b c name digits range channel x f
+formed-three out bad false b c name digits range channel x f = refl
+
+join-formed : (p : Values) (r : FileRecord) → IsFormedBy (far p) astray (Some (join_form r)) (join_row r)
+unfolding far astray
+join-formed p r =
+    formed-three (far p) astray (is_blank (field_of r 4)) (is_blank (field_of r 5)) (is_blank (field_of r 6)) _ _ _ _ (or_reason (λ said. Ok (row.Join said)) (join_in r))
+    (formed-read (far p) astray never _ _ _ (λ said. Ok (row.Join said)) (join_in r) (join-numbers r) (λ a d o e f. (refl, refl, e, f, refl)))
+
 -- what a record says, against its form
 formed : (p : Values) (r : FileRecord) → 1 ≤ bits_of p → bits_of p ≤ 2096
     → IsFormed (far p) astray (misses_form 7 r (script_form p r)) (has_unknown_name (script_form p r)) (has_no_number (script_form p r)) (is_out_of_range (script_form p r)) (has_bad_channels (script_form p r)) (script_row_of r)
@@ -143,7 +175,8 @@ formed p r from to =
     (formed-if (far p) astray (bytes_eq (field_of r 0) (codes "arbitrary")) (Some (arbitrary_form r)) _ _ _ (arbitrary-formed p r)
     (formed-if (far p) astray (bytes_eq (field_of r 0) (codes "say")) (Some (say_form r)) _ _ _ (say-formed p r)
     (formed-if (far p) astray (bytes_eq (field_of r 0) (codes "lose")) (Some (lose_form r)) _ _ _ (lose-formed p r)
-    (formed-if (far p) astray (bytes_eq (field_of r 0) (codes "flip")) (Some (flip_form p r)) None _ (Err reason.UnknownName) (flip-formed p r from to) (refl, refl)))))
+    (formed-if (far p) astray (bytes_eq (field_of r 0) (codes "flip")) (Some (flip_form p r)) _ _ _ (flip-formed p r from to)
+    (formed-if (far p) astray (bytes_eq (field_of r 0) (codes "join")) (Some (join_form r)) None _ (Err reason.UnknownName) (join-formed p r) (refl, refl))))))
 
 -- a deed, by its channel
 least-deed : (p : Values) (test : Reason → Bool) (before : List FileRecord) (passage : Passage) (what : Option Deed) (o : Option Channel)
@@ -168,6 +201,8 @@ least-row p test before (Ok (row.Arbitrary n)) f node role link hex again =
     least-first test false false false false (is_none (node_of p n)) false (is_none (own_key p n) || has_acted before) false false (is_named n before) f.0 f.1 f.2 f.3 node f.4 role link hex again
 least-row p test before (Ok (row.Deed d)) f node role link hex again =
     least-deed p test before d.passage d.deed d.channel f.0 f.1 f.2 f.3 node f.4 role link hex again
+least-row p test before (Ok (row.Join j)) f node role link hex again =
+    least-first test false false false false (not (knows_joining p j)) false (may_not_join p before j) (not (share_channel p j)) false (is_some (join_by j.node before)) f.0 f.1 f.2 f.3 node f.4 role link hex again
 
 few-words : (z : ℤ) → pos 0 ≤ℤ z → z ≤ℤ pos 127 → nat_abs z ≤ 127
 few-words z from to = omega (arith, ints, from, to)

@@ -28,7 +28,7 @@ use Rattle.fr_records.specs.Fields.{is_channel, or_else, looked_up}
 use Rattle.fr_script.specs.Deeds.{deed_in, passage_cmp, DeedsAscend, passage_of}
 use Rattle.fr_script.specs.Rows.{script_row_of}
 use Rattle.fr_script.specs.Reasons.{names, is_named, has_acted, node_reason, script_row_reason, script_reason_after, bits_of, deed_said, is_same, is_after_frame}
-use Rattle.fr_script.specs.View.{ScriptView, is_arbitrary, deeds_on, deed_of}
+use Rattle.fr_script.specs.View.{ScriptView, is_arbitrary, join_of, deeds_on, deed_of}
 use Rattle.fr_base.specs.Event as event
 use Rattle.fr_script.specs.Events.{event_by, event_of}
 use Rattle.fr_script.specs.Files.{ScriptStandsFor, ScriptFits, script_file}
@@ -81,11 +81,17 @@ unfolding is_arbitrary
 nodes-same s t records f g =
     ext_get_or false s.arbitrary t.arbitrary (f.long ∙ sym g.long) (λ i below. let low : i ≤ 64 = omega (arith, f.long) in f.nodes i low ∙ sym (g.nodes i low))
 
+joins-same : (s t : ScriptView) (records : List FileRecord) → ScriptStandsFor s records → ScriptStandsFor t records → s.joins ≡ t.joins
+unfolding join_of
+joins-same s t records f g =
+    ext_get_or None s.joins t.joins (f.joins_long ∙ sym g.joins_long) (λ i below. let low : i ≤ 64 = omega (arith, f.joins_long) in f.joins i low ∙ sym (g.joins i low))
+
 -- records stand for one script
 pub stands-same : (s t : ScriptView) (records : List FileRecord) → ScriptStandsFor s records → ScriptStandsFor t records → s ≡ t
 stands-same s t records f g =
     let nodes = nodes-same s t records f g in
-    λ i. record { arbitrary = nodes i; on_a = on channel.A i; on_b = on channel.B i }
+    let joins = joins-same s t records f g in
+    λ i. record { arbitrary = nodes i; joins = joins i; on_a = on channel.A i; on_b = on channel.B i }
   where
     on : (ch : Channel) → deeds_on s ch ≡ deeds_on t ch
     on ch = deeds-same (deeds_on s ch) (deeds_on t ch) (f.ascending ch) (g.ascending ch) (λ q. f.deeds ch q ∙ sym (g.deeds ch q))
@@ -133,6 +139,7 @@ equal-of m n h = grind (arith, nat_tests)
 names-row : (node : ℕ) (x : Result Row Reason) → names node x ≡ true → x ≡ Ok (row.Arbitrary node)
 names-row node (Ok (row.Arbitrary other)) h = ap (λ (n : ℕ). Ok (row.Arbitrary n)) (equal-of other node h)
 names-row node (Ok (row.Deed d)) h = cc h
+names-row node (Ok (row.Join j)) h = cc h
 names-row node (Err why) h = cc h
 
 -- a node that is named has a key slot
@@ -206,6 +213,7 @@ below-not bits bit h = grind (arith, nat_tests)
 flip-row : (p : Values) (before : List FileRecord) (ch : Channel) (passage : Passage) (bit : ℕ) (x : Result Row Reason) → deed_said ch passage x ≡ Some (deed.Flip bit)
     → script_row_reason p before x ≡ None → bit < bits_of p
 flip-row p before ch passage bit (Ok (row.Arbitrary node)) says none = cc says
+flip-row p before ch passage bit (Ok (row.Join j)) says none = cc says
 flip-row p before ch passage bit (Err why) says none = cc says
 flip-row p before ch passage bit (Ok (row.Deed d)) says none =
     let what = chosen (is_channel ch d.channel && is_same d.passage passage) d.deed (deed.Flip bit) says in

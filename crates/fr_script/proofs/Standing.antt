@@ -5,7 +5,7 @@ use Rattle.fr_base.specs.declared.channel.Channel.TheVariants as channel
 use Rattle.fr_records.specs.Records.{FileRecord}
 use Rattle.fr_script.specs.Deeds.{deed_in, DeedsAscend}
 use Rattle.fr_script.specs.Reasons.{deed_by}
-use Rattle.fr_script.specs.View.{ScriptView, is_arbitrary, deeds_on}
+use Rattle.fr_script.specs.View.{ScriptView, is_arbitrary, join_of, deeds_on}
 use Rattle.fr_script.specs.Draft.{IsScriptDraft}
 use Rattle.fr_script.specs.Files.{ScriptStandsFor}
 use Rattle.fr_script.specs.declared.deeds.Passage.{Passage}
@@ -13,13 +13,15 @@ use Rattle.fr_script.specs.declared.draft.Draft.{Draft}
 
 -- the script of the tables
 abbrev pub view_of : Draft → ScriptView
-view_of d = record { arbitrary = d.arbitrary; on_a = d.on_a; on_b = d.on_b }
+view_of d = record { arbitrary = d.arbitrary; joins = d.joins; on_a = d.on_a; on_b = d.on_b }
 
 pub stands-of : (d : Draft) (records : List FileRecord) → IsScriptDraft d records → ScriptStandsFor (view_of d) records
-unfolding is_arbitrary
+unfolding is_arbitrary join_of
 stands-of d records h = record {
   long = h.long;
+  joins_long = h.joins_long;
   nodes = h.nodes;
+  joins = h.joins;
   deeds = deeds;
   ascending = ascending;
 }

@@ -12,15 +12,17 @@ use Rattle.fr_base.specs.declared.channel.Channel.TheVariants as channel
 use Rattle.fr_base.specs.declared.reason.Reason.{Reason}
 use Rattle.fr_base.specs.declared.reason.Reason.TheVariants as reason
 use Rattle.fr_records.specs.Records.{FileRecord}
+use Rattle.fr_cluster.specs.declared.join.Join.{Join}
 use Rattle.fr_records.specs.Fields.{is_channel, or_else, looked_up}
-use Rattle.fr_records.proofs.Lookups.{looked_up-more, or_else-none}
+use Rattle.fr_records.proofs.Lookups.{looked_up-more, looked_up-nil, or_else-none}
 use Rattle.fr_script.specs.Deeds.{deed_in, passage_cmp, DeedsAscend}
 use Rattle.fr_script.specs.Rows.{script_row_of, IsProperDeed}
-use Rattle.fr_script.specs.Reasons.{names, acts, is_same, deed_said, is_named, has_acted, deed_by}
+use Rattle.fr_script.specs.Reasons.{names, acts, is_same, deed_said, is_named, is_reference, has_acted, deed_by, join_by, join_said, refers}
 use Rattle.fr_script.specs.View.{AreDeeds}
 use Rattle.fr_script.specs.Draft.{IsScriptDraft, repeated}
 use Rattle.fr_script.specs.declared.deeds.Passage.{Passage}
 use Rattle.fr_script.specs.declared.deeds.Deed.{Deed}
+use Rattle.fr_script.specs.declared.rows.JoinRow.{JoinRow}
 use Rattle.fr_script.specs.declared.rows.Row.{Row}
 use Rattle.fr_script.specs.declared.rows.Row.TheVariants as row
 use Rattle.fr_script.specs.declared.draft.Draft.{Draft}
@@ -29,7 +31,7 @@ pub or-false : (b : Bool) → (b || false) ≡ b
 or-false true = refl
 or-false false = refl
 
-or-true : (b : Bool) → (b || true) ≡ true
+pub or-true : (b : Bool) → (b || true) ≡ true
 or-true true = refl
 or-true false = refl
 
@@ -40,7 +42,7 @@ is_named-more node done r x e =
     ∙ ap (λ (b : Bool). is_named node done || b) (or-false (names node (script_row_of r)))
     ∙ ap (λ (y : Result Row Reason). is_named node done || names node y) e
 
-has_acted-more : (done : List FileRecord) (r : FileRecord) (x : Result Row Reason) → script_row_of r ≡ x
+pub has_acted-more : (done : List FileRecord) (r : FileRecord) (x : Result Row Reason) → script_row_of r ≡ x
     → has_acted (done ++ r ∷ []) ≡ (has_acted done || acts x)
 has_acted-more done r x e =
     list_any-append (λ q. acts (script_row_of q)) done (r ∷ [])
@@ -50,6 +52,17 @@ has_acted-more done r x e =
 pub deed_by-more : (ch : Channel) (q : Passage) (done : List FileRecord) (r : FileRecord) (x : Result Row Reason) → script_row_of r ≡ x
     → deed_by ch q (done ++ r ∷ []) ≡ or_else (deed_by ch q done) (deed_said ch q x)
 deed_by-more ch q done r x e = looked_up-more (deed_said ch q) script_row_of done r x e
+
+pub join_by-more : (node : ℕ) (done : List FileRecord) (r : FileRecord) (x : Result Row Reason) → script_row_of r ≡ x
+    → join_by node (done ++ r ∷ []) ≡ or_else (join_by node done) (join_said node x)
+join_by-more node done r x e = looked_up-more (join_said node) script_row_of done r x e
+
+pub is_reference-more : (node : ℕ) (done : List FileRecord) (r : FileRecord) (x : Result Row Reason) → script_row_of r ≡ x
+    → is_reference node (done ++ r ∷ []) ≡ (is_reference node done || refers node x)
+is_reference-more node done r x e =
+    list_any-append (λ q. refers node (script_row_of q)) done (r ∷ [])
+    ∙ ap (λ (b : Bool). is_reference node done || b) (or-false (refers node (script_row_of r)))
+    ∙ ap (λ (y : Result Row Reason). is_reference node done || refers node y) e
 
 pub deeds-nil : AreDeeds []
 unfolding DeedsAscend IsStrictlySortedBy deed_in
@@ -66,11 +79,22 @@ deed_in-nil q = refl
 pub nothing-named : (k : ℕ) → k ≤ 64 → slice_index_or (replicate 65 false) k false ≡ false
 nothing-named k h = get_or-replicate 65 k false false (omega arith)
 
+abbrev none-join : ℕ → List (Option Join)
+none-join count = replicate count None
+
+-- a table in which no node joins
+pub no-joins : (length (none-join 65) ≡ 65) × ((k : ℕ) → k ≤ 64 → slice_index_or (none-join 65) k None ≡ None)
+no-joins = let none : Option Join = None in (length-replicate 65 none, λ k h. get_or-replicate 65 k none none (omega arith))
+
 -- tables of nothing
-pub draft-nil : (d : Draft) → d.arbitrary ≡ replicate 65 false → d.on_a ≡ [] → d.on_b ≡ [] → d.acted ≡ false → IsScriptDraft d []
-draft-nil d nodes a b acted = record {
+pub draft-nil : (d : Draft) → d.arbitrary ≡ replicate 65 false → d.joins ≡ replicate 65 None → d.references ≡ replicate 65 false → d.on_a ≡ [] → d.on_b ≡ [] → d.acted ≡ false → IsScriptDraft d []
+draft-nil d nodes joins references a b acted = record {
   long = rw nodes (length-replicate 65 false);
+  joins_long = rw joins no-joins.0;
+  references_long = rw references (length-replicate 65 false);
   nodes = λ k h. rw nodes (nothing-named k h);
+  joins = λ k h. rw joins (no-joins.1 k h ∙ sym (looked_up-nil (λ r. join_said k (script_row_of r))));
+  references = λ k h. rw references (nothing-named k h);
   acted = acted;
   said_a = λ q. rw a (deed_in-nil q ∙ deed_by-nil channel.A q);
   said_b = λ q. rw b (deed_in-nil q ∙ deed_by-nil channel.B q);
@@ -99,8 +123,48 @@ pub draft-node : (d : Draft) (done : List FileRecord) (r : FileRecord) (node : �
     → IsScriptDraft (record d { arbitrary = slice_set d.arbitrary node true }) (done ++ r ∷ [])
 draft-node d done r node h low e = record {
   long = length-set d.arbitrary node true ∙ h.long;
+  joins_long = h.joins_long;
+  references_long = h.references_long;
   nodes = λ k below. marked d.arbitrary node k _ h.long low (h.nodes k below) ∙ sym (is_named-more k done r _ e);
+  joins = λ k below. h.joins k below ∙ sym (join_by-more k done r _ e ∙ or_else-none _);
+  references = λ k below. h.references k below ∙ sym (is_reference-more k done r _ e ∙ or-false (is_reference k done));
   acted = h.acted ∙ sym (has_acted-more done r _ e ∙ or-false (has_acted done));
+  said_a = λ q. h.said_a q ∙ sym (deed_by-more channel.A q done r _ e ∙ or_else-none _);
+  said_b = λ q. h.said_b q ∙ sym (deed_by-more channel.B q done r _ e ∙ or_else-none _);
+  deeds_a = h.deeds_a;
+  deeds_b = h.deeds_b;
+}
+
+-- how a node joins that did not yet, and how the others do
+noted : (joins : List (Option Join)) (node k : ℕ) (join : Join) (said : ℕ → Option Join) → length joins ≡ 65 → node ≤ 64 → said node ≡ None → slice_index_or joins k None ≡ said k
+    → slice_index_or (slice_set joins node (Some join)) k None ≡ or_else (said k) (if node == k then Some join else None)
+noted joins node k join said long low none before = by (cases_eq k node)
+  where
+    room : node < length joins
+    room = omega (arith, long)
+
+    by : (k ≡ node) ⊎ (k ≡ node → ⊥) → slice_index_or (slice_set joins node (Some join)) k None ≡ or_else (said k) (if node == k then Some join else None)
+    by (inl e) =
+        let yes : (node == k) ≡ true = eq-eqb node k (sym e) in
+        let other : or_else (said k) (if node == k then Some join else None) ≡ Some join = rw (ap said e ∙ none, yes) refl in
+        let own : slice_index_or (slice_set joins node (Some join)) k None ≡ Some join = rw e (get_or-set_same joins node (Some join) None room) in
+        own ∙ sym other
+    by (inr ne) =
+        let no : (node == k) ≡ false = grind (arith, nat_tests) in
+        get_or-set_other joins node k (Some join) None ne ∙ before ∙ sym (ap (λ (b : Bool). or_else (said k) (if b then Some join else None)) no ∙ or_else-none (said k))
+
+-- a node joins that did not yet
+pub draft-join : (d : Draft) (done : List FileRecord) (r : FileRecord) (j : JoinRow) → IsScriptDraft d done → j.node ≤ 64 → j.join.reference ≤ 64 → script_row_of r ≡ Ok (row.Join j)
+    → join_by j.node done ≡ None
+    → IsScriptDraft (record d { joins = slice_set d.joins j.node (Some j.join); references = slice_set d.references j.join.reference true; acted = true }) (done ++ r ∷ [])
+draft-join d done r j h low below e none = record {
+  long = h.long;
+  joins_long = length-set d.joins j.node (Some j.join) ∙ h.joins_long;
+  references_long = length-set d.references j.join.reference true ∙ h.references_long;
+  nodes = λ k small. h.nodes k small ∙ sym (is_named-more k done r _ e ∙ or-false (is_named k done));
+  joins = λ k small. noted d.joins j.node k j.join (λ n. join_by n done) h.joins_long low none (h.joins k small) ∙ sym (join_by-more k done r _ e);
+  references = λ k small. marked d.references j.join.reference k _ h.references_long below (h.references k small) ∙ sym (is_reference-more k done r _ e);
+  acted = sym (has_acted-more done r _ e ∙ or-true (has_acted done));
   said_a = λ q. h.said_a q ∙ sym (deed_by-more channel.A q done r _ e ∙ or_else-none _);
   said_b = λ q. h.said_b q ∙ sym (deed_by-more channel.B q done r _ e ∙ or_else-none _);
   deeds_a = h.deeds_a;
@@ -185,7 +249,11 @@ pub draft-deed_a : (d : Draft) (new : List (Passage × Deed)) (done : List FileR
     → IsScriptDraft (record d { on_a = new; acted = true }) (done ++ r ∷ [])
 draft-deed_a d new done r passage what h e empty proper there ordered = record {
   long = h.long;
+  joins_long = h.joins_long;
+  references_long = h.references_long;
   nodes = λ k below. h.nodes k below ∙ sym (is_named-more k done r _ e ∙ or-false (is_named k done));
+  joins = λ k below. h.joins k below ∙ sym (join_by-more k done r _ e ∙ or_else-none _);
+  references = λ k below. h.references k below ∙ sym (is_reference-more k done r _ e ∙ or-false (is_reference k done));
   acted = sym (has_acted-more done r _ e ∙ or-true (has_acted done));
   said_a = taken channel.A done r d.on_a new passage what e refl h.said_a empty there;
   said_b = kept channel.B channel.A done r d.on_b passage what e refl h.said_b;
@@ -199,7 +267,11 @@ pub draft-deed_b : (d : Draft) (new : List (Passage × Deed)) (done : List FileR
     → IsScriptDraft (record d { on_b = new; acted = true }) (done ++ r ∷ [])
 draft-deed_b d new done r passage what h e empty proper there ordered = record {
   long = h.long;
+  joins_long = h.joins_long;
+  references_long = h.references_long;
   nodes = λ k below. h.nodes k below ∙ sym (is_named-more k done r _ e ∙ or-false (is_named k done));
+  joins = λ k below. h.joins k below ∙ sym (join_by-more k done r _ e ∙ or_else-none _);
+  references = λ k below. h.references k below ∙ sym (is_reference-more k done r _ e ∙ or-false (is_reference k done));
   acted = sym (has_acted-more done r _ e ∙ or-true (has_acted done));
   said_a = kept channel.A channel.B done r d.on_a passage what e refl h.said_a;
   said_b = taken channel.B done r d.on_b new passage what e refl h.said_b empty there;

@@ -6,7 +6,7 @@ use Rattle.fr_base.specs.declared.reason.Reason.TheVariants as reason
 use Rattle.fr_records.specs.Records.{FileRecord}
 use Rattle.fr_records.specs.Takes.{Takes}
 use Rattle.fr_script.specs.Deeds.{deed_in}
-use Rattle.fr_script.specs.Reasons.{is_named, has_acted, deed_by, deed_reason, script_row_reason}
+use Rattle.fr_script.specs.Reasons.{is_named, is_reference, has_acted, deed_by, deed_reason, join_by, script_row_reason}
 use Rattle.fr_script.specs.Rows.{script_row_of}
 use Rattle.fr_script.specs.View.{AreDeeds}
 use Rattle.fr_script.specs.declared.deeds.Deed.{Deed}
@@ -20,7 +20,11 @@ use Rattle.fr_script.specs.declared.rows.Row.TheVariants as row
 -- the tables hold what the records say
 pub record IsScriptDraft (draft : Draft) (records : List FileRecord) : Type 0 where
   pub long : length draft.arbitrary ≡ 65
+  pub joins_long : length draft.joins ≡ 65
+  pub references_long : length draft.references ≡ 65
   pub nodes : (node : ℕ) → node ≤ 64 → slice_index_or draft.arbitrary node false ≡ is_named node records
+  pub joins : (node : ℕ) → node ≤ 64 → slice_index_or draft.joins node None ≡ join_by node records
+  pub references : (node : ℕ) → node ≤ 64 → slice_index_or draft.references node false ≡ is_reference node records
   pub acted : draft.acted ≡ has_acted records
   pub said_a : (passage : Passage) → deed_in draft.on_a passage ≡ deed_by channel.A passage records
   pub said_b : (passage : Passage) → deed_in draft.on_b passage ≡ deed_by channel.B passage records

@@ -6,6 +6,7 @@ use Rattle.fr_script.specs.declared.script.Script.TheInside.{Inside}
 abbrev pub seen_of : Inside → ScriptView
 seen_of a = record {
   arbitrary = a.arbitrary;
+  joins = a.joins;
   on_a = a.on_a;
   on_b = a.on_b;
 }

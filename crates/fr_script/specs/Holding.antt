@@ -12,7 +12,7 @@ use Rattle.fr_records.specs.Least.{row_passes}
 use Rattle.fr_cluster.specs.Values.{Values}
 use Rattle.fr_cluster.specs.Questions.{is_common, node_of, own_key}
 use Rattle.fr_script.specs.Rows.{farthest, script_row_of}
-use Rattle.fr_script.specs.Reasons.{bits_of, deed_by, has_acted, is_misplaced, is_named, is_say, knows_both}
+use Rattle.fr_script.specs.Reasons.{bits_of, deed_by, has_acted, is_misplaced, is_named, is_say, join_by, knows_both, knows_joining, may_not_join, share_channel}
 use Rattle.fr_script.specs.declared.rows.Row.{Row}
 use Rattle.fr_script.specs.declared.rows.Row.TheVariants as row
 
@@ -63,39 +63,56 @@ flip_form p r = record {
   spelt = is_spelt r;
 }
 
+-- `join,DOUBLE,NODE,REFERENCE,,,`
+abbrev pub join_form : FileRecord → Form
+join_form r = record {
+  empty = field_of r 4 ∷ field_of r 5 ∷ field_of r 6 ∷ [];
+  known = true;
+  numbers = number_field (field_of r 1) 0 99_999 ∷ number_field (field_of r 2) 1 64 ∷ number_field (field_of r 3) 1 64 ∷ [];
+  short = true;
+  spelt = true;
+}
+
 abbrev pub script_form : Values → FileRecord → Option Form
 script_form p r =
     if bytes_eq (field_of r 0) (codes "arbitrary") then Some (arbitrary_form r)
     else if bytes_eq (field_of r 0) (codes "say") then Some (say_form r)
     else if bytes_eq (field_of r 0) (codes "lose") then Some (lose_form r)
     else if bytes_eq (field_of r 0) (codes "flip") then Some (flip_form p r)
+    else if bytes_eq (field_of r 0) (codes "join") then Some (join_form r)
     else None
 
 -- a node that is none of the parameters
 abbrev pub is_of_stranger : Values → Row → Bool
 is_of_stranger p (row.Arbitrary node) = is_none (node_of p node)
 is_of_stranger p (row.Deed d) = not (knows_both p d.passage)
+is_of_stranger p (row.Join j) = not (knows_joining p j)
 
 -- a node without a key slot, or one that is named after other records; a deed where sender and receiver are the same, where
--- the receiver is arbitrary, or where a sender says and is not arbitrary, or is arbitrary and does not say
+-- the receiver is arbitrary, or where a sender says and is not arbitrary, or is arbitrary and does not say; a node that joins
+-- itself or an arbitrary one, or is arbitrary, one that is a reference, and a reference without a key slot or that joins
 abbrev pub may_not_stand : Values → List FileRecord → Row → Bool
 may_not_stand p before (row.Arbitrary node) = is_none (own_key p node) || has_acted before
 may_not_stand p before (row.Deed d) = is_misplaced before d.passage (is_say d.deed)
+may_not_stand p before (row.Join j) = may_not_join p before j
 
--- a deed on a channel that is not common to both nodes
+-- a deed on a channel that is not common to both nodes; a node and its reference without a common channel
 abbrev pub is_off_channel : Values → Row → Bool
 is_off_channel p (row.Arbitrary node) = false
 is_off_channel p (row.Deed d) = option_map_or (λ ch. not (is_common p d.passage.sender d.passage.receiver ch)) d.channel false
+is_off_channel p (row.Join j) = not (share_channel p j)
 
 -- a frame that is said in no hexadecimal digits
 abbrev pub is_not_hex : Row → Bool
 is_not_hex (row.Arbitrary node) = false
 is_not_hex (row.Deed d) = is_none d.deed
+is_not_hex (row.Join j) = false
 
--- a node that is named twice; a second deed of a passage
+-- a node that is named twice; a second deed of a passage; a node that joins twice
 abbrev pub is_second : List FileRecord → Row → Bool
 is_second before (row.Arbitrary node) = is_named node before
 is_second before (row.Deed d) = option_map_or (λ ch. is_some (deed_by ch d.passage before)) d.channel false
+is_second before (row.Join j) = is_some (join_by j.node before)
 
 -- whether a reason holds of a record after the records before it
 abbrev pub script_holds : Values → List FileRecord → FileRecord → Reason → Bool

@@ -3,10 +3,12 @@
 use Rattle.std.specs.Prelude.{ℕ, ◌+◌, ◌*◌, nat_le, Bool, true, false, not, ◌==◌, ◌&&◌, ◌||◌, List, Option, Some, None, is_some, is_none, Result, Ok, Err, if◌then◌else◌}
 use Rattle.std.specs.List.{list_any}
 use Rattle.fr_base.specs.declared.channel.Channel.{Channel}
+use Rattle.fr_base.specs.declared.channel.Channel.TheVariants as channel
 use Rattle.fr_base.specs.declared.reason.Reason.{Reason}
 use Rattle.fr_base.specs.declared.reason.Reason.TheVariants as reason
 use Rattle.fr_records.specs.Records.{FileRecord}
 use Rattle.fr_cluster.specs.Values.{Values, amount}
+use Rattle.fr_cluster.specs.declared.join.Join.{Join}
 use Rattle.fr_cluster.specs.Questions.{is_common, node_of, own_key}
 use Rattle.fr_records.specs.Fields.{is_channel, looked_up}
 use Rattle.fr_cluster.specs.declared.names.ParamName.TheVariants as name
@@ -15,6 +17,7 @@ use Rattle.fr_script.specs.declared.deeds.Passage.{Passage}
 use Rattle.fr_script.specs.declared.deeds.Deed.{Deed}
 use Rattle.fr_script.specs.declared.deeds.Deed.TheVariants as deed
 use Rattle.fr_script.specs.declared.rows.DeedRow.{DeedRow}
+use Rattle.fr_script.specs.declared.rows.JoinRow.{JoinRow}
 use Rattle.fr_script.specs.declared.rows.Row.{Row}
 use Rattle.fr_script.specs.declared.rows.Row.TheVariants as row
 
@@ -22,12 +25,14 @@ use Rattle.fr_script.specs.declared.rows.Row.TheVariants as row
 abbrev pub names : ℕ → Result Row Reason → Bool
 names node (Ok (row.Arbitrary other)) = other == node
 names node (Ok (row.Deed d)) = false
+names node (Ok (row.Join j)) = false
 names node (Err why) = false
 
 -- whether a row is of another kind
 abbrev pub acts : Result Row Reason → Bool
 acts (Ok (row.Arbitrary node)) = false
 acts (Ok (row.Deed d)) = true
+acts (Ok (row.Join j)) = true
 acts (Err why) = false
 
 abbrev pub is_same : Passage → Passage → Bool
@@ -37,7 +42,21 @@ is_same a b = (a.sender == b.sender) && (a.receiver == b.receiver) && (a.cycle =
 abbrev pub deed_said : Channel → Passage → Result Row Reason → Option Deed
 deed_said ch passage (Ok (row.Arbitrary node)) = None
 deed_said ch passage (Ok (row.Deed d)) = if is_channel ch d.channel && is_same d.passage passage then d.deed else None
+deed_said ch passage (Ok (row.Join j)) = None
 deed_said ch passage (Err why) = None
+
+-- how a node joins, if a row says it, and whether a row gives it as the reference of one that joins
+abbrev pub join_said : ℕ → Result Row Reason → Option Join
+join_said node (Ok (row.Arbitrary other)) = None
+join_said node (Ok (row.Deed d)) = None
+join_said node (Ok (row.Join j)) = if j.node == node then Some j.join else None
+join_said node (Err why) = None
+
+abbrev pub refers : ℕ → Result Row Reason → Bool
+refers node (Ok (row.Arbitrary other)) = false
+refers node (Ok (row.Deed d)) = false
+refers node (Ok (row.Join j)) = j.join.reference == node
+refers node (Err why) = false
 
 -- whether the records name a node arbitrary, and whether one is of another kind
 abbrev pub is_named : ℕ → List FileRecord → Bool
@@ -45,6 +64,14 @@ is_named node records = list_any (λ r. names node (script_row_of r)) records
 
 abbrev pub has_acted : List FileRecord → Bool
 has_acted records = list_any (λ r. acts (script_row_of r)) records
+
+-- how a node joins the running cluster, as the records say
+abbrev pub join_by : ℕ → List FileRecord → Option Join
+join_by node records = looked_up (λ r. join_said node (script_row_of r)) records
+
+-- and whether they give it as the reference of one that joins
+abbrev pub is_reference : ℕ → List FileRecord → Bool
+is_reference node records = list_any (λ r. refers node (script_row_of r)) records
 
 -- the deed of a passage on a channel that the records say
 abbrev pub deed_by : Channel → Passage → List FileRecord → Option Deed
@@ -102,11 +129,40 @@ deed_reason p records d =
     else if not (knows_both p d.passage) then Some reason.UnknownNode
     else channel_reason p records d.passage d.deed d.channel
 
+-- whether the cluster has both nodes of a `join` row
+abbrev pub knows_joining : Values → JoinRow → Bool
+knows_joining p j = is_some (node_of p j.node) && is_some (node_of p j.join.reference)
+
+-- a node joins another one; both are correct; the reference has a key slot and takes part from the first cycle on, so no node
+-- joins that is a reference
+abbrev pub may_not_join : Values → List FileRecord → JoinRow → Bool
+may_not_join p records j =
+    (j.node == j.join.reference)
+    || is_named j.node records
+    || is_named j.join.reference records
+    || is_none (own_key p j.join.reference)
+    || is_some (join_by j.join.reference records)
+    || is_reference j.node records
+
+-- whether both have a channel in common
+abbrev pub share_channel : Values → JoinRow → Bool
+share_channel p j = is_common p j.node j.join.reference channel.A || is_common p j.node j.join.reference channel.B
+
+-- the least reason after these records for which a node does not join
+abbrev pub join_reason : Values → List FileRecord → JoinRow → Option Reason
+join_reason p records j =
+    if not (knows_joining p j) then Some reason.UnknownNode
+    else if may_not_join p records j then Some reason.Role
+    else if not (share_channel p j) then Some reason.Link
+    else if is_some (join_by j.node records) then Some reason.Repeated
+    else None
+
 -- the least reason after these records, of what a record says or shows by itself
 abbrev pub script_row_reason : Values → List FileRecord → Result Row Reason → Option Reason
 script_row_reason p records (Err why) = Some why
 script_row_reason p records (Ok (row.Arbitrary node)) = node_reason p records node
 script_row_reason p records (Ok (row.Deed d)) = deed_reason p records d
+script_row_reason p records (Ok (row.Join j)) = join_reason p records j
 
 -- why a record is refused after the records before it, if it is
 abbrev pub script_reason_after : Values → List FileRecord → FileRecord → Option Reason

@@ -17,6 +17,7 @@ use Rattle.fr_script.specs.Said.{AreSaidBytes}
 use Rattle.fr_script.specs.declared.deeds.Passage.{Passage}
 use Rattle.fr_script.specs.declared.deeds.Deed.{Deed}
 use Rattle.fr_script.specs.declared.deeds.Deed.TheVariants as deed
+use Rattle.fr_script.specs.declared.rows.JoinRow.{JoinRow}
 use Rattle.fr_script.specs.declared.rows.Row.{Row}
 use Rattle.fr_script.specs.declared.rows.Row.TheVariants as row
 
@@ -29,12 +30,12 @@ abbrev pub most_bits : ℕ
 most_bits = 8 * 262
 
 -- the passage that three fields name
-abbrev pub joined : Result (ℕ × (ℕ × ℕ)) NumberFault → Result Passage NumberFault
-joined (Ok numbers) = Ok (passage_of numbers.1.0 numbers.1.1 numbers.0)
-joined (Err fault) = Err fault
+abbrev pub passage_of_numbers : Result (ℕ × (ℕ × ℕ)) NumberFault → Result Passage NumberFault
+passage_of_numbers (Ok numbers) = Ok (passage_of numbers.1.0 numbers.1.1 numbers.0)
+passage_of_numbers (Err fault) = Err fault
 
 abbrev pub passage_in : FileRecord → Result Passage NumberFault
-passage_in fields = joined (both_of (natural_of 0 199_999 (field_of fields 1)) (both_of (natural_of 1 64 (field_of fields 2)) (natural_of 1 64 (field_of fields 3))))
+passage_in fields = passage_of_numbers (both_of (natural_of 0 199_999 (field_of fields 1)) (both_of (natural_of 1 64 (field_of fields 2)) (natural_of 1 64 (field_of fields 3))))
 
 -- how many hexadecimal digits a field has, if they are no more than a frame has; every byte counts as one
 abbrev pub digits_in : List ℕ → Result ℕ NumberFault
@@ -87,6 +88,21 @@ flip_row fields =
     then or_reason (λ numbers. Ok (deed_row fields numbers.0 (Some (deed.Flip numbers.1)))) (both_of (passage_in fields) (natural_of 0 2095 (field_of fields 5)))
     else Err reason.Shape
 
+-- the fields after a reference are empty
+abbrev pub is_reference_last : FileRecord → Bool
+is_reference_last fields = is_blank (field_of fields 4) && is_blank (field_of fields 5) && is_blank (field_of fields 6)
+
+-- the node, and how it joins, that three fields name
+abbrev pub joining : Result (ℕ × (ℕ × ℕ)) NumberFault → Result JoinRow NumberFault
+joining (Ok numbers) = Ok (record { node = numbers.1.0; join = record { double = numbers.0; reference = numbers.1.1 } })
+joining (Err fault) = Err fault
+
+abbrev pub join_in : FileRecord → Result JoinRow NumberFault
+join_in fields = joining (both_of (natural_of 0 99_999 (field_of fields 1)) (both_of (natural_of 1 64 (field_of fields 2)) (natural_of 1 64 (field_of fields 3))))
+
+abbrev pub join_row : FileRecord → Result Row Reason
+join_row fields = if is_reference_last fields then or_reason (λ said. Ok (row.Join said)) (join_in fields) else Err reason.Shape
+
 -- what a record of seven fields says, by its kind
 abbrev pub script_file_row : FileRecord → Result Row Reason
 script_file_row fields =
@@ -94,6 +110,7 @@ script_file_row fields =
     else if bytes_eq (field_of fields 0) (codes "say") then say_row fields
     else if bytes_eq (field_of fields 0) (codes "lose") then lose_row fields
     else if bytes_eq (field_of fields 0) (codes "flip") then flip_row fields
+    else if bytes_eq (field_of fields 0) (codes "join") then join_row fields
     else Err reason.UnknownName
 
 -- what a record says, or the least of the reasons that it shows by itself: but for those of a field that is no channel or
@@ -115,3 +132,4 @@ IsProperDeed (deed.Say shift bytes) = IsProperSay shift bytes
 abbrev pub IsProperScriptRow : Row → Type 0
 IsProperScriptRow (row.Arbitrary node) = Unit {0}
 IsProperScriptRow (row.Deed d) = IfSome d.deed IsProperDeed
+IsProperScriptRow (row.Join j) = j.join.double < 100_000

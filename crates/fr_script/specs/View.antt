@@ -2,20 +2,27 @@
 use Rattle.std.specs.Prelude.{ℕ, ◌≡◌, ◌⊎◌, Bool, false, List, length, Option, None, IsSome, IfSome, slice_index_or}
 use Rattle.fr_base.specs.declared.channel.Channel.{Channel}
 use Rattle.fr_base.specs.declared.channel.Channel.TheVariants as channel
+use Rattle.fr_cluster.specs.declared.join.Join.{Join}
 use Rattle.fr_script.specs.Deeds.{deed_in, passage_of, DeedsAscend, IsNextCycle}
 use Rattle.fr_script.specs.Rows.{IsProperDeed}
 use Rattle.fr_script.specs.declared.deeds.Passage.{Passage}
 use Rattle.fr_script.specs.declared.deeds.Deed.{Deed}
 
--- whether the node of each number is arbitrary, and the deeds of each channel in ascending order
+-- whether the node of each number is arbitrary, how it joins the running cluster, and the deeds of each channel in ascending
+-- order
 pub record ScriptView : Type 0 where
   pub arbitrary : List Bool
+  pub joins : List (Option Join)
   pub on_a : List (Passage × Deed)
   pub on_b : List (Passage × Deed)
 
 -- whether the script names a node arbitrary
 unfoldable pub is_arbitrary : ScriptView → ℕ → Bool
 is_arbitrary s node = slice_index_or s.arbitrary node false
+
+-- how a node joins the running cluster, if the script says so
+unfoldable pub join_of : ScriptView → ℕ → Option Join
+join_of s node = slice_index_or s.joins node None
 
 -- the deeds of a channel
 abbrev pub deeds_on : ScriptView → Channel → List (Passage × Deed)
@@ -40,5 +47,6 @@ pub record AreDeeds (deeds : List (Passage × Deed)) : Type 0 where
 -- what holds of every script
 pub record IsScript (s : ScriptView) : Type 0 where
   pub long : length s.arbitrary ≡ 65
+  pub joins_long : length s.joins ≡ 65
   pub deeds_a : AreDeeds s.on_a
   pub deeds_b : AreDeeds s.on_b

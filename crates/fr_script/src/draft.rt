@@ -13,17 +13,19 @@ use crate::rows::{DeedRow, Row, read_row};
 use crate::script::Script;
 use csv::ByteRecord;
 use fr_base::{Channel, NodeId, Reason};
-use fr_cluster::Params;
+use fr_cluster::{Join, Params};
 use fr_records::Table;
 use std::alloc::{AllocError, Global};
 
-// What the records so far say: which nodes are arbitrary, by their number, what becomes of frames, by
-// channel, and whether a record of another kind than `arbitrary` came.
+// What the records so far say: which nodes are arbitrary, which join and which are their references, by their number,
+// what becomes of frames, by channel, and whether a record of another kind than `arbitrary` came.
 #[derive(Drop)]
 pub(crate) struct Draft<'a> {
     pub(crate) alloc: Global,
     pub(crate) params: &'a Params,
     pub(crate) arbitrary: [bool; 65],
+    pub(crate) joins: [Option<Join>; 65],
+    pub(crate) references: [bool; 65],
     pub(crate) on_a: DeedTable,
     pub(crate) on_b: DeedTable,
     pub(crate) acted: bool,
@@ -46,6 +48,8 @@ impl<'a> Draft<'a> {
             alloc,
             params,
             arbitrary: [false; 65],
+            joins: [None; 65],
+            references: [false; 65],
             on_a: DeedTable::new(alloc),
             on_b: DeedTable::new(alloc),
             acted: false,
@@ -57,6 +61,7 @@ impl<'a> Draft<'a> {
         requires { (done : List FileRecord) × IsScriptDraft self done }
         ensures script { result ≡ record {
           arbitrary = self.entry.arbitrary;
+          joins = self.entry.joins;
           on_a = self.entry.on_a;
           on_b = self.entry.on_b;
         } }
@@ -66,14 +71,16 @@ impl<'a> Draft<'a> {
             alloc: _,
             params: _,
             arbitrary,
+            joins,
+            references: _,
             on_a,
             on_b,
             acted: _,
         } = self;
-        Script::of(arbitrary, on_a, on_b)
+        Script::of(arbitrary, joins, on_a, on_b)
     }
 
-    fn is_arbitrary(&self, node: NodeId) -> bool
+    pub(crate) fn is_arbitrary(&self, node: NodeId) -> bool
         ensures { (done : List FileRecord) → IsScriptDraft self.now done → result ≡ is_named node done }
     {
         self.arbitrary[usize::from(node.0)]
@@ -105,6 +112,7 @@ impl<'a> Draft<'a> {
         match row {
             Row::Arbitrary(node) => Ok(self.take_node(node)),
             Row::Deed(deed) => self.take_deed(deed),
+            Row::Join(join) => Ok(self.take_join(&join)),
         }
     }
 

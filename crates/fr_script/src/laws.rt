@@ -7,7 +7,7 @@ ghost use Rattle.fr_script.specs.Reasons.{script_reason_after};
 ghost use Rattle.fr_script.specs.Holding.{script_holds};
 ghost use Rattle.fr_script.specs.View.{ScriptView};
 ghost use Rattle.fr_script.specs.Files.{ScriptFits, IsScriptFile, script_file};
-ghost use Rattle.fr_script.specs.Promises.{AreProperEvents, FlipsBitsOfFrames, HaveKeySlots};
+ghost use Rattle.fr_script.specs.Promises.{AreProperEvents, FlipsBitsOfFrames, HaveKeySlots, NodesJoinProperly};
 
 /// The answer to a file is determined by its bytes and the parameters: two that are not want of memory are
 /// the same. So a file stands for one `Script` at most, has one first refused record at most, and is not
@@ -46,4 +46,10 @@ pub fn events_are_proper()
 /// A bit that a script inverts is one of a frame of the parameters that the script fits.
 pub fn flipped_bit_is_of_a_frame()
     ensures { (p : Values) (s : ScriptView) → ScriptFits p s → FlipsBitsOfFrames p s }
+{}
+
+/// A node that joins the running cluster is a correct one of the parameters that the script fits, and so is its
+/// reference: another one, with a key slot and a channel in common, that takes part from the first cycle on.
+pub fn joining_nodes_have_references()
+    ensures { (p : Values) (s : ScriptView) → ScriptFits p s → NodesJoinProperly p s }
 {}

@@ -1,9 +1,11 @@
-//! The fault script of a cluster: which nodes are arbitrary, and what becomes of each frame.
+//! The fault script of a cluster: which nodes are arbitrary, which join the running cluster, and what becomes of each
+//! frame.
 #![tactic(auto)]
 
 mod deeds;
 mod draft;
 mod fault;
+mod joins;
 mod kind;
 mod laws;
 mod reading;
@@ -15,8 +17,9 @@ mod typed;
 pub use fault::ScriptFault;
 pub use kind::ScriptFile;
 pub use laws::{
-    arbitrary_node_has_key_slot, events_are_proper, flipped_bit_is_of_a_frame, one_answer,
-    refused_for_the_least_reason, script_of_a_file_fits, some_answer,
+    arbitrary_node_has_key_slot, events_are_proper, flipped_bit_is_of_a_frame,
+    joining_nodes_have_references, one_answer, refused_for_the_least_reason, script_of_a_file_fits,
+    some_answer,
 };
 pub use reading::read;
 pub use script::{Event, Script};

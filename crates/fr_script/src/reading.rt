@@ -9,8 +9,9 @@ use fr_cluster::Params;
 use fr_records::{RowFault, read_all};
 use std::alloc::Global;
 
-/// Reads the fault script of a cluster with these parameters. It accepts exactly the files of which no
-/// record is refused, the empty one among them; the answer is what the file stands for.
+/// Reads the fault script of a cluster with these parameters: which nodes are arbitrary and which join the running
+/// cluster, and what is done to frames. It accepts exactly the files of which no record is refused, the empty one
+/// among them; the answer is what the file stands for.
 ///
 /// Its only refusal is `Row`, the first record that is refused, by its number from 1, with the least reason
 /// that holds. `NoMemory` comes where memory ran out.

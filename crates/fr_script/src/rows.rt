@@ -1,12 +1,13 @@
-ghost use Rattle.std.specs.Prelude.{◌≡◌, ◌≤◌, length, IfOk, IfSome, pos, neg_ℤ, ◌≤ℤ◌};
+ghost use Rattle.std.specs.Prelude.{◌≡◌, ◌≤◌, ◌<◌, length, IfOk, IfSome, pos, neg_ℤ, ◌≤ℤ◌};
 ghost use Rattle.csv.specs.Records.{fields_of};
 ghost use Rattle.fr_records.specs.Fields.{field_of, is_blank};
 ghost use Rattle.fr_script.specs.Said.{AreSaidBytes};
-ghost use Rattle.fr_script.specs.Rows.{IsProperDeed, IsProperScriptRow, arbitrary_row, deed_row, digits_in, farthest, flip_row, is_channel_last, is_node_alone, script_file_row, lose_row, passage_in, script_row_of, said_in, say_deed, say_row, shift_in};
+ghost use Rattle.fr_script.specs.Rows.{IsProperDeed, IsProperScriptRow, arbitrary_row, deed_row, digits_in, farthest, flip_row, is_channel_last, is_node_alone, is_reference_last, join_in, join_row, script_file_row, lose_row, passage_in, script_row_of, said_in, say_deed, say_row, shift_in};
 
 use crate::deeds::{Deed, Passage, SaidBytes};
 use csv::ByteRecord;
 use fr_base::{Channel, NodeId, NumberFault, Reason, number};
+use fr_cluster::Join;
 use fr_records::{both, field, natural, reason_of};
 use hex::FromHexError;
 use std::alloc::{AllocError, Global};
@@ -30,6 +31,13 @@ pub struct DeedRow {
     pub deed: Option<Deed>,
 }
 
+/// What a record says of a node that joins the running cluster.
+#[derive(Clone, Copy)]
+pub struct JoinRow {
+    pub node: NodeId,
+    pub join: Join,
+}
+
 /// What a record of a script says by itself.
 #[derive(Drop)]
 pub enum Row {
@@ -37,6 +45,8 @@ pub enum Row {
     Arbitrary(NodeId),
     /// What becomes of the frames of a passage.
     Deed(DeedRow),
+    /// The node joins the running cluster.
+    Join(JoinRow),
 }
 
 /// What a record says, or the least of the reasons that it shows by itself: Shape, UnknownName, NotNumber,
@@ -66,6 +76,8 @@ fn read_kind(alloc: Global, row: &ByteRecord) -> Result<Result<Row, Reason>, All
         Ok(read_lose(row))
     } else if kind == b"flip".as_slice() {
         Ok(read_flip(row))
+    } else if kind == b"join".as_slice() {
+        Ok(read_join(row))
     } else {
         Ok(Err(Reason::UnknownName))
     }
@@ -138,6 +150,45 @@ fn read_flip(row: &ByteRecord) -> Result<Row, Reason>
         Ok((passage, bit)) => Ok(deed_of(row, passage, Some(Deed::Flip(bit as u32)))),
         Err(fault) => Err(reason_of(fault)),
     }
+}
+
+fn read_join(row: &ByteRecord) -> Result<Row, Reason>
+    requires { length (fields_of row.now) ≡ 7 }
+    ensures said { result ≡ join_row (fields_of row.now) }
+    ensures proper { IfOk result IsProperScriptRow }
+{
+    if !is_reference_last(row) {
+        return Err(Reason::Shape);
+    }
+    match read_joining(row) {
+        Ok(said) => Ok(Row::Join(said)),
+        Err(fault) => Err(reason_of(fault)),
+    }
+}
+
+fn is_reference_last(row: &ByteRecord) -> bool
+    requires { length (fields_of row.now) ≡ 7 }
+    ensures { result ≡ is_reference_last (fields_of row.now) }
+{
+    field(row, 4).is_empty() && field(row, 5).is_empty() && field(row, 6).is_empty()
+}
+
+fn read_joining(row: &ByteRecord) -> Result<JoinRow, NumberFault>
+    requires { length (fields_of row.now) ≡ 7 }
+    ensures said { result ≡ join_in (fields_of row.now) }
+    ensures proper { IfOk result (λ said. said.join.double < 100_000) }
+{
+    let (double, (node, reference)) = both(
+        natural(field(row, 1), 0, 99_999),
+        both(natural(field(row, 2), 1, 64), natural(field(row, 3), 1, 64)),
+    )?;
+    Ok(JoinRow {
+        node: NodeId(node as u8),
+        join: Join {
+            double: double as u32,
+            reference: NodeId(reference as u8),
+        },
+    })
 }
 
 fn deed_of(row: &ByteRecord, passage: Passage, deed: Option<Deed>) -> Row

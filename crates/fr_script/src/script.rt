@@ -2,11 +2,12 @@ ghost use Rattle.std.specs.Prelude.{◌≡◌, ◌<◌, ◌≤◌, ◌⊎◌, �
 ghost use Rattle.std.specs.Option.{option_copied};
 ghost use Rattle.fr_base.specs.declared.channel.Channel.{Channel as Line};
 ghost use Rattle.fr_base.specs.declared.channel.Channel.TheVariants as line;
-ghost use Rattle.fr_script.specs.View.{IsNextAct, IsScript, deed_of, deeds_on, is_arbitrary};
+ghost use Rattle.fr_script.specs.View.{IsNextAct, IsScript, deed_of, deeds_on, is_arbitrary, join_of};
 ghost use Rattle.fr_script.specs.Events.{IsProperEvent, done_by, event_of, event_seen, event_of_deed};
 
 use crate::deeds::{Deed, DeedTable, Passage};
 use fr_base::{Channel, NodeId};
+use fr_cluster::Join;
 use std::marker::Model;
 
 /// What becomes of a frame between a sender and a receiver.
@@ -23,10 +24,11 @@ pub enum Event<'a> {
     Say { shift: i64, bytes: Option<&'a [u8]> },
 }
 
-/// The faults of a run, as an accepted script says them.
+/// The faults of a run and the nodes that join it, as an accepted script says them.
 #[derive(Drop)]
 pub struct Script {
     pub(crate) arbitrary: [bool; 65],
+    pub(crate) joins: [Option<Join>; 65],
     pub(crate) on_a: DeedTable,
     pub(crate) on_b: DeedTable,
 }
@@ -44,13 +46,19 @@ impl Model for Script {
 }
 
 impl Script {
-    // The script of these nodes, by their number, and of the deeds of both channels.
-    pub(crate) fn of(arbitrary: [bool; 65], on_a: DeedTable, on_b: DeedTable) -> Script
-        requires { IsScript (record { arbitrary = arbitrary; on_a = on_a; on_b = on_b }) }
-        ensures { result ≡ record { arbitrary = arbitrary; on_a = on_a; on_b = on_b } }
+    // The script of these nodes, arbitrary and joining ones, by their number, and of the deeds of both channels.
+    pub(crate) fn of(
+        arbitrary: [bool; 65],
+        joins: [Option<Join>; 65],
+        on_a: DeedTable,
+        on_b: DeedTable,
+    ) -> Script
+        requires { IsScript (record { arbitrary = arbitrary; joins = joins; on_a = on_a; on_b = on_b }) }
+        ensures { result ≡ record { arbitrary = arbitrary; joins = joins; on_a = on_a; on_b = on_b } }
     {
         Script {
             arbitrary,
+            joins,
             on_a,
             on_b,
         }
@@ -63,6 +71,14 @@ impl Script {
         ensures sane { IsScript self.now }
     {
         self.arbitrary[usize::from(node.0)]
+    }
+
+    /// How the node joins the running cluster, as a `join` row says; `None` exactly where none names it.
+    #[tactic(auto, unfolding(crate::specs::View::join_of))]
+    pub fn join(&self, node: NodeId) -> Option<Join>
+        ensures { result ≡ join_of self.now node }
+    {
+        self.joins[usize::from(node.0)]
     }
 
     /// What becomes of each frame of a sender at a receiver, in a cycle on a channel. Of a correct sender: nothing

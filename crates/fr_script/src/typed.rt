@@ -19,7 +19,12 @@ impl Script {
         ensures stands { ScriptStandsFor result [] }
         ensures fits { (p : Values) → ScriptFits p result }
     {
-        Script::of([false; 65], DeedTable::new(alloc), DeedTable::new(alloc))
+        Script::of(
+            [false; 65],
+            [None; 65],
+            DeedTable::new(alloc),
+            DeedTable::new(alloc),
+        )
     }
 
     /// Adds the record that names a node arbitrary. The parameters accept it behind those that are there. It
