@@ -11,10 +11,10 @@ use Rattle.fr_bound.specs.Checks.{left_of, right_of, holds_of}
 use Rattle.fr_drift.specs.View.{DriftView}
 use Rattle.fr_drift.specs.Questions.{doubles_of, length_of, delay_of}
 use Rattle.fr_script.specs.View.{ScriptView, is_arbitrary}
-use Rattle.fr_coverage.specs.First.{first_in}
+use Rattle.fr_coverage.specs.First.{first_below, first_in}
 use Rattle.fr_coverage.specs.Links.{is_link, shares, is_carried, link_gap}
-use Rattle.fr_coverage.specs.Coverage.{cycles_of, check_gap, checks_gap, count_of, outweighs, count_gap, is_off, length_gap, lengths_gap, has_jumped, change_gap, changes_gap, is_wrong, delay_gap, channel_gap, delays_gap, links_gap, first_of_nodes, first_of_pairs, first_gap}
-use Rattle.fr_coverage.specs.Order.{place_of_gap, IsEarlierGap, IsCheckGap, IsCountGap, IsLengthGap, IsChangeGap, IsDelayGap, IsLinkGap, IsGap, IsFirstGap}
+use Rattle.fr_coverage.specs.Coverage.{asked_checks, cycles_of, check_gap, count_of, outweighs, count_gap, is_off, length_gap, lengths_gap, has_jumped, change_gap, changes_gap, is_wrong, delay_gap, channel_gap, delays_gap, links_gap, first_of_nodes, first_of_pairs, first_gap}
+use Rattle.fr_coverage.specs.Order.{place_of_gap, IsEarlierGap, IsFailingCheck, IsRunCheckGap, IsCountGap, IsLengthGap, IsChangeGap, IsDelayGap, IsLinkGap, IsGap, IsFirstGap}
 use Rattle.fr_coverage.specs.declared.gap.Gap.{Gap}
 use Rattle.fr_coverage.specs.declared.gap.Gap.TheVariants as gap
 use Rattle.fr_coverage.proofs.Least.{IsLeast, AreApart, Below, Among, least-same, least-or, least-if, least-unless, least-where, least-where-not, least-below, least-in, in-order, later, under, at-places}
@@ -29,16 +29,17 @@ checks-apart p j k lt g h w x before =
     at-places g h (1 ∷ suc j ∷ []) (1 ∷ suc k ∷ []) (ap place_of_gap w.1) (ap place_of_gap x.1)
     (under 1 (suc k ∷ []) (suc j ∷ []) (later (suc j) (suc k) [] [] (omega arith))) before
 
-check-back : (p : Values) (g : Gap) (number : ℕ) → 1 ≤ number → number ≤ 5 → holds_of number p ≡ false → g ≡ gap.Check number (pos (left_of number p)) (pos (right_of number p)) → Below (AtCheck p) 5 g
-check-back p g zero from to fails told = absurd (omega arith)
-check-back p g (suc k) from to fails told = (k, omega arith, (fails, told))
+check-back : (p : Values) (g : Gap) (asked number : ℕ) → 1 ≤ number → number ≤ asked → holds_of number p ≡ false → g ≡ gap.Check number (pos (left_of number p)) (pos (right_of number p))
+    → Below (AtCheck p) asked g
+check-back p g asked zero from to fails told = absurd (omega arith)
+check-back p g asked (suc k) from to fails told = (k, omega arith, (fails, told))
 
-checks-least : (p : Values) → IsLeast (IsCheckGap p) (checks_gap p)
-checks-least p =
-    least-same (Below (AtCheck p) 5) (IsCheckGap p) (checks_gap p)
-    (least-below (AtCheck p) (check_gap p) 5 (λ k. least-unless (holds_of (suc k) p) (gap.Check (suc k) (pos (left_of (suc k) p)) (pos (right_of (suc k) p)))) (checks-apart p))
+checks-least : (p : Values) (asked : ℕ) → IsLeast (IsFailingCheck asked p) (first_below (check_gap p) asked)
+checks-least p asked =
+    least-same (Below (AtCheck p) asked) (IsFailingCheck asked p) (first_below (check_gap p) asked)
+    (least-below (AtCheck p) (check_gap p) asked (λ k. least-unless (holds_of (suc k) p) (gap.Check (suc k) (pos (left_of (suc k) p)) (pos (right_of (suc k) p)))) (checks-apart p))
     (λ g w. record { number = suc w.0; from = omega arith; to = (let lt = w.1 in omega arith); fails = w.2.0; told = w.2.1 })
-    (λ g r. check-back p g r.number r.from r.to r.fails r.told)
+    (λ g r. check-back p g asked r.number r.from r.to r.fails r.told)
 
 -- 2
 count-least : (p : Values) (s : ScriptView) → IsLeast (IsCountGap p s) (count_gap p s)
@@ -330,7 +331,7 @@ from_count p d s g (inr r) = let kind = from_length p d s g r in omega arith
 pub gaps-least : (p : Values) (d : DriftView) (s : ScriptView) → AllPairs (λ a b. a.id < b.id) p.nodes → IsLeast (IsGap p d s) (first_gap p d s)
 unfolding first_gap
 gaps-least p d s ascend =
-    least-or (IsCheckGap p) (FromCount p d s) _ _ (checks-least p)
+    least-or (IsRunCheckGap p s) (FromCount p d s) _ _ (checks-least p (asked_checks p s))
     (least-or (IsCountGap p s) (FromLength p d s) _ _ (count-least p s)
     (least-or (IsLengthGap p d s) (FromChange p d s) _ _ (lengths-least p d s ascend)
     (least-or (IsChangeGap p d s) (FromDelay p d s) _ _ (changes-least p d s ascend)

@@ -1,5 +1,5 @@
 -- One gap stands at a place, so the first is the one that is found.
-use Rattle.std.proofs.Common.{◌≡◌, Option, Some, None, ap, sym, ◌∙◌, refl, arith, inl, inr}
+use Rattle.std.proofs.Common.{◌≡◌, ℕ, Option, Some, None, ap, sym, ◌∙◌, refl, arith, inl, inr}
 use Rattle.std.specs.declared.cmp.Ordering.{Ordering}
 use Rattle.std.specs.declared.cmp.Ordering.TheVariants.{Less, Equal, Greater}
 use Rattle.std.specs.Ordering.{nat_cmp, ordering_reverse}
@@ -13,8 +13,8 @@ use Rattle.fr_cluster.specs.Values.{Values}
 use Rattle.fr_cluster.specs.Sane.{IsSane}
 use Rattle.fr_drift.specs.View.{DriftView}
 use Rattle.fr_script.specs.View.{ScriptView}
-use Rattle.fr_coverage.specs.Coverage.{first_gap}
-use Rattle.fr_coverage.specs.Order.{place_of_gap, IsCheckGap, IsLengthGap, IsChangeGap, IsDelayGap, IsLinkGap, IsGap, IsFirstGap}
+use Rattle.fr_coverage.specs.Coverage.{asked_checks, first_gap}
+use Rattle.fr_coverage.specs.Order.{place_of_gap, IsFailingCheck, IsLengthGap, IsChangeGap, IsDelayGap, IsLinkGap, IsGap, IsFirstGap}
 use Rattle.fr_coverage.specs.declared.gap.Gap.{Gap}
 use Rattle.fr_coverage.proofs.Least.{IsLeast}
 use Rattle.fr_coverage.proofs.GapParts.{gaps-least, kind_of, place-split, FromCount, FromLength, FromChange, FromDelay, from_count, from_length, from_change, from_delay}
@@ -25,8 +25,8 @@ one-channel channel.A channel.B e = absurd (omega arith)
 one-channel channel.B channel.A e = absurd (omega arith)
 one-channel channel.B channel.B e = refl
 
-one-check : (p : Values) (g h : Gap) → place_of_gap g ≡ place_of_gap h → IsCheckGap p g → IsCheckGap p h → g ≡ h
-one-check p g h same r q = let places = sym (ap place_of_gap r.told) ∙ same ∙ ap place_of_gap q.told in let a = r.told in let b = q.told in cc
+one-check : (p : Values) (asked : ℕ) (g h : Gap) → place_of_gap g ≡ place_of_gap h → IsFailingCheck asked p g → IsFailingCheck asked p h → g ≡ h
+one-check p asked g h same r q = let places = sym (ap place_of_gap r.told) ∙ same ∙ ap place_of_gap q.told in let a = r.told in let b = q.told in cc
 
 one-length : (p : Values) (d : DriftView) (s : ScriptView) (g h : Gap) → place_of_gap g ≡ place_of_gap h → IsLengthGap p d s g → IsLengthGap p d s h → g ≡ h
 one-length p d s g h same r q = let places = sym (ap place_of_gap r.told) ∙ same ∙ ap place_of_gap q.told in let a = r.told in let b = q.told in cc
@@ -73,7 +73,7 @@ from-count p d s g h same (inr r) (inl q) = let a = from_length p d s g r in let
 
 -- gaps of one run at one place are one
 one-gap : (p : Values) (d : DriftView) (s : ScriptView) (g h : Gap) → place_of_gap g ≡ place_of_gap h → IsGap p d s g → IsGap p d s h → g ≡ h
-one-gap p d s g h same (inl r) (inl q) = one-check p g h same r q
+one-gap p d s g h same (inl r) (inl q) = one-check p (asked_checks p s) g h same r q
 one-gap p d s g h same (inr r) (inr q) = from-count p d s g h same r q
 one-gap p d s g h same (inl r) (inr q) = let a = ap kind_of r.told in let b = from_count p d s h q in let c = one-kind g h same in absurd (omega arith)
 one-gap p d s g h same (inr r) (inl q) = let a = from_count p d s g r in let b = ap kind_of q.told in let c = one-kind g h same in absurd (omega arith)

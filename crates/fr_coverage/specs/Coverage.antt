@@ -1,5 +1,6 @@
 -- The gaps for which a run is not covered by the precision theorem, in the order in which they are looked for.
-use Rattle.std.specs.Prelude.{ℕ, ℤ, pos, ◌+ℤ◌, ◌-ℤ◌, ◌*ℤ◌, int_lt, suc, ◌-◌, ◌*◌, ◌==◌, ◌&&◌, ◌||◌, nat_le, Bool, true, false, not, List, count_by, Option, Some, None, if◌then◌else◌}
+use Rattle.std.specs.Prelude.{ℕ, ℤ, pos, ◌+ℤ◌, ◌-ℤ◌, ◌*ℤ◌, int_lt, suc, ◌-◌, ◌*◌, ◌==◌, ◌&&◌, ◌||◌, nat_le, Bool, true, false, not, List, count_by, filter, Option, Some, None, is_none, is_some, if◌then◌else◌}
+use Rattle.std.specs.List.{list_any}
 use Rattle.std.specs.Option.{option_or}
 use Rattle.fr_base.specs.declared.channel.Channel.{Channel}
 use Rattle.fr_base.specs.declared.channel.Channel.TheVariants as channel
@@ -11,7 +12,7 @@ use Rattle.fr_bound.specs.Bounds.{nominal, longest_micro, shortest_micro}
 use Rattle.fr_bound.specs.Checks.{left_of, right_of, holds_of}
 use Rattle.fr_drift.specs.View.{DriftView}
 use Rattle.fr_drift.specs.Questions.{doubles_of, length_of, delay_of}
-use Rattle.fr_script.specs.View.{ScriptView, is_arbitrary}
+use Rattle.fr_script.specs.View.{ScriptView, is_arbitrary, join_of}
 use Rattle.fr_coverage.specs.Links.{is_sync, is_link, shares, link_gap}
 use Rattle.fr_coverage.specs.First.{first_below, first_in}
 use Rattle.fr_coverage.specs.declared.gap.Gap.{Gap}
@@ -25,12 +26,33 @@ cycles_of d = 2 * doubles_of d
 abbrev pub check_gap : Values → ℕ → Option Gap
 check_gap p k = if holds_of (suc k) p then None else Some (gap.Check (suc k) (pos (left_of (suc k) p)) (pos (right_of (suc k) p)))
 
+-- of those that are asked of each cluster
 abbrev pub checks_gap : Values → Option Gap
 checks_gap p = first_below (check_gap p) 5
 
--- 2: so many correct sync nodes do not outweigh so many arbitrary ones
+-- whether some correct node joins the running cluster
+abbrev pub some_join_in : List NodeSpec → ScriptView → Bool
+some_join_in nodes s = list_any (λ node. is_some (join_of s node.id)) (filter (λ node. not (is_arbitrary s node.id)) nodes)
+
+abbrev pub some_join : Values → ScriptView → Bool
+some_join p s = some_join_in p.nodes s
+
+-- how many checks are asked of a run: four more where some node joins
+abbrev pub asked_where : Bool → ℕ
+asked_where joins = if joins then 9 else 5
+
+abbrev pub asked_checks : Values → ScriptView → ℕ
+asked_checks p s = asked_where (some_join p s)
+
+abbrev pub run_checks_gap : Values → ScriptView → Option Gap
+run_checks_gap p s = first_below (check_gap p) (asked_checks p s)
+
+-- 2: so many correct sync nodes that take part from cycle 0 on do not outweigh so many arbitrary ones
+abbrev pub stays_on : ScriptView → ℕ → Bool
+stays_on s node = not (is_arbitrary s node) && is_none (join_of s node)
+
 abbrev pub is_counted : ScriptView → Bool → NodeSpec → Bool
-is_counted s arbitrary node = is_sync node && (if arbitrary then is_arbitrary s node.id else not (is_arbitrary s node.id))
+is_counted s arbitrary node = is_sync node && (if arbitrary then is_arbitrary s node.id else stays_on s node.id)
 
 abbrev pub count_of : ScriptView → Bool → List NodeSpec → ℕ
 count_of s arbitrary nodes = count_by (is_counted s arbitrary) nodes
@@ -105,7 +127,7 @@ pairs_gap p d s = option_or (first_of_pairs p (delays_gap p d s)) (first_of_pair
 -- the first gap in the stated order, if there is one: checks, counts, lengths, changes, delays, links
 unfoldable pub first_gap : Values → DriftView → ScriptView → Option Gap
 first_gap p d s =
-    option_or (checks_gap p)
+    option_or (run_checks_gap p s)
     (option_or (count_gap p s)
     (option_or (first_of_nodes p (lengths_gap p d s))
     (option_or (first_of_nodes p (changes_gap p d s)) (pairs_gap p d s))))

@@ -1,13 +1,12 @@
 -- The run that three files decide.
-use Rattle.std.specs.Prelude.{None}
 use Rattle.fr_cluster.specs.Values.{Values}
 use Rattle.fr_drift.specs.Questions.{delay_of, doubles_of, length_of, rate_of, start_of}
 use Rattle.fr_drift.specs.View.{DriftView}
 use Rattle.fr_script.specs.Events.{event_of}
-use Rattle.fr_script.specs.View.{ScriptView, is_arbitrary}
+use Rattle.fr_script.specs.View.{ScriptView, is_arbitrary, join_of}
 use Rattle.fr_cluster.specs.Setting.{Setting}
 
--- the setting of a parameter file, a drift file and a script; no node joins
+-- the setting of a parameter file, a drift file and a script
 abbrev pub setting_of : Values → DriftView → ScriptView → Setting
 setting_of p d s = record {
   params = p;
@@ -18,5 +17,5 @@ setting_of p d s = record {
   delay = delay_of d;
   is_arbitrary = is_arbitrary s;
   event = event_of s;
-  join = λ node. None;
+  join = join_of s;
 }

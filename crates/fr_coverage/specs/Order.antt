@@ -12,7 +12,7 @@ use Rattle.fr_drift.specs.View.{DriftView}
 use Rattle.fr_drift.specs.Questions.{doubles_of, length_of, delay_of}
 use Rattle.fr_script.specs.View.{ScriptView, is_arbitrary}
 use Rattle.fr_coverage.specs.Links.{is_link, shares, is_carried}
-use Rattle.fr_coverage.specs.Coverage.{cycles_of, count_of, outweighs, is_off, has_jumped, is_wrong, first_gap}
+use Rattle.fr_coverage.specs.Coverage.{asked_checks, cycles_of, count_of, outweighs, is_off, has_jumped, is_wrong, first_gap}
 use Rattle.fr_coverage.specs.declared.gap.Gap.{Gap}
 use Rattle.fr_coverage.specs.declared.gap.Gap.TheVariants as gap
 
@@ -29,15 +29,22 @@ place_of_gap (gap.Link sender receiver double) = 6 ∷ sender ∷ receiver ∷ d
 abbrev pub IsEarlierGap : Gap → Gap → Type 0
 IsEarlierGap a b = slice_cmp nat_cmp (place_of_gap a) (place_of_gap b) ≡ Less
 
--- a check fails
-pub record IsCheckGap (p : Values) (g : Gap) : Type 0 where
+-- a check fails, of so many that are asked
+pub record IsFailingCheck (asked : ℕ) (p : Values) (g : Gap) : Type 0 where
   pub number : ℕ
   pub from : 1 ≤ number
-  pub to : number ≤ 5
+  pub to : number ≤ asked
   pub fails : holds_of number p ≡ false
   pub told : g ≡ gap.Check number (pos (left_of number p)) (pos (right_of number p))
 
--- the correct nodes with a key slot do not outweigh the arbitrary ones
+-- of those of each cluster, and of those that are asked of a run
+abbrev pub IsCheckGap : Values → Gap → Type 0
+IsCheckGap p = IsFailingCheck 5 p
+
+abbrev pub IsRunCheckGap : Values → ScriptView → Gap → Type 0
+IsRunCheckGap p s = IsFailingCheck (asked_checks p s) p
+
+-- the correct nodes with a key slot that take part from cycle 0 on do not outweigh the arbitrary ones
 pub record IsCountGap (p : Values) (s : ScriptView) (g : Gap) : Type 0 where
   pub few : outweighs (count_of s false p.nodes) (count_of s true p.nodes) ≡ false
   pub told : g ≡ gap.Count (count_of s false p.nodes) (count_of s true p.nodes)
@@ -92,7 +99,7 @@ pub record IsLinkGap (p : Values) (d : DriftView) (s : ScriptView) (g : Gap) : T
 
 -- a gap of a run
 abbrev pub IsGap : Values → DriftView → ScriptView → Gap → Type 0
-IsGap p d s g = IsCheckGap p g ⊎ (IsCountGap p s g ⊎ (IsLengthGap p d s g ⊎ (IsChangeGap p d s g ⊎ (IsDelayGap p d s g ⊎ IsLinkGap p d s g))))
+IsGap p d s g = IsRunCheckGap p s g ⊎ (IsCountGap p s g ⊎ (IsLengthGap p d s g ⊎ (IsChangeGap p d s g ⊎ (IsDelayGap p d s g ⊎ IsLinkGap p d s g))))
 
 -- it is one, and none is looked for before it
 pub record IsFirstGap (p : Values) (d : DriftView) (s : ScriptView) (g : Gap) : Type 0 where

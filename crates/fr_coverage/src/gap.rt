@@ -3,13 +3,14 @@ use fr_base::{Channel, NodeId};
 /// Why a run is not covered by the precision theorem.
 #[derive(Clone, Copy, Debug, PartialEq, Eq)]
 pub enum Gap {
-    /// A check of the parameters fails: its number, 1 to 5, and both its sides.
+    /// A check of the parameters fails: its number, 1 to 9, and both its sides. Those from 6 on are asked only where
+    /// some node joins the running cluster.
     Check {
         number: u8,
         left: i64,
         right: i64,
     },
-    /// The correct nodes with a key slot do not outweigh the arbitrary ones.
+    /// The correct nodes with a key slot that take part from cycle 0 on do not outweigh the arbitrary ones.
     Count {
         correct: u32,
         arbitrary: u32,

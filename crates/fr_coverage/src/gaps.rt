@@ -1,15 +1,16 @@
-ghost use Rattle.std.specs.Prelude.{◌≡◌, ◌≤◌, ◌+◌, ◌&&◌, not, Some, None, OnOk, IfErr, count_by, length, if◌then◌else◌};
-ghost use Rattle.fr_script.specs.View.{is_arbitrary};
-ghost use Rattle.fr_coverage.specs.First.{first_in};
-ghost use Rattle.fr_coverage.specs.Links.{is_sync};
-ghost use Rattle.fr_coverage.specs.Coverage.{channel_gap, changes_gap, checks_gap, count_gap, count_of, delays_gap, first_gap, is_counted, lengths_gap, links_gap, outweighs, pairs_gap, weighed};
+ghost use Rattle.std.specs.Prelude.{◌≡◌, ◌≤◌, ◌+◌, pos, Some, None, OnOk, IfErr, count_by, length};
+ghost use Rattle.fr_bound.specs.Checks.{AllChecksHold, IsCheck, left_of, right_of};
+ghost use Rattle.fr_coverage.specs.First.{first_below, first_in};
+ghost use Rattle.fr_coverage.specs.declared.gap.Gap.TheVariants as gap;
+ghost use Rattle.fr_coverage.specs.Coverage.{asked_where, channel_gap, changes_gap, check_gap, count_of, delays_gap, first_gap, lengths_gap, links_gap, outweighs, pairs_gap, weighed};
 
 use crate::gap::Gap;
+use crate::joining::{is_counted, some_join};
 use crate::linking::{first_break, is_link, shares};
 use crate::search::{Search, first_among};
 use crate::spans::{first_change, first_delay, first_length};
 use fr_base::Channel;
-use fr_bound::{checks, side};
+use fr_bound::{checks, join_checks, side};
 use fr_cluster::{NodeList, NodeSpec, Params};
 use fr_drift::Drift;
 use fr_script::Script;
@@ -17,13 +18,14 @@ use fr_script::Script;
 /// Whether a run of a cluster is covered by the precision theorem: whether there is none of these gaps, which
 /// are looked for in this order, or else the first.
 ///
-/// `Check`: a check of the parameters fails, the one with the least number. `Count`: the correct nodes with a
-/// key slot do not outweigh the arbitrary ones: 1 suffices beside no arbitrary one, 3 beside one, 6 beside
-/// two. `Length`, `Change`: the microtick of a correct node is too short or too long in a cycle of the run, or
-/// changes by too much there; by node, then by cycle. `Delay`: frames of a correct node with a key slot travel
-/// for too short or too long a time to another correct node; by sender, receiver, channel, cycle. `Link`: no
-/// channel that both have carries its frames in both cycles of a double cycle; by sender, receiver, double
-/// cycle.
+/// `Check`: a check of the parameters fails, the one with the least number, of checks 1 to 5 or, where some node
+/// joins the running cluster, 1 to 9. `Count`: the correct nodes with a key slot that take part from cycle 0 on do
+/// not outweigh the arbitrary ones: 1 suffices beside no arbitrary one, 3 beside one, 6 beside two. `Length`,
+/// `Change`: the microtick of a correct node is too short or too long in a cycle of the run, or changes by too much
+/// there; by node, then by cycle. `Delay`: frames of a correct node with a key slot travel for too short or too long a
+/// time to another correct node; by sender, receiver, channel, cycle. `Link`: no channel that both have carries its
+/// frames in both cycles of a double cycle; by sender, receiver, double cycle. The last four speak of nodes that join
+/// as of all other correct nodes, and of every cycle of the run.
 ///
 /// It takes no memory, and time as there are rows, nodes and links, not as there are cycles.
 pub fn covered(params: &Params, drift: &Drift, script: &Script) -> Result<(), Gap>
@@ -46,7 +48,7 @@ fn first_gap(params: &Params, drift: &Drift, script: &Script) -> Option<Gap>
         drift,
         script,
     };
-    if let Some(gap) = failing_check(params) {
+    if let Some(gap) = failing_check(params, some_join(nodes, script)) {
         return Some(gap);
     }
     if let Some(gap) = outweighed(nodes, script) {
@@ -72,23 +74,46 @@ fn first_of_pairs(run: Run<'_>) -> Option<Gap>
     }
 }
 
-fn failing_check(params: &Params) -> Option<Gap>
-    ensures { result ≡ checks_gap params.now }
+// The first check that fails, also of those that are asked only where some node joins.
+fn failing_check(params: &Params, joins: bool) -> Option<Gap>
+    ensures { result ≡ first_below (check_gap params.now) (asked_where joins) }
 {
     match checks(params) {
-        Ok(()) => None,
-        Err(number) => {
-            let sides = side(params, number);
-            Some(Gap::Check {
-                number,
-                left: sides.left,
-                right: sides.right,
-            })
+        Ok(()) => {
+            if joins {
+                failing_join_check(params)
+            } else {
+                None
+            }
         }
+        Err(number) => Some(failed(params, number)),
     }
 }
 
-// The gap where the correct nodes with a key slot do not outweigh the arbitrary ones.
+// Where the checks of each cluster hold.
+fn failing_join_check(params: &Params) -> Option<Gap>
+    requires { AllChecksHold params.now }
+    ensures { result ≡ first_below (check_gap params.now) 9 }
+{
+    match join_checks(params) {
+        Ok(()) => None,
+        Err(number) => Some(failed(params, number)),
+    }
+}
+
+fn failed(params: &Params, number: u8) -> Gap
+    requires { IsCheck number }
+    ensures { result ≡ gap.Check number (pos (left_of number params.now)) (pos (right_of number params.now)) }
+{
+    let sides = side(params, number);
+    Gap::Check {
+        number,
+        left: sides.left,
+        right: sides.right,
+    }
+}
+
+// The gap where the correct nodes with a key slot that stay on do not outweigh the arbitrary ones.
 fn outweighed(nodes: &NodeList, script: &Script) -> Option<Gap>
     requires { length nodes.now ≤ 64 }
     ensures { result ≡ weighed nodes.now script.now }
@@ -113,7 +138,7 @@ fn outweighs(correct: u32, arbitrary: u32) -> bool
     }
 }
 
-// How many nodes with a key slot are arbitrary, or how many are correct.
+// How many nodes with a key slot are arbitrary, or how many are correct and stay on.
 fn count(nodes: &NodeList, script: &Script, arbitrary: bool) -> u32
     requires { length nodes.now ≤ 64 }
     ensures { result ≡ count_of script.now arbitrary nodes.now }
@@ -130,12 +155,6 @@ fn count(nodes: &NodeList, script: &Script, arbitrary: bool) -> u32
         }
     }
     sum
-}
-
-fn is_counted(script: &Script, arbitrary: bool, node: &NodeSpec) -> bool
-    ensures { result ≡ is_counted script.now arbitrary node.now }
-{
-    node.key.is_some() && script.arbitrary(node.id) == arbitrary
 }
 
 // What a run is made of.

@@ -3,6 +3,7 @@
 
 mod gap;
 mod gaps;
+mod joining;
 mod laws;
 mod linking;
 mod search;

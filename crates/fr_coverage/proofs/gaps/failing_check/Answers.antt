@@ -1,15 +1,14 @@
-use Rattle.std.proofs.Common.{◌≡◌, rules, sym}
-use mir.Val.{to_z, of_z}
-use mir.Syntax.{w64}
-use Rattle.std.proofs.lemmas.Int.{to_z-of_z}
-use Rattle.fr_coverage.proofs.Checks.{checks-none, checks-some}
+use Rattle.std.proofs.Common.{Bool, Some, ap, sym, ◌∙◌}
+use Rattle.fr_coverage.specs.Coverage.{asked_where, check_gap}
+use Rattle.fr_coverage.specs.First.{first_below}
+use Rattle.fr_coverage.specs.declared.gap.Gap.{Gap}
+use Rattle.fr_coverage.proofs.Checks.{checks-none, asked-some, five-asked}
 use Rattle.fr_coverage.proofs.gaps.failing_check.Goals as goal
 
-pub returns-in-Ok : goal.returns-in-Ok
-returns-in-Ok c = sym (checks-none c.args.params.now c.in-Ok.ensures.all)
+pub returns-else-joins : goal.returns-else-joins
+returns-else-joins c = sym (ap (λ (b : Bool). first_below (check_gap c.args.params.now) (asked_where b)) c.if-joins.false ∙ checks-none c.args.params.now c.in-Ok.ensures.all)
 
 pub returns-in-Err : goal.returns-in-Err
 returns-in-Err c =
-    let left : to_z w64 (of_z w64 c.side-sides.result.left) ≡ c.side-sides.result.left = to_z-of_z w64 c.side-sides.result.left (search rules) in
-    let right : to_z w64 (of_z w64 c.side-sides.result.right) ≡ c.side-sides.result.right = to_z-of_z w64 c.side-sides.result.right (search rules) in
-    rw (left, right, c.side-sides.ensures.left, c.side-sides.ensures.right) (sym (checks-some c.args.params.now c.in-Err.number c.in-Err.ensures.first))
+    ap (λ (g : Gap). Some g) c.failed.ensures
+    ∙ sym (asked-some c.args.params.now c.in-Err.number (asked_where c.args.joins) c.in-Err.ensures.first (five-asked c.args.joins))
