@@ -7,7 +7,8 @@ pub fn histories_keep_precision()
     ensures precision { ClockedHistoriesKeepPrecision }
 {}
 
-/// The law of recorded traces: so do the clocks of a trace.
+/// The law of recorded traces that no node joins: so do the clocks of such a trace, in ticks, and no term of its
+/// recorded deviations is cut or missing.
 pub fn traces_keep_precision()
     ensures { TracesKeepPrecision }
 {}

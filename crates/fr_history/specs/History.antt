@@ -5,8 +5,9 @@ use Rattle.fr_base.specs.declared.dev.Dev.{Dev}
 use Rattle.fr_base.specs.declared.node_row.NodeRow.{NodeRow}
 use Rattle.fr_cluster.specs.declared.nodes.NodeSpec.{NodeSpec}
 
--- The record of a cycle: a row for each correct node, in ascending order of node; the deviations that were stored, in
--- ascending order of receiver, slot and channel; and what became of the frames.
+-- The record of a cycle: a row for each node that takes part, in ascending order of node (where no node joins, for each
+-- correct node); the deviations that were stored, in ascending order of receiver, slot and channel; and what became of the
+-- frames.
 pub record Record : Type 0 where
   pub rows : List NodeRow
   pub devs : List Dev

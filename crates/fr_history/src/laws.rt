@@ -8,7 +8,7 @@ ghost use Rattle.fr_history.specs.Next.{history_of, next_record};
 ghost use Rattle.fr_history.specs.Skew.{IsGreatestSkew, greatest_skew_of};
 ghost use Rattle.fr_skew.specs.Gauge.{GaugeView, fresh_gauge, gauged};
 ghost use Rattle.fr_skew.specs.declared.peak.Peak.{Peak};
-ghost use Rattle.fr_history.specs.Gauged.{GaugeHolds};
+ghost use Rattle.fr_history.specs.Gauged.{FollowedHistory, FollowedRecord, GaugeHolds, first_free_sync_of, unfollowed};
 ghost use Rattle.fr_history.specs.Sync.{IsFirstInSync, IsInSyncAt, first_sync_of};
 
 use fr_reception::{a_regular_frame, an_answer, the_answer_is_found};
@@ -77,9 +77,14 @@ pub fn one_first_in_sync()
 {}
 
 /// A law: a fresh gauge holds the history of no cycle, and one that holds a history holds that and a record
-/// more once its rows are added.
+/// more once its rows are added with whether a node follows.
 pub fn a_gauge_holds_a_history()
     ensures none { (p : Values) → GaugeHolds p (fresh_gauge p) [] }
-    ensures more { (p : Values) (g : GaugeView) (h : History) (r : Record) →
-        GaugeHolds p g h → GaugeHolds p (gauged g r.rows) (r ∷ h) }
+    ensures more { (p : Values) (g : GaugeView) (h : FollowedHistory) (r : FollowedRecord) →
+        GaugeHolds p g h → GaugeHolds p (gauged g r.told.rows r.following) (r ∷ h) }
+{}
+
+/// A law: where no node follows, the first double cycle in sync in which none does is the first one in sync.
+pub fn unfollowed_histories_sync_alike()
+    ensures { (p : Values) (h : History) → first_free_sync_of p (unfollowed h) ≡ first_sync_of p h }
 {}

@@ -7,4 +7,5 @@ mod laws;
 pub use laws::{
     a_gauge_holds_a_history, a_shorter_history_is_a_part, each_cycle_has_its_record,
     one_first_in_sync, one_greatest_skew, one_lawful_history, one_next_record,
+    unfollowed_histories_sync_alike,
 };

@@ -33,7 +33,7 @@ rate_same run (c ∷ h) node none = by_row (row_of c.told.rows node)
     by_row (Some row) = refl
     by_row None = ap (λ (rows : List NodeRow). follower_rate (alone run) c h node (row_of rows node)) none.0
 
-told_length : (h : Cycles) → length (told_of h) ≡ length h
+pub told_length : (h : Cycles) → length (told_of h) ≡ length h
 told_length [] = refl
 told_length (c ∷ h) = ap suc (told_length h)
 
@@ -64,7 +64,7 @@ rows_same run h none (node ∷ nodes) =
     ap (λ (row : NodeRow). row ∷ map (λ (spec : NodeSpec). early_row (alone run) h spec.id) nodes) (early_same run h node.id none)
     ∙ ap (λ (rows : List NodeRow). before.early_row (alone run) (told_of h) node.id ∷ rows) (rows_same run h none nodes)
 
-early_rows_same : (run : Setting) (h : Cycles) → NoneFollows h → early_rows (alone run) h ≡ before.early_rows (alone run) (told_of h)
+pub early_rows_same : (run : Setting) (h : Cycles) → NoneFollows h → early_rows (alone run) h ≡ before.early_rows (alone run) (told_of h)
 early_rows_same run h none =
     ap (map (λ (node : NodeSpec). early_row (alone run) h node.id)) (all_kept (correct_nodes run)) ∙ rows_same run h none (correct_nodes run)
 

@@ -6,4 +6,5 @@ pub mod Alone
 pub mod Exists
 pub mod Found
 pub mod UnfollowedSync
+pub mod FollowedSync
 pub mod Standing

@@ -52,7 +52,7 @@ to_unfollowed_sync p h k is =
     rw (s.has_even, s.has_odd) (rw (to_in_sync p s.even.told.rows s.odd.told.rows s.in_sync, is.none_early, is.none_late) refl)
 
 -- such a double cycle is a complete one
-unfollowed_sync_within : (p : Values) (h : Cycles) (k : ℕ) → IsUnfollowedSyncAt p h k → k < length h / 2
+pub unfollowed_sync_within : (p : Values) (h : Cycles) (k : ℕ) → IsUnfollowedSyncAt p h k → k < length h / 2
 unfollowed_sync_within p h k is = let below : odd_cycle k < length h = cycle_at-lt h (odd_cycle k) is.synced.odd is.synced.has_odd in omega (arith, below)
 
 no_test : (p : Values) (h : Cycles) (k : ℕ) → is_unfollowed_sync_at p h k ≡ false → IsUnfollowedSyncAt p h k → ⊥

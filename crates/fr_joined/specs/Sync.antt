@@ -1,10 +1,11 @@
 -- From when on the clocks of a run that nodes join are in sync, and none follows.
-use Rattle.std.specs.Prelude.{◌≡◌, ℕ, ◌/◌, ◌<◌, Bool, true, false, ◌&&◌, List, [], ◌∷◌, length, Option, Some, None, find}
+use Rattle.std.specs.Prelude.{◌≡◌, ℕ, ◌/◌, ◌<◌, Bool, true, false, not, ◌&&◌, List, [], ◌∷◌, length, map, Option, Some, None, find}
 use Rattle.std.specs.List.{range_with_len}
 use Rattle.fr_base.specs.declared.node_row.NodeRow.{NodeRow}
 use Rattle.fr_bound.specs.Sync.{IsInSync, is_in_sync}
 use Rattle.fr_cluster.specs.Values.{Values}
 use Rattle.fr_time.specs.Cycles.{even_cycle, odd_cycle}
+use Rattle.fr_history.specs.Gauged.{FollowedHistory}
 use Rattle.fr_joined.specs.Cycles.{Cycle, Cycles, cycle_at}
 
 -- the nodes that have rows are in sync in a double cycle, both of whose cycles are there, whoever follows
@@ -44,3 +45,10 @@ is_unfollowed_sync_at p h double = is_unfollowed_sync_by p (cycle_at h (even_cyc
 -- the first double cycle in sync in which none follows, if there is one
 unfoldable pub first_unfollowed_sync_of : Values → Cycles → Option ℕ
 first_unfollowed_sync_of p h = find (is_unfollowed_sync_at p h) (range_with_len 0 (length h / 2))
+
+-- ---- as a gauge gathers them
+
+-- such cycles by what is told of them and whether a node follows: the first double cycle in sync in which none does is the
+-- same
+abbrev pub followed_of : Cycles → FollowedHistory
+followed_of h = map (λ (c : Cycle). record { told = c.told; following = not (is_none c.followers) }) h

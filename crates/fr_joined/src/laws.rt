@@ -1,12 +1,13 @@
 ghost use Rattle.std.specs.Prelude.{◌≡◌, ℕ, length, Some, None};
 ghost use Rattle.fr_cluster.specs.Values.{Values};
 ghost use Rattle.fr_cluster.specs.Setting.{IsSetting, Setting};
+ghost use Rattle.fr_history.specs.Gauged.{first_free_sync_of, records_of};
 ghost use Rattle.fr_joined.specs.Catching.{ArbitraryNodesAreNotCaught};
-ghost use Rattle.fr_joined.specs.Cycles.{Cycles};
+ghost use Rattle.fr_joined.specs.Cycles.{Cycles, told_of};
 ghost use Rattle.fr_joined.specs.Joining.{FollowersHaveNoRow, JoiningNodesStandInTime, RowsStay};
 ghost use Rattle.fr_joined.specs.Lawful.{IsLawful};
 ghost use Rattle.fr_joined.specs.Next.{RunsAloneStay, cycles_of};
-ghost use Rattle.fr_joined.specs.Sync.{IsFirstUnfollowedSync, IsUnfollowedSyncAt, first_unfollowed_sync_of};
+ghost use Rattle.fr_joined.specs.Sync.{IsFirstUnfollowedSync, IsUnfollowedSyncAt, first_unfollowed_sync_of, followed_of};
 
 use fr_reception::{a_regular_frame, an_answer, the_answer_is_found};
 
@@ -38,6 +39,14 @@ pub fn one_first_unfollowed_sync()
         (double : ℕ) → IsUnfollowedSyncAt p h double → ⊥ }
     ensures one { (p : Values) (h : Cycles) (double other : ℕ) →
         IsFirstUnfollowedSync p h double → IsFirstUnfollowedSync p h other → double ≡ other }
+{}
+
+/// A law: the first double cycle in sync in which no node follows is that of what is told of the cycles and of
+/// whether a node follows in them, which is what a gauge gathers.
+pub fn gathered_cycles_sync_alike()
+    ensures told { (h : Cycles) → records_of (followed_of h) ≡ told_of h }
+    ensures synced { (p : Values) (h : Cycles) →
+        first_free_sync_of p (followed_of h) ≡ first_unfollowed_sync_of p h }
 {}
 
 /// A law: in lawful cycles a node that listens in double cycle `e` follows in cycles `2 e + 2` to `2 e + 5` at

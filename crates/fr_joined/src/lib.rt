@@ -8,7 +8,7 @@ mod laws;
 mod worked;
 
 pub use laws::{
-    arbitrary_nodes_are_not_caught, joining_nodes_stand_in_time, one_first_unfollowed_sync,
-    one_lawful_run, runs_alone_stay,
+    arbitrary_nodes_are_not_caught, gathered_cycles_sync_alike, joining_nodes_stand_in_time,
+    one_first_unfollowed_sync, one_lawful_run, runs_alone_stay,
 };
 pub use worked::{a_joined_run, a_run_with_a_deaf_follower, a_run_with_a_lost_reference};

@@ -2,7 +2,7 @@ ghost use Rattle.std.specs.Prelude.{◌≡◌, ◌<◌, All, IsSome, if◌then�
 ghost use Rattle.fr_base.specs.Timed.{IsTimed};
 ghost use Rattle.fr_time.specs.Cycles.{is_odd};
 ghost use Rattle.fr_time.specs.Placed.{IsPlacedRow};
-ghost use Rattle.fr_skew.specs.Gauge.{fresh_gauge, gauged, next_sync};
+ghost use Rattle.fr_skew.specs.Gauge.{fresh_gauge, gauged, are_free_in_sync, next_sync};
 ghost use Rattle.fr_skew.specs.Sync.{IsSyncBounds};
 
 use crate::peak::{Peak, swept};
@@ -12,8 +12,8 @@ use fr_cluster::Params;
 use fr_time::{Grid, grid_of, is_odd};
 use std::marker::Model;
 
-/// What is told of the clocks of a cluster, gathered cycle by cycle: it keeps the numbers that it rests on and
-/// the rows of one cycle, and no history. No call takes memory.
+/// What is told of the clocks of a cluster, gathered cycle by cycle: it keeps the numbers that it rests on, the
+/// rows of one cycle and whether a node followed in it, and no history. No call takes memory.
 #[derive(Debug, Drop)]
 pub struct Gauge {
     grid: Grid,
@@ -22,6 +22,7 @@ pub struct Gauge {
     greatest: Option<Peak>,
     synced: Option<u32>,
     even: RowList,
+    followed: bool,
 }
 
 impl Model for Gauge {
@@ -29,9 +30,9 @@ impl Model for Gauge {
 
     ghost Value = { GaugeView };
 
-    ghost view = { λ g. record { grid = g.grid; bounds = g.bounds; added = g.added; greatest = g.greatest; synced = g.synced; even = g.even } };
+    ghost view = { λ g. record { grid = g.grid; bounds = g.bounds; added = g.added; greatest = g.greatest; synced = g.synced; even = g.even; followed = g.followed } };
 
-    ghost invariant = { λ g. IsGauge (record { grid = g.grid; bounds = g.bounds; added = g.added; greatest = g.greatest; synced = g.synced; even = g.even }) };
+    ghost invariant = { λ g. IsGauge (record { grid = g.grid; bounds = g.bounds; added = g.added; greatest = g.greatest; synced = g.synced; even = g.even; followed = g.followed }) };
 }
 
 impl Gauge {
@@ -46,18 +47,20 @@ impl Gauge {
             greatest: None,
             synced: None,
             even: RowList::new(),
+            followed: false,
         }
     }
 
-    /// Adds the rows of the next cycle.
-    pub fn add(&mut self, rows: &RowList)
+    /// Adds the rows of the next cycle, and whether a node follows in it, which has no row.
+    pub fn add(&mut self, rows: &RowList, following: bool)
         requires in_run { self.old.added < 200_000 }
         requires rows { All (IsPlacedRow self.old.grid) rows.now }
-        ensures { self.new ≡ gauged self.old rows.now }
+        ensures { self.new ≡ gauged self.old rows.now following }
     {
         self.greatest = swept(&self.grid, self.added, rows.as_slice(), self.greatest);
-        self.synced = synced_after(&self.bounds, self.added, &self.even, rows, self.synced);
+        self.synced = self.synced_after(rows, following);
         keep_even(self.added, rows, &mut self.even);
+        self.followed = followed_after(self.added, self.followed, following);
         self.added += 1;
     }
 
@@ -69,35 +72,51 @@ impl Gauge {
         self.greatest
     }
 
-    /// The first double cycle in sync, if there was one.
+    /// The first double cycle in sync in which no node follows, if there was one.
     pub fn synced(&self) -> Option<u32>
         ensures { result ≡ self.now.synced }
     {
         self.synced
     }
+
+    // The first double cycle in sync in which no node follows, after one more cycle.
+    fn synced_after(&self, rows: &RowList, following: bool) -> Option<u32>
+        requires rows { All IsTimed rows.now }
+        ensures { result ≡
+            next_sync self.now.bounds self.now.added self.now.even self.now.followed rows.now following self.now.synced }
+    {
+        if self.synced.is_none()
+            && is_odd(self.added)
+            && is_free(&self.bounds, &self.even, self.followed, rows, following)
+        {
+            Some(self.added / 2)
+        } else {
+            self.synced
+        }
+    }
 }
 
-// The first double cycle in sync, after one more cycle.
-fn synced_after(
+// Whether the rows of an even and an odd cycle are in sync, and no node follows in either cycle.
+fn is_free(
     bounds: &SyncBounds,
-    cycle: u32,
     even: &RowList,
+    followed: bool,
     rows: &RowList,
-    synced: Option<u32>,
-) -> Option<u32>
+    following: bool,
+) -> bool
     requires bounds { IsSyncBounds bounds.now }
     requires even { All IsTimed even.now }
     requires rows { All IsTimed rows.now }
-    ensures { result ≡ next_sync bounds.now cycle even.now rows.now synced }
+    ensures { result ≡ are_free_in_sync bounds.now even.now followed rows.now following }
 {
-    if synced.is_none()
-        && is_odd(cycle)
-        && in_sync_within(bounds, even.as_slice(), rows.as_slice())
-    {
-        Some(cycle / 2)
-    } else {
-        synced
-    }
+    in_sync_within(bounds, even.as_slice(), rows.as_slice()) && !followed && !following
+}
+
+// Whether a node followed in the last even cycle, after one more cycle.
+fn followed_after(cycle: u32, followed: bool, following: bool) -> bool
+    ensures { result ≡ (if is_odd cycle then followed else following) }
+{
+    if is_odd(cycle) { followed } else { following }
 }
 
 // Keeps the rows of an even cycle.
