@@ -53,7 +53,7 @@ sender_there r node slot sane from =
     (sender_found r index slot node sane from (slot_of_index r.params index slot is))
 
 -- a node with a row and a key slot sends
-row_sends : (x : Setting) (h : Cycles) (even odd : Cycle) (node : NodeSpec) (slot : ℕ) → Contains (row_nodes x h) node → node.key ≡ Some slot → IsSender (round_of x h even odd) node slot
+pub row_sends : (x : Setting) (h : Cycles) (even odd : Cycle) (node : NodeSpec) (slot : ℕ) → Contains (row_nodes x h) node → node.key ≡ Some slot → IsSender (round_of x h even odd) node slot
 row_sends x h even odd node slot among key =
     let row = filtered (λ (n : NodeSpec). has_row x h n.id) (correct_nodes x) node among in
     let correct = filtered (λ (n : NodeSpec). is_correct x n.id) x.params.nodes node row.0 in

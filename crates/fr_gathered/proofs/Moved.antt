@@ -47,7 +47,7 @@ pub record Moves (p : Values) (n : Hearer) (even odd : NodeRow) : Type 0 where
   pub start : even.start ≡ corrected_end_of p n.odd
   pub next : IsNext p n.odd (member_from p n).rate_term even odd
 
-moves_by : (x : Setting) (h : Cycles) (even odd : Cycle) (double : ℕ) (node : NodeSpec) (n : Hearer) (even2 odd2 : NodeRow) → AreClocksCovered x → length h ≡ 2 * double
+pub moves_by : (x : Setting) (h : Cycles) (even odd : Cycle) (double : ℕ) (node : NodeSpec) (n : Hearer) (even2 odd2 : NodeRow) → AreClocksCovered x → length h ≡ 2 * double
     → suc double < x.doubles → Contains (correct_nodes x) node → n.odd.length ≡ x.microtick node.id (suc (length h))
     → even2.start ≡ corrected_end_of x.params n.odd → even2.rate ≡ (member_from x.params n).rate_term.value → NodeTwo x (odd ∷ even ∷ h) even2 odd2 node
     → Moves x.params n even2 odd2

@@ -48,12 +48,12 @@ long_told : (h : Cycles) → length (told_of h) ≡ length h
 long_told h = length-map h (λ (c : Cycle). c.told)
 
 -- a record that is told is told of a cycle
-record ToldOf (h : Cycles) (n : ℕ) (r : Record) : Type 0 where
-  c : Cycle
-  at : cycle_at h n ≡ Some c
-  told : c.told ≡ r
+pub record ToldOf (h : Cycles) (n : ℕ) (r : Record) : Type 0 where
+  pub c : Cycle
+  pub at : cycle_at h n ≡ Some c
+  pub told : c.told ≡ r
 
-told_from : (h : Cycles) (n : ℕ) (r : Record) → record_at (told_of h) n ≡ Some r → ToldOf h n r
+pub told_from : (h : Cycles) (n : ℕ) (r : Record) → record_at (told_of h) n ≡ Some r → ToldOf h n r
 told_from h n r is =
     let less = record_at-lt (told_of h) n r is in
     let long = long_told h in

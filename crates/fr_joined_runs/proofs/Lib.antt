@@ -3,3 +3,7 @@ pub mod Together
 pub mod Stated
 pub mod AloneStated
 pub mod AloneKept
+pub mod RowsHeard
+pub mod RowsKept
+pub mod RowsNumbers
+pub mod AloneNumbers

@@ -2,3 +2,4 @@
 pub mod Runs
 pub mod Stated
 pub mod Alone
+pub mod Numbers

@@ -38,7 +38,8 @@ pub record KeepsTogether (x : Setting) (h : Cycles) (double : ℕ) : Type 0 wher
 abbrev pub UnfollowedRunsKeepTogether : Type 0
 UnfollowedRunsKeepTogether = (x : Setting) (h : Cycles) (double : ℕ) → IsUnfollowedRun x h double → KeepsTogether x h double
 
--- a node that listens follows in the four cycles behind the double cycle in which it does, and has a row from then on
+-- a node that listens follows in the four cycles behind the double cycle in which it does, and has a row in those behind
+-- these: it is said of the cycles that there are
 abbrev pub IsJoined : Cycles → ℕ → Join → Type 0
 IsJoined h node join =
     (cycle : ℕ) (c : Cycle) → cycle_at h cycle ≡ Some c

@@ -1,4 +1,4 @@
-ghost use Rattle.fr_joined_runs.specs.Alone.{AloneRunsAreStated, AloneRunsKeepTogether};
+ghost use Rattle.fr_joined_runs.specs.Alone.{AloneRunsAreStated, AloneRunsKeepNumbers, AloneRunsKeepTogether};
 
 use fr_history::one_lawful_history;
 use fr_joined::{one_lawful_run, runs_alone_stay};
@@ -8,6 +8,16 @@ use fr_joined::{one_lawful_run, runs_alone_stay};
 pub fn alone_runs_keep_together()
     ensures stated { AloneRunsAreStated }
     ensures keep { AloneRunsKeepTogether }
+{
+    one_lawful_run();
+    runs_alone_stay();
+    one_lawful_history();
+}
+
+/// A law: so it is of the laws of rates and of offsets. They are for the lawful history of a run that no node joins
+/// those of a covered run of `fr_runs`.
+pub fn alone_runs_keep_numbers()
+    ensures { AloneRunsKeepNumbers }
 {
     one_lawful_run();
     runs_alone_stay();

@@ -10,8 +10,8 @@ pub fn unfollowed_runs_keep_together()
     ensures { UnfollowedRunsKeepTogether }
 {}
 
-/// A law: and a node that listens in double cycle `e`, from that one on, follows in cycles `2 e + 2` to `2 e + 5`,
-/// and has a row from cycle `2 e + 6` on.
+/// A law: and a node that listens in double cycle `e`, from that one on, follows in cycles `2 e + 2` to `2 e + 5`, as
+/// far as the run has them, and has a row in every cycle of the run from `2 e + 6` on.
 pub fn listeners_join()
     ensures { ListenersJoin }
 {}

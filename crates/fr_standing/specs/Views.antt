@@ -34,7 +34,9 @@ node_behind x h follows node = record {
   outcomes = outcomes_behind x h node;
 }
 
--- the nodes that have a row in that cycle, and those that follow in it, in ascending order
+-- The nodes that have a row in that next cycle, and those that follow in it, in ascending order. What a world holds
+-- meanwhile are those of the last cycle (`nodes_kept` of `fr_world`): who joins or begins to follow shows as the next one
+-- begins.
 abbrev pub nodes_behind : Setting → Cycles → List NodeView
 nodes_behind x h = map (λ node. node_behind x h false node.id) (row_nodes x h)
 

@@ -54,7 +54,7 @@ key_of_index p (Some slot) index is = (slot, refl, is)
 
 -- ---- the nodes with rows
 
-abbrev row_receivers : Setting → Cycles → Cycle → Cycle → Receivers
+abbrev pub row_receivers : Setting → Cycles → Cycle → Cycle → Receivers
 row_receivers x h even odd = record {
   own = own_index x.params;
   early = row_nodes x h;
@@ -86,7 +86,7 @@ row_reached x h even odd double node sender g here there =
       by_odd = any_two (cycle_length_of p) (pos (lambda_of p)) odds (row_for odds sender.id) (row_for odds node.id) g.in_sync.odd_lengths (late sender there) (late node here);
     })
 
-row_itself : (x : Setting) (h : Cycles) (even odd : Cycle) (node : NodeSpec) (index : ℕ) → IsSane x.params → Contains (row_nodes x h) node → own_index x.params node.id ≡ Some index
+pub row_itself : (x : Setting) (h : Cycles) (even odd : Cycle) (node : NodeSpec) (index : ℕ) → IsSane x.params → Contains (row_nodes x h) node → own_index x.params node.id ≡ Some index
     → (slot : ℕ) × ((spec : NodeSpec) × IsItself (round_of x h even odd) (row_hearer x even odd node.id) index slot spec)
 row_itself x h even odd node index sane among own =
     let has = filtered (λ (n : NodeSpec). has_row x h n.id) (correct_nodes x) node among in
@@ -104,7 +104,7 @@ row_itself x h even odd node index sane among own =
       ),
     )
 
-row_other : (x : Setting) (h : Cycles) (even odd : Cycle) (node sender : NodeSpec) (index slot : ℕ) → IsSane x.params
+pub row_other : (x : Setting) (h : Cycles) (even odd : Cycle) (node sender : NodeSpec) (index slot : ℕ) → IsSane x.params
     → IsOther (round_of x h even odd) (row_hearer x even odd node.id) index slot sender → sender.id ≢ node.id
 row_other x h even odd node sender index slot sane other is =
     let p = x.params in

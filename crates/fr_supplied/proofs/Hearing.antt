@@ -119,7 +119,7 @@ sends_rows x h even odd double sender slot g from =
     record { correct = correct; early = early; late = row_later x h even odd double sender g early }
 
 -- its frames come with proper delays
-delayed : (x : Setting) (sender receiver : NodeSpec) (slot cycle : ℕ) (channel : Channel) → IsJoinCovered x → Contains (correct_nodes x) sender → Contains (correct_nodes x) receiver
+pub delayed : (x : Setting) (sender receiver : NodeSpec) (slot cycle : ℕ) (channel : Channel) → IsJoinCovered x → Contains (correct_nodes x) sender → Contains (correct_nodes x) receiver
     → sender.key ≡ Some slot → sender.id ≢ receiver.id → cycle < 2 * x.doubles → Share sender receiver channel
     → IsDelay x.params channel (x.delay sender.id receiver.id channel cycle)
 delayed x sender receiver slot cycle channel w sends hears key other less share =
@@ -176,7 +176,7 @@ odd_link x h even odd double s node sender slot w g r from other =
 -- ---- what the receiver has
 
 -- a deviation by key index is that of the key slot
-looked : (x : Setting) (s : Receivers) (node index slot : ℕ) (is_odd : Bool) (channel : Channel) → key_slot_of x.params index ≡ Some slot
+pub looked : (x : Setting) (s : Receivers) (node index slot : ℕ) (is_odd : Bool) (channel : Channel) → key_slot_of x.params index ≡ Some slot
     → (hearer_from x s node).look index is_odd channel ≡ dev_in (if is_odd then s.odd_devs else s.even_devs) node slot channel
 looked x s node index slot is_odd channel slot_is = ap (option_and_then (λ k. dev_in (if is_odd then s.odd_devs else s.even_devs) node k channel)) slot_is
 
