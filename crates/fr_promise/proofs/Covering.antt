@@ -1,6 +1,6 @@
 -- A run without a gap is covered: what each kind of gap would be, were it not.
 use Rattle.std.proofs.Common.{◌≡◌, ℕ, suc, ◌+◌, ◌*◌, ◌-◌, ◌<◌, ◌≤◌, ◌==◌, ℤ, pos, ◌-ℤ◌, ◌+ℤ◌, ◌≤ℤ◌, Bool, true, false, ◌&&◌, ◌||◌, Some, None, refl, ap, sym, ◌∙◌, inl, inr, arith, add-one}
-use Rattle.std.specs.Prelude.{int_lt, nat_le, neg_ℤ}
+use Rattle.std.specs.Prelude.{int_lt, nat_le, neg_ℤ, not, is_none, is_some}
 use Rattle.std.proofs.lemmas.Bool.{and_parts, ne_eqb, or_cases, or_parts, eqb-true}
 use Rattle.std.proofs.lemmas.Int.{ints}
 use Rattle.fr_base.specs.Event.{Event}
@@ -20,12 +20,16 @@ use Rattle.fr_precision.specs.Reception.{IsDelay}
 use Rattle.fr_drift.specs.Files.{IsRateWithin}
 use Rattle.fr_drift.specs.Questions.{delay_of, doubles_of, length_of, rate_of}
 use Rattle.fr_drift.specs.View.{DriftView}
-use Rattle.fr_coverage.specs.Coverage.{count_of, expected_delay, first_gap, has_jumped, is_off, is_wrong, outweighs}
+use Rattle.fr_coverage.specs.Coverage.{asked_checks, asked_where, count_of, expected_delay, first_gap, has_jumped, is_counted, is_off, is_wrong, outweighs, some_join, stays_on}
 use Rattle.fr_script.specs.Events.{event_of}
 use Rattle.fr_coverage.specs.Links.{is_carried, is_carried_on, is_free, is_link, is_regular, shares}
-use Rattle.fr_script.specs.View.{ScriptView}
+use Rattle.fr_script.specs.View.{ScriptView, is_arbitrary, join_of}
 use Rattle.fr_coverage.specs.declared.gap.Gap.TheVariants as gap
+use Rattle.fr_coverage.proofs.Checks.{five-asked}
 use Rattle.fr_coverage.proofs.GapParts.{found-none}
+use Rattle.fr_midpoint.proofs.Counts.{count_by-le-count_by}
+use Rattle.fr_round.specs.Round.{sync_count}
+use Rattle.fr_supplied.proofs.Covers.{more_are_few}
 use Rattle.fr_clocks.specs.Heard.{IsLinked}
 use Rattle.fr_runs.specs.Covered.{IsCarried, IsCovered, Share}
 use Rattle.fr_runs.proofs.Nodes.{correct_node, IsCorrectNode}
@@ -34,19 +38,28 @@ use Rattle.fr_coverage.specs.Decided.{setting_of}
 use Rattle.fr_promise.proofs.Drifts.{rates_are_within}
 
 -- parameters of a cluster, a drift and a script without a gap
-record HaveNoGap (p : Values) (d : DriftView) (s : ScriptView) : Type 0 where
-  sane : IsSane p
-  none : first_gap p d s ≡ None
+pub record HaveNoGap (p : Values) (d : DriftView) (s : ScriptView) : Type 0 where
+  pub sane : IsSane p
+  pub none : first_gap p d s ≡ None
 
 -- ---- checks and counts
 
-check_holds : (p : Values) (d : DriftView) (s : ScriptView) (number : ℕ) → HaveNoGap p d s → 1 ≤ number → number ≤ 5 → holds_of number p ≡ true
+check_holds : (p : Values) (d : DriftView) (s : ScriptView) (number : ℕ) → HaveNoGap p d s → 1 ≤ number → number ≤ asked_checks p s → holds_of number p ≡ true
 check_holds p d s number w from to = by_test (holds_of number p) refl
   where
     by_test : (b : Bool) → holds_of number p ≡ b → b ≡ true
     by_test true holds = refl
     by_test false fails =
         absurd (found-none p d s (gap.Check number (pos (left_of number p)) (pos (right_of number p))) w.sane w.none (inl (record { number = number; from = from; to = to; fails = fails; told = refl })))
+
+pub first_checks : (p : Values) (d : DriftView) (s : ScriptView) (number : ℕ) → HaveNoGap p d s → 1 ≤ number → number ≤ 5 → holds_of number p ≡ true
+first_checks p d s number w from to = let asked : 5 ≤ asked_checks p s = five-asked (some_join p s) in check_holds p d s number w from (omega (arith, to, asked))
+
+-- those of a cluster that nodes join
+pub joining_checks : (p : Values) (d : DriftView) (s : ScriptView) (number : ℕ) → HaveNoGap p d s → some_join p s ≡ true → 6 ≤ number → number ≤ 9 → holds_of number p ≡ true
+joining_checks p d s number w joins from to =
+    let asked : asked_checks p s ≡ 9 = ap asked_where joins in
+    check_holds p d s number w (omega (arith, from)) (omega (arith, to, asked))
 
 nat_le-true : (a b : ℕ) → nat_le a b ≡ true → a ≤ b
 nat_le-true a b le = grind arith
@@ -64,13 +77,27 @@ few_if correct arbitrary is = elim (or_cases (((arbitrary == 0) && nat_le 1 corr
       let parts : ((arbitrary == count) ≡ true) × (nat_le least correct ≡ true) = and_parts (arbitrary == count) (nat_le least correct) is in
       (eqb-true arbitrary count parts.0, nat_le-true least correct parts.1)
 
-few_nodes : (p : Values) (d : DriftView) (s : ScriptView) → HaveNoGap p d s → AreFew (count_of s false p.nodes) (count_of s true p.nodes)
+pub few_nodes : (p : Values) (d : DriftView) (s : ScriptView) → HaveNoGap p d s → AreFew (count_of s false p.nodes) (count_of s true p.nodes)
 few_nodes p d s w = few_if (count_of s false p.nodes) (count_of s true p.nodes) (by_test (outweighs (count_of s false p.nodes) (count_of s true p.nodes)) refl)
   where
     by_test : (b : Bool) → outweighs (count_of s false p.nodes) (count_of s true p.nodes) ≡ b → b ≡ true
     by_test true holds = refl
     by_test false fails =
         absurd (found-none p d s (gap.Count (count_of s false p.nodes) (count_of s true p.nodes)) w.sane w.none (inr (inl (record { few = fails; told = refl }))))
+
+-- all correct nodes are no fewer than those that stay on
+few_correct : (p : Values) (d : DriftView) (s : ScriptView) → HaveNoGap p d s → AreFew (sync_count p (λ node. not (is_arbitrary s node))) (count_of s true p.nodes)
+few_correct p d s w =
+    more_are_few (count_of s false p.nodes) (sync_count p (λ node. not (is_arbitrary s node))) (count_of s true p.nodes)
+    (count_by-le-count_by (is_counted s false) (λ (node : NodeSpec). is_some node.key && not (is_arbitrary s node.id)) p.nodes
+    (λ node passes.
+    let both = and_parts (is_some node.key) (stays_on s node.id) passes in
+    let two = and_parts (not (is_arbitrary s node.id)) (is_none (join_of s node.id)) both.1 in
+    two_true (is_some node.key) (not (is_arbitrary s node.id)) both.0 two.0))
+    (few_nodes p d s w)
+  where
+    two_true : (key correct : Bool) → key ≡ true → correct ≡ true → (key && correct) ≡ true
+    two_true key correct a b = rw (a, b) refl
 
 -- ---- microticks
 
@@ -212,16 +239,16 @@ covered_within p d s sane rates none =
     record {
       clocks = record {
         sane = sane;
-        first = check_holds p d s 1 w (omega arith) (omega arith);
-        second = check_holds p d s 2 w (omega arith) (omega arith);
-        third = check_holds p d s 3 w (omega arith) (omega arith);
-        few = few_nodes p d s w;
+        first = first_checks p d s 1 w (omega arith) (omega arith);
+        second = first_checks p d s 2 w (omega arith) (omega arith);
+        third = first_checks p d s 3 w (omega arith) (omega arith);
+        few = few_correct p d s w;
         least = λ node cycle is within. (not_off p (length_of d node.id cycle) (proper_micro p d s node cycle w (correct_node (setting_of p d s) node is) within)).0;
         most = λ node cycle is within. (not_off p (length_of d node.id cycle) (proper_micro p d s node cycle w (correct_node (setting_of p d s) node is) within)).1;
         changes = λ node cycle is within. near (pos (amount p name.xChangeBound)) (length_of d node.id cycle) (length_of d node.id (suc cycle)) (steady_micro p d s node cycle w (correct_node (setting_of p d s) node is) within);
       };
-      fourth = check_holds p d s 4 w (omega arith) (omega arith);
-      fifth = check_holds p d s 5 w (omega arith) (omega arith);
+      fourth = first_checks p d s 4 w (omega arith) (omega arith);
+      fifth = first_checks p d s 5 w (omega arith) (omega arith);
       rates = λ node is. let rate : IsRateWithin p (rate_of d node.id) = rates node.id in record { low = rate.from; high = rate.to };
       delays = λ sender receiver slot ch cycle link share within. delay_near p ch (delay_of d sender.id receiver.id ch cycle) (proper_delay p d s sender receiver slot ch cycle w link share within);
       links = λ sender receiver slot double link within. carried p d s sender receiver slot double w link within;

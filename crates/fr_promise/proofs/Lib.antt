@@ -1,3 +1,5 @@
 pub mod Drifts
+pub mod Starts
 pub mod Covering
+pub mod Stating
 pub mod Promising

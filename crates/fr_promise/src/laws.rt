@@ -1,16 +1,24 @@
-ghost use Rattle.fr_promise.specs.Files.{AcceptedFilesKeepPrecision, CoveredFilesAreCovered, DriftOfAFileFits};
-ghost use Rattle.fr_promise.specs.Files.{FilesKeepPrecision, GreatestSkewIsWithin, RatesAreWithin};
+ghost use Rattle.fr_promise.specs.Files.{AcceptedFilesKeepPrecision, CoveredFilesAreCovered, CoveredFilesAreStated};
+ghost use Rattle.fr_promise.specs.Files.{DriftOfAFileFits, FilesKeepPrecision, GreatestSkewIsWithin};
+ghost use Rattle.fr_promise.specs.Files.{RatesAreWithin, StartsAreNatural};
 
-/// A law: the run of sane parameters, of a drift that fits them, and of a script, is covered where it has no
-/// gap.
+/// A law: the clocks, delays and links of the correct nodes of sane parameters, of a drift that fits them, and of a
+/// script, are covered where the run has no gap, whoever joins.
 pub fn covered_files_are_covered()
     ensures { CoveredFilesAreCovered }
 {}
 
-/// The promise of a covered run: each lawful history over all its cycles keeps its precision from each double
-/// cycle in sync on. No macrotick lies further apart than the precision, no term is cut or missing, and every
-/// correct node is active, after the last cycle too. So it is of the drift of an accepted file, from the
-/// first double cycle in sync on.
+/// A law: and where the script fits them too, the run is stated as runs that nodes join are: each node that joins has
+/// a reference, and the checks of a cluster that nodes join hold where some node does.
+pub fn covered_files_are_stated()
+    ensures { CoveredFilesAreStated }
+{}
+
+/// The promise of a covered run: its lawful cycles keep their precision from each double cycle in sync on in which no
+/// node follows, whoever joins. No macrotick lies further apart than the precision, no term is cut, every node that has a
+/// row is active, after the last cycle too, and each node that listens in double cycle `e`, from there on, has a row in
+/// every cycle of the run from `2 e + 6` on. So it is of the drift and of the script of accepted files, from the first
+/// such double cycle on.
 pub fn files_keep_precision()
     ensures files { FilesKeepPrecision }
     ensures accepted { AcceptedFilesKeepPrecision }
@@ -26,7 +34,9 @@ pub fn drift_of_a_file_fits()
     ensures { DriftOfAFileFits }
 {}
 
-/// A law: the first rate terms of a drift that fits parameters lie within their limit.
+/// A law: the first rate terms of a drift that fits parameters lie within their limit, and it starts no cycle 0 below
+/// tick 0.
 pub fn rates_are_within()
-    ensures { RatesAreWithin }
+    ensures rates { RatesAreWithin }
+    ensures starts { StartsAreNatural }
 {}

@@ -1,10 +1,10 @@
 //! What the files of a run promise: a run without a gap is covered, and keeps its precision from its first
-//! double cycle in sync on.
+//! double cycle in sync on in which no node follows.
 #![tactic(auto)]
 
 mod laws;
 
 pub use laws::{
-    covered_files_are_covered, drift_of_a_file_fits, files_keep_precision, greatest_skew_is_within,
-    rates_are_within,
+    covered_files_are_covered, covered_files_are_stated, drift_of_a_file_fits,
+    files_keep_precision, greatest_skew_is_within, rates_are_within,
 };

@@ -290,6 +290,6 @@ synced_by p h double (Some found) is sync = record { found = found; is = is; by 
     ]
 
 pub files_settle : FilesSettle
-files_settle p d s h start rate double peak sane fits none lawful whole by within begins =
+files_settle p d s h start rate double peak sane fits alone none lawful whole by within begins =
     let comes = runs_settle (setting_of p d s) h start rate double peak (covered_files_are_covered p d s sane fits none) lawful whole by within begins in
     (comes, synced_by p h double (first_sync_of p h) refl comes.in_sync)

@@ -18,6 +18,7 @@ use Rattle.fr_history.specs.Lawful.{IsLawful}
 use Rattle.fr_history.specs.Skew.{skew_at}
 use Rattle.fr_history.specs.Sync.{IsInSyncAt, first_sync_of}
 use Rattle.fr_runs.specs.Covered.{IsCovered}
+use Rattle.fr_joined_runs.specs.Alone.{NoneJoins}
 
 -- what is computed of clocks that begin so far apart: the double cycle and the peak, with which every check for the way
 -- holds
@@ -56,9 +57,10 @@ pub record IsSyncedBy (p : Values) (h : History) (double : ℕ) : Type 0 where
   pub is : first_sync_of p h ≡ Some found
   pub by : found ≤ double
 
+-- so does the history of files without a gap of which none lets a node join
 abbrev pub FilesSettle : Type 0
 FilesSettle =
     (p : Values) (d : DriftView) (s : ScriptView) (h : History) (start rate double peak : ℕ)
-    → IsSane p → DriftFits p d → first_gap p d s ≡ None
+    → IsSane p → DriftFits p d → NoneJoins (setting_of p d s) → first_gap p d s ≡ None
     → IsLawful (setting_of p d s) h → length h ≡ 2 * doubles_of d → SettlesBy p start rate double peak → double < doubles_of d
     → BeginsWithin p h start rate → ComesIntoSync p h double peak × IsSyncedBy p h double

@@ -1,0 +1,112 @@
+-- A run without a gap is stated as runs that nodes join are.
+use Rattle.std.proofs.Common.{◌≡◌, ℕ, ◌==◌, Bool, true, false, Option, Some, None, refl, ap, sym, ◌∙◌}
+use Rattle.std.specs.Prelude.{Contains, not, is_some}
+use Rattle.std.proofs.lemmas.Bool.{eqb-true}
+use Rattle.fr_base.specs.Event.{Event}
+use Rattle.fr_base.specs.Event.Event.{Regular, Silent, Flip, Say}
+use Rattle.fr_cluster.specs.Values.{Values}
+use Rattle.fr_cluster.specs.Sane.{IsSane}
+use Rattle.fr_cluster.specs.Questions.{key_in, node_of}
+use Rattle.fr_cluster.specs.Setting.{IsSetting, SaysBytes, correct_nodes, is_correct}
+use Rattle.fr_cluster.specs.declared.join.Join.{Join}
+use Rattle.fr_cluster.specs.declared.nodes.NodeSpec.{NodeSpec}
+use Rattle.fr_drift.specs.Files.{DriftFits, IsRateWithin}
+use Rattle.fr_drift.specs.Questions.{rate_of}
+use Rattle.fr_drift.specs.View.{DriftView}
+use Rattle.fr_script.specs.Files.{ScriptFits}
+use Rattle.fr_script.specs.Events.{IsProperEvent, event_of}
+use Rattle.fr_script.specs.Promises.{JoinsProperly, NodesJoinProperly}
+use Rattle.fr_script.specs.View.{IsScript, ScriptView, join_of}
+use Rattle.fr_script.proofs.Joining.{fits-join}
+use Rattle.fr_script.proofs.Proper.{event-proper}
+use Rattle.fr_coverage.specs.Coverage.{first_gap}
+use Rattle.fr_coverage.specs.Decided.{setting_of}
+use Rattle.fr_gathered.specs.References.{IsReference}
+use Rattle.fr_gathered.specs.Runs.{RatesBegin}
+use Rattle.fr_round.proofs.Lists.{found, kept_filtered}
+use Rattle.fr_runs.specs.Covered.{IsCovered}
+use Rattle.fr_runs.proofs.Nodes.{correct_node, node_there}
+use Rattle.fr_supplied.specs.Supplied.{IsCoveredAsStated, StartsBegin}
+use Rattle.fr_supplied.proofs.Reception.{on_channel}
+use Rattle.fr_promise.specs.Files.{CoveredFilesAreStated}
+use Rattle.fr_promise.proofs.Covering.{covered_within, few_nodes, first_checks, HaveNoGap, joining_checks}
+use Rattle.fr_promise.proofs.Drifts.{rates_are_within}
+use Rattle.fr_promise.proofs.Starts.{starts_are_natural}
+
+-- the reference of a node that joins is a node of the cluster
+reference_is : (p : Values) (d : DriftView) (s : ScriptView) (node : NodeSpec) (join : Join) → JoinsProperly p s node.id join → IsReference (setting_of p d s) node join
+reference_is p d s node join proper = by_node (node_of p join.reference) refl
+  where
+    by_key : (spec : NodeSpec) → node_of p join.reference ≡ Some spec → (key : Option ℕ) → spec.key ≡ key → IsReference (setting_of p d s) node join
+    by_key spec is None keyless =
+        let none : is_some (key_in (node_of p join.reference)) ≡ false = ap (λ (o : Option NodeSpec). is_some (key_in o)) is ∙ ap (λ (o : Option ℕ). is_some o) keyless in
+        let e = sym none ∙ proper.key in absurd (cc)
+    by_key spec is (Some slot) keyed =
+        let there = found (λ (n : NodeSpec). n.id == join.reference) p.nodes spec is in
+        let same : spec.id ≡ join.reference = eqb-true spec.id join.reference there.0 in
+        let correct : is_correct (setting_of p d s) spec.id ≡ true = ap (is_correct (setting_of p d s)) same ∙ ap (λ (b : Bool). not b) proper.correct_reference in
+        record {
+          reference = spec;
+          slot = slot;
+          correct = kept_filtered (λ (n : NodeSpec). is_correct (setting_of p d s) n.id) p.nodes spec there.1 correct;
+          named = same;
+          key = keyed;
+          stays = ap (join_of s) same ∙ proper.stays;
+          other = λ one. proper.other (sym same ∙ one);
+        }
+
+    by_node : (o : Option NodeSpec) → node_of p join.reference ≡ o → IsReference (setting_of p d s) node join
+    by_node None is = let e = sym (ap (λ (o : Option NodeSpec). is_some o) is) ∙ proper.known_reference in absurd (cc)
+    by_node (Some spec) is = by_key spec is spec.key refl
+
+pub covered_as_stated : (p : Values) (d : DriftView) (s : ScriptView) → HaveNoGap p d s → NodesJoinProperly p s → IsCovered (setting_of p d s) → IsCoveredAsStated (setting_of p d s)
+covered_as_stated p d s w proper c = record {
+  sane = w.sane;
+  checks = λ number from to. first_checks p d s number w from to;
+  join_checks = λ joins number from to. joining_checks p d s number w joins from to;
+  few = few_nodes p d s w;
+  least = c.clocks.least;
+  most = c.clocks.most;
+  changes = c.clocks.changes;
+  referenced = record {
+    references = λ node join there at. reference_is p d s node join (proper node.id join at);
+    delays =
+        λ sender receiver slot channel cycle sends hears key other by_sender by_receiver less.
+        let on = λ (node : NodeSpec) (is : Contains (correct_nodes (setting_of p d s)) node).
+        on_channel (setting_of p d s) node channel (node_there p node w.sane (correct_node (setting_of p d s) node is).there) in
+        c.delays sender receiver slot channel cycle (record { sends = sends; hears = hears; key = key; other = other })
+        (record { by_sender = sym (on sender sends) ∙ by_sender; by_receiver = sym (on receiver hears) ∙ by_receiver }) less;
+  };
+  links = c.links;
+}
+
+says_bytes : (event : Event) → IsProperEvent event → SaysBytes event
+says_bytes Regular proper = tt
+says_bytes Silent proper = tt
+says_bytes (Flip bit) proper = tt
+says_bytes (Say shift None) proper = proper.said
+says_bytes (Say shift (Some bytes)) proper = proper.said.small
+
+is_setting : (p : Values) (d : DriftView) (s : ScriptView) → IsSane p → IsScript s → IsSetting (setting_of p d s)
+is_setting p d s sane script = record {
+  sane = sane;
+  bytes = λ cycle sender receiver channel. says_bytes (event_of s cycle sender receiver channel) (event-proper s cycle sender receiver channel script);
+}
+
+pub files_are_covered : (p : Values) (d : DriftView) (s : ScriptView) → IsSane p → DriftFits p d → ScriptFits p s → first_gap p d s ≡ None → IsCoveredAsStated (setting_of p d s)
+files_are_covered p d s sane fits script none =
+    covered_as_stated p d s (record { sane = sane; none = none }) (fits-join p s script) (covered_within p d s sane (λ node. rates_are_within p d node sane fits) none)
+
+pub rates_begin : (p : Values) (d : DriftView) (s : ScriptView) → IsSane p → DriftFits p d → RatesBegin (setting_of p d s)
+rates_begin p d s sane fits node among = let rate : IsRateWithin p (rate_of d node.id) = rates_are_within p d node.id sane fits in record { low = rate.from; high = rate.to }
+
+pub starts_begin : (p : Values) (d : DriftView) (s : ScriptView) → DriftFits p d → StartsBegin (setting_of p d s)
+starts_begin p d s fits node among = starts_are_natural p d node.id fits
+
+pub covered_files_are_stated : CoveredFilesAreStated
+covered_files_are_stated p d s sane fits script proper none = record {
+  setting = is_setting p d s sane proper;
+  covered = files_are_covered p d s sane fits script none;
+  rates = rates_begin p d s sane fits;
+  starts = λ joins. starts_begin p d s fits;
+}
