@@ -62,6 +62,20 @@ impl Listener {
         }
     }
 
+    /// Which node of the cluster it is.
+    pub fn id(&self) -> NodeId
+        ensures { result ≡ self.now.id }
+    {
+        self.id
+    }
+
+    /// The key slot of its reference.
+    pub fn reference(&self) -> Slot
+        ensures { result ≡ self.now.reference }
+    {
+        self.reference
+    }
+
     /// Takes what comes on a channel in the even or the odd cycle, at an instant in ticks. True exactly where it is
     /// a sync frame of the reference's slot: then its arrival is kept for the channel and the cycle, and nothing else
     /// changes. After false nothing changed.

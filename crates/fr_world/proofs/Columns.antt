@@ -1,28 +1,24 @@
--- The tables of the nodes after the slots of a cycle are as the history records them.
-use Rattle.std.proofs.Common.{◌≡◌, ℕ, zero, suc, ◌+◌, ◌<◌, ◌≤◌, ◌%◌, ℤ, Bool, true, false, Option, Some, None, List, [], ◌∷◌, length, get_or, replicate, refl, ap, ap₂, sym, ◌∙◌, arith, if◌then◌else◌}
+-- The tables of receivers after the slots of a cycle are as lists of deviations record them.
+use Rattle.std.proofs.Common.{◌≡◌, ℕ, zero, suc, ◌+◌, ◌<◌, ◌≤◌, ℤ, Bool, true, false, Option, Some, None, List, [], length, get_or, replicate, refl, ap, ap₂, sym, ◌∙◌, arith}
 use Rattle.std.proofs.lemmas.List.{length-replicate}
 use Rattle.std.specs.Prelude.{option_and_then}
 use Rattle.std.specs.List.{cons_option, filter_map, range_with_len}
 use Rattle.fr_base.specs.declared.channel.Channel.{Channel}
 use Rattle.fr_base.specs.declared.channel.Channel.TheVariants.{A, B}
 use Rattle.fr_base.specs.declared.dev.Dev.{Dev}
+use Rattle.fr_base.specs.declared.node_row.NodeRow.{NodeRow}
 use Rattle.fr_cluster.specs.Sane.{IsSane}
 use Rattle.fr_cluster.specs.Values.{Values, amount}
 use Rattle.fr_cluster.specs.Questions.{key_index_of, key_slot_of}
 use Rattle.fr_cluster.specs.declared.names.ParamName.TheVariants as name
-use Rattle.fr_cluster.specs.declared.nodes.NodeSpec.{NodeSpec}
-use Rattle.fr_time.specs.Cycles.{is_odd}
 use Rattle.fr_measure.specs.Readings.{Readings, column, no_readings, reading}
 use Rattle.fr_measure.specs.Values.{change_of, least_of, mean_of, offset_at, own_value_or, rate_at, values_of}
 use Rattle.fr_cluster.proofs.KeyIndexes.{index_is_own}
-use Rattle.fr_cluster.specs.Setting.{Setting, correct_nodes}
-use Rattle.fr_history.specs.History.{History}
-use Rattle.fr_history.specs.Next.{early_row, early_rows, next_devs, next_record}
-use Rattle.fr_history.specs.Terms.{latest_devs}
+use Rattle.fr_cluster.specs.Setting.{Setting}
 use Rattle.fr_measure.specs.Deviations.{deviations_of}
 use Rattle.fr_base.specs.Rows.{dev_in}
-use Rattle.fr_world.specs.Standing.{column_of, readings_after, readings_of, recorded_at}
-use Rattle.fr_history.proofs.Devs.{dev_in-next}
+use Rattle.fr_history.specs.Offers.{stored_in}
+use Rattle.fr_standing.specs.Nodes.{column_of, readings_of, recorded_at}
 use Rattle.fr_history.proofs.Flat.{Among, get_or-map-range, length-map-range, same_lists}
 use Rattle.fr_history.proofs.KeySlots.{key_slot-index, key_slot-within, no_key_slot}
 use Rattle.fr_world.proofs.Store.{IsTable}
@@ -40,34 +36,41 @@ length-column t true B is = is.odd_b
 zero_plus : (n : ℕ) → 0 + n ≡ n
 zero_plus n = omega arith
 
+-- a list records of a node what a receiver with its row stores of some senders, in each static slot and on each channel
+abbrev pub RecordsStored : Setting → ℕ → List NodeRow → NodeRow → List Dev → ℕ → Type 0
+RecordsStored x cycle rows row devs node =
+    (slot : ℕ) (c : Channel) → 1 ≤ slot → slot ≤ amount x.params name.gNumberOfStaticSlots → dev_in devs node slot c ≡ stored_in x cycle rows row slot c
+
 -- the whole hearing of a cycle
-abbrev pub heard_table : Setting → History → ℕ → Bool → Readings → Readings
-heard_table x h node odd t = table_after x (length h) (early_rows x h) (early_row x h node) odd (amount x.params name.gNumberOfStaticSlots) t
+abbrev pub heard_table : Setting → ℕ → List NodeRow → NodeRow → Bool → Readings → Readings
+heard_table x cycle rows row odd t = table_after x cycle rows row odd (amount x.params name.gNumberOfStaticSlots) t
 
 -- ---- the column of the cycle
 
 -- at each key index is what the list of the cycle records
-reading_by : (x : Setting) → IsSane x.params → (h : History) (node : NodeSpec) → Among node (correct_nodes x) → (odd : Bool) (t : Readings) → IsTable t → (index : ℕ) (c : Channel) → index < 15 →
-    reading t index odd c ≡ None → (o : Option ℕ) → key_slot_of x.params index ≡ o → reading (heard_table x h node.id odd t) index odd c ≡ option_and_then (λ slot. dev_in (next_devs x h) node.id slot c) o
-reading_by x sane h node is odd t table index c below none None lacks =
-    unkeyed_reading x (length h) (early_rows x h) (early_row x h node.id) odd t index odd c (amount x.params name.gNumberOfStaticSlots) (no_key_slot x.params index lacks) ∙ none
-reading_by x sane h node is odd t table index c below none (Some slot) has =
+reading_by : (x : Setting) → IsSane x.params → (cycle : ℕ) (rows : List NodeRow) (row : NodeRow) (devs : List Dev) (node : ℕ) → RecordsStored x cycle rows row devs node
+    → (odd : Bool) (t : Readings) → IsTable t → (index : ℕ) (c : Channel) → index < 15 → reading t index odd c ≡ None → (o : Option ℕ) → key_slot_of x.params index ≡ o
+    → reading (heard_table x cycle rows row odd t) index odd c ≡ option_and_then (λ slot. dev_in devs node slot c) o
+reading_by x sane cycle rows row devs node records odd t table index c below none None lacks =
+    unkeyed_reading x cycle rows row odd t index odd c (amount x.params name.gNumberOfStaticSlots) (no_key_slot x.params index lacks) ∙ none
+reading_by x sane cycle rows row devs node records odd t table index c below none (Some slot) has =
     let key : (key_index_of x.params slot ≡ Some index) × Among slot _ = key_slot-index x.params index slot has in
     let within : (1 ≤ slot) × (slot ≤ amount x.params name.gNumberOfStaticSlots) = key_slot-within x.params slot sane key.1 in
-    used_reading x (one_to_one x.params) (length h) (early_rows x h) (early_row x h node.id) odd t table index slot c below key.0 none (amount x.params name.gNumberOfStaticSlots) within.0 within.1
-    ∙ sym (dev_in-next x h node slot c is within.0 within.1)
+    used_reading x (one_to_one x.params) cycle rows row odd t table index slot c below key.0 none (amount x.params name.gNumberOfStaticSlots) within.0 within.1
+    ∙ sym (records slot c within.0 within.1)
 
-heard_column : (x : Setting) → IsSane x.params → (h : History) (node : NodeSpec) → Among node (correct_nodes x) → (odd : Bool) (t : Readings) → IsTable t → (c : Channel) →
-    ((index : ℕ) → reading t index odd c ≡ None) → column (heard_table x h node.id odd t) odd c ≡ column_of x.params (next_devs x h) node.id c
-heard_column x sane h node is odd t table c none =
-    let heard : Readings = heard_table x h node.id odd t in
-    let long : length (column heard odd c) ≡ 15 = length-column heard odd c (table_after-table x (length h) (early_rows x h) (early_row x h node.id) odd (amount x.params name.gNumberOfStaticSlots) t table) in
-    let other : length (column_of x.params (next_devs x h) node.id c) ≡ 15 = length-map-range (recorded_at x.params (next_devs x h) node.id c) 0 15 in
-    same_lists None (column heard odd c) (column_of x.params (next_devs x h) node.id c) (long ∙ sym other)
+heard_column : (x : Setting) → IsSane x.params → (cycle : ℕ) (rows : List NodeRow) (row : NodeRow) (devs : List Dev) (node : ℕ) → RecordsStored x cycle rows row devs node
+    → (odd : Bool) (t : Readings) → IsTable t → (c : Channel) → ((index : ℕ) → reading t index odd c ≡ None)
+    → column (heard_table x cycle rows row odd t) odd c ≡ column_of x.params devs node c
+heard_column x sane cycle rows row devs node records odd t table c none =
+    let heard : Readings = heard_table x cycle rows row odd t in
+    let long : length (column heard odd c) ≡ 15 = length-column heard odd c (table_after-table x cycle rows row odd (amount x.params name.gNumberOfStaticSlots) t table) in
+    let other : length (column_of x.params devs node c) ≡ 15 = length-map-range (recorded_at x.params devs node c) 0 15 in
+    same_lists None (column heard odd c) (column_of x.params devs node c) (long ∙ sym other)
     (λ index below.
     let small : index < 15 = omega (arith, long) in
-    reading_by x sane h node is odd t table index c small (none index) (key_slot_of x.params index) refl
-    ∙ sym (get_or-map-range (recorded_at x.params (next_devs x h) node.id c) None 0 15 index small ∙ ap (recorded_at x.params (next_devs x h) node.id c) (zero_plus index)))
+    reading_by x sane cycle rows row devs node records odd t table index c small (none index) (key_slot_of x.params index) refl
+    ∙ sym (get_or-map-range (recorded_at x.params devs node c) None 0 15 index small ∙ ap (recorded_at x.params devs node c) (zero_plus index)))
 
 -- ---- the column of the other cycle
 
@@ -135,62 +138,33 @@ no_odd_reading p evens node index B = ap (λ (xs : List (Option ℤ)). get_or xs
 
 -- ---- the tables of an even and of an odd cycle
 
-heard_even : (x : Setting) → IsSane x.params → (h : History) (node : NodeSpec) → Among node (correct_nodes x) → heard_table x h node.id false no_readings ≡ readings_of x.params (next_devs x h) [] node.id
+even_columns : (x : Setting) → IsSane x.params → (cycle : ℕ) (rows : List NodeRow) (row : NodeRow) (devs : List Dev) (node : ℕ) → RecordsStored x cycle rows row devs node
+    → (odd : Bool) (c : Channel) → column (heard_table x cycle rows row false no_readings) odd c ≡ column (readings_of x.params devs [] node) odd c
 unfolding readings_of
-heard_even x sane h node is = readings_same (heard_table x h node.id false no_readings) (record { even_a = column_of x.params (next_devs x h) node.id A; even_b = column_of x.params (next_devs x h) node.id B; odd_a = column_of x.params [] node.id A; odd_b = column_of x.params [] node.id B }) by_column
-  where
-    here : (c : Channel) → column (heard_table x h node.id false no_readings) false c ≡ column_of x.params (next_devs x h) node.id c
-    here c = heard_column x sane h node is false no_readings empty-table c (λ index. empty_reading index false c)
+even_columns x sane cycle rows row devs node records false A = heard_column x sane cycle rows row devs node records false no_readings empty-table A (λ index. empty_reading index false A)
+even_columns x sane cycle rows row devs node records false B = heard_column x sane cycle rows row devs node records false no_readings empty-table B (λ index. empty_reading index false B)
+even_columns x sane cycle rows row devs node records true A = other_column x cycle rows row false no_readings A (amount x.params name.gNumberOfStaticSlots) ∙ empty_column x.params node A
+even_columns x sane cycle rows row devs node records true B = other_column x cycle rows row false no_readings B (amount x.params name.gNumberOfStaticSlots) ∙ empty_column x.params node B
 
-    there : (c : Channel) → column (heard_table x h node.id false no_readings) true c ≡ column no_readings true c
-    there c = other_column x (length h) (early_rows x h) (early_row x h node.id) false no_readings c (amount x.params name.gNumberOfStaticSlots)
+pub heard_even : (x : Setting) → IsSane x.params → (cycle : ℕ) (rows : List NodeRow) (row : NodeRow) (devs : List Dev) (node : ℕ) → RecordsStored x cycle rows row devs node
+    → heard_table x cycle rows row false no_readings ≡ readings_of x.params devs [] node
+heard_even x sane cycle rows row devs node records =
+    readings_same (heard_table x cycle rows row false no_readings) (readings_of x.params devs [] node) (even_columns x sane cycle rows row devs node records)
 
-    by_column : (odd : Bool) (c : Channel) → column (heard_table x h node.id false no_readings) odd c
-        ≡ column (record { even_a = column_of x.params (next_devs x h) node.id A; even_b = column_of x.params (next_devs x h) node.id B; odd_a = column_of x.params [] node.id A; odd_b = column_of x.params [] node.id B }) odd c
-    by_column false A = here A
-    by_column false B = here B
-    by_column true A = there A ∙ empty_column x.params node.id A
-    by_column true B = there B ∙ empty_column x.params node.id B
-
-odd_columns : (x : Setting) → IsSane x.params → (h : History) (node : NodeSpec) → Among node (correct_nodes x) → (evens : List Dev) (odd : Bool) (c : Channel) →
-    column (heard_table x h node.id true (readings_of x.params evens [] node.id)) odd c ≡ column (readings_of x.params evens (next_devs x h) node.id) odd c
+odd_columns : (x : Setting) → IsSane x.params → (cycle : ℕ) (rows : List NodeRow) (row : NodeRow) (evens devs : List Dev) (node : ℕ) → RecordsStored x cycle rows row devs node
+    → (odd : Bool) (c : Channel) → column (heard_table x cycle rows row true (readings_of x.params evens [] node)) odd c ≡ column (readings_of x.params evens devs node) odd c
 unfolding readings_of
-odd_columns x sane h node is evens true A = heard_column x sane h node is true (readings_of x.params evens [] node.id) (recorded-table x.params evens [] node.id) A (λ index. no_odd_reading x.params evens node.id index A)
-odd_columns x sane h node is evens true B = heard_column x sane h node is true (readings_of x.params evens [] node.id) (recorded-table x.params evens [] node.id) B (λ index. no_odd_reading x.params evens node.id index B)
-odd_columns x sane h node is evens false A = other_column x (length h) (early_rows x h) (early_row x h node.id) true (readings_of x.params evens [] node.id) A (amount x.params name.gNumberOfStaticSlots)
-odd_columns x sane h node is evens false B = other_column x (length h) (early_rows x h) (early_row x h node.id) true (readings_of x.params evens [] node.id) B (amount x.params name.gNumberOfStaticSlots)
+odd_columns x sane cycle rows row evens devs node records true A =
+    heard_column x sane cycle rows row devs node records true (readings_of x.params evens [] node) (recorded-table x.params evens [] node) A (λ index. no_odd_reading x.params evens node index A)
+odd_columns x sane cycle rows row evens devs node records true B =
+    heard_column x sane cycle rows row devs node records true (readings_of x.params evens [] node) (recorded-table x.params evens [] node) B (λ index. no_odd_reading x.params evens node index B)
+odd_columns x sane cycle rows row evens devs node records false A = other_column x cycle rows row true (readings_of x.params evens [] node) A (amount x.params name.gNumberOfStaticSlots)
+odd_columns x sane cycle rows row evens devs node records false B = other_column x cycle rows row true (readings_of x.params evens [] node) B (amount x.params name.gNumberOfStaticSlots)
 
-heard_odd : (x : Setting) → IsSane x.params → (h : History) (node : NodeSpec) → Among node (correct_nodes x) → (evens : List Dev) → heard_table x h node.id true (readings_of x.params evens [] node.id) ≡ readings_of x.params evens (next_devs x h) node.id
-heard_odd x sane h node is evens = readings_same (heard_table x h node.id true (readings_of x.params evens [] node.id)) (readings_of x.params evens (next_devs x h) node.id) (odd_columns x sane h node is evens)
-
--- ---- the table of a node after a history, begun and heard, is that after the next record
-
--- what a node begins a cycle with
-abbrev pub begun_table : Setting → History → ℕ → Readings
-begun_table x h node = if is_odd (length h) then readings_after x h node else no_readings
-
-odd_after_even : (n : ℕ) → is_odd (suc n) ≡ true → is_odd n ≡ false
-odd_after_even n is = let e : suc n % 2 ≡ 1 = grind arith in let m : n % 2 ≡ 0 = omega (arith, e) in rw m refl
-
--- after an even cycle the table has its deviations alone
-pub begun_odd : (x : Setting) (h : History) (node : ℕ) → is_odd (length h) ≡ true → readings_after x h node ≡ readings_of x.params (latest_devs h) [] node
-unfolding readings_after
-begun_odd x [] node is = absurd (cc)
-begun_odd x (r ∷ h) node is = let even : is_odd (length h) ≡ false = odd_after_even (length h) is in rw even refl
-
-next_devs_recorded : (x : Setting) (h : History) → (next_record x h).devs ≡ next_devs x h
-unfolding next_record
-next_devs_recorded x h = refl
-
-table_by : (x : Setting) → IsSane x.params → (h : History) (node : NodeSpec) → Among node (correct_nodes x) → (odd : Bool) → is_odd (length h) ≡ odd →
-    heard_table x h node.id odd (if odd then readings_after x h node.id else no_readings) ≡ (if odd then readings_of x.params (latest_devs h) (next_devs x h) node.id else readings_of x.params (next_devs x h) [] node.id)
-table_by x sane h node is true odd = ap (heard_table x h node.id true) (begun_odd x h node.id odd) ∙ heard_odd x sane h node is (latest_devs h)
-table_by x sane h node is false odd = heard_even x sane h node is
-
-pub next_table : (x : Setting) → IsSane x.params → (h : History) (node : NodeSpec) → Among node (correct_nodes x) →
-    heard_table x h node.id (is_odd (length h)) (begun_table x h node.id) ≡ readings_after x (next_record x h ∷ h) node.id
-unfolding readings_after next_record
-next_table x sane h node is = table_by x sane h node is (is_odd (length h)) refl
+pub heard_odd : (x : Setting) → IsSane x.params → (cycle : ℕ) (rows : List NodeRow) (row : NodeRow) (evens devs : List Dev) (node : ℕ) → RecordsStored x cycle rows row devs node
+    → heard_table x cycle rows row true (readings_of x.params evens [] node) ≡ readings_of x.params evens devs node
+heard_odd x sane cycle rows row evens devs node records =
+    readings_same (heard_table x cycle rows row true (readings_of x.params evens [] node)) (readings_of x.params evens devs node) (odd_columns x sane cycle rows row evens devs node records)
 
 -- ---- the values at the end of an odd cycle
 
@@ -224,3 +198,34 @@ rate_values_same p evens odds node own =
     (ap₂ mean_of
     (ap₂ change_of (recorded_reading p evens odds node index false A small) (recorded_reading p evens odds node index true A small))
     (ap₂ change_of (recorded_reading p evens odds node index false B small) (recorded_reading p evens odds node index true B small))))
+
+-- ---- lists that record the same of a node
+
+column_same : (p : Values) (devs others : List Dev) (node : ℕ) → ((slot : ℕ) (c : Channel) → dev_in devs node slot c ≡ dev_in others node slot c) → (c : Channel)
+    → column_of p devs node c ≡ column_of p others node c
+column_same p devs others node same c = same_lists None (column_of p devs node c) (column_of p others node c) (wide ∙ sym long) at_index
+  where
+    wide : length (column_of p devs node c) ≡ 15
+    wide = length-map-range (recorded_at p devs node c) 0 15
+
+    long : length (column_of p others node c) ≡ 15
+    long = length-map-range (recorded_at p others node c) 0 15
+
+    by_key : (o : Option ℕ) → option_and_then (λ slot. dev_in devs node slot c) o ≡ option_and_then (λ slot. dev_in others node slot c) o
+    by_key None = refl
+    by_key (Some slot) = same slot c
+
+    at_index : (index : ℕ) → index < length (column_of p devs node c) → get_or (column_of p devs node c) index None ≡ get_or (column_of p others node c) index None
+    at_index index below =
+        let small : index < 15 = omega (arith, wide, below) in
+        get_or-map-range (recorded_at p devs node c) None 0 15 index small
+        ∙ by_key (key_slot_of p (0 + index))
+        ∙ sym (get_or-map-range (recorded_at p others node c) None 0 15 index small)
+
+pub readings_same_of : (p : Values) (evens odds evens2 odds2 : List Dev) (node : ℕ) → ((slot : ℕ) (c : Channel) → dev_in evens node slot c ≡ dev_in evens2 node slot c)
+    → ((slot : ℕ) (c : Channel) → dev_in odds node slot c ≡ dev_in odds2 node slot c) → readings_of p evens odds node ≡ readings_of p evens2 odds2 node
+unfolding readings_of
+readings_same_of p evens odds evens2 odds2 node early late =
+    made_same (column_of p evens node A) (column_of p evens2 node A) (column_of p evens node B) (column_of p evens2 node B) (column_of p odds node A) (column_of p odds2 node A)
+    (column_of p odds node B) (column_of p odds2 node B) (column_same p evens evens2 node early A) (column_same p evens evens2 node early B) (column_same p odds odds2 node late A)
+    (column_same p odds odds2 node late B)

@@ -1,4 +1,4 @@
--- The counts of a cycle, slot by slot, are those of the next record.
+-- The counts of a cycle, slot by slot, are those of a record over its rows.
 use Rattle.std.proofs.Common.{◌≡◌, ℕ, zero, suc, ◌+◌, Bool, cond, Option, Some, None, List, [], ◌∷◌, ◌++◌, map, length, refl, ap, ap₂, sym, ◌∙◌, arith, bit_xor}
 use Rattle.std.specs.Prelude.{count_by, fold}
 use Rattle.std.specs.List.{cons_option, filter_map, flat_map, range_with_len, sum_by}
@@ -19,10 +19,9 @@ use Rattle.fr_reception.specs.declared.heard.Heard.{Heard}
 use Rattle.fr_reception.specs.declared.heard.Heard.TheVariants.{Stored, Ignored}
 use Rattle.fr_reception.specs.declared.heard.Ignored.TheVariants as reason
 use Rattle.fr_cluster.specs.Setting.{Setting}
-use Rattle.fr_history.specs.History.{History}
 use Rattle.fr_history.specs.Kinds.{is_stored, is_outside, is_damaged, is_wrong_id, is_wrong_cycle, is_wrong_length, is_plain}
 use Rattle.fr_history.specs.Lawful.{crcs_sum}
-use Rattle.fr_history.specs.Next.{early_rows, next_counts}
+use Rattle.fr_history.specs.Next.{counts_over}
 use Rattle.fr_history.specs.Offers.{channels, frame_in, offer_in, offers_among, offers_to, reception_of, receptions_among, static_slots_of}
 use Rattle.fr_world.specs.Counting.{with_answer, counted_frame, counted_offer, counted_offers, counted_sent, counts_after, counts_in, counts_on}
 use Rattle.fr_base.specs.Counts.{no_counts}
@@ -416,19 +415,17 @@ counts_same a b h0 h1 h2 h3 h4 h5 h6 h7 h8 h9 h10 =
     ≡ counts_with b.sent_a b.sent_b b.xor_a b.xor_b b.stored b.outside b.damaged b.wrong_id b.wrong_cycle b.wrong_length b.plain = cc in
     made
 
-pub all_counted : (x : Setting) (h : History) → counts_after x (length h) (early_rows x h) (amount x.params name.gNumberOfStaticSlots) no_counts ≡ next_counts x h
-unfolding next_counts
-all_counted x h =
-    let rows : List NodeRow = early_rows x h in
+pub all_counted : (x : Setting) (cycle : ℕ) (rows : List NodeRow) → counts_after x cycle rows (amount x.params name.gNumberOfStaticSlots) no_counts ≡ counts_over x cycle rows
+all_counted x cycle rows =
     let slots : ℕ = amount x.params name.gNumberOfStaticSlots in
-    let after : Counts = counts_after x (length h) rows slots no_counts in
-    let a = slots_sent_a x (length h) rows slots in
-    let b = slots_sent_b x (length h) rows slots in
-    counts_same after (next_counts x h) a.0 b.0 a.1 b.1
-    (kind_count is_stored (λ c. c.stored) stored-kind x (length h) rows)
-    (kind_count is_outside (λ c. c.outside) outside-kind x (length h) rows)
-    (kind_count is_damaged (λ c. c.damaged) damaged-kind x (length h) rows)
-    (kind_count is_wrong_id (λ c. c.wrong_id) wrong_id-kind x (length h) rows)
-    (kind_count is_wrong_cycle (λ c. c.wrong_cycle) wrong_cycle-kind x (length h) rows)
-    (kind_count is_wrong_length (λ c. c.wrong_length) wrong_length-kind x (length h) rows)
-    (kind_count is_plain (λ c. c.plain) plain-kind x (length h) rows)
+    let after : Counts = counts_after x cycle rows slots no_counts in
+    let a = slots_sent_a x cycle rows slots in
+    let b = slots_sent_b x cycle rows slots in
+    counts_same after (counts_over x cycle rows) a.0 b.0 a.1 b.1
+    (kind_count is_stored (λ c. c.stored) stored-kind x cycle rows)
+    (kind_count is_outside (λ c. c.outside) outside-kind x cycle rows)
+    (kind_count is_damaged (λ c. c.damaged) damaged-kind x cycle rows)
+    (kind_count is_wrong_id (λ c. c.wrong_id) wrong_id-kind x cycle rows)
+    (kind_count is_wrong_cycle (λ c. c.wrong_cycle) wrong_cycle-kind x cycle rows)
+    (kind_count is_wrong_length (λ c. c.wrong_length) wrong_length-kind x cycle rows)
+    (kind_count is_plain (λ c. c.plain) plain-kind x cycle rows)

@@ -1,12 +1,23 @@
 -- Key slots and nodes as they are gathered before a run.
-use Rattle.std.proofs.Common.{◌≡◌, ℕ, zero, suc, ◌+◌, ◌<◌, ◌==◌, Bool, true, false, cond, List, [], ◌∷◌, ◌++◌, Some, map, take, get_or, refl, ap, sym, ◌∙◌, arith}
-use Rattle.std.specs.Prelude.{IsSome, filter, find, length}
+use Rattle.std.proofs.Common.{◌≡◌, ℕ, zero, suc, ◌+◌, ◌<◌, ◌≤◌, ◌==◌, Bool, true, false, cond, List, [], ◌∷◌, ◌++◌, Some, map, take, get_or, refl, ap, sym, ◌∙◌, arith}
+use Rattle.std.specs.Prelude.{All, IsSome, filter, find, length}
 use Rattle.std.specs.List.{range_with_len}
 use Rattle.std.proofs.lemmas.Bool.{cond_both, eq-eqb}
 use Rattle.std.proofs.lemmas.List.{map-append, take_more, append-nil}
 use Rattle.std.proofs.lemmas.List.Elements.{filter-append}
 use Rattle.std.proofs.lemmas.List.FromFn.{map-range_with_len_more}
 use Rattle.fr_cluster.specs.declared.nodes.NodeSpec.{NodeSpec}
+use Rattle.fr_node.specs.Fits.{NodeFits}
+use Rattle.fr_node.specs.View.{NodeView, node_row_of}
+use Rattle.fr_world.specs.Listening.{StartsEarly}
+use Rattle.fr_world.specs.declared.files.Files.{Files}
+
+-- nodes that are gathered before a run, with room for all nodes of a cluster
+pub record AreGathered (f : Files) (fresh nodes : List NodeView) (capacity : ℕ) : Type 0 where
+  pub nodes_are : nodes ≡ fresh
+  pub fit : All (NodeFits f.params) nodes
+  pub early : All (λ node. StartsEarly f 0 (node_row_of node)) nodes
+  pub room : 64 ≤ capacity
 
 same : (xs : List ℕ) → map (λ x. x) xs ≡ xs
 same [] = refl

@@ -19,3 +19,13 @@ pub mod Claiming
 pub mod Messages
 pub mod Remembered
 pub mod Stages
+pub mod Caught
+pub mod Members
+pub mod Succeeding
+pub mod Succeeded
+pub mod Listened
+pub mod Early
+pub mod Asked
+pub mod Stepping
+pub mod Passed
+pub mod Beginners

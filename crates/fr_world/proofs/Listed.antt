@@ -1,4 +1,4 @@
--- What the tables of the nodes list after the slots of a cycle are the deviations of the next record.
+-- What the tables of the nodes list after the slots of a cycle are the deviations that the next cycle tells.
 use Rattle.std.proofs.Common.{◌≡◌, ℕ, ◌≤◌, ◌<◌, ◌+◌, ◌==◌, ℤ, Bool, true, false, not, ◌||◌, Option, Some, None, IfSome, List, [], ◌∷◌, map, length, refl, ap, sym, subst, ◌∙◌, arith, if◌then◌else◌}
 use Rattle.std.specs.Prelude.{int_le, int_lt, is_none, is_some, option_and_then, Result, Ok, Err}
 use Rattle.std.specs.List.{flat_map}
@@ -10,7 +10,6 @@ use Rattle.fr_base.specs.declared.node_row.NodeRow.{NodeRow}
 use Rattle.fr_frame.specs.Reading.{read_as}
 use Rattle.fr_frame.specs.declared.fault.FrameFault.{FrameFault}
 use Rattle.fr_frame.specs.declared.header.Header.{Header}
-use Rattle.fr_cluster.specs.Sane.{IsSane}
 use Rattle.fr_cluster.specs.Questions.{key_index_of}
 use Rattle.fr_cluster.specs.Values.{Values, amount}
 use Rattle.fr_cluster.specs.declared.names.ParamName.TheVariants as name
@@ -25,19 +24,20 @@ use Rattle.fr_time.specs.Instant.{slot_begins, slot_ends}
 use Rattle.fr_reception.specs.declared.heard.Heard.{Heard}
 use Rattle.fr_reception.specs.declared.heard.Heard.TheVariants.{Stored, Ignored}
 use Rattle.fr_reception.specs.declared.heard.Ignored.TheVariants as reason
-use Rattle.fr_cluster.specs.Setting.{Setting, correct_nodes}
-use Rattle.fr_history.specs.History.{History}
+use Rattle.fr_cluster.specs.Setting.{Setting}
 use Rattle.fr_history.specs.Offers.{channels, offer_in, static_slots_of, stored_in, value_of}
-use Rattle.fr_history.specs.Next.{early_row, early_rows, next_devs, next_record}
-use Rattle.fr_history.specs.Terms.{latest_devs}
+use Rattle.fr_joined.specs.Cycles.{Cycles}
+use Rattle.fr_joined.specs.Next.{early_row, early_rows, early_told, next_cycle}
+use Rattle.fr_joined.specs.Standing.{row_nodes}
+use Rattle.fr_standing.specs.Nodes.{all_devs_behind, readings_behind}
 use Rattle.fr_base.specs.Rows.{dev_with}
 use Rattle.fr_world.specs.Listing.{listed_among, listed_at, listed_of, ordered_keys}
-use Rattle.fr_world.specs.Standing.{node_after, readings_after}
-use Rattle.fr_world.proofs.Columns.{begun_odd, begun_table, empty_reading, empty-table, next_table, no_odd_reading, one_to_one, recorded-table}
-use Rattle.fr_history.proofs.Devs.{next_devs_are, stored_at, stored_of}
+use Rattle.fr_world.proofs.Columns.{empty_reading, empty-table, no_odd_reading, one_to_one, recorded-table}
+use Rattle.fr_history.proofs.Devs.{devs_are_stored, stored_at, stored_of}
 use Rattle.fr_history.proofs.Flat.{Among, flat_map-filter, flat_map_same, range_from, range_to}
 use Rattle.fr_history.proofs.Marks.{HasMarks, offer_in-marked}
-use Rattle.fr_world.proofs.Step.{heard_node}
+use Rattle.fr_world.proofs.Members.{IsRun}
+use Rattle.fr_world.proofs.Step.{begun_odd, begun_table, heard_node, next_table}
 use Rattle.fr_world.proofs.Store.{IsTable}
 use Rattle.fr_world.proofs.Table.{used_reading}
 
@@ -83,34 +83,35 @@ stored_in-unkeyed x cycle rows row slot channel none = unkeyed_offer x.params cy
 
 -- ---- what a node has heard in a slot
 
-begun_none : (x : Setting) (h : History) (node index : ℕ) (c : Channel) (odd : Bool) → is_odd (length h) ≡ odd → reading (begun_table x h node) index odd c ≡ None
-begun_none x h node index c true odd =
-    ap (λ (b : Bool). reading (if b then readings_after x h node else no_readings) index true c) odd
-    ∙ ap (λ (t : Readings). reading t index true c) (begun_odd x h node odd) ∙ no_odd_reading x.params (latest_devs h) node index c
-begun_none x h node index c false odd = ap (λ (b : Bool). reading (if b then readings_after x h node else no_readings) index false c) odd ∙ empty_reading index false c
+begun_none : (x : Setting) (h : Cycles) → IsRun x h → (node : NodeSpec) → Among node (row_nodes x h) → (index : ℕ) (c : Channel) (odd : Bool) → is_odd (length h) ≡ odd
+    → reading (begun_table x h node.id) index odd c ≡ None
+begun_none x h run node is index c true odd =
+    ap (λ (b : Bool). reading (if b then readings_behind x h node.id else no_readings) index true c) odd
+    ∙ ap (λ (t : Readings). reading t index true c) (begun_odd x h run.lawful.1 false node is odd) ∙ no_odd_reading x.params (all_devs_behind h) node.id index c
+begun_none x h run node is index c false odd = ap (λ (b : Bool). reading (if b then readings_behind x h node.id else no_readings) index false c) odd ∙ empty_reading index false c
 
-begun-table : (x : Setting) (h : History) (node : ℕ) (odd : Bool) → is_odd (length h) ≡ odd → IsTable (begun_table x h node)
-begun-table x h node true odd =
+begun-table : (x : Setting) (h : Cycles) → IsRun x h → (node : NodeSpec) → Among node (row_nodes x h) → (odd : Bool) → is_odd (length h) ≡ odd → IsTable (begun_table x h node.id)
+begun-table x h run node is true odd =
     let P : Readings → Type 0 = λ t. IsTable t in
-    subst P (sym (ap (λ (b : Bool). let t : Readings = if b then readings_after x h node else no_readings in t) odd ∙ begun_odd x h node odd)) (recorded-table x.params (latest_devs h) [] node)
-begun-table x h node false odd =
+    subst P (sym (ap (λ (b : Bool). let t : Readings = if b then readings_behind x h node.id else no_readings in t) odd ∙ begun_odd x h run.lawful.1 false node is odd)) (recorded-table x.params (all_devs_behind h) [] node.id)
+begun-table x h run node is false odd =
     let P : Readings → Type 0 = λ t. IsTable t in
-    subst P (sym (ap (λ (b : Bool). let t : Readings = if b then readings_after x h node else no_readings in t) odd)) empty-table
+    subst P (sym (ap (λ (b : Bool). let t : Readings = if b then readings_behind x h node.id else no_readings in t) odd)) empty-table
 
 -- the reading of a slot, by its key index
-slot_reading : (x : Setting) → IsSane x.params → (h : History) (node : NodeSpec) → Among node (correct_nodes x) → (slot : ℕ) (c : Channel) → 1 ≤ slot → slot ≤ amount x.params name.gNumberOfStaticSlots → (k : Option ℕ) → key_index_of x.params slot ≡ k →
-    option_and_then (λ index. reading (readings_after x (next_record x h ∷ h) node.id) index (is_odd (length h)) c) k ≡ stored_in x (length h) (early_rows x h) (early_row x h node.id) slot c
-slot_reading x sane h node is slot c low high None key = sym (stored_in-unkeyed x (length h) (early_rows x h) (early_row x h node.id) slot c key)
-slot_reading x sane h node is slot c low high (Some index) key =
-    ap (λ (t : Readings). reading t index (is_odd (length h)) c) (sym (next_table x sane h node is))
-    ∙ used_reading x (one_to_one x.params) (length h) (early_rows x h) (early_row x h node.id) (is_odd (length h)) (begun_table x h node.id) (begun-table x h node.id (is_odd (length h)) refl) index slot c
-    (index-lt x.params slot index sane key) key (begun_none x h node.id index c (is_odd (length h)) refl) (amount x.params name.gNumberOfStaticSlots) low high
+slot_reading : (x : Setting) (h : Cycles) → IsRun x h → (node : NodeSpec) → Among node (row_nodes x h) → (slot : ℕ) (c : Channel) → 1 ≤ slot → slot ≤ amount x.params name.gNumberOfStaticSlots → (k : Option ℕ) → key_index_of x.params slot ≡ k →
+    option_and_then (λ index. reading (readings_behind x (next_cycle x h ∷ h) node.id) index (is_odd (length h)) c) k ≡ stored_in x (length h) (early_rows x h) (early_row x h node.id) slot c
+slot_reading x h run node is slot c low high None key = sym (stored_in-unkeyed x (length h) (early_rows x h) (early_row x h node.id) slot c key)
+slot_reading x h run node is slot c low high (Some index) key =
+    ap (λ (t : Readings). reading t index (is_odd (length h)) c) (sym (next_table x h run false node is))
+    ∙ used_reading x (one_to_one x.params) (length h) (early_rows x h) (early_row x h node.id) (is_odd (length h)) (begun_table x h node.id) (begun-table x h run node is (is_odd (length h)) refl) index slot c
+    (index-lt x.params slot index run.sane key) key (begun_none x h run node is index c (is_odd (length h)) refl) (amount x.params name.gNumberOfStaticSlots) low high
 
-listed_is_stored : (x : Setting) → IsSane x.params → (h : History) (node : NodeSpec) → Among node (correct_nodes x) → (slot : ℕ) (c : Channel) → 1 ≤ slot → slot ≤ amount x.params name.gNumberOfStaticSlots →
-    listed_at x.params (is_odd (length h)) (heard_node x h node.id) slot c ≡ stored_at x (length h) (early_rows x h) (early_row x h node.id) slot c
-unfolding node_after early_row
-listed_is_stored x sane h node is slot c low high =
-    ap (λ (o : Option ℤ). option_to_list (option_map (dev_with node.id slot c) o)) (slot_reading x sane h node is slot c low high (key_index_of x.params slot) refl)
+listed_is_stored : (x : Setting) (h : Cycles) → IsRun x h → (node : NodeSpec) → Among node (row_nodes x h) → (slot : ℕ) (c : Channel) → 1 ≤ slot → slot ≤ amount x.params name.gNumberOfStaticSlots →
+    listed_at x.params (is_odd (length h)) (heard_node x h false node.id) slot c ≡ stored_at x (length h) (early_rows x h) (early_row x h node.id) slot c
+unfolding early_row
+listed_is_stored x h run node is slot c low high =
+    ap (λ (o : Option ℤ). option_to_list (option_map (dev_with node.id slot c) o)) (slot_reading x h run node is slot c low high (key_index_of x.params slot) refl)
 
 -- a slot that is no key slot lists nothing
 empty_slot : (p : Values) (odd : Bool) (node : NodeView) (slot : ℕ) → is_some (key_index_of p slot) ≡ false → flat_map (listed_at p odd node slot) channels ≡ []
@@ -124,23 +125,26 @@ empty_slot p odd node slot none = by_key (key_index_of p slot) none
     by_key None is = refl
     by_key (Some index) is = absurd (cc)
 
-node_lists : (x : Setting) → IsSane x.params → (h : History) (node : NodeSpec) → Among node (correct_nodes x) →
-    listed_of x.params (is_odd (length h)) (ordered_keys x.params) (heard_node x h node.id) ≡ stored_of x (length h) (early_rows x h) (early_row x h node.id)
-node_lists x sane h node is =
-    flat_map-filter (λ slot. flat_map (listed_at x.params (is_odd (length h)) (heard_node x h node.id) slot) channels) (λ slot. is_some (key_index_of x.params slot)) (static_slots_of x)
-    (λ slot none. empty_slot x.params (is_odd (length h)) (heard_node x h node.id) slot none)
-    ∙ flat_map_same (λ slot. flat_map (listed_at x.params (is_odd (length h)) (heard_node x h node.id) slot) channels)
+node_lists : (x : Setting) (h : Cycles) → IsRun x h → (node : NodeSpec) → Among node (row_nodes x h) →
+    listed_of x.params (is_odd (length h)) (ordered_keys x.params) (heard_node x h false node.id) ≡ stored_of x (length h) (early_rows x h) (early_row x h node.id)
+node_lists x h run node is =
+    let heard : NodeView = heard_node x h false node.id in
+    flat_map-filter (λ slot. flat_map (listed_at x.params (is_odd (length h)) heard slot) channels) (λ slot. is_some (key_index_of x.params slot)) (static_slots_of x)
+    (λ slot none. empty_slot x.params (is_odd (length h)) heard slot none)
+    ∙ flat_map_same (λ slot. flat_map (listed_at x.params (is_odd (length h)) heard slot) channels)
     (λ slot. flat_map (stored_at x (length h) (early_rows x h) (early_row x h node.id) slot) channels) (static_slots_of x)
     (λ slot there.
     let low : 1 ≤ slot = range_from 1 (amount x.params name.gNumberOfStaticSlots) slot there in
     let high : slot < 1 + amount x.params name.gNumberOfStaticSlots = range_to 1 (amount x.params name.gNumberOfStaticSlots) slot there in
-    flat_map_same (listed_at x.params (is_odd (length h)) (heard_node x h node.id) slot) (stored_at x (length h) (early_rows x h) (early_row x h node.id) slot) channels
-    (λ c _. listed_is_stored x sane h node is slot c low (omega arith)))
+    flat_map_same (listed_at x.params (is_odd (length h)) heard slot) (stored_at x (length h) (early_rows x h) (early_row x h node.id) slot) channels
+    (λ c _. listed_is_stored x h run node is slot c low (omega arith)))
 
--- the deviations that the nodes list are those of the next record
-pub all_listed : (x : Setting) → IsSane x.params → (h : History) → listed_among x.params (is_odd (length h)) (ordered_keys x.params) (map (λ node. heard_node x h node.id) (correct_nodes x)) ≡ next_devs x h
-all_listed x sane h =
-    flat_map-map (listed_of x.params (is_odd (length h)) (ordered_keys x.params)) (λ (node : NodeSpec). heard_node x h node.id) (correct_nodes x)
-    ∙ flat_map_same (λ node. listed_of x.params (is_odd (length h)) (ordered_keys x.params) (heard_node x h node.id)) (λ node. stored_of x (length h) (early_rows x h) (early_row x h node.id)) (correct_nodes x) (λ node is. node_lists x sane h node is)
-    ∙ sym (flat_map-map (stored_of x (length h) (early_rows x h)) (λ (node : NodeSpec). early_row x h node.id) (correct_nodes x))
-    ∙ sym (next_devs_are x h)
+-- the deviations that the nodes list are those that the next cycle tells
+pub all_listed : (x : Setting) (h : Cycles) → IsRun x h
+    → listed_among x.params (is_odd (length h)) (ordered_keys x.params) (map (λ node. heard_node x h false node.id) (row_nodes x h)) ≡ (next_cycle x h).told.devs
+unfolding next_cycle early_told
+all_listed x h run =
+    flat_map-map (listed_of x.params (is_odd (length h)) (ordered_keys x.params)) (λ (node : NodeSpec). heard_node x h false node.id) (row_nodes x h)
+    ∙ flat_map_same (λ node. listed_of x.params (is_odd (length h)) (ordered_keys x.params) (heard_node x h false node.id)) (λ node. stored_of x (length h) (early_rows x h) (early_row x h node.id)) (row_nodes x h) (λ node is. node_lists x h run node is)
+    ∙ sym (flat_map-map (stored_of x (length h) (early_rows x h)) (λ (node : NodeSpec). early_row x h node.id) (row_nodes x h))
+    ∙ sym (devs_are_stored x (length h) (early_rows x h) (early_rows x h))

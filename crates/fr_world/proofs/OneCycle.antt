@@ -1,6 +1,6 @@
--- A cycle of all nodes after a history is its next record.
-use Rattle.std.proofs.Common.{◌≡◌, ℕ, suc, ◌+◌, ◌<◌, ◌≤◌, Bool, true, false, not, List, [], ◌∷◌, length, map, get_or, Option, Some, None, refl, ap, sym, subst, ◌∙◌, ℤ, arith, add-one}
-use Rattle.std.specs.Prelude.{All, AllPairs, IsNone, filter, is_some}
+-- A cycle of all nodes and all followers behind some cycles is the one that follows them.
+use Rattle.std.proofs.Common.{◌≡◌, ℕ, zero, suc, ◌+◌, ◌<◌, ◌≤◌, Bool, true, false, not, List, [], ◌∷◌, length, map, get_or, refl, ap, sym, subst, ◌∙◌, arith, add-one}
+use Rattle.std.specs.Prelude.{All, AllPairs, Contains, IsNone, filter, is_some}
 use Rattle.std.specs.List.{range_with_len}
 use Rattle.std.proofs.lemmas.Bool.{cond_both}
 use Rattle.std.proofs.lemmas.List.{get_or-map, length-map}
@@ -21,142 +21,188 @@ use Rattle.fr_time.specs.Cycles.{is_odd}
 use Rattle.fr_node.specs.Cycle.{in_cycle, ended, ended_row_of_node}
 use Rattle.fr_node.specs.Fits.{NodeFits}
 use Rattle.fr_node.specs.View.{NodeView, node_row_of}
+use Rattle.fr_round.proofs.Lists.{filtered}
 use Rattle.fr_cluster.specs.Setting.{Setting, correct_nodes, is_correct}
-use Rattle.fr_history.specs.History.{History, Record}
-use Rattle.fr_history.specs.Next.{early_row, early_rows, history_of, next_counts, next_devs, next_record}
+use Rattle.fr_history.specs.History.{Record}
+use Rattle.fr_history.specs.Next.{counts_over}
 use Rattle.fr_history.specs.Offers.{static_slots_of}
-use Rattle.fr_history.proofs.Exists.{length-history_of}
+use Rattle.fr_history.proofs.Flat.{Among, among_here, among_there, map_same_among}
 use Rattle.fr_history.proofs.Lists.{All-both, map-map}
+use Rattle.fr_joined.specs.Cycles.{Cycles}
+use Rattle.fr_joined.specs.Lawful.{IsLawful}
+use Rattle.fr_joined.specs.Next.{cycles_of, early_row, early_rows, early_told, next_cycle}
+use Rattle.fr_joined.specs.Standing.{has_row, row_nodes}
+use Rattle.fr_joined.proofs.Exists.{length-cycles_of}
+use Rattle.fr_standing.specs.Views.{node_behind}
 use Rattle.fr_world.specs.Counting.{counts_after}
 use Rattle.fr_base.specs.Counts.{no_counts}
 use Rattle.fr_world.specs.Cycling.{begun_in, NodesAscend, IsWaiting, AreListable}
 use Rattle.fr_world.specs.Hearing.{after_slots}
 use Rattle.fr_world.specs.Listing.{listed_among, ordered_keys}
 use Rattle.fr_world.specs.Files.{setting_in}
-use Rattle.fr_world.specs.Standing.{node_after, nodes_after}
 use Rattle.fr_world.specs.declared.files.Files.{Files}
 use Rattle.fr_world.proofs.Counts.{all_counted}
-use Rattle.fr_history.proofs.Flat.{map_same_among}
 use Rattle.fr_world.proofs.Listed.{all_listed}
-use Rattle.fr_world.proofs.Step.{begun_node, begun_row, ended_is, ended_row_is, heard_all, heard_node}
-use Rattle.fr_history.proofs.Rows.{next_row, next_rows}
+use Rattle.fr_world.proofs.Members.{IsNext, IsRun, follows_it, has_it, members, next_row, next_rows}
+use Rattle.fr_world.proofs.Step.{begun_node, begun_row, ended_is, ended_told, heard_all, heard_node}
+
+-- ---- the run
+
+pub next-one : (x : Setting) (n : ℕ) → IsNext x (cycles_of x n)
+unfolding cycles_of
+next-one x zero = tt
+next-one x (suc n) = refl
+
+more-lawful : (x : Setting) (n : ℕ) → IsLawful x (cycles_of x (suc n)) → IsLawful x (next_cycle x (cycles_of x n) ∷ cycles_of x n)
+unfolding cycles_of
+more-lawful x n lawful = lawful
+
+pub run-of : (x : Setting) → IsSane x.params → ((n : ℕ) → IsLawful x (cycles_of x n)) → (n : ℕ) → IsRun x (cycles_of x n)
+run-of x sane lawful n = record { sane = sane; lawful = more-lawful x n (lawful (suc n)); next = next-one x n }
+
+-- ---- receivers, as they stand before a cycle
+
+abbrev pub all_behind : Setting → Cycles → Bool → List NodeView
+all_behind x h follows = map (λ node. node_behind x h follows node.id) (members x h follows)
+
+-- and with it begun, and after its slots
+abbrev pub all_begun : Setting → Cycles → Bool → List NodeView
+all_begun x h follows = map (λ node. begun_node x h follows node.id) (members x h follows)
+
+abbrev pub all_heard : Setting → Cycles → Bool → List NodeView
+all_heard x h follows = map (λ node. heard_node x h follows node.id) (members x h follows)
 
 -- ---- before the cycle
 
+pub All-map : {X Y : Type 0} (P : Y → Type 0) (f : X → Y) (xs : List X) → ((x : X) → Among x xs → P (f x)) → All P (map f xs)
+All-map P f [] each = All-nil P
+All-map P f (x ∷ xs) each = All-cons P (f x) (map f xs) (each x (among_here x xs)) (All-map P f xs (λ y there. each y (among_there y x xs there)))
+
+-- a receiver is a correct node
+pub correct-member : (x : Setting) (h : Cycles) (follows : Bool) (node : NodeSpec) → Among node (members x h follows) → Contains (correct_nodes x) node
+correct-member x h false node is = (has_it x h node is).0
+correct-member x h true node is = (follows_it x h node is).0
+
+not-false : (b : Bool) → not b ≡ true → b ≡ false
+not-false true is = cc
+not-false false is = refl
+
+pub not-arbitrary : (x : Setting) (node : NodeSpec) → Contains (correct_nodes x) node → x.is_arbitrary node.id ≡ false
+not-arbitrary x node is = not-false (x.is_arbitrary node.id) (filtered (λ (n : NodeSpec). is_correct x n.id) x.params.nodes node is).1
+
 -- what a node stands for, but for its numbers
 record StandsBetween (f : Files) (cycle : ℕ) (node : NodeView) : Type 0 where
-  pub between : node.length ≡ None
+  pub between : IsNone node.length
   pub correct : is_arbitrary f.script node.id ≡ false
   pub in_cycle : node.cycle ≡ cycle
 
-stands : (f : Files) (h : History) (cycle : ℕ) → length h ≡ cycle → (nodes : List NodeSpec) → All (StandsBetween f cycle) (map (λ node. node_after (setting_in f) h node.id) (filter (λ node. is_correct (setting_in f) node.id) nodes))
-unfolding node_after
-stands f h cycle long [] = All-nil (StandsBetween f cycle)
-stands f h cycle long (n ∷ ns) =
+stands : (f : Files) (cycle : ℕ) (follows : Bool) → All (StandsBetween f cycle) (all_behind (setting_in f) (cycles_of (setting_in f) cycle) follows)
+stands f cycle follows =
     let x : Setting = setting_in f in
-    cond_both (is_correct x n.id) (n ∷ filter (λ node. is_correct x node.id) ns) (filter (λ node. is_correct x node.id) ns) (λ specs. All (StandsBetween f cycle) (map (λ node. node_after x h node.id) specs))
-    (λ correct. All-cons (StandsBetween f cycle) (node_after x h n.id) (map (λ node. node_after x h node.id) (filter (λ node. is_correct x node.id) ns))
-    (record { between = refl; correct = not-false (is_arbitrary f.script n.id) correct; in_cycle = long }) (stands f h cycle long ns))
-    (λ arbitrary. stands f h cycle long ns)
-  where
-    not-false : (b : Bool) → not b ≡ true → b ≡ false
-    not-false true is = cc
-    not-false false is = refl
+    let h : Cycles = cycles_of x cycle in
+    All-map (StandsBetween f cycle) (λ (node : NodeSpec). node_behind x h follows node.id) (members x h follows)
+    (λ node is. record { between = refl; correct = not-arbitrary x node (correct-member x h follows node is); in_cycle = length-cycles_of x cycle })
 
-pub all-wait : (f : Files) (cycle : ℕ) (nodes : List NodeView) → cycle < 200_000 → nodes ≡ nodes_after (setting_in f) (history_of (setting_in f) cycle) → All (NodeFits f.params) nodes → All (IsWaiting f cycle) nodes
-all-wait f cycle nodes in_run are fits =
+pub all-wait : (f : Files) (cycle : ℕ) (follows : Bool) (nodes : List NodeView) → cycle < 200_000 → nodes ≡ all_behind (setting_in f) (cycles_of (setting_in f) cycle) follows → All (NodeFits f.params) nodes → All (IsWaiting f cycle) nodes
+all-wait f cycle follows nodes in_run are fits =
     All-both (NodeFits f.params) (StandsBetween f cycle) (IsWaiting f cycle)
-    (λ node fit stand. record { in_run = in_run; fits = fit; between = none node.length stand.between; correct = stand.correct; in_cycle = stand.in_cycle }) nodes fits
-    (subst (All (StandsBetween f cycle)) (sym are) (stands f (history_of (setting_in f) cycle) cycle (length-history_of (setting_in f) cycle) f.params.nodes))
-  where
-    none : (o : Option ℤ) → o ≡ None → IsNone o
-    none None is = refl
-    none (Some v) is = cc
+    (λ node fit stand. record { in_run = in_run; fits = fit; between = stand.between; correct = stand.correct; in_cycle = stand.in_cycle }) nodes fits
+    (subst (All (StandsBetween f cycle)) (sym are) (stands f cycle follows))
 
 -- ---- the steps of the cycle
 
-pub all-begun : (f : Files) (cycle : ℕ) (before after : List NodeView) → before ≡ nodes_after (setting_in f) (history_of (setting_in f) cycle) → after ≡ map (begun_in f cycle) before →
-    after ≡ map (λ node. begun_node (setting_in f) (history_of (setting_in f) cycle) node.id) (correct_nodes (setting_in f))
-unfolding node_after
-all-begun f cycle before after are now =
+pub all-begun : (f : Files) (cycle : ℕ) (follows : Bool) (before after : List NodeView) → before ≡ all_behind (setting_in f) (cycles_of (setting_in f) cycle) follows → after ≡ map (begun_in f cycle) before
+    → after ≡ all_begun (setting_in f) (cycles_of (setting_in f) cycle) follows
+all-begun f cycle follows before after are now =
     let x : Setting = setting_in f in
-    let h : History = history_of x cycle in
+    let h : Cycles = cycles_of x cycle in
     now ∙ ap (map (begun_in f cycle)) are
-    ∙ map-map (begun_in f cycle) (λ node. node_after x h node.id) (correct_nodes x)
-    ∙ map_same_among (λ node. begun_in f cycle (node_after x h node.id)) (λ node. begun_node x h node.id) (correct_nodes x)
-    (λ node among. ap (λ (c : ℕ). in_cycle (node_after x h node.id) (length_of f.drift node.id c)) (sym (length-history_of x cycle)))
+    ∙ map-map (begun_in f cycle) (λ (node : NodeSpec). node_behind x h follows node.id) (members x h follows)
+    ∙ map_same_among (λ (node : NodeSpec). begun_in f cycle (node_behind x h follows node.id)) (λ (node : NodeSpec). begun_node x h follows node.id) (members x h follows)
+    (λ node among. ap (λ (c : ℕ). in_cycle (node_behind x h follows node.id) (length_of f.drift node.id c)) (sym (length-cycles_of x cycle)))
 
-pub begun-rows : (x : Setting) (h : History) → map node_row_of (map (λ node. begun_node x h node.id) (correct_nodes x)) ≡ early_rows x h
+pub begun-rows : (x : Setting) (h : Cycles) → map node_row_of (all_begun x h false) ≡ early_rows x h
 begun-rows x h =
-    map-map node_row_of (λ node. begun_node x h node.id) (correct_nodes x)
-    ∙ map_same_among (λ node. node_row_of (begun_node x h node.id)) (λ node. early_row x h node.id) (correct_nodes x) (λ node among. begun_row x h node.id)
+    map-map node_row_of (λ (node : NodeSpec). begun_node x h false node.id) (row_nodes x h)
+    ∙ map_same_among (λ (node : NodeSpec). node_row_of (begun_node x h false node.id)) (λ (node : NodeSpec). early_row x h node.id) (row_nodes x h) (λ node among. begun_row x h false node.id)
 
-pub all-heard : (x : Setting) → IsSane x.params → (cycle : ℕ) (before after : List NodeView) → before ≡ map (λ node. begun_node x (history_of x cycle) node.id) (correct_nodes x) →
-    after ≡ map (after_slots x cycle (map node_row_of before) (amount x.params name.gNumberOfStaticSlots)) before →
-    after ≡ map (λ node. heard_node x (history_of x cycle) node.id) (correct_nodes x)
-all-heard x sane cycle before after in_cycle now =
-    let h : History = history_of x cycle in
+-- the rows that the nodes have as a cycle has begun
+pub rows-begun : (x : Setting) (h : Cycles) (nodes : List NodeView) → nodes ≡ all_begun x h false → map node_row_of nodes ≡ early_rows x h
+rows-begun x h nodes are = ap (map node_row_of) are ∙ begun-rows x h
+
+pub all-heard : (x : Setting) (cycle : ℕ) → IsRun x (cycles_of x cycle) → (follows : Bool) (rows : List NodeRow) (before after : List NodeView) → before ≡ all_begun x (cycles_of x cycle) follows
+    → rows ≡ early_rows x (cycles_of x cycle) → after ≡ map (after_slots x cycle rows (amount x.params name.gNumberOfStaticSlots)) before
+    → after ≡ all_heard x (cycles_of x cycle) follows
+all-heard x cycle run follows rows before after in_cycle listed now =
+    let h : Cycles = cycles_of x cycle in
     let s : ℕ = amount x.params name.gNumberOfStaticSlots in
-    let rows : map node_row_of before ≡ early_rows x h = ap (map node_row_of) in_cycle ∙ begun-rows x h in
     now
-    ∙ ap (λ (rs : List NodeRow). map (after_slots x cycle rs s) before) rows
+    ∙ ap (λ (rs : List NodeRow). map (after_slots x cycle rs s) before) listed
     ∙ ap (map (after_slots x cycle (early_rows x h) s)) in_cycle
-    ∙ ap (λ (c : ℕ). map (after_slots x c (early_rows x h) s) (map (λ node. begun_node x h node.id) (correct_nodes x))) (sym (length-history_of x cycle))
-    ∙ map-map (after_slots x (length h) (early_rows x h) s) (λ node. begun_node x h node.id) (correct_nodes x)
-    ∙ map_same_among (λ node. after_slots x (length h) (early_rows x h) s (begun_node x h node.id)) (λ node. heard_node x h node.id) (correct_nodes x) (λ node among. heard_all x sane h node among)
+    ∙ ap (λ (c : ℕ). map (after_slots x c (early_rows x h) s) (all_begun x h follows)) (sym (length-cycles_of x cycle))
+    ∙ map-map (after_slots x (length h) (early_rows x h) s) (λ (node : NodeSpec). begun_node x h follows node.id) (members x h follows)
+    ∙ map_same_among (λ (node : NodeSpec). after_slots x (length h) (early_rows x h) s (begun_node x h follows node.id)) (λ (node : NodeSpec). heard_node x h follows node.id) (members x h follows)
+    (λ node among. heard_all x h run follows node among)
 
-pub counts-are : (x : Setting) (cycle : ℕ) (before : List NodeView) (old counts : Counts) → before ≡ map (λ node. begun_node x (history_of x cycle) node.id) (correct_nodes x) → old ≡ no_counts →
-    counts ≡ counts_after x cycle (map node_row_of before) (amount x.params name.gNumberOfStaticSlots) old → counts ≡ next_counts x (history_of x cycle)
-counts-are x cycle before old counts in_cycle fresh now =
-    let h : History = history_of x cycle in
+counts-told : (x : Setting) (h : Cycles) → counts_over x (length h) (early_rows x h) ≡ (next_cycle x h).told.counts
+unfolding next_cycle early_told
+counts-told x h = refl
+
+pub counts-are : (x : Setting) (cycle : ℕ) (rows : List NodeRow) (old counts : Counts) → rows ≡ early_rows x (cycles_of x cycle) → old ≡ no_counts
+    → counts ≡ counts_after x cycle rows (amount x.params name.gNumberOfStaticSlots) old → counts ≡ (next_cycle x (cycles_of x cycle)).told.counts
+counts-are x cycle rows old counts listed fresh now =
+    let h : Cycles = cycles_of x cycle in
     let s : ℕ = amount x.params name.gNumberOfStaticSlots in
-    let rows : map node_row_of before ≡ early_rows x h = ap (map node_row_of) in_cycle ∙ begun-rows x h in
     now
-    ∙ ap (counts_after x cycle (map node_row_of before) s) fresh
-    ∙ ap (λ (rs : List NodeRow). counts_after x cycle rs s no_counts) rows
-    ∙ ap (λ (c : ℕ). counts_after x c (early_rows x h) s no_counts) (sym (length-history_of x cycle))
-    ∙ all_counted x h
+    ∙ ap (counts_after x cycle rows s) fresh
+    ∙ ap (λ (rs : List NodeRow). counts_after x cycle rs s no_counts) listed
+    ∙ ap (λ (c : ℕ). counts_after x c (early_rows x h) s no_counts) (sym (length-cycles_of x cycle))
+    ∙ all_counted x (length h) (early_rows x h)
+    ∙ counts-told x h
 
-pub devs-are : (x : Setting) → IsSane x.params → (cycle : ℕ) (keys : List ℕ) (nodes : List NodeView) (devs : List Dev) → keys ≡ ordered_keys x.params → nodes ≡ map (λ node. heard_node x (history_of x cycle) node.id) (correct_nodes x) →
-    devs ≡ listed_among x.params (is_odd cycle) keys nodes → devs ≡ next_devs x (history_of x cycle)
-devs-are x sane cycle keys nodes devs ordered heard now =
-    let h : History = history_of x cycle in
+pub devs-are : (x : Setting) (cycle : ℕ) → IsRun x (cycles_of x cycle) → (keys : List ℕ) (nodes : List NodeView) (devs : List Dev) → keys ≡ ordered_keys x.params → nodes ≡ all_heard x (cycles_of x cycle) false
+    → devs ≡ listed_among x.params (is_odd cycle) keys nodes → devs ≡ (next_cycle x (cycles_of x cycle)).told.devs
+devs-are x cycle run keys nodes devs ordered heard now =
+    let h : Cycles = cycles_of x cycle in
     now
     ∙ ap (λ (ks : List ℕ). listed_among x.params (is_odd cycle) ks nodes) ordered
     ∙ ap (listed_among x.params (is_odd cycle) (ordered_keys x.params)) heard
-    ∙ ap (λ (c : ℕ). listed_among x.params (is_odd c) (ordered_keys x.params) (map (λ node. heard_node x h node.id) (correct_nodes x))) (sym (length-history_of x cycle))
-    ∙ all_listed x sane h
+    ∙ ap (λ (c : ℕ). listed_among x.params (is_odd c) (ordered_keys x.params) (all_heard x h false)) (sym (length-cycles_of x cycle))
+    ∙ all_listed x h run
 
-history-more : (x : Setting) (cycle : ℕ) → next_record x (history_of x cycle) ∷ history_of x cycle ≡ history_of x (suc cycle)
-unfolding history_of
-history-more x cycle = refl
+pub cycles-more : (x : Setting) (cycle : ℕ) → next_cycle x (cycles_of x cycle) ∷ cycles_of x cycle ≡ cycles_of x (cycle + 1)
+unfolding cycles_of
+cycles-more x cycle =
+    let P : ℕ → Type 0 = λ n. next_cycle x (cycles_of x cycle) ∷ cycles_of x cycle ≡ cycles_of x n in
+    subst P (sym (add-one cycle)) refl
 
-pub nodes-are : (x : Setting) (cycle : ℕ) (before after : List NodeView) → before ≡ map (λ node. heard_node x (history_of x cycle) node.id) (correct_nodes x) → after ≡ map (ended x.params) before →
-    after ≡ nodes_after x (history_of x (cycle + 1))
-nodes-are x cycle before after heard now =
-    let h : History = history_of x cycle in
-    let P : ℕ → Type 0 = λ n. after ≡ nodes_after x (history_of x n) in
-    subst P (sym (add-one cycle))
-    (now ∙ ap (map (ended x.params)) heard
-    ∙ map-map (ended x.params) (λ node. heard_node x h node.id) (correct_nodes x)
-    ∙ map_same_among (λ node. ended x.params (heard_node x h node.id)) (λ node. node_after x (next_record x h ∷ h) node.id) (correct_nodes x) (λ node among. ended_is x h node among)
-    ∙ ap (nodes_after x) (history-more x cycle))
+-- the receivers of a cycle behind it
+abbrev pub all_ended : Setting → Cycles → Bool → List NodeView
+all_ended x h follows = map (λ node. node_behind x (next_cycle x h ∷ h) follows node.id) (members x h follows)
 
-pub rows-are : (x : Setting) (cycle : ℕ) (nodes : List NodeView) (rows : List NodeRow) → nodes ≡ map (λ node. heard_node x (history_of x cycle) node.id) (correct_nodes x) → rows ≡ map (ended_row_of_node x.params) nodes →
-    rows ≡ (next_record x (history_of x cycle)).rows
-rows-are x cycle nodes rows heard now =
-    let h : History = history_of x cycle in
+pub nodes-ended : (x : Setting) (cycle : ℕ) → IsRun x (cycles_of x cycle) → (follows : Bool) (before after : List NodeView) → before ≡ all_heard x (cycles_of x cycle) follows → after ≡ map (ended x.params) before
+    → after ≡ all_ended x (cycles_of x cycle) follows
+nodes-ended x cycle run follows before after heard now =
+    let h : Cycles = cycles_of x cycle in
+    now ∙ ap (map (ended x.params)) heard
+    ∙ map-map (ended x.params) (λ (node : NodeSpec). heard_node x h follows node.id) (members x h follows)
+    ∙ map_same_among (λ (node : NodeSpec). ended x.params (heard_node x h follows node.id)) (λ (node : NodeSpec). node_behind x (next_cycle x h ∷ h) follows node.id) (members x h follows)
+    (λ node among. ended_is x h run follows node among)
+
+pub rows-are : (x : Setting) (cycle : ℕ) → IsRun x (cycles_of x cycle) → (nodes : List NodeView) (rows : List NodeRow) → nodes ≡ all_heard x (cycles_of x cycle) false → rows ≡ map (ended_row_of_node x.params) nodes
+    → rows ≡ (next_cycle x (cycles_of x cycle)).told.rows
+rows-are x cycle run nodes rows heard now =
+    let h : Cycles = cycles_of x cycle in
     now ∙ ap (map (ended_row_of_node x.params)) heard
-    ∙ map-map (ended_row_of_node x.params) (λ node. heard_node x h node.id) (correct_nodes x)
-    ∙ map_same_among (λ node. ended_row_of_node x.params (heard_node x h node.id)) (λ node. next_row x h node.id) (correct_nodes x) (λ node among. ended_row_is x h node.id)
+    ∙ map-map (ended_row_of_node x.params) (λ (node : NodeSpec). heard_node x h false node.id) (row_nodes x h)
+    ∙ map_same_among (λ (node : NodeSpec). ended_row_of_node x.params (heard_node x h false node.id)) (λ (node : NodeSpec). next_row x h node.id) (row_nodes x h) (λ node among. ended_told x h run node among)
     ∙ sym (next_rows x h)
 
-pub record-is : (x : Setting) (h : History) (r : Record) → r.rows ≡ (next_record x h).rows → r.devs ≡ next_devs x h → r.counts ≡ next_counts x h → r ≡ next_record x h
-unfolding next_record
-record-is x h r rows devs counts =
-    ap (λ (rs : List NodeRow). let s : Record = record r { rows = rs } in s) rows
-    ∙ ap (λ (ds : List Dev). let s : Record = record { rows = (next_record x h).rows; devs = ds; counts = r.counts } in s) devs
-    ∙ ap (λ (c : Counts). let s : Record = record { rows = (next_record x h).rows; devs = next_devs x h; counts = c } in s) counts
+pub record-is : (r s : Record) → r.rows ≡ s.rows → r.devs ≡ s.devs → r.counts ≡ s.counts → r ≡ s
+record-is r s rows devs counts =
+    ap (λ (rs : List NodeRow). let t : Record = record r { rows = rs } in t) rows
+    ∙ ap (λ (ds : List Dev). let t : Record = record { rows = s.rows; devs = ds; counts = r.counts } in t) devs
+    ∙ ap (λ (c : Counts). let t : Record = record { rows = s.rows; devs = s.devs; counts = c } in t) counts
 
 -- ---- orders and lengths
 
@@ -180,45 +226,44 @@ length-kept p (x ∷ xs) =
     cond_both (p x) (x ∷ filter p xs) (filter p xs) (λ ys. length ys ≤ length (x ∷ xs))
     (λ kept. omega (arith, length-kept p xs)) (λ dropped. omega (arith, length-kept p xs))
 
-pub nodes-few : (x : Setting) → IsSane x.params → (h : History) (nodes : List NodeView) → nodes ≡ nodes_after x h → length nodes ≤ 64
-nodes-few x sane h nodes are =
-    let long : length nodes ≡ length (correct_nodes x) = ap length are ∙ length-map (correct_nodes x) (λ node. node_after x h node.id) in
-    omega (arith, long, length-kept (λ node. is_correct x node.id) x.params.nodes, sane.lists.few_nodes)
+-- some of the correct nodes are at most as many as a cluster has, and in ascending order
+pub few-correct : (x : Setting) → IsSane x.params → (test : NodeSpec → Bool) → length (filter test (correct_nodes x)) ≤ 64
+few-correct x sane test =
+    omega (arith, length-kept test (correct_nodes x), length-kept (λ (node : NodeSpec). is_correct x node.id) x.params.nodes, sane.lists.few_nodes)
 
--- nodes of the cluster's numbers are in ascending order, and at most as many as it has
-listable : (x : Setting) → IsSane x.params → (e : ℕ → NodeView) → ((id : ℕ) → (e id).id ≡ id) → (nodes : List NodeView) → nodes ≡ map (λ node. e node.id) (correct_nodes x) → AreListable nodes
-listable x sane e named nodes are =
+pub correct-ascend : (x : Setting) → IsSane x.params → (test : NodeSpec → Bool) → AllPairs (λ (a : NodeSpec) (b : NodeSpec). a.id < b.id) (filter test (correct_nodes x))
+correct-ascend x sane test =
+    let R : NodeSpec → NodeSpec → Type 0 = λ a b. a.id < b.id in
+    AllPairs-filter R test (correct_nodes x) (AllPairs-filter R (λ (node : NodeSpec). is_correct x node.id) x.params.nodes sane.lists.nodes_ascend)
+
+-- nodes of such numbers are too
+mapped : (e : ℕ → NodeView) → ((id : ℕ) → (e id).id ≡ id) → (specs : List NodeSpec) → AllPairs (λ (a : NodeSpec) (b : NodeSpec). a.id < b.id) specs → NodesAscend (map (λ node. e node.id) specs)
+mapped e named [] pairs i j d less short = absurd (omega arith)
+mapped e named (s ∷ ss) pairs i j d less short =
+    let f : NodeSpec → NodeView = λ node. e node.id in
+    let long = length-map (s ∷ ss) f in
+    let a : get_or (map f (s ∷ ss)) i d ≡ f (get_or (s ∷ ss) i s) = get_or-map f (s ∷ ss) i s d (omega arith) in
+    let b : get_or (map f (s ∷ ss)) j d ≡ f (get_or (s ∷ ss) j s) = get_or-map f (s ∷ ss) j s d (omega arith) in
+    let first : (get_or (map f (s ∷ ss)) i d).id ≡ (get_or (s ∷ ss) i s).id = ap (λ (n : NodeView). n.id) a ∙ named (get_or (s ∷ ss) i s).id in
+    let second : (get_or (map f (s ∷ ss)) j d).id ≡ (get_or (s ∷ ss) j s).id = ap (λ (n : NodeView). n.id) b ∙ named (get_or (s ∷ ss) j s).id in
+    let lt : (get_or (s ∷ ss) i s).id < (get_or (s ∷ ss) j s).id = pairs i j s less (omega arith) in
+    omega (arith, first, second, lt)
+
+pub listable : (x : Setting) → IsSane x.params → (e : ℕ → NodeView) → ((id : ℕ) → (e id).id ≡ id) → (test : NodeSpec → Bool) (nodes : List NodeView)
+    → nodes ≡ map (λ node. e node.id) (filter test (correct_nodes x)) → AreListable nodes
+listable x sane e named test nodes are =
     let P : List NodeView → Type 0 = λ ns. NodesAscend ns in
-    let long : length nodes ≡ length (correct_nodes x) = ap length are ∙ length-map (correct_nodes x) (λ node. e node.id) in record {
-      ascending = subst P (sym are) (mapped (correct_nodes x) (AllPairs-filter (λ a b. a.id < b.id) (λ node. is_correct x node.id) x.params.nodes sane.lists.nodes_ascend));
-      few = omega (arith, long, length-kept (λ node. is_correct x node.id) x.params.nodes, sane.lists.few_nodes);
+    let specs : List NodeSpec = filter test (correct_nodes x) in
+    let long : length nodes ≡ length specs = ap length are ∙ length-map specs (λ (node : NodeSpec). e node.id) in record {
+      ascending = subst P (sym are) (mapped e named specs (correct-ascend x sane test));
+      few = omega (arith, long, few-correct x sane test);
     }
-  where
-    mapped : (specs : List NodeSpec) → AllPairs (λ a b. a.id < b.id) specs → NodesAscend (map (λ node. e node.id) specs)
-    mapped [] pairs i j d less short = absurd (omega arith)
-    mapped (s ∷ ss) pairs i j d less short =
-        let f : NodeSpec → NodeView = λ node. e node.id in
-        let long = length-map (s ∷ ss) f in
-        let a : get_or (map f (s ∷ ss)) i d ≡ f (get_or (s ∷ ss) i s) = get_or-map f (s ∷ ss) i s d (omega arith) in
-        let b : get_or (map f (s ∷ ss)) j d ≡ f (get_or (s ∷ ss) j s) = get_or-map f (s ∷ ss) j s d (omega arith) in
-        let first : (get_or (map f (s ∷ ss)) i d).id ≡ (get_or (s ∷ ss) i s).id = ap (λ (n : NodeView). n.id) a ∙ named (get_or (s ∷ ss) i s).id in
-        let second : (get_or (map f (s ∷ ss)) j d).id ≡ (get_or (s ∷ ss) j s).id = ap (λ (n : NodeView). n.id) b ∙ named (get_or (s ∷ ss) j s).id in
-        let lt : (get_or (s ∷ ss) i s).id < (get_or (s ∷ ss) j s).id = pairs i j s less (omega arith) in
-        omega (arith, first, second, lt)
 
-after-named : (x : Setting) (h : History) (id : ℕ) → (node_after x h id).id ≡ id
-unfolding node_after
-after-named x h id = refl
+pub waiting-listable : (x : Setting) → IsSane x.params → (h : Cycles) (nodes : List NodeView) → nodes ≡ all_behind x h false → AreListable nodes
+waiting-listable x sane h nodes are = listable x sane (node_behind x h false) (λ id. refl) (λ (node : NodeSpec). has_row x h node.id) nodes are
 
-heard-named : (x : Setting) (h : History) (id : ℕ) → (heard_node x h id).id ≡ id
-unfolding node_after
-heard-named x h id = refl
-
-pub waiting-listable : (x : Setting) → IsSane x.params → (h : History) (nodes : List NodeView) → nodes ≡ nodes_after x h → AreListable nodes
-waiting-listable x sane h nodes are = listable x sane (node_after x h) (after-named x h) nodes are
-
-pub are-listable : (x : Setting) → IsSane x.params → (h : History) (nodes : List NodeView) → nodes ≡ map (λ node. heard_node x h node.id) (correct_nodes x) → AreListable nodes
-are-listable x sane h nodes are = listable x sane (heard_node x h) (heard-named x h) nodes are
+pub are-listable : (x : Setting) → IsSane x.params → (h : Cycles) (nodes : List NodeView) → nodes ≡ all_heard x h false → AreListable nodes
+are-listable x sane h nodes are = listable x sane (heard_node x h false) (λ id. refl) (λ (node : NodeSpec). has_row x h node.id) nodes are
 
 -- nodes whose cycle has begun have the same numbers
 pub begun-listable : (f : Files) (cycle : ℕ) (nodes : List NodeView) → AreListable nodes → AreListable (map (begun_in f cycle) nodes)

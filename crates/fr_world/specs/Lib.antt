@@ -15,3 +15,5 @@ pub mod Turns
 pub mod Stage
 pub mod Kept
 pub mod Cells
+pub mod Listening
+pub mod Succeeding

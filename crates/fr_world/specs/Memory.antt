@@ -7,9 +7,9 @@ use Rattle.fr_cluster.specs.Values.{Values, amount}
 use Rattle.fr_cluster.specs.declared.names.ParamName.TheVariants as name
 use Rattle.fr_cluster.specs.Setting.{Setting}
 use Rattle.fr_reception.specs.Regular.{payload_bytes}
-use Rattle.fr_history.specs.History.{History}
-use Rattle.fr_history.specs.Next.{early_rows}
 use Rattle.fr_history.specs.Offers.{frame_in}
+use Rattle.fr_joined.specs.Cycles.{Cycles}
+use Rattle.fr_joined.specs.Next.{early_rows}
 use Rattle.fr_world.specs.Walk.{walked}
 use Rattle.fr_pool.specs.Pool.{PoolView, IsFree, IsOut}
 
@@ -49,10 +49,10 @@ held_on x cycle rows slot channel held = with_sent (place_of_slot slot channel) 
 abbrev pub held_slots : Setting → ℕ → List NodeRow → ℕ → List Held → List Held
 held_slots x cycle rows count held = walked (held_on x cycle rows) count held
 
--- what stands in the cells after a history, each cell at its number
-unfoldable pub held_after : Setting → History → List Held
+-- what stands in the cells after some cycles, each cell at its number: what followers would send is sent by none
+unfoldable pub held_after : Setting → Cycles → List Held
 held_after x [] = []
-held_after x (r ∷ h) =
+held_after x (c ∷ h) =
     held_slots x (length h) (early_rows x h) (amount x.params name.gNumberOfStaticSlots) (held_after x h)
 
 -- A message memory: for how many slots and channels there is room, how many bytes a frame has, what stands in the cells

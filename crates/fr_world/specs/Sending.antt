@@ -79,11 +79,11 @@ abbrev pub said_instant : Setting → Turn → NodeRow → ℤ → ℤ
 said_instant x turn receiver shift =
     action_instant x.params receiver turn.slot +ℤ (compensation_of x.params turn.channel *ℤ receiver.length) +ℤ shift
 
--- what comes of the frame of a correct sender with this row
-abbrev pub sent_with : Setting → Turn → NodeRow → List ℕ → NodeRow → Option Offer
+-- what comes to a receiver of the frame of a correct sender with this row
+abbrev pub sent_with : Setting → Turn → NodeRow → List ℕ → ℕ → Option Offer
 sent_with x turn sender frame receiver =
-    option_map (λ bytes. offer_at turn (sent_instant x turn sender receiver.node) bytes)
-    (arrived_of (x.event turn.cycle sender.node receiver.node turn.channel) frame)
+    option_map (λ bytes. offer_at turn (sent_instant x turn sender receiver) bytes)
+    (arrived_of (x.event turn.cycle sender.node receiver turn.channel) frame)
 
 -- what an arbitrary sender says, with this regular frame
 abbrev pub said_with : Setting → Turn → ℕ → List ℕ → NodeRow → Option Offer
@@ -93,7 +93,7 @@ said_with x turn sender frame receiver =
 
 -- what comes from a sender: a correct one with this row, or else an arbitrary one
 abbrev pub offer_from : Setting → Turn → ℕ → Option NodeRow → List ℕ → NodeRow → Option Offer
-offer_from x turn sender (Some row) frame receiver = sent_with x turn row frame receiver
+offer_from x turn sender (Some row) frame receiver = sent_with x turn row frame receiver.node
 offer_from x turn sender None frame receiver = said_with x turn sender frame receiver
 
 -- whether a receiver hears a sender on a channel: the receiver is another node, is not halted, and has the channel

@@ -1,5 +1,6 @@
--- A cycle on its way through a world: the nodes and their rows, the counts, and the message memory.
-use Rattle.std.specs.Prelude.{◌≡◌, ℕ, ◌+◌, ◌-◌, ◌*◌, ◌≤◌, List, All, length, map, Option}
+-- A cycle on its way through a world: the nodes and their rows, the followers, the listeners, the counts, and the
+-- message memory.
+use Rattle.std.specs.Prelude.{◌≡◌, ℕ, ◌+◌, ◌-◌, ◌*◌, ◌≤◌, List, [], All, length, map, Option}
 use Rattle.fr_base.specs.Rows.{channel_rank}
 use Rattle.fr_base.specs.Counts.{AreAtMost, no_counts}
 use Rattle.fr_base.specs.declared.channel.Channel.{Channel}
@@ -9,6 +10,8 @@ use Rattle.fr_cluster.specs.Setting.{Setting}
 use Rattle.fr_cluster.specs.Values.{amount}
 use Rattle.fr_cluster.specs.declared.names.ParamName.TheVariants as name
 use Rattle.fr_reception.specs.Offers.{Offer}
+use Rattle.fr_node.specs.Cycle.{ended}
+use Rattle.fr_node.specs.Listening.{ListenerView}
 use Rattle.fr_node.specs.View.{NodeView, node_row_of}
 use Rattle.fr_history.specs.Offers.{frame_in, offer_in}
 use Rattle.fr_world.specs.Counting.{counted_frame, counted_offers}
@@ -17,22 +20,40 @@ use Rattle.fr_world.specs.Files.{setting_in}
 use Rattle.fr_world.specs.Hearing.{after_offer}
 use Rattle.fr_world.specs.Memory.{MemoryView, memory_with, place_of_slot, with_sent}
 use Rattle.fr_world.specs.Sending.{IsEarlyRow}
+use Rattle.fr_world.specs.Turns.{AreReady}
 use Rattle.fr_world.specs.Walk.{walked}
 use Rattle.fr_world.specs.declared.files.Files.{Files}
 use Rattle.fr_world.specs.declared.turn.Turn.{Turn}
 
--- The rows of the cycle before its corrections, the nodes, the counts so far, and what was sent.
+-- The rows of the cycle before its corrections, the nodes that have one, those that follow and those that listen, the
+-- counts so far, and what was sent.
 pub record StageView : Type 0 where
   pub rows : List NodeRow
   pub nodes : List NodeView
+  pub followers : List NodeView
+  pub listeners : List ListenerView
   pub counts : Counts
   pub memory : MemoryView
 
--- with its cycle begun: each node with its row, and nothing counted
+-- before the first cycle
+abbrev pub stage_before : List NodeView → MemoryView → StageView
+stage_before nodes memory =
+    record { rows = []; nodes = nodes; followers = []; listeners = []; counts = no_counts; memory = memory }
+
+-- with the cycle of the nodes that have a row begun: each with its row, and nothing counted
+abbrev pub begun_nodes : Files → ℕ → StageView → StageView
+begun_nodes f cycle stage = record stage {
+  rows = map node_row_of (map (begun_in f cycle) stage.nodes);
+  nodes = map (begun_in f cycle) stage.nodes;
+  counts = no_counts;
+}
+
+-- with the cycle of the followers begun too
 abbrev pub begun_stage : Files → ℕ → StageView → StageView
 begun_stage f cycle stage = record stage {
   rows = map node_row_of (map (begun_in f cycle) stage.nodes);
   nodes = map (begun_in f cycle) stage.nodes;
+  followers = map (begun_in f cycle) stage.followers;
   counts = no_counts;
 }
 
@@ -47,10 +68,18 @@ sent_on slot channel frame stage = record stage {
 abbrev pub saying : Option (List ℕ) → StageView → StageView
 saying frame stage = record stage { memory = record stage.memory { said = frame } }
 
--- after each node has answered what it is offered
+-- after each node that has a row has answered what it is offered
+abbrev pub answered_by_nodes : Setting → ℕ → (NodeRow → Option Offer) → StageView → StageView
+answered_by_nodes x cycle offer stage = record stage {
+  nodes = map (λ node. after_offer x cycle node (offer (node_row_of node))) stage.nodes;
+  counts = counted_offers x cycle offer stage.rows stage.counts;
+}
+
+-- and each follower too; the answers of followers are not counted
 abbrev pub answered : Setting → ℕ → (NodeRow → Option Offer) → StageView → StageView
 answered x cycle offer stage = record stage {
   nodes = map (λ node. after_offer x cycle node (offer (node_row_of node))) stage.nodes;
+  followers = map (λ node. after_offer x cycle node (offer (node_row_of node))) stage.followers;
   counts = counted_offers x cycle offer stage.rows stage.counts;
 }
 
@@ -63,13 +92,40 @@ heard_on x cycle slot channel stage =
 abbrev pub heard_after : Setting → ℕ → ℕ → StageView → StageView
 heard_after x cycle count stage = walked (heard_on x cycle) count stage
 
--- The cycle is under way: each node is ready and has its row, no number that was counted so far is above this one, and
--- nothing is being said.
+-- with its cycle ended
+abbrev pub ended_stage : Files → StageView → StageView
+ended_stage f stage = record stage {
+  nodes = map (ended f.params) stage.nodes;
+  followers = map (ended f.params) stage.followers;
+}
+
+-- there is room for all nodes of a cluster in each list
+pub record HasSpace (nodes followers listeners : ℕ) : Type 0 where
+  pub for_nodes : 64 ≤ nodes
+  pub for_followers : 64 ≤ followers
+  pub for_listeners : 64 ≤ listeners
+
+-- all nodes and all followers are ready
+pub record AllReady (f : Files) (cycle : ℕ) (stage : StageView) : Type 0 where
+  pub nodes : All (IsReady f cycle) stage.nodes
+  pub followers : All (IsReady f cycle) stage.followers
+
+-- they are before a frame is offered to them, and their answers can be counted
+pub record CanAnswer (f : Files) (cycle : ℕ) (stage : StageView) : Type 0 where
+  pub rows_are : stage.rows ≡ map node_row_of stage.nodes
+  pub ready : AreReady f cycle 1_000_000 stage.nodes stage.counts
+  pub followers_ready : All (IsReady f cycle) stage.followers
+  pub few_followers : length stage.followers ≤ 64
+
+-- The cycle is under way: each node is ready and has its row, each follower is ready, no number that was counted so far
+-- is above this one, and nothing is being said.
 pub record IsStage (f : Files) (cycle most : ℕ) (stage : StageView) : Type 0 where
   pub rows_are : stage.rows ≡ map node_row_of stage.nodes
   pub ready : All (IsReady f cycle) stage.nodes
   pub early : All (IsEarlyRow f.params) stage.rows
   pub few_nodes : length stage.nodes ≤ 64
+  pub followers_ready : All (IsReady f cycle) stage.followers
+  pub few_followers : length stage.followers ≤ 64
   pub few : AreAtMost most stage.counts
   pub memory_is : stage.memory ≡ memory_with f.params stage.memory.held
 

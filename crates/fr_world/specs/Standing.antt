@@ -1,66 +1,43 @@
--- How the nodes of a world stand after a history.
-use Rattle.std.specs.Prelude.{ℕ, ℤ, false, List, [], ◌∷◌, fold, length, map, Option, Some, None, option_and_then, if◌then◌else◌}
-use Rattle.std.specs.List.{range_with_len}
-use Rattle.fr_base.specs.declared.channel.Channel.{Channel}
-use Rattle.fr_base.specs.declared.channel.Channel.TheVariants.{A, B}
-use Rattle.fr_base.specs.declared.dev.Dev.{Dev}
-use Rattle.fr_base.specs.declared.state.Outcome.{Outcome}
-use Rattle.fr_cluster.specs.Values.{Values}
-use Rattle.fr_time.specs.Cycles.{is_odd}
-use Rattle.fr_measure.specs.Readings.{Readings, no_readings}
-use Rattle.fr_poc.specs.Limits.{limits_of}
-use Rattle.fr_node.specs.View.{NodeView}
+-- What a world holds between cycles: the nodes, the followers and the listeners of the last cycle, as they stand before the
+-- next one. Who has a row, follows or listens there shows as that cycle begins.
+use Rattle.std.specs.Prelude.{true, false, List, [], ◌∷◌, length, map, filter_map, Option, if◌then◌else◌}
+use Rattle.std.specs.Option.{option_map}
 use Rattle.fr_cluster.specs.Setting.{Setting}
-use Rattle.fr_history.specs.History.{History}
-use Rattle.fr_history.specs.Lawful.{rate_after, row_nodes, start_after}
-use Rattle.fr_history.specs.Terms.{latest_devs, outcomes_in, status_in}
-use Rattle.fr_base.specs.Rows.{dev_in}
-use Rattle.fr_cluster.specs.Questions.{key_slot_of}
+use Rattle.fr_cluster.specs.declared.nodes.NodeSpec.{NodeSpec}
+use Rattle.fr_time.specs.Cycles.{is_odd}
+use Rattle.fr_node.specs.Listening.{ListenerView}
+use Rattle.fr_node.specs.View.{NodeView}
+use Rattle.fr_joined.specs.Cycles.{Cycle, Cycles}
+use Rattle.fr_joined.specs.Standing.{following_nodes, row_nodes}
+use Rattle.fr_standing.specs.Listening.{catches_of, listening_nodes}
+use Rattle.fr_standing.specs.Views.{listener_with, listeners_behind, node_behind, reference_slot}
 
--- the deviation that a list records of a node at a key index on a channel
-abbrev pub recorded_at : Values → List Dev → ℕ → Channel → ℕ → Option ℤ
-recorded_at p devs node channel index = option_and_then (λ slot. dev_in devs node slot channel) (key_slot_of p index)
+-- the nodes that had a row in the last cycle, and those that followed in it; before cycle 0 the nodes that join nobody
+abbrev pub kept_row_nodes : Setting → Cycles → List NodeSpec
+kept_row_nodes x [] = row_nodes x []
+kept_row_nodes x (c ∷ h) = row_nodes x h
 
--- a column of a node's table, as a list records it
-abbrev pub column_of : Values → List Dev → ℕ → Channel → List (Option ℤ)
-column_of p devs node channel = map (recorded_at p devs node channel) (range_with_len 0 15)
+abbrev pub kept_following_nodes : Setting → Cycles → List NodeSpec
+kept_following_nodes x [] = []
+kept_following_nodes x (c ∷ h) = following_nodes x h
 
--- a node's table, as the lists of the two cycles of a double cycle record it
-unfoldable pub readings_of : Values → List Dev → List Dev → ℕ → Readings
-readings_of p evens odds node = record {
-  even_a = column_of p evens node A;
-  even_b = column_of p evens node B;
-  odd_a = column_of p odds node A;
-  odd_b = column_of p odds node B;
-}
+-- These nodes of the last cycle as they stand before the next one, in ascending order. Those of the next cycle are
+-- `nodes_behind` of `fr_standing`.
+abbrev pub nodes_kept : Setting → Cycles → List NodeView
+nodes_kept x h = map (λ node. node_behind x h false node.id) (kept_row_nodes x h)
 
--- the table after a history: it has the deviations of the double cycle of its latest cycle
-unfoldable pub readings_after : Setting → History → ℕ → Readings
-readings_after x [] node = no_readings
-readings_after x (r ∷ h) node =
-    if is_odd (length h) then readings_of x.params (latest_devs h) r.devs node else readings_of x.params r.devs [] node
+abbrev pub followers_kept : Setting → Cycles → List NodeView
+followers_kept x h = map (λ node. node_behind x h true node.id) (kept_following_nodes x h)
 
--- the last of some pairs of outcomes, if there is one
-abbrev pub later_pair : Option (Outcome × Outcome) → Outcome × Outcome → Option (Outcome × Outcome)
-later_pair earlier pair = Some pair
+-- a listener with what it has caught in both cycles of a double cycle
+abbrev pub listener_kept : Setting → Cycles → Cycle → Cycle → NodeSpec → Option ListenerView
+listener_kept x h even odd node =
+    option_map (λ slot. listener_with node.id slot (catches_of x h even odd node.id slot)) (reference_slot x (x.join node.id))
 
-abbrev pub latest_pair : List (Outcome × Outcome) → Option (Outcome × Outcome)
-latest_pair pairs = fold later_pair None pairs
-
--- a node after a history, before its next cycle: none follows
-unfoldable pub node_after : Setting → History → ℕ → NodeView
-node_after x h node = record {
-  id = node;
-  cycle = length h;
-  length = None;
-  start = start_after x h node;
-  rate = rate_after x h node;
-  table = readings_after x h node;
-  control = record { limits = limits_of x.params; status = status_in x.params h node };
-  follows = false;
-  outcomes = latest_pair (outcomes_in x.params h node);
-}
-
--- the nodes with a row in the cycle after a history, in ascending order
-abbrev pub nodes_after : Setting → History → List NodeView
-nodes_after x h = map (λ node. node_after x h node.id) (row_nodes x h)
+-- the listeners of the double cycle of the last cycle, with what they have caught of it
+abbrev pub listeners_kept : Setting → Cycles → List ListenerView
+listeners_kept x [] = []
+listeners_kept x (c ∷ []) = listeners_behind x (c ∷ [])
+listeners_kept x (odd ∷ even ∷ h) =
+    if is_odd (length h) then listeners_behind x (odd ∷ even ∷ h)
+    else filter_map (listener_kept x h even odd) (listening_nodes x h)

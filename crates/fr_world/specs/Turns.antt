@@ -57,6 +57,11 @@ pub record IsOnAir (f : Files) (air : Air) (memory : MemoryView) : Type 0 where
 abbrev pub offer_on : Files → Air → MemoryView → NodeRow → Option Offer
 offer_on f air memory receiver = offer_heard (setting_in f) air.turn.now air.sender.now.node air.sender.now.row (frame_on memory air.cell) receiver
 
+-- a node after it
+abbrev pub heard_on_air : Files → Air → MemoryView → NodeView → NodeView
+heard_on_air f air memory node =
+    after_offer (setting_in f) air.turn.now.cycle node (offer_on f air memory (node_row_of node))
+
 -- all nodes are ready, and no number that was counted so far is above this one
 pub record AreReady (f : Files) (cycle most : ℕ) (nodes : List NodeView) (counts : Counts) : Type 0 where
   pub ready : All (IsReady f cycle) nodes

@@ -1,10 +1,13 @@
-ghost use Rattle.std.specs.Prelude.{◌≡◌, ◌<◌, ◌≤◌, [], ◌++◌, length, slice_get, All, IfOk, OnOk, Some};
+ghost use Rattle.std.specs.Prelude.{◌≡◌, ◌<◌, ◌≤◌, false, [], ◌++◌, length, slice_get, vec_capacity, IfOk, OnOk, Some};
 ghost use Rattle.fr_drift.specs.Files.{DriftFits};
 ghost use Rattle.fr_node.specs.Fits.{NodeFits};
+ghost use Rattle.fr_node.specs.View.{node_row_of};
+ghost use Rattle.fr_standing.specs.Views.{node_behind};
 ghost use Rattle.fr_world.specs.Files.{setting_in};
+ghost use Rattle.fr_world.specs.Listening.{StartsEarly};
 ghost use Rattle.fr_world.specs.Listing.{ordered_keys};
-ghost use Rattle.fr_world.specs.World.{fresh_of, AreFresh, CanStart};
-ghost use Rattle.fr_world.specs.Standing.{node_after, nodes_after};
+ghost use Rattle.fr_world.specs.World.{fresh_of, is_fresh, AreFresh, CanStart};
+ghost use Rattle.fr_world.specs.Standing.{nodes_kept};
 
 use crate::files::{Files, sane};
 use fr_base::Slot;
@@ -31,8 +34,9 @@ pub(crate) fn key_slots_of(alloc: Global, params: &Params) -> Result<Vec<Slot>, 
 // A correct node before the run.
 fn fresh_node(files: &Files, spec: &NodeSpec) -> Node
     requires { CanStart files.now spec.now }
-    ensures node { result ≡ node_after (setting_in files.now) [] spec.now.id }
+    ensures node { result ≡ node_behind (setting_in files.now) [] false spec.now.id }
     ensures fits { NodeFits files.now.params result }
+    ensures early { StartsEarly files.now 0 (node_row_of result) }
 {
     sane(&files.params);
     let start = files.drift.drift().start(spec.id);
@@ -41,14 +45,14 @@ fn fresh_node(files: &Files, spec: &NodeSpec) -> Node
 }
 
 // How many nodes there are.
-fn node_count(params: &Params) -> usize
+pub(crate) fn node_count(params: &Params) -> usize
     ensures { result ≡ length params.now.nodes }
 {
     params.nodes.len()
 }
 
 // The node at a place.
-fn spec_at(params: &Params, place: usize) -> &NodeSpec
+pub(crate) fn spec_at(params: &Params, place: usize) -> &NodeSpec
     requires { place < length params.now.nodes }
     ensures { slice_get params.now.nodes place ≡ Some result.now }
 {
@@ -58,24 +62,33 @@ fn spec_at(params: &Params, place: usize) -> &NodeSpec
     }
 }
 
-// Appends a node before the run, if it is correct.
+// Whether a node takes part from cycle 0 on.
+fn is_fresh(files: &Files, spec: &NodeSpec) -> bool
+    ensures { result ≡ is_fresh (setting_in files.now) spec.now.id }
+{
+    !files.script.arbitrary(spec.id) && files.script.join(spec.id).is_none()
+}
+
+// Appends a node before the run, if it takes part from cycle 0 on.
 fn push_fresh(files: &Files, spec: &NodeSpec, nodes: &mut Vec<Node>) -> Result<(), AllocError>
     requires start { CanStart files.now spec.now }
-    requires fits { All (NodeFits files.now.params) nodes.old.items }
-    ensures { OnOk result (AreFresh files.now (nodes.old.items ++ fresh_of files.now spec.now) nodes.new.items) }
+    requires fresh { AreFresh files.now nodes.old.items nodes.old.items }
+    ensures fresh { OnOk result (AreFresh files.now (nodes.old.items ++ fresh_of files.now spec.now) nodes.new.items) }
+    ensures room { vec_capacity nodes.old ≤ vec_capacity nodes.new }
 {
-    if !files.script.arbitrary(spec.id) {
+    if is_fresh(files, spec) {
         nodes.push(fresh_node(files, spec))?;
     }
     Ok(())
 }
 
-// The correct nodes before the run, in ascending order.
+// The nodes that take part from cycle 0 on, before the run, in ascending order; with room for all nodes of a cluster.
 pub(crate) fn fresh_nodes(alloc: Global, files: &Files) -> Result<Vec<Node>, AllocError>
     requires drift { DriftFits files.now.params files.now.drift }
-    ensures { IfOk result (λ nodes. AreFresh files.now (nodes_after (setting_in files.now) []) nodes.items) }
+    ensures fresh { IfOk result (λ nodes. AreFresh files.now (nodes_kept (setting_in files.now) []) nodes.items) }
+    ensures room { IfOk result (λ nodes. 64 ≤ vec_capacity nodes) }
 {
-    let mut nodes = Vec::new(alloc);
+    let mut nodes = Vec::with_capacity(alloc, 64)?;
     for place in 0..node_count(&files.params) {
         let spec = spec_at(&files.params, place);
         push_fresh(files, spec, &mut nodes)?;

@@ -1,4 +1,6 @@
 ghost use Rattle.std.specs.Prelude.{◌≡◌, map, All};
+ghost use Rattle.fr_node.specs.Cycle.{ended};
+ghost use Rattle.fr_node.specs.Fits.{NodeFits};
 ghost use Rattle.fr_node.specs.View.{node_row_of};
 ghost use Rattle.fr_world.specs.Cycling.{AreListable, HasBegun, HaveBegun, HaveEnded, IsReady, IsWaiting};
 ghost use Rattle.fr_world.specs.Sending.{IsEarlyRow};
@@ -50,5 +52,16 @@ pub(crate) fn end_all(files: &Files, cycle: u32, nodes: &mut [Node], rows: &mut 
     for node in nodes.iter_mut() {
         let row = node.end(&files.params);
         rows.push(row);
+    }
+}
+
+// Ends the cycle of each follower.
+pub(crate) fn end_followers(files: &Files, cycle: u32, followers: &mut [Node])
+    requires ready { All (IsReady files.now cycle) followers.old }
+    ensures ended { followers.new ≡ map (ended files.now.params) followers.old }
+    ensures fitting { All (NodeFits files.now.params) followers.new }
+{
+    for node in followers.iter_mut() {
+        node.end(&files.params);
     }
 }

@@ -1,5 +1,5 @@
 ghost use Rattle.std.specs.Prelude.{◌≡◌, ◌≤◌, ◌+ℤ◌, ◌*ℤ◌, pos, IfSome};
-ghost use Rattle.fr_base.specs.Within.{IsWithin};
+ghost use Rattle.fr_base.specs.Within.{IsBetween, IsWithin};
 ghost use Rattle.fr_cluster.specs.Questions.{compensation_of};
 ghost use Rattle.fr_cluster.specs.Values.{amount};
 ghost use Rattle.fr_cluster.specs.declared.names.ParamName.TheVariants as name;
@@ -11,7 +11,7 @@ use crate::files::Files;
 use crate::turn::Turn;
 use fr_base::{Channel, NodeId, NodeRow, Slot, ticks_of};
 use fr_cluster::Params;
-use fr_time::action_instant;
+use fr_time::{action_instant, action_point, early_position};
 
 // The instant at which a sender with this row sends, in ticks; 0 where there is no row.
 pub(crate) fn due_at(files: &Files, turn: &Turn, row: &Option<NodeRow>) -> i64
@@ -37,11 +37,40 @@ pub(crate) fn sent_at(
     requires { IsDue files.now turn.now sender.now due }
     ensures value { result ≡ sent_instant (setting_in files.now) turn.now sender.now receiver }
     ensures within { IsWithin (pos 2_000_000_000_000_000_000) result }
+    ensures soon { IsBetween due (due +ℤ pos 1_000_000_000) result }
 {
     let delay = files
         .drift
         .delay(sender.node, receiver, turn.channel, turn.cycle);
     due + delay
+}
+
+// The instant at which a sender with this row sends that started early, in ticks.
+fn early_due_at(files: &Files, turn: &Turn, sender: &NodeRow) -> i64
+    requires slot { turn.now.slot ≤ amount files.now.params name.gNumberOfStaticSlots }
+    requires row { IsEarlyRow files.now.params sender.now }
+    requires start { IsBetween (pos 0) (pos 200_000_000_000_000_000) sender.now.start }
+    ensures due { IsDue files.now turn.now sender.now result }
+    ensures early { IsBetween (pos 0) (pos 800_000_000_000_000_000) result }
+{
+    let position = early_position(
+        &files.params,
+        sender.rate,
+        action_point(&files.params, turn.slot),
+    );
+    sender.start + ticks_of(position, sender.length)
+}
+
+// The instant at which the frame of such a sender comes to a receiver, in ticks.
+pub(crate) fn caught_at(files: &Files, turn: &Turn, sender: &NodeRow, receiver: NodeId) -> i64
+    requires slot { turn.now.slot ≤ amount files.now.params name.gNumberOfStaticSlots }
+    requires row { IsEarlyRow files.now.params sender.now }
+    requires start { IsBetween (pos 0) (pos 200_000_000_000_000_000) sender.now.start }
+    ensures value { result ≡ sent_instant (setting_in files.now) turn.now sender.now receiver }
+    ensures within { IsWithin (pos 900_000_000_000_000_000) result }
+{
+    let due = early_due_at(files, turn, sender);
+    sent_at(files, turn, sender, due, receiver)
 }
 
 // The instant at which what is said so much later than expected comes to a receiver with this row, in

@@ -1,7 +1,9 @@
 //! The world of a run: every node's clock over every cycle.
 #![tactic(auto)]
 
+mod beginning;
 mod building;
+mod catching;
 mod cells;
 mod cycling;
 mod fault;
@@ -9,6 +11,7 @@ mod files;
 mod flipping;
 mod hearing;
 mod instants;
+mod joining;
 mod kept;
 mod laws;
 mod listing;
@@ -21,5 +24,5 @@ mod turn;
 mod world;
 
 pub use fault::BuildFault;
-pub use laws::files_decide_one_history;
+pub use laws::files_decide_one_run;
 pub use world::World;

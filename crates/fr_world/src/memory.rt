@@ -1,15 +1,18 @@
-ghost use Rattle.std.specs.Prelude.{◌≡◌, ℕ, ◌+◌, ◌*◌, ◌<◌, ◌≤◌, ◌++◌, ◌∷◌, List, [], length, slice_index_or, None, option_copied, vec_capacity, IfOk, IfSome, Some};
+ghost use Rattle.std.specs.Prelude.{◌≡◌, ℕ, ◌+◌, ◌*◌, ◌<◌, ◌≤◌, ◌++◌, ◌∷◌, List, [], length, slice_index_or, None, option_copied, pos, vec_capacity, IfOk, IfSome, Some};
 ghost use Rattle.fr_base.specs.Counts.{AreAtMost};
+ghost use Rattle.fr_base.specs.Within.{IsWithin};
 ghost use Rattle.fr_pool.specs.Pool.{IsFree, IsOut};
 ghost use Rattle.fr_reception.specs.Regular.{payload_bytes};
 ghost use Rattle.fr_time.specs.Senders.{sender_of};
 ghost use Rattle.fr_world.specs.Cells.{number_at, HaveCells, IsClaimed, IsMemory, IsThere};
 ghost use Rattle.fr_world.specs.declared.memory.Message.{Message};
 ghost use Rattle.fr_world.specs.Counting.{counted_sent};
+ghost use Rattle.fr_world.specs.Listening.{after_frame};
 ghost use Rattle.fr_world.specs.Memory.{cell_of, frame_of, frame_on, held_at, IsPoolOf, memory_with, place_of_slot, sent_at, with_frame};
 ghost use Rattle.fr_world.specs.Sending.{coming_offer, IsComing};
 ghost use Rattle.fr_world.specs.Turns.{frame_of_turn, CanHear, HasAnswered, IsOnAir, SendsInTurn};
 
+use crate::catching::catch_copy;
 use crate::cells::{take_spare, write_frame};
 use crate::fault::BuildFault;
 use crate::files::{Files, sane};
@@ -18,7 +21,7 @@ use crate::tally::count_sent;
 use crate::turn::{Air, Coming, Turn};
 use fr_base::{Channel, Counts, Slot};
 use fr_cluster::{ParamName, Params};
-use fr_node::{Heard, Node};
+use fr_node::{Heard, Listener, Node};
 use fr_pool::{Cell, Pool};
 use fr_time::Sending;
 use std::alloc::Global;
@@ -311,5 +314,24 @@ impl Memory {
             air.told,
             node,
         )
+    }
+
+    // A listener catches the frame of a turn, with a bit inverted if one is, at an instant.
+    pub(crate) fn catch(
+        &mut self,
+        files: &Files,
+        turn: &Turn,
+        sending: &Sending,
+        arrival: i64,
+        bit: Option<u32>,
+        listener: &mut Listener,
+    )
+        requires sends { sender_of files.now.params turn.now.slot turn.now.cycle ≡ Some sending.now }
+        requires arrival { IsWithin (pos 900_000_000_000_000_000) arrival }
+        ensures caught { listener.new
+            ≡ after_frame turn.now arrival bit (frame_of_turn files.now turn.now sending.now) listener.old }
+        ensures stays { self.new ≡ self.old }
+    {
+        catch_copy(files, turn, sending, arrival, bit, &mut self.pool, listener);
     }
 }

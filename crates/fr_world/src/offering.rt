@@ -1,4 +1,4 @@
-ghost use Rattle.std.specs.Prelude.{◌≡◌, ℕ, List, Some};
+ghost use Rattle.std.specs.Prelude.{◌≡◌, ℕ, ◌≤◌, List, All, Some, length, map};
 ghost use Rattle.fr_base.specs.Counts.{AreAtMost};
 ghost use Rattle.fr_node.specs.View.{node_row_of};
 ghost use Rattle.fr_time.specs.Instant.{IsSlotOf};
@@ -6,7 +6,7 @@ ghost use Rattle.fr_world.specs.Cycling.{IsReady};
 ghost use Rattle.fr_world.specs.Files.{setting_in};
 ghost use Rattle.fr_world.specs.Memory.{frame_on};
 ghost use Rattle.fr_world.specs.Sending.{coming_offer, hears, offer_heard, said_by, said_with, sent_with, ComesAs, IsComing, IsDue, IsEarlyRow};
-ghost use Rattle.fr_world.specs.Turns.{offer_on, AreReady, CanHear, HasHeard, HaveHeard, IsOnAir, IsSent};
+ghost use Rattle.fr_world.specs.Turns.{heard_on_air, offer_on, AreReady, CanHear, HasHeard, HaveHeard, IsOnAir, IsSent};
 
 use crate::files::Files;
 use crate::instants::{said_at, sent_at};
@@ -33,16 +33,16 @@ fn sent_to<'a>(
     turn: &Turn,
     sender: &NodeRow,
     due: i64,
-    receiver: &NodeRow,
+    receiver: NodeId,
 ) -> Option<Coming<'a>>
     requires due { IsDue files.now turn.now sender.now due }
     ensures { (frame : List ℕ) →
-        ComesAs turn.now frame (sent_with (setting_in files.now) turn.now sender.now frame receiver.now) result }
+        ComesAs turn.now frame (sent_with (setting_in files.now) turn.now sender.now frame receiver) result }
 {
-    let arrival = sent_at(files, turn, sender, due, receiver.node);
+    let arrival = sent_at(files, turn, sender, due, receiver);
     match files
         .script
-        .at(turn.cycle, sender.node, receiver.node, turn.channel)
+        .at(turn.cycle, sender.node, receiver, turn.channel)
     {
         Event::Regular => Some(Coming {
             arrival,
@@ -102,7 +102,7 @@ fn coming_to<'a>(files: &'a Files, air: &Air<'_>, receiver: &NodeRow) -> Option<
         return None;
     }
     match &sender.row {
-        Some(row) => sent_to(files, air.turn, row, air.due, receiver),
+        Some(row) => sent_to(files, air.turn, row, air.due, receiver.node),
         None => said_to(files, air.turn, sender.node, receiver),
     }
 }
@@ -143,7 +143,7 @@ fn offer_to(files: &Files, air: &Air<'_>, memory: &mut Memory, node: &mut Node, 
     }
 }
 
-// Offers a frame on the air to each node that hears its sender.
+// Offers a frame on the air to each node that hears its sender, and counts the answers.
 pub(crate) fn offer_to_all(
     files: &Files,
     air: &Air<'_>,
@@ -160,4 +160,22 @@ pub(crate) fn offer_to_all(
     for node in nodes.iter_mut() {
         offer_to(files, air, memory, node, counts);
     }
+}
+
+// Offers it to each follower that hears its sender. What followers answer is not counted.
+pub(crate) fn offer_to_followers(
+    files: &Files,
+    air: &Air<'_>,
+    memory: &mut Memory,
+    followers: &mut [Node],
+)
+    requires air { IsOnAir files.now air.now memory.old }
+    requires ready { All (IsReady files.now air.now.turn.now.cycle) followers.old }
+    requires few { length followers.old ≤ 64 }
+    ensures heard { followers.new ≡ map (heard_on_air files.now air.now memory.old) followers.old }
+    ensures ready { All (IsReady files.now air.now.turn.now.cycle) followers.new }
+    ensures stays { memory.new ≡ memory.old }
+{
+    let mut uncounted = Counts::none();
+    offer_to_all(files, air, memory, followers, &mut uncounted);
 }

@@ -1,4 +1,4 @@
-ghost use Rattle.std.specs.Prelude.{◌≡◌, ◌≤◌, ◌<◌, ◌-◌, ◌*◌, false, map, true, All, AllPairs, IfSome, Some, None};
+ghost use Rattle.std.specs.Prelude.{◌≡◌, ◌≤◌, ◌<◌, ◌-◌, ◌*◌, ◌↔◌, false, filter_map, length, map, true, vec_capacity, All, AllPairs, IfOk, IfSome, IsTrue, Some, None};
 ghost use Rattle.std.specs.Option.{option_copied};
 ghost use Rattle.fr_base.specs.Counts.{AreAtMost};
 ghost use Rattle.fr_cluster.specs.Values.{amount};
@@ -6,47 +6,63 @@ ghost use Rattle.fr_cluster.specs.declared.names.ParamName.TheVariants as name;
 ghost use Rattle.fr_reception.specs.Regular.{is_sync_frame};
 ghost use Rattle.fr_history.specs.History.{row_of as row_in};
 ghost use Rattle.fr_world.specs.Files.{setting_in};
-ghost use Rattle.fr_world.specs.Cycling.{AreListable, HaveEnded, IsReady, IsWaiting};
+ghost use Rattle.fr_world.specs.Cycling.{begun_in, AreListable, HaveEnded, IsReady, IsWaiting};
+ghost use Rattle.fr_world.specs.Listening.{after_listening, CanBeHeard, IsListener};
 ghost use Rattle.fr_world.specs.Listing.{listed_among, HasRoom, IsListed};
 ghost use Rattle.fr_world.specs.Memory.{frame_on, HasFrame};
 ghost use Rattle.fr_world.specs.Walk.{on_both};
 ghost use Rattle.fr_world.specs.Sending.{offer_heard, sending_row_by, sending_row_in, IsEarlyRow};
-ghost use Rattle.fr_world.specs.Stage.{answered, begun_stage, heard_after, heard_on, saying, sent_on, Hears, IsBefore, IsStage};
-ghost use Rattle.fr_world.specs.Turns.{frame_of_turn, offer_on, AreReady, IsOnAir, IsRowFound};
+ghost use Rattle.fr_world.specs.Stage.{answered, answered_by_nodes, begun_nodes, begun_stage, ended_stage, heard_after, heard_on, saying, sent_on, stage_before, AllReady, CanAnswer, Hears, IsBefore, IsStage};
+ghost use Rattle.fr_world.specs.Succeeding.{first_now, followers_without, listeners_now, nodes_with, succeeded, AllFit, CanPass, HasFew, HasHeardBoth, HasPassed};
+ghost use Rattle.fr_world.specs.Turns.{frame_of_turn, heard_on_air, offer_on, AreReady, IsOnAir, IsRowFound};
+ghost use Rattle.fr_node.specs.Cycle.{ended};
+ghost use Rattle.fr_node.specs.Fits.{NodeFits};
 ghost use Rattle.fr_node.specs.View.{node_row_of};
+ghost use Rattle.fr_script.specs.Promises.{NodesJoinProperly};
 ghost use Rattle.fr_script.specs.View.{is_arbitrary};
+ghost use Rattle.fr_standing.specs.Placing.{put_all};
 ghost use Rattle.fr_time.specs.Cycles.{is_odd};
 ghost use Rattle.fr_time.specs.Senders.{sender_of};
 
-use crate::cycling::{begin_all, end_all, list_rows};
+use crate::beginning::{begin_following, begin_listening};
+use crate::catching::listen_all;
+use crate::cycling::{begin_all, end_all, end_followers, list_rows};
 use crate::files::{Files, sane};
 use crate::instants::due_at;
+use crate::joining::pass_all;
 use crate::listing::list_devs;
 use crate::memory::Memory;
-use crate::offering::offer_to_all;
+use crate::offering::{offer_to_all, offer_to_followers};
 use crate::turn::{Air, Sender, Turn};
 use fr_base::{Channel, Counts, CycleRow, NodeId, NodeRow, RowList, Slot, State};
 use fr_cluster::ParamName;
-use fr_node::{Node, regular_read};
+use fr_node::{Listener, Node, regular_read};
 use fr_time::{Kind, Sending, is_odd, sender};
+use std::alloc::{AllocError, Global};
 use std::marker::Model;
 
-// A cycle on its way: the correct nodes in ascending order, the row of each before its corrections, what was counted so
-// far, and what was sent last, each frame in its cell.
+// A cycle on its way: the nodes that have a row, those that follow and those that listen, each in ascending order, the row
+// of each of the first before its corrections, what was counted so far, and what was sent last, each frame in its cell.
+// There is room for all nodes of a cluster in each list, so that none takes memory as nodes go from one to another.
 #[derive(Drop)]
 pub(crate) struct Stage {
     rows: RowList,
     nodes: Vec<Node>,
+    followers: Vec<Node>,
+    listeners: Vec<Listener>,
     counts: Counts,
     memory: Memory,
 }
 
 impl Model for Stage {
-    ghost use Rattle.fr_world.specs.Stage.{StageView};
+    ghost use Rattle.std.specs.Prelude.{vec_capacity};
+    ghost use Rattle.fr_world.specs.Stage.{HasSpace, StageView};
 
     ghost Value = { StageView };
 
-    ghost view = { λ s. record { rows = s.rows; nodes = s.nodes.items; counts = s.counts; memory = s.memory } };
+    ghost view = { λ s. record { rows = s.rows; nodes = s.nodes.items; followers = s.followers.items; listeners = s.listeners.items; counts = s.counts; memory = s.memory } };
+
+    ghost invariant = { λ s. HasSpace (vec_capacity s.nodes) (vec_capacity s.followers) (vec_capacity s.listeners) };
 }
 
 // The row of a node, if it is among these.
@@ -70,7 +86,12 @@ fn row_if_sends(files: &Files, turn: &Turn, row: &NodeRow, id: NodeId) -> Option
 }
 
 // The row of a node, if it is among these and sends on a channel.
-fn sending_row(files: &Files, turn: &Turn, rows: &[NodeRow], id: NodeId) -> Option<NodeRow>
+pub(crate) fn sending_row(
+    files: &Files,
+    turn: &Turn,
+    rows: &[NodeRow],
+    id: NodeId,
+) -> Option<NodeRow>
     requires { All (IsEarlyRow files.now.params) rows.now }
     ensures { IsRowFound files.now (sending_row_in (setting_in files.now) rows.now id turn.now.channel) result }
 {
@@ -88,17 +109,21 @@ fn is_sync(kind: Kind) -> bool
 }
 
 impl Stage {
-    // A stage before the first cycle.
-    pub(crate) fn new(nodes: Vec<Node>, memory: Memory) -> Stage
-        ensures nodes { result.nodes ≡ nodes.items }
-        ensures memory { result.memory ≡ memory }
+    // A stage before the first cycle: none follows, and none listens.
+    pub(crate) fn new(alloc: Global, nodes: Vec<Node>, memory: Memory) -> Result<Stage, AllocError>
+        requires { 64 ≤ vec_capacity nodes }
+        ensures { IfOk result (λ stage. stage ≡ stage_before nodes.items memory) }
     {
-        Stage {
+        let followers = Vec::with_capacity(alloc, 64)?;
+        let listeners = Vec::with_capacity(alloc, 64)?;
+        Ok(Stage {
             rows: RowList::new(),
             nodes,
+            followers,
+            listeners,
             counts: Counts::none(),
             memory,
-        }
+        })
     }
 
     // The nodes.
@@ -106,6 +131,13 @@ impl Stage {
         ensures { result.now ≡ self.now.nodes }
     {
         self.nodes.as_slice()
+    }
+
+    // Whether a node follows.
+    pub(crate) fn following(&self) -> bool
+        ensures { IsTrue result ↔ (0 < length self.now.followers) }
+    {
+        !self.followers.is_empty()
     }
 
     // What was sent.
@@ -122,11 +154,92 @@ impl Stage {
         self.rows.as_slice()
     }
 
+    // As an even cycle begins, followers join or go on, listeners begin to follow, and others begin to listen.
+    pub(crate) fn succeed(&mut self, files: &Files, cycle: u32)
+        requires in_run { cycle < 200_000 }
+        requires proper { NodesJoinProperly files.now.params files.now.script }
+        requires passed { is_odd cycle ≡ false → HasPassed files.now cycle self.old }
+        requires fit { AllFit files.now self.old }
+        requires listeners { All (IsListener files.now) self.old.listeners }
+        requires few { HasFew (succeeded files.now cycle self.old) }
+        ensures succeeded { self.new ≡ succeeded files.now cycle self.old }
+        ensures fit { AllFit files.now self.new }
+        ensures listeners { All (IsListener files.now) self.new.listeners }
+    {
+        if !is_odd(cycle) {
+            self.pass(files, cycle / 2);
+            self.begin_following(files, cycle);
+            self.begin_listening(files, cycle / 2);
+        }
+    }
+
+    // Followers join, go on or are let go.
+    fn pass(&mut self, files: &Files, double: u32)
+        requires proper { NodesJoinProperly files.now.params files.now.script }
+        requires nodes { CanPass files.now self.old.followers self.old.nodes }
+        requires few { length (nodes_with files.now double 0 self.old.followers self.old.nodes) ≤ 64 }
+        ensures passed { self.new ≡ record self.old {
+          nodes = nodes_with files.now double 0 self.old.followers self.old.nodes;
+          followers = followers_without files.now double 0 self.old.followers;
+        } }
+        ensures fit { AllFit files.now self.new }
+    {
+        pass_all(files, double, &mut self.followers, &mut self.nodes);
+    }
+
+    // Listeners begin to follow.
+    fn begin_following(&mut self, files: &Files, cycle: u32)
+        requires even { is_odd cycle ≡ false }
+        requires in_run { cycle < 200_000 }
+        requires heard { All (HasHeardBoth files.now cycle) self.old.listeners }
+        requires few { length (put_all (λ n. n.id) (filter_map (first_now files.now cycle) self.old.listeners)
+            self.old.followers) ≤ 64 }
+        requires fit { All (NodeFits files.now.params) self.old.followers }
+        ensures begun { self.new ≡ record self.old {
+          followers = put_all (λ n. n.id) (filter_map (first_now files.now cycle) self.old.listeners) self.old.followers;
+        } }
+        ensures fit { All (NodeFits files.now.params) self.new.followers }
+    {
+        begin_following(files, cycle, self.listeners.as_slice(), &mut self.followers);
+    }
+
+    // Others begin to listen.
+    fn begin_listening(&mut self, files: &Files, double: u32)
+        requires { NodesJoinProperly files.now.params files.now.script }
+        ensures begun { self.new ≡ record self.old { listeners = listeners_now files.now double } }
+        ensures listeners { All (IsListener files.now) self.new.listeners }
+    {
+        begin_listening(files, double, &mut self.listeners);
+    }
+
     // Begins a cycle.
     pub(crate) fn begin(&mut self, files: &Files, cycle: u32)
         requires waiting { All (IsWaiting files.now cycle) self.old.nodes }
         requires nodes { AreListable self.old.nodes }
+        requires followers { All (IsWaiting files.now cycle) self.old.followers }
         ensures begun { self.new ≡ begun_stage files.now cycle self.old }
+        ensures ready { All (IsReady files.now cycle) self.new.nodes }
+        ensures early { All (IsEarlyRow files.now.params) self.new.rows }
+        ensures followers { All (IsReady files.now cycle) self.new.followers }
+    {
+        self.begin_followers(files, cycle);
+        self.begin_nodes(files, cycle);
+    }
+
+    // Begins a cycle of the followers.
+    fn begin_followers(&mut self, files: &Files, cycle: u32)
+        requires { All (IsWaiting files.now cycle) self.old.followers }
+        ensures begun { self.new ≡ record self.old { followers = map (begun_in files.now cycle) self.old.followers } }
+        ensures ready { All (IsReady files.now cycle) self.new.followers }
+    {
+        begin_all(files, cycle, self.followers.as_mut_slice());
+    }
+
+    // Begins a cycle of the nodes that have a row.
+    fn begin_nodes(&mut self, files: &Files, cycle: u32)
+        requires waiting { All (IsWaiting files.now cycle) self.old.nodes }
+        requires nodes { AreListable self.old.nodes }
+        ensures begun { self.new ≡ begun_nodes files.now cycle self.old }
         ensures ready { All (IsReady files.now cycle) self.new.nodes }
         ensures early { All (IsEarlyRow files.now.params) self.new.rows }
     {
@@ -135,12 +248,37 @@ impl Stage {
         self.counts = Counts::none();
     }
 
-    // Offers a frame on the air to all nodes.
+    // Offers a frame on the air to all nodes, and to all followers.
     fn offer(&mut self, files: &Files, air: &Air<'_>)
+        requires air { IsOnAir files.now air.now self.old.memory }
+        requires stage { CanAnswer files.now air.now.turn.now.cycle self.old }
+        ensures heard { self.new ≡ answered (setting_in files.now) air.now.turn.now.cycle
+            (offer_on files.now air.now self.old.memory) self.old }
+        ensures ready { AllReady files.now air.now.turn.now.cycle self.new }
+    {
+        self.offer_to_nodes(files, air);
+        self.offer_to_followers(files, air);
+    }
+
+    // Offers it to all followers.
+    fn offer_to_followers(&mut self, files: &Files, air: &Air<'_>)
+        requires air { IsOnAir files.now air.now self.old.memory }
+        requires ready { All (IsReady files.now air.now.turn.now.cycle) self.old.followers }
+        requires few { length self.old.followers ≤ 64 }
+        ensures heard { self.new ≡ record self.old {
+          followers = map (heard_on_air files.now air.now self.old.memory) self.old.followers;
+        } }
+        ensures ready { All (IsReady files.now air.now.turn.now.cycle) self.new.followers }
+    {
+        offer_to_followers(files, air, &mut self.memory, self.followers.as_mut_slice());
+    }
+
+    // Offers it to all nodes that have a row.
+    fn offer_to_nodes(&mut self, files: &Files, air: &Air<'_>)
         requires air { IsOnAir files.now air.now self.old.memory }
         requires rows { self.old.rows ≡ map node_row_of self.old.nodes }
         requires ready { AreReady files.now air.now.turn.now.cycle 1_000_000 self.old.nodes self.old.counts }
-        ensures heard { self.new ≡ answered (setting_in files.now) air.now.turn.now.cycle
+        ensures heard { self.new ≡ answered_by_nodes (setting_in files.now) air.now.turn.now.cycle
             (offer_on files.now air.now self.old.memory) self.old }
         ensures ready { All (IsReady files.now air.now.turn.now.cycle) self.new.nodes }
     {
@@ -175,7 +313,7 @@ impl Stage {
         ensures heard { self.new ≡ answered (setting_in files.now) turn.now.cycle
             (offer_heard (setting_in files.now) turn.now sending.now.node (Some row) (frame_of_turn files.now turn.now sending.now))
             (sent_on turn.now.slot turn.now.channel (Some (frame_of_turn files.now turn.now sending.now)) self.old) }
-        ensures ready { All (IsReady files.now turn.now.cycle) self.new.nodes }
+        ensures ready { AllReady files.now turn.now.cycle self.new }
     {
         sane(&files.params);
         let cell = self.keep(files, turn, sending);
@@ -217,7 +355,7 @@ impl Stage {
         requires sends { sender_of files.now.params turn.now.slot turn.now.cycle ≡ Some sending.now }
         ensures heard { self.new ≡ answered (setting_in files.now) turn.now.cycle
             (offer_heard (setting_in files.now) turn.now sending.now.node None (frame_of_turn files.now turn.now sending.now)) self.old }
-        ensures ready { All (IsReady files.now turn.now.cycle) self.new.nodes }
+        ensures ready { AllReady files.now turn.now.cycle self.new }
     {
         sane(&files.params);
         self.begin_saying(files, turn, sending);
@@ -314,7 +452,8 @@ impl Stage {
         ensures heard { self.new ≡ heard_after (setting_in files.now) cycle
             (amount files.now.params name.gNumberOfStaticSlots) self.old }
         ensures few { AreAtMost 1_000_000 self.new.counts }
-        ensures ready { All (IsReady files.now cycle) self.new.nodes }
+        ensures ready { AllReady files.now cycle self.new }
+        ensures early { All (IsEarlyRow files.now.params) self.new.rows }
     {
         let slots = files.params.natural(ParamName::gNumberOfStaticSlots);
         for earlier in 0..slots {
@@ -323,8 +462,52 @@ impl Stage {
         }
     }
 
+    // The listeners catch the frames of their references, behind all slots of the cycle.
+    pub(crate) fn listen(&mut self, files: &Files, cycle: u32)
+        requires listeners { All (IsListener files.now) self.old.listeners }
+        requires rows { CanBeHeard files.now cycle self.old.rows }
+        ensures caught { self.new ≡ record self.old {
+          listeners = map (after_listening (setting_in files.now) cycle self.old.rows) self.old.listeners;
+        } }
+        ensures listeners { All (IsListener files.now) self.new.listeners }
+    {
+        listen_all(
+            files,
+            cycle,
+            self.rows.as_slice(),
+            &mut self.memory,
+            self.listeners.as_mut_slice(),
+        );
+    }
+
     // Ends the cycle, and writes its row.
     pub(crate) fn end(&mut self, files: &Files, keys: &[Slot], cycle: u32, row: &mut CycleRow)
+        requires keys { AllPairs (λ a b. a < b) keys.now }
+        requires ready { AllReady files.now cycle self.old }
+        requires nodes { AreListable self.old.nodes }
+        requires room { HasRoom keys.now row.old.devs }
+        ensures rest { self.new ≡ ended_stage files.now self.old }
+        ensures ended { HaveEnded files.now self.old.nodes self.new.nodes row.new.rows }
+        ensures fitting { All (NodeFits files.now.params) self.new.followers }
+        ensures listed { IsListed keys.now (listed_among files.now.params (is_odd cycle) keys.now self.old.nodes) row.new.devs }
+        ensures counts { row.new.counts ≡ self.old.counts }
+        ensures cycle { row.new.cycle ≡ cycle }
+    {
+        self.end_followers(files, cycle);
+        self.end_nodes(files, keys, cycle, row);
+    }
+
+    // Ends the cycle of the followers.
+    fn end_followers(&mut self, files: &Files, cycle: u32)
+        requires { All (IsReady files.now cycle) self.old.followers }
+        ensures ended { self.new ≡ record self.old { followers = map (ended files.now.params) self.old.followers } }
+        ensures fitting { All (NodeFits files.now.params) self.new.followers }
+    {
+        end_followers(files, cycle, self.followers.as_mut_slice());
+    }
+
+    // Ends the cycle of the nodes that have a row, and writes it.
+    fn end_nodes(&mut self, files: &Files, keys: &[Slot], cycle: u32, row: &mut CycleRow)
         requires keys { AllPairs (λ a b. a < b) keys.now }
         requires ready { All (IsReady files.now cycle) self.old.nodes }
         requires nodes { AreListable self.old.nodes }

@@ -6,14 +6,13 @@ ghost use Rattle.fr_drift.specs.Files.{DriftFits};
 ghost use Rattle.fr_drift.specs.Questions.{doubles_of};
 ghost use Rattle.fr_script.specs.Files.{ScriptFits};
 ghost use Rattle.fr_script.specs.View.{IsScript};
-ghost use Rattle.fr_history.specs.Next.{history_of};
 ghost use Rattle.fr_world.specs.Listing.{HasRoom};
 ghost use Rattle.fr_world.specs.Memory.{cell_of, frame_of, place_of_slot, IsPoolOf};
-ghost use Rattle.fr_world.specs.Standing.{nodes_after};
+ghost use Rattle.fr_world.specs.Standing.{nodes_kept};
 
 use crate::building::{fresh_nodes, key_slots_of};
 use crate::fault::BuildFault;
-use crate::files::{Files, sane};
+use crate::files::{Files, files_are_lawful, sane};
 use crate::kept::KeptDrift;
 use crate::memory::{Memory, place_of_slot};
 use crate::running::run_cycle;
@@ -23,19 +22,19 @@ use fr_cluster::Params;
 use fr_drift::Drift;
 use fr_node::Node;
 use fr_pool::{Cell, Pool};
-use fr_script::Script;
+use fr_script::{Script, joining_nodes_have_references};
 use std::alloc::{AllocError, Global};
 use std::marker::Model;
 
 /// A cluster in a run: every correct node's clock, cycle after cycle, as the parameters, the oscillators and
-/// the faults decide it. All memory is taken as it is built, and none grows with the run: contracts see the
-/// three files and how many cycles were run, which determine the one lawful history.
+/// the script decide it, with the nodes that join it. All memory is taken as it is built, and none grows with the
+/// run: contracts see the three files and how many cycles were run, which determine the one lawful run.
 #[derive(Drop)]
 pub struct World {
     files: Files,
     // The key slots in ascending order.
     keys: Vec<Slot>,
-    // The correct nodes, and what they sent last, each frame in its cell.
+    // The nodes with rows, those that follow and those that listen, and what was sent last, each frame in its cell.
     stage: Stage,
     // The row of the last cycle that was run.
     row: CycleRow,
@@ -77,8 +76,9 @@ impl World {
         let keys = key_slots_of(alloc, &files.params)?;
         let nodes = fresh_nodes(alloc, &files)?;
         let memory = Memory::new(alloc, &files.params)?;
-        let stage = Stage::new(nodes, memory);
+        let stage = Stage::new(alloc, nodes, memory)?;
         let row = blank_row(alloc, &keys)?;
+        joining_nodes_have_references();
         Ok(World {
             files,
             keys,
@@ -88,11 +88,11 @@ impl World {
         })
     }
 
-    ghost use Rattle.fr_world.specs.World.{memory_of, node_seen, setting_after, world_before, IsLastRowOf, IsRowOf};
+    ghost use Rattle.fr_world.specs.World.{followed_last, memory_of, node_seen, setting_after, world_before, world_cycles, IsLastRowOf, IsRowOf};
     ghost use Rattle.fr_world.specs.Ends.{Cycles};
 
-    /// Runs the next cycle of every correct node, and answers its row; None exactly after the last cycle of
-    /// the run, and then nothing changes. It takes no memory.
+    /// Runs the next cycle of every node that takes part in it, and answers its row, without what followers do; None
+    /// exactly after the last cycle of the run, and then nothing changes. It takes no memory.
     pub fn cycle(&mut self) -> Option<&CycleRow>
         // What the world is once the answer is let go.
         ensures* ends { sem 𝓛 (Cycles self.entry result) }
@@ -126,22 +126,33 @@ impl World {
         }
     }
 
-    /// A node, as it stands before the next cycle; None exactly where it is arbitrary or unknown.
+    /// A node, as it stands before the next cycle; None exactly where it is arbitrary or unknown, or joins the run and
+    /// had no row in the last cycle.
     pub fn node(&self, id: NodeId) -> Option<&Node>
         ensures value { option_copied result ≡ node_seen self.now id }
         // What is asked of a node between cycles can be asked of it.
         ensures between { IfSome result (λ node. IsNone node.now.length) }
     {
+        files_are_lawful(&self.files);
         node_among(self.stage.nodes(), id)
     }
 
-    /// The nodes that have a clock, in ascending order, as they stand before the next cycle.
+    /// The nodes that had a row in the last cycle, in ascending order, as they stand before the next one; before the
+    /// first, those that join nobody.
     pub fn nodes(&self) -> &[Node]
-        ensures value { result.now ≡ nodes_after (setting_after self.now) (history_of (setting_after self.now) self.now.cycles) }
+        ensures value { result.now ≡ nodes_kept (setting_after self.now) (world_cycles self.now) }
         // What is asked of a node between cycles can be asked of each.
         ensures between { All (λ node. IsNone node.length) result.now }
     {
         self.stage.nodes()
+    }
+
+    /// Whether a node followed in the last cycle: it is about to join the run, and has no row yet. False before the
+    /// first.
+    pub fn following(&self) -> bool
+        ensures { result ≡ followed_last (world_cycles self.now) }
+    {
+        self.stage.following()
     }
 
     /// The pool of the cells that its frames stand in: two for each static slot, and two more. The cells that are out
@@ -184,9 +195,10 @@ impl World {
         self.files.drift.drift()
     }
 
-    /// What is done to its frames.
+    /// What is done to its frames, and which nodes join.
     pub fn script(&self) -> &Script
         ensures value { result.now ≡ self.now.script }
+        ensures fits { ScriptFits self.now.params self.now.script }
         ensures proper { IsScript self.now.script }
     {
         // Each question to a script says that it is one.

@@ -13,7 +13,7 @@ returns-in-Some c frame =
     let s = a.air.now.sender.now in
     let x : Setting = setting_in a.files.now in
     let heard : hears x a.receiver.now s.node t.channel ≡ true = cc in
-    let same : offer_heard x t s.node s.row frame a.receiver.now ≡ sent_with x t c.in-Some.row frame a.receiver.now =
+    let same : offer_heard x t s.node s.row frame a.receiver.now ≡ sent_with x t c.in-Some.row frame a.receiver.now.node =
     ap (λ (b : Bool). if b then offer_from x t s.node s.row frame a.receiver.now else None) heard
     ∙ ap (λ (row : Option NodeRow). offer_from x t s.node row frame a.receiver.now) c.in-Some.is in
     let P : Option Offer → Type 0 = λ offer. ComesAs t frame offer c.sent_to.result in

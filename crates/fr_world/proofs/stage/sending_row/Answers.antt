@@ -3,14 +3,14 @@ use Rattle.std.specs.Option.{option_copied}
 use Rattle.fr_base.specs.declared.node_row.NodeRow.{NodeRow}
 use Rattle.fr_history.specs.History.{row_of as row_in}
 use Rattle.fr_world.specs.Files.{setting_in}
-use Rattle.fr_world.specs.Sending.{sending_row_by}
-use Rattle.fr_world.proofs.Stages.{found-early}
+use Rattle.fr_world.specs.Sending.{sending_row_by, IsEarlyRow}
+use Rattle.fr_world.proofs.Stages.{found-among}
 use Rattle.fr_world.proofs.stage.sending_row.Goals as goal
 
 pub row_if_sends-requires : goal.row_if_sends-requires
 row_if_sends-requires c =
     let a = c.args in
-    found-early a.files.now.params a.rows.now a.id c.in-Some.row.now c.requires (sym c.row_among.ensures ∙ ap option_copied c.in-Some.is)
+    (found-among (IsEarlyRow a.files.now.params) a.rows.now a.id c.in-Some.row.now c.requires (sym c.row_among.ensures ∙ ap option_copied c.in-Some.is)).0
 
 pub returns-in-Some : goal.returns-in-Some
 returns-in-Some c =

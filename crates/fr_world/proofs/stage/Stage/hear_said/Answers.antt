@@ -5,9 +5,10 @@ use Rattle.fr_reception.specs.Offers.{Offer}
 use Rattle.fr_cluster.specs.Setting.{Setting}
 use Rattle.fr_history.specs.Offers.{frame_in}
 use Rattle.fr_world.proofs.Channels.{arbitrary-frame, said-offer, unsaid-offer}
-use Rattle.fr_world.proofs.Stages.{heard-same, hears, silent-same}
+use Rattle.fr_world.proofs.Stages.{heard-same, hears, silent-same, still-ready}
 use Rattle.fr_world.specs.Files.{setting_in}
 use Rattle.fr_world.specs.Sending.{offer_heard}
+use Rattle.fr_world.specs.Stage.{most_before}
 use Rattle.fr_world.specs.Turns.{frame_of_turn}
 use Rattle.fr_world.proofs.stage.Stage.hear_said.Goals as goal
 
@@ -38,4 +39,4 @@ returns-else-is_sync c =
     ∙ arbitrary-frame a.files.now t a.self.now.nodes a.sending.now c.requires.sends stage.ready c.requires.arbitrary in
     hears a.files.now t a.self.now a.self.now c.requires.before
     (silent-same x t.cycle t.slot t.channel a.self.now (λ r. unsaid-offer x t a.self.now.rows r a.sending.now c.requires.sends c.requires.arbitrary plain) none)
-    stage.ready
+    (still-ready a.files.now t.cycle (most_before t) a.self.now stage)

@@ -6,9 +6,10 @@ use Rattle.fr_reception.specs.Offers.{Offer}
 use Rattle.fr_cluster.specs.Setting.{Setting}
 use Rattle.fr_history.specs.Offers.{frame_in}
 use Rattle.fr_world.proofs.Channels.{sender-frame, sent-offer, unsent-offer}
-use Rattle.fr_world.proofs.Stages.{heard-same, hears, silent-same}
+use Rattle.fr_world.proofs.Stages.{heard-same, hears, silent-same, still-ready}
 use Rattle.fr_world.specs.Files.{setting_in}
 use Rattle.fr_world.specs.Sending.{offer_heard, sending_row_in, IsEarlyRow}
+use Rattle.fr_world.specs.Stage.{most_before}
 use Rattle.fr_world.specs.Turns.{frame_of_turn}
 use Rattle.fr_world.proofs.stage.Stage.hear_sent.Goals as goal
 
@@ -44,4 +45,4 @@ returns-in_default c =
     let silent : frame_in x t.cycle rows t.slot t.channel ≡ None = sender-frame x t rows a.sending.now c.requires.sends ∙ ap (option_map (λ (r : NodeRow). frame)) none in
     hears a.files.now t a.self.now a.self.now c.requires.before
     (silent-same x t.cycle t.slot t.channel a.self.now (λ r. unsent-offer x t rows r a.sending.now c.requires.sends c.requires.correct none) silent)
-    c.requires.before.is_stage.ready
+    (still-ready a.files.now t.cycle (most_before t) a.self.now c.requires.before.is_stage)

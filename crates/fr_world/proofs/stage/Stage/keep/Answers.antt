@@ -17,7 +17,7 @@ count-requires-clause-long c = omega (arith, ap length c.keep-cell.ensures.frame
 pub count-requires-clause-few : goal.count-requires-clause-few
 count-requires-clause-few c =
     let ready = before-ready c.args.files.now c.args.turn.now c.args.self.now c.sane.ensures c.requires.before in
-    at_most-more 1000000 2000000 c.self.inside.counts (omega arith) (subst (λ (s : StageView). AreAtMost 1000000 s.counts) (sym c.self.view_is) ready.few)
+    at_most-more 1000000 2000000 c.self.inside.counts (omega arith) (subst (λ (s : StageView). AreAtMost 1000000 s.counts) (sym c.self.view_is) ready.ready.few)
 
 pub returns-clause-sent : goal.returns-clause-sent
 returns-clause-sent c =
@@ -26,5 +26,5 @@ returns-clause-sent c =
     let t = a.turn.now in
     let frame : List ℕ = frame_of_turn a.files.now t a.sending.now in
     let counted : c.count.new.counts ≡ counted_sent t.channel frame m.counts = c.count.ensures ∙ ap (λ (f : List ℕ). counted_sent t.channel f m.counts) c.keep-cell.ensures.frame in
-    ap₂ (made_stage m.rows m.nodes.items) counted c.keep-cell.ensures.kept
+    ap₂ (made_stage m.rows m.nodes.items m.followers.items m.listeners.items) counted c.keep-cell.ensures.kept
     ∙ ap (sent_on t.slot t.channel (Some frame)) c.self.view_is

@@ -1,16 +1,17 @@
-use Rattle.std.proofs.Common.{◌∙◌, List, None, ap, sym, subst}
-use Rattle.fr_world.proofs.Stages.{before-ready, quiet-again}
+use Rattle.std.proofs.Common.{◌∙◌, List, None, Some, ap, sym, subst}
+use Rattle.fr_world.proofs.Stages.{before-ready, quiet-again, saying-ready}
 use Rattle.fr_world.specs.Files.{setting_in}
 use Rattle.fr_world.specs.Memory.{frame_on}
 use Rattle.fr_world.specs.Sending.{offer_heard}
-use Rattle.fr_world.specs.Stage.{StageView, answered, saying}
-use Rattle.fr_world.specs.Turns.{frame_of_turn, AreReady}
+use Rattle.fr_world.specs.Stage.{StageView, answered, saying, CanAnswer}
+use Rattle.fr_world.specs.Turns.{frame_of_turn}
 use Rattle.fr_world.proofs.stage.Stage.say.Goals as goal
 
-pub offer-requires-clause-ready : goal.offer-requires-clause-ready
-offer-requires-clause-ready c =
+pub offer-requires-clause-stage : goal.offer-requires-clause-stage
+offer-requires-clause-stage c =
     let a = c.args in
-    subst (λ (s : StageView). AreReady a.files.now a.turn.now.cycle 1000000 s.nodes s.counts) (sym c.begin_saying.ensures) (before-ready a.files.now a.turn.now a.self.now c.sane.ensures c.requires.before)
+    subst (CanAnswer a.files.now a.turn.now.cycle) (sym c.begin_saying.ensures)
+    (saying-ready a.files.now a.turn.now.cycle (Some (frame_of_turn a.files.now a.turn.now a.sending.now)) a.self.now (before-ready a.files.now a.turn.now a.self.now c.sane.ensures c.requires.before))
 
 pub returns-clause-heard : goal.returns-clause-heard
 returns-clause-heard c =

@@ -6,8 +6,8 @@ use Rattle.fr_world.specs.Stage.{answered}
 use Rattle.fr_world.specs.Turns.{frame_of_turn}
 use Rattle.fr_world.proofs.stage.Stage.send.Goals as goal
 
-pub offer-requires-clause-ready : goal.offer-requires-clause-ready
-offer-requires-clause-ready c =
+pub offer-requires-clause-stage : goal.offer-requires-clause-stage
+offer-requires-clause-stage c =
     let a = c.args in
     sent-ready a.files.now a.turn.now a.self.now c.keep-cell.new.self (Some (frame_of_turn a.files.now a.turn.now a.sending.now)) c.sane.ensures c.requires.before c.keep-cell.ensures.sent
 

@@ -1,7 +1,7 @@
 use Rattle.std.proofs.Common.{◌≡◌, ◌∙◌, List, ap, subst}
 use Rattle.std.specs.Prelude.{find, ◌==◌}
 use Rattle.std.specs.Option.{option_copied}
-use Rattle.fr_history.specs.Next.{history_of}
+use Rattle.fr_joined.specs.Next.{cycles_of}
 use Rattle.fr_node.specs.View.{NodeView}
 use Rattle.fr_world.proofs.NodeIn.{copied_between, node-between, node-found}
 use Rattle.fr_world.specs.Files.{setting_in}
@@ -17,7 +17,7 @@ returns c =
     subst P c.self.view_is
     (c.node_among.ensures
     ∙ ap (λ (nodes : List NodeView). find (λ node. node.id == c.args.id) nodes) (c.nodes.ensures ∙ c.self.invariant.stands.nodes_are)
-    ∙ node-found x (history_of x c.self.inside.next) c.args.id f.params.nodes) in record {
+    ∙ node-found x (cycles_of x c.self.inside.next) c.args.id (c.files_are_lawful.ensures c.self.inside.next)) in record {
       value = value;
       between = copied_between c.node_among.result (node_seen c.args.self.now c.args.id) value (node-between c.args.self.now c.args.id);
     }

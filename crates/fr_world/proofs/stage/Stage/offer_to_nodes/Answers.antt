@@ -8,10 +8,10 @@ use Rattle.fr_node.specs.View.{NodeView, node_row_of}
 use Rattle.fr_world.specs.Counting.{counted_offers}
 use Rattle.fr_world.specs.Hearing.{after_offer}
 use Rattle.fr_world.specs.Files.{setting_in}
-use Rattle.fr_world.specs.Stage.{StageView, answered}
+use Rattle.fr_world.specs.Stage.{StageView, answered_by_nodes}
 use Rattle.fr_world.specs.Turns.{offer_on, AreReady, IsOnAir}
 use Rattle.fr_world.proofs.Stages.{made_stage, offered}
-use Rattle.fr_world.proofs.stage.Stage.offer.Goals as goal
+use Rattle.fr_world.proofs.stage.Stage.offer_to_nodes.Goals as goal
 
 pub offer_to_all-requires-clause-air : goal.offer_to_all-requires-clause-air
 offer_to_all-requires-clause-air c = subst (λ (s : StageView). IsOnAir c.args.files.now c.args.air.now s.memory) (sym c.self.view_is) c.requires.air
@@ -31,7 +31,7 @@ returns-clause-heard c =
     let cycle = a.air.now.turn.now.cycle in
     let offer : NodeRow → Option Offer = offer_on a.files.now a.air.now m.memory in
     let rows : m.rows ≡ map node_row_of m.nodes.items = subst (λ (s : StageView). s.rows ≡ map node_row_of s.nodes) (sym c.self.view_is) c.requires.rows in
-    let P : StageView → Type 0 = λ s. made_stage m.rows c.offer_to_all.new.nodes c.offer_to_all.new.counts c.offer_to_all.new.memory ≡ answered x cycle (offer_on a.files.now a.air.now s.memory) s in
+    let P : StageView → Type 0 = λ s. made_stage m.rows c.offer_to_all.new.nodes m.followers.items m.listeners.items c.offer_to_all.new.counts c.offer_to_all.new.memory ≡ answered_by_nodes x cycle (offer_on a.files.now a.air.now s.memory) s in
     let heard = c.offer_to_all.ensures.heard in
     let nodes : c.offer_to_all.new.nodes ≡ map (λ node. after_offer x cycle node (offer (node_row_of node))) m.nodes.items =
     heard.nodes_are ∙ ap (map (λ (node : NodeView). after_offer x cycle node (offer (node_row_of node)))) c.as_mut_slice.ensures.value in
@@ -40,6 +40,6 @@ returns-clause-heard c =
     let f : NodeView → NodeView = λ node. after_offer x cycle node (offer (node_row_of node)) in
     let whole : (with_items m.nodes c.offer_to_all.new.nodes).items ≡ c.offer_to_all.new.nodes =
     with_items_is m.nodes c.offer_to_all.new.nodes (ap length nodes ∙ length-map m.nodes.items f ∙ sym m.nodes.ok.0) in
-    ap (λ (ns : List NodeView). made_stage m.rows ns c.offer_to_all.new.counts c.offer_to_all.new.memory) whole
+    ap (λ (ns : List NodeView). made_stage m.rows ns m.followers.items m.listeners.items c.offer_to_all.new.counts c.offer_to_all.new.memory) whole
     ∙ subst P c.self.view_is
-    (offered x cycle offer m.rows m.nodes.items c.offer_to_all.new.nodes m.counts c.offer_to_all.new.counts m.memory c.offer_to_all.new.memory rows nodes counts c.offer_to_all.ensures.stays)
+    (offered x cycle offer m.rows m.nodes.items c.offer_to_all.new.nodes m.followers.items m.listeners.items m.counts c.offer_to_all.new.counts m.memory c.offer_to_all.new.memory rows nodes counts c.offer_to_all.ensures.stays)
