@@ -7,19 +7,19 @@ use Rattle.fr_drift.specs.View.{DriftView}
 use Rattle.fr_report.specs.Text.{report_of}
 use Rattle.fr_script.specs.View.{ScriptView}
 use Rattle.fr_generator.specs.Seeds.{OneCluster}
-use Rattle.fr_run_files.proofs.Decided.{OneHistory, moved, one_whole}
+use Rattle.fr_run_files.proofs.Decided.{OneRun, moved, one_whole}
 use Rattle.fr_answer_run.specs.MakeAnswer.{OneMadeReport}
 use Rattle.fr_answer_run.specs.RunText.{IsRunText}
 
-pub same_report : OneHistory → (p : Values) (d : DriftView) (s : ScriptView) (text again : List ℕ) → IsRunText p d s text → IsRunText p d s again → text ≡ again
+pub same_report : OneRun → (p : Values) (d : DriftView) (s : ScriptView) (text again : List ℕ) → IsRunText p d s text → IsRunText p d s again → text ≡ again
 same_report one p d s text again found more =
     found.shown
-    ∙ ap (report_of (setting_of p d s) (first_gap p d s)) (one_whole one p d s found.history more.history found.lawful found.whole more.lawful more.whole)
+    ∙ ap (report_of (setting_of p d s) (first_gap p d s)) (one_whole one p d s found.cycles more.cycles found.lawful found.whole more.lawful more.whole)
     ∙ sym more.shown
 
-pub one_made_report : OneCluster → OneHistory → OneMadeReport
-one_made_report cluster_one history_one seed doubles text again found more =
+pub one_made_report : OneCluster → OneRun → OneMadeReport
+one_made_report cluster_one run_one seed doubles text again found more =
     let same = cluster_one seed doubles (record { params = found.params; drift = found.drift; script = found.script }) (record { params = more.params; drift = more.drift; script = more.script }) found.made more.made in
     let shown : IsRunText found.params found.drift found.script again =
     moved IsRunText found.params more.params found.drift more.drift found.script more.script again (λ i. (same i).params) (λ i. (same i).drift) (λ i. (same i).script) more.shown in
-    same_report history_one found.params found.drift found.script text again found.shown shown
+    same_report run_one found.params found.drift found.script text again found.shown shown

@@ -10,15 +10,16 @@ use Rattle.std.specs.Prelude.{length}
 use Rattle.fr_history.specs.History.{History}
 use Rattle.fr_history.specs.Skew.{IsGreatestSkew, greatest_skew_of}
 use Rattle.fr_skew.specs.declared.peak.Peak.{Peak}
-use Rattle.fr_history.specs.Sync.{IsFirstInSync, IsInSyncAt, first_sync_of}
+use Rattle.fr_joined.specs.Cycles.{Cycles}
+use Rattle.fr_joined.specs.Sync.{IsFirstUnfollowedSync, IsUnfollowedSyncAt, first_unfollowed_sync_of}
 use Rattle.fr_answer_run.specs.RunText.{IsGapFound, IsSkewFound, IsSyncFound}
 
 pub gap_found : (p : Values) (d : DriftView) (s : ScriptView) (found : Option Gap) → first_gap p d s ≡ found → FindsFirst p d s → (first_gap p d s ≡ None → HasNoGap p d s) → IsGapFound p d s found
 gap_found p d s None is one none = none is
 gap_found p d s (Some gap) is one none = one gap is
 
-pub sync_found : (p : Values) (h : History) (found : Option ℕ) → first_sync_of p h ≡ found → ((double : ℕ) → first_sync_of p h ≡ Some double → IsFirstInSync p h double)
-    → (first_sync_of p h ≡ None → (double : ℕ) → IsInSyncAt p h double → ⊥) → IsSyncFound p h found
+pub sync_found : (p : Values) (h : Cycles) (found : Option ℕ) → first_unfollowed_sync_of p h ≡ found → ((double : ℕ) → first_unfollowed_sync_of p h ≡ Some double → IsFirstUnfollowedSync p h double)
+    → (first_unfollowed_sync_of p h ≡ None → (double : ℕ) → IsUnfollowedSyncAt p h double → ⊥) → IsSyncFound p h found
 sync_found p h None is one none = none is
 sync_found p h (Some double) is one none = one double is
 

@@ -12,7 +12,7 @@ use Rattle.fr_ending.specs.declared.status.Status.{Status}
 use Rattle.fr_ending.specs.declared.status.Status.TheVariants as status
 use Rattle.fr_answer_run.specs.RunText.{IsRunText}
 
--- the cluster of a seed, and the report of the run that it decides: of its one lawful history
+-- the cluster of a seed, and the report of the one lawful run that it decides
 pub record IsMadeReport (seed doubles : ℕ) (text : List ℕ) : Type 0 where
   pub params : Values
   pub drift : DriftView

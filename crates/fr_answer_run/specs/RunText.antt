@@ -8,46 +8,53 @@ use Rattle.fr_drift.specs.Questions.{doubles_of}
 use Rattle.fr_drift.specs.View.{DriftView}
 use Rattle.fr_script.specs.View.{ScriptView}
 use Rattle.fr_history.specs.History.{History}
-use Rattle.fr_history.specs.Lawful.{IsLawful}
-use Rattle.fr_history.specs.Next.{whole_history}
 use Rattle.fr_history.specs.Skew.{IsGreatestSkew, greatest_skew_of}
 use Rattle.fr_skew.specs.declared.peak.Peak.{Peak}
-use Rattle.fr_history.specs.Sync.{IsFirstInSync, IsInSyncAt, first_sync_of}
+use Rattle.fr_joined.specs.Cycles.{Cycles, told_of}
+use Rattle.fr_joined.specs.Lawful.{IsLawful}
+use Rattle.fr_joined.specs.Next.{cycles_of}
+use Rattle.fr_joined.specs.Sync.{IsFirstUnfollowedSync, IsUnfollowedSyncAt, first_unfollowed_sync_of}
 use Rattle.fr_report.specs.Text.{report_of}
 use Rattle.fr_coverage.specs.Decided.{setting_of}
 use Rattle.fr_promise.specs.Files.{IsPrecise}
 
--- the report, by the first gap of the run and by the history of all its cycles
+-- the report, by the first gap of the run and by all its cycles
 abbrev pub run_text : Values → DriftView → ScriptView → List ℕ
-run_text params drift script = report_of (setting_of params drift script) (first_gap params drift script) (whole_history (setting_of params drift script))
+run_text params drift script =
+    report_of (setting_of params drift script) (first_gap params drift script)
+    (cycles_of (setting_of params drift script) (2 * doubles_of drift))
 
 -- what is said where a gap is named, and where none is
 abbrev pub IsGapFound : Values → DriftView → ScriptView → Option Gap → Type 0
 IsGapFound params drift script None = HasNoGap params drift script
 IsGapFound params drift script (Some gap) = IsFirstGap params drift script gap
 
--- what is said where a double cycle in sync is named, and where none is
-abbrev pub IsSyncFound : Values → History → Option ℕ → Type 0
-IsSyncFound params h None = (double : ℕ) → IsInSyncAt params h double → ⊥
-IsSyncFound params h (Some double) = IsFirstInSync params h double
+-- what is said where a double cycle in sync is named, and where none is: one in which no node follows
+abbrev pub IsSyncFound : Values → Cycles → Option ℕ → Type 0
+IsSyncFound params h None = (double : ℕ) → IsUnfollowedSyncAt params h double → ⊥
+IsSyncFound params h (Some double) = IsFirstUnfollowedSync params h double
 
 -- what is said where a skew and its place are named, and where none is
 abbrev pub IsSkewFound : Values → History → Option Peak → Type 0
 IsSkewFound params h None = length h ≡ 0
 IsSkewFound params h (Some place) = IsGreatestSkew params h place.skew place.cycle place.macrotick
 
--- what the figures of the report mean: the gap, the first double cycle in sync, the greatest skew with its first place
-pub record AreFigures (params : Values) (drift : DriftView) (script : ScriptView) (h : History) : Type 0 where
+-- what the figures of the report mean: the gap, the first double cycle in sync in which no node follows, the greatest skew
+-- with its first place
+pub record AreFigures (params : Values) (drift : DriftView) (script : ScriptView) (h : Cycles) : Type 0 where
   pub gap : IsGapFound params drift script (first_gap params drift script)
-  pub synced : IsSyncFound params h (first_sync_of params h)
-  pub greatest : IsSkewFound params h (greatest_skew_of params h)
+  pub synced : IsSyncFound params h (first_unfollowed_sync_of params h)
+  pub greatest : IsSkewFound params (told_of h) (greatest_skew_of params (told_of h))
 
--- a text is the report of a lawful history of that run over all its cycles: there is one such history and no other; where
--- the run is covered, it keeps its precision from its first double cycle in sync on
+-- a text is the report of the lawful cycles of that run: there is one such list of all its cycles and no other. Where the run
+-- is covered, it keeps its precision from its first double cycle in sync on in which no node follows: no macrotick of the
+-- nodes with rows lies further apart than the precision, each of them is active, behind the last cycle too, no row tells a cut,
+-- of a follower either, and whoever listens from there on follows, and has a row in every cycle of the run from the third
+-- double cycle behind that on
 pub record IsRunText (params : Values) (drift : DriftView) (script : ScriptView) (text : List ℕ) : Type 0 where
-  pub history : History
-  pub lawful : IsLawful (setting_of params drift script) history
-  pub whole : length history ≡ 2 * doubles_of drift
-  pub shown : text ≡ report_of (setting_of params drift script) (first_gap params drift script) history
-  pub figures : AreFigures params drift script history
-  pub precise : IsPrecise params drift script history
+  pub cycles : Cycles
+  pub lawful : IsLawful (setting_of params drift script) cycles
+  pub whole : length cycles ≡ 2 * doubles_of drift
+  pub shown : text ≡ report_of (setting_of params drift script) (first_gap params drift script) cycles
+  pub figures : AreFigures params drift script cycles
+  pub precise : IsPrecise params drift script cycles

@@ -57,7 +57,7 @@ fn made_world(alloc: Global, seed: u32, doubles: u32) -> Result<World, Failure>
     }
 }
 
-// The text of a world's run is the report of its one lawful history.
+// The text of a world's run is the report of its one lawful run.
 fn report_is_lawful(world: &World)
     ensures { IsRunText world.now.params world.now.drift world.now.script
         (run_text world.now.params world.now.drift world.now.script) }

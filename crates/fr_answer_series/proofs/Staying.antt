@@ -1,31 +1,30 @@
 -- A covered run that comes into sync stays in sync, and within its precision.
-use Rattle.std.proofs.Common.{◌≡◌, ℕ, zero, suc, ◌+◌, ◌*◌, ◌<◌, ◌≤◌, ℤ, pos, Bool, true, false, [], ◌∷◌, length, Option, Some, None, refl, subst, arith}
+use Rattle.std.proofs.Common.{◌≡◌, ℕ, zero, suc, ◌+◌, ◌*◌, ◌/◌, ◌==◌, ◌<◌, ◌≤◌, ℤ, pos, Bool, true, false, [], ◌∷◌, length, Option, Some, None, refl, ap, sym, ◌∙◌, subst, arith}
 use Rattle.std.specs.Prelude.{◌≤ℤ◌, nat_lt}
+use Rattle.std.proofs.lemmas.Bool.{eq-eqb, ne_eqb}
+use Rattle.fr_base.specs.declared.node_row.NodeRow.{NodeRow}
 use Rattle.fr_bound.specs.Bounds.{precision_of}
+use Rattle.fr_bound.specs.Sync.{IsInSync}
 use Rattle.fr_bound.proofs.Sync.{to_in_sync}
 use Rattle.fr_cluster.specs.Sane.{IsSane}
-use Rattle.fr_cluster.specs.Setting.{Setting}
 use Rattle.fr_cluster.specs.Values.{Values, amount}
 use Rattle.fr_cluster.specs.declared.names.ParamName.TheVariants as name
-use Rattle.fr_clocks.specs.Clocks.{IsSyncedDouble}
-use Rattle.fr_clocks.specs.Histories.{AllHearFrom, IsClocked, KeepsPrecision}
-use Rattle.fr_clocks.proofs.Cuts.{lawful_clocks_run}
-use Rattle.fr_clocks.proofs.Histories.{Part, part_synced}
 use Rattle.fr_coverage.specs.Coverage.{first_gap}
 use Rattle.fr_coverage.specs.Decided.{setting_of}
 use Rattle.fr_drift.specs.Files.{DriftFits}
 use Rattle.fr_drift.specs.Questions.{doubles_of}
 use Rattle.fr_drift.specs.View.{DriftView}
-use Rattle.fr_history.specs.History.{History, Record}
-use Rattle.fr_history.specs.Lawful.{IsLawful}
-use Rattle.fr_history.specs.Skew.{skew_at}
-use Rattle.fr_history.specs.Sync.{IsFirstInSync, IsInSyncAt, first_sync_of}
-use Rattle.fr_history.proofs.Greatest.{record_after, record_here}
-use Rattle.fr_history.proofs.Synced.{first_sync_is, never_in_sync, record_at-lt}
-use Rattle.fr_promise.specs.Files.{CoveredFilesAreCovered, FilesKeepPrecision}
-use Rattle.fr_runs.specs.Covered.{IsCovered}
-use Rattle.fr_runs.proofs.Keeping.{lawful_part, synced_runs_hear}
+use Rattle.fr_script.specs.Files.{ScriptFits}
 use Rattle.fr_script.specs.View.{ScriptView}
+use Rattle.fr_history.specs.History.{History, Record}
+use Rattle.fr_history.specs.Skew.{skew_at}
+use Rattle.fr_history.proofs.Greatest.{record_after, record_here}
+use Rattle.fr_joined.specs.Cycles.{Cycle, Cycles, cycle_at, told_of}
+use Rattle.fr_joined.specs.Lawful.{IsLawful}
+use Rattle.fr_joined.specs.Sync.{IsFirstUnfollowedSync, IsInSyncAt, IsUnfollowedSyncAt, first_unfollowed_sync_of}
+use Rattle.fr_joined.proofs.Alone.{told_length}
+use Rattle.fr_joined.proofs.UnfollowedSync.{first_unfollowed_sync_is, never_unfollowed_sync, unfollowed_sync_within}
+use Rattle.fr_promise.specs.Files.{FilesKeepPrecision, StaysPrecise}
 use Rattle.fr_time.specs.Position.{grid_for}
 use Rattle.fr_skew.specs.Spreads.{spread_at}
 use Rattle.fr_series.specs.Figures.{above_from, figures_of, lost_of}
@@ -72,43 +71,58 @@ all_below p from (r ∷ h) below = below_by p from r h (nat_lt (length h) from) 
 
 -- ---- in sync to the end
 
--- the last two records
-last_synced : (x : Setting) (h : History) (first : ℕ) → IsCovered x → IsLawful x h → length h ≡ 2 * x.doubles → IsInSyncAt x.params h first → lost_of x.params h ≡ None
+-- the cycle of a number is the latest one, or one before that
+cycle_here : (c : Cycle) (h : Cycles) (n : ℕ) → length h ≡ n → cycle_at (c ∷ h) n ≡ Some c
+unfolding cycle_at
+cycle_here c h n is = let e : (length h == n) ≡ true = eq-eqb (length h) n is in rw e refl
+
+cycle_before : (c : Cycle) (h : Cycles) (n : ℕ) → n < length h → cycle_at (c ∷ h) n ≡ cycle_at h n
+unfolding cycle_at
+cycle_before c h n below = let e : (length h == n) ≡ false = ne_eqb (length h) n (λ (same : length h ≡ n). omega (arith, below, same)) in rw e refl
+
+some_is : (c d : Cycle) → Some c ≡ Some d → c ≡ d
+some_is c d is = cc
+
+-- where the last double cycle is in sync, none is lost
+last_synced : (p : Values) (h : Cycles) (last : ℕ) → length h ≡ 2 * suc last → IsInSyncAt p h last → lost_of p (told_of h) ≡ None
 unfolding lost_of
-last_synced x [] first covered lawful whole sync = refl
-last_synced x (r ∷ []) first covered lawful whole sync = absurd (omega (arith, whole))
-last_synced x (odd ∷ even ∷ t) first covered lawful whole sync =
-    let h : History = odd ∷ even ∷ t in
-    let both = lawful_clocks_run x h lawful in
-    let clocked : IsClocked x h = record { covered = covered.clocks; run = both.0; rates = covered.rates; whole = whole } in
-    let hear : AllHearFrom x h first =
-    (λ later earlier even odd k parted from synced.
-    synced_runs_hear x earlier even odd k covered (lawful_part x later (odd ∷ even ∷ earlier) (subst (IsLawful x) parted lawful)) synced) in
-    let less = record_at-lt h (2 * first + 1) sync.odd sync.has_odd in
-    let last = last_of x.doubles (length t) whole in
-    let part : Part h last.0 = record { later = []; earlier = t; even = even; odd = odd; parted = refl; counted = last.1.0 } in
-    let synced : IsSyncedDouble x t even odd last.0 = part_synced x h first last.0 part clocked hear sync (let c = last.1.0 in omega (arith, less, c)) (let e = last.1.1 in omega (arith, e)) in
-    rw (to_in_sync x.params even.rows odd.rows synced.in_sync) refl
-  where
-    last_of : (doubles n : ℕ) → suc (suc n) ≡ 2 * doubles → (k : ℕ) × ((n ≡ 2 * k) × (doubles ≡ suc k))
-    last_of zero n is = absurd (omega (arith, is))
-    last_of (suc k) n is = (k, (omega (arith, is), refl))
+last_synced p [] last whole sync = refl
+last_synced p (c ∷ []) last whole sync = absurd (omega (arith, whole))
+last_synced p (odd ∷ even ∷ t) last whole sync =
+    let long : length t ≡ 2 * last = omega (arith, whole) in
+    let one : sync.odd ≡ odd = some_is sync.odd odd (sym sync.has_odd ∙ cycle_here odd (even ∷ t) (2 * last + 1) (omega (arith, long))) in
+    let other : sync.even ≡ even = some_is sync.even even (sym sync.has_even ∙ cycle_before odd (even ∷ t) (2 * last) (omega (arith, long)) ∙ cycle_here even t (2 * last) long) in
+    let early : IsInSync p even.told.rows sync.odd.told.rows = subst (λ (c : Cycle). IsInSync p c.told.rows sync.odd.told.rows) other sync.in_sync in
+    let both : IsInSync p even.told.rows odd.told.rows = subst (λ (c : Cycle). IsInSync p even.told.rows c.told.rows) one early in
+    rw (to_in_sync p even.told.rows odd.told.rows both) refl
 
 -- ---- both
 
-stays_by : CoveredFilesAreCovered → FilesKeepPrecision → (p : Values) (d : DriftView) (s : ScriptView) (h : History) (double : ℕ)
-    → IsSane p → DriftFits p d → first_gap p d s ≡ None → IsLawful (setting_of p d s) h → length h ≡ 2 * doubles_of d → IsInSyncAt p h double
-    → (found : Option ℕ) → first_sync_of p h ≡ found → TellsInSync p h
+-- the number of the last double cycle
+last_of : (doubles : ℕ) → 0 < doubles → (k : ℕ) × (doubles ≡ suc k)
+last_of zero some = absurd (omega (arith, some))
+last_of (suc k) some = (k, refl)
+
+stays_by : FilesKeepPrecision → (p : Values) (d : DriftView) (s : ScriptView) (h : Cycles) (double : ℕ)
+    → IsSane p → DriftFits p d → ScriptFits p s → first_gap p d s ≡ None → IsLawful (setting_of p d s) h → length h ≡ 2 * doubles_of d → IsUnfollowedSyncAt p h double
+    → (found : Option ℕ) → first_unfollowed_sync_of p h ≡ found → TellsInSync p h
 unfolding figures_of IsBelow
-stays_by covers keeps p d s h double sane fits none lawful whole sync None is = absurd (never_in_sync p h is double sync)
-stays_by covers keeps p d s h double sane fits none lawful whole sync (Some first) is =
-    let at : IsFirstInSync p h first = first_sync_is p h first is in
-    let kept : KeepsPrecision (setting_of p d s) h first = keeps p d s h first sane fits none lawful whole at.in_sync in
-    let lost : lost_of p h ≡ None = last_synced (setting_of p d s) h first (covers p d s sane fits none) lawful whole at.in_sync in
-    let above : above_from p (2 * first) h ≡ None = all_below p (2 * first) h kept.clocks.skew in
+stays_by keeps p d s h double sane fits script none lawful whole sync None is = absurd (never_unfollowed_sync p h is double sync)
+stays_by keeps p d s h double sane fits script none lawful whole sync (Some first) is =
+    let at : IsFirstUnfollowedSync p h first = first_unfollowed_sync_is p h first is in
+    let kept : StaysPrecise (setting_of p d s) h first = keeps p d s h first sane fits script none lawful whole at.unfollowed in
+    let less : first < length h / 2 = unfollowed_sync_within p h first at.unfollowed in
+    let last = last_of (doubles_of d) (omega (arith, less, whole)) in
+    let whole_by : length h ≡ 2 * suc last.0 = whole ∙ ap (λ (n : ℕ). 2 * n) last.1 in
+    let synced : IsInSyncAt p h last.0 = (let e = last.1 in kept.together.synced last.0 (omega (arith, less, whole, e)) (omega (arith, e))) in
+    let lost : lost_of p (told_of h) ≡ None = last_synced p h last.0 whole_by synced in
+    let long : length (told_of h) ≡ length h = told_length h in
+    let above : above_from p (2 * first) (told_of h) ≡ None =
+    all_below p (2 * first) (told_of h) (λ cycle macrotick low high in_cycle. kept.together.precise.skew cycle macrotick low (omega (arith, high, long)) in_cycle) in
     record { synced = rw lost refl; within = rw (is, above) refl }
 
-pub stays_in_sync : CoveredFilesAreCovered → FilesKeepPrecision → (p : Values) (d : DriftView) (s : ScriptView) (h : History) (double : ℕ)
-    → IsSane p → DriftFits p d → first_gap p d s ≡ None → IsLawful (setting_of p d s) h → length h ≡ 2 * doubles_of d → IsInSyncAt p h double → TellsInSync p h
-stays_in_sync covers keeps p d s h double sane fits none lawful whole sync =
-    stays_by covers keeps p d s h double sane fits none lawful whole sync (first_sync_of p h) refl
+pub stays_in_sync : FilesKeepPrecision → (p : Values) (d : DriftView) (s : ScriptView) (h : Cycles) (double : ℕ)
+    → IsSane p → DriftFits p d → ScriptFits p s → first_gap p d s ≡ None → IsLawful (setting_of p d s) h → length h ≡ 2 * doubles_of d → IsUnfollowedSyncAt p h double
+    → TellsInSync p h
+stays_in_sync keeps p d s h double sane fits script none lawful whole sync =
+    stays_by keeps p d s h double sane fits script none lawful whole sync (first_unfollowed_sync_of p h) refl

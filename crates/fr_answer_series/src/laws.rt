@@ -6,28 +6,29 @@ ghost use Rattle.fr_coverage.specs.Decided.{setting_of};
 ghost use Rattle.fr_drift.specs.Files.{DriftFits};
 ghost use Rattle.fr_drift.specs.Questions.{doubles_of};
 ghost use Rattle.fr_drift.specs.View.{DriftView};
+ghost use Rattle.fr_script.specs.Files.{ScriptFits};
 ghost use Rattle.fr_script.specs.View.{IsScript, ScriptView};
-ghost use Rattle.fr_history.specs.History.{History};
-ghost use Rattle.fr_history.specs.Lawful.{IsLawful};
-ghost use Rattle.fr_history.specs.Sync.{IsInSyncAt};
+ghost use Rattle.fr_joined.specs.Cycles.{Cycles};
+ghost use Rattle.fr_joined.specs.Lawful.{IsLawful};
+ghost use Rattle.fr_joined.specs.Sync.{IsUnfollowedSyncAt};
 ghost use Rattle.fr_ending.specs.Decided.{IsDecided};
 ghost use Rattle.fr_run_files.specs.Statuses.{AreTold};
 ghost use Rattle.fr_series.specs.Text.{series_text};
 ghost use Rattle.fr_answer_series.specs.SeriesAnswer.{IsRunSeries, IsSeriesText, TellsInSync};
 
-use fr_history::one_lawful_history;
-use fr_promise::{covered_files_are_covered, files_keep_precision};
-use fr_world::files_decide_one_history;
+use fr_joined::one_lawful_run;
+use fr_promise::files_keep_precision;
+use fr_world::files_decide_one_run;
 
-/// A law: the text of the series of some parameters, a drift that fits them, and a script, is that of their one lawful
-/// history over all cycles; where the run is covered and comes into sync, its end says that it stayed so. The other
-/// premises are the invariants of `Params` and of `Script`.
+/// A law: the text of the series of some parameters, and of a drift and a script that fit them, is that of their one
+/// lawful run over all cycles; where it is covered and comes into sync while no node follows, its end says that it
+/// stayed so. The other premises are the invariants of `Params` and of `Script`.
 pub fn a_series_is_lawful()
     ensures { (p : Values) (d : DriftView) (s : ScriptView) →
-        IsSane p → DriftFits p d → IsScript s → IsSeriesText p d s (series_text p d s) }
+        IsSane p → DriftFits p d → ScriptFits p s → IsScript s → IsSeriesText p d s (series_text p d s) }
 {
-    one_lawful_history();
-    files_decide_one_history();
+    one_lawful_run();
+    files_decide_one_run();
     a_covered_run_stays_in_sync();
 }
 
@@ -39,16 +40,17 @@ pub fn files_decide_the_series()
     fr_params::one_answer();
     fr_drift::one_answer();
     fr_script::one_answer();
-    files_decide_one_history();
+    files_decide_one_run();
 }
 
-/// A law: where the run has no gap and some double cycle of it is in sync, the last one is too, and since the first one
-/// the skew stayed within the precision: the last two lines of its series say yes.
+/// A law: where the run has no gap and some double cycle of it is in sync in which no node follows, the last one is in
+/// sync, and since the first such one the skew stayed within the precision, whoever joins: the last two lines of its
+/// series say yes.
 pub fn a_covered_run_stays_in_sync()
-    ensures { (p : Values) (d : DriftView) (s : ScriptView) (h : History) (double : ℕ) →
-        IsSane p → DriftFits p d → first_gap p d s ≡ None →
-        IsLawful (setting_of p d s) h → length h ≡ 2 * doubles_of d → IsInSyncAt p h double → TellsInSync p h }
+    ensures { (p : Values) (d : DriftView) (s : ScriptView) (h : Cycles) (double : ℕ) →
+        IsSane p → DriftFits p d → ScriptFits p s → first_gap p d s ≡ None →
+        IsLawful (setting_of p d s) h → length h ≡ 2 * doubles_of d → IsUnfollowedSyncAt p h double →
+        TellsInSync p h }
 {
-    covered_files_are_covered();
     files_keep_precision();
 }

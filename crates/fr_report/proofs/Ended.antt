@@ -5,10 +5,10 @@ use Rattle.std.specs.Option.{option_map}
 use Rattle.fr_base.specs.declared.channel.Channel.TheVariants.{A, B}
 use Rattle.fr_coverage.specs.declared.gap.Gap.{Gap}
 use Rattle.fr_cluster.specs.Setting.{Setting}
-use Rattle.fr_history.specs.History.{History}
+use Rattle.fr_joined.specs.Cycles.{Cycles}
 use Rattle.fr_phrases.specs.Phrases.{precision_text, sync_text}
 use Rattle.fr_report.specs.Text.{node_text, covered_text, cut_text, heard_text, nodes_text, greatest_line, report_of, sent_text, told_text, told_lines}
-use Rattle.fr_report.specs.Told.{told_of}
+use Rattle.fr_report.specs.Told.{run_told}
 use Rattle.fr_report.specs.declared.told.Told.{Told}
 use Rattle.fr_text.specs.Lines.{IsEnded, shown}
 use Rattle.fr_text.specs.Pieces.{line}
@@ -37,6 +37,6 @@ run_ended told =
     ++ line (heard_text told.sums))
     (cut_text told.cut)
 
-pub report_ended : (x : Setting) (gap : Option Gap) (h : History) → IsEnded (report_of x gap h)
+pub report_ended : (x : Setting) (gap : Option Gap) (h : Cycles) → IsEnded (report_of x gap h)
 unfolding report_of told_text
-report_ended x gap h = ended_before node_text (told_lines (told_of x gap h)) (told_of x gap h).clocks (run_ended (told_of x gap h))
+report_ended x gap h = ended_before node_text (told_lines (run_told x gap h)) (run_told x gap h).clocks (run_ended (run_told x gap h))

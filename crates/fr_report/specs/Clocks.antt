@@ -4,9 +4,10 @@ use Rattle.fr_base.specs.declared.node_row.NodeRow.{NodeRow}
 use Rattle.fr_cluster.specs.declared.nodes.NodeSpec.{NodeSpec}
 use Rattle.fr_time.specs.Cycles.{is_odd}
 use Rattle.fr_history.specs.History.{History, row_of}
-use Rattle.fr_history.specs.Lawful.{rate_after, start_after}
 use Rattle.fr_cluster.specs.Setting.{Setting}
 use Rattle.fr_history.specs.Terms.{status_in}
+use Rattle.fr_joined.specs.Cycles.{Cycles, told_of}
+use Rattle.fr_joined.specs.Laws.{rate_behind, start_behind}
 use Rattle.fr_node.specs.View.{NodeView, state_of_node}
 use Rattle.fr_report.specs.declared.clocks.Clock.{Clock}
 
@@ -20,14 +21,14 @@ unfoldable pub last_offset_of : History → ℕ → ℤ
 last_offset_of [] node = pos 0
 last_offset_of (r ∷ h) node = if is_odd (length h) then offset_by (row_of r.rows node) else last_offset_of h node
 
--- a node after a history: the state, the start and the rate term that hold for the cycle that follows it
-abbrev pub clock_after : Setting → History → NodeSpec → Clock
-clock_after x h node = record {
+-- a node behind some cycles: the state, the start and the rate term that hold for the next one
+abbrev pub clock_behind : Setting → Cycles → NodeSpec → Clock
+clock_behind x h node = record {
   node = node.id;
-  state = (status_in x.params h node.id).state;
-  start = start_after x h node.id;
-  rate = rate_after x h node.id;
-  offset = last_offset_of h node.id;
+  state = (status_in x.params (told_of h) node.id).state;
+  start = start_behind x h node.id;
+  rate = rate_behind x h node.id;
+  offset = last_offset_of (told_of h) node.id;
 }
 
 -- a node between cycles, by the rows of the last odd cycle

@@ -10,16 +10,15 @@ use Rattle.fr_base.specs.declared.channel.Channel.TheVariants.{A, B}
 use Rattle.fr_base.specs.declared.cycle_row.Counts.{Counts}
 use Rattle.fr_coverage.specs.declared.gap.Gap.{Gap}
 use Rattle.fr_coverage.specs.Coverage.{first_gap}
-use Rattle.fr_history.specs.History.{History}
 use Rattle.fr_cluster.specs.Setting.{Setting}
+use Rattle.fr_joined.specs.Cycles.{Cycles}
 use Rattle.fr_phrases.specs.Phrases.{gap_text, precision_text, skew_text, sync_text}
 use Rattle.fr_skew.specs.declared.peak.Peak.{Peak}
 use Rattle.fr_text.specs.Lines.{shown}
 use Rattle.fr_text.specs.Numerals.{hexadecimal}
 use Rattle.fr_text.specs.Pieces.{line}
-use Rattle.fr_world.specs.World.{WorldView, setting_after}
-use Rattle.fr_report.specs.Held.{run_history}
-use Rattle.fr_report.specs.Told.{told_of}
+use Rattle.fr_world.specs.World.{WorldView, setting_after, world_cycles}
+use Rattle.fr_report.specs.Told.{run_told}
 use Rattle.fr_report.specs.declared.clocks.Clock.{Clock}
 use Rattle.fr_report.specs.declared.told.Told.{Told}
 
@@ -58,7 +57,7 @@ heard_text sums =
 abbrev pub cut_text : ℕ → List ℕ
 cut_text cut = codes "cut " ++ decimal cut
 
--- a correct node: the state, the start in ticks and the rate term in microticks that hold for its next cycle, and the
+-- a node with a row: the state, the start in ticks and the rate term in microticks that hold for its next cycle, and the
 -- offset term of the last odd cycle in microticks
 abbrev pub node_text : Clock → List ℕ
 node_text clock =
@@ -66,7 +65,7 @@ node_text clock =
     ++ codes " next " ++ signed_decimal clock.start ++ codes " rate " ++ signed_decimal clock.rate
     ++ codes " offset " ++ signed_decimal clock.offset
 
--- the lines of a run; a history of no cycle has none of a greatest skew
+-- the lines of a run; one of no cycle has none of a greatest skew
 unfoldable pub told_lines : Told → List ℕ
 told_lines told =
     line (nodes_text told)
@@ -79,7 +78,7 @@ told_lines told =
     ++ line (heard_text told.sums)
     ++ line (cut_text told.cut)
 
--- a line for each correct node, in ascending order of node
+-- a line for each node that had a row in the last cycle, in ascending order of node
 abbrev pub clocks_text : List Clock → List ℕ
 clocks_text clocks = flat_map (λ clock. line (node_text clock)) clocks
 
@@ -87,10 +86,10 @@ clocks_text clocks = flat_map (λ clock. line (node_text clock)) clocks
 unfoldable pub told_text : Told → List ℕ
 told_text told = told_lines told ++ clocks_text told.clocks
 
--- the report of a history
-unfoldable pub report_of : Setting → Option Gap → History → List ℕ
-report_of x gap h = told_text (told_of x gap h)
+-- the report of some cycles
+unfoldable pub report_of : Setting → Option Gap → Cycles → List ℕ
+report_of x gap h = told_text (run_told x gap h)
 
 -- the report of a world's files after as many cycles as it has run, with their first gap
 abbrev pub world_text : WorldView → List ℕ
-world_text w = report_of (setting_after w) (first_gap w.params w.drift w.script) (run_history w)
+world_text w = report_of (setting_after w) (first_gap w.params w.drift w.script) (world_cycles w)

@@ -7,7 +7,7 @@ use fr_base::{NodeId, NodeRow, State};
 use fr_node::Node;
 use std::marker::Model;
 
-/// What holds of a correct node after the last cycle: its state, its start in ticks and its rate term in
+/// What holds of a node with a row after the last cycle: its state, its start in ticks and its rate term in
 /// microticks for the cycle that comes next, and the offset term of the last odd cycle in microticks.
 #[derive(Clone, Copy, Debug, PartialEq, Eq)]
 pub struct Clock {

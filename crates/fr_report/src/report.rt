@@ -1,15 +1,14 @@
-ghost use Rattle.std.specs.Prelude.{◌≡◌, ◌+◌, ◌*◌, ◌<◌, ◌≤ℤ◌, ℕ, pos, [], ◌∷◌, nat_abs, Some, IfSome, IfNone};
+ghost use Rattle.std.specs.Prelude.{◌≡◌, ◌+◌, ◌*◌, ◌<◌, [], ◌∷◌};
 ghost use Rattle.std.specs.Result.{result_err};
 ghost use Rattle.fr_base.specs.Device.{Puts};
 ghost use Rattle.fr_cluster.specs.Values.{Values};
 ghost use Rattle.fr_coverage.specs.Coverage.{first_gap};
 ghost use Rattle.fr_drift.specs.Questions.{doubles_of};
-ghost use Rattle.fr_history.specs.History.{History};
-ghost use Rattle.fr_history.specs.Recorded.{recorded};
-ghost use Rattle.fr_world.specs.World.{setting_after};
-ghost use Rattle.fr_report.specs.Held.{run_history, with_cycle, IsGreatestTold, IsReportOf, IsRowToAdd, IsSyncTold, ReportHolds};
+ghost use Rattle.fr_joined.specs.Cycles.{Cycle, Cycles};
+ghost use Rattle.fr_world.specs.World.{setting_after, world_cycles};
+ghost use Rattle.fr_report.specs.Held.{with_cycle, IsGreatestTold, IsReportOf, IsRowToAdd, IsSyncTold, ReportHolds, TellsOf};
 ghost use Rattle.fr_report.specs.Text.{report_of, world_text};
-ghost use Rattle.fr_report.specs.Told.{told_of};
+ghost use Rattle.fr_report.specs.Told.{run_told};
 
 use crate::clocks::clocks_of;
 use crate::counting::{arbitrary_count, sync_count};
@@ -23,7 +22,7 @@ use fr_skew::Gauge;
 use fr_world::World;
 use std::marker::Model;
 
-/// What is told of a run, gathered cycle by cycle: it keeps no history.
+/// What is told of a run, gathered cycle by cycle: it keeps none of them.
 #[derive(Debug, Drop)]
 pub struct Report {
     gauge: Gauge,
@@ -55,28 +54,28 @@ impl Report {
         }
     }
 
-    /// Adds the row of the next cycle. Of a history that the report held, it then holds that history and
-    /// the cycle.
-    pub fn add(&mut self, row: &CycleRow)
+    /// Adds the row of the next cycle, and whether a node follows in it. Of cycles that the report held, it then
+    /// holds these and one more of which that tells.
+    pub fn add(&mut self, row: &CycleRow, following: bool)
         requires { IsRowToAdd self.old row.now }
-        ensures { (p : Values) (h : History) →
-            ReportHolds p self.old h → ReportHolds p self.new (recorded row.now ∷ h) }
+        ensures { (p : Values) (h : Cycles) (c : Cycle) → TellsOf row.now following c →
+            ReportHolds p self.old h → ReportHolds p self.new (c ∷ h) }
     {
-        self.gather(row);
+        self.gather(row, following);
     }
 
-    fn gather(&mut self, row: &CycleRow)
+    fn gather(&mut self, row: &CycleRow, following: bool)
         requires { IsRowToAdd self.old row.now }
-        ensures { self.new ≡ with_cycle self.old row.now }
+        ensures { self.new ≡ with_cycle self.old row.now following }
     {
-        self.gauge.add(&row.rows);
+        self.gauge.add(&row.rows, following);
         keep_odd(row.cycle, &row.rows, &mut self.odd);
         self.sums = self.sums.plus(&row.counts);
         self.cut += cuts(row.rows.as_slice());
     }
 
-    /// Runs the next cycle of a world, and adds its row: of a report that held the history of the world, it
-    /// then holds that of the world.
+    /// Runs the next cycle of a world, and adds its row with whether a node followed: a report that held the
+    /// cycles of the world holds them then too.
     pub fn add_next(&mut self, world: &mut World)
         requires more { world.old.cycles < 2 * doubles_of world.old.drift }
         requires held { IsReportOf world.old self.old }
@@ -85,17 +84,19 @@ impl Report {
     {
         // It bounds the cycles of a world.
         let _doubles = world.drift().doubles();
-        match world.cycle() {
-            Some(row) => self.add(row),
+        run_next(world);
+        let following = world.following();
+        match world.row() {
+            Some(row) => self.add(row, following),
             None => unreachable!(),
         }
     }
 
-    /// What is told of the cycles that a world has run, whose history it holds, with the first gap of the run
-    /// where it is not covered.
+    /// What is told of the cycles that a world has run, which the report holds, with the first gap of the run where
+    /// it is not covered.
     pub fn told(&self, world: &World, gap: Result<(), Gap>) -> Told
         requires { IsReportOf world.now self.now }
-        ensures { result ≡ told_of (setting_after world.now) (result_err gap) (run_history world.now) }
+        ensures { result ≡ run_told (setting_after world.now) (result_err gap) (world_cycles world.now) }
     {
         let params = world.params();
         Told {
@@ -113,8 +114,8 @@ impl Report {
         }
     }
 
-    /// Writes the report of the cycles that a world has run, whose history it holds, with the first gap of the
-    /// run where it is not covered: with that which the world's files have it is their report. Each line is one
+    /// Writes the report of the cycles that a world has run, which this one holds, with the first gap of the run
+    /// where it is not covered: with that which the world's files have it is their report. Each line is one
     /// put. A fault comes only where the sink counted it, and then a front of the text was put.
     pub fn write<O: Sink>(
         &self,
@@ -124,7 +125,7 @@ impl Report {
     ) -> Result<(), PutFault>
         requires { IsReportOf world.now self.now }
         ensures any { Puts result (O.state out.old) (O.state out.new)
-            (report_of (setting_after world.now) (result_err gap) (run_history world.now)) }
+            (report_of (setting_after world.now) (result_err gap) (world_cycles world.now)) }
         ensures first { result_err gap ≡ first_gap world.now.params world.now.drift world.now.script →
             Puts result (O.state out.old) (O.state out.new) (world_text world.now) }
     {
@@ -142,12 +143,23 @@ impl Report {
         }
     }
 
-    /// The first double cycle in which the clocks were in sync; None exactly where there was none among the
-    /// complete ones.
+    /// The first double cycle in which the clocks were in sync and no node followed; None exactly where there was
+    /// none among the complete ones.
     pub fn synced(&self) -> Option<u32>
         ensures value { result ≡ self.now.gauge.synced }
         ensures told { IsSyncTold self.now result }
     {
         self.gauge.synced()
+    }
+}
+
+// Runs the next cycle of a world that has one.
+fn run_next(world: &mut World)
+    requires { world.old.cycles < 2 * doubles_of world.old.drift }
+    ensures { world.new ≡ record world.old { cycles = world.old.cycles + 1 } }
+{
+    match world.cycle() {
+        Some(_row) => {}
+        None => unreachable!(),
     }
 }

@@ -28,7 +28,7 @@ pub struct Told {
     pub precision: u64,
     /// The first gap, where the run is not covered.
     pub gap: Option<Gap>,
-    /// The first double cycle in sync, if there was one.
+    /// The first double cycle in sync in which no node follows, if there was one.
     pub synced: Option<u32>,
     /// The greatest skew and its first place, where a cycle was run.
     pub greatest: Option<Peak>,
@@ -36,15 +36,15 @@ pub struct Told {
     pub sums: Counts,
     /// How many correction terms were cut.
     pub cut: u64,
-    /// The correct nodes.
+    /// The nodes that had a row in the last cycle; before the first, those that do not join.
     pub clocks: ClockList,
 }
 
 impl Told {
     /// Writes the text: the numbers of the cluster, its precision, whether the run is covered, from when on the
     /// clocks are in sync, their greatest skew, the frames that were sent on channel A and on channel B, what
-    /// receivers made of them, how many terms were cut, and each correct node. Each line is one put. A fault
-    /// comes only where the sink counted it, and then a front of the text was put.
+    /// receivers made of them, how many terms were cut, and each node that had a row in the last cycle. Each line
+    /// is one put. A fault comes only where the sink counted it, and then a front of the text was put.
     pub fn write<O: Sink>(&self, out: &mut O) -> Result<(), PutFault>
         ensures { Puts result (O.state out.old) (O.state out.new) (told_text self.now) }
     {

@@ -24,7 +24,9 @@ use Rattle.fr_coverage.specs.First.{first_below, first_in}
 use Rattle.fr_report.specs.Clocks.{last_offset_of}
 use Rattle.fr_report.specs.Sums.{cuts_of, totals_of}
 use Rattle.fr_report.specs.Text.{report_of, told_text, told_lines}
-use Rattle.fr_report.specs.Told.{told_of}
+use Rattle.fr_report.specs.Told.{run_told}
+use Rattle.fr_joined.specs.Cycles.{cycle_at}
+use Rattle.fr_joined.specs.Sync.{first_unfollowed_sync_of}
 
 -- the bytes of frames, and what is made of them
 unfoldable pub on_frames : ⊤
@@ -48,7 +50,7 @@ on_sums = tt
 
 -- the report of a history
 unfoldable pub on_reports : ⊤
-unfolding on_histories on_sums outcomes_in values_of midpoint_by_ranks last_offset_of digits hexadecimal report_of told_text told_lines told_of
+unfolding on_histories on_sums outcomes_in values_of midpoint_by_ranks last_offset_of digits hexadecimal report_of told_text told_lines run_told first_unfollowed_sync_of cycle_at
 on_reports = tt
 
 -- the first gap of a run

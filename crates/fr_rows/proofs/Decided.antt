@@ -20,12 +20,13 @@ use Rattle.fr_drift.specs.declared.rows.Start.{Start}
 use Rattle.fr_records.specs.Fields.{or_else}
 use Rattle.fr_script.specs.Deeds.{deed_in, passage_cmp, passage_of}
 use Rattle.fr_script.specs.Events.{event_by, event_of}
-use Rattle.fr_script.specs.View.{ScriptView, deed_of, is_arbitrary}
+use Rattle.fr_script.specs.View.{ScriptView, deed_of, is_arbitrary, join_of}
 use Rattle.fr_script.specs.declared.deeds.Deed.{Deed}
 use Rattle.fr_script.specs.declared.deeds.Deed.TheVariants.{Say}
 use Rattle.fr_script.specs.declared.deeds.Passage.{Passage}
 use Rattle.fr_cluster.specs.Setting.{Setting}
-use Rattle.fr_rows.specs.Files.{plain_script, says_to, steady_drift}
+use Rattle.fr_cluster.specs.declared.join.Join.{Join}
+use Rattle.fr_rows.specs.Files.{no_joins, plain_script, says_to, steady_drift}
 use Rattle.fr_coverage.specs.Decided.{setting_of}
 
 -- each question is answered as the run has it
@@ -36,7 +37,7 @@ pub record Answer (d : DriftView) (s : ScriptView) (x : Setting) : Type 0 where
   pub lengths : (node cycle : ℕ) → length_of d node cycle ≡ x.microtick node cycle
   pub delays : (sender receiver : ℕ) (channel : Channel) (cycle : ℕ) → delay_of d sender receiver channel cycle ≡ x.delay sender receiver channel cycle
   pub nodes : (node : ℕ) → is_arbitrary s node ≡ x.is_arbitrary node
-  pub joins : (node : ℕ) → x.join node ≡ None
+  pub joins : (node : ℕ) → join_of s node ≡ x.join node
   pub events : (cycle sender receiver : ℕ) (channel : Channel) → event_of s cycle sender receiver channel ≡ x.event cycle sender receiver channel
 
 -- files that answer so decide the run
@@ -50,7 +51,7 @@ decided d s x told i = record {
   delay = λ sender receiver channel cycle. told.delays sender receiver channel cycle i;
   is_arbitrary = λ node. told.nodes node i;
   event = λ cycle sender receiver channel. told.events cycle sender receiver channel i;
-  join = λ node. sym (told.joins node) i;
+  join = λ node. told.joins node i;
 }
 
 -- ---- keys
@@ -106,6 +107,9 @@ steady_delays doubles sender receiver B cycle i = unwrap_or (nothing_held cycle 
 
 -- ---- scripts
 
+abbrev no_join : Option Join
+no_join = None
+
 pub none_marked : (count node : ℕ) → slice_index_or (replicate count false) node false ≡ false
 none_marked zero node = refl
 none_marked (suc count) zero = refl
@@ -114,6 +118,15 @@ none_marked (suc count) (suc node) = none_marked count node
 pub plain_nodes : (node : ℕ) → is_arbitrary plain_script node ≡ false
 unfolding is_arbitrary
 plain_nodes node = none_marked 65 node
+
+none_joins : (count node : ℕ) → slice_index_or (replicate count no_join) node no_join ≡ no_join
+none_joins zero node = refl
+none_joins (suc count) zero = refl
+none_joins (suc count) (suc node) = none_joins count node
+
+pub plain_joins : (s : ScriptView) → s.joins ≡ no_joins → (node : ℕ) → join_of s node ≡ None
+unfolding join_of
+plain_joins s none node = ap (λ (joins : List (Option Join)). slice_index_or joins node None) none ∙ none_joins 65 node
 
 pub event_is :
     (s : ScriptView) (cycle sender receiver : ℕ) (channel : Channel) (arbitrary : Bool) (deed : Option Deed)

@@ -5,7 +5,7 @@ use Rattle.fr_cluster.specs.Values.{Values}
 use Rattle.fr_drift.specs.Questions.{delay_of, doubles_of, length_of}
 use Rattle.fr_drift.specs.View.{DriftView}
 use Rattle.fr_script.specs.Events.{event_of}
-use Rattle.fr_script.specs.View.{ScriptView, is_arbitrary}
+use Rattle.fr_script.specs.View.{ScriptView, is_arbitrary, join_of}
 use Rattle.fr_cluster.specs.Setting.{Setting}
 use Rattle.fr_coverage.specs.Decided.{setting_of}
 
@@ -18,6 +18,9 @@ doubles_decided p d s x same i = (same i).doubles
 
 pub nodes_decided : (p : Values) (d : DriftView) (s : ScriptView) (x : Setting) → Decide p d s x → (node : ℕ) → is_arbitrary s node ≡ x.is_arbitrary node
 nodes_decided p d s x same node i = (same i).is_arbitrary node
+
+pub joins_decided : (p : Values) (d : DriftView) (s : ScriptView) (x : Setting) → Decide p d s x → (node : ℕ) → join_of s node ≡ x.join node
+joins_decided p d s x same node i = (same i).join node
 
 pub lengths_decided :
     (p : Values) (d : DriftView) (s : ScriptView) (x : Setting) → Decide p d s x

@@ -9,7 +9,7 @@ use Rattle.fr_script.specs.Deeds.{deed_in, passage_of}
 use Rattle.fr_script.specs.Events.{done_by, event_of}
 use Rattle.fr_script.specs.declared.deeds.Deed.{Deed}
 use Rattle.fr_script.specs.declared.deeds.Deed.TheVariants as deed
-use Rattle.fr_rows.proofs.Decided.{decided, event_is, no_row, none_marked, passage_is}
+use Rattle.fr_rows.proofs.Decided.{decided, event_is, no_row, none_marked, passage_is, plain_joins}
 use Rattle.fr_rows.proofs.Offset.{offset_delays, offset_doubles, offset_lengths, offset_rates, offset_starts}
 use Rattle.fr_drift.specs.View.{DriftView}
 use Rattle.fr_coverage.specs.Coverage.{first_gap}
@@ -20,8 +20,9 @@ use Rattle.fr_history.specs.Skew.{greatest_skew_of}
 use Rattle.fr_history.specs.Sync.{first_sync_of}
 use Rattle.fr_report.specs.Text.{report_of}
 use Rattle.fr_rows.proofs.Computing.{on_gaps, on_histories, on_records, on_reports}
-use Rattle.fr_rows.proofs.Gaps.{delays_decided, doubles_decided, events_decided, lengths_decided, nodes_decided}
+use Rattle.fr_rows.proofs.Gaps.{delays_decided, doubles_decided, events_decided, joins_decided, lengths_decided, nodes_decided}
 use Rattle.fr_coverage.specs.Decided.{setting_of}
+use Rattle.fr_rows.specs.Working.{alone_cycles}
 use Rattle.fr_rows.specs.Offset.{offset_cycle_0, offset_cycle_1, offset_cycle_2, offset_drift}
 use Rattle.fr_rows.specs.Lost.{flipped_cycle_3, flipped_history, flipped_report, flipped_run, lost_cycle_3, lost_history, lost_on_one_cycle_0, lost_on_one_cycle_1, lost_on_one_cycle_2, lost_on_one_cycle_3, lost_on_one_history, lost_on_one_report, lost_on_one_run, lost_report, lost_run, hit_by, hit_script, lost_script, flipped_script}
 
@@ -53,7 +54,7 @@ pub lost_sync_is : first_sync_of lost_run.params lost_history ≡ Some 0
 unfolding on_histories
 lost_sync_is = refl
 
-pub lost_report_is : report_of lost_run (Some (Link 1 2 1)) lost_history ≡ lost_report
+pub lost_report_is : report_of lost_run (Some (Link 1 2 1)) (alone_cycles lost_history) ≡ lost_report
 unfolding on_reports
 lost_report_is = refl
 
@@ -63,6 +64,7 @@ lost_gap_is d s same =
     Prim.simp (
       doubles_decided lost_run.params d s lost_run same,
       nodes_decided lost_run.params d s lost_run same,
+      joins_decided lost_run.params d s lost_run same,
       lengths_decided lost_run.params d s lost_run same,
       delays_decided lost_run.params d s lost_run same,
       events_decided lost_run.params d s lost_run same,
@@ -96,7 +98,7 @@ pub flipped_sync_is : first_sync_of flipped_run.params flipped_history ≡ Some 
 unfolding on_histories
 flipped_sync_is = refl
 
-pub flipped_report_is : report_of flipped_run (Some (Link 1 2 1)) flipped_history ≡ flipped_report
+pub flipped_report_is : report_of flipped_run (Some (Link 1 2 1)) (alone_cycles flipped_history) ≡ flipped_report
 unfolding on_reports
 flipped_report_is = refl
 
@@ -106,6 +108,7 @@ flipped_gap_is d s same =
     Prim.simp (
       doubles_decided flipped_run.params d s flipped_run same,
       nodes_decided flipped_run.params d s flipped_run same,
+      joins_decided flipped_run.params d s flipped_run same,
       lengths_decided flipped_run.params d s flipped_run same,
       delays_decided flipped_run.params d s flipped_run same,
       events_decided flipped_run.params d s flipped_run same,
@@ -139,7 +142,7 @@ pub lost_on_one_sync_is : first_sync_of lost_on_one_run.params lost_on_one_histo
 unfolding on_histories
 lost_on_one_sync_is = refl
 
-pub lost_on_one_report_is : report_of lost_on_one_run None lost_on_one_history ≡ lost_on_one_report
+pub lost_on_one_report_is : report_of lost_on_one_run None (alone_cycles lost_on_one_history) ≡ lost_on_one_report
 unfolding on_reports
 lost_on_one_report_is = refl
 
@@ -149,6 +152,7 @@ lost_on_one_gap_is d s same =
     Prim.simp (
       doubles_decided lost_on_one_run.params d s lost_on_one_run same,
       nodes_decided lost_on_one_run.params d s lost_on_one_run same,
+      joins_decided lost_on_one_run.params d s lost_on_one_run same,
       lengths_decided lost_on_one_run.params d s lost_on_one_run same,
       delays_decided lost_on_one_run.params d s lost_on_one_run same,
       events_decided lost_on_one_run.params d s lost_on_one_run same,
@@ -202,7 +206,7 @@ lost_files_are = decided offset_drift lost_script lost_run (record {
   delays = offset_delays;
   nodes = hit_nodes deed.Lose;
   events = hit_events deed.Lose Silent refl;
-  joins = λ node. refl;
+  joins = plain_joins lost_script refl;
 })
 
 pub flipped_files_are : setting_of flipped_run.params offset_drift flipped_script ≡ flipped_run
@@ -214,7 +218,7 @@ flipped_files_are = decided offset_drift flipped_script flipped_run (record {
   delays = offset_delays;
   nodes = hit_nodes (deed.Flip 0);
   events = hit_events (deed.Flip 0) (Flip 0) refl;
-  joins = λ node. refl;
+  joins = plain_joins flipped_script refl;
 })
 
 pub lost_on_one_files_are : setting_of lost_on_one_run.params offset_drift lost_script ≡ lost_on_one_run
@@ -226,5 +230,5 @@ lost_on_one_files_are = decided offset_drift lost_script lost_on_one_run (record
   delays = offset_delays;
   nodes = hit_nodes deed.Lose;
   events = hit_events deed.Lose Silent refl;
-  joins = λ node. refl;
+  joins = plain_joins lost_script refl;
 })

@@ -13,10 +13,11 @@ use Rattle.fr_history.specs.Skew.{greatest_skew_of}
 use Rattle.fr_history.specs.Sync.{first_sync_of}
 use Rattle.fr_report.specs.Text.{report_of}
 use Rattle.fr_rows.proofs.Computing.{on_gaps, on_histories, on_records, on_reports}
-use Rattle.fr_rows.proofs.Decided.{decided, one_start, plain_events, plain_nodes, steady_delays, steady_lengths}
-use Rattle.fr_rows.proofs.Gaps.{delays_decided, doubles_decided, events_decided, lengths_decided, nodes_decided}
+use Rattle.fr_rows.proofs.Decided.{decided, one_start, plain_events, plain_joins, plain_nodes, steady_delays, steady_lengths}
+use Rattle.fr_rows.proofs.Gaps.{delays_decided, doubles_decided, events_decided, joins_decided, lengths_decided, nodes_decided}
 use Rattle.fr_rows.specs.Files.{plain_script}
 use Rattle.fr_coverage.specs.Decided.{setting_of}
+use Rattle.fr_rows.specs.Working.{alone_cycles}
 use Rattle.fr_rows.specs.Offset.{offset_cycle_0, offset_cycle_1, offset_cycle_2, offset_cycle_3, offset_drift, offset_history, offset_report, offset_run}
 
 cycle_0_is : next_record offset_run [] ≡ offset_cycle_0
@@ -47,7 +48,7 @@ pub offset_sync_is : first_sync_of offset_run.params offset_history ≡ Some 0
 unfolding on_histories
 offset_sync_is = refl
 
-pub offset_report_is : report_of offset_run None offset_history ≡ offset_report
+pub offset_report_is : report_of offset_run None (alone_cycles offset_history) ≡ offset_report
 unfolding on_reports
 offset_report_is = refl
 
@@ -57,6 +58,7 @@ offset_gap_is d s same =
     Prim.simp (
       doubles_decided offset_run.params d s offset_run same,
       nodes_decided offset_run.params d s offset_run same,
+      joins_decided offset_run.params d s offset_run same,
       lengths_decided offset_run.params d s offset_run same,
       delays_decided offset_run.params d s offset_run same,
       events_decided offset_run.params d s offset_run same,
@@ -111,5 +113,5 @@ offset_files_are = decided offset_drift plain_script offset_run (record {
   delays = offset_delays;
   nodes = plain_nodes;
   events = plain_events;
-  joins = λ node. refl;
+  joins = plain_joins plain_script refl;
 })

@@ -10,7 +10,7 @@ use Rattle.fr_script.specs.Deeds.{passage_of}
 use Rattle.fr_script.specs.Events.{event_by, event_of}
 use Rattle.fr_script.specs.declared.deeds.Deed.{Deed}
 use Rattle.fr_script.specs.declared.deeds.Deed.TheVariants as deed
-use Rattle.fr_rows.proofs.Decided.{decided, event_is, no_row, none_marked, rows_say, steady_delays, steady_doubles, steady_lengths, steady_rates, steady_starts}
+use Rattle.fr_rows.proofs.Decided.{decided, event_is, no_row, none_marked, plain_joins, rows_say, steady_delays, steady_doubles, steady_lengths, steady_rates, steady_starts}
 use Rattle.fr_drift.specs.View.{DriftView}
 use Rattle.fr_coverage.specs.Coverage.{first_gap}
 use Rattle.fr_script.specs.View.{ScriptView, deed_of, is_arbitrary}
@@ -19,9 +19,10 @@ use Rattle.fr_history.specs.Skew.{greatest_skew_of}
 use Rattle.fr_history.specs.Sync.{first_sync_of}
 use Rattle.fr_report.specs.Text.{report_of}
 use Rattle.fr_rows.proofs.Computing.{on_gaps, on_histories, on_records, on_reports}
-use Rattle.fr_rows.proofs.Gaps.{delays_decided, doubles_decided, events_decided, lengths_decided, nodes_decided}
+use Rattle.fr_rows.proofs.Gaps.{delays_decided, doubles_decided, events_decided, joins_decided, lengths_decided, nodes_decided}
 use Rattle.fr_rows.specs.Files.{said_first, says_to, steady_drift}
 use Rattle.fr_coverage.specs.Decided.{setting_of}
+use Rattle.fr_rows.specs.Working.{alone_cycles}
 use Rattle.fr_rows.specs.OneArbitrary.{one_arbitrary_cycle_0, one_arbitrary_cycle_1, one_arbitrary_history, one_arbitrary_report, one_arbitrary_run, one_arbitrary_script, said_to}
 
 cycle_0_is : next_record one_arbitrary_run [] ≡ one_arbitrary_cycle_0
@@ -44,7 +45,7 @@ pub one_arbitrary_sync_is : first_sync_of one_arbitrary_run.params one_arbitrary
 unfolding on_histories
 one_arbitrary_sync_is = refl
 
-pub one_arbitrary_report_is : report_of one_arbitrary_run None one_arbitrary_history ≡ one_arbitrary_report
+pub one_arbitrary_report_is : report_of one_arbitrary_run None (alone_cycles one_arbitrary_history) ≡ one_arbitrary_report
 unfolding on_reports
 one_arbitrary_report_is = refl
 
@@ -54,6 +55,7 @@ one_arbitrary_gap_is d s same =
     Prim.simp (
       doubles_decided one_arbitrary_run.params d s one_arbitrary_run same,
       nodes_decided one_arbitrary_run.params d s one_arbitrary_run same,
+      joins_decided one_arbitrary_run.params d s one_arbitrary_run same,
       lengths_decided one_arbitrary_run.params d s one_arbitrary_run same,
       delays_decided one_arbitrary_run.params d s one_arbitrary_run same,
       events_decided one_arbitrary_run.params d s one_arbitrary_run same,
@@ -127,5 +129,5 @@ one_arbitrary_files_are = decided (steady_drift 1) one_arbitrary_script one_arbi
   delays = steady_delays 1;
   nodes = one_arbitrary_nodes;
   events = one_arbitrary_events;
-  joins = λ node. refl;
+  joins = plain_joins one_arbitrary_script refl;
 })

@@ -6,7 +6,7 @@ use Rattle.fr_base.specs.declared.channel.Channel.{Channel}
 use Rattle.fr_base.specs.declared.channel.Channel.TheVariants.{A, B}
 use Rattle.fr_script.specs.Deeds.{deed_in}
 use Rattle.fr_script.specs.Events.{event_by, event_of}
-use Rattle.fr_rows.proofs.Decided.{decided, event_is, none_marked, steady_delays, steady_doubles, steady_lengths, steady_rates, steady_starts}
+use Rattle.fr_rows.proofs.Decided.{decided, event_is, none_marked, plain_joins, steady_delays, steady_doubles, steady_lengths, steady_rates, steady_starts}
 use Rattle.fr_drift.specs.View.{DriftView}
 use Rattle.fr_coverage.specs.Coverage.{first_gap}
 use Rattle.fr_script.specs.View.{ScriptView, deed_of, is_arbitrary}
@@ -16,9 +16,10 @@ use Rattle.fr_history.specs.Skew.{greatest_skew_of}
 use Rattle.fr_history.specs.Sync.{first_sync_of}
 use Rattle.fr_report.specs.Text.{report_of}
 use Rattle.fr_rows.proofs.Computing.{on_gaps, on_histories, on_records, on_reports}
-use Rattle.fr_rows.proofs.Gaps.{doubles_decided, nodes_decided}
+use Rattle.fr_rows.proofs.Gaps.{doubles_decided, joins_decided, nodes_decided}
 use Rattle.fr_rows.specs.Files.{steady_drift}
 use Rattle.fr_coverage.specs.Decided.{setting_of}
+use Rattle.fr_rows.specs.Working.{alone_cycles}
 use Rattle.fr_rows.specs.Quiet.{quiet_cycle_0, quiet_cycle_1, quiet_history, quiet_report, quiet_run, quiet_script}
 
 cycle_0_is : next_record quiet_run [] ≡ quiet_cycle_0
@@ -41,7 +42,7 @@ pub quiet_sync_is : first_sync_of quiet_run.params quiet_history ≡ Some 0
 unfolding on_histories
 quiet_sync_is = refl
 
-pub quiet_report_is : report_of quiet_run (Some (Count 2 1)) quiet_history ≡ quiet_report
+pub quiet_report_is : report_of quiet_run (Some (Count 2 1)) (alone_cycles quiet_history) ≡ quiet_report
 unfolding on_reports
 quiet_report_is = refl
 
@@ -51,6 +52,7 @@ quiet_gap_is d s same =
     Prim.simp (
       doubles_decided quiet_run.params d s quiet_run same,
       nodes_decided quiet_run.params d s quiet_run same,
+      joins_decided quiet_run.params d s quiet_run same,
     ) refl
 
 -- what the script of the run answers
@@ -85,5 +87,5 @@ quiet_files_are = decided (steady_drift 1) quiet_script quiet_run (record {
   delays = steady_delays 1;
   nodes = quiet_nodes;
   events = quiet_events;
-  joins = λ node. refl;
+  joins = plain_joins quiet_script refl;
 })

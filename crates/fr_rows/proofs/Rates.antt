@@ -5,7 +5,7 @@ use Rattle.std.proofs.lemmas.Bool.Decides.{nat_tests}
 use Rattle.fr_base.specs.declared.channel.Channel.{Channel}
 use Rattle.fr_drift.specs.Keys.{length_key}
 use Rattle.fr_drift.specs.Questions.{delay_of, doubles_of, length_of, rate_of, start_of}
-use Rattle.fr_rows.proofs.Decided.{decided, held_first, length_is, plain_events, plain_nodes, steady_delays, steady_rates, steady_starts}
+use Rattle.fr_rows.proofs.Decided.{decided, held_first, length_is, plain_events, plain_joins, plain_nodes, steady_delays, steady_rates, steady_starts}
 use Rattle.fr_drift.specs.View.{DriftView, length_rows}
 use Rattle.fr_coverage.specs.Coverage.{first_gap}
 use Rattle.fr_script.specs.View.{ScriptView}
@@ -14,9 +14,10 @@ use Rattle.fr_history.specs.Skew.{greatest_skew_of}
 use Rattle.fr_history.specs.Sync.{first_sync_of}
 use Rattle.fr_report.specs.Text.{report_of}
 use Rattle.fr_rows.proofs.Computing.{on_gaps, on_histories, on_records, on_reports}
-use Rattle.fr_rows.proofs.Gaps.{delays_decided, doubles_decided, events_decided, lengths_decided, nodes_decided}
+use Rattle.fr_rows.proofs.Gaps.{delays_decided, doubles_decided, events_decided, joins_decided, lengths_decided, nodes_decided}
 use Rattle.fr_rows.specs.Files.{plain_script}
 use Rattle.fr_coverage.specs.Decided.{setting_of}
+use Rattle.fr_rows.specs.Working.{alone_cycles}
 use Rattle.fr_rows.specs.Rates.{rates_cycle_0, rates_cycle_1, rates_cycle_2, rates_cycle_3, rates_history, rates_report, rates_run, rates_drift}
 
 cycle_0_is : next_record rates_run [] ≡ rates_cycle_0
@@ -47,7 +48,7 @@ pub rates_sync_is : first_sync_of rates_run.params rates_history ≡ Some 1
 unfolding on_histories
 rates_sync_is = refl
 
-pub rates_report_is : report_of rates_run None rates_history ≡ rates_report
+pub rates_report_is : report_of rates_run None (alone_cycles rates_history) ≡ rates_report
 unfolding on_reports
 rates_report_is = refl
 
@@ -57,6 +58,7 @@ rates_gap_is d s same =
     Prim.simp (
       doubles_decided rates_run.params d s rates_run same,
       nodes_decided rates_run.params d s rates_run same,
+      joins_decided rates_run.params d s rates_run same,
       lengths_decided rates_run.params d s rates_run same,
       delays_decided rates_run.params d s rates_run same,
       events_decided rates_run.params d s rates_run same,
@@ -119,5 +121,5 @@ rates_files_are = decided rates_drift plain_script rates_run (record {
   delays = rates_delays;
   nodes = plain_nodes;
   events = plain_events;
-  joins = λ node. refl;
+  joins = plain_joins plain_script refl;
 })

@@ -12,7 +12,7 @@ use Rattle.fr_script.specs.Deeds.{deed_in, passage_of}
 use Rattle.fr_script.specs.Events.{event_by, event_of}
 use Rattle.fr_script.specs.declared.deeds.Deed.{Deed}
 use Rattle.fr_script.specs.declared.deeds.Deed.TheVariants as deed
-use Rattle.fr_rows.proofs.Decided.{decided, event_is, no_row, none_marked, rows_say, steady_delays, steady_doubles, steady_lengths, steady_rates, steady_starts}
+use Rattle.fr_rows.proofs.Decided.{decided, event_is, no_row, none_marked, plain_joins, rows_say, steady_delays, steady_doubles, steady_lengths, steady_rates, steady_starts}
 use Rattle.fr_drift.specs.View.{DriftView}
 use Rattle.fr_coverage.specs.Coverage.{first_gap}
 use Rattle.fr_script.specs.View.{ScriptView, deed_of, is_arbitrary}
@@ -21,9 +21,10 @@ use Rattle.fr_history.specs.Skew.{greatest_skew_of}
 use Rattle.fr_history.specs.Sync.{first_sync_of}
 use Rattle.fr_report.specs.Text.{report_of}
 use Rattle.fr_rows.proofs.Computing.{on_gaps, on_histories, on_records, on_reports}
-use Rattle.fr_rows.proofs.Gaps.{delays_decided, doubles_decided, events_decided, lengths_decided, nodes_decided}
+use Rattle.fr_rows.proofs.Gaps.{delays_decided, doubles_decided, events_decided, joins_decided, lengths_decided, nodes_decided}
 use Rattle.fr_rows.specs.Files.{said_first, says_to, steady_drift}
 use Rattle.fr_coverage.specs.Decided.{setting_of}
+use Rattle.fr_rows.specs.Working.{alone_cycles}
 use Rattle.fr_rows.specs.TwoArbitrary.{two_arbitrary_cycle_0, two_arbitrary_cycle_1, two_arbitrary_history, two_arbitrary_report, two_arbitrary_run, two_arbitrary_script, is_among_six, said_early_to, said_late_to}
 
 cycle_0_is : next_record two_arbitrary_run [] ≡ two_arbitrary_cycle_0
@@ -46,7 +47,7 @@ pub two_arbitrary_sync_is : first_sync_of two_arbitrary_run.params two_arbitrary
 unfolding on_histories
 two_arbitrary_sync_is = refl
 
-pub two_arbitrary_report_is : report_of two_arbitrary_run None two_arbitrary_history ≡ two_arbitrary_report
+pub two_arbitrary_report_is : report_of two_arbitrary_run None (alone_cycles two_arbitrary_history) ≡ two_arbitrary_report
 unfolding on_reports
 two_arbitrary_report_is = refl
 
@@ -56,6 +57,7 @@ two_arbitrary_gap_is d s same =
     Prim.simp (
       doubles_decided two_arbitrary_run.params d s two_arbitrary_run same,
       nodes_decided two_arbitrary_run.params d s two_arbitrary_run same,
+      joins_decided two_arbitrary_run.params d s two_arbitrary_run same,
       lengths_decided two_arbitrary_run.params d s two_arbitrary_run same,
       delays_decided two_arbitrary_run.params d s two_arbitrary_run same,
       events_decided two_arbitrary_run.params d s two_arbitrary_run same,
@@ -220,5 +222,5 @@ two_arbitrary_files_are = decided (steady_drift 1) two_arbitrary_script two_arbi
   delays = steady_delays 1;
   nodes = two_arbitrary_nodes;
   events = two_arbitrary_events;
-  joins = λ node. refl;
+  joins = plain_joins two_arbitrary_script refl;
 })

@@ -1,9 +1,10 @@
 -- The files of the worked runs.
-use Rattle.std.specs.Prelude.{ℕ, ℤ, pos, Bool, false, List, [], ◌∷◌, None, flat_map, nat_lt, replicate, if◌then◌else◌}
+use Rattle.std.specs.Prelude.{ℕ, ℤ, pos, Bool, false, List, [], ◌∷◌, Option, None, flat_map, nat_lt, replicate, if◌then◌else◌}
 use Rattle.fr_base.specs.Event.{Event}
 use Rattle.fr_base.specs.Event.Event.{Silent}
 use Rattle.fr_base.specs.declared.channel.Channel.{Channel}
 use Rattle.fr_base.specs.declared.channel.Channel.TheVariants.{A, B}
+use Rattle.fr_cluster.specs.declared.join.Join.{Join}
 use Rattle.fr_drift.specs.View.{DriftView}
 use Rattle.fr_script.specs.Deeds.{passage_of}
 use Rattle.fr_script.specs.View.{ScriptView}
@@ -36,9 +37,13 @@ steady_drift doubles = record {
 abbrev pub no_arbitrary : List Bool
 no_arbitrary = replicate 65 false
 
+-- no node joins
+abbrev pub no_joins : List (Option Join)
+no_joins = replicate 65 None
+
 -- a script without rows: all nodes are correct
 abbrev pub plain_script : ScriptView
-plain_script = record { arbitrary = no_arbitrary; on_a = []; on_b = [] }
+plain_script = record { arbitrary = no_arbitrary; joins = no_joins; on_a = []; on_b = [] }
 
 -- the rows by which an arbitrary node says its regular frame to receivers in the first double cycle, so many ticks late
 abbrev pub says_to : ℕ → ℤ → List ℕ → List (Passage × Deed)

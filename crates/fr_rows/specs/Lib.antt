@@ -8,5 +8,6 @@ pub mod OneArbitrary
 pub mod TwoArbitrary
 pub mod Quiet
 pub mod Lost
+pub mod Joined
 pub mod Positions
 pub mod Working

@@ -14,7 +14,7 @@ use Rattle.fr_history.specs.History.{History, Record}
 use Rattle.fr_rows.specs.Clusters.{cluster_of, on_both}
 use Rattle.fr_rows.specs.Entries.{all_stored}
 use Rattle.fr_base.specs.Rows.{dev_with}
-use Rattle.fr_rows.specs.Files.{no_arbitrary, only_on_a}
+use Rattle.fr_rows.specs.Files.{no_arbitrary, no_joins, only_on_a}
 use Rattle.fr_rows.specs.Offset.{offset_cycle_0, offset_cycle_1, offset_cycle_2, offset_cycle_3, offset_run, offset_drift}
 use Rattle.fr_rows.specs.Working.{WorkedRun}
 use Rattle.fr_coverage.specs.declared.gap.Gap.TheVariants.{Link}
@@ -26,7 +26,7 @@ hit_by event cycle sender receiver channel =
 
 -- a script with one row, which says what hits it
 abbrev pub hit_script : Deed → ScriptView
-hit_script hit = record { arbitrary = no_arbitrary; on_a = (passage_of 1 2 3, hit) ∷ []; on_b = [] }
+hit_script hit = record { arbitrary = no_arbitrary; joins = no_joins; on_a = (passage_of 1 2 3, hit) ∷ []; on_b = [] }
 
 -- ---- the frame is lost
 

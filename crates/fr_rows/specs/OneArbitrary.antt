@@ -8,7 +8,7 @@ use Rattle.fr_cluster.specs.Setting.{Setting}
 use Rattle.fr_history.specs.History.{History, Record}
 use Rattle.fr_rows.specs.Clusters.{cluster_of, on_a}
 use Rattle.fr_rows.specs.Entries.{all_stored, measured, steady_rows}
-use Rattle.fr_rows.specs.Files.{said_first, says_to, steady_drift}
+use Rattle.fr_rows.specs.Files.{no_joins, said_first, says_to, steady_drift}
 use Rattle.fr_rows.specs.Working.{WorkedRun}
 
 -- what node 4 says: that it is 100 microticks late, as much early, or nothing
@@ -36,6 +36,7 @@ one_arbitrary_run = record {
 abbrev pub one_arbitrary_script : ScriptView
 one_arbitrary_script = record {
   arbitrary = replicate 4 false ++ true ∷ replicate 60 false;
+  joins = no_joins;
   on_a = says_to 4 (pos 100_000_000) (1 ∷ []) ++ says_to 4 (negsuc 99_999_999) (2 ∷ []);
   on_b = [];
 }

@@ -7,7 +7,7 @@ use Rattle.fr_history.specs.History.{History, Record}
 use Rattle.fr_rows.specs.Clusters.{cluster_of, on_a}
 use Rattle.fr_rows.specs.Entries.{all_stored, measured, steady_rows}
 use Rattle.fr_rows.specs.Working.{WorkedRun}
-use Rattle.fr_rows.specs.Files.{steady_drift}
+use Rattle.fr_rows.specs.Files.{no_joins, steady_drift}
 use Rattle.fr_coverage.specs.declared.gap.Gap.TheVariants.{Count}
 
 -- one double cycle; all clocks run alike
@@ -26,7 +26,7 @@ quiet_run = record {
 
 -- its script: node 3 is arbitrary, and no row says anything; its drift file has no rows
 abbrev pub quiet_script : ScriptView
-quiet_script = record { arbitrary = replicate 3 false ++ true ∷ replicate 61 false; on_a = []; on_b = [] }
+quiet_script = record { arbitrary = replicate 3 false ++ true ∷ replicate 61 false; joins = no_joins; on_a = []; on_b = [] }
 
 abbrev pub quiet_cycle_0 : Record
 quiet_cycle_0 = record {

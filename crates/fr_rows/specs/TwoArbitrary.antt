@@ -8,7 +8,7 @@ use Rattle.fr_cluster.specs.Setting.{Setting}
 use Rattle.fr_history.specs.History.{History, Record}
 use Rattle.fr_rows.specs.Clusters.{cluster_of, on_a}
 use Rattle.fr_rows.specs.Entries.{all_stored, measured, steady_rows}
-use Rattle.fr_rows.specs.Files.{said_first, says_to, steady_drift}
+use Rattle.fr_rows.specs.Files.{no_joins, said_first, says_to, steady_drift}
 use Rattle.fr_rows.specs.Working.{WorkedRun}
 
 -- the correct nodes
@@ -44,6 +44,7 @@ two_arbitrary_run = record {
 abbrev pub two_arbitrary_script : ScriptView
 two_arbitrary_script = record {
   arbitrary = replicate 7 false ++ true ∷ true ∷ replicate 56 false;
+  joins = no_joins;
   on_a =
       says_to 7 (pos 100_000_000) (1 ∷ 2 ∷ 3 ∷ 4 ∷ 5 ∷ 6 ∷ [])
       ++ says_to 8 (negsuc 99_999_999) (1 ∷ 3 ∷ 4 ∷ 5 ∷ 6 ∷ []);

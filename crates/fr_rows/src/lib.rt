@@ -2,7 +2,11 @@
 //! skew, the first double cycle in sync, and the report. Definitions and their values; nothing here runs.
 #![tactic(auto)]
 
-ghost use Rattle.std.specs.Prelude.{◌≡◌, false, pos, true};
+ghost use Rattle.std.specs.Prelude.{◌≡◌, None, false, pos, true};
+ghost use Rattle.fr_joined.specs.Next.{cycles_of};
+ghost use Rattle.fr_joined.specs.Worked.{joined_run};
+ghost use Rattle.fr_report.specs.Text.{report_of};
+ghost use Rattle.fr_rows.specs.Joined.{joined_report};
 ghost use Rattle.fr_rows.specs.Positions.{even_positions, odd_positions, positions_of, short_grid};
 ghost use Rattle.fr_rows.specs.Offset.{worked_offset};
 ghost use Rattle.fr_rows.specs.Rates.{worked_rates};
@@ -13,12 +17,13 @@ ghost use Rattle.fr_rows.specs.Lost.{worked_lost, worked_flipped, worked_lost_on
 ghost use Rattle.fr_rows.specs.Working.{IsRight, KeepsItsPrecision};
 
 use fr_history::one_lawful_history;
+use fr_joined::{a_joined_run, one_lawful_run};
 
 /// A law: two clocks that start two and a half microticks apart come within half a microtick.
 pub fn a_run_with_an_offset()
     ensures { IsRight worked_offset }
 {
-    one_lawful_history();
+    one_lawful_run();
 }
 
 /// A law: where two oscillators lie apart, the rate terms bring the cycles together, and the skew is
@@ -26,7 +31,7 @@ pub fn a_run_with_an_offset()
 pub fn a_run_with_drifting_rates()
     ensures { IsRight worked_rates }
 {
-    one_lawful_history();
+    one_lawful_run();
 }
 
 /// A law: an arbitrary node that says different things to each of three correct nodes moves none of
@@ -34,42 +39,49 @@ pub fn a_run_with_drifting_rates()
 pub fn a_run_with_one_arbitrary_node()
     ensures { IsRight worked_one_arbitrary }
 {
-    one_lawful_history();
+    one_lawful_run();
 }
 
 /// A law: two arbitrary nodes move none of six correct ones.
 pub fn a_run_with_two_arbitrary_nodes()
     ensures { IsRight worked_two_arbitrary }
 {
-    one_lawful_history();
+    one_lawful_run();
 }
 
 /// A law: two correct nodes are too few beside an arbitrary one, even where that says nothing.
 pub fn a_run_with_a_silent_arbitrary_node()
     ensures { IsRight worked_quiet }
 {
-    one_lawful_history();
+    one_lawful_run();
 }
 
 /// A law: a frame that is lost is not measured.
 pub fn a_run_with_a_lost_frame()
     ensures { IsRight worked_lost }
 {
-    one_lawful_history();
+    one_lawful_run();
 }
 
 /// A law: a frame with one bit inverted is found damaged.
 pub fn a_run_with_a_flipped_frame()
     ensures { IsRight worked_flipped }
 {
-    one_lawful_history();
+    one_lawful_run();
 }
 
 /// A law: a frame that is lost on one channel is measured on the other.
 pub fn a_run_with_a_frame_lost_on_one_channel()
     ensures { IsRight worked_lost_on_one }
 {
-    one_lawful_history();
+    one_lawful_run();
+}
+
+/// A law: where node 3 joins two others, the report has a line of it, and names the first double cycle.
+pub fn a_report_of_a_node_that_joins()
+    ensures { report_of joined_run None (cycles_of joined_run 12) ≡ joined_report }
+{
+    a_joined_run();
 }
 
 /// A law: the worked runs without a gap keep their precision from their first double cycle in sync on, beside
@@ -81,6 +93,7 @@ pub fn covered_runs_keep_their_precision()
     ensures two_arbitrary { KeepsItsPrecision worked_two_arbitrary }
     ensures lost_on_one { KeepsItsPrecision worked_lost_on_one }
 {
+    one_lawful_history();
     a_run_with_an_offset();
     a_run_with_drifting_rates();
     a_run_with_one_arbitrary_node();

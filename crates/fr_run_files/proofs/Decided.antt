@@ -6,9 +6,9 @@ use Rattle.fr_coverage.specs.Decided.{setting_of}
 use Rattle.fr_drift.specs.Files.{drift_file}
 use Rattle.fr_drift.specs.Questions.{doubles_of}
 use Rattle.fr_drift.specs.View.{DriftView}
-use Rattle.fr_history.specs.History.{History}
-use Rattle.fr_history.specs.Lawful.{IsLawful}
-use Rattle.fr_history.specs.Next.{history_of}
+use Rattle.fr_joined.specs.Cycles.{Cycles}
+use Rattle.fr_joined.specs.Lawful.{IsLawful}
+use Rattle.fr_joined.specs.Next.{cycles_of}
 use Rattle.fr_params.specs.Files.{params_file}
 use Rattle.fr_records.specs.Kind.{Has, HasOneAnswer}
 use Rattle.fr_script.specs.Files.{script_file}
@@ -18,14 +18,14 @@ use Rattle.fr_ending.proofs.OneValue.{one_value}
 use Rattle.fr_run_files.specs.Files.{IsOfRun}
 use Rattle.fr_run_files.specs.Statuses.{AreTold}
 
-abbrev pub OneHistory : Type 0
-OneHistory = (p : Values) (d : DriftView) (s : ScriptView) (h : History) → IsLawful (setting_of p d s) h → h ≡ history_of (setting_of p d s) (length h)
+abbrev pub OneRun : Type 0
+OneRun = (p : Values) (d : DriftView) (s : ScriptView) (h : Cycles) → IsLawful (setting_of p d s) h → h ≡ cycles_of (setting_of p d s) (length h)
 
--- two lawful histories over all cycles are the same
-pub one_whole : OneHistory → (p : Values) (d : DriftView) (s : ScriptView) (h other : History) → IsLawful (setting_of p d s) h → length h ≡ 2 * doubles_of d
+-- two lawful runs over all cycles are the same
+pub one_whole : OneRun → (p : Values) (d : DriftView) (s : ScriptView) (h other : Cycles) → IsLawful (setting_of p d s) h → length h ≡ 2 * doubles_of d
     → IsLawful (setting_of p d s) other → length other ≡ 2 * doubles_of d → h ≡ other
 one_whole one p d s h other lawful whole too all =
-    one p d s h lawful ∙ ap (history_of (setting_of p d s)) whole ∙ sym (one p d s other too ∙ ap (history_of (setting_of p d s)) all)
+    one p d s h lawful ∙ ap (cycles_of (setting_of p d s)) whole ∙ sym (one p d s other too ∙ ap (cycles_of (setting_of p d s)) all)
 
 -- a text of some values is one of the same values
 pub moved : (IsText : Values → DriftView → ScriptView → List ℕ → Type 0) (p q : Values) (d e : DriftView) (s r : ScriptView) (text : List ℕ) → p ≡ q → d ≡ e → s ≡ r

@@ -11,8 +11,8 @@ use Rattle.fr_cluster.specs.Setting.{Setting}
 use Rattle.fr_cluster.specs.Values.{amount}
 use Rattle.fr_cluster.specs.declared.names.ParamName.TheVariants as name
 use Rattle.fr_pool.specs.Pool.{PoolView, IsFree}
-use Rattle.fr_history.specs.History.{History}
-use Rattle.fr_history.specs.Next.{early_rows, history_of}
+use Rattle.fr_joined.specs.Cycles.{Cycles, told_of}
+use Rattle.fr_joined.specs.Next.{cycles_of, early_rows}
 use Rattle.fr_history.specs.Offers.{frame_in}
 use Rattle.fr_world.specs.Memory.{Held, cell_of, frame_of, held_after, held_at, held_on, held_slots, is_of, place_of_slot, sent_at, with_sent, IsPoolOf}
 use Rattle.fr_world.specs.Walk.{walked}
@@ -60,11 +60,11 @@ slots-apart x cycle rows most (suc earlier) held fits apart =
     (with-apart most (place_of_slot (suc earlier) A) (frame_in x cycle rows (suc earlier) A) before (omega arith)
     (slots-apart x cycle rows most earlier held (omega arith) apart))
 
-after-apart : (x : Setting) (n : ℕ) → AreApart (2 * amount x.params name.gNumberOfStaticSlots) (held_after x (history_of x n))
-unfolding history_of held_after AreApart
+after-apart : (x : Setting) (n : ℕ) → AreApart (2 * amount x.params name.gNumberOfStaticSlots) (held_after x (cycles_of x n))
+unfolding cycles_of held_after AreApart
 after-apart x zero = tt
 after-apart x (suc n) =
-    let h : History = history_of x n in
+    let h : Cycles = cycles_of x n in
     slots-apart x (length h) (early_rows x h) (2 * amount x.params name.gNumberOfStaticSlots) (amount x.params name.gNumberOfStaticSlots) (held_after x h) (omega arith) (after-apart x n)
 
 -- ---- by number
@@ -114,7 +114,7 @@ of-one w pool cell is lt = record {
   only = λ other on low found.
       let there = position-Some (is_of (place_of_slot other on)) held cell (made 0 []) found in
       one-pair slot other channel on from low (sym (eqb-true place (place_of_slot other on) there.1) ∙ sym at);
-  last = subst (WasSentLast x (history_of x w.cycles) slot channel) (is.frames cell lt) last;
+  last = subst (WasSentLast x (told_of (cycles_of x w.cycles)) slot channel) (is.frames cell lt) last;
 } where
   x : Setting
   x = setting_after w
@@ -155,8 +155,8 @@ of-one w pool cell is lt = record {
   stands : frame_of held (place_of_slot slot channel) ≡ Some (held_at held cell).frame
   stands = ap (frame_of held) at ∙ ap (option_map (λ (h : Held). h.frame)) (find-at place held cell lt refl before)
 
-  last : WasSentLast x (history_of x w.cycles) slot channel (held_at held cell).frame
-  last = subst (IsLastSent x (history_of x w.cycles) slot channel) stands (last-sent x w.cycles slot channel from to)
+  last : WasSentLast x (told_of (cycles_of x w.cycles)) slot channel (held_at held cell).frame
+  last = subst (IsLastSent x (told_of (cycles_of x w.cycles)) slot channel) stands (last-sent x w.cycles slot channel from to)
 
 pub free-or-one : (w : WorldView) (pool : PoolView) (cell : ℕ) → IsPoolOf (memory_of w) pool → cell < length pool.out → IsFree pool cell ⊎ IsOfOne w pool cell
 free-or-one w pool cell is inside = by (grind arith)

@@ -1,4 +1,4 @@
--- What was sent last in a slot on a channel, by the cells after a history.
+-- What was sent last in a slot on a channel, by the cells behind some cycles.
 use Rattle.std.proofs.Common.{◌≡◌, ◌≢◌, ◌⊎◌, ℕ, zero, suc, ◌<◌, ◌≤◌, ◌==◌, Bool, false, cond, List, [], ◌∷◌, length, map, Option, Some, None, inl, inr, refl, ap, sym, subst, ◌∙◌, arith}
 use Rattle.std.specs.Prelude.{find, option_and_then, option_map}
 use Rattle.std.specs.Option.{option_or}
@@ -12,10 +12,13 @@ use Rattle.fr_cluster.specs.declared.names.ParamName.TheVariants as name
 use Rattle.fr_time.specs.Senders.{sender_of}
 use Rattle.fr_time.specs.declared.senders.Sending.{Sending}
 use Rattle.fr_history.specs.History.{History, Record, record_at, row_of}
-use Rattle.fr_history.specs.Next.{early_record, early_rows, ended_row, history_of, next_record}
+use Rattle.fr_history.specs.Next.{ended_row}
 use Rattle.fr_history.specs.Offers.{active_frame, frame_in, sender_frame}
 use Rattle.fr_history.proofs.Greatest.{record_after, record_here}
 use Rattle.fr_history.proofs.Synced.{record_at-lt}
+use Rattle.fr_joined.specs.Cycles.{Cycles, told_of}
+use Rattle.fr_joined.specs.Next.{cycles_of, early_rows, early_told, next_cycle, next_told}
+use Rattle.fr_joined.proofs.Alone.{told_length}
 use Rattle.fr_world.specs.Memory.{Held, frame_of, held_after, held_on, held_slots, is_of, place_of_slot, sent_at, with_sent}
 use Rattle.fr_world.specs.Walk.{walked}
 use Rattle.fr_sent.specs.Last.{sent_in, IsLastSent}
@@ -126,19 +129,16 @@ same-frame : (x : Setting) (h : History) (early : Record) (cycle : ℕ) (sending
 same-frame x h early cycle sending None slot channel = refl
 same-frame x h early cycle sending (Some row) slot channel = refl
 
-record-frame : (x : Setting) (h : History) (slot : ℕ) (channel : Channel) →
-    frame_in x (length h) (early_rows x h) slot channel ≡ frame_in x (length h) (next_record x h).rows slot channel
-unfolding frame_in next_record
+record-frame : (x : Setting) (h : Cycles) (slot : ℕ) (channel : Channel) →
+    frame_in x (length h) (early_rows x h) slot channel ≡ frame_in x (length h) (next_cycle x h).told.rows slot channel
+unfolding frame_in next_cycle early_told
 record-frame x h slot channel = by (sender_of x.params slot (length h))
   where
-    early : Record
-    early = early_record x h
-
-    by : (s : Option Sending) → option_and_then (sender_frame x (length h) (early_rows x h) slot channel) s ≡ option_and_then (sender_frame x (length h) (map (ended_row x h early) (early_rows x h)) slot channel) s
+    by : (s : Option Sending) → option_and_then (sender_frame x (length h) (early_rows x h) slot channel) s ≡ option_and_then (sender_frame x (length h) (next_told x h).rows slot channel) s
     by None = refl
     by (Some sending) =
-        sym (same-frame x h early (length h) sending (row_of (early_rows x h) sending.node) slot channel)
-        ∙ ap (λ (o : Option NodeRow). active_frame x (length h) sending o slot channel) (sym (found-after (ended_row x h early) (λ row. refl) (early_rows x h) sending.node))
+        sym (same-frame x (told_of h) (early_told x h) (length h) sending (row_of (early_rows x h) sending.node) slot channel)
+        ∙ ap (λ (o : Option NodeRow). active_frame x (length h) sending o slot channel) (sym (found-after (ended_row x (told_of h) (early_told x h)) (λ row. refl) (early_rows x h) sending.node))
 
 -- ---- one more cycle
 
@@ -150,56 +150,57 @@ past-sent x h cycle slot channel past = by (record_at h cycle) (λ r is. record_
     by None within = refl
     by (Some r) within = let less : cycle < length h = within r refl in absurd (omega arith)
 
-sent-here : (x : Setting) (h : History) (slot : ℕ) (channel : Channel) →
-    sent_in x (next_record x h ∷ h) (length h) slot channel ≡ frame_in x (length h) (early_rows x h) slot channel
+sent-here : (x : Setting) (h : Cycles) (slot : ℕ) (channel : Channel) →
+    sent_in x ((next_cycle x h).told ∷ told_of h) (length (told_of h)) slot channel ≡ frame_in x (length h) (early_rows x h) slot channel
 sent-here x h slot channel =
-    ap (option_and_then (λ (r : Record). frame_in x (length h) r.rows slot channel)) (record_here (next_record x h) h)
+    ap (option_and_then (λ (r : Record). frame_in x (length (told_of h)) r.rows slot channel)) (record_here (next_cycle x h).told (told_of h))
+    ∙ ap (λ (n : ℕ). frame_in x n (next_cycle x h).told.rows slot channel) (told_length h)
     ∙ sym (record-frame x h slot channel)
 
 sent-before : (x : Setting) (r : Record) (h : History) (cycle slot : ℕ) (channel : Channel) → cycle < length h → sent_in x (r ∷ h) cycle slot channel ≡ sent_in x h cycle slot channel
 sent-before x r h cycle slot channel less = ap (option_and_then (λ (s : Record). frame_in x cycle s.rows slot channel)) (record_after r h cycle less)
 
-last-more : (x : Setting) (h : History) (slot : ℕ) (channel : Channel) (now before : Option (List ℕ)) → sent_in x (next_record x h ∷ h) (length h) slot channel ≡ now → IsLastSent x h slot channel before →
-    IsLastSent x (next_record x h ∷ h) slot channel (option_or now before)
-last-more x h slot channel (Some frame) before is last = record {
+last-more : (x : Setting) (r : Record) (h : History) (slot : ℕ) (channel : Channel) (now before : Option (List ℕ)) → sent_in x (r ∷ h) (length h) slot channel ≡ now → IsLastSent x h slot channel before →
+    IsLastSent x (r ∷ h) slot channel (option_or now before)
+last-more x r h slot channel (Some frame) before is last = record {
   cycle = length h;
   within = omega arith;
   sent = is;
-  none_later = λ later less. past-sent x (next_record x h ∷ h) later slot channel (omega arith);
+  none_later = λ later less. past-sent x (r ∷ h) later slot channel (omega arith);
 }
-last-more x h slot channel None None is never = λ cycle. by_place cycle (grind arith)
+last-more x r h slot channel None None is never = λ cycle. by_place cycle (grind arith)
   where
-    by_place : (cycle : ℕ) → (cycle < length h) ⊎ ((cycle ≡ length h) ⊎ (length h < cycle)) → sent_in x (next_record x h ∷ h) cycle slot channel ≡ None
-    by_place cycle (inl less) = sent-before x (next_record x h) h cycle slot channel less ∙ never cycle
-    by_place cycle (inr (inl same)) = let P : ℕ → Type 0 = λ c. sent_in x (next_record x h ∷ h) c slot channel ≡ None in subst P (sym same) is
-    by_place cycle (inr (inr past)) = past-sent x (next_record x h ∷ h) cycle slot channel (omega arith)
-last-more x h slot channel None (Some frame) is last = record {
+    by_place : (cycle : ℕ) → (cycle < length h) ⊎ ((cycle ≡ length h) ⊎ (length h < cycle)) → sent_in x (r ∷ h) cycle slot channel ≡ None
+    by_place cycle (inl less) = sent-before x r h cycle slot channel less ∙ never cycle
+    by_place cycle (inr (inl same)) = let P : ℕ → Type 0 = λ c. sent_in x (r ∷ h) c slot channel ≡ None in subst P (sym same) is
+    by_place cycle (inr (inr past)) = past-sent x (r ∷ h) cycle slot channel (omega arith)
+last-more x r h slot channel None (Some frame) is last = record {
   cycle = last.cycle;
   within = omega (arith, last.within);
-  sent = sent-before x (next_record x h) h last.cycle slot channel last.within ∙ last.sent;
+  sent = sent-before x r h last.cycle slot channel last.within ∙ last.sent;
   none_later = λ later less. by_place later less (grind arith);
 } where
-  by_place : (later : ℕ) → last.cycle < later → (later < length h) ⊎ ((later ≡ length h) ⊎ (length h < later)) → sent_in x (next_record x h ∷ h) later slot channel ≡ None
-  by_place later less (inl within) = sent-before x (next_record x h) h later slot channel within ∙ last.none_later later less
-  by_place later less (inr (inl same)) = let P : ℕ → Type 0 = λ c. sent_in x (next_record x h ∷ h) c slot channel ≡ None in subst P (sym same) is
-  by_place later less (inr (inr past)) = past-sent x (next_record x h ∷ h) later slot channel (omega arith)
+  by_place : (later : ℕ) → last.cycle < later → (later < length h) ⊎ ((later ≡ length h) ⊎ (length h < later)) → sent_in x (r ∷ h) later slot channel ≡ None
+  by_place later less (inl within) = sent-before x r h later slot channel within ∙ last.none_later later less
+  by_place later less (inr (inl same)) = let P : ℕ → Type 0 = λ c. sent_in x (r ∷ h) c slot channel ≡ None in subst P (sym same) is
+  by_place later less (inr (inr past)) = past-sent x (r ∷ h) later slot channel (omega arith)
 
--- ---- the whole history
+-- ---- the whole run
 
 pub last-sent : (x : Setting) (n slot : ℕ) (channel : Channel) → 1 ≤ slot → slot ≤ amount x.params name.gNumberOfStaticSlots →
-    IsLastSent x (history_of x n) slot channel (frame_of (held_after x (history_of x n)) (place_of_slot slot channel))
-unfolding history_of held_after
+    IsLastSent x (told_of (cycles_of x n)) slot channel (frame_of (held_after x (cycles_of x n)) (place_of_slot slot channel))
+unfolding cycles_of held_after
 last-sent x zero slot channel from to = λ cycle. past-sent x [] cycle slot channel (omega arith)
 last-sent x (suc n) slot channel from to =
-    let h : History = history_of x n in
+    let h : Cycles = cycles_of x n in
     let slots : ℕ = amount x.params name.gNumberOfStaticSlots in
-    let P : Option (List ℕ) → Type 0 = IsLastSent x (next_record x h ∷ h) slot channel in
+    let P : Option (List ℕ) → Type 0 = IsLastSent x ((next_cycle x h).told ∷ told_of h) slot channel in
     subst P (sym (slots-here x (length h) (early_rows x h) slot channel (held_after x h) slots from to))
-    (last-more x h slot channel (frame_in x (length h) (early_rows x h) slot channel) (frame_of (held_after x h) (place_of_slot slot channel)) (sent-here x h slot channel) (last-sent x n slot channel from to))
+    (last-more x (next_cycle x h).told (told_of h) slot channel (frame_in x (length h) (early_rows x h) slot channel) (frame_of (held_after x h) (place_of_slot slot channel)) (sent-here x h slot channel) (last-sent x n slot channel from to))
 
-pub never-sent : (x : Setting) (n slot : ℕ) (channel : Channel) → amount x.params name.gNumberOfStaticSlots < slot → frame_of (held_after x (history_of x n)) (place_of_slot slot channel) ≡ None
-unfolding history_of held_after
+pub never-sent : (x : Setting) (n slot : ℕ) (channel : Channel) → amount x.params name.gNumberOfStaticSlots < slot → frame_of (held_after x (cycles_of x n)) (place_of_slot slot channel) ≡ None
+unfolding cycles_of held_after
 never-sent x zero slot channel past = refl
 never-sent x (suc n) slot channel past =
-    let h : History = history_of x n in
+    let h : Cycles = cycles_of x n in
     slots-there x (length h) (early_rows x h) slot channel (held_after x h) (amount x.params name.gNumberOfStaticSlots) past ∙ never-sent x n slot channel past

@@ -6,10 +6,10 @@ use Rattle.fr_cluster.specs.Values.{amount}
 use Rattle.fr_cluster.specs.declared.names.ParamName.TheVariants as name
 use Rattle.fr_pool.specs.Pool.{PoolView, IsOut}
 use Rattle.fr_history.specs.History.{History, record_at}
-use Rattle.fr_history.specs.Next.{history_of}
 use Rattle.fr_history.specs.Offers.{frame_in}
+use Rattle.fr_joined.specs.Cycles.{told_of}
 use Rattle.fr_world.specs.Memory.{cell_of, frame_at, place_of_slot}
-use Rattle.fr_world.specs.World.{memory_of, setting_after, WorldView}
+use Rattle.fr_world.specs.World.{memory_of, setting_after, world_cycles, WorldView}
 
 -- the frame that a correct node sent in a cycle of a history, in a slot on a channel: the node whose slot it is has a row
 -- in the record of that cycle, which is active, and it has the channel; none where the history has no such cycle
@@ -37,4 +37,4 @@ pub record IsOfOne (w : WorldView) (pool : PoolView) (cell : ℕ) : Type 0 where
   pub to : slot ≤ amount w.params name.gNumberOfStaticSlots
   pub is_its : cell_of (memory_of w).held (place_of_slot slot channel) ≡ Some cell
   pub only : (other : ℕ) (on : Channel) → 1 ≤ other → cell_of (memory_of w).held (place_of_slot other on) ≡ Some cell → (other ≡ slot) × (on ≡ channel)
-  pub last : WasSentLast (setting_after w) (history_of (setting_after w) w.cycles) slot channel (frame_at pool cell (memory_of w).bytes)
+  pub last : WasSentLast (setting_after w) (told_of (world_cycles w)) slot channel (frame_at pool cell (memory_of w).bytes)

@@ -1,5 +1,5 @@
-//! What stands in the message memory of a world, in words of its history: for each slot and channel the frame of the
-//! latest cycle in which a correct active node sent there. Laws; nothing here runs.
+//! What stands in the message memory of a world, in words of what is told of its cycles: for each slot and channel the
+//! frame of the latest cycle in which a correct active node with a row sent there. Laws; nothing here runs.
 #![tactic(auto)]
 
 mod laws;

@@ -1,4 +1,4 @@
--- What a series tells of a history at its end.
+-- What a series tells of a run at its end.
 use Rattle.std.specs.Prelude.{ℕ, ◌/◌, pos, nat_lt, [], ◌∷◌, length, Option, Some, None, unwrap_or, if◌then◌else◌}
 use Rattle.std.specs.Option.{option_or}
 use Rattle.fr_bound.specs.Bounds.{precision_of}
@@ -10,7 +10,8 @@ use Rattle.fr_time.specs.Position.{grid_for}
 use Rattle.fr_skew.specs.Sweep.{greatest_within}
 use Rattle.fr_skew.specs.declared.peak.Peak.{Peak}
 use Rattle.fr_history.specs.History.{History}
-use Rattle.fr_history.specs.Sync.{first_sync_of}
+use Rattle.fr_joined.specs.Cycles.{Cycles, told_of}
+use Rattle.fr_joined.specs.Sync.{first_unfollowed_sync_of}
 use Rattle.fr_series.specs.Scale.{first_above}
 use Rattle.fr_series.specs.declared.figures.Figures.{Figures}
 
@@ -43,12 +44,12 @@ lost_of p [] = None
 lost_of p (r ∷ []) = None
 lost_of p (odd ∷ even ∷ h) = if is_in_sync p even.rows odd.rows then None else Some (unwrap_or (lost_of p h) (length h / 2))
 
--- the first double cycle in sync; the greatest skew since then; from when on the clocks are out of sync; and the first skew
--- above the precision since the first double cycle in sync
-unfoldable pub figures_of : Values → History → Figures
+-- the first double cycle in sync in which no node follows; the greatest skew since then; from when on the clocks are out of
+-- sync; and the first skew above the precision since that first double cycle
+unfoldable pub figures_of : Values → Cycles → Figures
 figures_of p h = record {
-  synced = first_sync_of p h;
-  greatest = greatest_since p h (first_sync_of p h);
-  lost = lost_of p h;
-  above = above_since p h (first_sync_of p h);
+  synced = first_unfollowed_sync_of p h;
+  greatest = greatest_since p (told_of h) (first_unfollowed_sync_of p h);
+  lost = lost_of p (told_of h);
+  above = above_since p (told_of h) (first_unfollowed_sync_of p h);
 }

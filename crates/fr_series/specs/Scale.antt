@@ -1,5 +1,5 @@
 -- What the figures of a series rest on, and how they follow from those before a double cycle.
-use Rattle.std.specs.Prelude.{ℕ, zero, suc, ◌+◌, ◌*◌, ℤ, pos, int_lt, nat_abs, Bool, List, Option, Some, None, unwrap_or, if◌then◌else◌}
+use Rattle.std.specs.Prelude.{ℕ, zero, suc, ◌+◌, ◌*◌, ℤ, pos, int_lt, nat_abs, Bool, not, ◌&&◌, List, Option, Some, None, unwrap_or, if◌then◌else◌}
 use Rattle.std.specs.Option.{option_or}
 use Rattle.fr_base.specs.declared.node_row.NodeRow.{NodeRow}
 use Rattle.fr_bound.specs.Bounds.{precision_of}
@@ -40,15 +40,15 @@ first_above grid cycle rows limit (suc macrotick) =
 
 -- ---- figures after one more double cycle
 
--- the first double cycle in sync
+-- the first double cycle in sync in which no node follows, by whether this one is such a one
 abbrev pub next_synced : ℕ → Bool → Option ℕ → Option ℕ
-next_synced double in_sync synced = option_or synced (if in_sync then Some double else None)
+next_synced double free synced = option_or synced (if free then Some double else None)
 
 -- the double cycle from which on none is in sync
 abbrev pub next_lost : ℕ → Bool → Option ℕ → Option ℕ
 next_lost double in_sync lost = if in_sync then None else Some (unwrap_or lost double)
 
--- the greatest skew since the first double cycle in sync, where there was one
+-- the greatest skew since that first one, where there was one
 abbrev pub next_greatest : Scale → ℕ → List NodeRow → List NodeRow → Option ℕ → Option Peak → Option Peak
 next_greatest scale double even odd None greatest = None
 next_greatest scale double even odd (Some first) greatest =
@@ -65,14 +65,15 @@ abbrev pub next_above : Scale → ℕ → List NodeRow → List NodeRow → Opti
 next_above scale double even odd None above = None
 next_above scale double even odd (Some first) above = option_or above (above_in scale double even odd)
 
--- all of them, by whether the double cycle is in sync
-abbrev pub followed_by : Scale → ℕ → List NodeRow → List NodeRow → Bool → Figures → Figures
-followed_by scale double even odd in_sync figures = record {
-  synced = next_synced double in_sync figures.synced;
-  greatest = next_greatest scale double even odd (next_synced double in_sync figures.synced) figures.greatest;
+-- all of them, by whether the double cycle is in sync and whether a node follows in it
+abbrev pub followed_by : Scale → ℕ → List NodeRow → List NodeRow → Bool → Bool → Figures → Figures
+followed_by scale double even odd in_sync following figures = record {
+  synced = next_synced double (in_sync && not following) figures.synced;
+  greatest = next_greatest scale double even odd (next_synced double (in_sync && not following) figures.synced) figures.greatest;
   lost = next_lost double in_sync figures.lost;
-  above = next_above scale double even odd (next_synced double in_sync figures.synced) figures.above;
+  above = next_above scale double even odd (next_synced double (in_sync && not following) figures.synced) figures.above;
 }
 
-abbrev pub followed : Scale → ℕ → List NodeRow → List NodeRow → Figures → Figures
-followed scale double even odd figures = followed_by scale double even odd (are_in_sync scale.bounds even odd) figures
+abbrev pub followed : Scale → ℕ → List NodeRow → List NodeRow → Bool → Figures → Figures
+followed scale double even odd following figures =
+    followed_by scale double even odd (are_in_sync scale.bounds even odd) following figures

@@ -1,17 +1,19 @@
 -- The series of a run as a text, line by line.
-use Rattle.std.specs.Prelude.{ℕ, ◌+◌, Bool, true, false, List, [], ◌∷◌, ◌++◌, codes, length, Option, Some, None}
+use Rattle.std.specs.Prelude.{ℕ, ◌+◌, ◌*◌, Bool, true, false, List, [], ◌∷◌, ◌++◌, codes, length, Option, Some, None}
 use Rattle.std.specs.Fmt.{decimal, signed_decimal}
 use Rattle.fr_base.specs.declared.node_row.NodeRow.{NodeRow}
 use Rattle.fr_bound.specs.Sync.{is_in_sync}
 use Rattle.fr_cluster.specs.Values.{Values}
 use Rattle.fr_coverage.specs.Decided.{setting_of}
+use Rattle.fr_drift.specs.Questions.{doubles_of}
 use Rattle.fr_drift.specs.View.{DriftView}
 use Rattle.fr_script.specs.View.{ScriptView}
 use Rattle.fr_time.specs.Position.{grid_for}
 use Rattle.fr_time.specs.declared.grid.Grid.{Grid}
 use Rattle.fr_skew.specs.declared.peak.Peak.{Peak}
 use Rattle.fr_history.specs.History.{History, Record}
-use Rattle.fr_history.specs.Next.{whole_history}
+use Rattle.fr_joined.specs.Cycles.{Cycles, told_of}
+use Rattle.fr_joined.specs.Next.{cycles_of}
 use Rattle.fr_text.specs.Pieces.{line}
 use Rattle.fr_series.specs.Figures.{figures_of}
 use Rattle.fr_series.specs.Scale.{peak_by}
@@ -47,7 +49,7 @@ series_rows p [] = []
 series_rows p (r ∷ []) = []
 series_rows p (odd ∷ even ∷ h) = series_rows p h ++ double_text p (length h) even odd
 
--- the greatest skew since the first double cycle in sync, and its first place
+-- the greatest skew since the first double cycle in sync in which no node follows, and its first place
 abbrev pub greatest_text : Option Peak → List ℕ
 greatest_text None = codes "greatest,-,-,-"
 greatest_text (Some peak) =
@@ -58,7 +60,7 @@ abbrev pub synced_text : Option ℕ → List ℕ
 synced_text None = codes "synced,yes,,"
 synced_text (Some double) = codes "synced,no," ++ decimal double ++ codes ","
 
--- whether the skew stayed within the precision since the first double cycle in sync, or the first place where it did not
+-- whether the skew stayed within the precision since then, or the first place where it did not
 abbrev pub above_text : Option Peak → List ℕ
 above_text None = codes "within,yes,,"
 above_text (Some peak) = codes "within,no," ++ decimal peak.cycle ++ codes "," ++ decimal peak.macrotick
@@ -72,10 +74,10 @@ unfoldable pub series_end : Figures → List ℕ
 series_end figures =
     line (greatest_text figures.greatest) ++ line (synced_text figures.lost) ++ line (within_text figures.synced figures.above)
 
--- the series of a history
-unfoldable pub series_of : Values → History → List ℕ
-series_of p h = line series_head ++ series_rows p h ++ series_end (figures_of p h)
+-- the series of some cycles
+unfoldable pub series_of : Values → Cycles → List ℕ
+series_of p h = line series_head ++ series_rows p (told_of h) ++ series_end (figures_of p h)
 
 -- the series of the run of some parameters, a drift and a script, over all its cycles
 abbrev pub series_text : Values → DriftView → ScriptView → List ℕ
-series_text p d s = series_of p (whole_history (setting_of p d s))
+series_text p d s = series_of p (cycles_of (setting_of p d s) (2 * doubles_of d))

@@ -1,8 +1,9 @@
 -- The double cycles of a world, as they are written.
-use Rattle.std.specs.Prelude.{◌≡◌, ℕ, ◌*◌, ◌<◌, List}
+use Rattle.std.specs.Prelude.{◌≡◌, ℕ, ◌+◌, ◌*◌, ◌<◌, Bool, not, ◌||◌, List}
 use Rattle.fr_base.specs.declared.node_row.NodeRow.{NodeRow}
 use Rattle.fr_drift.specs.Questions.{doubles_of}
-use Rattle.fr_history.specs.Next.{history_of, next_record}
+use Rattle.fr_joined.specs.Next.{cycles_of, next_cycle}
+use Rattle.fr_joined.specs.Sync.{is_none}
 use Rattle.fr_skew.specs.Sync.{are_in_sync}
 use Rattle.fr_world.specs.World.{WorldView, setting_after}
 use Rattle.fr_series.specs.Text.{double_by}
@@ -14,9 +15,16 @@ pub record IsAtDouble (w : WorldView) (double : ℕ) : Type 0 where
   pub more : double < doubles_of w.drift
   pub few : double < 100_000
 
--- the rows of a cycle of a world's history
+-- the rows of a cycle of a world's run
 abbrev pub rows_of : WorldView → ℕ → List NodeRow
-rows_of w cycle = (next_record (setting_after w) (history_of (setting_after w) cycle)).rows
+rows_of w cycle = (next_cycle (setting_after w) (cycles_of (setting_after w) cycle)).told.rows
+
+-- whether a node follows in it, and whether one does in a double cycle
+abbrev pub is_followed : WorldView → ℕ → Bool
+is_followed w cycle = not (is_none (next_cycle (setting_after w) (cycles_of (setting_after w) cycle)).followers)
+
+abbrev pub is_double_followed : WorldView → ℕ → Bool
+is_double_followed w cycle = is_followed w cycle || is_followed w (cycle + 1)
 
 -- the text of a double cycle, by the rows of its two cycles
 abbrev pub text_of_double : Scale → ℕ → List NodeRow → List NodeRow → List ℕ

@@ -9,13 +9,13 @@ use fr_skew::{Peak, swept};
 /// What a series tells at its end.
 #[derive(Clone, Copy, Debug, PartialEq, Eq)]
 pub struct Figures {
-    /// The first double cycle in sync, if there was one.
+    /// The first double cycle in sync in which no node follows, if there was one.
     pub synced: Option<u32>,
     /// The greatest skew since then, and its first place.
     pub greatest: Option<Peak>,
     /// From which double cycle on none is in sync, where the last is not.
     pub lost: Option<u32>,
-    /// The first skew above the precision since the first double cycle in sync, if there was one.
+    /// The first skew above the precision since that first one, if there was one.
     pub above: Option<Peak>,
 }
 
@@ -32,7 +32,7 @@ impl Figures {
         }
     }
 
-    // The figures after one more double cycle, by whether it is in sync.
+    // The figures after one more double cycle, by whether it is in sync and whether a node follows in it.
     pub(crate) fn followed(
         self,
         scale: &Scale,
@@ -40,14 +40,15 @@ impl Figures {
         even: &[NodeRow],
         odd: &[NodeRow],
         in_sync: bool,
+        following: bool,
     ) -> Figures
         requires scale { IsScale scale.now }
         requires double { double < 100_000 }
         requires even { All (IsPlacedRow scale.now.grid) even.now }
         requires odd { All (IsPlacedRow scale.now.grid) odd.now }
-        ensures { result ≡ followed_by scale.now double even.now odd.now in_sync self }
+        ensures { result ≡ followed_by scale.now double even.now odd.now in_sync following self }
     {
-        let synced = next_synced(double, in_sync, self.synced);
+        let synced = next_synced(double, in_sync && !following, self.synced);
         Figures {
             synced,
             greatest: next_greatest(scale, double, even, odd, synced, self.greatest),
@@ -57,12 +58,12 @@ impl Figures {
     }
 }
 
-fn next_synced(double: u32, in_sync: bool, synced: Option<u32>) -> Option<u32>
-    ensures { result ≡ next_synced double in_sync synced }
+fn next_synced(double: u32, free: bool, synced: Option<u32>) -> Option<u32>
+    ensures { result ≡ next_synced double free synced }
 {
     match synced {
         Some(first) => Some(first),
-        None => { if in_sync { Some(double) } else { None } }
+        None => { if free { Some(double) } else { None } }
     }
 }
 

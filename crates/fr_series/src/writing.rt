@@ -1,7 +1,8 @@
 ghost use Rattle.std.specs.Prelude.{◌≡◌, ◌+◌, ◌*◌, ◌<◌, ◌++◌, All, [], IsOk};
 ghost use Rattle.fr_base.specs.Device.{Puts};
 ghost use Rattle.fr_drift.specs.Questions.{doubles_of};
-ghost use Rattle.fr_history.specs.Next.{history_of, next_record, whole_history};
+ghost use Rattle.fr_joined.specs.Cycles.{told_of};
+ghost use Rattle.fr_joined.specs.Next.{cycles_of};
 ghost use Rattle.fr_skew.specs.Sync.{are_in_sync};
 ghost use Rattle.fr_time.specs.Placed.{IsPlacedRow};
 ghost use Rattle.fr_time.specs.Position.{grid_for};
@@ -9,7 +10,7 @@ ghost use Rattle.fr_world.specs.World.{setting_after};
 ghost use Rattle.fr_series.specs.Figures.{figures_of};
 ghost use Rattle.fr_series.specs.Scale.{IsScale, followed, scale_of};
 ghost use Rattle.fr_series.specs.Text.{double_by, series_end, series_rows, series_text};
-ghost use Rattle.fr_series.specs.Writing.{IsAtDouble, rows_of, text_of_double};
+ghost use Rattle.fr_series.specs.Writing.{IsAtDouble, is_double_followed, is_followed, rows_of, text_of_double};
 
 use crate::figures::Figures;
 use crate::lines::{cycle_line, end_lines, head_line};
@@ -42,9 +43,9 @@ fn write_rows<O: Sink>(
     requires fresh { world.old.cycles ≡ 0 }
     requires none { figures.old ≡ figures_of world.old.params [] }
     ensures text { Puts result (O.state out.old) (O.state out.new)
-        (series_rows world.old.params (whole_history (setting_after world.old))) }
+        (series_rows world.old.params (told_of (cycles_of (setting_after world.old) (2 * doubles_of world.old.drift)))) }
     ensures figures { IsOk result →
-        figures.new ≡ figures_of world.old.params (whole_history (setting_after world.old)) }
+        figures.new ≡ figures_of world.old.params (cycles_of (setting_after world.old) (2 * doubles_of world.old.drift)) }
 {
     let scale = Scale::of(world.params());
     let doubles = world.drift().doubles();
@@ -67,37 +68,50 @@ fn write_double<O: Sink>(
     requires proper { IsScale scale.now }
     ensures ran { world.new ≡ record world.old { cycles = world.old.cycles + 2 } }
     ensures figures { figures.new ≡ followed scale.now double
-        (rows_of world.old world.old.cycles) (rows_of world.old (world.old.cycles + 1)) figures.old }
+        (rows_of world.old world.old.cycles) (rows_of world.old (world.old.cycles + 1))
+        (is_double_followed world.old world.old.cycles) figures.old }
     ensures text { Puts result (O.state out.old) (O.state out.new)
         (text_of_double scale.now double
         (rows_of world.old world.old.cycles) (rows_of world.old (world.old.cycles + 1))) }
 {
     let mut even = RowList::new();
     let mut odd = RowList::new();
-    next_rows(world, &mut even);
-    next_rows(world, &mut odd);
-    put_double(scale, double, even.as_slice(), odd.as_slice(), figures, out)
+    let followed = next_rows(world, &mut even);
+    let following = next_rows(world, &mut odd);
+    put_double(
+        scale,
+        double,
+        even.as_slice(),
+        odd.as_slice(),
+        followed || following,
+        figures,
+        out,
+    )
 }
 
-// Runs the next cycle, and keeps its rows.
-fn next_rows(world: &mut World, rows: &mut RowList)
+// Runs the next cycle, and keeps its rows; whether a node follows in it.
+fn next_rows(world: &mut World, rows: &mut RowList) -> bool
     requires { world.old.cycles < 2 * doubles_of world.old.drift }
     ensures ran { world.new ≡ record world.old { cycles = world.old.cycles + 1 } }
     ensures rows { rows.new ≡ rows_of world.old world.old.cycles }
     ensures placed { All (IsPlacedRow (grid_for world.old.params)) rows.new }
+    ensures following { result ≡ is_followed world.old world.old.cycles }
 {
     match world.cycle() {
         Some(row) => rows.assign(&row.rows),
         None => unreachable!(),
     }
+    world.following()
 }
 
-// Writes the lines of a double cycle, by the rows of its two cycles, and gathers its figures.
+// Writes the lines of a double cycle, by the rows of its two cycles, and gathers its figures with whether a node follows
+// in it.
 fn put_double<O: Sink>(
     scale: &Scale,
     double: u32,
     even: &[NodeRow],
     odd: &[NodeRow],
+    following: bool,
     figures: &mut Figures,
     out: &mut O,
 ) -> Result<(), PutFault>
@@ -105,12 +119,12 @@ fn put_double<O: Sink>(
     requires double { double < 100_000 }
     requires even { All (IsPlacedRow scale.now.grid) even.now }
     requires odd { All (IsPlacedRow scale.now.grid) odd.now }
-    ensures figures { figures.new ≡ followed scale.now double even.now odd.now figures.old }
+    ensures figures { figures.new ≡ followed scale.now double even.now odd.now following figures.old }
     ensures text { Puts result (O.state out.old) (O.state out.new)
         (text_of_double scale.now double even.now odd.now) }
 {
     let in_sync = are_in_sync(scale, even, odd);
-    *figures = figures.followed(scale, double, even, odd, in_sync);
+    *figures = figures.followed(scale, double, even, odd, in_sync, following);
     let cycle = 2 * double;
     out.put(cycle_line(cycle, in_sync, scale.peak(cycle, even)).bytes())?;
     out.put(cycle_line(cycle + 1, in_sync, scale.peak(cycle + 1, odd)).bytes())

@@ -2,12 +2,11 @@ use Rattle.std.proofs.Common.{◌≡◌, ◌+◌, ◌*◌, ◌<◌, ◌≤◌, �
 use Rattle.fr_base.specs.Device.{Puts}
 use Rattle.fr_base.proofs.Putting.{cut, then, puts_none}
 use Rattle.fr_drift.specs.Questions.{doubles_of}
-use Rattle.fr_history.specs.Next.{history_of}
+use Rattle.fr_joined.specs.Next.{cycles_of}
 use Rattle.fr_world.specs.World.{WorldView, setting_after}
 use Rattle.fr_series.specs.Figures.{figures_of}
 use Rattle.fr_series.specs.Scale.{scale_of}
-use Rattle.fr_series.specs.Text.{series_rows}
-use Rattle.fr_series.proofs.Rows.{rows-none, rows-upto}
+use Rattle.fr_series.proofs.Rows.{rows-none, rows-upto, text_upto}
 use Rattle.fr_series.proofs.Worlds.{figures-first, figures-more, text-more, two-more}
 use Rattle.fr_series.proofs.writing.write_rows.Goals as goal
 
@@ -56,7 +55,7 @@ returns-clause-text g c =
     let inv = c.loop-double.invariant in
     let doubles : c.doubles-doubles.result ≡ doubles_of w.drift = c.doubles-doubles.ensures.value ∙ ap doubles_of c.drift.ensures.value in
     let end : c.loop-double.double ≡ doubles_of w.drift = omega (arith, doubles) in
-    let P : ℕ → Type 0 = λ k. Puts (Ok tt) (g.O.Sink.state c.args.out.now) (g.O.Sink.state c.loop-double.out) (series_rows w.params (history_of (setting_after w) (2 * k))) in
+    let P : ℕ → Type 0 = λ k. Puts (Ok tt) (g.O.Sink.state c.args.out.now) (g.O.Sink.state c.loop-double.out) (text_upto (setting_after w) (2 * k)) in
     subst P end inv.text
 
 pub returns-clause-figures : goal.returns-clause-figures
@@ -65,7 +64,7 @@ returns-clause-figures g c = λ ok.
     let inv = c.loop-double.invariant in
     let doubles : c.doubles-doubles.result ≡ doubles_of w.drift = c.doubles-doubles.ensures.value ∙ ap doubles_of c.drift.ensures.value in
     let end : c.loop-double.double ≡ doubles_of w.drift = omega (arith, doubles) in
-    let P : ℕ → Type 0 = λ k. c.loop-double.figures ≡ figures_of w.params (history_of (setting_after w) (2 * k)) in
+    let P : ℕ → Type 0 = λ k. c.loop-double.figures ≡ figures_of w.params (cycles_of (setting_after w) (2 * k)) in
     subst P end inv.figures
 
 pub write_double-requires-clause-at : goal.write_double-requires-clause-at

@@ -1,21 +1,26 @@
-use Rattle.std.proofs.Common.{◌≡◌, ◌+◌, ◌∷◌, ◌∙◌, rules, ap, subst, sym, arith}
+use Rattle.std.proofs.Common.{◌≡◌, ◌+◌, ◌∷◌, ◌∙◌, ap, subst, sym, arith}
 use Rattle.fr_drift.specs.Questions.{doubles_of}
-use Rattle.fr_history.specs.Recorded.{recorded}
-use Rattle.fr_world.specs.World.{setting_after, WorldView}
-use Rattle.fr_report.specs.Held.{IsReportOf, ReportHolds, run_history}
-use Rattle.fr_report.proofs.Adding.{row-held, row_is_next}
+use Rattle.fr_joined.specs.Next.{next_cycle}
+use Rattle.fr_world.specs.World.{followed_last, setting_after, world_cycles, WorldView}
+use Rattle.fr_report.specs.Held.{IsReportOf, ReportHolds}
+use Rattle.fr_report.proofs.Adding.{last_row, next_told, row-held, row_is_next}
 use Rattle.fr_report.proofs.report.Report.add_next.Goals as goal
 
 pub add-requires : goal.add-requires
 add-requires c =
     let w = c.args.world.now in
     let doubles : c.doubles-doubles.result ≡ doubles_of w.drift = c.doubles-doubles.ensures.value ∙ ap doubles_of c.drift.ensures.value in
-    row_is_next (setting_after w) c.args.self.now w.cycles c.in-Some.row.now (omega (arith, doubles, c.requires.more, c.doubles-doubles.ensures.to)) c.in-Some.ensures.row c.requires.held
+    row_is_next (setting_after w) c.args.self.now w.cycles c.in-Some.row.now (omega (arith, doubles, c.requires.more, c.doubles-doubles.ensures.to))
+    (last_row w c.run_next.new.world c.in-Some.row.now c.run_next.ensures c.in-Some.ensures.row) c.requires.held
 
 pub returns-clause-held : goal.returns-clause-held
 returns-clause-held c =
     let w = c.args.world.now in
-    let after : c.cycle.follows.lender-at-none ≡ record w { cycles = w.cycles + 1 } = search rules in
-    let held : ReportHolds w.params c.add.new.self (recorded c.in-Some.row.now ∷ run_history w) = c.add.ensures w.params (run_history w) c.requires.held in
+    let x = setting_after w in
+    let after = c.run_next.ensures in
+    let following : c.following-following.result ≡ followed_last (world_cycles (record w { cycles = w.cycles + 1 })) =
+    c.following-following.ensures ∙ ap (λ (v : WorldView). followed_last (world_cycles v)) after in
+    let tells = next_told x w.cycles c.in-Some.row.now c.following-following.result (last_row w c.run_next.new.world c.in-Some.row.now after c.in-Some.ensures.row) following in
+    let held : ReportHolds w.params c.add.new.self (next_cycle x (world_cycles w) ∷ world_cycles w) = c.add.ensures w.params (world_cycles w) (next_cycle x (world_cycles w)) tells c.requires.held in
     let P : WorldView → Type 0 = λ v. IsReportOf v c.add.new.self in
-    subst P (sym after) (row-held (setting_after w) c.add.new.self w.cycles c.in-Some.row.now c.in-Some.ensures.row held)
+    subst P (sym after) (row-held x c.add.new.self w.cycles held)

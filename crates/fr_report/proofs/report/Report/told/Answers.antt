@@ -7,18 +7,17 @@ use Rattle.fr_cluster.specs.Constraints.{key_slots}
 use Rattle.fr_cluster.specs.Values.{Values}
 use Rattle.fr_cluster.specs.declared.nodes.NodeSpec.{NodeSpec}
 use Rattle.fr_script.specs.View.{ScriptView, is_arbitrary}
-use Rattle.fr_world.specs.World.{setting_after}
-use Rattle.fr_world.proofs.OneCycle.{nodes-few}
+use Rattle.fr_world.specs.World.{setting_after, world_cycles}
 use Rattle.fr_report.specs.Clocks.{clock_between}
-use Rattle.fr_report.specs.Held.{run_history, ReportView}
+use Rattle.fr_report.specs.Held.{ReportView}
 use Rattle.fr_report.specs.Told.{arbitrary_nodes}
-use Rattle.fr_report.proofs.Telling.{told_is}
+use Rattle.fr_report.proofs.Telling.{nodes-few, told_is}
 use Rattle.fr_report.proofs.report.Report.told.Goals as goal
 
 pub clocks_of-requires-clause-few : goal.clocks_of-requires-clause-few
 clocks_of-requires-clause-few c =
     let w = c.args.world.now in
-    nodes-few (setting_after w) c.params-params.ensures.sane (run_history w) c.nodes.result.now c.nodes.ensures.value
+    nodes-few (setting_after w) c.params-params.ensures.sane (world_cycles w) c.nodes.result.now c.nodes.ensures.value
 
 pub returns : goal.returns
 returns c =
@@ -44,4 +43,4 @@ returns c =
     let clocks : c.clocks_of.result ≡ map (clock_between report.odd) c.nodes.result.now =
     c.clocks_of.ensures ∙ ap (λ odd. map (clock_between odd) c.nodes.result.now) (c.as_slice.ensures.rows ∙ ap (λ (r : ReportView). r.odd) c.self.view_is) in
     rw (nodes, sync, arbitrary, doubles, precision, gap, synced, greatest, sums, cut, clocks)
-    (told_is x (result_err c.args.gap) report c.nodes.result.now (run_history w) c.nodes.ensures.value c.requires)
+    (told_is x (result_err c.args.gap) report c.nodes.result.now (world_cycles w) c.nodes.ensures.value c.requires)
