@@ -5,20 +5,19 @@ ghost use Rattle.fr_drift.specs.View.{DriftView};
 ghost use Rattle.fr_script.specs.View.{IsScript, ScriptView};
 ghost use Rattle.fr_ending.specs.Decided.{IsDecided};
 ghost use Rattle.fr_run_files.specs.Statuses.{AreTold};
-ghost use Rattle.fr_trace.specs.Text.{trace_text};
-ghost use Rattle.fr_answer_trace.specs.TraceAnswer.{IsRunTrace, IsTraceText};
+ghost use Rattle.fr_answer_trace.specs.TraceAnswer.{IsRunTrace, IsTraceText, trace_text};
 
-use fr_history::one_lawful_history;
-use fr_world::files_decide_one_history;
+use fr_joined::one_lawful_run;
+use fr_world::files_decide_one_run;
 
 /// A law: the text of the trace of some parameters, a drift that fits them, and a script, is that of their one lawful
-/// history over all cycles. The other premises are the invariants of `Params` and of `Script`.
+/// run over all cycles. The other premises are the invariants of `Params` and of `Script`.
 pub fn a_trace_is_lawful()
     ensures { (p : Values) (d : DriftView) (s : ScriptView) →
         IsSane p → DriftFits p d → IsScript s → IsTraceText p d s (trace_text p d s) }
 {
-    one_lawful_history();
-    files_decide_one_history();
+    one_lawful_run();
+    files_decide_one_run();
 }
 
 /// A law: the bytes of the files decide what is written. Two texts that the answer's clause allows for files of the
@@ -29,5 +28,5 @@ pub fn files_decide_the_trace()
     fr_params::one_answer();
     fr_drift::one_answer();
     fr_script::one_answer();
-    files_decide_one_history();
+    files_decide_one_run();
 }

@@ -1,20 +1,21 @@
 ghost use Rattle.std.specs.Prelude.{◌≡◌, ◌+◌, ◌*◌, ◌<◌, ◌≤◌};
 ghost use Rattle.fr_base.specs.Device.{Puts};
 ghost use Rattle.fr_drift.specs.Questions.{doubles_of};
-ghost use Rattle.fr_history.specs.Next.{history_of, next_record, whole_history};
+ghost use Rattle.fr_joined.specs.Cycles.{told_of};
+ghost use Rattle.fr_joined.specs.Next.{cycles_of, next_cycle};
 ghost use Rattle.fr_trace.specs.Items.{items_in};
-ghost use Rattle.fr_trace.specs.Text.{cycle_text, items_text, trace_text};
+ghost use Rattle.fr_trace.specs.Text.{cycle_text, items_text};
 ghost use Rattle.fr_world.specs.World.{setting_after};
 ghost use Rattle.fr_ending.specs.Around.{TextEnds, files_until};
 ghost use Rattle.fr_ending.specs.Failure.{EndingWritesNothing};
 ghost use Rattle.fr_run_files.specs.Files.{StopsAtFile};
 ghost use Rattle.fr_run_files.specs.Names.{names_of};
-ghost use Rattle.fr_answer_trace.specs.TraceAnswer.{IsRunTrace};
+ghost use Rattle.fr_answer_trace.specs.TraceAnswer.{IsRunTrace, trace_text};
 
 use crate::laws::a_trace_is_lawful;
 use fr_base::{PutFault, Shelf, Sink};
 use fr_ending::Failure;
-use fr_history::one_lawful_history;
+use fr_joined::one_lawful_run;
 use fr_run_files::{RunFiles, world_of};
 use fr_trace::{write_cycle, write_head};
 use fr_world::World;
@@ -58,7 +59,7 @@ fn write_trace<O: Sink>(world: &mut World, out: &mut O) -> Result<(), PutFault>
 fn write_cycles<O: Sink>(world: &mut World, out: &mut O) -> Result<(), PutFault>
     requires { world.old.cycles ≡ 0 }
     ensures { Puts result (O.state out.old) (O.state out.new)
-        (items_text (items_in (whole_history (setting_after world.old)))) }
+        (items_text (items_in (told_of (cycles_of (setting_after world.old) (2 * doubles_of world.old.drift))))) }
 {
     let cycles = 2 * world.drift().doubles();
     for _done in 0..cycles {
@@ -72,10 +73,10 @@ fn write_next<O: Sink>(world: &mut World, out: &mut O) -> Result<(), PutFault>
     requires { world.old.cycles < 2 * doubles_of world.old.drift }
     ensures ran { world.new ≡ record world.old { cycles = world.old.cycles + 1 } }
     ensures text { Puts result (O.state out.old) (O.state out.new)
-        (cycle_text (history_of (setting_after world.old) world.old.cycles)
-        (next_record (setting_after world.old) (history_of (setting_after world.old) world.old.cycles))) }
+        (cycle_text (told_of (cycles_of (setting_after world.old) world.old.cycles))
+        (next_cycle (setting_after world.old) (cycles_of (setting_after world.old) world.old.cycles)).told) }
 {
-    one_lawful_history();
+    one_lawful_run();
     match world.cycle() {
         Some(row) => write_cycle(row, out),
         None => unreachable!(),

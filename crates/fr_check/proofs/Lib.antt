@@ -3,6 +3,7 @@ mod Controlling
 mod Ranks
 mod Walking
 mod Sounded
+mod Followed
 mod Gathering
 mod Judging
 mod Kept

@@ -1,6 +1,6 @@
 -- Each record of a trace that fits its cluster is sound.
 use Rattle.std.proofs.Common.{◌≡◌, ℕ, suc, ◌+◌, ◌*◌, ◌<◌, ◌≤◌, List, [], ◌∷◌, ◌++◌, length, map, take, get_or, All, Option, Some, ap, sym, ◌∙◌, subst, inl, inr, arith}
-use Rattle.std.specs.Prelude.{AllPairs, Contains, IfSome, not, slice_index_or}
+use Rattle.std.specs.Prelude.{AllPairs, Contains, IfSome, filter, slice_index_or}
 use Rattle.std.proofs.lemmas.List.{get_or-take, get_or_default, length-take}
 use Rattle.std.proofs.lemmas.List.Elements.{All-contains, All-filter, All-map}
 use Rattle.fr_base.specs.Rows.{AreAscendingDevs, AreAscendingRows, IsEarlierDev, channel_rank}
@@ -14,19 +14,19 @@ use Rattle.fr_cluster.specs.declared.names.ParamName.TheVariants as name
 use Rattle.fr_cluster.specs.declared.nodes.NodeSpec.{NodeSpec}
 use Rattle.fr_cluster.proofs.KeyNodes.{AllPairs-rest, key_among}
 use Rattle.fr_round.proofs.Keys.{key_node_has, key_slot_within}
-use Rattle.fr_history.specs.History.{Record}
+use Rattle.fr_history.specs.History.{History, Record}
 use Rattle.fr_time.specs.Instant.{KeepsLimits}
 use Rattle.fr_time.specs.Placed.{IsPlacedRow}
 use Rattle.fr_time.specs.Position.{CanPlace}
 use Rattle.fr_time.specs.declared.grid.Grid.{Grid}
 use Rattle.fr_trace.specs.Cycles.{history_by}
-use Rattle.fr_trace.specs.Fits.{FitsRecord, IsAboutOther, TraceFits, unnamed_nodes}
+use Rattle.fr_trace.specs.Fits.{FitsRecord, HistoryFits, IsAboutOther, TraceFits}
 use Rattle.fr_trace.specs.Lasting.{IsTrace, IsTracedRecord}
-use Rattle.fr_trace.specs.Trace.{TraceView, is_named}
+use Rattle.fr_trace.specs.Trace.{TraceView, has_row_in}
 use Rattle.fr_trace.specs.declared.trace.TracedCycle.{TracedCycle}
 use Rattle.fr_trace_gap.specs.Sound.{AreSound, IsSound}
 use Rattle.fr_trace_gap.proofs.Parts.{history_length}
-use Rattle.fr_trace_gap.proofs.Parts.{all_rest, take_one_more}
+use Rattle.fr_trace_gap.proofs.Parts.{all_cons, all_rest, take_one_more}
 use Rattle.fr_trace_gap.proofs.Records.{kept_each}
 
 -- ---- how many deviations a record has
@@ -76,15 +76,15 @@ keyed p dev sane about =
     (own.1, (key_slot_within p dev.slot sane (key_among p.nodes about.sender dev.slot has.0 has.1)).1)
 
 -- its receiver is one of the nodes
-nodes_few : (p : Values) (t : TraceView) (r : Record) → IsSane p → FitsRecord p t r → All (λ node. node ≤ 64) (map (λ row. row.node) r.rows)
-nodes_few p t r sane fits =
+nodes_few : (p : Values) (t : TraceView) (h : History) (r : Record) → IsSane p → FitsRecord p t h r → All (λ node. node ≤ 64) (map (λ row. row.node) r.rows)
+nodes_few p t h r sane fits =
     subst (All (λ (node : ℕ). node ≤ 64)) (sym fits.nodes)
-    (All-map (λ (id : ℕ). id ≤ 64) (λ (node : NodeSpec). node.id) (unnamed_nodes p t)
-    (All-filter (λ (node : NodeSpec). not (is_named t node.id)) (λ (node : NodeSpec). node.id ≤ 64) p.nodes (λ k d lt. (sane.lists.nodes_sane k d lt).proper.to)))
+    (All-map (λ (id : ℕ). id ≤ 64) (λ (node : NodeSpec). node.id) (filter (λ node. has_row_in t h r node.id) p.nodes)
+    (All-filter (λ (node : NodeSpec). has_row_in t h r node.id) (λ (node : NodeSpec). node.id ≤ 64) p.nodes (λ k d lt. (sane.lists.nodes_sane k d lt).proper.to)))
 
-devs_few : (p : Values) (t : TraceView) (r : Record) → IsSane p → IsTracedRecord r → FitsRecord p t r → length r.devs ≤ 140_000
-devs_few p t r sane traced fits =
-    let nodes = nodes_few p t r sane fits in
+devs_few : (p : Values) (t : TraceView) (h : History) (r : Record) → IsSane p → IsTracedRecord r → FitsRecord p t h r → length r.devs ≤ 140_000
+devs_few p t h r sane traced fits =
+    let nodes = nodes_few p t h r sane fits in
     let slots : All (λ dev. dev.slot ≤ 1_023) r.devs = λ k d lt. (keyed p (slice_index_or r.devs k d) sane (fits.devs k d lt)).0 in
     let few : 0 + length r.devs ≤ 140_000 =
     places_few 0 140_000 r.devs traced.devs_ascend slots
@@ -94,8 +94,8 @@ devs_few p t r sane traced fits =
 
 -- ---- records and cycles
 
-sound_record : (p : Values) (t : TraceView) (r : Record) → IsSane p → IsTracedRecord r → FitsRecord p t r → IsSound p r
-sound_record p t r sane traced fits = record {
+sound_record : (p : Values) (t : TraceView) (h : History) (r : Record) → IsSane p → IsTracedRecord r → FitsRecord p t h r → IsSound p r
+sound_record p t h r sane traced fits = record {
   few = traced.few;
   ascend = traced.rows_ascend;
   rows = λ k d lt. record { timed = (traced.rows_proper k d lt).0; rate = fits.rates k d lt; offset = fits.offsets k d lt };
@@ -103,12 +103,18 @@ sound_record p t r sane traced fits = record {
     ascend = traced.devs_ascend;
     each = λ k d lt. record { within = traced.devs_proper k d lt; static_slot = (keyed p (slice_index_or r.devs k d) sane (fits.devs k d lt)).1 };
   };
-  few_devs = devs_few p t r sane traced fits;
+  few_devs = devs_few p t h r sane traced fits;
 }
+
+sound_history : (p : Values) (t : TraceView) (h : History) → IsSane p → All IsTracedRecord h → HistoryFits p t h → All (IsSound p) h
+unfolding HistoryFits
+sound_history p t [] sane traced fits = λ k d lt. absurd (omega arith)
+sound_history p t (r ∷ h) sane traced fits =
+    all_cons (IsSound p) r h (sound_record p t h r sane (traced 0 r (omega arith)) fits.0) (sound_history p t h sane (all_rest IsTracedRecord r h traced) fits.1)
 
 pub sound_each : (p : Values) (t : TraceView) (cycles : List TracedCycle) → IsSane p → IsTrace t → TraceFits p t → history_by cycles ≡ t.history → AreSound p cycles
 sound_each p t cycles sane trace fits same =
-    kept_each (IsSound p) cycles (subst (All (IsSound p)) (sym same) (λ k d lt. sound_record p t (slice_index_or t.history k d) sane (trace.records k d lt) (fits.records k d lt)))
+    kept_each (IsSound p) cycles (subst (All (IsSound p)) (sym same) (sound_history p t t.history sane trace.records fits.records))
 
 pub cycles_few : (t : TraceView) (cycles : List TracedCycle) → IsTrace t → history_by cycles ≡ t.history → length cycles ≤ 200_000
 cycles_few t cycles trace same =

@@ -4,13 +4,15 @@ use Rattle.fr_base.specs.Timed.{IsLength}
 use Rattle.fr_base.specs.Within.{IsWithin}
 use Rattle.fr_base.specs.declared.dev.Dev.{Dev}
 use Rattle.fr_base.specs.declared.node_row.NodeRow.{NodeRow}
+use Rattle.fr_base.specs.declared.state.State.{State}
 use Rattle.fr_bound.specs.Bounds.{arrival_error}
 use Rattle.fr_cluster.specs.Values.{Values}
 use Rattle.fr_history.specs.History.{Record}
 use Rattle.fr_precision.specs.Instants.{gap_of}
 use Rattle.fr_time.specs.Position.{floor_of}
 use Rattle.fr_time.specs.Slots.{action_point_of}
-use Rattle.fr_verdict.specs.Breach.{sender_row, silent_state}
+use Rattle.fr_trace.specs.Trace.{TraceView}
+use Rattle.fr_verdict.specs.Breach.{sender_is_away, sender_row, silent_state}
 use Rattle.fr_verdict.specs.declared.unlawful.Unlawful.{Unlawful}
 use Rattle.fr_verdict.specs.declared.unlawful.Unlawful.TheVariants as unlawful
 use Rattle.fr_check.specs.declared.deviations.Allowed.{Allowed}
@@ -35,17 +37,22 @@ limits_by p odd slot None receiver = None
 limits_by p odd slot (Some sender) None = None
 limits_by p odd slot (Some sender) (Some receiver) = Some (limits_of p odd slot sender receiver)
 
--- what they may be in a record, at a receiver with this row
-abbrev pub allowed_by : Values → Bool → Record → Option NodeRow → ℕ → Allowed
-allowed_by p odd r receiver slot = record {
+-- of a sender that is away no state is told
+abbrev pub silent_by : Bool → Option NodeRow → Option NodeRow → Option State
+silent_by away sender receiver = if away then None else silent_state sender receiver
+
+-- what they may be in a record of a trace, at a receiver with this row
+abbrev pub allowed_by : Values → TraceView → Bool → Record → Option NodeRow → ℕ → Allowed
+allowed_by p t odd r receiver slot = record {
   slot = slot;
-  silent = silent_state (sender_row p r slot) receiver;
+  away = sender_is_away p t r slot;
+  silent = silent_by (sender_is_away p t r slot) (sender_row p r slot) receiver;
   limits = limits_by p odd slot (sender_row p r slot) receiver;
 }
 
 -- what is kept is that of no slot, or right for its own
-abbrev pub IsRight : Values → Bool → Record → Option NodeRow → Allowed → Type 0
-IsRight p odd r receiver kept = (kept.slot ≢ 0) → kept ≡ allowed_by p odd r receiver kept.slot
+abbrev pub IsRight : Values → TraceView → Bool → Record → Option NodeRow → Allowed → Type 0
+IsRight p t odd r receiver kept = (kept.slot ≢ 0) → kept ≡ allowed_by p t odd r receiver kept.slot
 
 -- the breach of a deviation outside of limits
 abbrev pub outside_of : ℕ → Dev → Option Limits → Option Unlawful

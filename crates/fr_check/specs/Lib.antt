@@ -4,3 +4,4 @@ pub mod Controls
 pub mod Walked
 pub mod Corrections
 pub mod Allowed
+pub mod Followed

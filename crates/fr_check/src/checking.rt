@@ -4,12 +4,15 @@ ghost use Rattle.fr_cluster.specs.Sane.{IsSane};
 ghost use Rattle.fr_history.specs.Gauged.{GaugeHolds};
 ghost use Rattle.fr_trace.specs.Cycles.{history_by, kept_of};
 ghost use Rattle.fr_trace.specs.Fits.{TraceFits};
+ghost use Rattle.fr_trace.specs.Items.{first_number};
 ghost use Rattle.fr_trace.specs.Lasting.{IsTrace};
 ghost use Rattle.fr_verdict.specs.Answer.{IsAnswer};
 ghost use Rattle.fr_verdict.specs.Precision.{KeepsItsPrecision};
 ghost use Rattle.fr_verdict.specs.Search.{first_breach_of};
 ghost use Rattle.fr_trace_gap.specs.Sound.{AreSound, IsSound};
+ghost use Rattle.fr_check.specs.Followed.{followed_by};
 
+use crate::apart::{double_behind, may_follow};
 use crate::control::Controls;
 use crate::corrections::Corrections;
 use crate::walk::pass_cycle;
@@ -23,10 +26,11 @@ use fr_verdict::{Unlawful, Verdict};
 
 /// Whether a trace of a cluster is that of a lawful run that the precision theorem covers.
 ///
-/// Ok exactly where no record breaks a law and no gap is there: then the first double cycle in sync, and the
-/// greatest skew of the recorded clocks in ticks with its first cycle and macrotick; and from that double cycle on
-/// its clocks keep within the precision. Else the first record that breaks a law, by its number and then by law,
-/// with what was kept and what was expected; or, where none does, the first gap. It takes no memory.
+/// Ok exactly where no record breaks a law and no gap is there: then the first double cycle in sync in which no node
+/// that joins may follow, and the greatest skew of the recorded clocks in ticks with its first cycle and macrotick; and
+/// from that double cycle on its clocks keep within the precision, whoever joins. Else the first record that breaks a
+/// law, by its number and then by law, with what was kept and what was expected; or, where none does, the first gap. It
+/// takes no memory.
 pub fn check(params: &Params, trace: &Trace) -> Result<Verdict, Unlawful>
     requires fits { TraceFits params.now trace.now }
     ensures answer { IsAnswer params.now trace.now result }
@@ -42,7 +46,7 @@ pub fn check(params: &Params, trace: &Trace) -> Result<Verdict, Unlawful>
 fn judged(params: &Params, trace: &Trace, gauge: &Gauge) -> Result<Verdict, Unlawful>
     requires fits { TraceFits params.now trace.now }
     requires none { first_breach_of params.now trace.now ≡ None }
-    requires holds { GaugeHolds params.now gauge.now trace.now.history }
+    requires holds { GaugeHolds params.now gauge.now (followed_by trace.now trace.now.history) }
     ensures answer { IsAnswer params.now trace.now result }
     ensures precise { IfOk result (λ verdict. KeepsItsPrecision params.now trace.now verdict) }
 {
@@ -95,6 +99,7 @@ fn fill(rows: &[NodeRow], list: &mut RowList)
 // Gathers the clocks of a cycle, by a list of rows that is filled anew.
 fn gather(
     params: &Params,
+    trace: &Trace,
     gauge: &mut Gauge,
     rows: &mut RowList,
     behind: &[TracedCycle],
@@ -102,13 +107,13 @@ fn gather(
 )
     requires cycle { IsSound params.now (kept_of cycle.now) }
     requires few { length behind.now < 200_000 }
-    requires holds { GaugeHolds params.now gauge.old (history_by behind.now) }
-    ensures { GaugeHolds params.now gauge.new (kept_of cycle.now ∷ history_by behind.now) }
+    requires holds { GaugeHolds params.now gauge.old (followed_by trace.now (history_by behind.now)) }
+    ensures { GaugeHolds params.now gauge.new (followed_by trace.now (kept_of cycle.now ∷ history_by behind.now)) }
 {
     let _grid = grid_of(params);
     rows.clear();
     fill(&cycle.rows, rows);
-    gauge.add(rows);
+    gauge.add(rows, may_follow(trace, double_behind(behind)));
 }
 
 // The clocks of a trace, gathered while its records are passed in the order of their file, or its first breach.
@@ -116,10 +121,10 @@ fn gauged(params: &Params, trace: &Trace) -> Result<Gauge, Unlawful>
     requires fits { TraceFits params.now trace.now }
     ensures found { IfErr result (λ breach. first_breach_of params.now trace.now ≡ Some breach) }
     ensures none { IfOk result (λ gauge. first_breach_of params.now trace.now ≡ None) }
-    ensures holds { IfOk result (λ gauge. GaugeHolds params.now gauge trace.now.history) }
+    ensures holds { IfOk result (λ gauge. GaugeHolds params.now gauge (followed_by trace.now trace.now.history)) }
 {
     let cycles = sound_cycles(params, trace);
-    let mut number = 2 + u64::from(trace.arbitrary());
+    let mut number = first_number(trace);
     let mut controls = Controls::new(params);
     let mut corrections = Corrections::new();
     let mut gauge = Gauge::new(params);
@@ -128,14 +133,33 @@ fn gauged(params: &Params, trace: &Trace) -> Result<Gauge, Unlawful>
         let behind = &cycles[..n];
         let cycle = &cycles[n];
         corrections.reach(params, behind, cycle);
-        match pass_cycle(params, number, behind, cycle, &controls, &corrections) {
+        let synced = gauge.synced();
+        match pass_cycle(
+            params,
+            trace,
+            number,
+            behind,
+            cycle,
+            &controls,
+            &corrections,
+            synced,
+        ) {
             Ok(next) => number = next,
             Err(breach) => return Err(breach),
         }
         controls.pass(behind, cycle, &corrections);
-        gather(params, &mut gauge, &mut rows, behind, cycle);
+        gather(params, trace, &mut gauge, &mut rows, behind, cycle);
     }
     Ok(gauge)
+}
+
+// The record number of the first row.
+fn first_number(trace: &Trace) -> u64
+    ensures value { result ≡ first_number trace.now }
+    ensures most { result ≤ 130 }
+{
+    let _doubles = trace.doubles();
+    2 + u64::from(trace.arbitrary()) + trace.joins().len() as u64
 }
 
 // The cycles of a trace that fits its cluster.

@@ -1,4 +1,4 @@
-ghost use Rattle.std.specs.Prelude.{◌≡◌, ◌≤◌, ◌+ℤ◌, ◌-ℤ◌, ◌*ℤ◌, int_lt, pos, length, IfSome, Some};
+ghost use Rattle.std.specs.Prelude.{◌≡◌, ◌≤◌, ◌/◌, ◌+ℤ◌, ◌-ℤ◌, ◌*ℤ◌, int_lt, pos, length, IfSome, Some};
 ghost use Rattle.std.specs.Option.{option_copied, option_map};
 ghost use Rattle.fr_base.specs.Timed.{IsLength};
 ghost use Rattle.fr_base.specs.Within.{IsBetween, IsWithin};
@@ -13,17 +13,20 @@ ghost use Rattle.fr_time.specs.Position.{floor_of, grid_for};
 ghost use Rattle.fr_time.specs.Slots.{action_point_of, IsEarly};
 ghost use Rattle.fr_trace.specs.Cycles.{history_by, kept_of};
 ghost use Rattle.fr_trace.specs.Items.{Item};
-ghost use Rattle.fr_verdict.specs.Breach.{halted_state, sender_row, silent_state};
+ghost use Rattle.fr_trace.specs.Trace.{TraceView};
+ghost use Rattle.fr_verdict.specs.Breach.{halted_state, is_away, sender_is_away, sender_row, silent_state};
 ghost use Rattle.fr_verdict.specs.Search.{breach_at};
 ghost use Rattle.fr_trace_gap.specs.Sound.{IsSound};
-ghost use Rattle.fr_check.specs.Allowed.{allowed_by, limits_by, limits_of, outside_of, AreTicks, IsRight};
+ghost use Rattle.fr_check.specs.Allowed.{allowed_by, limits_by, limits_of, outside_of, silent_by, AreTicks, IsRight};
 
+use crate::apart::apart;
 use crate::first::first_of;
-use crate::past::sound_row;
+use crate::past::{any_row, sound_row};
 use fr_base::{Dev, NodeRow, Slot, State};
-use fr_cluster::{ParamName, Params};
+use fr_cluster::{NodeSpec, ParamName, Params};
 use fr_time::{action_point, grid_of, instant};
-use fr_trace::TracedCycle;
+use fr_trace::{Trace, TracedCycle};
+use fr_trace_gap::is_named;
 use fr_verdict::Unlawful;
 
 // The row of the correct node whose key slot a slot is.
@@ -35,6 +38,40 @@ fn sender_row<'a>(params: &Params, cycle: &'a TracedCycle, slot: Slot) -> Option
     match params.key_node(slot) {
         None => None,
         Some(node) => sound_row(params, cycle, node.id),
+    }
+}
+
+// Whether a node is correct and has no row in a cycle.
+fn is_away(trace: &Trace, cycle: &TracedCycle, node: &NodeSpec) -> bool
+    ensures { result ≡ is_away trace.now (kept_of cycle.now) node.now }
+{
+    !is_named(trace, node.id) && any_row(cycle, node.id).is_none()
+}
+
+// Whether the node whose key slot a slot is is.
+fn sender_is_away(params: &Params, trace: &Trace, cycle: &TracedCycle, slot: Slot) -> bool
+    ensures { result ≡ sender_is_away params.now trace.now (kept_of cycle.now) slot }
+{
+    match params.key_node(slot) {
+        None => false,
+        Some(node) => is_away(trace, cycle, &node),
+    }
+}
+
+// The same by the row of that node: one with a row is not looked for.
+fn is_away_by(
+    params: &Params,
+    trace: &Trace,
+    cycle: &TracedCycle,
+    slot: Slot,
+    sender: Option<&NodeRow>,
+) -> bool
+    requires { option_copied sender ≡ sender_row params.now (kept_of cycle.now) slot }
+    ensures { result ≡ sender_is_away params.now trace.now (kept_of cycle.now) slot }
+{
+    match sender {
+        Some(_) => false,
+        None => sender_is_away(params, trace, cycle, slot),
     }
 }
 
@@ -66,6 +103,17 @@ fn silent_state(sender: Option<&NodeRow>, receiver: Option<&NodeRow>) -> Option<
                 Some(sender.state)
             }
         }
+    }
+}
+
+// That state, which is told of no sender that is away.
+fn silent_by(away: bool, sender: Option<&NodeRow>, receiver: Option<&NodeRow>) -> Option<State>
+    ensures { result ≡ silent_by away (option_copied sender.entry) (option_copied receiver.entry) }
+{
+    if away {
+        None
+    } else {
+        silent_state(sender, receiver)
     }
 }
 
@@ -206,10 +254,12 @@ pub(crate) struct Limits {
     pub(crate) length: i64,
 }
 
-// What the deviations of a slot may be at a receiver: the state for which there can be none, and their limits.
+// What the deviations of a slot may be at a receiver: there can be none where the sender is away, and none for a state;
+// and their limits.
 #[derive(Clone, Copy, Debug, PartialEq, Eq)]
 pub(crate) struct Allowed {
     pub(crate) slot: u16,
+    pub(crate) away: bool,
     pub(crate) silent: Option<State>,
     pub(crate) limits: Option<Limits>,
 }
@@ -255,6 +305,7 @@ fn limits_by(
 // What the deviations of a slot may be at a receiver, by its row in their cycle.
 fn allowed_in(
     params: &Params,
+    trace: &Trace,
     odd: bool,
     cycle: &TracedCycle,
     receiver: Option<&NodeRow>,
@@ -263,13 +314,15 @@ fn allowed_in(
     requires cycle { IsSound params.now (kept_of cycle.now) }
     requires keeps { IfSome receiver (λ row. KeepsLimits params.now row.now) }
     requires slot { slot ≤ amount params.now name.gNumberOfStaticSlots }
-    ensures value { result ≡ allowed_by params.now odd (kept_of cycle.now) (option_copied receiver.entry) slot }
+    ensures value { result ≡ allowed_by params.now trace.now odd (kept_of cycle.now) (option_copied receiver.entry) slot }
     ensures ticks { IfSome result.limits AreTicks }
 {
     let sender = sender_row(params, cycle, slot);
+    let away = is_away_by(params, trace, cycle, slot, sender);
     Allowed {
         slot: slot.0,
-        silent: silent_state(sender, receiver),
+        away,
+        silent: silent_by(away, sender, receiver),
         limits: limits_by(params, odd, slot, sender, receiver),
     }
 }
@@ -282,6 +335,7 @@ impl Allowed {
     {
         Allowed {
             slot: 0,
+            away: false,
             silent: None,
             limits: None,
         }
@@ -291,6 +345,7 @@ impl Allowed {
     pub(crate) fn reach(
         &mut self,
         params: &Params,
+        trace: &Trace,
         odd: bool,
         cycle: &TracedCycle,
         receiver: Option<&NodeRow>,
@@ -298,14 +353,14 @@ impl Allowed {
     )
         requires cycle { IsSound params.now (kept_of cycle.now) }
         requires keeps { IfSome receiver (λ row. KeepsLimits params.now row.now) }
-        requires kept { IsRight params.now odd (kept_of cycle.now) (option_copied receiver) self.old }
+        requires kept { IsRight params.now trace.now odd (kept_of cycle.now) (option_copied receiver) self.old }
         requires ticks { IfSome self.old.limits AreTicks }
         requires slot { slot ≤ amount params.now name.gNumberOfStaticSlots }
-        ensures value { self.new ≡ allowed_by params.now odd (kept_of cycle.now) (option_copied receiver.entry) slot }
+        ensures value { self.new ≡ allowed_by params.now trace.now odd (kept_of cycle.now) (option_copied receiver.entry) slot }
         ensures ticks { IfSome self.new.limits AreTicks }
     {
         if self.slot != slot.0 {
-            *self = allowed_in(params, odd, cycle, receiver, slot);
+            *self = allowed_in(params, trace, odd, cycle, receiver, slot);
         }
     }
 }
@@ -327,14 +382,16 @@ pub(crate) fn is_odd_behind(behind: &[TracedCycle]) -> bool
     behind.len() % 2 == 1
 }
 
-// The first law that a deviation breaks, with its record number, by what the deviations of its slot may be.
-pub(crate) fn dev_breach(number: u64, allowed: &Allowed, dev: &Dev) -> Option<Unlawful>
+// The first law that a deviation breaks, with its record number, by what the deviations of its slot may be in a cycle
+// of this double cycle.
+pub(crate) fn dev_breach(number: u64, double: u32, allowed: &Allowed, dev: &Dev) -> Option<Unlawful>
     requires { IfSome allowed.now.limits AreTicks }
-    ensures { (p : Values) (h : History) (r : Record) →
-        allowed.now ≡ allowed_by p (is_odd (length h)) r (row_of r.rows dev.now.receiver) dev.now.slot →
-        result ≡ breach_at p number (Item.Heard h r dev.now) }
+    ensures { (p : Values) (t : TraceView) (h : History) (r : Record) → double ≡ length h / 2 →
+        allowed.now ≡ allowed_by p t (is_odd (length h)) r (row_of r.rows dev.now.receiver) dev.now.slot →
+        result ≡ breach_at p t number (Item.Heard h r dev.now) }
 {
     let silent = silent(number, allowed.silent);
     let outside = outside(number, dev, allowed.limits);
-    first_of(silent, outside)
+    let apart = apart(number, double, allowed.away);
+    first_of(first_of(silent, outside), apart)
 }

@@ -2,6 +2,7 @@
 //! clocks were in sync and how far they lay apart.
 #![tactic(auto)]
 
+mod apart;
 mod checking;
 mod control;
 mod corrections;

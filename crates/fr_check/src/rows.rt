@@ -1,18 +1,20 @@
-ghost use Rattle.std.specs.Prelude.{◌≡◌, IfSome, Some};
+ghost use Rattle.std.specs.Prelude.{◌≡◌, ◌<◌, length, IfSome, Some};
 ghost use Rattle.std.specs.Option.{option_copied};
 ghost use Rattle.fr_cluster.specs.Values.{Values};
 ghost use Rattle.fr_history.specs.History.{Record, row_of};
-ghost use Rattle.fr_history.specs.Lawful.{is_corrected, offset_after, rate_by, start_by};
+ghost use Rattle.fr_history.specs.Lawful.{is_corrected, offset_after, rate_by};
 ghost use Rattle.fr_time.specs.Instant.{KeepsLimits};
 ghost use Rattle.fr_trace.specs.Cycles.{history_by, kept_of};
 ghost use Rattle.fr_trace.specs.Items.{Item};
-ghost use Rattle.fr_verdict.specs.Breach.{rate_behind, start_behind};
+ghost use Rattle.fr_verdict.specs.Breach.{rate_behind, rate_from, start_behind, start_from};
 ghost use Rattle.fr_check.specs.Controls.{Hold};
 ghost use Rattle.fr_check.specs.Corrections.{AreCorrections, AreLatest, IsKept};
 ghost use Rattle.fr_verdict.specs.Search.{breach_at, is_same, turned, unless, wrong_start};
 ghost use Rattle.fr_verdict.specs.declared.unlawful.Unlawful.TheVariants as unlawful;
 ghost use Rattle.fr_trace_gap.specs.Sound.{AreSound};
+ghost use Rattle.fr_check.specs.Followed.{Foretells};
 
+use crate::apart::apart_row;
 use crate::control::Controls;
 use crate::corrections::Corrections;
 use crate::first::first_of;
@@ -20,7 +22,7 @@ use crate::past::{any_row, last_cycle, sound_row};
 use fr_base::{NodeRow, State};
 use fr_cluster::Params;
 use fr_time::next_start;
-use fr_trace::TracedCycle;
+use fr_trace::{Trace, TracedCycle};
 use fr_verdict::Unlawful;
 
 // Whether a row's cycle, which comes after some cycles, ends with corrections.
@@ -30,13 +32,13 @@ fn is_corrected(behind: &[TracedCycle], row: &NodeRow) -> bool
     behind.len() % 2 == 1 && !row.state.is_halted()
 }
 
-// The start by the row of the cycle before.
-fn start_by(params: &Params, before: Option<&NodeRow>) -> i64
+// The start by the row of the cycle before: the first row of a node may start anywhere.
+fn start_from(params: &Params, row: &NodeRow, before: Option<&NodeRow>) -> i64
     requires { IfSome before (λ row. KeepsLimits params.now row.now) }
-    ensures { result ≡ start_by params.now (option_copied before.entry) }
+    ensures { result ≡ start_from params.now row.now (option_copied before.entry) }
 {
     match before {
-        None => 0,
+        None => row.start,
         Some(before) => next_start(params, before),
     }
 }
@@ -48,7 +50,7 @@ fn start_behind(params: &Params, behind: &[TracedCycle], row: &NodeRow) -> i64
 {
     match last_cycle(behind) {
         None => row.start,
-        Some((before, _)) => start_by(params, sound_row(params, before, row.node)),
+        Some((before, _)) => start_from(params, row, sound_row(params, before, row.node)),
     }
 }
 
@@ -64,18 +66,18 @@ fn rate_after(earlier: &[TracedCycle], before: &NodeRow, corrections: &Correctio
     }
 }
 
-// The rate by the row of the cycle before.
-fn rate_by(
+// The rate by the row of the cycle before: the first row of a node may have any.
+fn rate_from(
     earlier: &[TracedCycle],
     last: &TracedCycle,
     row: &NodeRow,
     corrections: &Corrections,
 ) -> i32
     ensures { (p : Values) → AreCorrections p (history_by earlier.now) (kept_of last.now) corrections.now →
-        result ≡ rate_by p (history_by earlier.now) (kept_of last.now) (row_of last.now.rows.items row.now.node) }
+        result ≡ rate_from p (history_by earlier.now) (kept_of last.now) row.now (row_of last.now.rows.items row.now.node) }
 {
     match any_row(last, row.node) {
-        None => 0,
+        None => row.rate,
         Some(before) => rate_after(earlier, before, corrections),
     }
 }
@@ -87,7 +89,7 @@ fn rate_behind(behind: &[TracedCycle], row: &NodeRow, corrections: &Corrections)
 {
     match last_cycle(behind) {
         None => row.rate,
-        Some((last, earlier)) => rate_by(earlier, last, row, corrections),
+        Some((last, earlier)) => rate_from(earlier, last, row, corrections),
     }
 }
 
@@ -166,25 +168,33 @@ fn wrong_offset(number: u64, kept: i32, wanted: i32) -> Option<Unlawful>
     }
 }
 
-// The first law that a row breaks, with its record number, by the cycles behind it and the terms that are kept of its
-// own.
+// The first law that a row breaks, with its record number, by the cycles behind it, the terms that are kept of its own,
+// and the first double cycle in sync behind it.
 pub(crate) fn row_breach(
     params: &Params,
+    trace: &Trace,
     number: u64,
     behind: &[TracedCycle],
     row: &NodeRow,
     controls: &Controls,
     corrections: &Corrections,
+    synced: Option<u32>,
 ) -> Option<Unlawful>
+    requires few { length behind.now < 200_000 }
     requires behind { AreSound params.now behind.now }
+    requires foretells { Foretells params.now trace.now (history_by behind.now) synced }
     requires hold { Hold params.now (history_by behind.now) controls.now }
     requires latest { AreLatest params.now (history_by behind.now) corrections.now }
     ensures { (here : Record) → IsKept params.now (history_by behind.now) here corrections.now row.now →
-        result ≡ breach_at params.now number (Item.Clock (history_by behind.now) here row.now) }
+        result ≡ breach_at params.now trace.now number (Item.Clock (history_by behind.now) here row.now) }
 {
     let start = wrong_start(params, number, behind, row);
     let rate = wrong_rate(number, row.rate, rate_behind(behind, row, corrections));
     let turn = wrong_turn(number, row.state, controls.state(row.node));
     let offset = wrong_offset(number, row.offset, offset_after(behind, row, corrections));
-    first_of(first_of(first_of(start, rate), turn), offset)
+    let apart = apart_row(params, trace, number, behind, row, synced);
+    first_of(
+        first_of(first_of(first_of(start, rate), turn), offset),
+        apart,
+    )
 }

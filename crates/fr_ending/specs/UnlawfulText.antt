@@ -5,7 +5,7 @@ use Rattle.fr_base.specs.States.{state_text}
 use Rattle.fr_base.specs.declared.state.State.{State}
 use Rattle.fr_phrases.specs.Phrases.{gap_text}
 use Rattle.fr_verdict.specs.declared.unlawful.Unlawful.{Unlawful}
-use Rattle.fr_verdict.specs.declared.unlawful.Unlawful.TheVariants.{Start, Rate, Turn, Offset, Silent, Deviation, Uncovered}
+use Rattle.fr_verdict.specs.declared.unlawful.Unlawful.TheVariants.{Start, Rate, Turn, Offset, Silent, Deviation, Apart, Uncovered}
 
 -- a record with what was kept and what was expected, by the word for the law
 abbrev pub kept_text : ℕ → List ℕ → ℤ → ℤ → List ℕ
@@ -26,6 +26,10 @@ deviation_text number kept low high =
     codes "trace: record " ++ decimal number ++ codes " deviation " ++ signed_decimal kept
     ++ codes " expected " ++ signed_decimal low ++ codes " to " ++ signed_decimal high
 
+-- a record that is apart, with its double cycle
+abbrev pub apart_text : ℕ → ℕ → List ℕ
+apart_text number double = codes "trace: record " ++ decimal number ++ codes " apart " ++ decimal double
+
 -- the first record that breaks a law, or the first gap
 abbrev pub unlawful_text : Unlawful → List ℕ
 unlawful_text (Start number kept wanted) = kept_text number (codes " start ") kept wanted
@@ -34,4 +38,5 @@ unlawful_text (Turn number kept wanted) = turn_text number kept wanted
 unlawful_text (Offset number kept wanted) = kept_text number (codes " offset ") kept wanted
 unlawful_text (Silent number state) = silent_text number state
 unlawful_text (Deviation number kept low high) = deviation_text number kept low high
+unlawful_text (Apart number double) = apart_text number double
 unlawful_text (Uncovered gap) = gap_text (codes "trace: not covered ") gap

@@ -1,7 +1,7 @@
 ghost use Rattle.std.specs.Prelude.{◌≡◌, ◌≤◌, codes, length};
 ghost use Rattle.std.specs.Fmt.{decimal, signed_decimal};
 ghost use Rattle.fr_text.specs.Pieces.{line, Spells};
-ghost use Rattle.fr_ending.specs.UnlawfulText.{deviation_text, kept_text, silent_text, turn_text, unlawful_text};
+ghost use Rattle.fr_ending.specs.UnlawfulText.{apart_text, deviation_text, kept_text, silent_text, turn_text, unlawful_text};
 
 use fr_base::State;
 use fr_phrases::gap_line;
@@ -41,6 +41,7 @@ pub(crate) fn unlawful_line(why: &Unlawful) -> Line
             low,
             high,
         } => deviation_line(number, i64::from(kept), low, high),
+        Unlawful::Apart { number, double } => apart_line(number, double),
         Unlawful::Uncovered(gap) => gap_line(b"trace: not covered ", gap),
     }
 }
@@ -101,6 +102,17 @@ fn deviation_line(number: u64, kept: i64, low: i64, high: i64) -> Line
         signed(low),
         Word(b" to "),
         signed(high),
+    ])
+}
+
+fn apart_line(number: u64, double: u32) -> Line
+    ensures { result ≡ line (apart_text number double) }
+{
+    line_of(&[
+        Word(b"trace: record "),
+        Natural(number),
+        Word(b" apart "),
+        Natural(u64::from(double)),
     ])
 }
 

@@ -12,7 +12,7 @@ use Rattle.fr_base.specs.declared.reason.Reason.TheVariants as reason
 use Rattle.fr_base.specs.declared.state.State.{State}
 use Rattle.fr_records.specs.Fields.{both_of, field_of, is_blank, natural_of, natural_within, or_reason}
 use Rattle.fr_records.specs.Records.{FileRecord}
-use Rattle.fr_trace.specs.Rows.{are_blank, arbitrary_row, clock_named, clock_with, heard_on, heard_row, run_row, span_in, state_of, terms_in, trace_file_row, trace_row_of, value_in}
+use Rattle.fr_trace.specs.Rows.{are_blank, arbitrary_row, clock_named, clock_with, heard_on, heard_row, join_row, join_with, run_row, span_in, state_of, terms_in, trace_file_row, trace_row_of, value_in}
 use Rattle.fr_trace.specs.declared.rows.Row.{Row}
 use Rattle.fr_trace.specs.declared.rows.Row.TheVariants as row
 
@@ -20,6 +20,7 @@ use Rattle.fr_trace.specs.declared.rows.Row.TheVariants as row
 abbrev pub IsCounted : Result Row Reason → Type 0
 IsCounted (Ok (row.Run n)) = 1 ≤ n
 IsCounted (Ok (row.Arbitrary node)) = Unit {0}
+IsCounted (Ok (row.Join j)) = Unit {0}
 IsCounted (Ok (row.Clock cycle clock)) = Unit {0}
 IsCounted (Ok (row.Heard heard)) = Unit {0}
 IsCounted (Err why) = Unit {0}
@@ -41,6 +42,10 @@ arbitrary-number : (x : Result ℕ NumberFault) → IsCounted (or_reason (λ n. 
 arbitrary-number (Ok n) = tt
 arbitrary-number (Err why) = tt
 
+join-number : (x : Result ((ℕ × ℕ) × ℕ) NumberFault) → IsCounted (or_reason join_with x)
+join-number (Ok numbers) = tt
+join-number (Err why) = tt
+
 clock-number : (state : State) (x : Result ((ℕ × ℕ) × ((ℤ × ℤ) × (ℤ × ℤ))) NumberFault) → IsCounted (or_reason (clock_with state) x)
 clock-number state (Ok numbers) = tt
 clock-number state (Err why) = tt
@@ -58,10 +63,12 @@ kind-number : (k a b c d e f g : List ℕ) → IsCounted (trace_file_row k a b c
 kind-number k a b c d e f g =
     choice (bytes_eq k (codes "run")) _ _ (choice (are_blank b c d && are_blank e f g) (run_row a) (Err reason.Shape) (run-number (number_of a)) tt)
     (choice (bytes_eq k (codes "arbitrary")) _ _ (choice (are_blank b c d && are_blank e f g) (arbitrary_row a) (Err reason.Shape) (arbitrary-number (natural_of 1 64 a)) tt)
+    (choice (bytes_eq k (codes "join")) _ _
+    (choice (are_blank d e f && is_blank g) (join_row a b c) (Err reason.Shape) (join-number (both_of (both_of (natural_of 1 64 a) (natural_of 1 64 b)) (natural_of 0 99_999 c))) tt)
     (choice (bytes_eq k (codes "cycle")) _ _ (clock-number-named a b c d e f (state_of g))
     (choice (bytes_eq k (codes "dev")) _ _
     (choice (is_blank f && is_blank g) (heard_row a b c d e) (Err reason.Shape) (heard-number (both_of (both_of (natural_of 0 199_999 a) (natural_of 1 64 b)) (both_of (natural_of 1 1023 c) (value_in e))) d) tt)
-    tt)))
+    tt))))
 
 pub counted : (r : FileRecord) → IsCounted (trace_row_of r)
 unfolding trace_row_of

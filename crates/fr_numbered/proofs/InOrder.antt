@@ -1,7 +1,6 @@
 -- The records of a trace's file say its rows, in their order.
 use Rattle.std.proofs.Common.{◌≡◌, ◌≢◌, inl, inr, ℕ, zero, suc, ◌+◌, ◌*◌, ◌<◌, ◌≤◌, Bool, true, false, List, [], ◌∷◌, ◌++◌, length, map, Option, Some, None, Result, Ok, Err, refl, ap, sym, ◌∙◌, subst, arith, append_assoc}
-use Rattle.std.specs.Prelude.{nat_lt, not, ◌==◌, ◌&&◌, ◌||◌, All, find, if◌then◌else◌}
-use Rattle.std.specs.Option.{option_map}
+use Rattle.std.specs.Prelude.{nat_lt, not, ◌==◌, ◌&&◌, ◌||◌, All, if◌then◌else◌, is_none}
 use Rattle.std.proofs.lemmas.Bool.{cases_lt}
 use Rattle.std.proofs.lemmas.Bool.Decides.{nat_tests}
 use Rattle.std.proofs.lemmas.List.{append-nil, map-append}
@@ -13,24 +12,23 @@ use Rattle.fr_base.specs.declared.node_row.NodeRow.{NodeRow}
 use Rattle.fr_base.specs.declared.reason.Reason.{Reason}
 use Rattle.fr_base.specs.declared.reason.Reason.TheVariants as reason
 use Rattle.fr_cluster.specs.Values.{Values}
-use Rattle.fr_cluster.specs.declared.nodes.NodeSpec.{NodeSpec}
 use Rattle.fr_history.specs.History.{History, Record}
 use Rattle.fr_records.specs.Fields.{or_else}
 use Rattle.fr_records.proofs.Lookups.{looked_up-nil, or_else-none}
 use Rattle.fr_records.specs.Records.{FileRecord, records_of}
 use Rattle.fr_records.specs.Refusal.{NoneRefused}
 use Rattle.fr_trace.specs.Draft.{AreSaid, over_with, part_with}
-use Rattle.fr_trace.specs.Files.{dev_on, history_said, no_record, record_said}
 use Rattle.fr_trace.specs.Items.{items_in}
-use Rattle.fr_trace.specs.Order.{count_of, doubles_at, doubles_in, first_correct, heard_turn, is_behind, is_correct_behind, is_node, last_at, may_begin, may_come, may_follow, may_go_on, may_turn, named_at, named_in}
+use Rattle.fr_trace.specs.Order.{before_at, clock_turn, count_of, heard_turn, here_at, is_behind, may_begin, may_follow, may_go_on, may_join, may_open, may_stand, may_stand_behind, may_turn, next_due, is_up_to}
 use Rattle.fr_trace.specs.Reasons.{row_reason, trace_reason_after, trace_row_reason}
 use Rattle.fr_trace.specs.Rows.{trace_row_of}
+use Rattle.fr_trace.specs.Said.{dev_on, doubles_at, doubles_in, history_said, joins_at, joins_in, last_at, named_at, named_in, no_record, record_said}
 use Rattle.fr_trace.specs.declared.order.Turn.{Turn}
 use Rattle.fr_trace.specs.declared.rows.HeardRow.{HeardRow}
 use Rattle.fr_trace.specs.declared.rows.Row.{Row}
 use Rattle.fr_trace.specs.declared.rows.Row.TheVariants as row
-use Rattle.fr_trace.proofs.Nodes.{found-above}
-use Rattle.fr_trace.proofs.Saying.{IsPlaced, doubles-more, last-more, named-more, put-said}
+use Rattle.fr_trace.specs.declared.trace.TracedJoin.{TracedJoin}
+use Rattle.fr_trace.proofs.Saying.{IsPlaced, doubles-more, joins-more, last-more, named-more, put-said}
 use Rattle.fr_numbered.specs.Numbered.{ReadsInOrder, read_as, row_of_item}
 use Rattle.fr_numbered.proofs.Behind.{clock-last, cycle_rows, dev-last, heard_in, over-rows}
 use Rattle.fr_numbered.proofs.Counts.{IsCounted, counted}
@@ -64,6 +62,13 @@ arbitrary-comes true false false e = absurd (cc e)
 arbitrary-comes true true c e = absurd (cc e)
 arbitrary-comes false b c e = absurd (cc e)
 
+join-comes : (a b c d : Bool) → (if not a then Some reason.UnknownNode else if b || not c then Some reason.Role else if not d then Some reason.Link else None) ≡ None → c ≡ true
+join-comes true false true true e = refl
+join-comes true false true false e = absurd (cc e)
+join-comes true false false d e = absurd (cc e)
+join-comes true true c d e = absurd (cc e)
+join-comes false b c d e = absurd (cc e)
+
 clock-comes : (a b c : Bool) → (if a then Some reason.OutOfRange else if not b then Some reason.UnknownNode else if not c then Some reason.Role else None) ≡ None → c ≡ true
 clock-comes false true true e = refl
 clock-comes false true false e = absurd (cc e)
@@ -87,10 +92,10 @@ record HasCome (o : Option Channel) (comes : Bool) : Type 0 where
   named : o ≡ Some channel
   comes_next : comes ≡ true
 
-heard-comes : (p : Values) (cycle receiver slot : ℕ) (value : _) (o : Option Channel) (comes : Bool)
-    → row_reason p (row.Heard (record { cycle = cycle; receiver = receiver; slot = slot; channel = o; value = value })) comes ≡ None → HasCome o comes
-heard-comes p cycle receiver slot value None comes e = absurd (two-refused _ e)
-heard-comes p cycle receiver slot value (Some ch) comes e = record { channel = ch; named = refl; comes_next = four-comes _ _ comes _ e }
+heard-comes : (p : Values) (named : List ℕ) (joins : List TracedJoin) (cycle receiver slot : ℕ) (value : _) (o : Option Channel) (comes : Bool)
+    → row_reason p named joins (row.Heard (record { cycle = cycle; receiver = receiver; slot = slot; channel = o; value = value })) comes ≡ None → HasCome o comes
+heard-comes p named joins cycle receiver slot value None comes e = absurd (two-refused _ e)
+heard-comes p named joins cycle receiver slot value (Some ch) comes e = record { channel = ch; named = refl; comes_next = four-comes _ _ comes _ e }
 
 -- ---- where the last row stands
 
@@ -110,12 +115,30 @@ record IsTurn (doubles : Option ℕ) (cycle node : ℕ) (h : History) (part : Re
   below : All (λ other. other.node < node) front
   heard : All (λ dev. dev.receiver ≤ node) part.devs
 
-abbrev IsLast : Option ℕ → List ℕ → Option Row → History → Record → Type 0
-IsLast doubles named None h part = (doubles ≡ None) × (named ≡ []) × IsBlank h part
-IsLast doubles named (Some (row.Run n)) h part = (1 ≤ count_of doubles) × IsBlank h part
-IsLast doubles named (Some (row.Arbitrary node)) h part = (1 ≤ count_of doubles) × IsBlank h part
-IsLast doubles named (Some (row.Clock cycle clock)) h part = IsTurn doubles cycle clock.node h part
-IsLast doubles named (Some (row.Heard heard)) h part = IsTurn doubles heard.cycle heard.receiver h part
+-- no cycle is begun behind the number of double cycles, and no node joins yet
+record IsHead (doubles : Option ℕ) (joins : List TracedJoin) (h : History) (part : Record) : Type 0 where
+  counted : 1 ≤ count_of doubles
+  none : joins ≡ []
+  blank : IsBlank h part
+
+-- or some do
+record IsJoined (doubles : Option ℕ) (h : History) (part : Record) : Type 0 where
+  counted : 1 ≤ count_of doubles
+  blank : IsBlank h part
+
+record IsUnsaid (doubles : Option ℕ) (named : List ℕ) (joins : List TracedJoin) (h : History) (part : Record) : Type 0 where
+  none : doubles ≡ None
+  unnamed : named ≡ []
+  unjoined : joins ≡ []
+  blank : IsBlank h part
+
+abbrev IsLast : Option ℕ → List ℕ → List TracedJoin → Option Row → History → Record → Type 0
+IsLast doubles named joins None h part = IsUnsaid doubles named joins h part
+IsLast doubles named joins (Some (row.Run n)) h part = IsHead doubles joins h part
+IsLast doubles named joins (Some (row.Arbitrary node)) h part = IsHead doubles joins h part
+IsLast doubles named joins (Some (row.Join j)) h part = IsJoined doubles h part
+IsLast doubles named joins (Some (row.Clock cycle clock)) h part = IsTurn doubles cycle clock.node h part
+IsLast doubles named joins (Some (row.Heard heard)) h part = IsTurn doubles heard.cycle heard.receiver h part
 
 -- the row of the number of double cycles, where it is said
 abbrev run_rows : Option ℕ → List Row
@@ -125,8 +148,14 @@ run_rows (Some n) = row.Run n ∷ []
 abbrev named_rows : List ℕ → List Row
 named_rows named = map (λ node. row.Arbitrary node) named
 
-abbrev rows_so_far : Option ℕ → List ℕ → History → Record → List Row
-rows_so_far doubles named h part = (run_rows doubles ++ named_rows named) ++ (map row_of_item (items_in h) ++ cycle_rows (length h) part.devs part.rows)
+abbrev join_rows : List TracedJoin → List Row
+join_rows joins = map (λ j. row.Join j) joins
+
+abbrev head_rows : Option ℕ → List ℕ → List TracedJoin → List Row
+head_rows doubles named joins = (run_rows doubles ++ named_rows named) ++ join_rows joins
+
+abbrev rows_so_far : Option ℕ → List ℕ → List TracedJoin → History → Record → List Row
+rows_so_far doubles named joins h part = head_rows doubles named joins ++ (map row_of_item (items_in h) ++ cycle_rows (length h) part.devs part.rows)
 
 -- ---- one row more
 
@@ -135,47 +164,67 @@ push-last : (head items cycle : List Row) (said : Row) → head ++ (items ++ (cy
 push-last head items cycle said =
     ap (λ (l : List Row). head ++ l) (sym (append_assoc items cycle (said ∷ []))) ∙ sym (append_assoc head (items ++ cycle) (said ∷ []))
 
--- a node that is found lies above
-found-behind : (named : List ℕ) (nodes : List NodeSpec) (above node : ℕ) (found : Option NodeSpec) → find (is_correct_behind named above) nodes ≡ found
-    → is_node node (option_map (λ spec. spec.id) found) ≡ true → above < node
-found-behind named nodes above node None e is = absurd (cc is)
-found-behind named nodes above node (Some spec) e is =
-    let lt = found-above named above nodes spec e in let same = eq-is spec.id node is in omega (arith, lt, same)
+-- a row that may come in a cycle is of a node above
+comes-above : (p : Values) (named : List ℕ) (joins : List TracedJoin) (cycle : ℕ) (before : List NodeRow) (other node : ℕ) → may_stand_behind p named joins cycle before other node ≡ true → other < node
+comes-above p named joins cycle before other node may =
+    let two = both-true (nat_lt other node && may_stand named joins cycle before node) (is_up_to node (next_due p named joins cycle before other)) may in
+    lt-is other node (both-true (nat_lt other node) (may_stand named joins cycle before node) two.0).0
 
-module _ (p : Values) (doubles : Option ℕ) (named : List ℕ) (h : History) (part : Record) where
+module _ (p : Values) (doubles : Option ℕ) (named : List ℕ) (joins : List TracedJoin) (h : History) (part : Record) where
   -- where a row stands, and that it is the last behind all others
   record IsAfter (said : Row) : Type 0 where
     placed : IsPlaced h said
-    rows : rows_so_far (or_else doubles (doubles_in (Ok said))) (named ++ named_in (Ok said)) (over_with h part said) (part_with h part said) ≡ rows_so_far doubles named h part ++ said ∷ []
-    at : IsLast (or_else doubles (doubles_in (Ok said))) (named ++ named_in (Ok said)) (Some said) (over_with h part said) (part_with h part said)
+    rows : rows_so_far (or_else doubles (doubles_in (Ok said))) (named ++ named_in (Ok said)) (joins ++ joins_in (Ok said)) (over_with h part said) (part_with h part said)
+        ≡ rows_so_far doubles named joins h part ++ said ∷ []
+    at : IsLast (or_else doubles (doubles_in (Ok said))) (named ++ named_in (Ok said)) (joins ++ joins_in (Ok said)) (Some said) (over_with h part said) (part_with h part said)
 
-  run-first : (n : ℕ) → 1 ≤ n → doubles ≡ None → named ≡ [] → IsBlank h part → IsAfter (row.Run n)
+  run-first : (n : ℕ) → 1 ≤ n → doubles ≡ None → named ≡ [] → joins ≡ [] → IsBlank h part → IsAfter (row.Run n)
   unfolding items_in cycle_rows
-  run-first n counted no_doubles none blank =
+  run-first n counted no_doubles none unjoined blank =
       let count : count_of (or_else doubles (Some n)) ≡ n = ap (λ (o : Option ℕ). count_of (or_else o (Some n))) no_doubles in
       record {
         placed = tt;
-        rows = (λ i. rows_so_far (or_else (no_doubles i) (Some n)) (none i ++ []) (blank.none i) (blank.blank i))
-            ∙ sym (λ i. rows_so_far (no_doubles i) (none i) (blank.none i) (blank.blank i) ++ row.Run n ∷ []);
-        at = (omega (arith, counted, count), blank);
+        rows = (λ i. rows_so_far (or_else (no_doubles i) (Some n)) (none i ++ []) (unjoined i ++ []) (blank.none i) (blank.blank i))
+            ∙ sym (λ i. rows_so_far (no_doubles i) (none i) (unjoined i) (blank.none i) (blank.blank i) ++ row.Run n ∷ []);
+        at = record { counted = omega (arith, counted, count); none = append-nil joins ∙ unjoined; blank = blank };
       }
 
-  name-more : (node : ℕ) → 1 ≤ count_of doubles → IsBlank h part → IsAfter (row.Arbitrary node)
+  name-more : (node : ℕ) → IsHead doubles joins h part → IsAfter (row.Arbitrary node)
   unfolding items_in cycle_rows
-  name-more node counted blank =
+  name-more node head =
       let same = or_else-none doubles in
-      let head : List Row = run_rows doubles ++ named_rows named in
-      let more : run_rows doubles ++ named_rows (named ++ node ∷ []) ≡ head ++ row.Arbitrary node ∷ [] =
+      let blank = head.blank in
+      let front : List Row = run_rows doubles ++ named_rows named in
+      let more : run_rows doubles ++ named_rows (named ++ node ∷ []) ≡ front ++ row.Arbitrary node ∷ [] =
       ap (λ (l : List Row). run_rows doubles ++ l) (map-append (λ (n : ℕ). row.Arbitrary n) named (node ∷ [])) ∙ sym (append_assoc (run_rows doubles) (named_rows named) (row.Arbitrary node ∷ []))
       in
       record {
         placed = tt;
-        rows = (λ i. rows_so_far (same i) (named ++ node ∷ []) (blank.none i) (blank.blank i))
+        rows = (λ i. rows_so_far (same i) (named ++ node ∷ []) ((append-nil joins ∙ head.none) i) (blank.none i) (blank.blank i))
+            ∙ append-nil ((run_rows doubles ++ named_rows (named ++ node ∷ [])) ++ [])
             ∙ append-nil (run_rows doubles ++ named_rows (named ++ node ∷ []))
             ∙ more
-            ∙ ap (λ (l : List Row). l ++ row.Arbitrary node ∷ []) (sym (append-nil head))
-            ∙ sym (λ i. rows_so_far doubles named (blank.none i) (blank.blank i) ++ row.Arbitrary node ∷ []);
-        at = (let count = ap count_of same in omega (arith, counted, count), blank);
+            ∙ ap (λ (l : List Row). l ++ row.Arbitrary node ∷ []) (sym (append-nil front) ∙ sym (append-nil (front ++ [])))
+            ∙ sym (λ i. rows_so_far doubles named (head.none i) (blank.none i) (blank.blank i) ++ row.Arbitrary node ∷ []);
+        at = record { counted = let count = ap count_of same in let least = head.counted in omega (arith, least, count); none = append-nil joins ∙ head.none; blank = blank };
+      }
+
+  join-more : (j : TracedJoin) → 1 ≤ count_of doubles → IsBlank h part → IsAfter (row.Join j)
+  unfolding items_in cycle_rows
+  join-more j counted blank =
+      let same = or_else-none doubles in
+      let front : List Row = run_rows doubles ++ named_rows named in
+      let more : front ++ join_rows (joins ++ j ∷ []) ≡ head_rows doubles named joins ++ row.Join j ∷ [] =
+      ap (λ (l : List Row). front ++ l) (map-append (λ (k : TracedJoin). row.Join k) joins (j ∷ [])) ∙ sym (append_assoc front (join_rows joins) (row.Join j ∷ []))
+      in
+      record {
+        placed = tt;
+        rows = (λ i. rows_so_far (same i) (append-nil named i) (joins ++ j ∷ []) (blank.none i) (blank.blank i))
+            ∙ append-nil (front ++ join_rows (joins ++ j ∷ []))
+            ∙ more
+            ∙ ap (λ (l : List Row). l ++ row.Join j ∷ []) (sym (append-nil (head_rows doubles named joins)))
+            ∙ sym (λ i. rows_so_far doubles named joins (blank.none i) (blank.blank i) ++ row.Join j ∷ []);
+        at = record { counted = let count = ap count_of same in omega (arith, counted, count); blank = blank };
       }
 
   -- a row of the cycle under way
@@ -184,7 +233,7 @@ module _ (p : Values) (doubles : Option ℕ) (named : List ℕ) (h : History) (p
   clock-on cycle clock here inside below heard =
       let same = or_else-none doubles in
       let e = eq-yes cycle (length h) here in
-      let head : List Row = run_rows doubles ++ named_rows named in
+      let head : List Row = head_rows doubles named joins in
       let items : List Row = map row_of_item (items_in h) in
       let one : Record = record part { rows = part.rows ++ clock ∷ [] } in
       let next : Record = record no_record { rows = clock ∷ [] } in
@@ -202,10 +251,10 @@ module _ (p : Values) (doubles : Option ℕ) (named : List ℕ) (h : History) (p
       in
       record {
         placed = inl here;
-        rows = (λ i. rows_so_far (same i) (append-nil named i) (if e i then h else part ∷ h) (if e i then one else next))
+        rows = (λ i. rows_so_far (same i) (append-nil named i) (append-nil joins i) (if e i then h else part ∷ h) (if e i then one else next))
             ∙ ap (λ (l : List Row). head ++ (items ++ l)) last
             ∙ push-last head items (cycle_rows (length h) part.devs part.rows) (row.Clock (length h) clock)
-            ∙ ap (λ (c : ℕ). rows_so_far doubles named h part ++ row.Clock c clock ∷ []) (sym here);
+            ∙ ap (λ (c : ℕ). rows_so_far doubles named joins h part ++ row.Clock c clock ∷ []) (sym here);
         at = subst (λ (b : Bool). IsTurn (or_else doubles None) cycle clock.node (if b then h else part ∷ h) (if b then one else next)) (sym e)
             (subst (λ (d : Option ℕ). IsTurn d cycle clock.node h one) (sym same) turn);
       }
@@ -216,7 +265,7 @@ module _ (p : Values) (doubles : Option ℕ) (named : List ℕ) (h : History) (p
   clock-next cycle clock here inside =
       let same = or_else-none doubles in
       let e = eq-no cycle (length h) (λ is. absurd (omega (arith, here, is))) in
-      let head : List Row = run_rows doubles ++ named_rows named in
+      let head : List Row = head_rows doubles named joins in
       let one : Record = record part { rows = part.rows ++ clock ∷ [] } in
       let next : Record = record no_record { rows = clock ∷ [] } in
       let said : Row = row.Clock (suc (length h)) clock in
@@ -233,10 +282,10 @@ module _ (p : Values) (doubles : Option ℕ) (named : List ℕ) (h : History) (p
       in
       record {
         placed = inr here;
-        rows = (λ i. rows_so_far (same i) (append-nil named i) (if e i then h else part ∷ h) (if e i then one else next))
+        rows = (λ i. rows_so_far (same i) (append-nil named i) (append-nil joins i) (if e i then h else part ∷ h) (if e i then one else next))
             ∙ ap (λ (l : List Row). head ++ (l ++ said ∷ [])) (over-rows h part)
             ∙ sym (append_assoc head (map row_of_item (items_in h) ++ cycle_rows (length h) part.devs part.rows) (said ∷ []))
-            ∙ ap (λ (c : ℕ). rows_so_far doubles named h part ++ row.Clock c clock ∷ []) (sym here);
+            ∙ ap (λ (c : ℕ). rows_so_far doubles named joins h part ++ row.Clock c clock ∷ []) (sym here);
         at = subst (λ (b : Bool). IsTurn (or_else doubles None) cycle clock.node (if b then h else part ∷ h) (if b then one else next)) (sym e)
             (subst (λ (d : Option ℕ). IsTurn d cycle clock.node (part ∷ h) next) (sym same) turn);
       }
@@ -248,7 +297,7 @@ module _ (p : Values) (doubles : Option ℕ) (named : List ℕ) (h : History) (p
       let here : heard.cycle ≡ length h = at ∙ turn.numbered in
       let dev : Dev = dev_with heard.receiver heard.slot ch heard.value in
       let one : dev_on heard heard.channel ≡ dev ∷ [] = ap (dev_on heard) is in
-      let head : List Row = run_rows doubles ++ named_rows named in
+      let head : List Row = head_rows doubles named joins in
       let items : List Row = map row_of_item (items_in h) in
       let told : heard_in (length h) dev ≡ row.Heard heard =
       λ i. row.Heard (record { cycle = sym here i; receiver = heard.receiver; slot = heard.slot; channel = sym is i; value = heard.value })
@@ -259,12 +308,12 @@ module _ (p : Values) (doubles : Option ℕ) (named : List ℕ) (h : History) (p
       let last = dev-last (length h) part.devs dev turn.front turn.clock below (turn.is_node ∙ sym mine) in
       record {
         placed = here;
-        rows = (λ i. rows_so_far (same i) (append-nil named i) h (record part { devs = part.devs ++ one i }))
+        rows = (λ i. rows_so_far (same i) (append-nil named i) (append-nil joins i) h (record part { devs = part.devs ++ one i }))
             ∙ ap (λ (l : List NodeRow). head ++ (items ++ cycle_rows (length h) (part.devs ++ dev ∷ []) l)) turn.rows
             ∙ ap (λ (l : List Row). head ++ (items ++ l)) last
             ∙ ap (λ (l : List NodeRow). head ++ (items ++ (cycle_rows (length h) part.devs l ++ heard_in (length h) dev ∷ []))) (sym turn.rows)
             ∙ push-last head items (cycle_rows (length h) part.devs part.rows) (heard_in (length h) dev)
-            ∙ ap (λ (r : Row). rows_so_far doubles named h part ++ r ∷ []) told;
+            ∙ ap (λ (r : Row). rows_so_far doubles named joins h part ++ r ∷ []) told;
         at = subst (λ (d : Option ℕ). IsTurn d heard.cycle heard.receiver h (record part { devs = part.devs ++ dev_on heard heard.channel })) (sym same)
             (subst (λ (l : List Dev). IsTurn doubles heard.cycle heard.receiver h (record part { devs = part.devs ++ l })) (sym one) (record {
               numbered = here;
@@ -280,27 +329,39 @@ module _ (p : Values) (doubles : Option ℕ) (named : List ℕ) (h : History) (p
 
   -- ---- any row that may come
 
-  begins : (above : ℕ) (said : Row) → 1 ≤ count_of doubles → IsBlank h part → row_reason p said (may_begin p named above said) ≡ None → IsAfter said
-  begins above (row.Run n) counted blank fine = absurd (cc fine)
-  begins above (row.Arbitrary node) counted blank fine = name-more node counted blank
-  begins above (row.Clock cycle clock) counted blank fine =
-      let comes = both-true (cycle == 0) (is_node clock.node (first_correct p named)) (clock-comes _ _ _ fine) in
+  opens : (cycle : ℕ) (clock : NodeRow) → 1 ≤ count_of doubles → IsBlank h part → may_open p named joins cycle clock.node ≡ true → IsAfter (row.Clock cycle clock)
+  opens cycle clock counted blank may =
+      let comes = both-true (cycle == 0) (may_stand_behind p named joins 0 [] 0 clock.node) may in
       let zero_is : cycle ≡ 0 = eq-is cycle 0 comes.0 in
       let none = ap (λ (g : History). length g) blank.none in
       clock-on cycle clock (omega (arith, zero_is, none)) (omega (arith, zero_is, counted))
       (subst (λ (l : List NodeRow). All (λ other. other.node < clock.node) l) (sym (ap (λ (r : Record). r.rows) blank.blank)) (All-nil (λ other. other.node < clock.node)))
       (subst (λ (l : List Dev). All (λ dev. dev.receiver < clock.node) l) (sym (ap (λ (r : Record). r.devs) blank.blank)) (All-nil (λ dev. dev.receiver < clock.node)))
-  begins above (row.Heard heard) counted blank fine =
-      let comes = heard-comes p heard.cycle heard.receiver heard.slot heard.value heard.channel false fine in absurd (let no = comes.comes_next in cc no)
 
-  turns-on : (cycle node : ℕ) (other : Option NodeSpec) (next : ℕ) (clock : NodeRow) → find (is_correct_behind named node) p.nodes ≡ other → IsTurn doubles cycle node h part
-      → may_turn (option_map (λ spec. spec.id) other) (first_correct p named) (count_of doubles) cycle next clock.node ≡ true → IsAfter (row.Clock next clock)
-  turns-on cycle node (Some spec) next clock found turn may =
-      let both = both-true (next == cycle) (clock.node == spec.id) may in
-      let same : next ≡ cycle = eq-is next cycle both.0 in
-      let is : clock.node ≡ spec.id = eq-is clock.node spec.id both.1 in
-      let gt : node < spec.id = found-above named node p.nodes spec found in
-      let above : node < clock.node = omega (arith, gt, is) in
+  begins : (above : ℕ) (said : Row) → IsHead doubles joins h part → row_reason p named joins said (may_begin p named joins above said) ≡ None → IsAfter said
+  begins above (row.Run n) head fine = absurd (cc fine)
+  begins above (row.Arbitrary node) head fine = name-more node head
+  begins above (row.Join j) head fine = join-more j head.counted head.blank
+  begins above (row.Clock cycle clock) head fine = opens cycle clock head.counted head.blank (clock-comes _ _ _ fine)
+  begins above (row.Heard heard) head fine =
+      let comes = heard-comes p named joins heard.cycle heard.receiver heard.slot heard.value heard.channel false fine in absurd (let no = comes.comes_next in cc no)
+
+  joins-on : (above : ℕ) (said : Row) → IsJoined doubles h part → row_reason p named joins said (may_join p named joins above said) ≡ None → IsAfter said
+  joins-on above (row.Run n) head fine = absurd (cc fine)
+  joins-on above (row.Arbitrary node) head fine = absurd (let no = arbitrary-comes _ _ false fine in cc no)
+  joins-on above (row.Join j) head fine = join-more j head.counted head.blank
+  joins-on above (row.Clock cycle clock) head fine = opens cycle clock head.counted head.blank (clock-comes _ _ _ fine)
+  joins-on above (row.Heard heard) head fine =
+      let comes = heard-comes p named joins heard.cycle heard.receiver heard.slot heard.value heard.channel false fine in absurd (let no = comes.comes_next in cc no)
+
+  turns-on : (before here : List NodeRow) (cycle node next : ℕ) (clock : NodeRow) (b : Bool) → (next == cycle) ≡ b → IsTurn doubles cycle node h part
+      → may_turn p (count_of doubles) named joins before here cycle node next clock.node ≡ true → IsAfter (row.Clock next clock)
+  turns-on before here cycle node next clock true e turn may =
+      let Choice : Bool → Bool = λ b. if b then may_stand_behind p named joins cycle before node clock.node
+      else ((next == cycle + 1) && nat_lt next (2 * count_of doubles) && is_none (next_due p named joins cycle before node) && may_stand_behind p named joins next here 0 clock.node)
+      in
+      let same : next ≡ cycle = eq-is next cycle e in
+      let above : node < clock.node = comes-above p named joins cycle before node clock.node (sym (ap Choice e) ∙ may) in
       let inside = turn.inside in
       let own = turn.is_node in
       clock-on next clock (same ∙ turn.numbered) (omega (arith, inside, same))
@@ -308,36 +369,51 @@ module _ (p : Values) (doubles : Option ℕ) (named : List ℕ) (h : History) (p
       (All-push (λ other. other.node < clock.node) turn.front turn.clock
       (All-weaker (λ other. other.node < node) (λ other. other.node < clock.node) (λ other lt. omega (arith, lt, above)) turn.front turn.below) (omega (arith, own, above))))
       (All-weaker (λ dev. dev.receiver ≤ node) (λ dev. dev.receiver < clock.node) (λ dev le. omega (arith, le, above)) part.devs turn.heard)
-  turns-on cycle node None next clock found turn may =
-      let all = both-true ((next == cycle + 1) && nat_lt next (2 * count_of doubles)) (is_node clock.node (first_correct p named)) may in
-      let two = both-true (next == cycle + 1) (nat_lt next (2 * count_of doubles)) all.0 in
+  turns-on before here cycle node next clock false e turn may =
+      let Choice : Bool → Bool = λ b. if b then may_stand_behind p named joins cycle before node clock.node
+      else ((next == cycle + 1) && nat_lt next (2 * count_of doubles) && is_none (next_due p named joins cycle before node) && may_stand_behind p named joins next here 0 clock.node)
+      in
+      let all =
+      both-true ((next == cycle + 1) && nat_lt next (2 * count_of doubles) && is_none (next_due p named joins cycle before node)) (may_stand_behind p named joins next here 0 clock.node)
+      (sym (ap Choice e) ∙ may)
+      in
+      let three = both-true ((next == cycle + 1) && nat_lt next (2 * count_of doubles)) (is_none (next_due p named joins cycle before node)) all.0 in
+      let two = both-true (next == cycle + 1) (nat_lt next (2 * count_of doubles)) three.0 in
       let same : next ≡ cycle + 1 = eq-is next (cycle + 1) two.0 in
       let numbered = turn.numbered in
       clock-next next clock (omega (arith, same, numbered)) (lt-is next (2 * count_of doubles) two.1)
 
-  goes-on : (cycle : ℕ) (turn : Turn) (said : Row) → IsTurn doubles cycle turn.node h part → row_reason p said (may_go_on p (count_of doubles) named cycle turn said) ≡ None → IsAfter said
-  goes-on cycle turn (row.Run n) at fine = absurd (cc fine)
-  goes-on cycle turn (row.Arbitrary other) at fine = absurd (let no = arbitrary-comes _ _ false fine in cc no)
-  goes-on cycle turn (row.Clock next clock) at fine = turns-on cycle turn.node (find (is_correct_behind named turn.node) p.nodes) next clock refl at (clock-comes _ _ _ fine)
-  goes-on cycle turn (row.Heard heard) at fine =
-      let comes = heard-comes p heard.cycle heard.receiver heard.slot heard.value heard.channel (may_go_on p (count_of doubles) named cycle turn (row.Heard heard)) fine in
+  goes-on : (before here : List NodeRow) (cycle : ℕ) (turn : Turn) (said : Row) → IsTurn doubles cycle turn.node h part
+      → row_reason p named joins said (may_go_on p (count_of doubles) named joins before here cycle turn said) ≡ None → IsAfter said
+  goes-on before here cycle turn (row.Run n) at fine = absurd (cc fine)
+  goes-on before here cycle turn (row.Arbitrary other) at fine = absurd (let no = arbitrary-comes _ _ false fine in cc no)
+  goes-on before here cycle turn (row.Join j) at fine = absurd (let no = join-comes _ _ false _ fine in cc no)
+  goes-on before here cycle turn (row.Clock next clock) at fine = turns-on before here cycle turn.node next clock (next == cycle) refl at (clock-comes _ _ _ fine)
+  goes-on before here cycle turn (row.Heard heard) at fine =
+      let comes =
+      heard-comes p named joins heard.cycle heard.receiver heard.slot heard.value heard.channel (may_go_on p (count_of doubles) named joins before here cycle turn (row.Heard heard)) fine
+      in
       let all = both-true ((heard.cycle == cycle) && (heard.receiver == turn.node)) (is_behind turn heard) comes.comes_next in
       let two = both-true (heard.cycle == cycle) (heard.receiver == turn.node) all.0 in
       heard-on cycle turn.node heard comes.channel comes.named (eq-is heard.cycle cycle two.0) (eq-is heard.receiver turn.node two.1) at
 
-  starts : (said : Row) → doubles ≡ None → named ≡ [] → IsBlank h part → IsCounted (Ok said) → row_reason p said (may_follow p (count_of doubles) named None said) ≡ None → IsAfter said
-  starts (row.Run n) no_doubles none blank counted fine = run-first n counted no_doubles none blank
-  starts (row.Arbitrary node) no_doubles none blank counted fine = absurd (let no = arbitrary-comes _ _ false fine in cc no)
-  starts (row.Clock cycle clock) no_doubles none blank counted fine = absurd (let no = clock-comes _ _ false fine in cc no)
-  starts (row.Heard heard) no_doubles none blank counted fine =
-      let comes = heard-comes p heard.cycle heard.receiver heard.slot heard.value heard.channel false fine in absurd (let no = comes.comes_next in cc no)
+  starts : (before here : List NodeRow) (said : Row) → IsUnsaid doubles named joins h part → IsCounted (Ok said)
+      → row_reason p named joins said (may_follow p (count_of doubles) named joins before here None said) ≡ None → IsAfter said
+  starts before here (row.Run n) at counted fine = run-first n counted at.none at.unnamed at.unjoined at.blank
+  starts before here (row.Arbitrary node) at counted fine = absurd (let no = arbitrary-comes _ _ false fine in cc no)
+  starts before here (row.Join j) at counted fine = absurd (let no = join-comes _ _ false _ fine in cc no)
+  starts before here (row.Clock cycle clock) at counted fine = absurd (let no = clock-comes _ _ false fine in cc no)
+  starts before here (row.Heard heard) at counted fine =
+      let comes = heard-comes p named joins heard.cycle heard.receiver heard.slot heard.value heard.channel false fine in absurd (let no = comes.comes_next in cc no)
 
-  comes-after : (last : Option Row) (said : Row) → IsLast doubles named last h part → IsCounted (Ok said) → row_reason p said (may_follow p (count_of doubles) named last said) ≡ None → IsAfter said
-  comes-after None said at counted fine = starts said at.0 at.1 at.2 counted fine
-  comes-after (Some (row.Run n)) said at counted fine = begins 0 said at.0 at.1 fine
-  comes-after (Some (row.Arbitrary other)) said at counted fine = begins other said at.0 at.1 fine
-  comes-after (Some (row.Clock cycle clock)) said at counted fine = goes-on cycle (record { node = clock.node; slot = 0; rank = 0 }) said at fine
-  comes-after (Some (row.Heard heard)) said at counted fine = goes-on heard.cycle (heard_turn heard) said at fine
+  comes-after : (before here : List NodeRow) (last : Option Row) (said : Row) → IsLast doubles named joins last h part → IsCounted (Ok said)
+      → row_reason p named joins said (may_follow p (count_of doubles) named joins before here last said) ≡ None → IsAfter said
+  comes-after before here None said at counted fine = starts before here said at counted fine
+  comes-after before here (Some (row.Run n)) said at counted fine = begins 0 said at fine
+  comes-after before here (Some (row.Arbitrary other)) said at counted fine = begins other said at fine
+  comes-after before here (Some (row.Join other)) said at counted fine = joins-on other.node said at fine
+  comes-after before here (Some (row.Clock cycle clock)) said at counted fine = goes-on before here cycle (clock_turn clock) said at fine
+  comes-after before here (Some (row.Heard heard)) said at counted fine = goes-on before here heard.cycle (heard_turn heard) said at fine
 
 -- ---- all records
 
@@ -345,19 +421,21 @@ record IsRead (records : List FileRecord) : Type 0 where
   over : History
   part : Record
   said : AreSaid over part records
-  rows : map trace_row_of records ≡ map read_as (rows_so_far (doubles_at records) (named_at records) over part)
-  at : IsLast (doubles_at records) (named_at records) (last_at records) over part
+  rows : map trace_row_of records ≡ map read_as (rows_so_far (doubles_at records) (named_at records) (joins_at records) over part)
+  at : IsLast (doubles_at records) (named_at records) (joins_at records) (last_at records) over part
 
-last-along : (a b : Option ℕ) (n m : List ℕ) (k l : Option Row) (h : History) (r : Record) → a ≡ b → n ≡ m → k ≡ l → IsLast a n k h r → IsLast b m l h r
-last-along a b n m k l h r e1 e2 e3 at =
-    subst (λ (x : Option ℕ). IsLast x m l h r) e1 (subst (λ (x : List ℕ). IsLast a x l h r) e2 (subst (λ (x : Option Row). IsLast a n x h r) e3 at))
+last-along : (a b : Option ℕ) (n m : List ℕ) (s t : List TracedJoin) (k l : Option Row) (h : History) (r : Record) → a ≡ b → n ≡ m → s ≡ t → k ≡ l → IsLast a n s k h r → IsLast b m t l h r
+last-along a b n m s t k l h r e1 e2 e3 e4 at =
+    subst (λ (x : Option ℕ). IsLast x m t l h r) e1
+    (subst (λ (x : List ℕ). IsLast a x t l h r) e2 (subst (λ (x : List TracedJoin). IsLast a n x l h r) e3 (subst (λ (x : Option Row). IsLast a n s x h r) e4 at)))
 
-read-more : (p : Values) (done : List FileRecord) (r : FileRecord) (said : Row) → IsRead done → trace_row_of r ≡ Ok said → row_reason p said (may_come p done said) ≡ None → IsCounted (Ok said)
+read-more : (p : Values) (done : List FileRecord) (r : FileRecord) (said : Row) → IsRead done → trace_row_of r ≡ Ok said → trace_row_reason p done (Ok said) ≡ None → IsCounted (Ok said)
     → IsRead (done ++ r ∷ [])
 read-more p done r said rd e fine counted =
-    let after = comes-after p (doubles_at done) (named_at done) rd.over rd.part (last_at done) said rd.at counted fine in
+    let after = comes-after p (doubles_at done) (named_at done) (joins_at done) rd.over rd.part (before_at done) (here_at done) (last_at done) said rd.at counted fine in
     let doubles = doubles-more done r (Ok said) e in
     let named = named-more done r (Ok said) e in
+    let joins = joins-more done r (Ok said) e in
     let over = over_with rd.over rd.part said in
     let part = part_with rd.over rd.part said in
     record {
@@ -366,20 +444,20 @@ read-more p done r said rd e fine counted =
       said = put-said rd.over rd.part done r said e after.placed rd.said;
       rows = map-append trace_row_of done (r ∷ [])
           ∙ (λ i. rd.rows i ++ e i ∷ [])
-          ∙ sym (map-append read_as (rows_so_far (doubles_at done) (named_at done) rd.over rd.part) (said ∷ []))
+          ∙ sym (map-append read_as (rows_so_far (doubles_at done) (named_at done) (joins_at done) rd.over rd.part) (said ∷ []))
           ∙ ap (λ (l : List Row). map read_as l) (sym after.rows)
-          ∙ sym (λ i. map read_as (rows_so_far (doubles i) (named i) over part));
-      at = last-along _ _ _ _ _ _ over part (sym doubles) (sym named) (sym (last-more done r said e)) after.at;
+          ∙ sym (λ i. map read_as (rows_so_far (doubles i) (named i) (joins i) over part));
+      at = last-along _ _ _ _ _ _ _ _ over part (sym doubles) (sym named) (sym joins) (sym (last-more done r said e)) after.at;
     }
 
 read-none : IsRead []
-unfolding items_in cycle_rows named_at last_at history_said record_said
+unfolding items_in cycle_rows named_at joins_at last_at history_said record_said
 read-none = record {
   over = [];
   part = no_record;
   said = record { over = refl; part = refl; none_later = λ cycle lt. refl };
-  rows = sym (λ i. map read_as (rows_so_far (looked_up-nil (λ r. doubles_in (trace_row_of r)) i) [] [] no_record));
-  at = (looked_up-nil (λ r. doubles_in (trace_row_of r)), refl, record { none = refl; blank = refl });
+  rows = sym (λ i. map read_as (rows_so_far (looked_up-nil (λ r. doubles_in (trace_row_of r)) i) [] [] [] no_record));
+  at = record { none = looked_up-nil (λ r. doubles_in (trace_row_of r)); unnamed = refl; unjoined = refl; blank = record { none = refl; blank = refl } };
 }
 
 read-rest : (p : Values) (done rest : List FileRecord) → NoneRefused (trace_reason_after p) (done ++ rest) → IsRead done → IsRead (done ++ rest)
@@ -397,12 +475,13 @@ read-rest p done (r ∷ rest) none rd =
 -- ---- the trace
 
 -- the cycle under way is one of the trace
-reached : (n : ℕ) (named : List ℕ) (last : Option Row) (h : History) (part : Record) → IsLast (Some n) named last h part → suc (length h) ≤ 2 * n
-reached n named None h part at = absurd (let no = at.0 in cc no)
-reached n named (Some (row.Run m)) h part at = let one = at.0 in let none = ap (λ (g : History). length g) at.1.none in omega (arith, one, none)
-reached n named (Some (row.Arbitrary node)) h part at = let one = at.0 in let none = ap (λ (g : History). length g) at.1.none in omega (arith, one, none)
-reached n named (Some (row.Clock cycle clock)) h part at = let numbered = at.numbered in let inside = at.inside in omega (arith, numbered, inside)
-reached n named (Some (row.Heard heard)) h part at = let numbered = at.numbered in let inside = at.inside in omega (arith, numbered, inside)
+reached : (n : ℕ) (named : List ℕ) (joins : List TracedJoin) (last : Option Row) (h : History) (part : Record) → IsLast (Some n) named joins last h part → suc (length h) ≤ 2 * n
+reached n named joins None h part at = absurd (let no = at.none in cc no)
+reached n named joins (Some (row.Run m)) h part at = let one = at.counted in let none = ap (λ (g : History). length g) at.blank.none in omega (arith, one, none)
+reached n named joins (Some (row.Arbitrary node)) h part at = let one = at.counted in let none = ap (λ (g : History). length g) at.blank.none in omega (arith, one, none)
+reached n named joins (Some (row.Join j)) h part at = let one = at.counted in let none = ap (λ (g : History). length g) at.blank.none in omega (arith, one, none)
+reached n named joins (Some (row.Clock cycle clock)) h part at = let numbered = at.numbered in let inside = at.inside in omega (arith, numbered, inside)
+reached n named joins (Some (row.Heard heard)) h part at = let numbered = at.numbered in let inside = at.inside in omega (arith, numbered, inside)
 
 -- later cycles are blank and have no items
 blank-rows : (g : History) (r : Record) → r ≡ no_record → map row_of_item (items_in (r ∷ g)) ≡ map row_of_item (items_in g)
@@ -423,9 +502,9 @@ reads_in_order p t bytes file =
     let records = records_of bytes in
     let rd = read-rest p [] records file.none_refused read-none in
     let stands = file.stands in
-    let at = subst (λ (d : Option ℕ). IsLast d (named_at records) (last_at records) rd.over rd.part) stands.doubles rd.at in
-    let le = reached t.doubles (named_at records) (last_at records) rd.over rd.part at in
+    let at = subst (λ (d : Option ℕ). IsLast d (named_at records) (joins_at records) (last_at records) rd.over rd.part) stands.doubles rd.at in
+    let le = reached t.doubles (named_at records) (joins_at records) (last_at records) rd.over rd.part at in
     let items : map row_of_item (items_in rd.over) ++ cycle_rows (length rd.over) rd.part.devs rd.part.rows ≡ map row_of_item (items_in t.history) =
     sym (over-rows rd.over rd.part) ∙ sym (said-rows records rd.over rd.part (2 * t.doubles) rd.said le) ∙ ap (λ (g : History). map row_of_item (items_in g)) (sym stands.history)
     in
-    rd.rows ∙ (λ i. map read_as ((run_rows (stands.doubles i) ++ named_rows (sym stands.arbitrary i)) ++ items i))
+    rd.rows ∙ (λ i. map read_as (head_rows (stands.doubles i) (sym stands.arbitrary i) (sym stands.joins i) ++ items i))

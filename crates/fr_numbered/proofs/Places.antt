@@ -7,6 +7,7 @@ use Rattle.fr_trace.specs.Items.{Item, item_in, items_in}
 use Rattle.fr_trace.specs.Rows.{trace_row_of}
 use Rattle.fr_trace.specs.declared.rows.Row.{Row}
 use Rattle.fr_trace.specs.declared.rows.Row.TheVariants as row
+use Rattle.fr_trace.specs.declared.trace.TracedJoin.{TracedJoin}
 use Rattle.fr_numbered.specs.Numbered.{NumbersAreRecords, read_as, row_of_item, rows_of_trace}
 use Rattle.fr_numbered.proofs.InOrder.{reads_in_order}
 
@@ -48,7 +49,9 @@ pub numbers_are_records : NumbersAreRecords
 numbers_are_records p t bytes number item file at =
     let order = reads_in_order p t bytes file in
     let here = item-cut (items_in t.history) at.place item at.found in
-    let head : List Row = row.Run t.doubles ∷ map (λ node. row.Arbitrary node) t.arbitrary in
+    let named : List Row = map (λ node. row.Arbitrary node) t.arbitrary in
+    let joined : List Row = map (λ j. row.Join j) t.joins in
+    let head : List Row = row.Run t.doubles ∷ named ++ joined in
     let front : List Row = head ++ map row_of_item here.before in
     let items : map row_of_item (items_in t.history) ≡ map row_of_item here.before ++ row_of_item item ∷ map row_of_item here.after =
     ap (λ (l : List Item). map row_of_item l) here.cut ∙ map-append row_of_item here.before (item ∷ here.after)
@@ -67,11 +70,13 @@ numbers_are_records p t bytes number item file at =
     let e = here.counted in
     let f = found.counted in
     let g = at.counted in
+    let k = length-map t.joins (λ (j : TracedJoin). row.Join j) in
+    let m = length-append named joined in
     record {
       before = found.before;
       record_at = found.record_at;
       after = found.after;
       cut = found.cut;
-      place = omega (arith, a, b, c, d, e, f, g);
+      place = omega (arith, a, b, c, d, e, f, g, k, m);
       said = found.said;
     }

@@ -19,9 +19,10 @@ row_of_line (Line.DevLine cycle dev) = row.Heard (record { cycle = cycle; receiv
 abbrev pub row_of_item : Item → Row
 row_of_item item = row_of_line (line_of item)
 
--- the rows of a trace: the number of double cycles, each arbitrary node, and then what is recorded, cycle by cycle
+-- the rows of a trace: the number of double cycles, each arbitrary node, each node that joins, and then what is recorded,
+-- cycle by cycle
 abbrev pub rows_of_trace : TraceView → List Row
-rows_of_trace t = row.Run t.doubles ∷ map (λ node. row.Arbitrary node) t.arbitrary ++ map row_of_item (items_in t.history)
+rows_of_trace t = row.Run t.doubles ∷ map (λ node. row.Arbitrary node) t.arbitrary ++ map (λ j. row.Join j) t.joins ++ map row_of_item (items_in t.history)
 
 -- a row that is read, and not a reason for which none is
 abbrev pub read_as : Row → Result Row Reason

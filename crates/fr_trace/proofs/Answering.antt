@@ -3,16 +3,15 @@ use Rattle.std.proofs.Common.{◌≡◌, ◌≢◌, ◌⊎◌, inl, inr, ℕ, �
 use Rattle.std.specs.Prelude.{IfOk, min}
 use Rattle.fr_base.specs.declared.reason.Reason.{Reason}
 use Rattle.fr_cluster.specs.Values.{Values}
-use Rattle.fr_history.specs.History.{History}
 use Rattle.fr_records.specs.Kind.{HasOneAnswer, HasSomeAnswer, Reads}
 use Rattle.fr_records.specs.Records.{FileRecord, records_of}
 use Rattle.fr_records.specs.Refusal.{FirstRefused, NoneRefused}
 use Rattle.fr_records.proofs.Cuts.{first-same, none-or-first-refused, refused-none}
 use Rattle.fr_trace.specs.Draft.{AnswersFor}
 use Rattle.fr_trace.specs.Fits.{TraceFits}
-use Rattle.fr_trace.specs.Files.{TraceStandsFor, history_said, is_whole, is_whole_by, trace_file}
-use Rattle.fr_trace.specs.Order.{doubles_at, named_at}
+use Rattle.fr_trace.specs.Files.{TraceStandsFor, is_whole, is_whole_by, trace_file}
 use Rattle.fr_trace.specs.Reasons.{trace_reason_after}
+use Rattle.fr_trace.specs.Said.{doubles_at, history_said, joins_at, named_at}
 use Rattle.fr_trace.specs.Trace.{TraceView}
 use Rattle.fr_trace.specs.declared.fault.TraceFault.{TraceFault}
 use Rattle.fr_trace.specs.declared.fault.TraceFault.TheVariants as fault
@@ -25,7 +24,8 @@ stands-same t u records a b =
     let doubles : t.doubles ≡ u.doubles = some-same t.doubles u.doubles (sym a.doubles ∙ b.doubles) in
     let arbitrary : t.arbitrary ≡ u.arbitrary = a.arbitrary ∙ sym b.arbitrary in
     let history : t.history ≡ u.history = a.history ∙ ap (λ (n : ℕ). history_said records (2 * n)) doubles ∙ sym b.history in
-    λ i. record { doubles = doubles i; arbitrary = arbitrary i; history = history i }
+    let joins : t.joins ≡ u.joins = a.joins ∙ sym b.joins in
+    λ i. record { doubles = doubles i; arbitrary = arbitrary i; joins = joins i; history = history i }
 
 whole-not : {P : Type 0} (b : Bool) → b ≡ true → b ≡ false → P
 whole-not true e f = absurd (cc f)
@@ -57,8 +57,8 @@ reads-some p bytes = by (none-or-first-refused (trace_reason_after p) (records_o
     told none false e o is = (Err (fault.Incomplete (length (records_of bytes))), λ same. cc same, record { none_refused = none; missing = e; counted = refl })
     told none true e None is = absurd (let no = sym e ∙ ap (is_whole_by p (records_of bytes)) is in cc no)
     told none true e (Some n) is =
-        let t : TraceView = record { doubles = n; arbitrary = named_at (records_of bytes); history = history_said (records_of bytes) (2 * n) } in
-        (Ok t, λ same. cc same, record { none_refused = none; whole = e; stands = record { doubles = is; arbitrary = refl; history = refl } })
+        let t : TraceView = record { doubles = n; arbitrary = named_at (records_of bytes); joins = joins_at (records_of bytes); history = history_said (records_of bytes) (2 * n) } in
+        (Ok t, λ same. cc same, record { none_refused = none; whole = e; stands = record { doubles = is; arbitrary = refl; joins = refl; history = refl } })
 
     by : NoneRefused (trace_reason_after p) (records_of bytes) ⊎ ((n : ℕ) × ((why : Reason) × FirstRefused (trace_reason_after p) (records_of bytes) n why))
         → (answer : Result TraceView TraceFault) × (answer ≢ Err fault.NoMemory) × Reads (trace_file p) bytes answer

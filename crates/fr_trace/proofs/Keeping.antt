@@ -1,5 +1,5 @@
 -- A trace under construction, with one row more in its place.
-use Rattle.std.proofs.Common.{◌≡◌, ◌≢◌, ℕ, suc, ◌+◌, Bool, true, false, List, [], ◌∷◌, ◌++◌, length, Result, Ok, Err, refl, ap, sym, ◌∙◌, subst, arith}
+use Rattle.std.proofs.Common.{◌≡◌, ◌≢◌, ℕ, ◌+◌, Bool, true, false, List, [], ◌∷◌, ◌++◌, length, Result, Ok, Err, refl, ap, sym, ◌∙◌, arith}
 use Rattle.std.specs.Prelude.{◌==◌, OnOk, fold, if◌then◌else◌}
 use Rattle.std.proofs.lemmas.Bool.Decides.{nat_tests}
 use Rattle.std.proofs.lemmas.List.{append-nil}
@@ -9,7 +9,8 @@ use Rattle.fr_base.specs.declared.node_row.NodeRow.{NodeRow}
 use Rattle.fr_history.specs.History.{History, Record}
 use Rattle.fr_trace.specs.Cycles.{and_then, history_by, kept_of}
 use Rattle.fr_trace.specs.Draft.{HasClock, HasEnded, HasKept, over_of, part_of}
-use Rattle.fr_trace.specs.Files.{no_record}
+use Rattle.fr_trace.specs.Joins.{latest_rows}
+use Rattle.fr_trace.specs.Said.{no_record}
 use Rattle.fr_trace.specs.declared.draft.Draft.{Draft}
 use Rattle.fr_trace.specs.declared.rows.Row.TheVariants as row
 use Rattle.fr_trace.specs.declared.trace.TracedCycle.{TracedCycle}
@@ -17,6 +18,15 @@ use Rattle.fr_trace.specs.declared.trace.TracedCycle.{TracedCycle}
 pub history-more : (cycles : List TracedCycle) (cycle : TracedCycle) → history_by (cycles ++ cycle ∷ []) ≡ kept_of cycle ∷ history_by cycles
 unfolding history_by
 history-more cycles cycle = fold-append and_then [] cycles (cycle ∷ [])
+
+-- the rows of the last of some cycles
+pub latest-none : (cycles : List TracedCycle) → length cycles ≡ 0 → [] ≡ latest_rows (history_by cycles)
+unfolding history_by
+latest-none [] e = refl
+latest-none (cycle ∷ cycles) e = absurd (omega (arith, e))
+
+pub latest-last : (cycles earlier : List TracedCycle) (last : TracedCycle) → cycles ≡ earlier ++ last ∷ [] → last.rows.items ≡ latest_rows (history_by cycles)
+latest-last cycles earlier last e = sym (ap latest_rows (ap history_by e ∙ history-more earlier last))
 
 long : (h : History) (cycles : List TracedCycle) → length (fold and_then h cycles) ≡ length cycles + length h
 long h [] = omega arith
@@ -43,6 +53,7 @@ kept-clock before after cycle clock at put =
     record {
       doubles = put.head.doubles;
       named = put.head.named ∙ sym (append-nil before.arbitrary.items);
+      joins = put.head.joins ∙ sym (append-nil before.joins.items);
       last = put.head.last;
       count = put.head.count;
       over = put.over ∙ sym (ap (λ (b : Bool). if b then over_of before else part_of before ∷ over_of before) here);
@@ -62,6 +73,7 @@ kept-next before mid after cycle clock at end put =
     record {
       doubles = put.head.doubles ∙ end.head.doubles;
       named = put.head.named ∙ end.head.named ∙ sym (append-nil before.arbitrary.items);
+      joins = put.head.joins ∙ end.head.joins ∙ sym (append-nil before.joins.items);
       last = put.head.last ∙ end.head.last;
       count = put.head.count ∙ end.head.count;
       over = put.over ∙ end.over ∙ sym (ap (λ (b : Bool). if b then over_of before else part_of before ∷ over_of before) here);

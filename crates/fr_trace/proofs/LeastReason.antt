@@ -12,7 +12,7 @@ use Rattle.fr_base.specs.declared.reason.Reason.TheVariants as reason
 use Rattle.fr_base.specs.declared.state.State.{State}
 use Rattle.fr_records.specs.Records.{FileRecord}
 use Rattle.fr_records.specs.Fields.{both_of, field_of, is_blank, natural_of}
-use Rattle.fr_records.specs.Forms.{NumberField, number_field, lies_outside, misses_form, has_unknown_name, has_no_number, is_out_of_range, has_bad_channels}
+use Rattle.fr_records.specs.Forms.{number_field, lies_outside, misses_form, has_unknown_name, has_no_number, is_out_of_range, has_bad_channels}
 use Rattle.fr_records.specs.Least.{GivesLeast, IsLeastReason, row_passes}
 use Rattle.fr_records.proofs.LeastReasons.{least-first}
 use Rattle.fr_records.proofs.FormFacts.{IsFault, IsFormed, IsFormedBy, IsRead, formed-if, formed-read, formed-sized, formed-two, is_overfull, least-formed, natural-read, never, read-both, within-read}
@@ -20,10 +20,11 @@ use Rattle.fr_cluster.specs.Questions.{own_key}
 use Rattle.fr_cluster.specs.Values.{Values}
 use Rattle.fr_cluster.specs.Sane.{IsSane}
 use Rattle.fr_cluster.specs.declared.names.ParamName.TheVariants as name
-use Rattle.fr_trace.specs.Rows.{arbitrary_row, clock_in, clock_named, clock_with, heard_on, heard_row, offset_in, rate_in, run_row, short_row, span_in, state_of, terms_in, trace_file_row, trace_row_of, value_in}
+use Rattle.fr_trace.specs.Rows.{arbitrary_row, are_blank, clock_in, clock_named, clock_with, heard_on, heard_row, join_row, join_with, offset_in, rate_in, run_row, short_row, span_in, state_of, terms_in, trace_file_row, trace_row_of, value_in}
 use Rattle.fr_trace.specs.Order.{may_come}
-use Rattle.fr_trace.specs.Reasons.{heard_reason, is_beyond, is_known, is_linked, is_of_other, is_within, trace_reason_after, trace_row_reason}
-use Rattle.fr_trace.specs.Holding.{arbitrary_form, clock_form, has_no_key, heard_form, is_apart, is_out_of_place, names_stranger, run_form, term_field, trace_form, trace_holds}
+use Rattle.fr_trace.specs.Said.{joins_at, named_at}
+use Rattle.fr_trace.specs.Reasons.{have_common, heard_reason, is_beyond, is_known, is_linked, is_of_other, is_within, joins_wrongly, knows_both, trace_reason_after, trace_row_reason}
+use Rattle.fr_trace.specs.Holding.{arbitrary_form, clock_form, heard_form, is_apart, is_out_of_place, join_form, names_stranger, run_form, term_field, trace_form, trace_holds}
 use Rattle.fr_trace.specs.declared.rows.HeardRow.{HeardRow}
 use Rattle.fr_trace.specs.declared.rows.Row.{Row}
 use Rattle.fr_trace.specs.declared.rows.Row.TheVariants as row
@@ -32,12 +33,14 @@ use Rattle.fr_trace.specs.declared.rows.Row.TheVariants as row
 far : Values → Row → Bool
 far p (row.Run n) = false
 far p (row.Arbitrary node) = false
+far p (row.Join j) = false
 far p (row.Clock cycle clock) = is_beyond p clock
 far p (row.Heard heard) = false
 
 astray : Row → Bool
 astray (row.Run n) = false
 astray (row.Arbitrary node) = false
+astray (row.Join j) = false
 astray (row.Clock cycle clock) = false
 astray (row.Heard heard) = is_none heard.channel
 
@@ -51,6 +54,15 @@ formed-six out bad true true true false e f name digits range channel x h = refl
 formed-six out bad true true false d e f name digits range channel x h = refl
 formed-six out bad true false c d e f name digits range channel x h = refl
 formed-six out bad false b c d e f name digits range channel x h = refl
+
+-- four fields are left empty
+formed-four : (out bad : Row → Bool) (a b c d name digits range channel : Bool) (x : Result Row Reason) → IsFormed out bad false name digits range channel x
+    → IsFormed out bad (not (a && (b && (c && (d && true))))) name digits range channel (if ((a && b) && c) && d then x else Err reason.Shape)
+formed-four out bad true true true true name digits range channel x h = h
+formed-four out bad true true true false name digits range channel x h = refl
+formed-four out bad true true false d name digits range channel x h = refl
+formed-four out bad true false c d name digits range channel x h = refl
+formed-four out bad false b c d name digits range channel x h = refl
 
 module _ (p : Values) where
   run-formed : (r : FileRecord) → IsFormedBy (far p) astray (Some (run_form r))
@@ -66,6 +78,27 @@ module _ (p : Values) where
   arbitrary-formed r =
       formed-six (far p) astray (is_blank (field_of r 2)) (is_blank (field_of r 3)) (is_blank (field_of r 4)) (is_blank (field_of r 5)) (is_blank (field_of r 6)) (is_blank (field_of r 7)) _ _ _ _ (arbitrary_row (field_of r 1))
       (formed-read (far p) astray never _ _ _ (λ n. Ok (row.Arbitrary n)) (natural_of 1 64 (field_of r 1)) (natural-read 1 64 (field_of r 1)) (λ n d o e f. (refl, refl, e, f, refl)))
+
+  join-read : (r : FileRecord) → IsFormed (far p) astray false false (has_no_number (Some (join_form r))) (is_out_of_range (Some (join_form r))) false
+      (join_row (field_of r 1) (field_of r 2) (field_of r 3))
+  unfolding far astray
+  join-read r =
+      let both =
+      read-both never never (number_field (field_of r 1) 1 64 ∷ []) (number_field (field_of r 2) 1 64 ∷ []) true true (natural_of 1 64 (field_of r 1)) (natural_of 1 64 (field_of r 2))
+      (natural-read 1 64 (field_of r 1)) (natural-read 1 64 (field_of r 2))
+      in
+      let all =
+      read-both (λ (q : ℕ × ℕ). never q.0 || never q.1) never (number_field (field_of r 1) 1 64 ∷ number_field (field_of r 2) 1 64 ∷ []) (number_field (field_of r 3) 0 99_999 ∷ []) true true
+      (both_of (natural_of 1 64 (field_of r 1)) (natural_of 1 64 (field_of r 2))) (natural_of 0 99_999 (field_of r 3)) both (natural-read 0 99_999 (field_of r 3))
+      in
+      formed-read (far p) astray never _ _ _ join_with (both_of (both_of (natural_of 1 64 (field_of r 1)) (natural_of 1 64 (field_of r 2))) (natural_of 0 99_999 (field_of r 3))) all
+      (λ a d o e f. (refl, refl, e, f, refl))
+
+  join-formed : (r : FileRecord) → IsFormedBy (far p) astray (Some (join_form r))
+      (if are_blank (field_of r 4) (field_of r 5) (field_of r 6) && is_blank (field_of r 7) then join_row (field_of r 1) (field_of r 2) (field_of r 3) else Err reason.Shape)
+  join-formed r =
+      formed-four (far p) astray (is_blank (field_of r 4)) (is_blank (field_of r 5)) (is_blank (field_of r 6)) (is_blank (field_of r 7)) false (has_no_number (Some (join_form r)))
+      (is_out_of_range (Some (join_form r))) false (join_row (field_of r 1) (field_of r 2) (field_of r 3)) (join-read r)
 
 -- a term outside the widest limit is outside this one
 wide : (limit lo hi z : ℤ) → lo ≤ℤ neg_ℤ limit → limit ≤ℤ hi → (int_lt z lo || int_lt hi z) ≡ true → (int_lt z (neg_ℤ limit) || int_lt limit z) ≡ true
@@ -176,11 +209,12 @@ formed p r a b c d =
     (trace_file_row (field_of r 0) (field_of r 1) (field_of r 2) (field_of r 3) (field_of r 4) (field_of r 5) (field_of r 6) (field_of r 7))
     (formed-if (far p) astray (bytes_eq (field_of r 0) (codes "run")) (Some (run_form r)) _ _ _ (run-formed p r)
     (formed-if (far p) astray (bytes_eq (field_of r 0) (codes "arbitrary")) (Some (arbitrary_form r)) _ _ _ (arbitrary-formed p r)
+    (formed-if (far p) astray (bytes_eq (field_of r 0) (codes "join")) (Some (join_form r)) _ _ _ (join-formed p r)
     (formed-if (far p) astray (bytes_eq (field_of r 0) (codes "cycle")) (Some (clock_form p r)) _ _ _ (clock-by p a b c d r (state_of (field_of r 7)))
     (formed-if (far p) astray (bytes_eq (field_of r 0) (codes "dev")) (Some (heard_form r)) None _ (Err reason.UnknownName)
     (formed-two (far p) astray (is_blank (field_of r 6)) (is_blank (field_of r 7)) false (has_no_number (Some (heard_form r))) (is_out_of_range (Some (heard_form r))) (has_bad_channels (Some (heard_form r)))
     (heard_row (field_of r 1) (field_of r 2) (field_of r 3) (field_of r 4) (field_of r 5)) (heard-formed p r))
-    (refl, refl)))))
+    (refl, refl))))))
 
 -- a deviation, by its channel
 least-heard : (p : Values) (test : Reason → Bool) (comes : Bool) (cycle receiver slot : ℕ) (value : ℤ) (o : Option Channel)
@@ -205,6 +239,9 @@ least-row p test before (Ok (row.Run n)) f node role link hex again =
     least-first test false false false false false false (not (may_come p before (row.Run n))) false false false f.0 f.1 f.2 f.3 node f.4 role link hex again
 least-row p test before (Ok (row.Arbitrary n)) f node role link hex again =
     least-first test false false false false (not (is_known p n)) false (is_none (own_key p n) || not (may_come p before (row.Arbitrary n))) false false false f.0 f.1 f.2 f.3 node f.4 role link hex again
+least-row p test before (Ok (row.Join j)) f node role link hex again =
+    least-first test false false false false (not (knows_both p j)) false (joins_wrongly p (named_at before) (joins_at before) j || not (may_come p before (row.Join j))) (not (have_common p j)) false false
+    f.0 f.1 f.2 f.3 node f.4 role link hex again
 least-row p test before (Ok (row.Clock cycle clock)) f node role link hex again =
     least-first test false false false (is_beyond p clock) (not (is_known p clock.node)) false (not (may_come p before (row.Clock cycle clock))) false false false f.0 f.1 f.2 f.3 node f.4 role link hex again
 least-row p test before (Ok (row.Heard heard)) f node role link hex again =

@@ -5,6 +5,9 @@ pub mod Nodes
 pub mod Saying
 pub mod Keeping
 pub mod Starting
+pub mod Passing
+pub mod Joining
+pub mod Standing
 pub mod Sounding
 pub mod Taking
 pub mod Ending

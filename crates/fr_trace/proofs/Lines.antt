@@ -1,8 +1,8 @@
 -- The text of a cycle by its rows and their deviations, and that of the nodes that are arbitrary.
 use Rattle.std.proofs.Math.Seq.{drop-cons}
 use Rattle.std.proofs.Common.{◌≡◌, ℕ, zero, suc, ◌+◌, ◌<◌, ◌≤◌, arith, drop, get_or, Bool, true, false, List, [], ◌∷◌, ◌++◌, length, map, refl, ap, sym, ◌∙◌, append_assoc, inl, inr}
-use Rattle.std.specs.Prelude.{All, Some, filter, ◌==◌, if◌then◌else◌, slice_get}
-use Rattle.std.proofs.lemmas.List.{drop_all}
+use Rattle.std.specs.Prelude.{All, None, Option, Some, filter, ◌==◌, if◌then◌else◌, slice_get}
+use Rattle.std.proofs.lemmas.List.{append-nil, drop_all}
 use Rattle.std.proofs.lemmas.Option.{get_or_from_slice_get}
 use Rattle.std.specs.List.{flat_map}
 use Rattle.std.proofs.lemmas.List.Concat.{flat_map-append}
@@ -10,11 +10,13 @@ use Rattle.std.proofs.lemmas.List.Folds.{flat_map-map}
 use Rattle.fr_base.specs.Rows.{AreAscendingDevs, IsEarlierDev}
 use Rattle.fr_base.specs.declared.dev.Dev.{Dev}
 use Rattle.fr_base.specs.declared.node_row.NodeRow.{NodeRow}
+use Rattle.fr_cluster.specs.declared.join.Join.{Join}
 use Rattle.fr_cluster.specs.declared.nodes.NodeSpec.{NodeSpec}
 use Rattle.fr_history.specs.History.{History, Record}
 use Rattle.fr_text.specs.Pieces.{line}
 use Rattle.fr_trace.specs.Items.{Item, items_by, line_of}
-use Rattle.fr_trace.specs.Text.{arbitrary_text, clock_text, dev_after, dev_front, dev_text, devs_text, items_text, line_text, named_text, clock_rows_text}
+use Rattle.fr_trace.specs.Text.{arbitrary_text, clock_text, dev_after, dev_front, dev_text, devs_text, items_text, join_line, join_text, joined_by, joins_text, line_text, named_text, clock_rows_text}
+use Rattle.fr_trace.specs.declared.trace.TracedJoin.{TracedJoin}
 
 -- what a filter keeps, written out
 filtered : {X : Type 0} (p : X → Bool) (f : X → List ℕ) (xs : List X) → flat_map f (filter p xs) ≡ flat_map (λ x. if p x then f x else []) xs
@@ -120,6 +122,26 @@ rows-later cycle node fewer devs alike (row ∷ rows) later =
     let first : devs_text cycle row.node fewer ≡ devs_text cycle row.node devs = alike row.node (later 0 row (omega arith)) in
     let rest : clock_rows_text cycle fewer rows ≡ clock_rows_text cycle devs rows = rows-later cycle node fewer devs alike rows (λ k r less. later (suc k) r (omega arith)) in
     λ i. (line (clock_text cycle row) ++ first i) ++ rest i
+
+-- the nodes that join
+joins-filter-one : (node : ℕ) (o : Option Join) → flat_map (λ j. line (join_text j)) (joined_by node o) ≡ join_line node o
+joins-filter-one node None = refl
+joins-filter-one node (Some join) = append-nil (line (join_text (record { node = node; join = join })))
+
+pub joins-filter : (join : ℕ → Option Join) (nodes : List NodeSpec)
+    → flat_map (λ j. line (join_text j)) (flat_map (λ node. joined_by node.id (join node.id)) nodes) ≡ joins_text join nodes
+joins-filter join [] = refl
+joins-filter join (node ∷ nodes) =
+    flat_map-append (λ (j : TracedJoin). line (join_text j)) (joined_by node.id (join node.id)) (flat_map (λ (other : NodeSpec). joined_by other.id (join other.id)) nodes)
+    ∙ (λ i. joins-filter-one node.id (join node.id) i ++ joins-filter join nodes i)
+
+pub joins-from : (join : ℕ → Option Join) (nodes : List NodeSpec) (place : ℕ) (node : NodeSpec) → place < length nodes → slice_get nodes place ≡ Some node
+    → join_line node.id (join node.id) ++ joins_text join (drop (place + 1) nodes) ≡ joins_text join (drop place nodes)
+joins-from join nodes place node lt is =
+    let at : get_or nodes place node ≡ node = get_or_from_slice_get nodes place node node is in
+    let one : place + 1 ≡ suc place = omega arith in
+    let cut : drop place nodes ≡ node ∷ drop (place + 1) nodes = drop-cons nodes place node lt ∙ (λ i. at i ∷ drop (sym one i) nodes) in
+    ap (joins_text join) (sym cut)
 
 -- those from a place on
 pub named-from : (is_arbitrary : ℕ → Bool) (nodes : List NodeSpec) (place : ℕ) (node : NodeSpec) → place < length nodes → slice_get nodes place ≡ Some node

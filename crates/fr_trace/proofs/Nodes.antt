@@ -1,15 +1,19 @@
--- The correct nodes in ascending order, one after the other.
-use Rattle.std.proofs.Common.{◌≡◌, ℕ, suc, ◌+◌, ◌<◌, ◌≤◌, Bool, true, false, List, [], ◌∷◌, ◌++◌, length, drop, get_or, Option, Some, None, refl, ap, sym, ◌∙◌, subst, arith}
-use Rattle.std.specs.Prelude.{nat_le, nat_lt, not, ◌&&◌, All, AllPairs, filter, find, slice_get}
+-- The nodes of a cluster and the rows of a cycle, each in ascending order.
+use Rattle.std.proofs.Common.{◌≡◌, ◌≢◌, ◌⊎◌, inl, inr, ℕ, suc, ◌+◌, ◌<◌, ◌≤◌, Bool, true, false, List, [], ◌∷◌, ◌++◌, length, map, drop, get_or, Option, Some, None, refl, ap, sym, ◌∙◌, subst, arith}
+use Rattle.std.specs.Prelude.{◌==◌, ◌&&◌, ◌||◌, All, AllPairs, filter, find, is_some, slice_get}
 use Rattle.std.specs.Option.{option_map}
 use Rattle.std.proofs.Math.Seq.{drop-cons}
+use Rattle.std.proofs.lemmas.Bool.{cases_lt}
 use Rattle.std.proofs.lemmas.Bool.Decides.{nat_tests}
 use Rattle.std.proofs.lemmas.List.{drop_all}
 use Rattle.std.proofs.lemmas.List.Elements.{All-head, All-tail}
 use Rattle.std.proofs.lemmas.Option.{get_or_from_slice_get}
+use Rattle.fr_base.specs.declared.node_row.NodeRow.{NodeRow}
+use Rattle.fr_cluster.specs.Searches.{node_in}
 use Rattle.fr_cluster.specs.declared.nodes.NodeSpec.{NodeSpec}
-use Rattle.fr_trace.specs.Draft.{is_correct_to}
-use Rattle.fr_trace.specs.Order.{is_among, is_correct_behind, next_correct_in}
+use Rattle.fr_history.specs.History.{row_of}
+use Rattle.fr_trace.specs.Order.{is_due_behind, next_due_in}
+use Rattle.fr_trace.specs.declared.trace.TracedJoin.{TracedJoin}
 
 filter-yes : {X : Type 0} (p : X → Bool) (x : X) (xs : List X) → p x ≡ true → filter p (x ∷ xs) ≡ x ∷ filter p xs
 filter-yes p x xs e = rw e refl
@@ -36,18 +40,6 @@ and-second false b e = refl
 pub some-same : {A : Type 0} (x y : A) → Some x ≡ Some y → x ≡ y
 some-same x y e = cc e
 
-le-yes : (a b : ℕ) → a ≤ b → nat_le a b ≡ true
-le-yes a b h = grind (arith, nat_tests)
-
-le-no : (a b : ℕ) → b < a → nat_le a b ≡ false
-le-no a b h = grind (arith, nat_tests)
-
-lt-is : (a b : ℕ) → nat_lt a b ≡ true → a < b
-lt-is a b h = grind (arith, nat_tests)
-
-lt-not : (a b : ℕ) → nat_lt a b ≡ false → b ≤ a
-lt-not a b h = grind (arith, nat_tests)
-
 -- ---- what the search from a place on finds
 
 cut-at : (nodes : List NodeSpec) (place : ℕ) (spec : NodeSpec) → place < length nodes → slice_get nodes place ≡ Some spec → drop place nodes ≡ spec ∷ drop (place + 1) nodes
@@ -56,22 +48,24 @@ cut-at nodes place spec lt is =
     let one : place + 1 ≡ suc place = omega arith in
     drop-cons nodes place spec lt ∙ (λ i. at i ∷ drop (sym one i) nodes)
 
-pub next-here : (nodes : List NodeSpec) (named : List ℕ) (node place : ℕ) (spec : NodeSpec) → place < length nodes → slice_get nodes place ≡ Some spec
-    → is_correct_behind named node spec ≡ true → Some spec.id ≡ next_correct_in (drop place nodes) named node
-next-here nodes named node place spec lt is e =
-    sym (ap (λ (l : List NodeSpec). next_correct_in l named node) (cut-at nodes place spec lt is)
-    ∙ ap (λ (o : Option NodeSpec). option_map (λ s. s.id) o) (find-yes (is_correct_behind named node) spec (drop (place + 1) nodes) e))
+module _ (named : List ℕ) (joins : List TracedJoin) (cycle : ℕ) (before : List NodeRow) where
+  pub next-here : (nodes : List NodeSpec) (node place : ℕ) (spec : NodeSpec) → place < length nodes → slice_get nodes place ≡ Some spec
+      → is_due_behind named joins cycle before node spec ≡ true → Some spec.id ≡ next_due_in (drop place nodes) named joins cycle before node
+  next-here nodes node place spec lt is e =
+      sym (ap (λ (l : List NodeSpec). next_due_in l named joins cycle before node) (cut-at nodes place spec lt is)
+      ∙ ap (λ (o : Option NodeSpec). option_map (λ s. s.id) o) (find-yes (is_due_behind named joins cycle before node) spec (drop (place + 1) nodes) e))
 
-pub next-there : (nodes : List NodeSpec) (named : List ℕ) (node place : ℕ) (spec : NodeSpec) → place < length nodes → slice_get nodes place ≡ Some spec
-    → is_correct_behind named node spec ≡ false → next_correct_in (drop (place + 1) nodes) named node ≡ next_correct_in (drop place nodes) named node
-next-there nodes named node place spec lt is e =
-    sym (ap (λ (l : List NodeSpec). next_correct_in l named node) (cut-at nodes place spec lt is)
-    ∙ ap (λ (o : Option NodeSpec). option_map (λ s. s.id) o) (find-no (is_correct_behind named node) spec (drop (place + 1) nodes) e))
+  pub next-there : (nodes : List NodeSpec) (node place : ℕ) (spec : NodeSpec) → place < length nodes → slice_get nodes place ≡ Some spec
+      → is_due_behind named joins cycle before node spec ≡ false
+      → next_due_in (drop (place + 1) nodes) named joins cycle before node ≡ next_due_in (drop place nodes) named joins cycle before node
+  next-there nodes node place spec lt is e =
+      sym (ap (λ (l : List NodeSpec). next_due_in l named joins cycle before node) (cut-at nodes place spec lt is)
+      ∙ ap (λ (o : Option NodeSpec). option_map (λ s. s.id) o) (find-no (is_due_behind named joins cycle before node) spec (drop (place + 1) nodes) e))
 
-pub next-none : (nodes : List NodeSpec) (named : List ℕ) (node place : ℕ) → length nodes ≤ place → None ≡ next_correct_in (drop place nodes) named node
-next-none nodes named node place past = sym (ap (λ (l : List NodeSpec). next_correct_in l named node) (drop_all place nodes past))
+  pub next-none : (nodes : List NodeSpec) (node place : ℕ) → length nodes ≤ place → None ≡ next_due_in (drop place nodes) named joins cycle before node
+  next-none nodes node place past = sym (ap (λ (l : List NodeSpec). next_due_in l named joins cycle before node) (drop_all place nodes past))
 
--- ---- the nodes up to one, and the next
+-- ---- lists in ascending order
 
 pub pairs-first : {X : Type 0} (R : X → X → Type 0) (x : X) (xs : List X) → AllPairs R (x ∷ xs) → All (R x) xs
 pairs-first R x xs asc = λ k d lt. asc 0 (suc k) d (omega arith) (omega arith)
@@ -79,99 +73,167 @@ pairs-first R x xs asc = λ k d lt. asc 0 (suc k) d (omega arith) (omega arith)
 pub pairs-rest : {X : Type 0} (R : X → X → Type 0) (x : X) (xs : List X) → AllPairs R (x ∷ xs) → AllPairs R xs
 pairs-rest R x xs asc = λ i j d lt le. asc (suc i) (suc j) d (omega arith) (omega arith)
 
-module _ (named : List ℕ) where
-  above-none : (n : ℕ) (xs : List NodeSpec) → All (λ s. n < s.id) xs → filter (is_correct_to named n) xs ≡ []
-  above-none n [] all = refl
-  above-none n (x ∷ xs) all =
-      let gt : n < x.id = All-head (λ (s : NodeSpec). n < s.id) x xs all in
-      filter-no (is_correct_to named n) x xs (and-second (not (is_among named x.id)) (nat_le x.id n) (le-no x.id n gt))
-      ∙ above-none n xs (All-tail (λ (s : NodeSpec). n < s.id) x xs all)
+eq-yes : (a b : ℕ) → a ≡ b → (a == b) ≡ true
+eq-yes a b e = grind (arith, nat_tests, e)
 
-  -- no node has the number 0
-  pub none-to-zero : (xs : List NodeSpec) → All (λ s. 1 ≤ s.id) xs → filter (is_correct_to named 0) xs ≡ []
-  none-to-zero xs all = above-none 0 xs all
+eq-no : (a b : ℕ) → a ≢ b → (a == b) ≡ false
+eq-no a b ne = grind (arith, nat_tests, ne)
 
-  -- what is found lies above
-  pub found-above : (n : ℕ) (xs : List NodeSpec) (s : NodeSpec) → find (is_correct_behind named n) xs ≡ Some s → n < s.id
-  found-above n [] s found = absurd (cc found)
-  found-above n (x ∷ xs) s found = by (is_correct_behind named n x) refl (λ rest. found-above n xs s rest)
+eq-is : (a b : ℕ) → (a == b) ≡ true → a ≡ b
+eq-is a b e = grind (arith, nat_tests, e)
+
+-- what is found by a number, of a list with one more in front
+pub found-first : {X : Type 0} (key : X → ℕ) (n : ℕ) (x : X) (xs : List X) → key x ≡ n → is_some (find (λ y. key y == n) (x ∷ xs)) ≡ true
+found-first key n x xs e = ap (λ (o : Option _). is_some o) (find-yes (λ y. key y == n) x xs (eq-yes (key x) n e))
+
+pub found-behind : {X : Type 0} (key : X → ℕ) (n : ℕ) (x : X) (xs : List X) → key x ≢ n → is_some (find (λ y. key y == n) (x ∷ xs)) ≡ is_some (find (λ y. key y == n) xs)
+found-behind key n x xs ne = ap (λ (o : Option _). is_some o) (find-no (λ y. key y == n) x xs (eq-no (key x) n ne))
+
+-- of numbers that are all greater or less none is found
+pub none-found : {X : Type 0} (key : X → ℕ) (n : ℕ) (xs : List X) → All (λ y. key y ≢ n) xs → is_some (find (λ y. key y == n) xs) ≡ false
+none-found key n [] other = refl
+none-found {X} key n (x ∷ xs) other =
+    found-behind key n x xs (All-head (λ (y : X). key y ≢ n) x xs other) ∙ none-found key n xs (All-tail (λ (y : X). key y ≢ n) x xs other)
+
+-- the same of all elements where one of the numbers is found
+pub all-found : {X : Type 0} (key : X → ℕ) (P : ℕ → Type 0) (xs : List X) (n : ℕ) → All (λ y. P (key y)) xs → is_some (find (λ y. key y == n) xs) ≡ true → P n
+all-found key P [] n all e = absurd (cc e)
+all-found {X} key P (x ∷ xs) n all e = by (key x == n) refl (λ rest. all-found key P xs n (All-tail (λ (y : X). P (key y)) x xs all) rest)
+  where
+    by : (b : Bool) → (key x == n) ≡ b → (is_some (find (λ y. key y == n) xs) ≡ true → P n) → P n
+    by true is more = subst P (eq-is (key x) n is) (All-head (λ (y : X). P (key y)) x xs all)
+    by false is more = more (sym (ap (λ (o : Option X). is_some o) (find-no (λ y. key y == n) x xs is)) ∙ e)
+
+-- one more behind the others
+pub found-last : {X : Type 0} (key : X → ℕ) (n : ℕ) (xs : List X) (x : X) → is_some (find (λ y. key y == n) (xs ++ x ∷ [])) ≡ (is_some (find (λ y. key y == n) xs) || (key x == n))
+found-last key n [] x = by (key x == n) refl
+  where
+    by : (b : Bool) → (key x == n) ≡ b → is_some (find (λ y. key y == n) (x ∷ [])) ≡ (false || (key x == n))
+    by true e = ap (λ (o : Option _). is_some o) (find-yes (λ y. key y == n) x [] e) ∙ sym e
+    by false e = ap (λ (o : Option _). is_some o) (find-no (λ y. key y == n) x [] e) ∙ sym e
+found-last {X} key n (y ∷ ys) x = by (key y == n) refl (found-last key n ys x)
+  where
+    by : (b : Bool) → (key y == n) ≡ b → is_some (find (λ z. key z == n) (ys ++ x ∷ [])) ≡ (is_some (find (λ z. key z == n) ys) || (key x == n))
+        → is_some (find (λ z. key z == n) (y ∷ ys ++ x ∷ [])) ≡ (is_some (find (λ z. key z == n) (y ∷ ys)) || (key x == n))
+    by true e rest =
+        ap (λ (o : Option X). is_some o) (find-yes (λ z. key z == n) y (ys ++ x ∷ []) e)
+        ∙ sym (ap (λ (o : Option X). is_some o || (key x == n)) (find-yes (λ z. key z == n) y ys e))
+    by false e rest =
+        ap (λ (o : Option X). is_some o) (find-no (λ z. key z == n) y (ys ++ x ∷ []) e)
+        ∙ rest
+        ∙ sym (ap (λ (o : Option X). is_some o || (key x == n)) (find-no (λ z. key z == n) y ys e))
+
+-- ---- the nodes of a cluster
+
+-- the first of the nodes that pass a test lies no higher than any of them
+abbrev pub IsFoundUpTo : ℕ → Option NodeSpec → Type 0
+IsFoundUpTo n None = ⊥
+IsFoundUpTo n (Some s) = s.id ≤ n
+
+pub found-up-to : (F : ℕ → Bool) (nodes : List NodeSpec) (n : ℕ) → AllPairs (λ a b. a.id < b.id) nodes → is_some (node_in nodes n) ≡ true → F n ≡ true
+    → IsFoundUpTo n (find (λ s. F s.id) nodes)
+found-up-to F [] n asc known e = absurd (cc known)
+found-up-to F (x ∷ xs) n asc known e = by (F x.id) refl (λ rest. found-up-to F xs n (pairs-rest (λ a b. a.id < b.id) x xs asc) rest e)
+  where
+    later : All (λ s. x.id < s.id) xs
+    later = pairs-first (λ a b. a.id < b.id) x xs asc
+
+    low : (b : Bool) → (x.id == n) ≡ b → x.id ≤ n
+    low true is = let same = eq-is x.id n is in omega (arith, same)
+    low false is =
+        let there : is_some (node_in xs n) ≡ true = sym (ap (λ (o : Option NodeSpec). is_some o) (find-no (λ s. s.id == n) x xs is)) ∙ known in
+        let lt : x.id < n = all-found (λ (s : NodeSpec). s.id) (λ (k : ℕ). x.id < k) xs n later there in
+        omega (arith, lt)
+
+    other : F x.id ≡ false → x.id ≢ n
+    other fails same = absurd (let passes : F x.id ≡ true = ap F same ∙ e in cc (fails, passes))
+
+    by : (b : Bool) → F x.id ≡ b → (is_some (node_in xs n) ≡ true → IsFoundUpTo n (find (λ s. F s.id) xs)) → IsFoundUpTo n (find (λ s. F s.id) (x ∷ xs))
+    by true is more = subst (IsFoundUpTo n) (sym (find-yes (λ s. F s.id) x xs is)) (low (x.id == n) refl)
+    by false is more =
+        subst (IsFoundUpTo n) (sym (find-no (λ s. F s.id) x xs is)) (more (sym (found-behind (λ (s : NodeSpec). s.id) n x xs (other is)) ∙ known))
+
+-- rows that stand in the order of the nodes, one for each node that is to have one
+module _ (q : ℕ → Bool) where
+  abbrev pub Stands : List NodeRow → List NodeSpec → Type 0
+  Stands rows nodes = (n : ℕ) → is_some (row_of rows n) ≡ (q n && is_some (node_in nodes n))
+
+  above : {X : Type 0} (key : X → ℕ) (n m : ℕ) (xs : List X) → n < m → All (λ y. m < key y) xs → is_some (find (λ y. key y == n) xs) ≡ false
+  above key n m xs lt all = none-found key n xs (λ k d in'. let gt = all k d in' in λ same. absurd (omega (arith, gt, lt, same)))
+
+  here-above : {X : Type 0} (key : X → ℕ) (n : ℕ) (xs : List X) → All (λ y. n < key y) xs → is_some (find (λ y. key y == n) xs) ≡ false
+  here-above key n xs all = none-found key n xs (λ k d in'. let gt = all k d in' in λ same. absurd (omega (arith, gt, same)))
+
+  clash : {P : Type 0} (a : Bool) → a ≡ true → a ≡ false → P
+  clash a e f = absurd (cc (e, f))
+
+  pub rows-are : (nodes : List NodeSpec) (rows : List NodeRow) → AllPairs (λ a b. a.id < b.id) nodes → AllPairs (λ a b. a.node < b.node) rows → Stands rows nodes
+      → map (λ row. row.node) rows ≡ map (λ node. node.id) (filter (λ node. q node.id) nodes)
+  rows-are [] [] up along stands = refl
+  rows-are [] (r ∷ rows) up along stands =
+      clash (is_some (row_of (r ∷ rows) r.node)) (found-first (λ (x : NodeRow). x.node) r.node r rows refl) (stands r.node ∙ and-second (q r.node) false refl)
+  rows-are (s ∷ nodes) rows up along stands =
+      by (q s.id) refl rows along stands (λ rest. rows-are nodes rows (pairs-rest (λ a b. a.id < b.id) s nodes up) along rest)
+      (λ fewer fewer_along rest. rows-are nodes fewer (pairs-rest (λ a b. a.id < b.id) s nodes up) fewer_along rest)
     where
-      first : (a b : Bool) → (a && b) ≡ true → a ≡ true
-      first true b e = refl
-      first false b e = cc e
+      later : All (λ node. s.id < node.id) nodes
+      later = pairs-first (λ a b. a.id < b.id) s nodes up
 
-      by : (b : Bool) → is_correct_behind named n x ≡ b → (find (is_correct_behind named n) xs ≡ Some s → n < s.id) → n < s.id
-      by true e more =
-          let same : x ≡ s = some-same x s (sym (find-yes (is_correct_behind named n) x xs e) ∙ found) in
-          let lt : n < x.id = lt-is n x.id (first (nat_lt n x.id) (not (is_among named x.id)) e) in
-          subst (λ (t : NodeSpec). n < t.id) same lt
-      by false e more = more (sym (find-no (is_correct_behind named n) x xs e) ∙ found)
+      Id : NodeSpec → ℕ
+      Id node = node.id
 
-  -- the nodes up to the next are those up to this one, and the next
-  pub to-more : (n : ℕ) (xs : List NodeSpec) (s : NodeSpec) → AllPairs (λ a b. a.id < b.id) xs → find (is_correct_behind named n) xs ≡ Some s
-      → filter (is_correct_to named s.id) xs ≡ filter (is_correct_to named n) xs ++ s ∷ []
-  to-more n [] s asc found = absurd (cc found)
-  to-more n (x ∷ xs) s asc found =
-      by (nat_lt n x.id) (not (is_among named x.id)) refl refl (λ rest. to-more n xs s (pairs-rest (λ a b. a.id < b.id) x xs asc) rest)
-    where
-      Goal : NodeSpec → Type 0
-      Goal t = filter (is_correct_to named t.id) (x ∷ xs) ≡ filter (is_correct_to named n) (x ∷ xs) ++ t ∷ []
+      Own : NodeRow → ℕ
+      Own row = row.node
 
-      over : (b : Bool) → nat_lt n x.id ≡ false → not (is_among named x.id) ≡ b → n < s.id → filter (is_correct_to named s.id) xs ≡ filter (is_correct_to named n) xs ++ s ∷ []
-          → filter (is_correct_to named s.id) (x ∷ xs) ≡ filter (is_correct_to named n) (x ∷ xs) ++ s ∷ []
-      over true e f above rest =
-          let low : x.id ≤ n = lt-not n x.id e in
-          filter-yes (is_correct_to named s.id) x xs (and-yes _ _ f (le-yes x.id s.id (omega arith)))
-          ∙ ap (λ (l : List NodeSpec). x ∷ l) rest
-          ∙ sym (ap (λ (l : List NodeSpec). l ++ s ∷ []) (filter-yes (is_correct_to named n) x xs (and-yes _ _ f (le-yes x.id n low))))
-      over false e f above rest =
-          filter-no (is_correct_to named s.id) x xs (and-first _ _ f)
-          ∙ rest
-          ∙ sym (ap (λ (l : List NodeSpec). l ++ s ∷ []) (filter-no (is_correct_to named n) x xs (and-first _ _ f)))
+      skip : (b : Bool) (n : ℕ) → (s.id == n) ≡ b → q s.id ≡ false → (q n && is_some (node_in (s ∷ nodes) n)) ≡ (q n && is_some (node_in nodes n))
+      skip true n e fails =
+          let none : q n ≡ false = ap q (sym (eq-is s.id n e)) ∙ fails in
+          and-first (q n) (is_some (node_in (s ∷ nodes) n)) none ∙ sym (and-first (q n) (is_some (node_in nodes n)) none)
+      skip false n e fails = ap (λ (o : Option NodeSpec). q n && is_some o) (find-no (λ node. node.id == n) s nodes e)
 
-      by : (a b : Bool) → nat_lt n x.id ≡ a → not (is_among named x.id) ≡ b
-          → (find (is_correct_behind named n) xs ≡ Some s → filter (is_correct_to named s.id) xs ≡ filter (is_correct_to named n) xs ++ s ∷ [])
-          → filter (is_correct_to named s.id) (x ∷ xs) ≡ filter (is_correct_to named n) (x ∷ xs) ++ s ∷ []
-      by true true e f more =
-          let same : x ≡ s = some-same x s (sym (find-yes (is_correct_behind named n) x xs (and-yes _ _ e f)) ∙ found) in
-          let gt : n < x.id = lt-is n x.id e in
-          let later : All (λ t. x.id < t.id) xs = pairs-first (λ a b. a.id < b.id) x xs asc in
-          let here : filter (is_correct_to named x.id) (x ∷ xs) ≡ x ∷ [] =
-          filter-yes (is_correct_to named x.id) x xs (and-yes _ _ f (le-yes x.id x.id (omega arith))) ∙ ap (λ (l : List NodeSpec). x ∷ l) (above-none x.id xs later)
-          in
-          let all : All (λ t. n < t.id) xs = λ k d lt. let one : x.id < (get_or xs k d).id = later k d lt in omega (arith, one, gt) in
-          let before : filter (is_correct_to named n) (x ∷ xs) ≡ [] =
-          filter-no (is_correct_to named n) x xs (and-second _ _ (le-no x.id n gt)) ∙ above-none n xs all
-          in
-          let P : NodeSpec → Type 0 = λ t. filter (is_correct_to named t.id) (x ∷ xs) ≡ filter (is_correct_to named n) (x ∷ xs) ++ t ∷ [] in
-          subst P same (here ∙ sym (ap (λ (l : List NodeSpec). l ++ x ∷ []) before))
-      by true false e f more =
-          let rest = more (sym (find-no (is_correct_behind named n) x xs (and-second _ _ f)) ∙ found) in
-          filter-no (is_correct_to named s.id) x xs (and-first _ _ f)
-          ∙ rest
-          ∙ sym (ap (λ (l : List NodeSpec). l ++ s ∷ []) (filter-no (is_correct_to named n) x xs (and-first _ _ f)))
-      by false b e f more =
-          let further = sym (find-no (is_correct_behind named n) x xs (and-first _ _ e)) ∙ found in
-          over b e f (found-above n xs s further) (more further)
+      Rest : List NodeRow → Type 0
+      Rest fewer = AllPairs (λ a b. a.node < b.node) fewer → Stands fewer nodes → map (λ row. row.node) fewer ≡ map (λ node. node.id) (filter (λ node. q node.id) nodes)
 
-  -- where none follows they are all
-  pub to-all : (n : ℕ) (xs : List NodeSpec) → find (is_correct_behind named n) xs ≡ None → filter (is_correct_to named n) xs ≡ filter (λ s. not (is_among named s.id)) xs
-  to-all n [] none = refl
-  to-all n (x ∷ xs) none = by (nat_lt n x.id) (not (is_among named x.id)) refl refl (λ rest. to-all n xs rest)
-    where
-      by : (a b : Bool) → nat_lt n x.id ≡ a → not (is_among named x.id) ≡ b
-          → (find (is_correct_behind named n) xs ≡ None → filter (is_correct_to named n) xs ≡ filter (λ s. not (is_among named s.id)) xs)
-          → filter (is_correct_to named n) (x ∷ xs) ≡ filter (λ s. not (is_among named s.id)) (x ∷ xs)
-      by true true e f more = absurd (let here = sym (find-yes (is_correct_behind named n) x xs (and-yes _ _ e f)) ∙ none in cc here)
-      by true false e f more =
-          filter-no (is_correct_to named n) x xs (and-first _ _ f)
-          ∙ more (sym (find-no (is_correct_behind named n) x xs (and-second _ _ f)) ∙ none)
-          ∙ sym (filter-no (λ s. not (is_among named s.id)) x xs f)
-      by false true e f more =
-          filter-yes (is_correct_to named n) x xs (and-yes _ _ f (le-yes x.id n (lt-not n x.id e)))
-          ∙ ap (λ (l : List NodeSpec). x ∷ l) (more (sym (find-no (is_correct_behind named n) x xs (and-first _ _ e)) ∙ none))
-          ∙ sym (filter-yes (λ s. not (is_among named s.id)) x xs f)
-      by false false e f more =
-          filter-no (is_correct_to named n) x xs (and-first _ _ f)
-          ∙ more (sym (find-no (is_correct_behind named n) x xs (and-first _ _ e)) ∙ none)
-          ∙ sym (filter-no (λ s. not (is_among named s.id)) x xs f)
+      first : (r : NodeRow) (rs : List NodeRow) → q s.id ≡ true → AllPairs (λ a b. a.node < b.node) (r ∷ rs) → Stands (r ∷ rs) (s ∷ nodes) → Rest rs
+          → (r.node < s.id) ⊎ (s.id ≤ r.node) → map (λ row. row.node) (r ∷ rs) ≡ map (λ node. node.id) (s ∷ filter (λ node. q node.id) nodes)
+      first r rs passes asc st more (inl lt) =
+          clash (is_some (row_of (r ∷ rs) r.node)) (found-first Own r.node r rs refl)
+          (st r.node ∙ and-second (q r.node) (is_some (node_in (s ∷ nodes) r.node))
+          (found-behind Id r.node s nodes (λ same. absurd (omega (arith, lt, same))) ∙ above Id r.node s.id nodes lt later))
+      first r rs passes asc st more (inr ge) = same-or (cases_lt s.id r.node)
+        where
+          behind : All (λ x. r.node < x.node) rs
+          behind = pairs-first (λ a b. a.node < b.node) r rs asc
+
+          known : (q s.id && is_some (node_in (s ∷ nodes) s.id)) ≡ true
+          known = and-yes (q s.id) (is_some (node_in (s ∷ nodes) s.id)) passes (found-first Id s.id s nodes refl)
+
+          tail : (is : r.node ≡ s.id) (n : ℕ) (b : Bool) → (s.id == n) ≡ b → is_some (row_of rs n) ≡ (q n && is_some (node_in nodes n))
+          tail is n true e =
+              let at : s.id ≡ n = eq-is s.id n e in
+              subst (λ (m : ℕ). is_some (row_of rs m) ≡ (q m && is_some (node_in nodes m))) at
+              (subst (λ (m : ℕ). is_some (row_of rs m) ≡ false) is (here-above Own r.node rs behind) ∙ sym (and-second (q s.id) (is_some (node_in nodes s.id)) (here-above Id s.id nodes later)))
+          tail is n false e =
+              sym (found-behind Own n r rs (λ same. absurd (let no : (s.id == n) ≡ true = eq-yes s.id n (sym is ∙ same) in cc (no, e))))
+              ∙ st n
+              ∙ ap (λ (o : Option NodeSpec). q n && is_some o) (find-no (λ node. node.id == n) s nodes e)
+
+          same-or : (s.id < r.node) ⊎ (r.node ≤ s.id) → map (λ row. row.node) (r ∷ rs) ≡ map (λ node. node.id) (s ∷ filter (λ node. q node.id) nodes)
+          same-or (inl lt) =
+              clash (is_some (row_of (r ∷ rs) s.id)) (st s.id ∙ known)
+              (found-behind Own s.id r rs (λ same. absurd (omega (arith, lt, same))) ∙ above Own s.id r.node rs lt behind)
+          same-or (inr le) =
+              let is : r.node ≡ s.id = omega (arith, ge, le) in
+              let rest = more (pairs-rest (λ a b. a.node < b.node) r rs asc) (λ n. tail is n (s.id == n) refl) in
+              λ i. is i ∷ rest i
+
+      by : (b : Bool) → q s.id ≡ b → (own : List NodeRow) → AllPairs (λ a b. a.node < b.node) own → Stands own (s ∷ nodes)
+          → (Stands own nodes → map (λ row. row.node) own ≡ map (λ node. node.id) (filter (λ node. q node.id) nodes))
+          → ((fewer : List NodeRow) → Rest fewer)
+          → map (λ row. row.node) own ≡ map (λ node. node.id) (filter (λ node. q node.id) (s ∷ nodes))
+      by false e own asc st skipped more =
+          skipped (λ n. st n ∙ skip (s.id == n) n refl e) ∙ sym (ap (λ (l : List NodeSpec). map (λ node. node.id) l) (filter-no (λ node. q node.id) s nodes e))
+      by true e [] asc st skipped more =
+          clash (q s.id && is_some (node_in (s ∷ nodes) s.id)) (and-yes (q s.id) (is_some (node_in (s ∷ nodes) s.id)) e (found-first Id s.id s nodes refl)) (sym (st s.id))
+      by true e (r ∷ rs) asc st skipped more =
+          first r rs e asc st (more rs) (cases_lt r.node s.id) ∙ sym (ap (λ (l : List NodeSpec). map (λ node. node.id) l) (filter-yes (λ node. q node.id) s nodes e))

@@ -1,5 +1,5 @@
 -- What the records say of each cycle, with one record more.
-use Rattle.std.proofs.Common.{inl, inr, ◌⊎◌, ◌≡◌, ◌≢◌, ℕ, zero, suc, ◌+◌, ◌<◌, ◌≤◌, Bool, true, false, List, [], ◌∷◌, ◌++◌, length, Option, Some, None, Result, Ok, Err, refl, ap, sym, ◌∙◌, subst, arith}
+use Rattle.std.proofs.Common.{inl, inr, ◌⊎◌, ◌≡◌, ◌≢◌, ℕ, zero, suc, ◌<◌, Bool, true, false, List, [], ◌∷◌, ◌++◌, length, Option, Some, None, Result, Ok, refl, ap, sym, ◌∙◌, subst, arith}
 use Rattle.std.specs.Prelude.{◌==◌, if◌then◌else◌}
 use Rattle.std.specs.List.{flat_map}
 use Rattle.std.proofs.lemmas.Bool.Decides.{nat_tests}
@@ -8,13 +8,12 @@ use Rattle.std.proofs.lemmas.List.Concat.{flat_map-append}
 use Rattle.fr_base.specs.Counts.{no_counts}
 use Rattle.fr_base.specs.declared.reason.Reason.{Reason}
 use Rattle.fr_history.specs.History.{History, Record}
-use Rattle.fr_records.specs.Fields.{looked_up, or_else}
+use Rattle.fr_records.specs.Fields.{or_else}
 use Rattle.fr_records.specs.Records.{FileRecord}
-use Rattle.fr_records.proofs.Lookups.{looked_up-more, or_else-none}
+use Rattle.fr_records.proofs.Lookups.{looked_up-more}
 use Rattle.fr_base.specs.declared.node_row.NodeRow.{NodeRow}
 use Rattle.fr_trace.specs.Draft.{AreSaid, over_with, part_with}
-use Rattle.fr_trace.specs.Files.{clocks_in, dev_on, devs_in, history_said, no_record, record_said}
-use Rattle.fr_trace.specs.Order.{doubles_at, doubles_in, last_at, named_at, named_in, said_in}
+use Rattle.fr_trace.specs.Said.{clocks_in, dev_on, devs_in, doubles_at, doubles_in, history_said, joins_at, joins_in, last_at, named_at, named_in, no_record, record_said, said_in}
 use Rattle.fr_trace.specs.Rows.{trace_row_of}
 use Rattle.fr_trace.specs.declared.rows.HeardRow.{HeardRow}
 use Rattle.fr_trace.specs.declared.rows.Row.{Row}
@@ -32,6 +31,10 @@ doubles-more done r x e = looked_up-more doubles_in trace_row_of done r x e
 pub named-more : (done : List FileRecord) (r : FileRecord) (x : Result Row Reason) → trace_row_of r ≡ x → named_at (done ++ r ∷ []) ≡ named_at done ++ named_in x
 unfolding named_at
 named-more done r x e = flat-last (λ q. named_in (trace_row_of q)) done r ∙ ap (λ (y : Result Row Reason). flat_map (λ q. named_in (trace_row_of q)) done ++ named_in y) e
+
+pub joins-more : (done : List FileRecord) (r : FileRecord) (x : Result Row Reason) → trace_row_of r ≡ x → joins_at (done ++ r ∷ []) ≡ joins_at done ++ joins_in x
+unfolding joins_at
+joins-more done r x e = flat-last (λ q. joins_in (trace_row_of q)) done r ∙ ap (λ (y : Result Row Reason). flat_map (λ q. joins_in (trace_row_of q)) done ++ joins_in y) e
 
 or_else-some : {A : Type 0} (a : A) (o : Option A) → or_else (or_else (Some a) None) o ≡ Some a
 or_else-some a o = refl
@@ -108,6 +111,7 @@ heard-here heard cycle e = rw (eq-yes heard.cycle cycle e) refl
 abbrev pub IsPlaced : History → Row → Type 0
 IsPlaced h (row.Run n) = Unit {0}
 IsPlaced h (row.Arbitrary node) = Unit {0}
+IsPlaced h (row.Join j) = Unit {0}
 IsPlaced h (row.Clock cycle clock) = (cycle ≡ length h) ⊎ (cycle ≡ suc (length h))
 IsPlaced h (row.Heard heard) = heard.cycle ≡ length h
 
@@ -187,6 +191,7 @@ pub put-said : (h : History) (part : Record) (done : List FileRecord) (r : FileR
     → AreSaid h part done → AreSaid (over_with h part said) (part_with h part said) (done ++ r ∷ [])
 put-said h part done r (row.Run n) e at are = silent-put h part done r _ e (λ cycle. (refl, refl)) are
 put-said h part done r (row.Arbitrary node) e at are = silent-put h part done r _ e (λ cycle. (refl, refl)) are
+put-said h part done r (row.Join j) e at are = silent-put h part done r _ e (λ cycle. (refl, refl)) are
 put-said h part done r (row.Heard heard) e at are = heard-put h part done r heard e at are
 put-said h part done r (row.Clock cycle clock) e at are =
     by at

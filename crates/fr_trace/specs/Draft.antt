@@ -1,29 +1,27 @@
 -- What a trace under construction holds of the records so far.
-use Rattle.std.specs.Prelude.{◌≡◌, ◌⊎◌, ◌≢◌, ℕ, zero, suc, ◌+◌, ◌*◌, ◌-◌, ◌^◌, ◌<◌, ◌≤◌, nat_le, min, pos, Bool, true, false, ⊤, not, ◌==◌, ◌&&◌, List, [], ◌∷◌, ◌++◌, length, map, filter, All, AllPairs, Contains, Option, Some, None, IsSome, Result, Ok, Err, if◌then◌else◌}
-use Rattle.std.specs.List.{flat_map}
-use Rattle.std.specs.Option.{option_map_or}
+use Rattle.std.specs.Prelude.{◌≡◌, ◌⊎◌, ℕ, suc, ◌+◌, ◌*◌, ◌-◌, ◌^◌, ◌<◌, ◌≤◌, min, pos, true, false, ⊤, ◌==◌, List, [], ◌∷◌, ◌++◌, length, map, filter, All, AllPairs, Contains, Option, Some, None, IsSome, is_some, Result, Ok, Err, if◌then◌else◌}
 use Rattle.fr_base.specs.Counts.{no_counts}
-use Rattle.fr_base.specs.Rows.{AreAscendingDevs, AreAscendingRows, channel_rank, dev_with}
+use Rattle.fr_base.specs.Rows.{AreAscendingDevs, AreAscendingRows, channel_rank}
 use Rattle.fr_base.specs.Within.{IsWithin}
-use Rattle.fr_base.specs.declared.channel.Channel.{Channel}
 use Rattle.fr_base.specs.declared.dev.Dev.{Dev}
 use Rattle.fr_base.specs.declared.node_row.NodeRow.{NodeRow}
 use Rattle.fr_base.specs.declared.reason.Reason.{Reason}
 use Rattle.fr_cluster.specs.Questions.{own_key}
 use Rattle.fr_cluster.specs.Sane.{IsSane}
 use Rattle.fr_cluster.specs.Values.{Values}
-use Rattle.fr_cluster.specs.declared.nodes.NodeSpec.{NodeSpec}
-use Rattle.fr_history.specs.History.{History, Record}
+use Rattle.fr_history.specs.History.{History, Record, row_of}
 use Rattle.fr_records.specs.Records.{FileRecord}
 use Rattle.fr_records.specs.Refusal.{Refusing}
 use Rattle.fr_records.specs.Takes.{Takes}
 use Rattle.fr_trace.specs.Cycles.{history_by}
-use Rattle.fr_trace.specs.Files.{TraceStandsFor, dev_on, history_said, is_whole, no_record, record_said}
-use Rattle.fr_trace.specs.Fits.{IsAboutOther, TraceFits}
+use Rattle.fr_trace.specs.Files.{TraceStandsFor, is_whole}
+use Rattle.fr_trace.specs.Fits.{IsAboutOther, JoinsProperly, TraceFits}
+use Rattle.fr_trace.specs.Joins.{has_row_by, is_among, latest_rows}
 use Rattle.fr_trace.specs.Lasting.{IsTracedRow}
-use Rattle.fr_trace.specs.Order.{clock_turn, count_of, doubles_at, heard_turn, is_among, last_at, named_at, named_in}
-use Rattle.fr_trace.specs.Reasons.{trace_reason_after, trace_row_reason}
+use Rattle.fr_trace.specs.Order.{clock_turn, count_of, heard_turn, may_stand, must_stand}
+use Rattle.fr_trace.specs.Reasons.{is_known, trace_reason_after, trace_row_reason}
 use Rattle.fr_trace.specs.Rows.{IsProperCount, trace_row_of}
+use Rattle.fr_trace.specs.Said.{dev_on, doubles_at, history_said, joins_at, joins_in, last_at, named_at, named_in, no_record, record_said}
 use Rattle.fr_trace.specs.Trace.{TraceView}
 use Rattle.fr_trace.specs.declared.draft.Draft.{Draft}
 use Rattle.fr_trace.specs.declared.fault.TraceFault.{TraceFault}
@@ -32,12 +30,9 @@ use Rattle.fr_trace.specs.declared.order.Turn.{Turn}
 use Rattle.fr_trace.specs.declared.rows.HeardRow.{HeardRow}
 use Rattle.fr_trace.specs.declared.rows.Row.{Row}
 use Rattle.fr_trace.specs.declared.rows.Row.TheVariants as row
+use Rattle.fr_trace.specs.declared.trace.TracedJoin.{TracedJoin}
 
 -- ---- what always holds of it
-
--- the correct nodes up to one
-abbrev pub is_correct_to : List ℕ → ℕ → NodeSpec → Bool
-is_correct_to named node spec = not (is_among named spec.id) && nat_le spec.id node
 
 -- a deviation stands at a place or before it
 abbrev pub IsUpTo : Turn → Dev → Type 0
@@ -57,50 +52,89 @@ pub record AreKept (p : Values) (r : Record) : Type 0 where
   pub devs : All (IsAboutOther p) r.devs
   pub uncounted : r.counts ≡ no_counts
 
--- a cycle up to a place: a row for each correct node up to that of the place, and no deviation behind it
-pub record IsUnderWay (p : Values) (named : List ℕ) (turn : Turn) (r : Record) : Type 0 where
-  pub nodes : map (λ row. row.node) r.rows ≡ map (λ node. node.id) (filter (is_correct_to named turn.node) p.nodes)
+-- a cycle behind a history, up to a node: only nodes of the cluster have rows, each of which may have one, and up to this node
+-- each that must
+pub record IsBegun (p : Values) (named : List ℕ) (joins : List TracedJoin) (h : History) (node : ℕ) (r : Record) : Type 0 where
+  pub known : (n : ℕ) → is_some (row_of r.rows n) ≡ true → is_known p n ≡ true
+  pub may : (n : ℕ) → is_some (row_of r.rows n) ≡ true → may_stand named joins (length h) (latest_rows h) n ≡ true
+  pub must : (n : ℕ) → n ≤ node → is_known p n ≡ true → must_stand named joins (length h) (latest_rows h) n ≡ true → is_some (row_of r.rows n) ≡ true
   pub kept : AreKept p r
-  pub rows_to : All (λ row. row.node ≤ turn.node) r.rows
+  pub rows_to : All (λ row. row.node ≤ node) r.rows
+
+-- the same up to a place, behind which no deviation stands
+pub record IsUnderWay (p : Values) (named : List ℕ) (joins : List TracedJoin) (h : History) (turn : Turn) (r : Record) : Type 0 where
+  pub begun : IsBegun p named joins h turn.node r
   pub here : Contains (map (λ row. row.node) r.rows) turn.node
   pub devs_to : All (IsUpTo turn) r.devs
 
--- a whole cycle: a row for each correct node
-pub record IsOver (p : Values) (named : List ℕ) (r : Record) : Type 0 where
-  pub nodes : map (λ row. row.node) r.rows ≡ map (λ node. node.id) (filter (λ node. not (is_among named node.id)) p.nodes)
+-- a whole cycle behind a history: a row for each node that is to have one
+pub record IsOver (p : Values) (named : List ℕ) (joins : List TracedJoin) (h : History) (r : Record) : Type 0 where
+  pub nodes : map (λ row. row.node) r.rows ≡ map (λ node. node.id) (filter (λ node. has_row_by named joins h r node.id) p.nodes)
   pub kept : AreKept p r
 
+unfoldable pub AreOver : Values → List ℕ → List TracedJoin → History → Type 0
+AreOver p named joins [] = Unit {0}
+AreOver p named joins (r ∷ h) = IsOver p named joins h r × AreOver p named joins h
+
 -- a cycle is under way at a place, and is one of the trace
-pub record IsAtTurn (p : Values) (doubles : Option ℕ) (named : List ℕ) (cycle : ℕ) (turn : Turn) (h : History) (part : Record) : Type 0 where
+pub record IsAtTurn (p : Values) (doubles : Option ℕ) (named : List ℕ) (joins : List TracedJoin) (cycle : ℕ) (turn : Turn) (h : History) (part : Record) : Type 0 where
   pub numbered : cycle ≡ length h
   pub inside : cycle < 2 * count_of doubles
-  pub under_way : IsUnderWay p named turn part
+  pub under_way : IsUnderWay p named joins h turn part
 
 -- no cycle is begun
 pub record IsBeforeCycles (h : History) (part : Record) : Type 0 where
   pub none : h ≡ []
   pub blank : part ≡ no_record
 
+-- nodes are named up to one, and none joins yet; or nodes join up to one
+pub record NamesUpTo (doubles : Option ℕ) (named : List ℕ) (joins : List TracedJoin) (node : ℕ) (h : History) (part : Record) : Type 0 where
+  pub told : IsSome doubles
+  pub upto : All (λ other. other ≤ node) named
+  pub none : joins ≡ []
+  pub before : IsBeforeCycles h part
+
+pub record JoinsUpTo (doubles : Option ℕ) (joins : List TracedJoin) (node : ℕ) (h : History) (part : Record) : Type 0 where
+  pub told : IsSome doubles
+  pub upto : All (λ j. j.node ≤ node) joins
+  pub before : IsBeforeCycles h part
+
+-- nothing is said yet
+pub record IsUnsaid (doubles : Option ℕ) (named : List ℕ) (joins : List TracedJoin) (h : History) (part : Record) : Type 0 where
+  pub none : doubles ≡ None
+  pub unnamed : named ≡ []
+  pub unjoined : joins ≡ []
+  pub before : IsBeforeCycles h part
+
 -- where the last row stands
-abbrev pub IsAtLast : Values → Option ℕ → List ℕ → Option Row → History → Record → Type 0
-IsAtLast p doubles named None h part = (doubles ≡ None) × (named ≡ []) × IsBeforeCycles h part
-IsAtLast p doubles named (Some (row.Run n)) h part = IsSome doubles × All (λ other. other ≤ 0) named × IsBeforeCycles h part
-IsAtLast p doubles named (Some (row.Arbitrary node)) h part = IsSome doubles × All (λ other. other ≤ node) named × IsBeforeCycles h part
-IsAtLast p doubles named (Some (row.Clock cycle clock)) h part = IsAtTurn p doubles named cycle (clock_turn clock) h part
-IsAtLast p doubles named (Some (row.Heard heard)) h part = IsAtTurn p doubles named heard.cycle (heard_turn heard) h part
+abbrev pub IsAtLast : Values → Option ℕ → List ℕ → List TracedJoin → Option Row → History → Record → Type 0
+IsAtLast p doubles named joins None h part = IsUnsaid doubles named joins h part
+IsAtLast p doubles named joins (Some (row.Run n)) h part = NamesUpTo doubles named joins 0 h part
+IsAtLast p doubles named joins (Some (row.Arbitrary node)) h part = NamesUpTo doubles named joins node h part
+IsAtLast p doubles named joins (Some (row.Join j)) h part = JoinsUpTo doubles joins j.node h part
+IsAtLast p doubles named joins (Some (row.Clock cycle clock)) h part = IsAtTurn p doubles named joins cycle (clock_turn clock) h part
+IsAtLast p doubles named joins (Some (row.Heard heard)) h part = IsAtTurn p doubles named joins heard.cycle (heard_turn heard) h part
 
 -- a number that a node may have
 abbrev pub IsNumber : ℕ → Type 0
 IsNumber node = (1 ≤ node) × (node ≤ 64)
 
--- the number of double cycles lies in its range, arbitrary nodes ascend and have key slots, and all cycles but the last are over
-pub record IsSound (p : Values) (doubles : Option ℕ) (named : List ℕ) (last : Option Row) (h : History) (part : Record) : Type 0 where
+-- what is said before the cycles: the number of double cycles lies in its range, arbitrary nodes ascend and have key slots,
+-- and nodes that join ascend and do so properly
+pub record IsProperHead (p : Values) (doubles : Option ℕ) (named : List ℕ) (joins : List TracedJoin) : Type 0 where
   pub count : (n : ℕ) → doubles ≡ Some n → IsProperCount n
   pub keyed : All (λ node. IsSome (own_key p node)) named
   pub ascend : AllPairs (λ a b. a < b) named
   pub numbers : All IsNumber named
-  pub over : All (IsOver p named) h
-  pub at : IsAtLast p doubles named last h part
+  pub joins_ascend : AllPairs (λ a b. a.node < b.node) joins
+  pub joins_numbers : All (λ j. IsNumber j.node) joins
+  pub joins_proper : All (JoinsProperly p named joins) joins
+
+-- and all cycles but the last are over
+pub record IsSound (p : Values) (doubles : Option ℕ) (named : List ℕ) (joins : List TracedJoin) (last : Option Row) (h : History) (part : Record) : Type 0 where
+  pub head : IsProperHead p doubles named joins
+  pub over : AreOver p named joins h
+  pub at : IsAtLast p doubles named joins last h part
 
 -- ---- what it holds
 
@@ -116,12 +150,13 @@ over_of d = history_by d.cycles.items
 pub record IsTraceDraft (p : Values) (d : Draft) (records : List FileRecord) : Type 0 where
   pub doubles : d.doubles ≡ doubles_at records
   pub named : d.arbitrary.items ≡ named_at records
+  pub joins : d.joins.items ≡ joins_at records
   pub last : d.last ≡ last_at records
   pub count : d.count ≡ min (length records) (2 ^ 64 - 1)
   pub over : over_of d ≡ history_said records (length (over_of d))
   pub part : part_of d ≡ record_said records (length (over_of d))
   pub none_later : (cycle : ℕ) → length (over_of d) < cycle → record_said records cycle ≡ no_record
-  pub sound : IsSound p d.doubles d.arbitrary.items d.last (over_of d) (part_of d)
+  pub sound : IsSound p d.doubles d.arbitrary.items d.joins.items d.last (over_of d) (part_of d)
 
 -- ---- one row more
 
@@ -129,6 +164,7 @@ pub record IsTraceDraft (p : Values) (d : Draft) (records : List FileRecord) : T
 abbrev pub doubles_with : Option ℕ → Row → Option ℕ
 doubles_with doubles (row.Run n) = Some n
 doubles_with doubles (row.Arbitrary node) = doubles
+doubles_with doubles (row.Join j) = doubles
 doubles_with doubles (row.Clock cycle clock) = doubles
 doubles_with doubles (row.Heard heard) = doubles
 
@@ -136,12 +172,14 @@ doubles_with doubles (row.Heard heard) = doubles
 abbrev pub over_with : History → Record → Row → History
 over_with h part (row.Run n) = h
 over_with h part (row.Arbitrary node) = h
+over_with h part (row.Join j) = h
 over_with h part (row.Clock cycle clock) = if cycle == length h then h else part ∷ h
 over_with h part (row.Heard heard) = h
 
 abbrev pub part_with : History → Record → Row → Record
 part_with h part (row.Run n) = part
 part_with h part (row.Arbitrary node) = part
+part_with h part (row.Join j) = part
 part_with h part (row.Clock cycle clock) = if cycle == length h then record part { rows = part.rows ++ clock ∷ [] } else record no_record { rows = clock ∷ [] }
 part_with h part (row.Heard heard) = record part { devs = part.devs ++ dev_on heard heard.channel }
 
@@ -149,6 +187,7 @@ part_with h part (row.Heard heard) = record part { devs = part.devs ++ dev_on he
 pub record IsHead (before after : Draft) : Type 0 where
   pub doubles : after.doubles ≡ before.doubles
   pub named : after.arbitrary.items ≡ before.arbitrary.items
+  pub joins : after.joins.items ≡ before.joins.items
   pub last : after.last ≡ before.last
   pub count : after.count ≡ before.count
 
@@ -174,6 +213,7 @@ pub record HasEnded (before after : Draft) : Type 0 where
 pub record HasKept (before after : Draft) (said : Row) : Type 0 where
   pub doubles : after.doubles ≡ doubles_with before.doubles said
   pub named : after.arbitrary.items ≡ before.arbitrary.items ++ named_in (Ok said)
+  pub joins : after.joins.items ≡ before.joins.items ++ joins_in (Ok said)
   pub last : after.last ≡ before.last
   pub count : after.count ≡ before.count
   pub over : over_of after ≡ over_with (over_of before) (part_of before) said
@@ -183,6 +223,7 @@ pub record HasKept (before after : Draft) (said : Row) : Type 0 where
 pub record HasPut (before after : Draft) (said : Row) : Type 0 where
   pub doubles : after.doubles ≡ doubles_with before.doubles said
   pub named : after.arbitrary.items ≡ before.arbitrary.items ++ named_in (Ok said)
+  pub joins : after.joins.items ≡ before.joins.items ++ joins_in (Ok said)
   pub last : after.last ≡ Some said
   pub count : after.count ≡ min (before.count + 1) (2 ^ 64 - 1)
   pub over : over_of after ≡ over_with (over_of before) (part_of before) said
@@ -204,19 +245,24 @@ pub record AreSaid (h : History) (r : Record) (records : List FileRecord) : Type
   pub part : r ≡ record_said records (length h)
   pub none_later : (cycle : ℕ) → length h < cycle → record_said records cycle ≡ no_record
 
--- the cycles up to so many may be ended as they stand: that under way is whole, and so is one of which nothing is said, where
--- there is a further one
-pub record CanEnd (p : Values) (named : List ℕ) (cycles : ℕ) (h : History) (r : Record) : Type 0 where
-  pub over : All (IsOver p named) h
-  pub part : length h < cycles → IsOver p named r
-  pub blank : suc (length h) < cycles → IsOver p named no_record
+-- each node of the cluster is arbitrary
+abbrev pub AreAllNamed : Values → List ℕ → Type 0
+AreAllNamed p named = (n : ℕ) → is_known p n ≡ true → is_among named n ≡ true
+
+-- the cycles up to so many may be ended as they stand: that under way is whole, and no node takes part where there is a further
+-- one
+pub record CanEnd (p : Values) (named : List ℕ) (joins : List TracedJoin) (cycles : ℕ) (h : History) (r : Record) : Type 0 where
+  pub over : AreOver p named joins h
+  pub part : length h < cycles → IsOver p named joins h r
+  pub blank : suc (length h) < cycles → AreAllNamed p named
 
 -- the cycles up to so many are ended
 pub record HasFilled (before after : Draft) (cycles : ℕ) : Type 0 where
   pub head : IsHead before after
   pub few : length (over_of after) ≤ cycles
   pub said : (records : List FileRecord) → AreSaid (over_of before) (part_of before) records → AreSaid (over_of after) (part_of after) records
-  pub sound : (p : Values) (named : List ℕ) → CanEnd p named cycles (over_of before) (part_of before) → CanEnd p named cycles (over_of after) (part_of after)
+  pub sound : (p : Values) (named : List ℕ) (joins : List TracedJoin) → IsSane p → CanEnd p named joins cycles (over_of before) (part_of before)
+      → CanEnd p named joins cycles (over_of after) (part_of after)
 
 -- the records are those of a whole trace of so many double cycles
 pub record IsWholeDraft (p : Values) (d : Draft) (doubles : ℕ) (records : List FileRecord) : Type 0 where

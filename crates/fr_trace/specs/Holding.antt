@@ -1,7 +1,7 @@
 -- Which reasons hold of a record of a trace, as the description of the file names them.
 use Rattle.std.specs.Prelude.{ℕ, neg_ℤ, Bool, true, false, not, ◌||◌, List, [], ◌∷◌, Option, Some, None, is_none, is_some, codes, if◌then◌else◌}
 use Rattle.std.specs.Option.{option_map_or}
-use Rattle.std.specs.Prelude.{ℤ, pos, negsuc}
+use Rattle.std.specs.Prelude.{ℤ, pos}
 use Rattle.std.specs.Str.{bytes_eq}
 use Rattle.fr_base.specs.Channels.{channel_of}
 use Rattle.fr_base.specs.declared.reason.Reason.{Reason}
@@ -13,8 +13,9 @@ use Rattle.fr_records.specs.Forms.{Form, NumberField, number_field, misses_form,
 use Rattle.fr_records.specs.Least.{row_passes}
 use Rattle.fr_records.specs.Records.{FileRecord}
 use Rattle.fr_trace.specs.Order.{may_come}
-use Rattle.fr_trace.specs.Reasons.{is_known, is_linked, is_of_other}
+use Rattle.fr_trace.specs.Reasons.{have_common, is_known, is_linked, is_of_other, joins_wrongly, knows_both}
 use Rattle.fr_trace.specs.Rows.{state_of, trace_row_of}
+use Rattle.fr_trace.specs.Said.{joins_at, named_at}
 use Rattle.fr_trace.specs.declared.rows.Row.{Row}
 use Rattle.fr_trace.specs.declared.rows.Row.TheVariants as row
 
@@ -29,6 +30,16 @@ run_form r = record { empty = later_fields r; known = true; numbers = number_fie
 -- `arbitrary,NODE,,,,,,`
 abbrev pub arbitrary_form : FileRecord → Form
 arbitrary_form r = record { empty = later_fields r; known = true; numbers = number_field (field_of r 1) 1 64 ∷ []; short = true; spelt = true }
+
+-- `join,NODE,REFERENCE,DOUBLE,,,,`
+abbrev pub join_form : FileRecord → Form
+join_form r = record {
+  empty = field_of r 4 ∷ field_of r 5 ∷ field_of r 6 ∷ field_of r 7 ∷ [];
+  known = true;
+  numbers = number_field (field_of r 1) 1 64 ∷ number_field (field_of r 2) 1 64 ∷ number_field (field_of r 3) 0 99_999 ∷ [];
+  short = true;
+  spelt = true;
+}
 
 -- a field that is to be a number within a limit of 0
 abbrev pub term_field : List ℕ → ℤ → NumberField
@@ -68,6 +79,7 @@ abbrev pub trace_form : Values → FileRecord → Option Form
 trace_form p r =
     if bytes_eq (field_of r 0) (codes "run") then Some (run_form r)
     else if bytes_eq (field_of r 0) (codes "arbitrary") then Some (arbitrary_form r)
+    else if bytes_eq (field_of r 0) (codes "join") then Some (join_form r)
     else if bytes_eq (field_of r 0) (codes "cycle") then Some (clock_form p r)
     else if bytes_eq (field_of r 0) (codes "dev") then Some (heard_form r)
     else None
@@ -76,24 +88,28 @@ trace_form p r =
 abbrev pub names_stranger : Values → Row → Bool
 names_stranger p (row.Run n) = false
 names_stranger p (row.Arbitrary node) = not (is_known p node)
+names_stranger p (row.Join j) = not (knows_both p j)
 names_stranger p (row.Clock cycle clock) = not (is_known p clock.node)
 names_stranger p (row.Heard heard) = not (is_known p heard.receiver)
 
--- an arbitrary node without key slot, or a deviation about a slot that is no key slot of another node
-abbrev pub has_no_key : Values → Row → Bool
-has_no_key p (row.Run n) = false
-has_no_key p (row.Arbitrary node) = is_none (own_key p node)
-has_no_key p (row.Clock cycle clock) = false
-has_no_key p (row.Heard heard) = not (is_of_other p heard)
+-- an arbitrary node without key slot, a node that cannot join so, or a deviation about a slot that is no key slot of another
+-- node
+abbrev pub has_no_part : Values → List FileRecord → Row → Bool
+has_no_part p before (row.Run n) = false
+has_no_part p before (row.Arbitrary node) = is_none (own_key p node)
+has_no_part p before (row.Join j) = joins_wrongly p (named_at before) (joins_at before) j
+has_no_part p before (row.Clock cycle clock) = false
+has_no_part p before (row.Heard heard) = not (is_of_other p heard)
 
 -- such a row, or one that may not come next
 abbrev pub is_out_of_place : Values → List FileRecord → Row → Bool
-is_out_of_place p before said = has_no_key p said || not (may_come p before said)
+is_out_of_place p before said = has_no_part p before said || not (may_come p before said)
 
--- a deviation on a channel that is not common to both nodes
+-- a node that joins and its reference have no channel in common, or a deviation is on one that is not common to both nodes
 abbrev pub is_apart : Values → Row → Bool
 is_apart p (row.Run n) = false
 is_apart p (row.Arbitrary node) = false
+is_apart p (row.Join j) = not (have_common p j)
 is_apart p (row.Clock cycle clock) = false
 is_apart p (row.Heard heard) = option_map_or (λ ch. not (is_linked p heard ch)) heard.channel false
 

@@ -21,9 +21,9 @@ items_in [] = []
 items_in (r ∷ h) = items_in h ++ items_by h r r.rows
 
 -- the record number of the first item: before it stand the row of the number of double cycles, and a row for each
--- arbitrary node; records are numbered from 1
+-- arbitrary node and for each node that joins; records are numbered from 1
 abbrev pub first_number : TraceView → ℕ
-first_number t = 2 + length t.arbitrary
+first_number t = 2 + length t.arbitrary + length t.joins
 
 -- the item at a place
 unfoldable pub item_in : List Item → ℕ → Option Item

@@ -29,4 +29,6 @@ pub record IsTrace (t : TraceView) : Type 0 where
   pub whole : length t.history ≡ 2 * t.doubles
   pub arbitrary_few : length t.arbitrary ≤ 64
   pub arbitrary_ascend : AllPairs (λ a b. a < b) t.arbitrary
+  pub joins_few : length t.joins ≤ 64
+  pub joins_ascend : AllPairs (λ a b. a.node < b.node) t.joins
   pub records : All IsTracedRecord t.history

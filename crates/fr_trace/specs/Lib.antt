@@ -1,10 +1,12 @@
 -- what the public contract cites
+pub mod Joins
 pub mod Trace
 pub mod Items
 pub mod Lasting
 pub mod Fits
 pub mod Cycles
 pub mod Rows
+pub mod Said
 pub mod Order
 pub mod Reasons
 pub mod Holding

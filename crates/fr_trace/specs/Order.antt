@@ -1,95 +1,94 @@
 -- Which row may come next in a trace, after the records so far: first that of the number of double cycles, then the
--- arbitrary nodes in ascending order, then for each cycle and each correct node its row and the deviations that it measured.
-use Rattle.std.specs.Prelude.{ℕ, ◌+◌, ◌*◌, Bool, true, false, not, nat_lt, ◌==◌, ◌&&◌, ◌||◌, List, [], ◌∷◌, find, Option, Some, None, Result, Ok, Err}
-use Rattle.std.specs.List.{flat_map, list_any}
+-- arbitrary nodes and those that join, each in ascending order, then for each cycle the nodes that take part in it, each with
+-- its row and the deviations that it measured.
+use Rattle.std.specs.Prelude.{ℕ, ◌+◌, ◌*◌, Bool, true, false, not, nat_le, nat_lt, ◌==◌, ◌&&◌, ◌||◌, List, [], find, Option, Some, None, is_none, is_some, if◌then◌else◌}
 use Rattle.std.specs.Option.{option_map, option_map_or}
 use Rattle.fr_base.specs.Rows.{channel_rank}
 use Rattle.fr_base.specs.declared.channel.Channel.{Channel}
 use Rattle.fr_base.specs.declared.node_row.NodeRow.{NodeRow}
-use Rattle.fr_base.specs.declared.reason.Reason.{Reason}
 use Rattle.fr_cluster.specs.Values.{Values}
+use Rattle.fr_cluster.specs.declared.join.Join.{Join}
 use Rattle.fr_cluster.specs.declared.nodes.NodeSpec.{NodeSpec}
-use Rattle.fr_records.specs.Fields.{looked_up, or_else}
+use Rattle.fr_history.specs.History.{row_of}
 use Rattle.fr_records.specs.Records.{FileRecord}
-use Rattle.fr_trace.specs.Rows.{trace_row_of}
+use Rattle.fr_trace.specs.Joins.{first_cycle, is_among, join_among, latest_rows}
+use Rattle.fr_trace.specs.Said.{doubles_at, history_said, joins_at, last_at, named_at, record_said}
 use Rattle.fr_trace.specs.declared.order.Turn.{Turn}
 use Rattle.fr_trace.specs.declared.rows.HeardRow.{HeardRow}
 use Rattle.fr_trace.specs.declared.rows.Row.{Row}
 use Rattle.fr_trace.specs.declared.rows.Row.TheVariants as row
+use Rattle.fr_trace.specs.declared.trace.TracedJoin.{TracedJoin}
 
--- ---- what the records so far say
+-- ---- the nodes that take part in a cycle, by the rows of the cycle before
 
--- the number of double cycles that a row says
-abbrev pub doubles_in : Result Row Reason → Option ℕ
-doubles_in (Ok (row.Run n)) = Some n
-doubles_in (Ok (row.Arbitrary node)) = None
-doubles_in (Ok (row.Clock cycle clock)) = None
-doubles_in (Ok (row.Heard heard)) = None
-doubles_in (Err why) = None
+-- whether a correct node stays: one that joins does where it took part before
+abbrev pub stays_by : Option Join → ℕ → List NodeRow → ℕ → Bool
+stays_by None cycle before node = true
+stays_by (Some join) cycle before node = nat_lt (first_cycle join) cycle && is_some (row_of before node)
 
--- the node that it names arbitrary
-abbrev pub named_in : Result Row Reason → List ℕ
-named_in (Ok (row.Run n)) = []
-named_in (Ok (row.Arbitrary node)) = node ∷ []
-named_in (Ok (row.Clock cycle clock)) = []
-named_in (Ok (row.Heard heard)) = []
-named_in (Err why) = []
+-- whether it may begin
+abbrev pub begins_by : Option Join → ℕ → Bool
+begins_by None cycle = false
+begins_by (Some join) cycle = cycle == first_cycle join
 
--- the row, where a record says one
-abbrev pub said_in : Result Row Reason → Option Row
-said_in (Ok said) = Some said
-said_in (Err why) = None
+-- whether a node must have a row in a cycle, and whether it may
+abbrev pub must_stand : List ℕ → List TracedJoin → ℕ → List NodeRow → ℕ → Bool
+must_stand named joins cycle before node = not (is_among named node) && stays_by (join_among joins node) cycle before node
 
--- what the records say: the number of double cycles, the arbitrary nodes in their order, and the last row
-abbrev pub doubles_at : List FileRecord → Option ℕ
-doubles_at records = looked_up (λ r. doubles_in (trace_row_of r)) records
+abbrev pub may_stand : List ℕ → List TracedJoin → ℕ → List NodeRow → ℕ → Bool
+may_stand named joins cycle before node =
+    not (is_among named node) && (begins_by (join_among joins node) cycle || stays_by (join_among joins node) cycle before node)
 
-unfoldable pub named_at : List FileRecord → List ℕ
-named_at records = flat_map (λ r. named_in (trace_row_of r)) records
+-- the next node behind one that must have a row
+abbrev pub is_due_behind : List ℕ → List TracedJoin → ℕ → List NodeRow → ℕ → NodeSpec → Bool
+is_due_behind named joins cycle before node spec = nat_lt node spec.id && must_stand named joins cycle before spec.id
 
-unfoldable pub last_at : List FileRecord → Option Row
-last_at [] = None
-last_at (r ∷ rest) = or_else (last_at rest) (said_in (trace_row_of r))
+abbrev pub next_due_in : List NodeSpec → List ℕ → List TracedJoin → ℕ → List NodeRow → ℕ → Option ℕ
+next_due_in nodes named joins cycle before node = option_map (λ spec. spec.id) (find (is_due_behind named joins cycle before node) nodes)
 
--- ---- the correct nodes
+abbrev pub next_due : Values → List ℕ → List TracedJoin → ℕ → List NodeRow → ℕ → Option ℕ
+next_due p named joins cycle before node = next_due_in p.nodes named joins cycle before node
 
--- whether a node is among those that are named
-abbrev pub is_among : List ℕ → ℕ → Bool
-is_among named node = list_any (λ other. other == node) named
+-- whether a node stands before another or is this one, where there is one
+abbrev pub is_up_to : ℕ → Option ℕ → Bool
+is_up_to node found = option_map_or (λ other. nat_le node other) found true
 
--- the first correct node, and the next one behind a node, in ascending order
-abbrev pub is_correct_behind : List ℕ → ℕ → NodeSpec → Bool
-is_correct_behind named node spec = nat_lt node spec.id && not (is_among named spec.id)
-
-abbrev pub next_correct_in : List NodeSpec → List ℕ → ℕ → Option ℕ
-next_correct_in nodes named node = option_map (λ spec. spec.id) (find (is_correct_behind named node) nodes)
-
-abbrev pub next_correct : Values → List ℕ → ℕ → Option ℕ
-next_correct p named node = next_correct_in p.nodes named node
-
--- the first of all: no node has the number 0
-abbrev pub first_correct : Values → List ℕ → Option ℕ
-first_correct p named = next_correct p named 0
-
--- whether it is this node
-abbrev pub is_node : ℕ → Option ℕ → Bool
-is_node node found = option_map_or (λ other. other == node) found false
+-- whether the row of a node may come in a cycle behind that of another: it may have one, and none is left out that must
+abbrev pub may_stand_behind : Values → List ℕ → List TracedJoin → ℕ → List NodeRow → ℕ → ℕ → Bool
+may_stand_behind p named joins cycle before other node =
+    nat_lt other node && may_stand named joins cycle before node && is_up_to node (next_due p named joins cycle before other)
 
 -- ---- the next row
 
--- the row of a node in a cycle may come behind the rows of another: as that of the next correct node of the same cycle, or
--- behind the last one as that of the first correct node of the next cycle, while there is one
-abbrev pub may_turn : Option ℕ → Option ℕ → ℕ → ℕ → ℕ → ℕ → Bool
-may_turn (Some other) first doubles cycle next_cycle next_node = (next_cycle == cycle) && (next_node == other)
-may_turn None first doubles cycle next_cycle next_node = (next_cycle == cycle + 1) && nat_lt next_cycle (2 * doubles) && is_node next_node first
+-- the row of a node in a cycle may come behind the rows of another in the same cycle, or in the next one while there is one,
+-- where no further row must come; no node has the number 0
+abbrev pub may_turn : Values → ℕ → List ℕ → List TracedJoin → List NodeRow → List NodeRow → ℕ → ℕ → ℕ → ℕ → Bool
+may_turn p doubles named joins before here cycle other next node =
+    if next == cycle then may_stand_behind p named joins cycle before other node
+    else
+    (next == cycle + 1) && nat_lt next (2 * doubles) && is_none (next_due p named joins cycle before other)
+    && may_stand_behind p named joins next here 0 node
 
--- what comes before the cycles, the number of double cycles or an arbitrary node: then an arbitrary node above the last one
--- comes, or the first row of the first cycle
-abbrev pub may_begin : Values → List ℕ → ℕ → Row → Bool
-may_begin p named above (row.Run n) = false
-may_begin p named above (row.Arbitrary node) = nat_lt above node
-may_begin p named above (row.Clock cycle clock) = (cycle == 0) && is_node clock.node (first_correct p named)
-may_begin p named above (row.Heard heard) = false
+-- the row of a node as the first of all cycles
+abbrev pub may_open : Values → List ℕ → List TracedJoin → ℕ → ℕ → Bool
+may_open p named joins cycle node = (cycle == 0) && may_stand_behind p named joins 0 [] 0 node
+
+-- behind the number of double cycles or an arbitrary node: an arbitrary node above the last one comes, or a node that joins,
+-- or the first cycle
+abbrev pub may_begin : Values → List ℕ → List TracedJoin → ℕ → Row → Bool
+may_begin p named joins above (row.Run n) = false
+may_begin p named joins above (row.Arbitrary node) = nat_lt above node
+may_begin p named joins above (row.Join j) = true
+may_begin p named joins above (row.Clock cycle clock) = may_open p named joins cycle clock.node
+may_begin p named joins above (row.Heard heard) = false
+
+-- behind a node that joins: one above it comes, or the first cycle
+abbrev pub may_join : Values → List ℕ → List TracedJoin → ℕ → Row → Bool
+may_join p named joins above (row.Run n) = false
+may_join p named joins above (row.Arbitrary node) = false
+may_join p named joins above (row.Join j) = nat_lt above j.node
+may_join p named joins above (row.Clock cycle clock) = may_open p named joins cycle clock.node
+may_join p named joins above (row.Heard heard) = false
 
 -- the rank of a channel: one that is none is not asked for it
 abbrev pub rank_of : Option Channel → ℕ
@@ -100,12 +99,12 @@ abbrev pub is_behind : Turn → HeardRow → Bool
 is_behind turn heard = nat_lt turn.slot heard.slot || ((turn.slot == heard.slot) && nat_lt turn.rank (rank_of heard.channel))
 
 -- behind a place in a cycle: a further deviation of its node, or the next row
-abbrev pub may_go_on : Values → ℕ → List ℕ → ℕ → Turn → Row → Bool
-may_go_on p doubles named cycle turn (row.Run n) = false
-may_go_on p doubles named cycle turn (row.Arbitrary other) = false
-may_go_on p doubles named cycle turn (row.Clock next clock) =
-    may_turn (next_correct p named turn.node) (first_correct p named) doubles cycle next clock.node
-may_go_on p doubles named cycle turn (row.Heard heard) = (heard.cycle == cycle) && (heard.receiver == turn.node) && is_behind turn heard
+abbrev pub may_go_on : Values → ℕ → List ℕ → List TracedJoin → List NodeRow → List NodeRow → ℕ → Turn → Row → Bool
+may_go_on p doubles named joins before here cycle turn (row.Run n) = false
+may_go_on p doubles named joins before here cycle turn (row.Arbitrary other) = false
+may_go_on p doubles named joins before here cycle turn (row.Join j) = false
+may_go_on p doubles named joins before here cycle turn (row.Clock next clock) = may_turn p doubles named joins before here cycle turn.node next clock.node
+may_go_on p doubles named joins before here cycle turn (row.Heard heard) = (heard.cycle == cycle) && (heard.receiver == turn.node) && is_behind turn heard
 
 -- the place of a node's row, and that of a deviation
 abbrev pub clock_turn : NodeRow → Turn
@@ -118,21 +117,54 @@ heard_turn heard = record { node = heard.receiver; slot = heard.slot; rank = ran
 abbrev pub is_run : Row → Bool
 is_run (row.Run n) = true
 is_run (row.Arbitrary node) = false
+is_run (row.Join j) = false
 is_run (row.Clock cycle clock) = false
 is_run (row.Heard heard) = false
 
--- whether a row may come behind the last one
-abbrev pub may_follow : Values → ℕ → List ℕ → Option Row → Row → Bool
-may_follow p doubles named None next = is_run next
-may_follow p doubles named (Some (row.Run n)) next = may_begin p named 0 next
-may_follow p doubles named (Some (row.Arbitrary other)) next = may_begin p named other next
-may_follow p doubles named (Some (row.Clock cycle clock)) next = may_go_on p doubles named cycle (clock_turn clock) next
-may_follow p doubles named (Some (row.Heard heard)) next = may_go_on p doubles named heard.cycle (heard_turn heard) next
+-- whether a row may come behind the last one, by the rows of the cycle before and of the one that is under way
+abbrev pub may_follow : Values → ℕ → List ℕ → List TracedJoin → List NodeRow → List NodeRow → Option Row → Row → Bool
+may_follow p doubles named joins before here None next = is_run next
+may_follow p doubles named joins before here (Some (row.Run n)) next = may_begin p named joins 0 next
+may_follow p doubles named joins before here (Some (row.Arbitrary other)) next = may_begin p named joins other next
+may_follow p doubles named joins before here (Some (row.Join other)) next = may_join p named joins other.node next
+may_follow p doubles named joins before here (Some (row.Clock cycle clock)) next = may_go_on p doubles named joins before here cycle (clock_turn clock) next
+may_follow p doubles named joins before here (Some (row.Heard heard)) next = may_go_on p doubles named joins before here heard.cycle (heard_turn heard) next
+
+-- ---- after the records so far
 
 -- the number of double cycles, 0 where none is said
 abbrev pub count_of : Option ℕ → ℕ
 count_of doubles = option_map_or (λ n. n) doubles 0
 
--- whether a row may come next after the records so far
+-- the cycle of the last row, the first one before any
+abbrev pub cycle_of : Option Row → ℕ
+cycle_of None = 0
+cycle_of (Some (row.Run n)) = 0
+cycle_of (Some (row.Arbitrary node)) = 0
+cycle_of (Some (row.Join j)) = 0
+cycle_of (Some (row.Clock cycle clock)) = cycle
+cycle_of (Some (row.Heard heard)) = heard.cycle
+
+-- the rows of this cycle, and those of the cycle before
+abbrev pub here_at : List FileRecord → List NodeRow
+here_at records = (record_said records (cycle_of (last_at records))).rows
+
+abbrev pub before_at : List FileRecord → List NodeRow
+before_at records = latest_rows (history_said records (cycle_of (last_at records)))
+
+-- whether a row may come next
 abbrev pub may_come : Values → List FileRecord → Row → Bool
-may_come p before next = may_follow p (count_of (doubles_at before)) (named_at before) (last_at before) next
+may_come p done next = may_follow p (count_of (doubles_at done)) (named_at done) (joins_at done) (before_at done) (here_at done) (last_at done) next
+
+-- whether no further row must come: the last one is in the last cycle, and no node behind it must have one; or none is in a
+-- cycle, and no node must have one in the first
+abbrev pub ends_at : Values → ℕ → List ℕ → List TracedJoin → List NodeRow → ℕ → ℕ → Bool
+ends_at p doubles named joins before cycle node = (cycle + 1 == 2 * doubles) && is_none (next_due p named joins cycle before node)
+
+abbrev pub ends_with : Values → ℕ → List ℕ → List TracedJoin → List NodeRow → Option Row → Bool
+ends_with p doubles named joins before None = false
+ends_with p doubles named joins before (Some (row.Run n)) = is_none (next_due p named joins 0 [] 0)
+ends_with p doubles named joins before (Some (row.Arbitrary node)) = is_none (next_due p named joins 0 [] 0)
+ends_with p doubles named joins before (Some (row.Join j)) = is_none (next_due p named joins 0 [] 0)
+ends_with p doubles named joins before (Some (row.Clock cycle clock)) = ends_at p doubles named joins before cycle clock.node
+ends_with p doubles named joins before (Some (row.Heard heard)) = ends_at p doubles named joins before heard.cycle heard.receiver

@@ -1,7 +1,9 @@
 -- Why a record of a trace is refused after the records before it.
 use Rattle.std.specs.Prelude.{ℕ, ℤ, neg_ℤ, int_lt, Bool, false, not, ◌==◌, ◌&&◌, ◌||◌, List, Option, Some, None, is_none, is_some, Result, Ok, Err, if◌then◌else◌}
+use Rattle.std.specs.List.{list_any}
 use Rattle.std.specs.Option.{option_map, option_map_or}
 use Rattle.fr_base.specs.declared.channel.Channel.{Channel}
+use Rattle.fr_base.specs.declared.channel.Channel.TheVariants as channel
 use Rattle.fr_base.specs.declared.node_row.NodeRow.{NodeRow}
 use Rattle.fr_base.specs.declared.reason.Reason.{Reason}
 use Rattle.fr_base.specs.declared.reason.Reason.TheVariants as reason
@@ -9,11 +11,14 @@ use Rattle.fr_cluster.specs.Questions.{is_common, node_of, own_key}
 use Rattle.fr_cluster.specs.Searches.{key_node_in}
 use Rattle.fr_cluster.specs.Values.{Values}
 use Rattle.fr_records.specs.Records.{FileRecord}
+use Rattle.fr_trace.specs.Joins.{is_among, join_among}
 use Rattle.fr_trace.specs.Order.{may_come}
 use Rattle.fr_trace.specs.Rows.{trace_row_of}
+use Rattle.fr_trace.specs.Said.{joins_at, named_at}
 use Rattle.fr_trace.specs.declared.rows.HeardRow.{HeardRow}
 use Rattle.fr_trace.specs.declared.rows.Row.{Row}
 use Rattle.fr_trace.specs.declared.rows.Row.TheVariants as row
+use Rattle.fr_trace.specs.declared.trace.TracedJoin.{TracedJoin}
 
 -- whether the cluster has a node of this number
 abbrev pub is_known : Values → ℕ → Bool
@@ -46,6 +51,31 @@ arbitrary_reason p node comes =
     else if is_none (own_key p node) || not comes then Some reason.Role
     else None
 
+-- whether a node cannot join so, behind those that do: it is its own reference, either is arbitrary, the reference has no key
+-- slot or joins itself, or the node is the reference of another
+abbrev pub joins_wrongly : Values → List ℕ → List TracedJoin → TracedJoin → Bool
+joins_wrongly p named joins j =
+    (j.join.reference == j.node)
+    || is_among named j.node
+    || is_among named j.join.reference
+    || is_none (own_key p j.join.reference)
+    || is_some (join_among joins j.join.reference)
+    || list_any (λ other. other.join.reference == j.node) joins
+
+-- whether the cluster has the node and its reference, and whether they have a channel in common
+abbrev pub knows_both : Values → TracedJoin → Bool
+knows_both p j = is_known p j.node && is_known p j.join.reference
+
+abbrev pub have_common : Values → TracedJoin → Bool
+have_common p j = is_common p j.node j.join.reference channel.A || is_common p j.node j.join.reference channel.B
+
+abbrev pub join_reason : Values → List ℕ → List TracedJoin → TracedJoin → Bool → Option Reason
+join_reason p named joins j comes =
+    if not (knows_both p j) then Some reason.UnknownNode
+    else if joins_wrongly p named joins j || not comes then Some reason.Role
+    else if not (have_common p j) then Some reason.Link
+    else None
+
 abbrev pub clock_reason : Values → NodeRow → Bool → Option Reason
 clock_reason p clock comes =
     if is_beyond p clock then Some reason.OutOfRange
@@ -64,16 +94,17 @@ channel_reason p heard comes (Some ch) =
 abbrev pub heard_reason : Values → HeardRow → Bool → Option Reason
 heard_reason p heard comes = if not (is_known p heard.receiver) then Some reason.UnknownNode else channel_reason p heard comes heard.channel
 
-abbrev pub row_reason : Values → Row → Bool → Option Reason
-row_reason p (row.Run n) comes = if not comes then Some reason.Role else None
-row_reason p (row.Arbitrary node) comes = arbitrary_reason p node comes
-row_reason p (row.Clock cycle clock) comes = clock_reason p clock comes
-row_reason p (row.Heard heard) comes = heard_reason p heard comes
+abbrev pub row_reason : Values → List ℕ → List TracedJoin → Row → Bool → Option Reason
+row_reason p named joins (row.Run n) comes = if not comes then Some reason.Role else None
+row_reason p named joins (row.Arbitrary node) comes = arbitrary_reason p node comes
+row_reason p named joins (row.Join j) comes = join_reason p named joins j comes
+row_reason p named joins (row.Clock cycle clock) comes = clock_reason p clock comes
+row_reason p named joins (row.Heard heard) comes = heard_reason p heard comes
 
 -- the least reason after these records, of what a record says or shows by itself
 abbrev pub trace_row_reason : Values → List FileRecord → Result Row Reason → Option Reason
 trace_row_reason p before (Err why) = Some why
-trace_row_reason p before (Ok said) = row_reason p said (may_come p before said)
+trace_row_reason p before (Ok said) = row_reason p (named_at before) (joins_at before) said (may_come p before said)
 
 -- why a record is refused after the records before it, if it is
 abbrev pub trace_reason_after : Values → List FileRecord → FileRecord → Option Reason

@@ -16,6 +16,7 @@ use Rattle.fr_records.specs.Records.{FileRecord}
 use Rattle.fr_trace.specs.declared.rows.HeardRow.{HeardRow}
 use Rattle.fr_trace.specs.declared.rows.Row.{Row}
 use Rattle.fr_trace.specs.declared.rows.Row.TheVariants as row
+use Rattle.fr_trace.specs.declared.trace.TracedJoin.{TracedJoin}
 
 -- the number of double cycles
 abbrev pub run_row : List ℕ → Result Row Reason
@@ -24,6 +25,13 @@ run_row doubles = or_reason (λ n. Ok (row.Run n)) (natural_of 1 100_000 doubles
 -- a node that is arbitrary
 abbrev pub arbitrary_row : List ℕ → Result Row Reason
 arbitrary_row node = or_reason (λ n. Ok (row.Arbitrary n)) (natural_of 1 64 node)
+
+-- that a node joins, of these numbers: the node and its reference, and the double cycle in which it listens
+abbrev pub join_with : (ℕ × ℕ) × ℕ → Result Row Reason
+join_with numbers = Ok (row.Join (record { node = numbers.0.0; join = record { double = numbers.1; reference = numbers.0.1 } }))
+
+abbrev pub join_row : List ℕ → List ℕ → List ℕ → Result Row Reason
+join_row node reference double = or_reason join_with (both_of (both_of (natural_of 1 64 node) (natural_of 1 64 reference)) (natural_of 0 99_999 double))
 
 -- the state that a field names
 abbrev pub state_of : List ℕ → Option State
@@ -98,6 +106,7 @@ abbrev pub trace_file_row : List ℕ → List ℕ → List ℕ → List ℕ → 
 trace_file_row kind first second third fourth fifth sixth seventh =
     if bytes_eq kind (codes "run") then short_row second third fourth fifth sixth seventh (run_row first)
     else if bytes_eq kind (codes "arbitrary") then short_row second third fourth fifth sixth seventh (arbitrary_row first)
+    else if bytes_eq kind (codes "join") then (if are_blank fourth fifth sixth && is_blank seventh then join_row first second third else Err reason.Shape)
     else if bytes_eq kind (codes "cycle") then clock_row first second third fourth fifth sixth seventh
     else if bytes_eq kind (codes "dev") then (if is_blank sixth && is_blank seventh then heard_row first second third fourth fifth else Err reason.Shape)
     else Err reason.UnknownName
@@ -127,6 +136,11 @@ pub record AreProperTerms (terms : ℤ × ℤ) : Type 0 where
   pub offset_from : negsuc 15_999 ≤ℤ terms.1
   pub offset_to : terms.1 ≤ℤ pos 16_000
 
+-- the numbers of a node that joins
+pub record IsProperJoinRow (j : TracedJoin) : Type 0 where
+  pub node_to : j.node ≤ 64
+  pub double_to : j.join.double ≤ 99_999
+
 -- the numbers of a node's cycle lie in their ranges, and no cut is told
 pub record IsProperClock (cycle : ℕ) (row : NodeRow) : Type 0 where
   pub cycle_to : cycle ≤ 199_999
@@ -144,5 +158,6 @@ pub record IsProperHeard (heard : HeardRow) : Type 0 where
 abbrev pub IsProperTraceRow : Row → Type 0
 IsProperTraceRow (row.Run n) = IsProperCount n
 IsProperTraceRow (row.Arbitrary node) = node ≤ 64
+IsProperTraceRow (row.Join j) = IsProperJoinRow j
 IsProperTraceRow (row.Clock cycle clock) = IsProperClock cycle clock
 IsProperTraceRow (row.Heard heard) = IsProperHeard heard

@@ -1,26 +1,32 @@
-ghost use Rattle.std.specs.Prelude.{◌≡◌, ◌≤◌, ◌≤ℤ◌, [], length, pos, negsuc, OnOk};
+ghost use Rattle.std.specs.Prelude.{◌≡◌, ◌==◌, ◌≤◌, ◌≤ℤ◌, [], is_none, length, pos, negsuc, OnOk};
+ghost use Rattle.fr_cluster.specs.Questions.{own_key};
+ghost use Rattle.std.specs.List.{list_any};
 ghost use Rattle.fr_cluster.specs.Values.{Values};
+ghost use Rattle.fr_trace.specs.Cycles.{history_by};
 ghost use Rattle.fr_trace.specs.Draft.{HasClock, HasEnded, HasFilled, HasHeard, HasKept, HasPut, IsTraceDraft, TakesTraceRow, over_of};
+ghost use Rattle.fr_trace.specs.Joins.{latest_rows};
 ghost use Rattle.fr_trace.specs.Order.{count_of, may_follow};
-ghost use Rattle.fr_trace.specs.Reasons.{arbitrary_reason, clock_reason, heard_reason, is_beyond, is_known, is_linked, is_of_other, is_within, row_reason};
+ghost use Rattle.fr_trace.specs.Reasons.{arbitrary_reason, clock_reason, have_common, heard_reason, is_beyond, is_known, is_linked, is_of_other, is_within, join_reason, joins_wrongly, knows_both, row_reason};
 ghost use Rattle.fr_trace.specs.Rows.{IsProperTraceRow};
 ghost use Rattle.fr_trace.specs.declared.rows.Row.TheVariants as said;
 
-use crate::order::may_follow;
+use crate::order::{SoFar, is_among, join_among, may_follow};
 use crate::rows::{HeardRow, Row};
-use crate::trace::TracedCycle;
+use crate::trace::{TracedCycle, TracedJoin};
 use fr_base::{Channel, Dev, NodeId, NodeRow, Reason};
 use fr_cluster::{ParamName, Params};
 use std::alloc::{AllocError, Global};
 use std::mem::replace;
 
-// What the records so far say: the number of double cycles, the nodes that are named arbitrary, the last row, how many
-// records there are, the cycles that are over, and the rows and deviations of the one that is under way.
+// What the records so far say: the number of double cycles, the nodes that are named arbitrary and those that join, the
+// last row, how many records there are, the cycles that are over, and the rows and deviations of the one that is under
+// way.
 #[derive(Drop)]
 pub(crate) struct Draft {
     pub(crate) alloc: Global,
     pub(crate) doubles: Option<u32>,
     pub(crate) arbitrary: Vec<NodeId>,
+    pub(crate) joins: Vec<TracedJoin>,
     pub(crate) last: Option<Row>,
     pub(crate) count: u64,
     pub(crate) cycles: Vec<TracedCycle>,
@@ -36,6 +42,7 @@ impl Draft {
             alloc,
             doubles: None,
             arbitrary: Vec::new(alloc),
+            joins: Vec::new(alloc),
             last: None,
             count: 0,
             cycles: Vec::new(alloc),
@@ -59,12 +66,30 @@ impl Draft {
     }
 
     fn reason(&self, params: &Params, row: &Row) -> Option<Reason>
-        ensures { result ≡ row_reason params.now row.now
-            (may_follow params.now (count_of self.now.doubles) self.now.arbitrary.items self.now.last row.now) }
+        ensures { result ≡ row_reason params.now self.now.arbitrary.items self.now.joins.items row.now
+            (may_follow params.now (count_of self.now.doubles) self.now.arbitrary.items self.now.joins.items
+            (latest_rows (over_of self.now)) self.now.rows.items self.now.last row.now) }
     {
-        let doubles = self.doubles.unwrap_or(0);
-        let comes = may_follow(params, doubles, &self.arbitrary, &self.last, row);
-        row_reason(params, row, comes)
+        let so_far = self.so_far();
+        let comes = may_follow(params, &so_far, &self.last, row);
+        row_reason(params, so_far.named, so_far.joins, row, comes)
+    }
+
+    // What it holds that decides which row may come next.
+    pub(crate) fn so_far(&self) -> SoFar<'_>
+        ensures doubles { result.doubles ≡ count_of self.now.doubles }
+        ensures named { result.named.now ≡ self.now.arbitrary.items }
+        ensures joins { result.joins.now ≡ self.now.joins.items }
+        ensures before { result.before.now ≡ latest_rows (over_of self.now) }
+        ensures here { result.here.now ≡ self.now.rows.items }
+    {
+        SoFar {
+            doubles: self.doubles.unwrap_or(0),
+            named: self.arbitrary.as_slice(),
+            joins: self.joins.as_slice(),
+            before: latest_rows(self.cycles.as_slice()),
+            here: self.rows.as_slice(),
+        }
     }
 
     // Puts a row behind those that are there.
@@ -87,6 +112,10 @@ impl Draft {
             }
             Row::Arbitrary(node) => {
                 self.arbitrary.push(*node)?;
+                Ok(())
+            }
+            Row::Join(join) => {
+                self.joins.push(*join)?;
                 Ok(())
             }
             Row::Clock(cycle, clock) => self.keep_clock(*cycle, *clock),
@@ -150,13 +179,30 @@ impl Draft {
     }
 }
 
+// The rows of the last of some cycles.
+fn latest_rows(cycles: &[TracedCycle]) -> &[NodeRow]
+    ensures { result.now ≡ latest_rows (history_by cycles.now) }
+{
+    match cycles.split_last() {
+        None => &[],
+        Some((last, _)) => last.rows.as_slice(),
+    }
+}
+
 // The least reason for which a row is not taken that may come next, or not.
-fn row_reason(params: &Params, row: &Row, comes: bool) -> Option<Reason>
-    ensures { result ≡ row_reason params.now row.now comes }
+fn row_reason(
+    params: &Params,
+    named: &[NodeId],
+    joins: &[TracedJoin],
+    row: &Row,
+    comes: bool,
+) -> Option<Reason>
+    ensures { result ≡ row_reason params.now named.now joins.now row.now comes }
 {
     match row {
         Row::Run(_) => if comes { None } else { Some(Reason::Role) },
         Row::Arbitrary(node) => arbitrary_reason(params, *node, comes),
+        Row::Join(join) => join_reason(params, named, joins, join, comes),
         Row::Clock(_, clock) => clock_reason(params, clock, comes),
         Row::Heard(heard) => heard_reason(params, heard, comes),
     }
@@ -175,6 +221,67 @@ fn arbitrary_reason(params: &Params, node: NodeId, comes: bool) -> Option<Reason
             }
         }
     }
+}
+
+fn join_reason(
+    params: &Params,
+    named: &[NodeId],
+    joins: &[TracedJoin],
+    join: &TracedJoin,
+    comes: bool,
+) -> Option<Reason>
+    ensures { result ≡ join_reason params.now named.now joins.now join.now comes }
+{
+    if !knows_both(params, join) {
+        Some(Reason::UnknownNode)
+    } else if joins_wrongly(params, named, joins, join) || !comes {
+        Some(Reason::Role)
+    } else if !have_common(params, join) {
+        Some(Reason::Link)
+    } else {
+        None
+    }
+}
+
+fn knows_both(params: &Params, join: &TracedJoin) -> bool
+    ensures { result ≡ knows_both params.now join.now }
+{
+    is_known(params, join.node) && is_known(params, join.join.reference)
+}
+
+fn joins_wrongly(params: &Params, named: &[NodeId], joins: &[TracedJoin], join: &TracedJoin) -> bool
+    ensures { result ≡ joins_wrongly params.now named.now joins.now join.now }
+{
+    let reference = join.join.reference;
+    reference == join.node
+        || is_among(named, join.node)
+        || is_among(named, reference)
+        || lacks_key(params, reference)
+        || join_among(joins, reference).is_some()
+        || is_reference(joins, join.node)
+}
+
+fn lacks_key(params: &Params, node: NodeId) -> bool
+    ensures { result ≡ is_none (own_key params.now node) }
+{
+    match params.node(node) {
+        None => true,
+        Some(spec) => spec.key.is_none(),
+    }
+}
+
+fn is_reference(joins: &[TracedJoin], node: NodeId) -> bool
+    ensures { result ≡ list_any (λ other. other.join.reference == node) joins.now }
+{
+    joins.iter().any(|other| other.join.reference == node)
+}
+
+fn have_common(params: &Params, join: &TracedJoin) -> bool
+    ensures { result ≡ have_common params.now join.now }
+{
+    let reference = join.join.reference;
+    params.common(join.node, reference, Channel::A)
+        || params.common(join.node, reference, Channel::B)
 }
 
 fn clock_reason(params: &Params, clock: &NodeRow, comes: bool) -> Option<Reason>

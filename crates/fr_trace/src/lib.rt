@@ -1,5 +1,5 @@
-//! A recorded trace: what each correct node of a cluster did, cycle by cycle, and what it measured; its text, and
-//! what it takes for a file to be accepted.
+//! A recorded trace: what each correct node of a cluster that takes part did, cycle by cycle, and what it measured, and
+//! which nodes join; its text, and what it takes for a file to be accepted.
 #![tactic(auto)]
 
 mod draft;
@@ -16,5 +16,5 @@ pub use fault::TraceFault;
 pub use kind::TraceFile;
 pub use laws::{one_answer, refused_for_the_least_reason, some_answer};
 pub use reading::read;
-pub use trace::{Trace, TracedCycle};
+pub use trace::{Trace, TracedCycle, TracedJoin};
 pub use writing::{write_cycle, write_head};

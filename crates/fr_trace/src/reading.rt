@@ -1,20 +1,19 @@
-ghost use Rattle.std.specs.Prelude.{◌≡◌, ◌==◌, List, Some, drop, IfOk};
-ghost use Rattle.std.specs.List.{list_any};
+ghost use Rattle.std.specs.Prelude.{◌≡◌, List, Some, IfOk};
 ghost use Rattle.fr_records.specs.Kind.{Reads};
 ghost use Rattle.fr_records.specs.Records.{FileRecord};
 ghost use Rattle.fr_trace.specs.Draft.{AnswersFor, HoldsTrace, IsTraceDraft, IsWholeDraft};
-ghost use Rattle.fr_trace.specs.Files.{has_row, have_rows, is_whole, trace_file};
+ghost use Rattle.fr_trace.specs.Files.{is_whole, trace_file};
 ghost use Rattle.fr_trace.specs.Fits.{TraceFits};
 ghost use Rattle.fr_trace.specs.Reasons.{trace_reason_after};
 
 use crate::draft::Draft;
 use crate::fault::TraceFault;
-use crate::order::{is_among, node_at};
+use crate::order::ends_with;
 use crate::rows::read_row;
 use crate::trace::Trace;
 use csv::ByteRecord;
-use fr_base::{NodeId, NodeRow, Reason};
-use fr_cluster::{NodeList, NodeSpec, Params};
+use fr_base::Reason;
+use fr_cluster::Params;
 use fr_records::{RowFault, Table, read_all};
 use std::alloc::{AllocError, Global};
 
@@ -40,8 +39,9 @@ impl<'a> Table for Reading<'a> {
     }
 }
 
-/// Reads a recorded trace of a cluster. It accepts exactly the files of which no record is refused and that have a row
-/// for each correct node up to the last cycle; the answer is what the file stands for.
+/// Reads a recorded trace of a cluster. It accepts exactly the files of which no record is refused and that have all
+/// rows that must come up to the last cycle; the answer is what the file stands for. A node that joins the running
+/// cluster has rows from the cycle on in which it may first take part, or none.
 ///
 /// Its refusal is the first in this order: `Row`, the first record that is refused, by its number from 1, with the
 /// least reason that holds; `Incomplete`, where the file ends before its last row, with how many records it has.
@@ -80,43 +80,12 @@ fn trace_of(params: &Params, draft: Draft) -> Result<Trace, TraceFault>
     whole_trace(params, draft, doubles)
 }
 
-// Whether the records are those of a whole trace: each correct node has a row in the last cycle.
+// Whether the records are those of a whole trace: each node that must have a row in the last cycle has one.
 fn is_whole(params: &Params, draft: &Draft, doubles: u32) -> bool
     requires { draft.now.doubles ≡ Some doubles }
     ensures { (records : List FileRecord) → IsTraceDraft params.now draft.now records → result ≡ is_whole params.now records }
 {
-    let named = draft.arbitrary.as_slice();
-    if draft.cycles.as_slice().len() + 1 == 2 * doubles as usize {
-        have_rows(&params.nodes, named, draft.rows.as_slice(), 0)
-    } else {
-        have_rows(&params.nodes, named, &[], 0)
-    }
-}
-
-// Whether each node from a place on is named or has one of some rows.
-fn have_rows(nodes: &NodeList, named: &[NodeId], rows: &[NodeRow], place: usize) -> bool
-    ensures { result ≡ have_rows (drop place nodes.now) named.now rows.now }
-{
-    if place >= nodes.len() {
-        return true;
-    }
-    if has_row(named, rows, node_at(nodes, place)) {
-        have_rows(nodes, named, rows, place + 1)
-    } else {
-        false
-    }
-}
-
-fn has_row(named: &[NodeId], rows: &[NodeRow], node: &NodeSpec) -> bool
-    ensures { result ≡ has_row named.now rows.now node.now }
-{
-    is_among(named, node.id) || stands(rows, node.id)
-}
-
-fn stands(rows: &[NodeRow], node: NodeId) -> bool
-    ensures { result ≡ list_any (λ clock. clock.node == node) rows.now }
-{
-    rows.iter().any(|row| row.node == node)
+    ends_with(params, &draft.so_far(), &draft.last)
 }
 
 // The trace of records that are those of a whole one.
@@ -134,11 +103,12 @@ fn whole_trace(params: &Params, draft: Draft, doubles: u32) -> Result<Trace, Tra
         alloc: _,
         doubles: _,
         arbitrary,
+        joins,
         last: _,
         count: _,
         cycles,
         rows: _,
         devs: _,
     } = draft;
-    Ok(Trace::of(doubles, arbitrary, cycles))
+    Ok(Trace::of(doubles, arbitrary, joins, cycles))
 }

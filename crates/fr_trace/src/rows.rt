@@ -1,10 +1,12 @@
 ghost use Rattle.std.specs.Prelude.{◌≡◌, ◌≤ℤ◌, ◌&&◌, pos, negsuc, IfOk, IfSome};
 ghost use Rattle.csv.specs.Records.{fields_of};
 ghost use Rattle.fr_records.specs.Fields.{is_blank};
-ghost use Rattle.fr_trace.specs.Rows.{IsProperTraceRow, arbitrary_row, are_blank, AreProperTerms, IsProperSpan, clock_in, clock_row, heard_row, offset_in, rate_in, run_row, span_in, state_of, terms_in, trace_file_row, trace_row_of, value_in};
+ghost use Rattle.fr_trace.specs.Rows.{IsProperTraceRow, arbitrary_row, are_blank, join_row, AreProperTerms, IsProperSpan, clock_in, clock_row, heard_row, offset_in, rate_in, run_row, span_in, state_of, terms_in, trace_file_row, trace_row_of, value_in};
 
+use crate::trace::TracedJoin;
 use csv::ByteRecord;
 use fr_base::{Channel, NodeId, NodeRow, NumberFault, Reason, Slot, State, number};
+use fr_cluster::Join;
 use fr_records::{both, field, natural, reason_of};
 
 /// A deviation that a record says. The channel is None where the field names none: whether the nodes are
@@ -30,6 +32,8 @@ pub enum Row {
     Run(u32),
     /// A node that is arbitrary.
     Arbitrary(NodeId),
+    /// That a node joins the running cluster.
+    Join(TracedJoin),
     /// A node's cycle, by the number of the cycle; how many terms were cut is not told, and 0 stands for it.
     Clock(u32, NodeRow),
     /// A deviation.
@@ -80,6 +84,11 @@ fn read_kind(
             return Err(Reason::Shape);
         }
         read_arbitrary(first)
+    } else if kind == b"join".as_slice() {
+        if !are_empty(fourth, fifth, sixth) || !seventh.is_empty() {
+            return Err(Reason::Shape);
+        }
+        read_join(first, second, third)
     } else if kind == b"cycle".as_slice() {
         read_clock(first, second, third, fourth, fifth, sixth, seventh)
     } else if kind == b"dev".as_slice() {
@@ -115,6 +124,25 @@ fn read_arbitrary(node: &[u8]) -> Result<Row, Reason>
     match natural(node, 1, 64) {
         Ok(node) => Ok(Row::Arbitrary(NodeId(node as u8))),
         Err(fault) => Err(reason_of(fault)),
+    }
+}
+
+fn read_join(node: &[u8], reference: &[u8], double: &[u8]) -> Result<Row, Reason>
+    ensures said { result ≡ join_row node.now reference.now double.now }
+    ensures proper { IfOk result (λ said. IsProperTraceRow said) }
+{
+    match both(
+        both(natural(node, 1, 64), natural(reference, 1, 64)),
+        natural(double, 0, 99_999),
+    ) {
+        Err(fault) => Err(reason_of(fault)),
+        Ok(((node, reference), double)) => Ok(Row::Join(TracedJoin {
+            node: NodeId(node as u8),
+            join: Join {
+                double: double as u32,
+                reference: NodeId(reference as u8),
+            },
+        })),
     }
 }
 

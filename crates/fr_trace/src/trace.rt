@@ -3,24 +3,35 @@ ghost use Rattle.fr_trace.specs.Cycles.{history_by};
 ghost use Rattle.fr_trace.specs.Lasting.{IsTrace};
 
 use fr_base::{Dev, NodeId, NodeRow};
+use fr_cluster::Join;
 use std::marker::Model;
 
 /// What a trace records of one cycle.
 #[derive(Debug, Drop)]
 pub struct TracedCycle {
-    /// A row for each correct node, in ascending order of node; no trace records how many terms were cut, so 0
-    /// stands there.
+    /// A row for each correct node that takes part, in ascending order of node: of one that joins, from its first row
+    /// on. No trace records how many terms were cut, so 0 stands there.
     pub rows: Vec<NodeRow>,
     /// The deviations that the nodes measured, in ascending order of receiver, slot and channel.
     pub devs: Vec<Dev>,
 }
 
-/// A recorded trace: contracts see how many double cycles it has, its arbitrary nodes in ascending order, and the
-/// history that it records, in which nothing is counted.
+/// That a node joins the running cluster, and how.
+#[derive(Clone, Copy, Debug, PartialEq, Eq)]
+pub struct TracedJoin {
+    /// The node that joins.
+    pub node: NodeId,
+    /// The double cycle in which it listens, and the node to which.
+    pub join: Join,
+}
+
+/// A recorded trace: contracts see how many double cycles it has, its arbitrary nodes and those that join the running
+/// cluster, each in ascending order, and the history that it records, in which nothing is counted.
 #[derive(Debug, Drop)]
 pub struct Trace {
     doubles: u32,
     arbitrary: Vec<NodeId>,
+    joins: Vec<TracedJoin>,
     cycles: Vec<TracedCycle>,
 }
 
@@ -31,20 +42,38 @@ impl Model for Trace {
 
     ghost Value = { TraceView };
 
-    ghost view = { λ t. record { doubles = t.doubles; arbitrary = t.arbitrary.items; history = history_by t.cycles.items } };
+    ghost view = { λ t.
+        record { doubles = t.doubles; arbitrary = t.arbitrary.items; joins = t.joins.items; history = history_by t.cycles.items } };
 
-    ghost invariant = { λ t. IsTrace (record { doubles = t.doubles; arbitrary = t.arbitrary.items; history = history_by t.cycles.items }) };
+    ghost invariant = { λ t.
+        IsTrace (record { doubles = t.doubles; arbitrary = t.arbitrary.items; joins = t.joins.items; history = history_by t.cycles.items }) };
 }
 
 impl Trace {
-    // The trace of these double cycles, arbitrary nodes and cycles, the earliest first.
-    pub(crate) fn of(doubles: u32, arbitrary: Vec<NodeId>, cycles: Vec<TracedCycle>) -> Trace
-        requires { IsTrace (record { doubles = doubles; arbitrary = arbitrary.items; history = history_by cycles.items }) }
-        ensures { result ≡ record { doubles = doubles; arbitrary = arbitrary.items; history = history_by cycles.items } }
+    // The trace of these double cycles, arbitrary nodes, nodes that join, and cycles, the earliest first.
+    pub(crate) fn of(
+        doubles: u32,
+        arbitrary: Vec<NodeId>,
+        joins: Vec<TracedJoin>,
+        cycles: Vec<TracedCycle>,
+    ) -> Trace
+        requires { IsTrace (record {
+          doubles = doubles;
+          arbitrary = arbitrary.items;
+          joins = joins.items;
+          history = history_by cycles.items;
+        }) }
+        ensures { result ≡ record {
+          doubles = doubles;
+          arbitrary = arbitrary.items;
+          joins = joins.items;
+          history = history_by cycles.items;
+        } }
     {
         Trace {
             doubles,
             arbitrary,
+            joins,
             cycles,
         }
     }
@@ -71,6 +100,13 @@ impl Trace {
         ensures { result.now ≡ self.now.arbitrary }
     {
         self.arbitrary.as_slice()
+    }
+
+    /// The nodes that join the running cluster, in ascending order.
+    pub fn joins(&self) -> &[TracedJoin]
+        ensures { result.now ≡ self.now.joins }
+    {
+        self.joins.as_slice()
     }
 
     /// Its cycles, the earliest first.

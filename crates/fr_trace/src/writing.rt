@@ -5,13 +5,13 @@ ghost use Rattle.fr_coverage.specs.Decided.{setting_of};
 ghost use Rattle.fr_drift.specs.Questions.{doubles_of};
 ghost use Rattle.fr_history.specs.History.{History};
 ghost use Rattle.fr_history.specs.Recorded.{recorded};
-ghost use Rattle.fr_script.specs.View.{is_arbitrary};
+ghost use Rattle.fr_script.specs.View.{is_arbitrary, join_of};
 ghost use Rattle.fr_text.specs.Pieces.{line};
-ghost use Rattle.fr_trace.specs.Text.{arbitrary_in, arbitrary_text, clock_text, cycle_text, dev_after, dev_front, devs_text, head_text, named_text, clock_rows_text, doubles_text};
+ghost use Rattle.fr_trace.specs.Text.{arbitrary_in, arbitrary_text, clock_text, cycle_text, dev_after, dev_front, devs_text, head_text, join_line, join_text, joining_in, joins_text, named_text, clock_rows_text, doubles_text};
 
 use crate::order::node_at;
 use fr_base::{CycleRow, Dev, NodeId, NodeRow, PutFault, Sink};
-use fr_cluster::{NodeList, Params};
+use fr_cluster::{Join, NodeList, Params};
 use fr_drift::Drift;
 use fr_script::Script;
 use fr_text::Piece::{Natural, Signed, Word};
@@ -20,9 +20,9 @@ use fr_text::{Line, letter_of, state_of};
 // The greatest number of bytes in front of what is said of a deviation.
 const FRONT_ROOM: usize = 50;
 
-/// Writes the lines before the cycles of a run's trace: its number of double cycles, and each arbitrary node in
-/// ascending order. Each line is one put. A fault comes only where the sink counted it, and then a front of the text
-/// was put. It takes no memory.
+/// Writes the lines before the cycles of a run's trace: its number of double cycles, each arbitrary node, and each node
+/// that joins the running cluster, in ascending order. Each line is one put. A fault comes only where the sink counted
+/// it, and then a front of the text was put. It takes no memory.
 pub fn write_head<O: Sink>(
     params: &Params,
     drift: &Drift,
@@ -30,12 +30,13 @@ pub fn write_head<O: Sink>(
     out: &mut O,
 ) -> Result<(), PutFault>
     ensures { Puts result (O.state out.old) (O.state out.new)
-        (head_text (doubles_of drift.now) (arbitrary_in (setting_of params.now drift.now script.now))) }
+        (head_text (doubles_of drift.now) (arbitrary_in (setting_of params.now drift.now script.now))
+        (joining_in (setting_of params.now drift.now script.now))) }
 {
     let mut spelt = Line::new();
     spell_run(drift.doubles(), &mut spelt);
     out.put(spelt.bytes())?;
-    put_named(&params.nodes, 0, script, &mut spelt, out)
+    put_members(&params.nodes, script, &mut spelt, out)
 }
 
 /// Writes the lines of a cycle: each node's row, and then the deviations that it measured, by slot and then by
@@ -55,7 +56,22 @@ pub fn write_cycle<O: Sink>(row: &CycleRow, out: &mut O) -> Result<(), PutFault>
     )
 }
 
-// The lines of the arbitrary nodes from a place on. Here and below each line is spelt in the place of the one before it.
+// The lines of the arbitrary nodes and of those that join. Here and below each line is spelt in the place of the one
+// before it.
+fn put_members<O: Sink>(
+    nodes: &NodeList,
+    script: &Script,
+    spelt: &mut Line,
+    out: &mut O,
+) -> Result<(), PutFault>
+    ensures { Puts result (O.state out.old) (O.state out.new)
+        (named_text (is_arbitrary script.now) nodes.now ++ joins_text (join_of script.now) nodes.now) }
+{
+    put_named(nodes, 0, script, spelt, out)?;
+    put_joins(nodes, 0, script, spelt, out)
+}
+
+// The lines of the arbitrary nodes from a place on.
 fn put_named<O: Sink>(
     nodes: &NodeList,
     place: usize,
@@ -87,6 +103,42 @@ fn put_node<O: Sink>(
         out.put(spelt.bytes())
     } else {
         Ok(())
+    }
+}
+
+// The lines of the nodes that join from a place on.
+fn put_joins<O: Sink>(
+    nodes: &NodeList,
+    place: usize,
+    script: &Script,
+    spelt: &mut Line,
+    out: &mut O,
+) -> Result<(), PutFault>
+    ensures { Puts result (O.state out.old) (O.state out.new)
+        (joins_text (join_of script.now) (drop place nodes.now)) }
+{
+    if place >= nodes.len() {
+        return Ok(());
+    }
+    put_join(node_at(nodes, place).id, script, spelt, out)?;
+    put_joins(nodes, place + 1, script, spelt, out)
+}
+
+fn put_join<O: Sink>(
+    node: NodeId,
+    script: &Script,
+    spelt: &mut Line,
+    out: &mut O,
+) -> Result<(), PutFault>
+    ensures { Puts result (O.state out.old) (O.state out.new)
+        (join_line node (join_of script.now node)) }
+{
+    match script.join(node) {
+        None => Ok(()),
+        Some(join) => {
+            spell_join(node, &join, spelt);
+            out.put(spelt.bytes())
+        }
     }
 }
 
@@ -205,6 +257,20 @@ fn spell_arbitrary(node: NodeId, spelt: &mut Line)
         Word(b"arbitrary,"),
         Natural(u64::from(node.0)),
         Word(b",,,,,,"),
+    ]);
+}
+
+fn spell_join(node: NodeId, join: &Join, spelt: &mut Line)
+    ensures { spelt.new ≡ line (join_text (record { node = node; join = join.now })) }
+{
+    spelt.spell(&[
+        Word(b"join,"),
+        Natural(u64::from(node.0)),
+        Word(b","),
+        Natural(u64::from(join.reference.0)),
+        Word(b","),
+        Natural(u64::from(join.double)),
+        Word(b",,,,"),
     ]);
 }
 

@@ -1,3 +1,4 @@
+mod Checks
 pub mod Parts
 pub mod Records
 pub mod Stepping

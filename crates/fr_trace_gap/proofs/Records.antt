@@ -12,7 +12,7 @@ use Rattle.fr_trace_gap.specs.Sound.{AreOrdered, AreTimed}
 use Rattle.fr_trace_gap.proofs.Parts.{history_length}
 use Rattle.fr_trace_gap.proofs.Parts.{all_cons, all_rest}
 
-record_stays : (g : History) (cycles : List TracedCycle) (k : ℕ) → k < length g → record_at (fold and_then g cycles) k ≡ record_at g k
+pub record_stays : (g : History) (cycles : List TracedCycle) (k : ℕ) → k < length g → record_at (fold and_then g cycles) k ≡ record_at g k
 record_stays g [] k lt = refl
 record_stays g (cycle ∷ cycles) k lt = record_stays (kept_of cycle ∷ g) cycles k (omega arith) ∙ record_after (kept_of cycle) g k lt
 

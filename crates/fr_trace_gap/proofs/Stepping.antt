@@ -2,12 +2,11 @@
 use Rattle.std.proofs.Common.{◌≡◌, ℕ, ◌+◌, ◌<◌, Option, Some, None, ap, ap₂, sym, ◌∙◌, add-one}
 use Rattle.std.specs.Option.{option_or}
 use Rattle.fr_cluster.specs.Values.{Values}
-use Rattle.fr_coverage.specs.Coverage.{checks_gap}
 use Rattle.fr_coverage.specs.First.{first_below, first_in}
 use Rattle.fr_coverage.specs.declared.gap.Gap.{Gap}
-use Rattle.fr_history.specs.Sync.{first_sync_of}
 use Rattle.fr_trace.specs.Trace.{TraceView}
-use Rattle.fr_verdict.specs.FirstGap.{changes_gap, count_gap, first_gap_of, lengths_gap, pairs_gap}
+use Rattle.fr_verdict.specs.FirstGap.{changes_gap, checks_gap, count_gap, first_gap_of, lengths_gap, pairs_gap}
+use Rattle.fr_verdict.specs.Sync.{first_synced_of}
 use Rattle.fr_coverage.proofs.First.{below-found, below-next, below-zero}
 
 pub below_none : {A : Type 0} (f : ℕ → Option A) → first_below f 0 ≡ None
@@ -20,12 +19,12 @@ pub below_hit : {A : Type 0} (f : ℕ → Option A) (n m : ℕ) (x : A) (o : Opt
 below_hit f n m x o none lt told is = sym (below-found f n m x none (sym told ∙ is) lt)
 
 pub last_of_gaps : (p : Values) (t : TraceView) (synced : Option ℕ) (o : Option Gap) → checks_gap p ≡ None → count_gap p t ≡ None → first_in (lengths_gap p t) p.nodes ≡ None
-    → first_in (changes_gap p t) p.nodes ≡ None → synced ≡ first_sync_of p t.history → o ≡ pairs_gap p t synced → o ≡ first_gap_of p t
+    → first_in (changes_gap p t) p.nodes ≡ None → synced ≡ first_synced_of p t → o ≡ pairs_gap p t synced → o ≡ first_gap_of p t
 unfolding first_gap_of
 last_of_gaps p t synced o checks count lengths changes same told =
-    let rest : option_or (first_in (changes_gap p t) p.nodes) (pairs_gap p t (first_sync_of p t.history)) ≡ pairs_gap p t (first_sync_of p t.history) =
-    ap (λ (a : Option Gap). option_or a (pairs_gap p t (first_sync_of p t.history))) changes in
-    let behind : option_or (first_in (lengths_gap p t) p.nodes) (option_or (first_in (changes_gap p t) p.nodes) (pairs_gap p t (first_sync_of p t.history))) ≡ pairs_gap p t (first_sync_of p t.history) =
-    ap (λ (a : Option Gap). option_or a (option_or (first_in (changes_gap p t) p.nodes) (pairs_gap p t (first_sync_of p t.history)))) lengths ∙ rest in
+    let rest : option_or (first_in (changes_gap p t) p.nodes) (pairs_gap p t (first_synced_of p t)) ≡ pairs_gap p t (first_synced_of p t) =
+    ap (λ (a : Option Gap). option_or a (pairs_gap p t (first_synced_of p t))) changes in
+    let behind : option_or (first_in (lengths_gap p t) p.nodes) (option_or (first_in (changes_gap p t) p.nodes) (pairs_gap p t (first_synced_of p t))) ≡ pairs_gap p t (first_synced_of p t) =
+    ap (λ (a : Option Gap). option_or a (option_or (first_in (changes_gap p t) p.nodes) (pairs_gap p t (first_synced_of p t)))) lengths ∙ rest in
     told ∙ ap (pairs_gap p t) same
-    ∙ sym (ap₂ (λ (a b : Option Gap). option_or a (option_or b (option_or (first_in (lengths_gap p t) p.nodes) (option_or (first_in (changes_gap p t) p.nodes) (pairs_gap p t (first_sync_of p t.history)))))) checks count ∙ behind)
+    ∙ sym (ap₂ (λ (a b : Option Gap). option_or a (option_or b (option_or (first_in (lengths_gap p t) p.nodes) (option_or (first_in (changes_gap p t) p.nodes) (pairs_gap p t (first_synced_of p t)))))) checks count ∙ behind)

@@ -1,34 +1,35 @@
-ghost use Rattle.std.specs.Prelude.{◌≡◌, ◌≤◌, ◌==◌, length, false, true, All, IfSome, find, option_and_then, is_some, None};
+ghost use Rattle.std.specs.Prelude.{◌≡◌, ◌≤◌, ◌==◌, length, ◌&&◌, false, true, All, IfSome, find, option_and_then, is_some, None};
 ghost use Rattle.std.specs.Option.{option_copied};
 ghost use Rattle.fr_base.specs.Rows.{AreAscendingDevs, channel_rank, dev_in, is_dev_of};
 ghost use Rattle.fr_base.specs.Timed.{IsTimed};
-ghost use Rattle.fr_coverage.specs.Coverage.{checks_gap, has_jumped, is_off, outweighs};
+ghost use Rattle.fr_coverage.specs.Coverage.{has_jumped, is_off, outweighs};
 ghost use Rattle.fr_coverage.specs.First.{first_below, first_in};
 ghost use Rattle.fr_coverage.specs.Links.{shares};
 ghost use Rattle.fr_history.specs.History.{row_of};
-ghost use Rattle.fr_history.specs.Sync.{first_sync_of};
 ghost use Rattle.fr_trace.specs.Cycles.{history_by};
-ghost use Rattle.fr_trace.specs.Trace.{is_named, row_at};
-ghost use Rattle.fr_verdict.specs.FirstGap.{change_by, change_gap, changes_gap, count_gap, first_gap_of, is_early, length_by, length_gap, lengths_gap, link_gap, links_gap, pairs_gap, weighed};
-ghost use Rattle.fr_verdict.specs.Gaps.{has_dev, is_heard, is_heard_on, is_pair};
-ghost use Rattle.fr_trace_gap.specs.Counted.{count_in, is_counted};
+ghost use Rattle.fr_trace.specs.Trace.{is_named, join_in, row_at};
+ghost use Rattle.fr_verdict.specs.FirstGap.{change_by, change_gap, changes_gap, checks_gap, count_gap, first_gap_of, length_by, length_gap, lengths_gap, link_gap, links_gap, pairs_gap, weighed};
+ghost use Rattle.fr_verdict.specs.Gaps.{has_dev, has_rows, is_heard, is_heard_on, is_lasting, is_pair};
+ghost use Rattle.fr_verdict.specs.Sync.{first_synced_of, is_early};
+ghost use Rattle.fr_trace_gap.specs.Counted.{count_in, is_counted, is_of_kind};
 ghost use Rattle.fr_trace_gap.specs.Doubles.{double_gap, pair_gap_in};
 ghost use Rattle.fr_trace_gap.specs.Sound.{AreOrdered, AreTimed};
 
-use crate::found::row_of;
+use crate::found::{is_named, row_of};
 use crate::ordered::first_place;
 use crate::searching::{Search, first_among};
 use fr_base::{Channel, Dev, NodeId, NodeRow, Slot};
 use fr_bound::{checks, side};
 use fr_cluster::{NodeList, NodeSpec, ParamName, Params};
 use fr_coverage::Gap;
-use fr_trace::{Trace, TracedCycle};
+use fr_trace::{Trace, TracedCycle, TracedJoin};
 
-/// The first gap of a trace with this first double cycle in sync, in the order of gaps: a check that fails, too few
-/// correct sync nodes, a length, a change, a link; None exactly where the trace is covered.
+/// The first gap of a trace with this first double cycle in sync, in the order of gaps: one of the first five checks
+/// that fails, too few correct sync nodes that do not join, a length, a change, a link; None exactly where the trace is
+/// covered.
 #[tactic(auto, unfolding(fr_verdict::specs::FirstGap::first_gap_of))]
 pub fn first_gap(params: &Params, trace: &Trace, synced: Option<u32>) -> Option<Gap>
-    requires { synced ≡ first_sync_of params.now trace.now.history }
+    requires { synced ≡ first_synced_of params.now trace.now }
     ensures { result ≡ first_gap_of params.now trace.now }
 {
     if let Some(gap) = failing_check(params) {
@@ -140,24 +141,44 @@ fn failing_check(params: &Params) -> Option<Gap>
     }
 }
 
-// Whether a trace names a node arbitrary.
-fn is_named(trace: &Trace, node: NodeId) -> bool
-    ensures { result ≡ is_named trace.now node }
+// Whether a node joins the running cluster.
+fn joins(trace: &Trace, node: NodeId) -> bool
+    ensures { result ≡ is_some (join_in trace.now node) }
+{
+    join_of(trace.joins(), node).is_some()
+}
+
+fn join_of(joins: &[TracedJoin], node: NodeId) -> Option<&TracedJoin>
+    ensures { option_copied result ≡ find (λ joining. joining.node == node) joins.now }
 {
     let wanted = node.0;
-    trace
-        .arbitrary_nodes()
-        .iter()
-        .any(|other| other.0 == wanted)
+    joins.iter().find(|joining| joining.node.0 == wanted)
+}
+
+// Whether a correct node takes part from the first cycle on.
+fn is_lasting(trace: &Trace, node: NodeId) -> bool
+    ensures { result ≡ is_lasting trace.now node }
+{
+    !is_named(trace, node) && !joins(trace, node)
+}
+
+fn is_of_kind(trace: &Trace, named: bool, node: NodeId) -> bool
+    ensures { result ≡ is_of_kind trace.now named node }
+{
+    if named {
+        is_named(trace, node)
+    } else {
+        is_lasting(trace, node)
+    }
 }
 
 fn is_counted(trace: &Trace, named: bool, node: &NodeSpec) -> bool
     ensures { result ≡ is_counted trace.now named node.now }
 {
-    node.key.is_some() && is_named(trace, node.id) == named
+    node.key.is_some() && is_of_kind(trace, named, node.id)
 }
 
-// How many nodes with a key slot are named arbitrary, or how many are not.
+// How many nodes with a key slot are named arbitrary, or how many correct ones do not join.
 fn count(nodes: &NodeList, trace: &Trace, named: bool) -> u32
     requires { length nodes.now ≤ 64 }
     ensures { result ≡ count_in trace.now named nodes.now }
@@ -187,7 +208,7 @@ fn outweighs(correct: u32, arbitrary: u32) -> bool
     }
 }
 
-// The gap where the correct nodes with a key slot do not outweigh the arbitrary ones.
+// The gap where the correct nodes with a key slot that do not join do not outweigh the arbitrary ones.
 fn outweighed(nodes: &NodeList, trace: &Trace) -> Option<Gap>
     requires { length nodes.now ≤ 64 }
     ensures { result ≡ weighed (count_in trace.now false nodes.now) (count_in trace.now true nodes.now) }
@@ -203,8 +224,8 @@ fn outweighed(nodes: &NodeList, trace: &Trace) -> Option<Gap>
 
 // ---- microticks
 
-// The cycles of a trace.
-fn timed_cycles(trace: &Trace) -> &[TracedCycle]
+/// The cycles of a trace, the earliest first, with the rows of each in their ranges.
+pub fn timed_cycles(trace: &Trace) -> &[TracedCycle]
     ensures history { history_by result.now ≡ trace.now.history }
     ensures timed { AreTimed result.now }
     ensures few { length result.now ≤ 200_000 }
@@ -467,6 +488,23 @@ fn is_pair(trace: &Trace, sender: &NodeSpec, receiver: &NodeSpec) -> bool
         && sender.id != receiver.id
 }
 
+// Whether a node has a row in both cycles of a double cycle.
+fn has_rows(cycles: &[TracedCycle], double: u32, node: &NodeSpec) -> bool
+    requires { AreTimed cycles.now }
+    ensures { result ≡ has_rows (history_by cycles.now) double node.now }
+{
+    let even = 2 * double as usize;
+    row_at(cycles, even, node.id).is_some() && row_at(cycles, even + 1, node.id).is_some()
+}
+
+// Whether both nodes of a link have.
+fn have_rows(trace: &Trace, double: u32, sender: &NodeSpec, receiver: &NodeSpec) -> bool
+    ensures { result ≡ (has_rows trace.now.history double sender.now && has_rows trace.now.history double receiver.now) }
+{
+    let cycles = timed_cycles(trace);
+    has_rows(cycles, double, sender) && has_rows(cycles, double, receiver)
+}
+
 // Whether a double cycle comes before the first one in sync.
 fn is_early(synced: Option<u32>, double: u32) -> bool
     ensures { result ≡ is_early synced double }
@@ -486,7 +524,10 @@ fn link_gap(
 ) -> Option<Gap>
     ensures { result ≡ link_gap trace.now synced sender.now receiver.now double }
 {
-    if is_early(synced, double) || is_heard(trace, sender, receiver, double) {
+    if is_early(synced, double)
+        || is_heard(trace, sender, receiver, double)
+        || !have_rows(trace, double, sender, receiver)
+    {
         None
     } else {
         Some(Gap::Link {

@@ -6,6 +6,6 @@ mod found;
 mod ordered;
 mod searching;
 
-pub use covering::first_gap;
-pub use found::row_of;
+pub use covering::{first_gap, timed_cycles};
+pub use found::{is_named, row_of};
 pub use ordered::devs_of;

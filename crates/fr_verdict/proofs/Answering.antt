@@ -7,34 +7,33 @@ use Rattle.fr_cluster.specs.Values.{Values, amount}
 use Rattle.fr_cluster.specs.declared.names.ParamName.TheVariants as name
 use Rattle.fr_coverage.specs.declared.gap.Gap.{Gap}
 use Rattle.fr_skew.specs.declared.peak.Peak.{Peak}
-use Rattle.fr_history.specs.History.{History}
 use Rattle.fr_history.specs.Skew.{greatest_skew_of}
-use Rattle.fr_history.specs.Sync.{first_sync_of}
 use Rattle.fr_history.proofs.Greatest.{greatest_is_found, greatest_is_one, greatest_is_there}
-use Rattle.fr_history.proofs.Synced.{first_sync_is, first_sync_is_one, never_in_sync}
 use Rattle.fr_trace.specs.Lasting.{IsTrace}
 use Rattle.fr_trace.specs.Trace.{TraceView}
 use Rattle.fr_verdict.specs.Answer.{IsAnswer, IsSyncedFrom, IsUncovered, IsVerdict, OneAnswer, SomeAnswer}
 use Rattle.fr_verdict.specs.Breach.{IsFirstBreach}
 use Rattle.fr_verdict.specs.FirstGap.{first_gap_of}
 use Rattle.fr_verdict.specs.Search.{first_breach_of}
+use Rattle.fr_verdict.specs.Sync.{first_synced_of}
 use Rattle.fr_verdict.specs.declared.unlawful.Unlawful.{Unlawful}
 use Rattle.fr_verdict.specs.declared.unlawful.Unlawful.TheVariants as unlawful
 use Rattle.fr_verdict.specs.declared.unlawful.Verdict.{Verdict}
 use Rattle.fr_verdict.proofs.Finding.{found_breach_is_first, none_found_is_lawful, one_first_breach}
 use Rattle.fr_verdict.proofs.Gaps.{found_gap_is_first, no_gap_found_is_covered}
 use Rattle.fr_verdict.proofs.OneGap.{one_first_gap}
+use Rattle.fr_verdict.proofs.Syncing.{first_synced_is, first_synced_is_one, never_synced}
 
 -- ---- one at most
 
 verdict_of : Option ℕ → ℤ → ℕ → ℤ → Verdict
 verdict_of synced skew cycle macrotick = record { synced = synced; skew = skew; cycle = cycle; macrotick = macrotick }
 
-one_sync : (p : Values) (h : History) (a b : Option ℕ) → IsSyncedFrom p h a → IsSyncedFrom p h b → a ≡ b
-one_sync p h None None v w = refl
-one_sync p h None (Some l) v w = absurd (v l w.in_sync)
-one_sync p h (Some k) None v w = absurd (w k v.in_sync)
-one_sync p h (Some k) (Some l) v w = ap (λ (n : ℕ). Some n) (first_sync_is_one p h k l v w)
+one_sync : (p : Values) (t : TraceView) (a b : Option ℕ) → IsSyncedFrom p t a → IsSyncedFrom p t b → a ≡ b
+one_sync p t None None v w = refl
+one_sync p t None (Some l) v w = absurd (v l w.synced)
+one_sync p t (Some k) None v w = absurd (w k v.synced)
+one_sync p t (Some k) (Some l) v w = ap (λ (n : ℕ). Some n) (first_synced_is_one p t k l v w)
 
 same_verdict : (a b : Option ℕ) (g f : ℤ) (n m : ℕ) (i j : ℤ) → a ≡ b → g ≡ f → n ≡ m → i ≡ j → verdict_of a g n i ≡ verdict_of b f m j
 same_verdict a b g f n m i j x y z u = cc
@@ -45,7 +44,7 @@ one_verdict p t v w a b =
     let skews = greatest_is_one p t.history v.skew w.skew v.cycle a.macrotick w.cycle b.macrotick a.skew b.skew in
     let macroticks : v.macrotick ≡ w.macrotick = a.is_macrotick ∙ ap pos skews.2 ∙ sym b.is_macrotick in
     let same : verdict_of v.synced v.skew v.cycle v.macrotick ≡ verdict_of w.synced w.skew w.cycle w.macrotick =
-    same_verdict v.synced w.synced v.skew w.skew v.cycle w.cycle v.macrotick w.macrotick (one_sync p t.history v.synced w.synced a.synced b.synced) skews.0 skews.1 macroticks in
+    same_verdict v.synced w.synced v.skew w.skew v.cycle w.cycle v.macrotick w.macrotick (one_sync p t v.synced w.synced a.synced b.synced) skews.0 skews.1 macroticks in
     same
 
 refused : (p : Values) (t : TraceView) (v : Verdict) (u : Unlawful) → IsVerdict p t v → IsFirstBreach p t u ⊎ IsUncovered p t u → ⊥
@@ -66,20 +65,20 @@ one_answer p t (Err u) (Err v) a b = ap (λ (x : Unlawful). Err x) (one_refusal 
 
 -- ---- what is found is an answer
 
-pub synced_from : (p : Values) (h : History) → IsSyncedFrom p h (first_sync_of p h)
-synced_from p h = by_found (first_sync_of p h) refl
+pub synced_from : (p : Values) (t : TraceView) → IsSyncedFrom p t (first_synced_of p t)
+synced_from p t = by_found (first_synced_of p t) refl
   where
-    by_found : (o : Option ℕ) → first_sync_of p h ≡ o → IsSyncedFrom p h o
-    by_found None e = never_in_sync p h e
-    by_found (Some k) e = first_sync_is p h k e
+    by_found : (o : Option ℕ) → first_synced_of p t ≡ o → IsSyncedFrom p t o
+    by_found None e = never_synced p t e
+    by_found (Some k) e = first_synced_is p t k e
 
 -- a verdict of what is gathered of the clocks
 pub found_verdict : (p : Values) (t : TraceView) (peak : Peak) → IsSane p → first_breach_of p t ≡ None → first_gap_of p t ≡ None → greatest_skew_of p t.history ≡ Some peak
-    → IsVerdict p t (record { synced = first_sync_of p t.history; skew = peak.skew; cycle = peak.cycle; macrotick = pos peak.macrotick })
+    → IsVerdict p t (record { synced = first_synced_of p t; skew = peak.skew; cycle = peak.cycle; macrotick = pos peak.macrotick })
 found_verdict p t peak sane no_breach no_gap greatest = record {
   lawful = none_found_is_lawful p t no_breach;
   covered = no_gap_found_is_covered p t sane no_gap;
-  synced = synced_from p t.history;
+  synced = synced_from p t;
   macrotick = peak.macrotick;
   is_macrotick = refl;
   skew = greatest_is_found p t.history peak greatest;
@@ -109,7 +108,7 @@ some_answer p t sane trace = by_breach (first_breach_of p t) refl
     by_peak : (o : Option Peak) → first_breach_of p t ≡ None → first_gap_of p t ≡ None → greatest_skew_of p t.history ≡ o → (a : Result Verdict Unlawful) × IsAnswer p t a
     by_peak None no_breach no_gap e = absurd (has_cycles p t macros trace e)
     by_peak (Some peak) no_breach no_gap e =
-        (Ok (record { synced = first_sync_of p t.history; skew = peak.skew; cycle = peak.cycle; macrotick = pos peak.macrotick }), found_verdict p t peak sane no_breach no_gap e)
+        (Ok (record { synced = first_synced_of p t; skew = peak.skew; cycle = peak.cycle; macrotick = pos peak.macrotick }), found_verdict p t peak sane no_breach no_gap e)
 
     by_gap : (o : Option Gap) → first_breach_of p t ≡ None → first_gap_of p t ≡ o → (a : Result Verdict Unlawful) × IsAnswer p t a
     by_gap (Some g) no_breach e = (Err (unlawful.Uncovered g), inr (found_uncovered p t g sane no_breach e))

@@ -1,52 +1,74 @@
--- The clocks of a trace that passes keep together.
-use Rattle.std.proofs.Common.{◌≡◌, ℕ, suc, ◌*◌, ◌<◌, ◌≤◌, ◌==◌, ℤ, pos, ◌-ℤ◌, ◌+ℤ◌, ◌≤ℤ◌, Bool, true, false, ◌&&◌, ◌||◌, List, [], ◌∷◌, ◌++◌, length, append_assoc, Option, Some, None, IsSome, refl, ap, ap₂, sym, ◌∙◌, subst, inl, inr, arith}
-use Rattle.std.specs.Prelude.{Contains, cond, find, filter, if◌then◌else◌, int_lt, nat_le, neg_ℤ, is_some, option_and_then}
-use Rattle.std.specs.Option.{option_map, option_map_or}
-use Rattle.std.proofs.lemmas.Bool.{and_parts, eqb-true, ne_eqb, or_cases, or_parts}
+-- The clocks of a trace that passes keep together, whoever joins.
+use Rattle.std.proofs.Common.{◌≡◌, ◌⊎◌, ℕ, zero, suc, ◌+◌, ◌*◌, ◌/◌, ◌-◌, ◌<◌, ◌≤◌, ◌==◌, Bool, true, false, not, ◌&&◌, ◌||◌, pos, Option, Some, None, IsSome, List, [], ◌∷◌, ◌++◌, All, length, map, append_assoc, refl, ap, ap₂, sym, ◌∙◌, subst, inl, inr, arith, if◌then◌else◌}
+use Rattle.std.specs.Prelude.{◌≤ℤ◌, Contains, count_by, is_some, nat_le}
+use Rattle.std.specs.Option.{option_map_or}
+use Rattle.std.proofs.lemmas.Bool.{and_parts, eqb-true, or_cases}
 use Rattle.std.proofs.lemmas.Int.{ints}
-use Rattle.fr_base.specs.Rows.{channel_rank, dev_in, is_dev_of}
+use Rattle.std.proofs.lemmas.List.Kept.{AllPairs-filter}
+use Rattle.fr_base.specs.Counts.{no_counts}
 use Rattle.fr_base.specs.Within.{IsWithin}
-use Rattle.fr_base.specs.declared.channel.Channel.{Channel}
-use Rattle.fr_base.specs.declared.channel.Channel.TheVariants as channel
-use Rattle.fr_base.specs.declared.dev.Dev.{Dev}
 use Rattle.fr_base.specs.declared.node_row.NodeRow.{NodeRow}
-use Rattle.fr_bound.specs.Bounds.{longest_micro, shortest_micro}
+use Rattle.fr_base.specs.declared.state.Outcome.{Outcome}
+use Rattle.fr_base.specs.declared.state.Outcome.TheVariants.{Within}
+use Rattle.fr_base.specs.declared.state.State.TheVariants.{Active}
+use Rattle.fr_bound.specs.Bounds.{precision_of}
 use Rattle.fr_bound.specs.Checks.{holds_of, left_of, right_of}
+use Rattle.fr_bound.specs.Sync.{IsInSync}
 use Rattle.fr_cluster.specs.Sane.{IsSane}
-use Rattle.fr_cluster.specs.Searches.{key_node_in}
+use Rattle.fr_cluster.specs.Setting.{Setting, is_correct}
 use Rattle.fr_cluster.specs.Values.{Values, amount}
 use Rattle.fr_cluster.specs.declared.names.ParamName.TheVariants as name
 use Rattle.fr_cluster.specs.declared.nodes.NodeSpec.{NodeSpec}
-use Rattle.fr_cluster.proofs.KeyNodes.{Contains-cons_cases, found_key}
-use Rattle.fr_clocks.specs.Clocks.{ClocksAreCovered, row_for}
-use Rattle.fr_clocks.specs.Heard.{DevsAreBounded, LinksAreThere}
-use Rattle.fr_clocks.specs.Histories.{KeepsClocks, TraceIsHeard}
-use Rattle.fr_clocks.proofs.Histories.{traces_keep_precision}
-use Rattle.fr_clocks.proofs.Rows.{each_row, has_row}
-use Rattle.fr_coverage.specs.Coverage.{has_jumped, is_off, outweighs}
-use Rattle.fr_coverage.specs.Links.{shares}
+use Rattle.fr_clocks.specs.Clocks.{row_for}
+use Rattle.fr_clocks.proofs.Doubles.{even_length, odd_is_corrected, odd_length, status_even}
+use Rattle.fr_clocks.proofs.Histories.{Part, each_record}
+use Rattle.fr_clocks.proofs.Receivers.{no_less, same_mapped}
+use Rattle.fr_clocks.proofs.Rows.{Ascend, HasRow, all_rows, contains_map, each_row, has_row as row_there, map_contains, rows_are}
+use Rattle.fr_clocks.proofs.Spread.{RowsLie, macrotick_within, spread_within}
+use Rattle.fr_correct.specs.declared.term.Term.{Term}
+use Rattle.fr_coverage.specs.Coverage.{outweighs}
 use Rattle.fr_coverage.specs.declared.gap.Gap.TheVariants as gap
-use Rattle.fr_history.specs.History.{History, Record, record_at, row_of}
-use Rattle.fr_history.specs.Sync.{IsFirstInSync}
-use Rattle.fr_history.proofs.Synced.{record_at-lt, record_at-some, record_of_cut, cut_of_record}
+use Rattle.fr_gathered.specs.Hearers.{FollowsIn, Hearers, IsOneOf, IsRoundSynced, IsSupplied, group_of, member_from}
+use Rattle.fr_gathered.proofs.Rounds.{rounds_are_kept_lem}
+use Rattle.fr_history.specs.History.{AreRowsOf, History, Record, record_at, row_of}
+use Rattle.fr_history.specs.Sync.{IsInSyncAt, is_sync_at}
+use Rattle.fr_history.specs.Terms.{offset_term_in, rate_term_in, status_in}
+use Rattle.fr_history.proofs.Lists.{map-map}
+use Rattle.fr_history.proofs.Synced.{record_at-lt, record_at-some}
+use Rattle.fr_joining.specs.Group.{IsGroupKept, WillHaveRow}
 use Rattle.fr_midpoint.specs.Receivers.{AreFew}
-use Rattle.fr_round.specs.Round.{sync_count}
-use Rattle.fr_round.proofs.Lists.{Contains-here, Contains-none, Contains-there, found}
-use Rattle.fr_time.specs.Cycles.{is_odd}
-use Rattle.fr_trace.specs.Fits.{FitsRecord, TraceFits, unnamed_nodes}
-use Rattle.fr_trace.specs.Items.Item.{Heard}
-use Rattle.fr_trace.specs.Lasting.{IsTrace}
-use Rattle.fr_trace.specs.Trace.{TraceView, is_named, row_at, rows_at}
+use Rattle.fr_precision.specs.Instants.{gap_of}
+use Rattle.fr_precision.specs.Step.{IsFollowed, Member}
+use Rattle.fr_precision.proofs.OffsetLaws.{third_check_suffices}
+use Rattle.fr_round.specs.Round.{Hearer, senders_of, sync_count}
+use Rattle.fr_round.proofs.Counting.{count_cons, one_if}
+use Rattle.fr_round.proofs.Lists.{Contains-here, Contains-none, Contains-there, kept_filtered}
+use Rattle.fr_skew.specs.Spreads.{spread_at}
+use Rattle.fr_time.specs.Cycles.{odd_cycle}
+use Rattle.fr_time.specs.Position.{grid_for}
+use Rattle.fr_trace.specs.Items.Item.{Clock}
+use Rattle.fr_trace.specs.Trace.{TraceView, is_named, join_in}
 use Rattle.fr_verdict.specs.Answer.{IsSyncedFrom}
-use Rattle.fr_verdict.specs.Breach.{IsLawfulTrace, high_of, low_of, sender_row}
-use Rattle.fr_verdict.specs.Gaps.{IsCoveredTrace, has_dev, is_heard, is_heard_on, is_pair, is_unnamed}
-use Rattle.fr_verdict.specs.Precision.{CheckedTracesKeepPrecision, traced}
-use Rattle.fr_verdict.specs.Search.{breach_by, outside_by}
+use Rattle.fr_verdict.specs.Breach.{is_first_row}
+use Rattle.fr_verdict.specs.Gaps.{IsCoveredTrace, is_lasting, is_unnamed}
+use Rattle.fr_verdict.specs.Precision.{AreTermsWithin, CheckedTracesKeepPrecision, KeepsRecordedClocks}
+use Rattle.fr_verdict.specs.Search.{breach_by, is_apart, whenever}
+use Rattle.fr_verdict.specs.Sync.{IsFirstSynced, first_synced_of, is_early}
 use Rattle.fr_verdict.specs.declared.unlawful.Unlawful.TheVariants as unlawful
-use Rattle.fr_verdict.proofs.Items.{Unbroken, dev_there, unbroken}
-use Rattle.fr_verdict.proofs.Lawful.{lawful_traces_run, record_part}
+use Rattle.fr_verdict.proofs.Heard.{heard_in, hearer_in, round_in, sends_in}
+use Rattle.fr_verdict.proofs.Items.{Unbroken, row_there as row_item, unbroken}
+use Rattle.fr_verdict.proofs.Recorded.{IsDouble, Passes, Rows, even_at, even_parted, node_two, odd_at, rate_follows, rate_term_is, regular_in, rows_in, start_follows, state_is, stays_active, steady, window}
+use Rattle.fr_verdict.proofs.Standing.{AreTwo, Comes, comes_or_stays, has_row, lasting_has, nodes_in, nodes_stay}
+use Rattle.fr_verdict.proofs.Syncing.{early_not, is_in_sync_at}
 
--- ---- tests
+-- ---- what coverage says of the cluster
+
+check_holds : (p : Values) (t : TraceView) (number : ℕ) → IsCoveredTrace p t → 1 ≤ number → number ≤ 5 → holds_of number p ≡ true
+check_holds p t number covered from to = by_test (holds_of number p) refl
+  where
+    by_test : (b : Bool) → holds_of number p ≡ b → b ≡ true
+    by_test true holds = refl
+    by_test false fails = absurd (covered (gap.Check number (pos (left_of number p)) (pos (right_of number p))) (inl (record { number = number; from = from; to = to; fails = fails; told = refl })))
 
 nat_le-true : (a b : ℕ) → nat_le a b ≡ true → a ≤ b
 nat_le-true a b le = grind arith
@@ -64,283 +86,487 @@ few_if correct arbitrary is = elim (or_cases (((arbitrary == 0) && nat_le 1 corr
       let parts : ((arbitrary == count) ≡ true) × (nat_le least correct ≡ true) = and_parts (arbitrary == count) (nat_le least correct) is in
       (eqb-true arbitrary count parts.0, nat_le-true least correct parts.1)
 
-no_less : (a b : ℤ) → int_lt a b ≡ false → b ≤ℤ a
-no_less a b told = grind (arith, ints)
-
-not_off : (p : Values) (ticks : ℤ) → is_off p ticks ≡ false → (pos (shortest_micro p) ≤ℤ ticks) × (ticks ≤ℤ pos (longest_micro p))
-not_off p ticks is =
-    let parts : (int_lt ticks (pos (shortest_micro p)) ≡ false) × (int_lt (pos (longest_micro p)) ticks ≡ false) = or_parts (int_lt ticks (pos (shortest_micro p))) (int_lt (pos (longest_micro p)) ticks) is in
-    (no_less ticks (pos (shortest_micro p)) parts.0, no_less (pos (longest_micro p)) ticks parts.1)
-
-near : (bound one other : ℤ) → (int_lt (one +ℤ bound) other || int_lt (other +ℤ bound) one) ≡ false → IsWithin bound (other -ℤ one)
-near bound one other is =
-    let parts : (int_lt (one +ℤ bound) other ≡ false) × (int_lt (other +ℤ bound) one ≡ false) = or_parts (int_lt (one +ℤ bound) other) (int_lt (other +ℤ bound) one) is in
-    record { low = low_is (no_less (other +ℤ bound) one parts.1); high = high_is (no_less (one +ℤ bound) other parts.0) }
+few_nodes : (p : Values) (t : TraceView) → IsCoveredTrace p t → AreFew (sync_count p (is_lasting t)) (sync_count p (is_named t))
+few_nodes p t covered = few_if (sync_count p (is_lasting t)) (sync_count p (is_named t)) (by_test (outweighs (sync_count p (is_lasting t)) (sync_count p (is_named t))) refl)
   where
-    low_is : one ≤ℤ (other +ℤ bound) → neg_ℤ bound ≤ℤ (other -ℤ one)
-    low_is le = omega (arith, ints)
+    by_test : (b : Bool) → outweighs (sync_count p (is_lasting t)) (sync_count p (is_named t)) ≡ b → b ≡ true
+    by_test true holds = refl
+    by_test false fails = absurd (covered (gap.Count (sync_count p (is_lasting t)) (sync_count p (is_named t))) (inr (inl (record { few = fails; told = refl }))))
 
-    high_is : other ≤ℤ (one +ℤ bound) → (other -ℤ one) ≤ℤ bound
-    high_is le = omega (arith, ints)
+more_are_few : (correct more arbitrary : ℕ) → correct ≤ more → AreFew correct arbitrary → AreFew more arbitrary
+more_are_few correct more arbitrary le (inl none) = inl (none.0, omega (arith, le, none.1))
+more_are_few correct more arbitrary le (inr (inl one)) = inr (inl (one.0, omega (arith, le, one.1)))
+more_are_few correct more arbitrary le (inr (inr two)) = inr (inr (two.0, omega (arith, le, two.1)))
 
--- ---- correct nodes
-
-of_filter : {X : Type 0} (test : X → Bool) (xs : List X) (x : X) → Contains (filter test xs) x → Contains xs x × (test x ≡ true)
-of_filter test [] x among = absurd (Contains-none x among)
-of_filter test (y ∷ xs) x among = by_test (test y) refl among (λ rest. of_filter test xs x rest)
+-- where of the nodes of a list each that passes one test passes another, no fewer pass that
+count_along : (f g : NodeSpec → Bool) (nodes : List NodeSpec) → ((node : NodeSpec) → Contains nodes node → f node ≡ true → g node ≡ true) → count_by f nodes ≤ count_by g nodes
+count_along f g [] implies = omega arith
+count_along f g (node ∷ nodes) implies =
+    let rest : count_by f nodes ≤ count_by g nodes = count_along f g nodes (λ other among. implies other (Contains-there node nodes other among)) in
+    let one : one_if (f node) ≤ one_if (g node) = at_most (f node) (g node) (implies node (Contains-here node nodes)) in
+    let a = count_cons f node nodes in
+    let b = count_cons g node nodes in
+    omega (arith, rest, one, a, b)
   where
-    by_test : (b : Bool) → test y ≡ b → Contains (cond b (y ∷ filter test xs) (filter test xs)) x → (Contains (filter test xs) x → Contains xs x × (test x ≡ true)) → Contains (y ∷ xs) x × (test x ≡ true)
-    by_test true e among rest = elim (Contains-cons_cases y (filter test xs) x among) [
-      | inl same ↦ (subst (Contains (y ∷ xs)) same (Contains-here y xs), ap test (sym same) ∙ e)
-      | inr more ↦ let w : Contains xs x × (test x ≡ true) = rest more in (Contains-there y xs x w.0, w.1)
+    at_most : (a b : Bool) → (a ≡ true → b ≡ true) → one_if a ≤ one_if b
+    at_most true b implies = let e : one_if b ≡ 1 = ap one_if (implies refl) in omega (arith, e)
+    at_most false b implies = omega arith
+
+-- the nodes that do not join outweigh the arbitrary ones, so those with rows do
+few_rows : (p : Values) (t : TraceView) (h : History) (even odd : Record) (k : ℕ) → Passes p t → IsDouble t h even odd k → AreFew (sync_count p (is_correct (window p t even))) (sync_count p (is_named t))
+few_rows p t h even odd k w d =
+    more_are_few (sync_count p (is_lasting t)) (sync_count p (is_correct (window p t even))) (sync_count p (is_named t))
+    (count_along (λ node. is_some node.key && is_lasting t node.id) (λ node. is_some node.key && is_correct (window p t even) node.id) p.nodes (λ node there is. counts node there is)) (few_nodes p t w.covered)
+  where
+    by_not : (b : Bool) → not b ≡ true → b ≡ false
+    by_not true e = cc e
+    by_not false e = refl
+
+    counts : (node : NodeSpec) → Contains p.nodes node → (is_some node.key && is_lasting t node.id) ≡ true → (is_some node.key && is_correct (window p t even) node.id) ≡ true
+    counts node there is =
+        let parts : (is_some node.key ≡ true) × (is_lasting t node.id ≡ true) = and_parts (is_some node.key) (is_lasting t node.id) is in
+        let lasts : (is_unnamed t node.id ≡ true) × (not (is_some (join_in t node.id)) ≡ true) = and_parts (is_unnamed t node.id) (not (is_some (join_in t node.id))) parts.1 in
+        let has : has_row even node.id ≡ true =
+        lasting_has p t h even node (rows_in p t h even odd k w d).two.early there (by_not (is_named t node.id) lasts.0) (by_not (is_some (join_in t node.id)) lasts.1) in
+        rw (parts.0, has) refl
+
+-- ---- the round of a double cycle in sync is kept
+
+-- a double cycle in sync of a trace that passes, from its first one on
+pub record IsSynced (p : Values) (t : TraceView) (h : History) (even odd : Record) (double k : ℕ) : Type 0 where
+  pub passes : Passes p t
+  pub first : IsFirstSynced p t double
+  pub is_double : IsDouble t h even odd k
+  pub from : double ≤ k
+  pub in_sync : IsInSync p even.rows odd.rows
+
+ascend_in : (p : Values) (r : Record) → IsSane p → Ascend (nodes_in p r)
+ascend_in p r sane = AllPairs-filter (λ (a : NodeSpec) (b : NodeSpec). a.id < b.id) (λ (n : NodeSpec). has_row r n.id) p.nodes sane.lists.nodes_ascend
+
+hearers : Values → TraceView → Record → Record → Hearers
+hearers p t even odd = record { rows = map (hearer_in p t even odd) (nodes_in p even); seconds = []; firsts = [] }
+
+odd_active : (p : Values) (t : TraceView) (h : History) (even odd : Record) (double k : ℕ) (node : NodeSpec) → IsSynced p t h even odd double k → Contains (nodes_in p even) node
+    → (row_for odd.rows node.id).state ≡ Active
+odd_active p t h even odd double k node s among =
+    let rows = rows_in p t h even odd k s.passes s.is_double in
+    each_row (nodes_in p even) odd.rows (λ row. row.state ≡ Active) node rows.odd_rows among s.in_sync.active_odd
+
+supplied : (p : Values) (t : TraceView) (h : History) (even odd : Record) (double k : ℕ) (node : NodeSpec) → IsSynced p t h even odd double k → Contains (nodes_in p even) node
+    → IsSupplied (round_in p t even odd) (hearer_in p t even odd node)
+supplied p t h even odd double k node s among =
+    let w = s.passes in
+    let d = s.is_double in
+    let two = node_two p t h even odd k node w d among in
+    let is = (rows_in p t h even odd k w d).odd_is node among in
+    let row = row_for odd.rows node.id in
+    record {
+      regular = regular_in p t h even odd node two;
+      applied =
+          is.offset
+          ∙ ap (λ b. if b then (offset_term_in p (even ∷ h) odd.devs row.node).value else pos 0) (odd_is_corrected (even ∷ h) row (odd_length (length h) k d.counted) (odd_active p t h even odd double k node s among))
+          ∙ ap (λ n. (offset_term_in p (even ∷ h) odd.devs n).value) two.has_odd.number;
+      hears = heard_in p t h even odd double k node w s.first d s.from among;
+    }
+
+rows_in_sync : (p : Values) (t : TraceView) (h : History) (even odd : Record) (double k : ℕ) → IsSynced p t h even odd double k
+    → IsInSync p (map (λ (n : Hearer). n.even) (hearers p t even odd).rows) (map (λ (n : Hearer). n.odd) (hearers p t even odd).rows)
+unfolding hearers
+rows_in_sync p t h even odd double k s =
+    let nodes = nodes_in p even in
+    let at : NodeSpec → Hearer = hearer_in p t even odd in
+    let rows = rows_in p t h even odd k s.passes s.is_double in
+    let ascend = ascend_in p even s.passes.sane in
+    let evens = map-map (λ (n : Hearer). n.even) at nodes ∙ rows_are nodes even.rows ascend rows.even_rows in
+    let odds = map-map (λ (n : Hearer). n.odd) at nodes ∙ rows_are nodes odd.rows ascend rows.odd_rows in
+    let Even : List NodeRow → Type 0 = λ rows. IsInSync p rows odd.rows in
+    let Odd : List NodeRow → Type 0 = λ rows. IsInSync p (map (λ (n : Hearer). n.even) (map at nodes)) rows in
+    subst Odd (sym odds) (subst Even (sym evens) s.in_sync)
+
+round_synced : (p : Values) (t : TraceView) (h : History) (even odd : Record) (double k : ℕ) → IsSynced p t h even odd double k
+    → IsRoundSynced (round_in p t even odd) (hearers p t even odd) (pos (precision_of p))
+unfolding hearers
+round_synced p t h even odd double k s = record {
+  round = record {
+    sane = w.sane;
+    few = few_rows p t h even odd k w d;
+    regular = λ node there has. regular_in p t h even odd node (node_two p t h even odd k node w d (sends_in p t even node there has));
+  };
+  first = check_holds p t 1 w.covered (omega arith) (omega arith);
+  second = check_holds p t 2 w.covered (omega arith) (omega arith);
+  limit = third_check_suffices p (check_holds p t 3 w.covered (omega arith) (omega arith));
+  fits = same_number (precision_of p);
+  fits_followers = λ n follows. absurd (no_follower n follows);
+  supplied = λ n is. each n is;
+  among =
+      λ node slot sender.
+      (at node, contains_map at (nodes_in p even) node (sends_in p t even node sender.there sender.rows), refl, refl);
+  in_sync = rows_in_sync p t h even odd double k s;
+  seconds_near = λ n among. absurd (Contains-none n among);
+  firsts_near = λ n among. absurd (Contains-none n among);
+}
+  where
+    w : Passes p t
+    w = s.passes
+
+    d : IsDouble t h even odd k
+    d = s.is_double
+
+    at : NodeSpec → Hearer
+    at = hearer_in p t even odd
+
+    same_number : (n : ℕ) → pos n ≤ℤ pos n
+    same_number n = omega (arith, ints)
+
+    no_follower : (n : Hearer) → FollowsIn (record { rows = map (hearer_in p t even odd) (nodes_in p even); seconds = []; firsts = [] }) n → ⊥
+    no_follower n (inl among) = Contains-none n among
+    no_follower n (inr among) = Contains-none n among
+
+    each : (n : Hearer) → IsOneOf (record { rows = map (hearer_in p t even odd) (nodes_in p even); seconds = []; firsts = [] }) n → IsSupplied (round_in p t even odd) n
+    each n (inl (inl among)) =
+        let found = map_contains (hearer_in p t even odd) (nodes_in p even) n among in
+        subst (IsSupplied (round_in p t even odd)) found.2 (supplied p t h even odd double k found.0 s found.1)
+    each n (inl (inr among)) = absurd (Contains-none n among)
+    each n (inr among) = absurd (Contains-none n among)
+
+kept : (p : Values) (t : TraceView) (h : History) (even odd : Record) (double k : ℕ) → IsSynced p t h even odd double k
+    → IsGroupKept p (senders_of (round_in p t even odd)) (group_of p (hearers p t even odd)) (pos (precision_of p))
+kept p t h even odd double k s = rounds_are_kept_lem (round_in p t even odd) (hearers p t even odd) (pos (precision_of p)) (round_synced p t h even odd double k s)
+
+member_in : Values → TraceView → Record → Record → NodeSpec → Member
+member_in p t even odd node = member_from p (hearer_in p t even odd node)
+
+is_member : (p : Values) (t : TraceView) (even odd : Record) (node : NodeSpec) → Contains (nodes_in p even) node → Contains (group_of p (hearers p t even odd)).rows (member_in p t even odd node)
+unfolding hearers member_in
+is_member p t even odd node among =
+    contains_map (member_from p) (map (hearer_in p t even odd) (nodes_in p even)) (hearer_in p t even odd node) (contains_map (hearer_in p t even odd) (nodes_in p even) node among)
+
+-- ---- what it comes to at a node
+
+offset_within : (p : Values) (t : TraceView) (h : History) (even odd : Record) (double k : ℕ) (node : NodeSpec) → IsSynced p t h even odd double k → Contains (nodes_in p even) node
+    → (offset_term_in p (even ∷ h) odd.devs (row_for odd.rows node.id).node).outcome ≡ Within
+unfolding member_in
+offset_within p t h even odd double k node s among =
+    let two = node_two p t h even odd k node s.passes s.is_double among in
+    ap (λ n. (offset_term_in p (even ∷ h) odd.devs n).outcome) two.has_odd.number
+    ∙ (kept p t h even odd double k s).uncut (member_in p t even odd node) (inl (inl (is_member p t even odd node among)))
+
+rate_is : (p : Values) (t : TraceView) (h : History) (even odd : Record) (double k : ℕ) (node : NodeSpec) → IsSynced p t h even odd double k → Contains (nodes_in p even) node
+    → rate_term_in p (even ∷ h) odd.devs (row_for odd.rows node.id) ≡ (member_in p t even odd node).rate_term
+unfolding member_in
+rate_is p t h even odd double k node s among =
+    let two = node_two p t h even odd k node s.passes s.is_double among in
+    rate_term_is p (even ∷ h) odd node.id two.has_odd
+
+rate_within : (p : Values) (t : TraceView) (h : History) (even odd : Record) (double k : ℕ) (node : NodeSpec) → IsSynced p t h even odd double k → Contains (nodes_in p even) node
+    → (rate_term_in p (even ∷ h) odd.devs (row_for odd.rows node.id)).outcome ≡ Within
+rate_within p t h even odd double k node s among =
+    ap (λ (term : Term). term.outcome) (rate_is p t h even odd double k node s among)
+    ∙ ((kept p t h even odd double k s).range (member_in p t even odd node) (inl (inl (is_member p t even odd node among)))).uncut
+
+active_behind : (p : Values) (t : TraceView) (h : History) (even odd : Record) (double k : ℕ) (node : NodeSpec) → IsSynced p t h even odd double k → Contains (nodes_in p even) node
+    → (status_in p (odd ∷ even ∷ h) node.id).state ≡ Active
+active_behind p t h even odd double k node s among =
+    let w = s.passes in
+    let d = s.is_double in
+    let rows = rows_in p t h even odd k w d in
+    let two = node_two p t h even odd k node w d among in
+    let before : (status_in p h node.id).state ≡ Active =
+    sym (state_is p h even node.id two.has_even (rows.even_is node among)) ∙ each_row (nodes_in p even) even.rows (λ row. row.state ≡ Active) node rows.even_rows among s.in_sync.active_even in
+    stays_active p t h even odd k node.id (row_for odd.rows node.id) d.counted two.has_odd.is before
+    (ap₂ (λ (a b : Outcome). (a, b)) (offset_within p t h even odd double k node s among) (rate_within p t h even odd double k node s among))
+
+-- ---- how far apart its clocks lie
+
+rows_lie : (p : Values) (t : TraceView) (h : History) (even odd : Record) (double k macrotick : ℕ) → IsSynced p t h even odd double k → macrotick < amount p name.gMacroPerCycle
+    → RowsLie p false (pos (precision_of p)) even.rows macrotick × RowsLie p true (pos (precision_of p)) odd.rows macrotick
+unfolding member_in
+rows_lie p t h even odd double k macrotick s less =
+    let bound = pos (precision_of p) in
+    let m = pos macrotick in
+    let nodes : List NodeSpec = nodes_in p even in
+    let rows = rows_in p t h even odd k s.passes s.is_double in
+    let ascend = ascend_in p even s.passes.sane in
+    let to = macrotick_within p macrotick s.passes.sane less in
+    let whole = kept p t h even odd double k s in
+    let member = λ (node : NodeSpec) (here : Contains nodes node). is_member p t even odd node here in (
+      all_rows nodes even.rows (λ one. All (λ other. IsWithin bound (gap_of p false m one other)) even.rows) ascend rows.even_rows
+          (λ one here.
+          all_rows nodes even.rows (λ other. IsWithin bound (gap_of p false m (row_for even.rows one.id) other)) ascend rows.even_rows
+          (λ other there. whole.precise (member_in p t even odd one) (member_in p t even odd other) m false (member one here) (member other there) (no_less macrotick) to)),
+      all_rows nodes odd.rows (λ one. All (λ other. IsWithin bound (gap_of p true m one other)) odd.rows) ascend rows.odd_rows
+          (λ one here.
+          all_rows nodes odd.rows (λ other. IsWithin bound (gap_of p true m (row_for odd.rows one.id) other)) ascend rows.odd_rows
+          (λ other there. whole.precise (member_in p t even odd one) (member_in p t even odd other) m true (member one here) (member other there) (no_less macrotick) to)),
+    )
+
+-- ---- the next double cycle, where no node comes
+
+-- a double cycle in sync, and the next one
+record IsStep (p : Values) (t : TraceView) (h : History) (even odd even2 odd2 : Record) (double k : ℕ) : Type 0 where
+  synced : IsSynced p t h even odd double k
+  next : IsDouble t (odd ∷ even ∷ h) even2 odd2 (suc k)
+
+followed : (p : Values) (t : TraceView) (h : History) (even odd even2 odd2 : Record) (double k : ℕ) (node : NodeSpec) → IsStep p t h even odd even2 odd2 double k
+    → Contains (nodes_in p even) node → Contains (nodes_in p even2) node → IsFollowed p (member_in p t even odd node) (row_for even2.rows node.id) (row_for odd2.rows node.id)
+unfolding member_in
+followed p t h even odd even2 odd2 double k node step among among2 =
+    let s = step.synced in
+    let w = s.passes in
+    let after = odd ∷ even ∷ h in
+    let one = node_two p t h even odd k node w s.is_double among in
+    let two = node_two p t after even2 odd2 (suc k) node w step.next among2 in
+    let rows = rows_in p t after even2 odd2 (suc k) w step.next in
+    let row = row_for odd.rows node.id in
+    let corrected = odd_is_corrected (even ∷ h) row (odd_length (length h) k s.is_double.counted) (odd_active p t h even odd double k node s among) in
+    let rate =
+    rate_follows p (even ∷ h) odd even2 node.id true one.has_odd two.has_even (rows.even_is node among2) corrected
+    ∙ ap (λ (term : Term). term.value) (rate_is p t h even odd double k node s among) in
+    let count : 2 * suc k ≡ suc (suc (2 * k)) = omega arith in
+    let next_at : record_at t.history (suc (suc (2 * k))) ≡ Some even2 = ap (record_at t.history) (sym count) ∙ even_at t after even2 odd2 (suc k) step.next in
+    let active = active_behind p t h even odd double k node s among in
+    record {
+      start = start_follows p (even ∷ h) odd even2 node.id one.has_odd two.has_even (rows.even_is node among2);
+      next = record {
+        even_rate = rate;
+        odd_rate = two.double.same_rate ∙ rate;
+        even_micro = two.even_micro;
+        odd_micro = two.odd_micro;
+        even_steady = steady p t node (suc (2 * k)) odd even2 w.covered one.there (odd_at t h even odd k s.is_double) next_at one.has_odd two.has_even;
+        odd_steady = two.steady;
+      };
+      active_even = state_is p after even2 node.id two.has_even (rows.even_is node among2) ∙ active;
+      active_odd =
+          state_is p (even2 ∷ after) odd2 node.id two.has_odd (rows.odd_is node among2)
+          ∙ status_even (window p t even) after even2 node.id (even_length (length after) (suc k) step.next.counted) ∙ active;
+    }
+
+-- the row of a member in a later record
+next_row : Record → Member → NodeRow
+next_row r member = row_for r.rows member.even.node
+
+next_row_is : (p : Values) (t : TraceView) (h : History) (even odd r : Record) (k : ℕ) (node : NodeSpec) → Passes p t → IsDouble t h even odd k → Contains (nodes_in p even) node
+    → next_row r (member_in p t even odd node) ≡ row_for r.rows node.id
+unfolding next_row member_in
+next_row_is p t h even odd r k node w d among = ap (row_for r.rows) (node_two p t h even odd k node w d among).has_even.number
+
+next_where_all_stay : (p : Values) (t : TraceView) (h : History) (even odd even2 odd2 : Record) (double k : ℕ) → IsStep p t h even odd even2 odd2 double k → nodes_in p even2 ≡ nodes_in p even
+    → IsInSync p even2.rows odd2.rows
+next_where_all_stay p t h even odd even2 odd2 double k step stay =
+    let s = step.synced in
+    let w = s.passes in
+    let d = s.is_double in
+    let nodes : List NodeSpec = nodes_in p even in
+    let at : NodeSpec → Member = member_in p t even odd in
+    let group = group_of p (hearers p t even odd) in
+    let members = map at nodes in
+    let Goes : Member → Type 0 = λ member. WillHaveRow group member × IsFollowed p member (next_row even2 member) (next_row odd2 member) in
+    let each = λ (member : Member) (among : Contains members member).
+    (
+    let found = map_contains at nodes member among in
+    let node = found.0 in
+    let Among : List NodeSpec → Type 0 = λ specs. Contains specs node in
+    let is = followed p t h even odd even2 odd2 double k node step found.1 (subst Among (sym stay) found.1) in
+    let Even : NodeRow → Type 0 = λ row. IsFollowed p (at node) row (row_for odd2.rows node.id) in
+    let Odd : NodeRow → Type 0 = λ row. IsFollowed p (at node) (next_row even2 (at node)) row in
+    let by_even : Even (next_row even2 (at node)) = subst Even (sym (next_row_is p t h even odd even2 k node w d found.1)) is in
+    let by_odd : Odd (next_row odd2 (at node)) = subst Odd (sym (next_row_is p t h even odd odd2 k node w d found.1)) by_even in
+    let own : Goes (at node) = (inl (is_member p t even odd node found.1), by_odd) in
+    subst Goes found.2 own
+    ) in
+    let own_rows = λ (r : Record).
+    map-map (next_row r) at nodes
+    ∙ same_mapped (λ (node : NodeSpec). next_row r (at node)) (λ (node : NodeSpec). row_for r.rows node.id) nodes (λ node among. next_row_is p t h even odd r k node w d among) in
+    let ascend = ascend_in p even w.sane in
+    let rows = rows_in p t (odd ∷ even ∷ h) even2 odd2 (suc k) w step.next in
+    let Are : List NodeRow → List NodeSpec → Type 0 = λ rs specs. AreRowsOf specs rs in
+    let evens : map (next_row even2) members ≡ even2.rows = own_rows even2 ∙ rows_are nodes even2.rows ascend (subst (Are even2.rows) stay rows.even_rows) in
+    let odds : map (next_row odd2) members ≡ odd2.rows = own_rows odd2 ∙ rows_are nodes odd2.rows ascend (subst (Are odd2.rows) stay rows.odd_rows) in
+    let Even : List NodeRow → Type 0 = λ rs. IsInSync p rs (map (next_row odd2) members) in
+    let Odd : List NodeRow → Type 0 = λ rs. IsInSync p even2.rows rs in
+    subst Odd odds (subst Even evens ((kept p t h even odd double k s).next_rows members (next_row even2) (next_row odd2) each))
+
+-- ---- and where one comes
+
+-- the records of a double cycle that is in sync
+at_double : (p : Values) (t : TraceView) (h : History) (even odd : Record) (k : ℕ) → IsDouble t h even odd k → IsInSyncAt p t.history k → IsInSync p even.rows odd.rows
+at_double p t h even odd k d sync =
+    let early : ◌≡◌ {A = Option Record} (Some sync.even) (Some even) = sym sync.has_even ∙ even_at t h even odd k d in
+    let next : 2 * k + 1 ≡ suc (2 * k) = omega arith in
+    let late : ◌≡◌ {A = Option Record} (Some sync.odd) (Some odd) = sym sync.has_odd ∙ ap (record_at t.history) next ∙ odd_at t h even odd k d in
+    let even_is : sync.even ≡ even = cc early in
+    let odd_is : sync.odd ≡ odd = cc late in
+    let Even : Record → Type 0 = λ r. IsInSync p r.rows sync.odd.rows in
+    let Odd : Record → Type 0 = λ r. IsInSync p even.rows r.rows in
+    subst Odd odd_is (subst Even even_is sync.in_sync)
+
+next_where_one_comes : (p : Values) (t : TraceView) (h : History) (even odd even2 odd2 : Record) (double k : ℕ) → IsStep p t h even odd even2 odd2 double k → Comes p odd even2
+    → IsInSync p even2.rows odd2.rows
+unfolding breach_by has_row
+next_where_one_comes p t h even odd even2 odd2 double k step comes =
+    at_double p t after even2 odd2 (suc k) step.next (subst (IsInSyncAt p t.history) half (is_in_sync_at p t.history (length after / 2) sync))
+  where
+    after : History
+    after = odd ∷ even ∷ h
+
+    w : Passes p t
+    w = step.synced.passes
+
+    half : length (odd ∷ even ∷ h) / 2 ≡ suc k
+    half = let counted = step.next.counted in omega arith
+
+    among : Contains (nodes_in p even2) comes.node
+    among = kept_filtered (λ (n : NodeSpec). has_row even2 n.id) p.nodes comes.node comes.there comes.has
+
+    row : NodeRow
+    row = row_for even2.rows comes.node.id
+
+    rows : Rows p t (odd ∷ even ∷ h) even2 odd2
+    rows = rows_in p t (odd ∷ even ∷ h) even2 odd2 (suc k) w step.next
+
+    here : HasRow even2.rows comes.node.id
+    here = row_there (nodes_in p even2) even2.rows comes.node rows.even_rows among
+
+    is_first : is_first_row (odd ∷ even ∷ h) row ≡ true
+    is_first = ap (λ n. not (is_some (row_of odd.rows n))) here.number ∙ ap (λ b. not b) comes.had_none
+
+    unbroken_row : Unbroken p t (Clock (odd ∷ even ∷ h) even2 row)
+    unbroken_row =
+        unbroken p t (step.next.later ++ odd2 ∷ []) (odd ∷ even ∷ h) even2 (Clock (odd ∷ even ∷ h) even2 row) w.lawful (even_parted t (odd ∷ even ∷ h) even2 odd2 (suc k) step.next)
+        (row_item (odd ∷ even ∷ h) even2 even2.rows row here.there)
+
+    passed : (b : Bool) (n m : ℕ) → whenever b (unlawful.Apart n m) ≡ None → b ≡ false
+    passed true n m e = cc e
+    passed false n m e = refl
+
+    not_apart : (is_first_row (odd ∷ even ∷ h) row && is_apart p t (length (odd ∷ even ∷ h) / 2)) ≡ false
+    not_apart = passed (is_first_row (odd ∷ even ∷ h) row && is_apart p t (length (odd ∷ even ∷ h) / 2)) unbroken_row.number (length (odd ∷ even ∷ h) / 2) (unbroken_row.none 6 (omega arith))
+
+    early : is_early (first_synced_of p t) (length (odd ∷ even ∷ h) / 2) ≡ false
+    early = early_not p t (length (odd ∷ even ∷ h) / 2) double step.synced.first (let from = step.synced.from in omega arith)
+
+    by_tests : (a b c : Bool) → (a && (not b && not c)) ≡ false → a ≡ true → b ≡ false → c ≡ true
+    by_tests true false true e one other = refl
+    by_tests true false false e one other = sym e
+    by_tests true true c e one other = cc other
+    by_tests false b c e one other = cc one
+
+    sync : is_sync_at p t.history (length (odd ∷ even ∷ h) / 2) ≡ true
+    sync =
+        by_tests (is_first_row (odd ∷ even ∷ h) row) (is_early (first_synced_of p t) (length (odd ∷ even ∷ h) / 2)) (is_sync_at p t.history (length (odd ∷ even ∷ h) / 2)) not_apart is_first early
+
+-- ---- so each is in sync
+
+next_in_sync : (p : Values) (t : TraceView) (h : History) (even odd even2 odd2 : Record) (double k : ℕ) → IsStep p t h even odd even2 odd2 double k → IsInSync p even2.rows odd2.rows
+next_in_sync p t h even odd even2 odd2 double k step =
+    let s = step.synced in
+    let before = (rows_in p t h even odd k s.passes s.is_double).two in
+    let after = (rows_in p t (odd ∷ even ∷ h) even2 odd2 (suc k) s.passes step.next).two in
+    let two : AreTwo p t (even ∷ h) odd even2 = record { early = before.late; late = after.early } in
+    elim (comes_or_stays p t (even ∷ h) odd even2 two) [
+      | inl comes ↦ next_where_one_comes p t h even odd even2 odd2 double k step comes
+      | inr stay ↦ next_where_all_stay p t h even odd even2 odd2 double k step (stay ∙ nodes_stay p t h even odd k before s.is_double.counted)
     ]
-    by_test false e among rest = let w : Contains xs x × (test x ≡ true) = rest among in (Contains-there y xs x w.0, w.1)
+
+splits : (a b : ℕ) → a ≤ suc b → (a ≤ b) ⊎ (a ≡ suc b)
+splits a b le = grind arith
+
+in_sync_from : (p : Values) (t : TraceView) (double : ℕ) → Passes p t → IsFirstSynced p t double → (k : ℕ) (h : History) (even odd : Record) → IsDouble t h even odd k → double ≤ k
+    → IsInSync p even.rows odd.rows
+in_sync_from p t double w first zero h even odd d from =
+    let same : double ≡ 0 = omega arith in
+    at_double p t h even odd 0 d (subst (IsInSyncAt p t.history) same first.synced.in_sync)
+in_sync_from p t double w first (suc k) [] even odd d from = let counted = d.counted in absurd (omega arith)
+in_sync_from p t double w first (suc k) (o ∷ []) even odd d from = let counted = d.counted in absurd (omega arith)
+in_sync_from p t double w first (suc k) (o ∷ e ∷ g) even odd d from = elim (splits double k from) [
+  | inr same ↦ at_double p t (o ∷ e ∷ g) even odd (suc k) d (subst (IsInSyncAt p t.history) same first.synced.in_sync)
+  | inl less ↦
+      let counted = d.counted in
+      let before : IsDouble t g e o k = record {
+        later = d.later ++ odd ∷ even ∷ [];
+        parted = d.parted ∙ sym (append_assoc d.later (odd ∷ even ∷ []) (o ∷ e ∷ g));
+        counted = omega arith;
+      } in
+      let s : IsSynced p t g e o double k = record { passes = w; first = first; is_double = before; from = less; in_sync = in_sync_from p t double w first k g e o before less } in
+      next_in_sync p t g e o even odd double k (record { synced = s; next = d })
+]
+
+synced_from : (p : Values) (t : TraceView) (double k : ℕ) (h : History) (even odd : Record) → Passes p t → IsFirstSynced p t double → IsDouble t h even odd k → double ≤ k → IsSynced p t h even odd double k
+synced_from p t double k h even odd w first d from = record { passes = w; first = first; is_double = d; from = from; in_sync = in_sync_from p t double w first k h even odd d from }
+
+-- ---- and the whole trace keeps its precision
+
+-- a setting that tells how many double cycles there are
+abbrev counting : Values → TraceView → Setting
+counting p t = window p t (record { rows = []; devs = []; counts = no_counts })
+
+abbrev SkewsIn : Values → ℕ → Record → Type 0
+SkewsIn p n r = (macrotick : ℕ) → macrotick < amount p name.gMacroPerCycle → spread_at (grid_for p) n r.rows macrotick ≤ℤ pos (precision_of p)
+
+abbrev ActiveIn : ℕ → Record → Type 0
+ActiveIn n r = All (λ (row : NodeRow). row.state ≡ Active) r.rows
+
+of_part : (t : TraceView) (k : ℕ) (part : Part t.history k) → IsDouble t part.earlier part.even part.odd k
+of_part t k part = record { later = part.later; parted = part.parted; counted = part.counted }
+
+skews : (p : Values) (t : TraceView) (double : ℕ) → Passes p t → IsFirstSynced p t double → (k : ℕ) (part : Part t.history k) → double ≤ k → SkewsIn p (2 * k) part.even × SkewsIn p (suc (2 * k)) part.odd
+skews p t double w first k part from =
+    let s = synced_from p t double k part.earlier part.even part.odd w first (of_part t k part) from in
+    let bound = precision_of p in
+    let lie = λ (macrotick : ℕ) (less : macrotick < amount p name.gMacroPerCycle). rows_lie p t part.earlier part.even part.odd double k macrotick s less in (
+      λ macrotick less. spread_within p (2 * k) (pos bound) part.even.rows macrotick false (even_length (2 * k) k refl) (no_less bound) (lie macrotick less).0,
+      λ macrotick less. spread_within p (suc (2 * k)) (pos bound) part.odd.rows macrotick true (odd_length (2 * k) k refl) (no_less bound) (lie macrotick less).1,
+    )
 
 there_is : {A : Type 0} (o : Option A) → IsSome o → (x : A) × (o ≡ Some x)
 there_is None is = absurd (cc)
 there_is (Some x) is = (x, refl)
 
--- the row of a correct node in a cycle of a trace
-record HasRowAt (p : Values) (t : TraceView) (node : NodeSpec) (cycle : ℕ) : Type 0 where
-  row : NodeRow
-  at : row_at t.history cycle node.id ≡ Some row
-  kept : row_for (rows_at t.history cycle) node.id ≡ row
+terms_within : (p : Values) (t : TraceView) (double k : ℕ) (h : History) (even odd : Record) → IsSynced p t h even odd double k → All (AreTermsWithin p (even ∷ h) odd) odd.rows
+terms_within p t double k h even odd s =
+    let rows = rows_in p t h even odd k s.passes s.is_double in
+    all_rows (nodes_in p even) odd.rows (AreTermsWithin p (even ∷ h) odd) (ascend_in p even s.passes.sane) rows.odd_rows
+    (λ node among. record { offset = offset_within p t h even odd double k node s among; rate = rate_within p t h even odd double k node s among })
 
-row_in : (p : Values) (t : TraceView) (node : NodeSpec) (cycle : ℕ) → TraceFits p t → Contains (unnamed_nodes p t) node → cycle < length t.history → HasRowAt p t node cycle
-unfolding row_at rows_at
-row_in p t node cycle fits among lt =
-    let r = there_is (record_at t.history cycle) (record_at-some t.history cycle lt) in
-    let cut = cut_of_record t.history cycle r.0 r.1 in
-    let fit : FitsRecord p t r.0 = record_part (FitsRecord p t) t cut.later cut.earlier r.0 cut.parted fits.records in
-    let w = has_row (unnamed_nodes p t) r.0.rows node fit.nodes among in
-    record {
-      row = row_for r.0.rows node.id;
-      at = ap (option_and_then (λ s. row_of s.rows node.id)) r.1 ∙ w.is;
-      kept = ap (λ (o : Option Record). row_for (option_map_or (λ s. s.rows) o []) node.id) r.1;
-    }
+-- every node with a row in the last cycle is active behind it
+active_after : (p : Values) (t : TraceView) (double : ℕ) → Passes p t → IsFirstSynced p t double → (last : Record) (h : History) → t.history ≡ last ∷ h
+    → All (λ row. (status_in p t.history row.node).state ≡ Active) last.rows
+active_after p t double w first last [] parted = let whole = w.trace.whole in let long = ap (λ (g : History). length g) parted in let some = w.trace.doubles_from in absurd (omega arith)
+active_after p t double w first last (even ∷ h) parted =
+    let whole = w.trace.whole in
+    let long = ap (λ (g : History). length g) parted in
+    let some = w.trace.doubles_from in
+    let lt = record_at-lt t.history (odd_cycle double) first.synced.in_sync.odd first.synced.in_sync.has_odd in
+    let k : ℕ = t.doubles - 1 in
+    let d : IsDouble t h even last (t.doubles - 1) = record { later = []; parted = parted; counted = omega arith } in
+    let s = synced_from p t double (t.doubles - 1) h even last w first d (omega arith) in
+    let rows = rows_in p t h even last (t.doubles - 1) w d in
+    all_rows (nodes_in p even) last.rows (λ row. (status_in p t.history row.node).state ≡ Active) (ascend_in p even w.sane) rows.odd_rows
+    (λ node among.
+    ap (λ n. (status_in p t.history n).state) (node_two p t h even last (t.doubles - 1) node w d among).has_odd.number
+    ∙ ap (λ (g : History). (status_in p g node.id).state) parted
+    ∙ active_behind p t h even last double (t.doubles - 1) node s among)
 
--- ---- covered
-
-check_holds : (p : Values) (t : TraceView) (number : ℕ) → IsCoveredTrace p t → 1 ≤ number → number ≤ 5 → holds_of number p ≡ true
-check_holds p t number covered from to = by_test (holds_of number p) refl
-  where
-    by_test : (b : Bool) → holds_of number p ≡ b → b ≡ true
-    by_test true holds = refl
-    by_test false fails = absurd (covered (gap.Check number (pos (left_of number p)) (pos (right_of number p))) (inl (record { number = number; from = from; to = to; fails = fails; told = refl })))
-
-few_nodes : (p : Values) (t : TraceView) → IsCoveredTrace p t → AreFew (sync_count p (is_unnamed t)) (sync_count p (is_named t))
-few_nodes p t covered = few_if (sync_count p (is_unnamed t)) (sync_count p (is_named t)) (by_test (outweighs (sync_count p (is_unnamed t)) (sync_count p (is_named t))) refl)
-  where
-    by_test : (b : Bool) → outweighs (sync_count p (is_unnamed t)) (sync_count p (is_named t)) ≡ b → b ≡ true
-    by_test true holds = refl
-    by_test false fails = absurd (covered (gap.Count (sync_count p (is_unnamed t)) (sync_count p (is_named t))) (inr (inl (record { few = fails; told = refl }))))
-
-on_length : (p : Values) (t : TraceView) (node : NodeSpec) (cycle : ℕ) → TraceFits p t → IsCoveredTrace p t → Contains (unnamed_nodes p t) node → cycle < length t.history
-    → is_off p (row_for (rows_at t.history cycle) node.id).length ≡ false
-on_length p t node cycle fits covered among lt =
-    let w : HasRowAt p t node cycle = row_in p t node cycle fits among lt in
-    ap (λ (row : NodeRow). is_off p row.length) w.kept ∙ by_test w.row w.at (is_off p w.row.length) refl
-  where
-    by_test : (row : NodeRow) → row_at t.history cycle node.id ≡ Some row → (b : Bool) → is_off p row.length ≡ b → b ≡ false
-    by_test row at false is = refl
-    by_test row at true off =
-        absurd (covered (gap.Length node.id cycle row.length) (inr (inr (inl (record { node = node; known = (of_filter (λ n. is_unnamed t n.id) p.nodes node among).0; cycle = cycle; row = row; there = at; off = off; told = refl })))))
-
-steady : (p : Values) (t : TraceView) (node : NodeSpec) (cycle : ℕ) → TraceFits p t → IsCoveredTrace p t → Contains (unnamed_nodes p t) node → suc cycle < length t.history
-    → has_jumped p (row_for (rows_at t.history cycle) node.id).length (row_for (rows_at t.history (suc cycle)) node.id).length ≡ false
-steady p t node cycle fits covered among lt =
-    let v : HasRowAt p t node cycle = row_in p t node cycle fits among (omega arith) in
-    let w : HasRowAt p t node (suc cycle) = row_in p t node (suc cycle) fits among lt in
-    ap₂ (λ (a b : NodeRow). has_jumped p a.length b.length) v.kept w.kept ∙ by_test v.row w.row v.at w.at (has_jumped p v.row.length w.row.length) refl
-  where
-    by_test : (before row : NodeRow) → row_at t.history cycle node.id ≡ Some before → row_at t.history (suc cycle) node.id ≡ Some row → (b : Bool) → has_jumped p before.length row.length ≡ b → b ≡ false
-    by_test before row earlier at false is = refl
-    by_test before row earlier at true jumped =
-        absurd (covered (gap.Change node.id (suc cycle) (row.length -ℤ before.length))
-        (inr (inr (inr (inl (record { node = node; known = (of_filter (λ n. is_unnamed t n.id) p.nodes node among).0; cycle = cycle; before = before; row = row; earlier = earlier; there = at; jumped = jumped; told = refl }))))))
-
-clocks_are_covered : (p : Values) (t : TraceView) → IsSane p → IsTrace t → TraceFits p t → IsCoveredTrace p t → ClocksAreCovered (traced p t)
-clocks_are_covered p t sane trace fits covered = record {
-  sane = sane;
-  first = check_holds p t 1 covered (omega arith) (omega arith);
-  second = check_holds p t 2 covered (omega arith) (omega arith);
-  third = check_holds p t 3 covered (omega arith) (omega arith);
-  few = few_nodes p t covered;
-  least = λ node cycle among lt. (not_off p (row_for (rows_at t.history cycle) node.id).length (on_length p t node cycle fits covered among (within cycle lt))).0;
-  most = λ node cycle among lt. (not_off p (row_for (rows_at t.history cycle) node.id).length (on_length p t node cycle fits covered among (within cycle lt))).1;
-  changes =
-      λ node cycle among lt.
-      near (pos (amount p name.xChangeBound)) (row_for (rows_at t.history cycle) node.id).length (row_for (rows_at t.history (suc cycle)) node.id).length (steady p t node cycle fits covered among (within (suc cycle) lt));
+keeps : (p : Values) (t : TraceView) (double : ℕ) → Passes p t → IsFirstSynced p t double → KeepsRecordedClocks p t double
+keeps p t double w first = record {
+  skew =
+      λ cycle macrotick from less lt.
+      let r = there_is (record_at t.history cycle) (record_at-some t.history cycle less) in
+      let spread = each_record (counting p t) t.history double (SkewsIn p) w.trace.whole (λ k part from within. skews p t double w first k part from) cycle r.0 from r.1 macrotick lt in
+      let Most : Option Record → Type 0 = λ o. option_map_or (λ s. spread_at (grid_for p) cycle s.rows macrotick) o (pos 0) ≤ℤ pos (precision_of p) in
+      subst Most (sym r.1) spread;
+  active =
+      each_record (counting p t) t.history double ActiveIn w.trace.whole
+      (λ k part from within.
+      let is = in_sync_from p t double w first k part.earlier part.even part.odd (of_part t k part) from in
+      (is.active_even, is.active_odd));
+  within =
+      λ k later h even odd from parted counted.
+      terms_within p t double k h even odd (synced_from p t double k h even odd w first (record { later = later; parted = parted; counted = counted }) from);
+  after = λ last h parted. active_after p t double w first last h parted;
 }
-  where
-    within : (cycle : ℕ) → cycle < 2 * t.doubles → cycle < length t.history
-    within cycle lt = let whole = trace.whole in omega arith
-
--- ---- what is heard
-
-key_node : (p : Values) (sender : NodeSpec) (slot : ℕ) → IsSane p → Contains p.nodes sender → sender.key ≡ Some slot → key_node_in p.nodes slot ≡ Some sender
-key_node p sender slot sane among key = found_key p.nodes slot sender sane.constraints.own_slots.1 among key
-
--- a recorded deviation
-record IsRecorded (devs : List Dev) (receiver slot : ℕ) (ch : Channel) (value : ℤ) : Type 0 where
-  dev : Dev
-  among : Contains devs dev
-  at_receiver : dev.receiver ≡ receiver
-  of_slot : dev.slot ≡ slot
-  of_value : dev.value ≡ value
-
-recorded_dev : (devs : List Dev) (receiver slot : ℕ) (ch : Channel) (value : ℤ) → dev_in devs receiver slot ch ≡ Some value → IsRecorded devs receiver slot ch value
-recorded_dev devs receiver slot ch value is = by_found (find (is_dev_of receiver slot ch) devs) refl is
-  where
-    by_found : (o : Option Dev) → find (is_dev_of receiver slot ch) devs ≡ o → option_map (λ d. d.value) o ≡ Some value → IsRecorded devs receiver slot ch value
-    by_found None e is = cc is
-    by_found (Some dev) e is =
-        let w : (is_dev_of receiver slot ch dev ≡ true) × Contains devs dev = found (is_dev_of receiver slot ch) devs dev e in
-        let outer : (((dev.receiver == receiver) && (dev.slot == slot)) ≡ true) × ((channel_rank dev.channel == channel_rank ch) ≡ true) = and_parts ((dev.receiver == receiver) && (dev.slot == slot)) (channel_rank dev.channel == channel_rank ch) w.0 in
-        let inner : ((dev.receiver == receiver) ≡ true) × ((dev.slot == slot) ≡ true) = and_parts (dev.receiver == receiver) (dev.slot == slot) outer.0 in
-        record { dev = dev; among = w.1; at_receiver = eqb-true dev.receiver receiver inner.0; of_slot = eqb-true dev.slot slot inner.1; of_value = cc is }
-
-bounds_of : (p : Values) (n : ℕ) (odd : Bool) (dev : Dev) (sender receiver : NodeRow) → outside_by p n odd dev (Some sender) (Some receiver) ≡ None
-    → (low_of p odd dev.slot sender receiver ≤ℤ dev.value) × (dev.value ≤ℤ high_of p odd dev.slot sender receiver)
-bounds_of p n odd dev sender receiver e = by_test (int_lt dev.value (low_of p odd dev.slot sender receiver) || int_lt (high_of p odd dev.slot sender receiver) dev.value) refl e
-  where
-    by_test : (b : Bool) → (int_lt dev.value (low_of p odd dev.slot sender receiver) || int_lt (high_of p odd dev.slot sender receiver) dev.value) ≡ b
-        → (if b then Some (unlawful.Deviation n dev.value (low_of p odd dev.slot sender receiver) (high_of p odd dev.slot sender receiver)) else None) ≡ None
-        → (low_of p odd dev.slot sender receiver ≤ℤ dev.value) × (dev.value ≤ℤ high_of p odd dev.slot sender receiver)
-    by_test true is e = cc e
-    by_test false is e =
-        let parts : (int_lt dev.value (low_of p odd dev.slot sender receiver) ≡ false) × (int_lt (high_of p odd dev.slot sender receiver) dev.value ≡ false) =
-        or_parts (int_lt dev.value (low_of p odd dev.slot sender receiver)) (int_lt (high_of p odd dev.slot sender receiver) dev.value) is in
-        (no_less dev.value (low_of p odd dev.slot sender receiver) parts.0, no_less (high_of p odd dev.slot sender receiver) dev.value parts.1)
-
-bounded : (p : Values) (t : TraceView) (later h : History) (r : Record) (odd : Bool) → IsSane p → TraceFits p t → IsLawfulTrace p t → t.history ≡ later ++ r ∷ h → is_odd (length h) ≡ odd → DevsAreBounded (traced p t) odd r
-unfolding breach_by
-bounded p t later h r odd sane fits lawful parted parity sender receiver slot ch value link is =
-    let fit : FitsRecord p t r = record_part (FitsRecord p t) t later h r parted fits.records in
-    let s = has_row (unnamed_nodes p t) r.rows sender fit.nodes link.sends in
-    let o = has_row (unnamed_nodes p t) r.rows receiver fit.nodes link.hears in
-    let d : IsRecorded r.devs receiver.id slot ch value = recorded_dev r.devs receiver.id slot ch value is in
-    let w : Unbroken p (Heard h r d.dev) = unbroken p t later h r (Heard h r d.dev) lawful parted (dev_there h r r.rows (row_for r.rows receiver.id) d.dev o.there d.among (d.at_receiver ∙ sym o.number)) in
-    let sends : sender_row p r d.dev.slot ≡ Some (row_for r.rows sender.id) =
-    ap (λ (n : ℕ). sender_row p r n) d.of_slot
-    ∙ ap (option_and_then (λ node. row_of r.rows node.id)) (key_node p sender slot sane (of_filter (λ n. is_unnamed t n.id) p.nodes sender link.sends).0 link.key) ∙ s.is in
-    let hears : row_of r.rows d.dev.receiver ≡ Some (row_for r.rows receiver.id) = ap (row_of r.rows) d.at_receiver ∙ o.is in
-    let none : outside_by p w.number odd d.dev (Some (row_for r.rows sender.id)) (Some (row_for r.rows receiver.id)) ≡ None =
-    sym (ap₂ (λ (a b : Option NodeRow). outside_by p w.number odd d.dev a b) sends hears)
-    ∙ sym (ap (λ (b : Bool). outside_by p w.number b d.dev (sender_row p r d.dev.slot) (row_of r.rows d.dev.receiver)) parity)
-    ∙ w.none 5 (omega arith) in
-    let b = bounds_of p w.number odd d.dev (row_for r.rows sender.id) (row_for r.rows receiver.id) none in
-    (at_slot d.dev.slot slot d.of_slot d.dev.value value d.of_value (row_for r.rows sender.id) (row_for r.rows receiver.id) b.0 b.1)
-  where
-    at_slot : (m n : ℕ) → m ≡ n → (v u : ℤ) → v ≡ u → (a b : NodeRow) → low_of p odd m a b ≤ℤ v → v ≤ℤ high_of p odd m a b → (low_of p odd n a b ≤ℤ u) × (u ≤ℤ high_of p odd n a b)
-    at_slot m n same v u value a b low high =
-        subst (λ (w : ℤ). (low_of p odd n a b ≤ℤ w) × (w ≤ℤ high_of p odd n a b)) value
-        (subst (λ (k : ℕ). (low_of p odd k a b ≤ℤ v) × (v ≤ℤ high_of p odd k a b)) same (low, high))
-
-some_is : {A : Type 0} (o : Option A) → is_some o ≡ true → IsSome o
-some_is o e = e
-
-linked : (p : Values) (t : TraceView) (later h : History) (even odd : Record) (double k : ℕ) → IsTrace t → IsCoveredTrace p t → IsFirstInSync p t.history double → t.history ≡ later ++ odd ∷ even ∷ h
-    → length h ≡ 2 * k → double ≤ k → LinksAreThere (traced p t) even odd
-linked p t later h even odd double k trace covered first parted long from sender receiver slot link =
-    elim (or_cases (is_heard_on t sender receiver k channel.A) (is_heard_on t sender receiver k channel.B) (by_test (is_heard t sender receiver k) refl)) [
-      | inl a ↦ on channel.A a
-      | inr b ↦ on channel.B b
-    ]
-  where
-    sends : Contains p.nodes sender × (is_unnamed t sender.id ≡ true)
-    sends = of_filter (λ n. is_unnamed t n.id) p.nodes sender link.sends
-
-    hears : Contains p.nodes receiver × (is_unnamed t receiver.id ≡ true)
-    hears = of_filter (λ n. is_unnamed t n.id) p.nodes receiver link.hears
-
-    pair : is_pair t sender receiver ≡ true
-    pair = rw (link.key, sends.1, hears.1, ne_eqb sender.id receiver.id link.other) refl
-
-    even_at : record_at t.history (2 * k) ≡ Some even
-    even_at =
-        ap₂ record_at parted (sym long)
-        ∙ ap (λ (g : History). record_at g (length h)) (sym (append_assoc later (odd ∷ []) (even ∷ h)))
-        ∙ record_of_cut (later ++ odd ∷ []) h even
-
-    odd_at : record_at t.history (suc (2 * k)) ≡ Some odd
-    odd_at = ap₂ record_at parted (ap suc (sym long)) ∙ record_of_cut later (even ∷ h) odd
-
-    within : k < t.doubles
-    within =
-        let lt = record_at-lt t.history (suc (2 * k)) odd odd_at in
-        let whole = trace.whole in
-        omega arith
-
-    by_test : (b : Bool) → is_heard t sender receiver k ≡ b → b ≡ true
-    by_test true e = refl
-    by_test false broken =
-        absurd (covered (gap.Link sender.id receiver.id k) (inr (inr (inr (inr (record {
-          sender = sender;
-          receiver = receiver;
-          sender_there = sends.0;
-          receiver_there = hears.0;
-          pair = pair;
-          synced = double;
-          first = first;
-          double = k;
-          from = from;
-          within = within;
-          broken = broken;
-          told = refl;
-        }))))))
-
-    there : (cycle : ℕ) (r : Record) (ch : Channel) → record_at t.history cycle ≡ Some r → has_dev t.history cycle sender receiver ch ≡ true → IsSome (dev_in r.devs receiver.id slot ch)
-    there cycle r ch at e =
-        let found_in : is_some (option_and_then (λ s. dev_in r.devs receiver.id s ch) sender.key) ≡ true =
-        sym (ap (λ (o : Option Record). is_some (option_and_then (λ q. option_and_then (λ s. dev_in q.devs receiver.id s ch) sender.key) o)) at) ∙ e in
-        sym (ap (λ (key : Option ℕ). is_some (option_and_then (λ s. dev_in r.devs receiver.id s ch) key)) link.key) ∙ found_in
-
-    on : (ch : Channel) → is_heard_on t sender receiver k ch ≡ true → (c : Channel) × IsSome (dev_in even.devs receiver.id slot c) × IsSome (dev_in odd.devs receiver.id slot c)
-    on ch e =
-        let outer : ((shares sender receiver ch && has_dev t.history (2 * k) sender receiver ch) ≡ true) × (has_dev t.history (suc (2 * k)) sender receiver ch ≡ true) =
-        and_parts (shares sender receiver ch && has_dev t.history (2 * k) sender receiver ch) (has_dev t.history (suc (2 * k)) sender receiver ch) e in
-        let inner : (shares sender receiver ch ≡ true) × (has_dev t.history (2 * k) sender receiver ch ≡ true) = and_parts (shares sender receiver ch) (has_dev t.history (2 * k) sender receiver ch) outer.0 in
-        (ch, there (2 * k) even ch even_at inner.1, there (suc (2 * k)) odd ch odd_at outer.1)
-
-even_is : (n k : ℕ) → n ≡ 2 * k → is_odd n ≡ false
-even_is n k e = grind arith
-
-odd_is : (n k : ℕ) → n ≡ 2 * k → is_odd (suc n) ≡ true
-odd_is n k e = grind arith
-
-trace_is_heard : (p : Values) (t : TraceView) (double : ℕ) → IsSane p → IsTrace t → TraceFits p t → IsLawfulTrace p t → IsCoveredTrace p t → IsFirstInSync p t.history double → TraceIsHeard (traced p t) t.history double
-trace_is_heard p t double sane trace fits lawful covered first later earlier even odd k parted long from = (
-  bounded p t (later ++ odd ∷ []) earlier even false sane fits lawful (parted ∙ sym (append_assoc later (odd ∷ []) (even ∷ earlier))) (even_is (length earlier) k long),
-  bounded p t later (even ∷ earlier) odd true sane fits lawful parted (odd_is (length earlier) k long),
-  linked p t later earlier even odd double k trace covered first parted long from,
-)
-
--- ---- so the precision follows
-
-first_rates : (p : Values) (t : TraceView) (node : NodeSpec) → IsTrace t → TraceFits p t → Contains (unnamed_nodes p t) node → IsWithin p.rate_limit (row_for (rows_at t.history 0) node.id).rate
-unfolding rows_at
-first_rates p t node trace fits among =
-    let lt : 0 < length t.history = (let whole = trace.whole in let some = trace.doubles_from in omega arith) in
-    let r = there_is (record_at t.history 0) (record_at-some t.history 0 lt) in
-    let cut = cut_of_record t.history 0 r.0 r.1 in
-    let fit : FitsRecord p t r.0 = record_part (FitsRecord p t) t cut.later cut.earlier r.0 cut.parted fits.records in
-    subst (λ (o : Option Record). IsWithin p.rate_limit (row_for (option_map_or (λ s. s.rows) o []) node.id).rate) (sym r.1)
-    (each_row (unnamed_nodes p t) r.0.rows (λ row. IsWithin p.rate_limit row.rate) node fit.nodes among fit.rates)
-
-keeps_clocks : (p : Values) (t : TraceView) (double : ℕ) → IsSane p → IsTrace t → TraceFits p t → IsLawfulTrace p t → IsCoveredTrace p t → IsFirstInSync p t.history double → KeepsClocks (traced p t) t.history double
-keeps_clocks p t double sane trace fits lawful covered first =
-    traces_keep_precision (traced p t) t.history double
-    (record {
-      covered = clocks_are_covered p t sane trace fits covered;
-      run = lawful_traces_run p t trace fits lawful;
-      rates = λ node among. first_rates p t node trace fits among;
-      whole = trace.whole;
-    })
-    (trace_is_heard p t double sane trace fits lawful covered first) first.in_sync
 
 pub checked_traces_keep_precision : CheckedTracesKeepPrecision
-checked_traces_keep_precision p t v sane trace fits verdict double synced = keeps_clocks p t double sane trace fits verdict.lawful verdict.covered (at v.synced synced verdict.synced)
-  where
-    at : (o : Option ℕ) → o ≡ Some double → IsSyncedFrom p t.history o → IsFirstInSync p t.history double
-    at o e w = subst (IsSyncedFrom p t.history) e w
+checked_traces_keep_precision p t v sane trace fits verdict double is =
+    keeps p t double (record { sane = sane; trace = trace; fits = fits; lawful = verdict.lawful; covered = verdict.covered })
+    (let Synced : Option ℕ → Type 0 = IsSyncedFrom p t in subst Synced is verdict.synced)

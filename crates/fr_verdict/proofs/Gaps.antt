@@ -1,25 +1,26 @@
 -- The gap of a trace that is found is the first.
-use Rattle.std.proofs.Common.{◌≡◌, ℕ, zero, suc, ◌<◌, ◌≤◌, Bool, true, false, ◌||◌, List, [], ◌∷◌, length, Option, Some, None, ap, sym, refl, subst, arith, ◌⊎◌, inl, inr}
-use Rattle.std.specs.Prelude.{pos, ◌-ℤ◌, AllPairs, Contains, nat_lt, option_and_then}
-use Rattle.std.proofs.lemmas.Bool.{or_parts}
+use Rattle.std.proofs.Common.{◌≡◌, ℕ, zero, suc, ◌<◌, ◌≤◌, Bool, true, false, not, ◌&&◌, ◌||◌, List, [], ◌∷◌, length, Option, Some, None, ap, sym, refl, subst, arith, ◌⊎◌, inl, inr}
+use Rattle.std.specs.Prelude.{pos, ◌-ℤ◌, AllPairs, Contains, option_and_then}
+use Rattle.std.proofs.lemmas.Bool.{and_parts, or_parts}
 use Rattle.fr_base.specs.declared.node_row.NodeRow.{NodeRow}
 use Rattle.fr_cluster.specs.Values.{Values}
 use Rattle.fr_cluster.specs.declared.nodes.NodeSpec.{NodeSpec}
 use Rattle.fr_bound.specs.Checks.{holds_of, left_of, right_of}
 use Rattle.fr_round.specs.Round.{sync_count}
-use Rattle.fr_coverage.specs.Coverage.{check_gap, checks_gap, has_jumped, is_off, outweighs}
+use Rattle.fr_coverage.specs.Coverage.{has_jumped, is_off, outweighs}
 use Rattle.fr_coverage.specs.First.{first_in}
-use Rattle.fr_coverage.specs.Order.{IsCheckGap, IsEarlierGap, place_of_gap}
+use Rattle.fr_coverage.specs.Order.{IsEarlierGap, place_of_gap}
 use Rattle.fr_coverage.specs.declared.gap.Gap.{Gap}
 use Rattle.fr_coverage.specs.declared.gap.Gap.TheVariants as gap
 use Rattle.fr_coverage.proofs.GapParts.{kind_of, numbers_of, place-split}
 use Rattle.fr_coverage.proofs.Least.{Among, AreApart, Below, IsLeast, at-places, in-order, later, least-below, least-if, least-in, least-or, least-same, least-unless, least-where, under}
 use Rattle.fr_history.specs.History.{History, Record, record_at, row_of}
-use Rattle.fr_history.specs.Sync.{IsFirstInSync, first_sync_of}
-use Rattle.fr_history.proofs.Synced.{first_sync_is, first_sync_is_one, never_in_sync, record_at-lt}
+use Rattle.fr_history.proofs.Synced.{record_at-lt}
 use Rattle.fr_trace.specs.Trace.{TraceView, is_named, row_at}
-use Rattle.fr_verdict.specs.FirstGap.{FoundGapIsFirst, NoGapFoundIsCovered, change_by, change_gap, changes_gap, count_gap, first_gap_of, is_early, length_by, length_gap, lengths_gap, link_gap, links_gap, pairs_gap}
-use Rattle.fr_verdict.specs.Gaps.{IsChangeGap, IsCountGap, IsLengthGap, IsLinkGap, IsTraceGap, is_heard, is_pair, is_unnamed}
+use Rattle.fr_verdict.specs.FirstGap.{FoundGapIsFirst, NoGapFoundIsCovered, change_by, change_gap, changes_gap, check_gap, checks_gap, count_gap, first_gap_of, is_asked, length_by, length_gap, lengths_gap, link_gap, links_gap, pairs_gap}
+use Rattle.fr_verdict.specs.Gaps.{IsChangeGap, IsCheckGap, IsCountGap, IsLengthGap, IsLinkGap, IsTraceGap, has_rows, is_heard, is_lasting, is_pair}
+use Rattle.fr_verdict.specs.Sync.{IsFirstSynced, first_synced_of, is_early}
+use Rattle.fr_verdict.proofs.Syncing.{behind_early, early_not}
 
 abbrev pub Ascend : List NodeSpec → Type 0
 Ascend nodes = AllPairs (λ a b. a.id < b.id) nodes
@@ -57,7 +58,7 @@ checks_least p =
 count_least : (p : Values) (t : TraceView) → IsLeast (IsCountGap p t) (count_gap p t)
 count_least p t =
     least-same _ (IsCountGap p t) (count_gap p t)
-    (least-unless (outweighs (sync_count p (is_unnamed t)) (sync_count p (is_named t))) (gap.Count (sync_count p (is_unnamed t)) (sync_count p (is_named t))))
+    (least-unless (outweighs (sync_count p (is_lasting t)) (sync_count p (is_named t))) (gap.Count (sync_count p (is_lasting t)) (sync_count p (is_named t))))
     (λ g w. record { few = w.0; told = w.1 }) (λ g r. (r.few, r.told))
 
 -- 3
@@ -140,7 +141,7 @@ changes_least p t ascend =
 
 -- 6
 abbrev AtDouble : TraceView → Option ℕ → NodeSpec → NodeSpec → ℕ → Gap → Type 0
-AtDouble t synced a b double g = ((is_early synced double || is_heard t a b double) ≡ false) × (g ≡ gap.Link a.id b.id double)
+AtDouble t synced a b double g = ((not (is_asked t synced a b double) || is_heard t a b double) ≡ false) × (g ≡ gap.Link a.id b.id double)
 
 abbrev OfLinks : TraceView → Option ℕ → NodeSpec → NodeSpec → Gap → Type 0
 OfLinks t synced a b g = (is_pair t a b ≡ true) × Below (AtDouble t synced a b) t.doubles g
@@ -162,57 +163,75 @@ links_apart p t synced a b lt g h w x before =
     at-places g h (6 ∷ a.id ∷ w.0.id ∷ w.2.1.0 ∷ []) (6 ∷ b.id ∷ x.0.id ∷ x.2.1.0 ∷ []) (ap place_of_gap w.2.1.2.1) (ap place_of_gap x.2.1.2.1)
     (under 6 (b.id ∷ x.0.id ∷ x.2.1.0 ∷ []) (a.id ∷ w.0.id ∷ w.2.1.0 ∷ []) (later a.id b.id (x.0.id ∷ x.2.1.0 ∷ []) (w.0.id ∷ w.2.1.0 ∷ []) lt)) before
 
--- behind the first double cycle in sync
-record IsBehind (p : Values) (h : History) (double : ℕ) : Type 0 where
+by_not : (b : Bool) → not b ≡ false → b ≡ true
+by_not true e = refl
+by_not false e = cc e
+
+-- a double cycle that is asked
+record IsAsked (p : Values) (t : TraceView) (a b : NodeSpec) (double : ℕ) : Type 0 where
   pub synced : ℕ
-  pub first : IsFirstInSync p h synced
+  pub first : IsFirstSynced p t synced
   pub from : synced ≤ double
+  pub sends : has_rows t.history double a ≡ true
+  pub hears : has_rows t.history double b ≡ true
 
-behind : (p : Values) (h : History) (double : ℕ) → is_early (first_sync_of p h) double ≡ false → IsBehind p h double
-behind p h double e = by_first (first_sync_of p h) refl e
+asked : (p : Values) (t : TraceView) (a b : NodeSpec) (double : ℕ) → is_asked t (first_synced_of p t) a b double ≡ true → IsAsked p t a b double
+asked p t a b double e =
+    let outer : ((not (is_early (first_synced_of p t) double) && has_rows t.history double a) ≡ true) × (has_rows t.history double b ≡ true) =
+    and_parts (not (is_early (first_synced_of p t) double) && has_rows t.history double a) (has_rows t.history double b) e in
+    let inner : (not (is_early (first_synced_of p t) double) ≡ true) × (has_rows t.history double a ≡ true) =
+    and_parts (not (is_early (first_synced_of p t) double)) (has_rows t.history double a) outer.0 in
+    let behind = behind_early p t double (not_so (is_early (first_synced_of p t) double) inner.0) in
+    record { synced = behind.synced; first = behind.first; from = behind.from; sends = inner.1; hears = outer.1 }
   where
-    by_first : (o : Option ℕ) → first_sync_of p h ≡ o → is_early o double ≡ false → IsBehind p h double
-    by_first None is e = cc e
-    by_first (Some synced) is e = record { synced = synced; first = first_sync_is p h synced is; from = no_less double synced e }
-      where
-        no_less : (a b : ℕ) → nat_lt a b ≡ false → b ≤ a
-        no_less a b e = grind arith
+    not_so : (b : Bool) → not b ≡ true → b ≡ false
+    not_so true e = cc e
+    not_so false e = refl
 
-early_not : (p : Values) (h : History) (double synced : ℕ) → IsFirstInSync p h synced → synced ≤ double → is_early (first_sync_of p h) double ≡ false
-early_not p h double synced first from = by_first (first_sync_of p h) refl
-  where
-    no_less : (a b : ℕ) → b ≤ a → nat_lt a b ≡ false
-    no_less a b e = grind arith
+is_asked_by : (p : Values) (t : TraceView) (a b : NodeSpec) (double synced : ℕ) → IsFirstSynced p t synced → synced ≤ double → has_rows t.history double a ≡ true → has_rows t.history double b ≡ true
+    → is_asked t (first_synced_of p t) a b double ≡ true
+is_asked_by p t a b double synced first from sends hears = rw (early_not p t double synced first from, sends, hears) refl
 
-    by_first : (o : Option ℕ) → first_sync_of p h ≡ o → is_early o double ≡ false
-    by_first None is = absurd (never_in_sync p h is synced first.in_sync)
-    by_first (Some other) is = let same : other ≡ synced = first_sync_is_one p h other synced (first_sync_is p h other is) first in no_less double other (omega arith)
-
-links_least : (p : Values) (t : TraceView) → Ascend p.nodes → IsLeast (IsLinkGap p t) (pairs_gap p t (first_sync_of p t.history))
+links_least : (p : Values) (t : TraceView) → Ascend p.nodes → IsLeast (IsLinkGap p t) (pairs_gap p t (first_synced_of p t))
 links_least p t ascend =
     least-same (Among (λ a. Among (OfLinks t synced a) p.nodes) p.nodes) (IsLinkGap p t) _
     (least-in (λ a. Among (OfLinks t synced a) p.nodes) (λ a. first_in (links_gap t synced a) p.nodes) p.nodes (λ a. from_sender a)
     (in-order (λ a. Among (OfLinks t synced a) p.nodes) p.nodes ascend (λ a b lt g h w x before. links_apart p t synced a b lt g h w x before)))
     (λ g w. to g w.0 w.1 w.2.0 w.2.1 w.2.2.0 w.2.2.1.0 w.2.2.1.1 w.2.2.1.2.0 w.2.2.1.2.1)
-    (λ g r. (r.sender, r.sender_there, (r.receiver, r.receiver_there, (r.pair, (r.double, r.within, (back r.double r.synced r.first r.from (is_heard t r.sender r.receiver r.double) r.broken, r.told))))))
+    (λ g r. (r.sender, r.sender_there, (r.receiver, r.receiver_there, (r.pair, (r.double, r.within, (back g r, r.told))))))
   where
     synced : Option ℕ
-    synced = first_sync_of p t.history
+    synced = first_synced_of p t
 
     to : (g : Gap) (a : NodeSpec) → Contains p.nodes a → (b : NodeSpec) → Contains p.nodes b → is_pair t a b ≡ true → (double : ℕ) → double < t.doubles
-        → (is_early (first_sync_of p t.history) double || is_heard t a b double) ≡ false → g ≡ gap.Link a.id b.id double → IsLinkGap p t g
+        → (not (is_asked t (first_synced_of p t) a b double) || is_heard t a b double) ≡ false → g ≡ gap.Link a.id b.id double → IsLinkGap p t g
     to g a a_there b b_there pair double within e told =
-        let parts : (is_early (first_sync_of p t.history) double ≡ false) × (is_heard t a b double ≡ false) = or_parts (is_early (first_sync_of p t.history) double) (is_heard t a b double) e in
-        let w : IsBehind p t.history double = behind p t.history double parts.0 in
-        record { sender = a; receiver = b; sender_there = a_there; receiver_there = b_there; pair = pair; synced = w.synced; first = w.first; double = double; from = w.from; within = within; broken = parts.1; told = told }
+        let parts : (not (is_asked t (first_synced_of p t) a b double) ≡ false) × (is_heard t a b double ≡ false) = or_parts (not (is_asked t (first_synced_of p t) a b double)) (is_heard t a b double) e in
+        let w : IsAsked p t a b double = asked p t a b double (by_not (is_asked t (first_synced_of p t) a b double) parts.0) in
+        record {
+          sender = a;
+          receiver = b;
+          sender_there = a_there;
+          receiver_there = b_there;
+          pair = pair;
+          synced = w.synced;
+          first = w.first;
+          double = double;
+          from = w.from;
+          within = within;
+          sends = w.sends;
+          hears = w.hears;
+          broken = parts.1;
+          told = told;
+        }
 
-    back : (double k : ℕ) → IsFirstInSync p t.history k → k ≤ double → (heard : Bool) → heard ≡ false → (is_early (first_sync_of p t.history) double || heard) ≡ false
-    back double k first from heard broken = rw (early_not p t.history double k first from, broken) refl
+    back : (g : Gap) (r : IsLinkGap p t g) → (not (is_asked t (first_synced_of p t) r.sender r.receiver r.double) || is_heard t r.sender r.receiver r.double) ≡ false
+    back g r = rw (is_asked_by p t r.sender r.receiver r.double r.synced r.first r.from r.sends r.hears, r.broken) refl
 
     of : (a b : NodeSpec) → IsLeast (OfLinks t synced a b) (links_gap t synced a b)
     of a b =
         least-where (Below (AtDouble t synced a b) t.doubles) (is_pair t a b) _
-        (least-below (AtDouble t synced a b) (link_gap t synced a b) t.doubles (λ k. least-unless (is_early synced k || is_heard t a b k) (gap.Link a.id b.id k)) (doubles_apart t synced a b))
+        (least-below (AtDouble t synced a b) (link_gap t synced a b) t.doubles (λ k. least-unless (not (is_asked t synced a b k) || is_heard t a b k) (gap.Link a.id b.id k)) (doubles_apart t synced a b))
 
     from_sender : (a : NodeSpec) → IsLeast (Among (OfLinks t synced a) p.nodes) (first_in (links_gap t synced a) p.nodes)
     from_sender a =

@@ -104,16 +104,16 @@ lawful_none p t lawful = by_found (first_breach_of p t) refl
     by_found (Some u) e = absurd (lawful u (found_breach_is_first p t u e).is_breach)
 
 -- the number of an item's record
-pub record Unbroken (p : Values) (item : Item) : Type 0 where
+pub record Unbroken (p : Values) (t : TraceView) (item : Item) : Type 0 where
   pub number : ℕ
-  pub none : (rank : ℕ) → rank < 6 → breach_by p number item rank ≡ None
+  pub none : (rank : ℕ) → rank < 7 → breach_by p t number item rank ≡ None
 
-pub unbroken : (p : Values) (t : TraceView) (later h : History) (r : Record) (item : Item) → IsLawfulTrace p t → t.history ≡ later ++ r ∷ h → IsIn (items_by h r r.rows) item → Unbroken p item
+pub unbroken : (p : Values) (t : TraceView) (later h : History) (r : Record) (item : Item) → IsLawfulTrace p t → t.history ≡ later ++ r ∷ h → IsIn (items_by h r r.rows) item → Unbroken p t item
 unfolding first_breach_of
 unbroken p t later h r item lawful parted w =
     let v : IsIn (items_in (later ++ r ∷ h)) item = in_history later h r item w in
     let there : item_in (items_in t.history) v.0 ≡ Some item = ap (λ (g : History). item_in (items_in g) v.0) parted ∙ v.1 in
     record {
       number = first_number t + v.0;
-      none = λ rank lt. none_below (breach_by p (first_number t + v.0) item) 6 rank (none_along p (first_number t) (items_in t.history) v.0 item (lawful_none p t lawful) there) lt;
+      none = λ rank lt. none_below (breach_by p t (first_number t + v.0) item) 7 rank (none_along p t (first_number t) (items_in t.history) v.0 item (lawful_none p t lawful) there) lt;
     }

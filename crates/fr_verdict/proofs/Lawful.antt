@@ -1,5 +1,5 @@
 -- The clocks of a lawful trace run by their laws.
-use Rattle.std.proofs.Common.{◌≡◌, ℕ, zero, suc, ◌<◌, ◌==◌, ℤ, Bool, true, false, List, [], ◌∷◌, ◌++◌, length, append_assoc, All, Option, None, refl, ap, sym, ◌∙◌, subst, ◌⊎◌, inl, inr, arith}
+use Rattle.std.proofs.Common.{◌≡◌, ℕ, zero, suc, ◌<◌, ◌==◌, ℤ, Bool, true, false, List, [], ◌∷◌, ◌++◌, length, All, Option, None, refl, ap, sym, ◌∙◌, subst, ◌⊎◌, inl, inr, arith}
 use Rattle.std.specs.Prelude.{Contains, unwrap_or, slice_index_or}
 use Rattle.std.specs.Option.{option_map_or}
 use Rattle.std.proofs.lemmas.Int.{ints}
@@ -11,17 +11,16 @@ use Rattle.fr_cluster.specs.Values.{Values}
 use Rattle.fr_cluster.proofs.KeyNodes.{AllPairs-first, AllPairs-rest, Contains-cons_cases}
 use Rattle.fr_round.proofs.Lists.{Contains-none, sole_found}
 use Rattle.fr_clocks.specs.Clocks.{blank_row, row_for}
-use Rattle.fr_clocks.specs.Histories.{AllClocksRun}
 use Rattle.fr_history.specs.History.{History, Record, record_at}
-use Rattle.fr_history.specs.Lawful.{ClocksRun, offset_after, rate_after, start_after}
+use Rattle.fr_history.specs.Lawful.{offset_after}
 use Rattle.fr_history.specs.Terms.{status_in}
 use Rattle.fr_history.proofs.Synced.{record_of_cut}
-use Rattle.fr_trace.specs.Fits.{FitsRecord, TraceFits}
+use Rattle.fr_trace.specs.Fits.{FitsRecord, HistoryFits, TraceFits}
 use Rattle.fr_trace.specs.Items.Item.{Clock}
-use Rattle.fr_trace.specs.Lasting.{IsTrace, IsTracedRecord}
+use Rattle.fr_trace.specs.Lasting.{IsTracedRecord}
 use Rattle.fr_trace.specs.Trace.{TraceView, rows_at}
 use Rattle.fr_verdict.specs.Breach.{IsLawfulTrace, rate_behind, start_behind}
-use Rattle.fr_verdict.specs.Precision.{LawfulTracesRun, traced}
+use Rattle.fr_verdict.specs.Precision.{LawfulTracesRun, recorded_row}
 use Rattle.fr_verdict.specs.Search.{breach_by, is_same, state_number, unless}
 use Rattle.fr_verdict.specs.declared.unlawful.Unlawful.{Unlawful}
 use Rattle.fr_verdict.specs.declared.unlawful.Unlawful.TheVariants as unlawful
@@ -48,15 +47,15 @@ same_states Halt Passive e = cc e
 same_states Halt Halt e = refl
 
 -- a row that breaks no law
-record IsRow (p : Values) (h : History) (r : Record) (row : NodeRow) : Type 0 where
-  start : row.start ≡ start_behind p h row
-  rate : row.rate ≡ rate_behind p h row
-  state : row.state ≡ (status_in p h row.node).state
-  offset : row.offset ≡ offset_after p h r row
+pub record IsRow (p : Values) (h : History) (r : Record) (row : NodeRow) : Type 0 where
+  pub start : row.start ≡ start_behind p h row
+  pub rate : row.rate ≡ rate_behind p h row
+  pub state : row.state ≡ (status_in p h row.node).state
+  pub offset : row.offset ≡ offset_after p h r row
 
-is_row : (p : Values) (h : History) (r : Record) (row : NodeRow) → Unbroken p (Clock h r row) → IsRow p h r row
+is_row : (p : Values) (t : TraceView) (h : History) (r : Record) (row : NodeRow) → Unbroken p t (Clock h r row) → IsRow p h r row
 unfolding breach_by
-is_row p h r row w = record {
+is_row p t h r row w = record {
   start = same_by row.start (start_behind p h row) (passed_by (is_same row.start (start_behind p h row)) (unlawful.Start w.number row.start (start_behind p h row)) (w.none 0 (omega arith)));
   rate = same_by row.rate (rate_behind p h row) (passed_by (is_same row.rate (rate_behind p h row)) (unlawful.Rate w.number row.rate (rate_behind p h row)) (w.none 1 (omega arith)));
   state =
@@ -121,43 +120,34 @@ each_of P rows each = λ k d lt. each (slice_index_or rows k d) (k, lt, containe
     contained (row ∷ rows) zero d lt = refl
     contained (row ∷ rows) (suc k) d lt = contained rows k d (omega arith)
 
-clocks : (p : Values) (t : TraceView) (later h : History) (r : Record) → IsTrace t → TraceFits p t → IsLawfulTrace p t → t.history ≡ later ++ r ∷ h → ClocksRun (traced p t) h r
-clocks p t later h r trace fits lawful parted = record {
-  nodes = fit.nodes;
-  starts = each_of (λ row. row.start ≡ start_after (traced p t) h row.node) r.rows (λ row among. start_is h parted row among);
-  lengths = each_of (λ row. row.length ≡ (row_for (rows_at t.history (length h)) row.node).length) r.rows (λ row among. sym (ap (λ (x : NodeRow). x.length) (kept row among)));
-  rates = each_of (λ row. row.rate ≡ rate_after (traced p t) h row.node) r.rows (λ row among. rate_is h parted row among);
-  states = each_of (λ row. row.state ≡ (status_in p h row.node).state) r.rows (λ row among. (own h parted row among).state);
-  offsets = each_of (λ row. row.offset ≡ offset_after p h r row) r.rows (λ row among. (own h parted row among).offset);
+-- each record of a trace fits behind the records before it
+fits_part : (p : Values) (t : TraceView) (later h : History) (r : Record) → HistoryFits p t (later ++ r ∷ h) → FitsRecord p t h r
+unfolding HistoryFits
+fits_part p t [] h r fits = fits.0
+fits_part p t (s ∷ later) h r fits = fits_part p t later h r fits.1
+
+pub record_fits : (p : Values) (t : TraceView) (later h : History) (r : Record) → TraceFits p t → t.history ≡ later ++ r ∷ h → FitsRecord p t h r
+record_fits p t later h r fits parted = fits_part p t later h r (subst (HistoryFits p t) parted fits.records)
+
+-- each of its rows breaks no law
+pub lawful_row : (p : Values) (t : TraceView) (later h : History) (r : Record) (row : NodeRow) → IsLawfulTrace p t → t.history ≡ later ++ r ∷ h → Contains r.rows row → IsRow p h r row
+lawful_row p t later h r row lawful parted among = is_row p t h r row (unbroken p t later h r (Clock h r row) lawful parted (row_there h r r.rows row among))
+
+pub lawful_traces_run : LawfulTracesRun
+lawful_traces_run p t trace fits lawful later h r parted = record {
+  nodes = (record_fits p t later h r fits parted).nodes;
+  starts = each_of (λ row. row.start ≡ start_behind p h (recorded_row t h row.node)) r.rows (λ row among. (own row among).start ∙ ap (start_behind p h) (sym (kept row among)));
+  lengths = each_of (λ row. row.length ≡ (recorded_row t h row.node).length) r.rows (λ row among. sym (ap (λ (x : NodeRow). x.length) (kept row among)));
+  rates = each_of (λ row. row.rate ≡ rate_behind p h (recorded_row t h row.node)) r.rows (λ row among. (own row among).rate ∙ ap (rate_behind p h) (sym (kept row among)));
+  states = each_of (λ row. row.state ≡ (status_in p h row.node).state) r.rows (λ row among. (own row among).state);
+  offsets = each_of (λ row. row.offset ≡ offset_after p h r row) r.rows (λ row among. (own row among).offset);
 }
   where
-    fit : FitsRecord p t r
-    fit = record_part (FitsRecord p t) t later h r parted fits.records
-
     is : IsTracedRecord r
     is = record_part IsTracedRecord t later h r parted trace.records
 
-    kept : (row : NodeRow) → Contains r.rows row → row_for (rows_at t.history (length h)) row.node ≡ row
+    kept : (row : NodeRow) → Contains r.rows row → recorded_row t h row.node ≡ row
     kept row among = ap (λ (rows : List NodeRow). row_for rows row.node) (rows_are t later h r parted) ∙ own_row r.rows row is.rows_ascend among
 
-    own : (g : History) → t.history ≡ later ++ r ∷ g → (row : NodeRow) → Contains r.rows row → IsRow p g r row
-    own g at row among = is_row p g r row (unbroken p t later g r (Clock g r row) lawful at (row_there g r r.rows row among))
-
-    first_is : (row : NodeRow) → t.history ≡ later ++ r ∷ [] → Contains r.rows row → row_for (rows_at t.history 0) row.node ≡ row
-    first_is row at among = ap (λ (rows : List NodeRow). row_for rows row.node) (rows_are t later [] r at) ∙ own_row r.rows row is.rows_ascend among
-
-    start_is : (g : History) → t.history ≡ later ++ r ∷ g → (row : NodeRow) → Contains r.rows row → row.start ≡ start_after (traced p t) g row.node
-    start_is [] at row among = sym (ap (λ (x : NodeRow). x.start) (first_is row at among))
-    start_is (s ∷ g) at row among = (own (s ∷ g) at row among).start
-
-    rate_is : (g : History) → t.history ≡ later ++ r ∷ g → (row : NodeRow) → Contains r.rows row → row.rate ≡ rate_after (traced p t) g row.node
-    rate_is [] at row among = sym (ap (λ (x : NodeRow). x.rate) (first_is row at among))
-    rate_is (s ∷ g) at row among = (own (s ∷ g) at row among).rate
-
-run_on : (p : Values) (t : TraceView) (later h : History) → IsTrace t → TraceFits p t → IsLawfulTrace p t → t.history ≡ later ++ h → AllClocksRun (traced p t) h
-run_on p t later [] trace fits lawful parted = tt
-run_on p t later (r ∷ h) trace fits lawful parted =
-    (clocks p t later h r trace fits lawful parted, run_on p t (later ++ r ∷ []) h trace fits lawful (parted ∙ sym (append_assoc later (r ∷ []) h)))
-
-pub lawful_traces_run : LawfulTracesRun
-lawful_traces_run p t trace fits lawful = run_on p t [] t.history trace fits lawful refl
+    own : (row : NodeRow) → Contains r.rows row → IsRow p h r row
+    own row among = lawful_row p t later h r row lawful parted among

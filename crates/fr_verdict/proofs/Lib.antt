@@ -1,4 +1,5 @@
 pub mod Worked
+pub mod Syncing
 pub mod Finding
 pub mod Passing
 pub mod Gaps
@@ -6,4 +7,7 @@ pub mod OneGap
 pub mod Answering
 pub mod Items
 pub mod Lawful
+pub mod Standing
+pub mod Recorded
+pub mod Heard
 pub mod Checked

@@ -7,13 +7,13 @@ use Rattle.std.specs.Cmp.Lexicographic.{slice_cmp}
 use Rattle.std.proofs.lemmas.Cmp.{nat_list_cmp_total}
 use Rattle.std.proofs.lemmas.Map.Lookups.{exact_bytes}
 use Rattle.fr_cluster.specs.Values.{Values}
-use Rattle.fr_coverage.specs.Order.{IsCheckGap, place_of_gap}
+use Rattle.fr_coverage.specs.Order.{place_of_gap}
 use Rattle.fr_coverage.specs.declared.gap.Gap.{Gap}
 use Rattle.fr_coverage.proofs.GapParts.{kind_of, place-split}
 use Rattle.fr_coverage.proofs.Least.{IsLeast}
 use Rattle.fr_trace.specs.Trace.{TraceView}
 use Rattle.fr_verdict.specs.FirstGap.{FirstGapIsFound, first_gap_of}
-use Rattle.fr_verdict.specs.Gaps.{IsChangeGap, IsFirstTraceGap, IsLengthGap, IsLinkGap, IsTraceGap}
+use Rattle.fr_verdict.specs.Gaps.{IsChangeGap, IsCheckGap, IsFirstTraceGap, IsLengthGap, IsLinkGap, IsTraceGap}
 use Rattle.fr_verdict.proofs.Gaps.{FromChange, FromCount, FromLength, from_change, from_count, from_length, gaps_least}
 
 one_check : (p : Values) (g h : Gap) → place_of_gap g ≡ place_of_gap h → IsCheckGap p g → IsCheckGap p h → g ≡ h

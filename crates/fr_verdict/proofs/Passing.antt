@@ -10,9 +10,9 @@ or_along (Some u) b c = refl
 
 pub passes_in_parts : PassesInParts
 unfolding first_from
-passes_in_parts p n [] ys = let e : n ≡ n + 0 = omega arith in ap (λ (m : ℕ). first_from p m ys) e
-passes_in_parts p n (item ∷ xs) ys =
+passes_in_parts p t n [] ys = let e : n ≡ n + 0 = omega arith in ap (λ (m : ℕ). first_from p t m ys) e
+passes_in_parts p t n (item ∷ xs) ys =
     let e : suc n + length xs ≡ n + suc (length xs) = omega arith in
-    ap (option_or (breach_at p n item)) (passes_in_parts p (suc n) xs ys)
-    ∙ or_along (breach_at p n item) (first_from p (suc n) xs) (first_from p (suc n + length xs) ys)
-    ∙ ap (λ (m : ℕ). option_or (option_or (breach_at p n item) (first_from p (suc n) xs)) (first_from p m ys)) e
+    ap (option_or (breach_at p t n item)) (passes_in_parts p t (suc n) xs ys)
+    ∙ or_along (breach_at p t n item) (first_from p t (suc n) xs) (first_from p t (suc n + length xs) ys)
+    ∙ ap (λ (m : ℕ). option_or (option_or (breach_at p t n item) (first_from p t (suc n) xs)) (first_from p t m ys)) e

@@ -4,7 +4,6 @@ use Rattle.fr_bound.specs.Sync.{is_in_sync}
 use Rattle.fr_coverage.specs.First.{first_below, first_in}
 use Rattle.fr_history.specs.History.{record_at}
 use Rattle.fr_history.specs.Skew.{greatest_skew_of}
-use Rattle.fr_history.specs.Sync.{first_sync_of}
 use Rattle.fr_history.specs.Terms.{outcomes_in}
 use Rattle.fr_measure.specs.Values.{values_of}
 use Rattle.fr_midpoint.specs.Midpoint.{midpoint_by_ranks}
@@ -14,7 +13,8 @@ use Rattle.fr_trace.specs.Items.{items_by, items_in, numbered}
 use Rattle.fr_trace.specs.Trace.{row_at}
 use Rattle.fr_verdict.specs.FirstGap.{first_gap_of}
 use Rattle.fr_verdict.specs.Search.{breach_by, first_breach_of, first_from}
-use Rattle.fr_verdict.specs.Worked.{DevsAreBroken, GapsAreFound, ItemsAreNumbered, RowsAreBroken, TermsAreBroken, WorkedIsLawful}
+use Rattle.fr_verdict.specs.Sync.{first_synced_of}
+use Rattle.fr_verdict.specs.Worked.{DevsAreBroken, GapsAreFound, ItemsAreNumbered, JoinedIsLawful, NodesAreApart, RowsAreBroken, TermsAreBroken, WorkedIsLawful}
 
 -- what computing a trace opens
 unfoldable pub on_traces : ⊤
@@ -26,7 +26,7 @@ unfolding on_traces
 items_are_numbered = refl
 
 pub worked_is_lawful : WorkedIsLawful
-unfolding on_traces is_in_sync first_sync_of greatest_skew_of greatest_within spread_at
+unfolding on_traces is_in_sync first_synced_of greatest_skew_of greatest_within spread_at
 worked_is_lawful = (refl, refl, refl)
 
 pub rows_are_broken : RowsAreBroken
@@ -42,5 +42,13 @@ unfolding on_traces
 devs_are_broken = (refl, refl)
 
 pub gaps_are_found : GapsAreFound
-unfolding on_traces is_in_sync first_sync_of first_gap_of first_in
+unfolding on_traces is_in_sync first_synced_of first_gap_of first_in
 gaps_are_found = (refl, refl, refl)
+
+pub joined_is_lawful : JoinedIsLawful
+unfolding on_traces is_in_sync first_synced_of first_gap_of first_in
+joined_is_lawful = (refl, refl, refl)
+
+pub nodes_are_apart : NodesAreApart
+unfolding on_traces is_in_sync first_synced_of
+nodes_are_apart = (refl, refl)

@@ -3,27 +3,26 @@ use Rattle.std.specs.Prelude.{◌≡◌, ◌⊎◌, ℕ, pos, Option, Some, None
 use Rattle.fr_cluster.specs.Sane.{IsSane}
 use Rattle.fr_cluster.specs.Values.{Values}
 use Rattle.fr_coverage.specs.declared.gap.Gap.{Gap}
-use Rattle.fr_history.specs.History.{History}
 use Rattle.fr_history.specs.Skew.{IsGreatestSkew}
-use Rattle.fr_history.specs.Sync.{IsFirstInSync, IsInSyncAt}
 use Rattle.fr_trace.specs.Lasting.{IsTrace}
 use Rattle.fr_trace.specs.Trace.{TraceView}
 use Rattle.fr_verdict.specs.Breach.{IsFirstBreach, IsLawfulTrace}
 use Rattle.fr_verdict.specs.Gaps.{IsCoveredTrace, IsFirstTraceGap}
+use Rattle.fr_verdict.specs.Sync.{IsFirstSynced, IsSyncedAt}
 use Rattle.fr_verdict.specs.declared.unlawful.Unlawful.{Unlawful}
 use Rattle.fr_verdict.specs.declared.unlawful.Unlawful.TheVariants as unlawful
 use Rattle.fr_verdict.specs.declared.unlawful.Verdict.{Verdict}
 
--- the first double cycle in sync, or that there is none
-abbrev pub IsSyncedFrom : Values → History → Option ℕ → Type 0
-IsSyncedFrom p h None = (double : ℕ) → IsInSyncAt p h double → ⊥
-IsSyncedFrom p h (Some double) = IsFirstInSync p h double
+-- the first double cycle in sync, in which none follows, or that there is none
+abbrev pub IsSyncedFrom : Values → TraceView → Option ℕ → Type 0
+IsSyncedFrom p t None = (double : ℕ) → IsSyncedAt p t double → ⊥
+IsSyncedFrom p t (Some double) = IsFirstSynced p t double
 
 -- the verdict of a lawful trace without a gap: the first double cycle in sync, and the greatest skew with its first place
 pub record IsVerdict (p : Values) (t : TraceView) (v : Verdict) : Type 0 where
   pub lawful : IsLawfulTrace p t
   pub covered : IsCoveredTrace p t
-  pub synced : IsSyncedFrom p t.history v.synced
+  pub synced : IsSyncedFrom p t v.synced
   pub macrotick : ℕ
   pub is_macrotick : v.macrotick ≡ pos macrotick
   pub skew : IsGreatestSkew p t.history v.skew v.cycle macrotick

@@ -1,11 +1,14 @@
--- What breaks a law of a trace at one of its items: facts about the item and the records before it.
-use Rattle.std.specs.Prelude.{◌≡◌, ◌≢◌, ◌⊎◌, ℕ, ◌<◌, ℤ, pos, ◌+ℤ◌, ◌-ℤ◌, ◌<ℤ◌, Bool, [], ◌∷◌, length, Option, Some, None, option_and_then, if◌then◌else◌}
+-- What breaks a law of a trace at one of its items: facts about the item, the records before it, and, for nodes that join, the
+-- trace.
+use Rattle.std.specs.Prelude.{◌≡◌, ◌≢◌, ◌⊎◌, ℕ, ◌<◌, ◌≤◌, ◌/◌, ℤ, pos, ◌+ℤ◌, ◌-ℤ◌, ◌<ℤ◌, ◌&&◌, not, Bool, true, false, [], ◌∷◌, length, Option, Some, None, is_some, option_and_then, if◌then◌else◌}
+use Rattle.std.specs.Option.{option_map_or}
 use Rattle.fr_base.specs.States.{is_active, is_halted}
 use Rattle.fr_base.specs.declared.dev.Dev.{Dev}
 use Rattle.fr_base.specs.declared.node_row.NodeRow.{NodeRow}
 use Rattle.fr_base.specs.declared.state.State.{State}
 use Rattle.fr_cluster.specs.Searches.{key_node_in}
 use Rattle.fr_cluster.specs.Values.{Values}
+use Rattle.fr_cluster.specs.declared.nodes.NodeSpec.{NodeSpec}
 use Rattle.fr_time.specs.Cycles.{is_odd}
 use Rattle.fr_time.specs.Position.{floor_of}
 use Rattle.fr_time.specs.Slots.{action_point_of}
@@ -13,24 +16,36 @@ use Rattle.fr_bound.specs.Bounds.{arrival_error}
 use Rattle.fr_precision.specs.Instants.{gap_of}
 use Rattle.fr_history.specs.History.{History, Record, clock_of, row_of}
 use Rattle.fr_history.specs.Lawful.{offset_after, rate_by, start_by}
+use Rattle.fr_history.specs.Sync.{IsInSyncAt}
 use Rattle.fr_history.specs.Terms.{status_in}
 use Rattle.fr_trace.specs.Items.{IsAt, Item}
 use Rattle.fr_trace.specs.Items.Item.{Clock, Heard}
-use Rattle.fr_trace.specs.Trace.{TraceView}
+use Rattle.fr_trace.specs.Trace.{TraceView, is_named}
+use Rattle.fr_verdict.specs.Sync.{IsFirstSynced}
 use Rattle.fr_verdict.specs.declared.unlawful.Unlawful.{Unlawful}
 use Rattle.fr_verdict.specs.declared.unlawful.Unlawful.TheVariants as unlawful
 
 -- ---- rows
 
--- the start of a node's cycle by the records before it: in cycle 0 it is free, then it is where the cycle before ends
+-- the start of a node's cycle by its row in the cycle before: without one it is free, else it is where that cycle ends
+abbrev pub start_from : Values → NodeRow → Option NodeRow → ℤ
+start_from p row None = row.start
+start_from p row (Some before) = start_by p (Some before)
+
+-- by the records before it: in cycle 0 it is free, and in the first cycle of a node that joins
 abbrev pub start_behind : Values → History → NodeRow → ℤ
 start_behind p [] row = row.start
-start_behind p (r ∷ h) row = start_by p (clock_of r row.node)
+start_behind p (r ∷ h) row = start_from p row (clock_of r row.node)
 
--- its rate: in cycle 0 it is free, then within a double cycle it stays, and after one it is the rate term of its deviations
+-- its rate: where its start is free this is too, within a double cycle it stays, and after one it is the rate term of its
+-- deviations
+abbrev pub rate_from : Values → History → Record → NodeRow → Option NodeRow → ℤ
+rate_from p h r row None = row.rate
+rate_from p h r row (Some before) = rate_by p h r (Some before)
+
 abbrev pub rate_behind : Values → History → NodeRow → ℤ
 rate_behind p [] row = row.rate
-rate_behind p (r ∷ h) row = rate_by p h r (clock_of r row.node)
+rate_behind p (r ∷ h) row = rate_from p h r row (clock_of r row.node)
 
 -- a start is not the end of the cycle before
 pub record IsWrongStart (p : Values) (h : History) (row : NodeRow) (kept wanted : ℤ) : Type 0 where
@@ -62,6 +77,14 @@ pub record IsWrongOffset (p : Values) (h : History) (r : Record) (row : NodeRow)
 abbrev pub sender_row : Values → Record → ℕ → Option NodeRow
 sender_row p r slot = option_and_then (λ node. row_of r.rows node.id) (key_node_in p.nodes slot)
 
+-- whether a node is correct and has no row in a record, as before it joins
+abbrev pub is_away : TraceView → Record → NodeSpec → Bool
+is_away t r node = not (is_named t node.id) && not (is_some (row_of r.rows node.id))
+
+-- whether the node whose key slot a slot is has none there
+abbrev pub sender_is_away : Values → TraceView → Record → ℕ → Bool
+sender_is_away p t r slot = option_map_or (is_away t r) (key_node_in p.nodes slot) false
+
 -- the state for which a deviation cannot be: that of a correct sender that is not active, or else that of a receiver in Halt
 abbrev pub halted_state : Option NodeRow → Option State
 halted_state None = None
@@ -71,9 +94,14 @@ abbrev pub silent_state : Option NodeRow → Option NodeRow → Option State
 silent_state None receiver = halted_state receiver
 silent_state (Some sender) receiver = if is_active sender.state then halted_state receiver else Some sender.state
 
+-- of a correct sender without a row nothing is said here
+abbrev pub silent_in : Values → TraceView → Record → Dev → Option State
+silent_in p t r dev =
+    if sender_is_away p t r dev.slot then None else silent_state (sender_row p r dev.slot) (row_of r.rows dev.receiver)
+
 -- no frame can have come: the sender did not send, or the receiver did not receive
-abbrev pub IsSilent : Values → Record → Dev → State → Type 0
-IsSilent p r dev state = silent_state (sender_row p r dev.slot) (row_of r.rows dev.receiver) ≡ Some state
+abbrev pub IsSilent : Values → TraceView → Record → Dev → State → Type 0
+IsSilent p t r dev state = silent_in p t r dev ≡ Some state
 
 -- the least and the greatest deviation, in microticks, that both rows and the error of an arrival allow
 abbrev pub low_of : Values → Bool → ℕ → NodeRow → NodeRow → ℤ
@@ -93,9 +121,30 @@ pub record IsOutside (p : Values) (h : History) (r : Record) (dev : Dev) (kept l
   pub is_high : high ≡ high_of p (is_odd (length h)) dev.slot sender receiver
   pub outside : (kept <ℤ low) ⊎ (high <ℤ kept)
 
+-- ---- nodes that join
+
+-- whether a row is the first of a node that joins: its node has none in the record before
+abbrev pub is_first_row : History → NodeRow → Bool
+is_first_row [] row = false
+is_first_row (r ∷ h) row = not (is_some (clock_of r row.node))
+
+-- a node has its first row in a double cycle that is not in sync, and that is not before the first one in sync
+pub record IsApartRow (p : Values) (t : TraceView) (h : History) (row : NodeRow) (double : ℕ) : Type 0 where
+  pub first_row : is_first_row h row ≡ true
+  pub synced : ℕ
+  pub first : IsFirstSynced p t synced
+  pub from : synced ≤ double
+  pub apart : IsInSyncAt p t.history double → ⊥
+  pub told : double ≡ length h / 2
+
+-- a deviation is about a correct node that has no row in this cycle
+pub record IsApartDev (p : Values) (t : TraceView) (h : History) (r : Record) (dev : Dev) (double : ℕ) : Type 0 where
+  pub away : sender_is_away p t r dev.slot ≡ true
+  pub told : double ≡ length h / 2
+
 -- ---- breaches
 
--- a fact of an item that is a node's cycle, and of one that is a deviation
+-- a fact of an item that is a node's cycle, of one that is a deviation, and of either
 abbrev pub OfRow : Item → (History → Record → NodeRow → Type 0) → Type 0
 OfRow (Clock h r row) Fact = Fact h r row
 OfRow (Heard h r dev) Fact = ⊥
@@ -104,15 +153,21 @@ abbrev pub OfDev : Item → (History → Record → Dev → Type 0) → Type 0
 OfDev (Clock h r row) Fact = ⊥
 OfDev (Heard h r dev) Fact = Fact h r dev
 
+abbrev pub OfEither : Item → (History → Record → NodeRow → Type 0) → (History → Record → Dev → Type 0) → Type 0
+OfEither (Clock h r row) RowFact DevFact = RowFact h r row
+OfEither (Heard h r dev) RowFact DevFact = DevFact h r dev
+
 -- an item breaks a law in this way; that a trace is not covered is no breach
-abbrev pub Breaks : Values → Item → Unlawful → Type 0
-Breaks p item (unlawful.Start number kept wanted) = OfRow item (λ h r row. IsWrongStart p h row kept wanted)
-Breaks p item (unlawful.Rate number kept wanted) = OfRow item (λ h r row. IsWrongRate p h row kept wanted)
-Breaks p item (unlawful.Turn number kept wanted) = OfRow item (λ h r row. IsWrongTurn p h row kept wanted)
-Breaks p item (unlawful.Offset number kept wanted) = OfRow item (λ h r row. IsWrongOffset p h r row kept wanted)
-Breaks p item (unlawful.Silent number state) = OfDev item (λ h r dev. IsSilent p r dev state)
-Breaks p item (unlawful.Deviation number kept low high) = OfDev item (λ h r dev. IsOutside p h r dev kept low high)
-Breaks p item (unlawful.Uncovered gap) = ⊥
+abbrev pub Breaks : Values → TraceView → Item → Unlawful → Type 0
+Breaks p t item (unlawful.Start number kept wanted) = OfRow item (λ h r row. IsWrongStart p h row kept wanted)
+Breaks p t item (unlawful.Rate number kept wanted) = OfRow item (λ h r row. IsWrongRate p h row kept wanted)
+Breaks p t item (unlawful.Turn number kept wanted) = OfRow item (λ h r row. IsWrongTurn p h row kept wanted)
+Breaks p t item (unlawful.Offset number kept wanted) = OfRow item (λ h r row. IsWrongOffset p h r row kept wanted)
+Breaks p t item (unlawful.Silent number state) = OfDev item (λ h r dev. IsSilent p t r dev state)
+Breaks p t item (unlawful.Deviation number kept low high) = OfDev item (λ h r dev. IsOutside p h r dev kept low high)
+Breaks p t item (unlawful.Apart number double) =
+    OfEither item (λ h r row. IsApartRow p t h row double) (λ h r dev. IsApartDev p t h r dev double)
+Breaks p t item (unlawful.Uncovered gap) = ⊥
 
 -- the number of the record that is told, and the rank of the law among the laws
 abbrev pub number_of : Unlawful → ℕ
@@ -122,6 +177,7 @@ number_of (unlawful.Turn number kept wanted) = number
 number_of (unlawful.Offset number kept wanted) = number
 number_of (unlawful.Silent number state) = number
 number_of (unlawful.Deviation number kept low high) = number
+number_of (unlawful.Apart number double) = number
 number_of (unlawful.Uncovered gap) = 0
 
 abbrev pub rank_in : Unlawful → ℕ
@@ -131,13 +187,14 @@ rank_in (unlawful.Turn number kept wanted) = 2
 rank_in (unlawful.Offset number kept wanted) = 3
 rank_in (unlawful.Silent number state) = 4
 rank_in (unlawful.Deviation number kept low high) = 5
-rank_in (unlawful.Uncovered gap) = 6
+rank_in (unlawful.Apart number double) = 6
+rank_in (unlawful.Uncovered gap) = 7
 
 -- a breach of a trace: the item of the record that is told breaks the law
 pub record IsBreach (p : Values) (t : TraceView) (u : Unlawful) : Type 0 where
   pub item : Item
   pub at : IsAt t (number_of u) item
-  pub breaks : Breaks p item u
+  pub breaks : Breaks p t item u
 
 -- a breach comes before another: by record number, and then by law
 abbrev pub ComesBefore : Unlawful → Unlawful → Type 0

@@ -1,25 +1,33 @@
 -- The first gap of a trace as a function.
-use Rattle.std.specs.Prelude.{◌≡◌, ℕ, suc, ◌-ℤ◌, ◌||◌, Bool, true, nat_lt, length, Option, Some, None, option_and_then, if◌then◌else◌}
+use Rattle.std.specs.Prelude.{◌≡◌, ℕ, suc, pos, ◌-ℤ◌, ◌&&◌, ◌||◌, not, Bool, length, Option, Some, None, option_and_then, if◌then◌else◌}
 use Rattle.std.specs.Option.{option_or}
 use Rattle.fr_base.specs.declared.node_row.NodeRow.{NodeRow}
 use Rattle.fr_cluster.specs.Sane.{IsSane}
 use Rattle.fr_cluster.specs.Values.{Values}
 use Rattle.fr_cluster.specs.declared.nodes.NodeSpec.{NodeSpec}
+use Rattle.fr_bound.specs.Checks.{holds_of, left_of, right_of}
 use Rattle.fr_round.specs.Round.{sync_count}
-use Rattle.fr_coverage.specs.Coverage.{checks_gap, has_jumped, is_off, outweighs}
+use Rattle.fr_coverage.specs.Coverage.{has_jumped, is_off, outweighs}
 use Rattle.fr_coverage.specs.First.{first_below, first_in}
 use Rattle.fr_coverage.specs.declared.gap.Gap.{Gap}
 use Rattle.fr_coverage.specs.declared.gap.Gap.TheVariants as gap
 use Rattle.fr_history.specs.History.{History}
-use Rattle.fr_history.specs.Sync.{first_sync_of}
 use Rattle.fr_trace.specs.Trace.{TraceView, is_named, row_at}
-use Rattle.fr_verdict.specs.Gaps.{IsCoveredTrace, IsFirstTraceGap, is_heard, is_pair, is_unnamed}
+use Rattle.fr_verdict.specs.Gaps.{IsCoveredTrace, IsFirstTraceGap, has_rows, is_heard, is_lasting, is_pair}
+use Rattle.fr_verdict.specs.Sync.{first_synced_of, is_early}
+
+-- the check after k others, numbered from 1, fails
+abbrev pub check_gap : Values → ℕ → Option Gap
+check_gap p k = if holds_of (suc k) p then None else Some (gap.Check (suc k) (pos (left_of (suc k) p)) (pos (right_of (suc k) p)))
+
+abbrev pub checks_gap : Values → Option Gap
+checks_gap p = first_below (check_gap p) 5
 
 abbrev pub weighed : ℕ → ℕ → Option Gap
 weighed correct arbitrary = if outweighs correct arbitrary then None else Some (gap.Count correct arbitrary)
 
 abbrev pub count_gap : Values → TraceView → Option Gap
-count_gap p t = weighed (sync_count p (is_unnamed t)) (sync_count p (is_named t))
+count_gap p t = weighed (sync_count p (is_lasting t)) (sync_count p (is_named t))
 
 -- of one node in one cycle
 abbrev pub length_by : Values → ℕ → ℕ → NodeRow → Option Gap
@@ -43,14 +51,15 @@ lengths_gap p t node = first_below (length_gap p t.history node.id) (length t.hi
 abbrev pub changes_gap : Values → TraceView → NodeSpec → Option Gap
 changes_gap p t node = first_below (change_gap p t.history node.id) (length t.history)
 
--- of one pair of nodes, with the first double cycle in sync
-abbrev pub is_early : Option ℕ → ℕ → Bool
-is_early None double = true
-is_early (Some synced) double = nat_lt double synced
+-- of one pair of nodes, with the first double cycle in sync: whether it is looked at in a double cycle
+abbrev pub is_asked : TraceView → Option ℕ → NodeSpec → NodeSpec → ℕ → Bool
+is_asked t synced sender receiver double =
+    not (is_early synced double) && has_rows t.history double sender && has_rows t.history double receiver
 
 abbrev pub link_gap : TraceView → Option ℕ → NodeSpec → NodeSpec → ℕ → Option Gap
 link_gap t synced sender receiver double =
-    if is_early synced double || is_heard t sender receiver double then None else Some (gap.Link sender.id receiver.id double)
+    if not (is_asked t synced sender receiver double) || is_heard t sender receiver double then None
+    else Some (gap.Link sender.id receiver.id double)
 
 abbrev pub links_gap : TraceView → Option ℕ → NodeSpec → NodeSpec → Option Gap
 links_gap t synced sender receiver = if is_pair t sender receiver then first_below (link_gap t synced sender receiver) t.doubles else None
@@ -64,7 +73,7 @@ first_gap_of p t =
     option_or (checks_gap p)
     (option_or (count_gap p t)
     (option_or (first_in (lengths_gap p t) p.nodes)
-    (option_or (first_in (changes_gap p t) p.nodes) (pairs_gap p t (first_sync_of p t.history)))))
+    (option_or (first_in (changes_gap p t) p.nodes) (pairs_gap p t (first_synced_of p t)))))
 
 -- ---- it is what is meant
 

@@ -1,29 +1,42 @@
 -- Why a lawful trace is not covered by the precision theorem: facts about what it records.
-use Rattle.std.specs.Prelude.{◌≡◌, ◌⊎◌, ℕ, suc, ◌*◌, ◌==◌, ◌<◌, ◌≤◌, ◌-ℤ◌, ◌&&◌, ◌||◌, not, Bool, true, false, Contains, Some, option_and_then, is_some}
+use Rattle.std.specs.Prelude.{◌≡◌, ◌⊎◌, ℕ, suc, ◌*◌, ◌==◌, ◌<◌, ◌≤◌, pos, ◌-ℤ◌, ◌&&◌, ◌||◌, not, Bool, true, false, Contains, Some, option_and_then, is_some}
 use Rattle.fr_base.specs.Rows.{dev_in}
 use Rattle.fr_base.specs.declared.channel.Channel.{Channel}
 use Rattle.fr_base.specs.declared.channel.Channel.TheVariants as channel
 use Rattle.fr_base.specs.declared.node_row.NodeRow.{NodeRow}
 use Rattle.fr_cluster.specs.Values.{Values}
 use Rattle.fr_cluster.specs.declared.nodes.NodeSpec.{NodeSpec}
+use Rattle.fr_bound.specs.Checks.{holds_of, left_of, right_of}
 use Rattle.fr_round.specs.Round.{sync_count}
 use Rattle.fr_coverage.specs.Coverage.{has_jumped, is_off, outweighs}
 use Rattle.fr_coverage.specs.Links.{shares}
-use Rattle.fr_coverage.specs.Order.{IsCheckGap, IsEarlierGap}
+use Rattle.fr_coverage.specs.Order.{IsEarlierGap}
 use Rattle.fr_coverage.specs.declared.gap.Gap.{Gap}
 use Rattle.fr_coverage.specs.declared.gap.Gap.TheVariants as gap
 use Rattle.fr_history.specs.History.{History, record_at}
-use Rattle.fr_history.specs.Sync.{IsFirstInSync}
-use Rattle.fr_trace.specs.Trace.{TraceView, is_named, row_at}
+use Rattle.fr_trace.specs.Trace.{TraceView, is_named, join_in, row_at}
+use Rattle.fr_verdict.specs.Sync.{IsFirstSynced}
+
+-- one of the first five checks fails: the others are of a node that listens and follows, of which a trace tells nothing
+pub record IsCheckGap (p : Values) (g : Gap) : Type 0 where
+  pub number : ℕ
+  pub from : 1 ≤ number
+  pub to : number ≤ 5
+  pub fails : holds_of number p ≡ false
+  pub told : g ≡ gap.Check number (pos (left_of number p)) (pos (right_of number p))
 
 -- a node that a trace does not name arbitrary
 abbrev pub is_unnamed : TraceView → ℕ → Bool
 is_unnamed t node = not (is_named t node)
 
--- the correct nodes with a key slot do not outweigh the arbitrary ones
+-- such a node that does not join, but takes part from the first cycle on
+abbrev pub is_lasting : TraceView → ℕ → Bool
+is_lasting t node = is_unnamed t node && not (is_some (join_in t node))
+
+-- those of them that have a key slot do not outweigh the arbitrary nodes
 pub record IsCountGap (p : Values) (t : TraceView) (g : Gap) : Type 0 where
-  pub few : outweighs (sync_count p (is_unnamed t)) (sync_count p (is_named t)) ≡ false
-  pub told : g ≡ gap.Count (sync_count p (is_unnamed t)) (sync_count p (is_named t))
+  pub few : outweighs (sync_count p (is_lasting t)) (sync_count p (is_named t)) ≡ false
+  pub told : g ≡ gap.Count (sync_count p (is_lasting t)) (sync_count p (is_named t))
 
 -- a recorded microtick is too short or too long
 pub record IsLengthGap (p : Values) (t : TraceView) (g : Gap) : Type 0 where
@@ -64,7 +77,12 @@ is_heard_on t sender receiver double ch =
 abbrev pub is_heard : TraceView → NodeSpec → NodeSpec → ℕ → Bool
 is_heard t sender receiver double = is_heard_on t sender receiver double channel.A || is_heard_on t sender receiver double channel.B
 
--- from the first double cycle in sync on, no channel has a deviation of a correct sender in both cycles
+-- whether a node has a row in both cycles of a double cycle
+abbrev pub has_rows : History → ℕ → NodeSpec → Bool
+has_rows h double node = is_some (row_at h (2 * double) node.id) && is_some (row_at h (suc (2 * double)) node.id)
+
+-- from the first double cycle in sync on, no channel has a deviation of a correct sender in both cycles of a double cycle in
+-- which it and the receiver have rows
 pub record IsLinkGap (p : Values) (t : TraceView) (g : Gap) : Type 0 where
   pub sender : NodeSpec
   pub receiver : NodeSpec
@@ -72,10 +90,12 @@ pub record IsLinkGap (p : Values) (t : TraceView) (g : Gap) : Type 0 where
   pub receiver_there : Contains p.nodes receiver
   pub pair : is_pair t sender receiver ≡ true
   pub synced : ℕ
-  pub first : IsFirstInSync p t.history synced
+  pub first : IsFirstSynced p t synced
   pub double : ℕ
   pub from : synced ≤ double
   pub within : double < t.doubles
+  pub sends : has_rows t.history double sender ≡ true
+  pub hears : has_rows t.history double receiver ≡ true
   pub broken : is_heard t sender receiver double ≡ false
   pub told : g ≡ gap.Link sender.id receiver.id double
 

@@ -1,4 +1,5 @@
 -- what the public contract cites
+pub mod Sync
 pub mod Breach
 pub mod Gaps
 pub mod Answer

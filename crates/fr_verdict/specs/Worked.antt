@@ -12,12 +12,12 @@ use Rattle.fr_cluster.specs.declared.nodes.NodeSpec.{NodeSpec}
 use Rattle.fr_coverage.specs.declared.gap.Gap.TheVariants as gap
 use Rattle.fr_history.specs.History.{Record}
 use Rattle.fr_history.specs.Skew.{greatest_skew_of}
-use Rattle.fr_history.specs.Sync.{first_sync_of}
 use Rattle.fr_trace.specs.Items.{lines_of}
 use Rattle.fr_trace.specs.Items.Line.{CycleLine, DevLine}
 use Rattle.fr_trace.specs.Trace.{TraceView}
 use Rattle.fr_verdict.specs.FirstGap.{first_gap_of}
 use Rattle.fr_verdict.specs.Search.{first_breach_of}
+use Rattle.fr_verdict.specs.Sync.{first_synced_of}
 use Rattle.fr_verdict.specs.declared.unlawful.Unlawful.TheVariants as unlawful
 
 abbrev on_a : ℕ → NodeSpec
@@ -63,7 +63,7 @@ abbrev pub record_with : List NodeRow → List Dev → Record
 record_with rows devs = record { rows = rows; devs = devs; counts = no_counts }
 
 abbrev pub trace_with : Record → Record → TraceView
-trace_with even odd = record { doubles = 1; arbitrary = []; history = odd ∷ even ∷ [] }
+trace_with even odd = record { doubles = 1; arbitrary = []; joins = []; history = odd ∷ even ∷ [] }
 
 -- node 2 begins 2,500,000 ticks after node 1, so that node 1 measures 2 microticks of 1,000,000 ticks and node 2 measures -3
 abbrev pub both : List Dev
@@ -103,7 +103,7 @@ ItemsAreNumbered =
 abbrev pub WorkedIsLawful : Type 0
 WorkedIsLawful =
     (first_breach_of cluster worked ≡ None)
-    × (first_sync_of cluster worked.history ≡ Some 0)
+    × (first_synced_of cluster worked ≡ Some 0)
     × (greatest_skew_of cluster worked.history ≡ Some (record { skew = pos 2_500_000; cycle = 0; macrotick = 0 }))
 
 -- another start, rate or state in its sixth record
@@ -121,6 +121,7 @@ abbrev pub cut_terms : TraceView
 cut_terms = record {
   doubles = 2;
   arbitrary = [];
+  joins = [];
   history =
       record_with (active_row 1 (pos 400_001_000_000) (pos 0) ∷ active_row 2 (pos 400_004_000_000) (pos 0) ∷ []) []
       ∷ record_with (active_row 1 (pos 200_000_000_000) (pos 1) ∷ active_row 2 (pos 200_005_000_000) (negsuc 0) ∷ []) apart
@@ -151,3 +152,47 @@ GapsAreFound =
     (first_gap_of cluster worked ≡ None)
     × (first_breach_of cluster quiet ≡ None)
     × (first_gap_of cluster quiet ≡ Some (gap.Link 1 2 0))
+
+-- ---- a node that joins
+
+-- node 1 alone in a cycle
+abbrev pub alone : ℤ → List Dev → Record
+alone start devs = record_with (active_row 1 start (pos 0) ∷ []) devs
+
+-- deviations of both where they begin at once
+abbrev pub together : List Dev
+together = dev_with 1 2 A (pos 0) ∷ dev_with 2 1 A (pos 0) ∷ []
+
+-- node 2 listens to node 1 in double cycle 0, so that it may have its first row in cycle 6: this one, with these deviations in
+-- that cycle, and with these ones in cycle 5
+abbrev pub joined_with : NodeRow → List Dev → List Dev → TraceView
+joined_with row devs early = record {
+  doubles = 4;
+  arbitrary = [];
+  joins = record { node = 2; join = record { double = 0; reference = 1 } } ∷ [];
+  history =
+      record_with (active_row 1 (pos 1_400_000_000_000) (pos 0) ∷ active_row 2 (pos 1_400_000_000_000) (pos 0) ∷ []) together
+      ∷ record_with (active_row 1 (pos 1_200_000_000_000) (pos 0) ∷ row ∷ []) devs
+      ∷ alone (pos 1_000_000_000_000) early
+      ∷ alone (pos 800_000_000_000) []
+      ∷ alone (pos 600_000_000_000) []
+      ∷ alone (pos 400_000_000_000) []
+      ∷ alone (pos 200_000_000_000) []
+      ∷ alone (pos 0) []
+      ∷ [];
+}
+
+-- it begins as node 1 does
+abbrev pub joined : TraceView
+joined = joined_with (active_row 2 (pos 1_200_000_000_000) (pos 0)) together []
+
+-- no law is broken: the first row of node 2 has no start law and no rate law. It is in sync from the first double cycle on, and
+-- covered, though node 2 is not heard before it joins
+abbrev pub JoinedIsLawful : Type 0
+JoinedIsLawful = (first_breach_of cluster joined ≡ None) × (first_synced_of cluster joined ≡ Some 0) × (first_gap_of cluster joined ≡ None)
+
+-- it begins 400,000,000 ticks after node 1, too far apart for a double cycle in sync; or a deviation is about it before it has a row
+abbrev pub NodesAreApart : Type 0
+NodesAreApart =
+    (first_breach_of cluster (joined_with (active_row 2 (pos 1_200_400_000_000) (pos 0)) (dev_with 1 2 A (pos 400) ∷ dev_with 2 1 A (negsuc 399) ∷ []) []) ≡ Some (unlawful.Apart 11 3))
+    × (first_breach_of cluster (joined_with (active_row 2 (pos 1_200_000_000_000) (pos 0)) together (dev_with 1 2 A (pos 0) ∷ [])) ≡ Some (unlawful.Apart 9 2))

@@ -3,10 +3,10 @@ ghost use Rattle.fr_verdict.specs.Breach.{OneFirstBreach};
 ghost use Rattle.fr_verdict.specs.FirstGap.{FirstGapIsFound, FoundGapIsFirst, NoGapFoundIsCovered};
 ghost use Rattle.fr_verdict.specs.Precision.{CheckedTracesKeepPrecision, LawfulTracesRun};
 ghost use Rattle.fr_verdict.specs.Search.{FirstBreachIsFound, FoundBreachIsFirst, NoneFoundIsLawful, PassesInParts};
-ghost use Rattle.fr_verdict.specs.Worked.{ItemsAreNumbered, RowsAreBroken, DevsAreBroken, TermsAreBroken, WorkedIsLawful, GapsAreFound};
+ghost use Rattle.fr_verdict.specs.Worked.{ItemsAreNumbered, RowsAreBroken, DevsAreBroken, TermsAreBroken, WorkedIsLawful, GapsAreFound, JoinedIsLawful, NodesAreApart};
 
 /// A law: the worked trace with its items and their numbers, in which no law is broken; and for each law the
-/// first breach of a trace in which one record is another.
+/// first breach of a trace in which one record is another. Likewise of a trace with a node that joins.
 pub fn worked_trace()
     ensures items { ItemsAreNumbered }
     ensures lawful { WorkedIsLawful }
@@ -14,6 +14,8 @@ pub fn worked_trace()
     ensures terms { TermsAreBroken }
     ensures devs { DevsAreBroken }
     ensures gaps { GapsAreFound }
+    ensures joined { JoinedIsLawful }
+    ensures apart { NodesAreApart }
 {}
 
 /// A law: the breach that is found is the first, the first is found, and a trace in which none is found is lawful;
@@ -38,8 +40,9 @@ pub fn one_answer()
     ensures one { OneAnswer }
     ensures some { SomeAnswer }
 {}
+
 /// A law: the clocks of a lawful trace run by their laws, and those of a trace that passes keep together within the
-/// precision, in ticks, from its first double cycle in sync to its end.
+/// precision, in ticks, from its first double cycle in sync in which no node may follow to its end, whoever joins.
 pub fn a_passing_trace_keeps_its_precision()
     ensures run { LawfulTracesRun }
     ensures keep { CheckedTracesKeepPrecision }

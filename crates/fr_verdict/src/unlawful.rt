@@ -5,7 +5,8 @@ use fr_coverage::Gap;
 /// with what was kept and what was expected; or, where none does, the first gap.
 #[derive(Clone, Copy, Debug, PartialEq, Eq)]
 pub enum Unlawful {
-    /// A cycle starts elsewhere than where the cycle before ends, in ticks (section 8.2).
+    /// A cycle starts elsewhere than where the cycle before ends, in ticks (section 8.2). The first cycle of a node is
+    /// free.
     Start {
         number: u64,
         kept: i64,
@@ -41,6 +42,13 @@ pub enum Unlawful {
         low: i64,
         high: i64,
     },
+    /// A deviation is about a correct node that has no row in its cycle; or a node has its first row in a double cycle
+    /// whose rows are not in sync, and which is not before the first one in sync in which no node may follow: that
+    /// double cycle.
+    Apart {
+        number: u64,
+        double: u32,
+    },
     /// No law is broken, and the trace is not covered by the precision theorem.
     Uncovered(Gap),
 }
@@ -48,7 +56,7 @@ pub enum Unlawful {
 /// What is said of a lawful and covered trace.
 #[derive(Clone, Copy, Debug, PartialEq, Eq)]
 pub struct Verdict {
-    /// The first double cycle in sync.
+    /// The first double cycle in sync, in which no node that joins may follow.
     pub synced: Option<u32>,
     /// The greatest skew of its clocks, in ticks.
     pub skew: i64,

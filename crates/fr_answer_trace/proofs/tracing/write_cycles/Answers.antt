@@ -2,11 +2,8 @@ use Rattle.std.proofs.Common.{◌≡◌, ◌+◌, ◌*◌, ◌≤◌, ℕ, List,
 use Rattle.fr_base.specs.Device.{Puts}
 use Rattle.fr_base.proofs.Putting.{cut, then, puts_none}
 use Rattle.fr_drift.specs.Questions.{doubles_of}
-use Rattle.fr_history.specs.Next.{history_of}
-use Rattle.fr_trace.specs.Items.{items_in}
-use Rattle.fr_trace.specs.Text.{items_text}
 use Rattle.fr_world.specs.World.{WorldView, setting_after}
-use Rattle.fr_answer_trace.proofs.Texts.{next-text, text-first, text-upto}
+use Rattle.fr_answer_trace.proofs.Texts.{next-text, text-first, text-upto, text_of_cycles}
 use Rattle.fr_answer_trace.proofs.tracing.write_cycles.Goals as goal
 
 pub loop-done-init : goal.loop-done-init
@@ -50,5 +47,5 @@ returns g c =
     let inv = c.loop-done.invariant in
     let doubles : c.doubles-cycles.result ≡ doubles_of w.drift = c.doubles-cycles.ensures.value ∙ ap doubles_of c.drift.ensures.value in
     let end : c.loop-done._done ≡ 2 * doubles_of w.drift = omega (arith, doubles) in
-    let P : ℕ → Type 0 = λ k. Puts (Ok tt) (g.O.Sink.state c.args.out.now) (g.O.Sink.state c.loop-done.out) (items_text (items_in (history_of (setting_after w) k))) in
+    let P : ℕ → Type 0 = λ k. Puts (Ok tt) (g.O.Sink.state c.args.out.now) (g.O.Sink.state c.loop-done.out) (text_of_cycles (setting_after w) k) in
     subst P end inv.text

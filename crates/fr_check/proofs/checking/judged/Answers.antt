@@ -1,10 +1,11 @@
 use Rattle.std.proofs.Common.{◌∙◌, sym}
 use Rattle.fr_verdict.specs.Answer.{IsVerdict}
+use Rattle.fr_check.proofs.Followed.{synced_whole}
 use Rattle.fr_check.proofs.Judging.{gap_told, precision_told, some_added, verdict_told}
 use Rattle.fr_check.proofs.checking.judged.Goals as goal
 
 pub first_gap-requires : goal.first_gap-requires
-first_gap-requires c = c.synced.ensures ∙ c.requires.holds.synced
+first_gap-requires c = c.synced.ensures ∙ c.requires.holds.synced ∙ synced_whole c.args.params.now c.args.trace.now
 
 pub returns-in-Some-clause-answer : goal.returns-in-Some-clause-answer
 returns-in-Some-clause-answer c = gap_told c.args.params.now c.args.trace.now c.in-Some.gap c.standing.ensures.sane c.requires.none (sym c.first_gap.ensures ∙ c.in-Some.is)

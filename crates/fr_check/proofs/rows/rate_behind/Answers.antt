@@ -9,7 +9,7 @@ use Rattle.fr_check.proofs.rows.rate_behind.Goals as goal
 pub returns-in-Some : goal.returns-in-Some
 returns-in-Some c = λ p latest.
     let parts = c.in-Some.ensures.parts in
-    let back : to_z w32 (of_z w32 c.rate_by.result) ≡ c.rate_by.result = to_z-of_z w32 c.rate_by.result (search rules) in
+    let back : to_z w32 (of_z w32 c.rate_from.result) ≡ c.rate_from.result = to_z-of_z w32 c.rate_from.result (search rules) in
     back
-    ∙ c.rate_by.ensures p (subst (λ (h : History). AreLatest p h c.args.corrections.now) parts latest)
+    ∙ c.rate_from.ensures p (subst (λ (h : History). AreLatest p h c.args.corrections.now) parts latest)
     ∙ sym (ap (λ (h : History). rate_behind p h c.args.row.now) parts)

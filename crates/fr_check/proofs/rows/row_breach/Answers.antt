@@ -25,8 +25,13 @@ returns c = λ here kept.
     c.wrong_turn-turn.ensures ∙ ap (turned n row.state) (c.state.ensures.value p h (c.requires.hold row.node c.state.ensures.from c.state.ensures.to)) in
     let offset : c.wrong_offset-offset.result ≡ wrong_offset p n h here row =
     told_offset ∙ ap (λ (wanted : ℤ). unless (is_same row.offset wanted) (unlawful.Offset n row.offset wanted)) (c.offset_after.ensures p here kept) in
+    c.first_of-4.ensures
+    ∙ ap₂ option_or
+    (
     c.first_of-3.ensures
     ∙ ap₂ option_or
     (c.first_of-2.ensures ∙ ap₂ option_or (c.first_of.ensures ∙ ap₂ option_or c.wrong_start-start.ensures rate) turn)
     offset
-    ∙ clock_breach p n h here row
+    )
+    c.apart_row-apart.ensures
+    ∙ clock_breach p c.args.trace.now n h here row

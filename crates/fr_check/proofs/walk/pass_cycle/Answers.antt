@@ -10,7 +10,7 @@ use Rattle.fr_check.proofs.walk.pass_cycle.Goals as goal
 
 pub loop-row-init : goal.loop-row-init
 unfolding items_by
-loop-row-init c = (no_item c.args.params.now c.args.number, omega arith, omega arith)
+loop-row-init c = (no_item c.args.params.now c.args.trace.now c.args.number, omega arith, omega arith)
 
 pub pass_row-requires-clause-kept : goal.pass_row-requires-clause-kept
 pass_row-requires-clause-kept c = λ odd.
@@ -25,7 +25,7 @@ returns-in-Err-clause-found c =
     let h = history_by c.args.behind.now in
     let r = kept_of c.args.cycle.now in
     let rows = c.args.cycle.now.rows.items in
-    along_found (items_by h r) (rows_along h r) c.args.params.now c.args.number c.loop-row.next
+    along_found (items_by h r) (rows_along h r) c.args.params.now c.args.trace.now c.args.number c.loop-row.next
     (take c.loop-row.row-index rows) (take (c.loop-row.row-index + 1) rows) (drop (c.loop-row.row-index + 1) rows) rows c.row-item.result c.in-Err.breach
     (take_one_of rows c.deref-row-items.result.now c.loop-row.row-index c.row-item.result c.deref-row-items.ensures.value c.loop-row-test.true c.row-item.is) (first_parts rows (c.loop-row.row-index + 1))
     c.loop-row.invariant.0 c.loop-row.invariant.1 c.in-Err.ensures.found
@@ -36,7 +36,7 @@ loop-row-preserved c =
     let r = kept_of c.args.cycle.now in
     let rows = c.args.cycle.now.rows.items in
     let more =
-    along_more (items_by h r) (rows_along h r) c.args.params.now c.args.number c.loop-row.next c.in-Ok.after
+    along_more (items_by h r) (rows_along h r) c.args.params.now c.args.trace.now c.args.number c.loop-row.next c.in-Ok.after
     (take c.loop-row.row-index rows) (take (c.loop-row.row-index + 1) rows) c.row-item.result
     (take_one_of rows c.deref-row-items.result.now c.loop-row.row-index c.row-item.result c.deref-row-items.ensures.value c.loop-row-test.true c.row-item.is)
     c.loop-row.invariant.0 c.loop-row.invariant.1 c.in-Ok.ensures.none c.in-Ok.ensures.next in

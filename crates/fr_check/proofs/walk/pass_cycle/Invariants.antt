@@ -7,6 +7,6 @@ use Rattle.fr_check.proofs.walk.pass_cycle.Given as goal
 -- no breach so far
 abbrev pub invariant-loop-row : goal.invariant-loop-row
 invariant-loop-row l =
-    (first_from l.params l.number (items_by (history_by l.behind) (kept_of l.cycle) (take l.row-index l.cycle.rows.items)) ≡ None)
+    (first_from l.params l.trace l.number (items_by (history_by l.behind) (kept_of l.cycle) (take l.row-index l.cycle.rows.items)) ≡ None)
     × (l.next ≡ l.number + length (items_by (history_by l.behind) (kept_of l.cycle) (take l.row-index l.cycle.rows.items)))
     × (l.next ≤ l.number + 140_001 * l.row-index)

@@ -10,8 +10,8 @@ use Rattle.fr_check.proofs.walk.pass_devs.Given as goal
 -- no breach so far, and what is kept is right for its slot
 abbrev pub invariant-loop-dev : goal.invariant-loop-dev
 invariant-loop-dev l =
-    (first_from l.params l.number (map (Heard (history_by l.behind) (kept_of l.cycle)) (take l.dev-index l.own)) ≡ None)
+    (first_from l.params l.trace l.number (map (Heard (history_by l.behind) (kept_of l.cycle)) (take l.dev-index l.own)) ≡ None)
     × (l.next ≡ l.number + length (map (Heard (history_by l.behind) (kept_of l.cycle)) (take l.dev-index l.own)))
     × (l.next ≡ l.number + l.dev-index)
-    × IsRight l.params l.odd (kept_of l.cycle) (option_copied l.receiver) l.allowed
+    × IsRight l.params l.trace l.odd (kept_of l.cycle) (option_copied l.receiver) l.allowed
     × IfSome l.allowed.limits AreTicks

@@ -1,10 +1,7 @@
-use Rattle.std.proofs.Common.{◌≡◌, ◌≤◌, ◌-◌, ◌^◌, List, length, ap, sym, ◌∙◌, subst, arith}
+use Rattle.std.proofs.Common.{◌≤◌, ◌-◌, ◌^◌, length, sym, subst, arith}
 use Rattle.fr_cluster.specs.Sane.{IsSane}
-use Rattle.fr_records.specs.Records.{FileRecord, records_of}
-use Rattle.fr_records.specs.Refusal.{NoneRefused, Refusing}
+use Rattle.fr_records.specs.Records.{records_of}
 use Rattle.fr_records.proofs.Left.{records_of-few}
-use Rattle.fr_trace.specs.Draft.{IsTraceDraft}
-use Rattle.fr_trace.specs.Reasons.{trace_reason_after}
 use Rattle.fr_trace.proofs.Answering.{answers-fit, answers-read}
 use Rattle.fr_trace.proofs.reading.read.Goals as goal
 

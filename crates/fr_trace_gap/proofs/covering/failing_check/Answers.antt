@@ -2,7 +2,7 @@ use Rattle.std.proofs.Common.{◌≡◌, rules, sym}
 use mir.Val.{to_z, of_z}
 use mir.Syntax.{w64}
 use Rattle.std.proofs.lemmas.Int.{to_z-of_z}
-use Rattle.fr_coverage.proofs.Checks.{checks-none, checks-some}
+use Rattle.fr_trace_gap.proofs.Checks.{checks-none, checks-some}
 use Rattle.fr_trace_gap.proofs.covering.failing_check.Goals as goal
 
 pub returns-in-Ok : goal.returns-in-Ok

@@ -1,7 +1,6 @@
 use Rattle.std.proofs.Common.{◌≡◌, ◌∙◌, None, sym}
-use Rattle.fr_coverage.specs.Coverage.{checks_gap}
 use Rattle.fr_coverage.specs.First.{first_in}
-use Rattle.fr_verdict.specs.FirstGap.{changes_gap, count_gap, lengths_gap}
+use Rattle.fr_verdict.specs.FirstGap.{changes_gap, checks_gap, count_gap, lengths_gap}
 use Rattle.fr_trace_gap.proofs.Stepping.{last_of_gaps}
 use Rattle.fr_trace_gap.proofs.covering.first_gap.Goals as goal
 

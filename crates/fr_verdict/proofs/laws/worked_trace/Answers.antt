@@ -1,4 +1,4 @@
-use Rattle.fr_verdict.proofs.Worked.{devs_are_broken, gaps_are_found, items_are_numbered, rows_are_broken, terms_are_broken, worked_is_lawful}
+use Rattle.fr_verdict.proofs.Worked.{devs_are_broken, gaps_are_found, items_are_numbered, joined_is_lawful, nodes_are_apart, rows_are_broken, terms_are_broken, worked_is_lawful}
 use Rattle.fr_verdict.proofs.laws.worked_trace.Goals as goal
 
 pub returns-clause-items : goal.returns-clause-items
@@ -18,3 +18,9 @@ returns-clause-devs c = devs_are_broken
 
 pub returns-clause-gaps : goal.returns-clause-gaps
 returns-clause-gaps c = gaps_are_found
+
+pub returns-clause-joined : goal.returns-clause-joined
+returns-clause-joined c = joined_is_lawful
+
+pub returns-clause-apart : goal.returns-clause-apart
+returns-clause-apart c = nodes_are_apart

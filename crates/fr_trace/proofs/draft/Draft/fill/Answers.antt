@@ -1,4 +1,4 @@
-use Rattle.std.proofs.Common.{◌≡◌, ◌<◌, ◌≤◌, List, ap, length, arith}
+use Rattle.std.proofs.Common.{◌≡◌, ◌<◌, List, ap, length, arith}
 use Rattle.fr_history.specs.History.{History}
 use Rattle.fr_trace.specs.Draft.{over_of}
 use Rattle.fr_trace.proofs.Ending.{filled-more}

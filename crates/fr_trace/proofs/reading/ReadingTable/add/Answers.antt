@@ -1,4 +1,4 @@
-use Rattle.std.proofs.Common.{◌≡◌, ◌∙◌, ap, sym, Ok}
+use Rattle.std.proofs.Common.{◌≡◌, sym, Ok}
 use Rattle.csv.specs.Records.{fields_of}
 use Rattle.fr_records.proofs.Lookups.{takes-said}
 use Rattle.fr_trace.specs.Rows.{trace_row_of}
