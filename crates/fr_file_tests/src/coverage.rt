@@ -1,6 +1,6 @@
 use fr_cluster::Params;
 use fr_coverage::{Gap, covered};
-use fr_samples::{FOUR_ON_A, THREE_ON_A, TWO_FACED, TWO_ON_A, TWO_ON_BOTH, params_of};
+use fr_samples::{FOUR_ON_A, JOINING, THREE_ON_A, TWO_FACED, TWO_ON_A, TWO_ON_BOTH, params_of};
 use std::alloc::{AllocError, Global};
 use std::test::Fail;
 
@@ -109,6 +109,61 @@ const GAPS: &[(&str, &str, &str, &str)] = &[
     ),
 ];
 
+// The lines with which nodes may join, with an action point that is early by a macrotick.
+const EARLY: &[(&str, &str)] = &[
+    (
+        "param,gdActionPointOffset",
+        "param,gdActionPointOffset,11,,",
+    ),
+    (
+        "param,pOffsetCorrectionOut",
+        "param,pOffsetCorrectionOut,454,,",
+    ),
+    ("param,pRateCorrectionOut", "param,pRateCorrectionOut,84,,"),
+];
+
+// Lines of the parameter file, nodes, rows of a drift file and a script, and the gap of a run that nodes join.
+const JOINING_GAPS: &[(&[(&str, &str)], &str, &str, &str, &str)] = &[
+    (JOINING, THREE_ON_A, "doubles,1,,,,", "join,1,3,1,,,", ""),
+    (
+        JOINING,
+        THREE_ON_A,
+        "doubles,6,,,,",
+        "join,1,3,1,,,\nlose,2,1,3,A,,",
+        "link 1 3 1",
+    ),
+    (
+        JOINING,
+        THREE_ON_A,
+        "doubles,2,,,,\nlength,3,0,1000201,,",
+        "join,9,3,1,,,",
+        "length 3 0 1000201",
+    ),
+    (
+        EARLY,
+        THREE_ON_A,
+        "doubles,1,,,,",
+        "join,99999,3,1,,,",
+        "check 8 2193637184800 2262888000000",
+    ),
+    (EARLY, THREE_ON_A, "doubles,1,,,,", "", ""),
+    (
+        &[],
+        THREE_ON_A,
+        "doubles,1,,,,",
+        "join,1,3,1,,,",
+        "check 6 80983800 83000400",
+    ),
+    (
+        JOINING,
+        FOUR_ON_A,
+        "doubles,1,,,,",
+        "arbitrary,4,,,,,\njoin,0,3,1,,,",
+        "count 2 1",
+    ),
+    (JOINING, TWO_ON_A, "doubles,1,,,,", "join,0,2,1,,,", ""),
+];
+
 // Nodes and rows of a drift file where delays are compensated by a microtick, and the gap of the run.
 const COMPENSATED_GAPS: &[(&str, &str, &str)] = &[
     (TWO_ON_A, "doubles,1,,,,", ""),
@@ -191,6 +246,16 @@ fn gap_of(alloc: Global, params: &Params, drift: &str, script: &str) -> Result<S
 fn finds_the_first_gap(rt: HostRuntime) -> Result<(), Fail> {
     for (nodes, drift, script, want) in GAPS {
         let params = params_of(rt.alloc(), &[], nodes)?;
+        let gap = gap_of(rt.alloc(), &params, drift, script)?;
+        assert_eq!(rt; gap.as_str(), *want, "at {nodes:?} {drift:?} {script:?}");
+    }
+    Ok(())
+}
+
+#[test]
+fn finds_the_first_gap_where_nodes_join(rt: HostRuntime) -> Result<(), Fail> {
+    for (values, nodes, drift, script, want) in JOINING_GAPS {
+        let params = params_of(rt.alloc(), values, nodes)?;
         let gap = gap_of(rt.alloc(), &params, drift, script)?;
         assert_eq!(rt; gap.as_str(), *want, "at {nodes:?} {drift:?} {script:?}");
     }

@@ -10,6 +10,12 @@ mod drift;
 #[cfg(test)]
 mod gaps;
 #[cfg(test)]
+mod joined;
+#[cfg(test)]
+mod joining;
+#[cfg(test)]
+mod joins;
+#[cfg(test)]
 mod params;
 #[cfg(test)]
 mod records;

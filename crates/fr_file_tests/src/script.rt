@@ -21,7 +21,7 @@ const REFUSALS: &[(&[u8], Option<Reason>)] = &[
     (b"flip,0,1,2,A,0,0", Some(Reason::Shape)),
     (b"lose,0,1,2,A,0,", Some(Reason::Shape)),
     (b"\"\"", Some(Reason::Shape)),
-    (b"join,0,1,2,,,", Some(Reason::UnknownName)),
+    (b"joins,0,1,2,,,", Some(Reason::UnknownName)),
     (b"Lose,0,1,2,A,,", Some(Reason::UnknownName)),
     (b"arbitrary,,,,,,", Some(Reason::NotNumber)),
     (b"lose,200000,65,2,Z,,", Some(Reason::OutOfRange)),

@@ -1,2 +1,3 @@
+mod Caught
 mod Fed
 mod Following

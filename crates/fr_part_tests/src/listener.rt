@@ -1,4 +1,5 @@
 ghost use Rattle.std.specs.Prelude.{◌≡◌, pos, true, IfSome, IsNone};
+ghost use Rattle.fr_base.specs.Timed.{IsLength};
 ghost use Rattle.fr_base.specs.Within.{IsWithin};
 ghost use Rattle.fr_node.specs.Fits.{NodeFits};
 
@@ -21,6 +22,22 @@ const ROOMY: &[(&str, &str)] = &[
     ),
     ("param,pRateCorrectionOut", "param,pRateCorrectionOut,84,,"),
 ];
+
+// The same with a compensation of three microticks.
+const COMPENSATED: &[(&str, &str)] = &[
+    (
+        "param,gdActionPointOffset",
+        "param,gdActionPointOffset,12,,",
+    ),
+    (
+        "param,pOffsetCorrectionOut",
+        "param,pOffsetCorrectionOut,454,,",
+    ),
+    ("param,pRateCorrectionOut", "param,pRateCorrectionOut,84,,"),
+    ("param,pDelayCompensation", "param,pDelayCompensation,3,,"),
+];
+
+const THREE_ON_BOTH: &str = "node,1,1,AB,1\nnode,2,2,AB,1\nnode,3,3,AB,1\n";
 
 // A sync frame in slot 1 of cycle 0.
 const SYNC: &[u8] = b"\x18\x01\x00\x6F\x00\x9A\xE5\x25";
@@ -52,10 +69,12 @@ fn catches_the_reference_alone(rt: HostRuntime) -> Result<(), Fail> {
     Ok(())
 }
 
-// What begins to follow before cycle 4, if something does.
-fn first(params: &Params, listener: &Listener) -> Option<Node>
+// What begins to follow before cycle 4 with its microticks of both cycles, if something does.
+fn first_with(params: &Params, listener: &Listener, even: i64, odd: i64) -> Option<Node>
     requires id { listener.now.id ≡ 3 }
     requires reference { listener.now.reference ≡ 1 }
+    requires even { IsLength even }
+    requires odd { IsLength odd }
     ensures fits { IfSome result (NodeFits params.now) }
     ensures between { IfSome result (λ node. IsNone node.length) }
     ensures follows { IfSome result (λ node. node.follows ≡ true) }
@@ -64,7 +83,27 @@ fn first(params: &Params, listener: &Listener) -> Option<Node>
     if params.node(NodeId(3)).is_none() || params.key_index(Slot(1)).is_none() {
         return None;
     }
-    listener.first(params, 4, 1_000_000, 1_000_000)
+    listener.first(params, 4, even, odd)
+}
+
+// The same of nominal microticks.
+fn first(params: &Params, listener: &Listener) -> Option<Node>
+    requires id { listener.now.id ≡ 3 }
+    requires reference { listener.now.reference ≡ 1 }
+    ensures fits { IfSome result (NodeFits params.now) }
+    ensures between { IfSome result (λ node. IsNone node.length) }
+    ensures follows { IfSome result (λ node. node.follows ≡ true) }
+    ensures next { IfSome result (λ node. node.cycle ≡ 4) }
+{
+    first_with(params, listener, 1_000_000, 1_000_000)
+}
+
+// The start and the rate of the follower, if one begins.
+fn begun(first: Option<Node>) -> Option<(i64, i32)>
+    requires { IfSome first (λ node. IsNone node.length) }
+{
+    let node = first?;
+    Some((node.next_start(), node.next_rate()))
 }
 
 // A listener with two arrivals on channel A, or on B.
@@ -130,5 +169,42 @@ fn a_follower_without_values_is_not_steady(rt: HostRuntime) -> Result<(), Fail> 
     let mut node = first(&params, &heard).ok_or("none follows")?;
     assert_eq!(rt; silent(&params, &mut node), (State::Passive, false));
     assert_eq!(rt; node.next_start(), 1_200_000_000_000);
+    Ok(())
+}
+
+// A further arrival on channel A.
+fn catch_on_a(listener: &mut Listener, odd: bool, arrival: i64)
+    requires { IsWithin (pos 1_000_000_000_000) arrival }
+    ensures id { listener.new.id ≡ listener.old.id }
+    ensures reference { listener.new.reference ≡ listener.old.reference }
+{
+    listener.catch(Channel::A, odd, arrival, SYNC);
+}
+
+// Where both channels have both arrivals, channel A decides, also where what it has does not suffice.
+#[test]
+fn channel_a_decides_where_it_is_complete(rt: HostRuntime) -> Result<(), Fail> {
+    let params = params_of(rt.alloc(), ROOMY, THREE_ON_BOTH)?;
+    let mut heard = listener(Channel::B, SYNC_ON_B, 400_480_000_000, 600_480_000_000);
+    catch_on_a(&mut heard, false, 400_480_000_000);
+    assert_eq!(rt; begun(first(&params, &heard)), Some((800_000_000_000, 0)));
+    catch_on_a(&mut heard, true, 600_482_000_000);
+    assert_eq!(rt; begun(first(&params, &heard)), Some((800_004_000_000, 2)));
+    catch_on_a(&mut heard, true, 600_565_000_000);
+    assert_eq!(rt; begun(first(&params, &heard)), None);
+    Ok(())
+}
+
+// A microtick that differs from one cycle to the other: the first counts the ticks between the arrivals, the second those
+// up to the start, and the compensation is taken off.
+#[test]
+fn begins_with_the_microticks_of_both_cycles(rt: HostRuntime) -> Result<(), Fail> {
+    let params = params_of(rt.alloc(), ROOMY, THREE_ON_A)?;
+    let heard = listener(Channel::A, SYNC, 400_480_000_000, 600_465_122_956);
+    let node = first_with(&params, &heard, 999_900, 1_000_100);
+    assert_eq!(rt; begun(node), Some((800_010_075_456, 5)));
+    let params = params_of(rt.alloc(), COMPENSATED, THREE_ON_A)?;
+    let node = first_with(&params, &heard, 999_900, 1_000_100);
+    assert_eq!(rt; begun(node), Some((800_007_075_156, 5)));
     Ok(())
 }

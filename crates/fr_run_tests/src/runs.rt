@@ -3,8 +3,8 @@ use crate::worlds::world_of;
 use fr_answer::{Status, flexray, play};
 use fr_base::{MAX_FILE, MemoryShelf, MemorySink, SureShelf, SureSink};
 use fr_samples::{
-    APART, APART_REPORT, EIGHT_ON_A, FOUR_ON_A, LATER, LATER_REPORT, ONE, THREE_ON_A, TWO_FACED,
-    TWO_ON_A, TWO_ON_BOTH, file_of,
+    APART, APART_REPORT, EIGHT_ON_A, FOUR_ON_A, JOINING, LATER, LATER_REPORT, ONE, THREE_ON_A,
+    TWO_FACED, TWO_ON_A, TWO_ON_BOTH, file_of,
 };
 use std::alloc::{AllocError, Global};
 use std::test::Fail;
@@ -154,26 +154,159 @@ cut 0\n\
     ),
 ];
 
+// How a run of these lines of the parameter file, nodes, drift and script ends, and what it prints.
+fn report_of(
+    alloc: Global,
+    values: &[(&str, &str)],
+    nodes: &str,
+    drift: &str,
+    script: &str,
+) -> Result<(Status, MemorySink), Fail> {
+    let words = words_of(alloc, &["run", "p", "d", "s"])?;
+    let mut shelf = SureShelf::new(alloc);
+    shelf.hold("p", file_of(alloc, values, nodes)?.as_bytes())?;
+    shelf.hold("d", drift.as_bytes())?;
+    shelf.hold("s", script.as_bytes())?;
+    let mut written = MemorySink::new(alloc, 2000)?;
+    let status = flexray(
+        alloc,
+        &words,
+        &mut shelf,
+        &mut written,
+        &mut SureSink::new(),
+    );
+    Ok((status, written))
+}
+
 #[test]
 fn reports_are_printed(rt: HostRuntime) -> Result<(), Fail> {
-    let alloc = rt.alloc();
-    let words = words_of(alloc, &["run", "p", "d", "s"])?;
     for (nodes, drift, script, report) in RUNS {
-        let mut shelf = SureShelf::new(alloc);
-        shelf.hold("p", file_of(alloc, &[], nodes)?.as_bytes())?;
-        shelf.hold("d", drift.as_bytes())?;
-        shelf.hold("s", script.as_bytes())?;
-        let mut written = MemorySink::new(alloc, 2000)?;
-        assert_eq!(rt;
-            flexray(
-                alloc,
-                &words,
-                &mut shelf,
-                &mut written,
-                &mut SureSink::new()
-            ),
-            Status::Done
-        );
+        let (status, written) = report_of(rt.alloc(), &[], nodes, drift, script)?;
+        assert_eq!(rt; status, Status::Done);
+        assert_eq!(rt; written.bytes(), report.as_bytes());
+    }
+    Ok(())
+}
+
+// A compensation of one microtick on channel A and of three on channel B.
+const APART_CHANNELS: &[(&str, &str)] = &[
+    (
+        "param,gMacroPerCycle",
+        "version,2,,,\nparam,gMacroPerCycle,5000,,",
+    ),
+    (
+        "param,pDelayCompensation",
+        "param,pDelayCompensationA,1,,\nparam,pDelayCompensationB,3,,",
+    ),
+];
+
+// Lines of the parameter file, nodes, a drift, a script, and the report: of nodes that join, of which the last takes part
+// three double cycles before its cluster is in sync with none that follows; and of channels with compensations of their own.
+const OTHER_RUNS: &[(&[(&str, &str)], &str, &str, &str, &str)] = &[
+    (
+        JOINING,
+        THREE_ON_A,
+        "doubles,6,,,,\n",
+        "join,1,3,1,,,\n",
+        "\
+nodes 3 sync 3 arbitrary 0 doubles 6\n\
+precision 252043600\n\
+covered yes\n\
+in sync 0\n\
+greatest skew 0 cycle 0 macrotick 0\n\
+sent A 28 xor 000000\n\
+sent B 0 xor 000000\n\
+heard stored 40 outside 0 damaged 0 id 0 cycle 0 length 0 plain 0\n\
+cut 0\n\
+node 1 active next 2400000000000 rate 0 offset 0\n\
+node 2 active next 2400000000000 rate 0 offset 0\n\
+node 3 active next 2400000000000 rate 0 offset 0\n\
+",
+    ),
+    (
+        JOINING,
+        THREE_ON_A,
+        "doubles,6,,,,\n",
+        "join,1,3,1,,,\nlose,2,1,3,A,,\n",
+        "\
+nodes 3 sync 3 arbitrary 0 doubles 6\n\
+precision 252043600\n\
+covered no link 1 3 1\n\
+in sync 0\n\
+greatest skew 0 cycle 0 macrotick 0\n\
+sent A 24 xor 000000\n\
+sent B 0 xor 000000\n\
+heard stored 24 outside 0 damaged 0 id 0 cycle 0 length 0 plain 0\n\
+cut 0\n\
+node 1 active next 2400000000000 rate 0 offset 0\n\
+node 2 active next 2400000000000 rate 0 offset 0\n\
+",
+    ),
+    (
+        &[],
+        THREE_ON_A,
+        "doubles,6,,,,\n",
+        "join,9,3,1,,,\n",
+        "\
+nodes 3 sync 3 arbitrary 0 doubles 6\n\
+precision 252043600\n\
+covered no check 6 80983800 83000400\n\
+in sync 0\n\
+greatest skew 0 cycle 0 macrotick 0\n\
+sent A 24 xor 000000\n\
+sent B 0 xor 000000\n\
+heard stored 24 outside 0 damaged 0 id 0 cycle 0 length 0 plain 0\n\
+cut 0\n\
+node 1 active next 2400000000000 rate 0 offset 0\n\
+node 2 active next 2400000000000 rate 0 offset 0\n\
+",
+    ),
+    (
+        JOINING,
+        THREE_ON_A,
+        "doubles,5,,,,\nlength,1,0,1000100,,\nlength,2,0,999900,,\n",
+        "join,0,3,1,,,\n",
+        "\
+nodes 3 sync 3 arbitrary 0 doubles 5\n\
+precision 252043600\n\
+covered yes\n\
+in sync 3\n\
+greatest skew 79200000 cycle 1 macrotick 4900\n\
+sent A 24 xor 000000\n\
+sent B 0 xor 000000\n\
+heard stored 36 outside 0 damaged 0 id 0 cycle 0 length 0 plain 0\n\
+cut 0\n\
+node 1 active next 2000001980200 rate -16 offset -8\n\
+node 2 active next 1999993980600 rate 16 offset 8\n\
+node 3 active next 1999998048000 rate 0 offset 0\n\
+",
+    ),
+    (
+        APART_CHANNELS,
+        TWO_ON_BOTH,
+        ONE,
+        "",
+        "\
+nodes 2 sync 2 arbitrary 0 doubles 1\n\
+precision 252084400\n\
+covered yes\n\
+in sync 0\n\
+greatest skew 0 cycle 0 macrotick 0\n\
+sent A 4 xor 000000\n\
+sent B 4 xor 000000\n\
+heard stored 8 outside 0 damaged 0 id 0 cycle 0 length 0 plain 0\n\
+cut 0\n\
+node 1 active next 400000000000 rate 0 offset 0\n\
+node 2 active next 400000000000 rate 0 offset 0\n\
+",
+    ),
+];
+
+#[test]
+fn reports_of_other_clusters_are_printed(rt: HostRuntime) -> Result<(), Fail> {
+    for (values, nodes, drift, script, report) in OTHER_RUNS {
+        let (status, written) = report_of(rt.alloc(), values, nodes, drift, script)?;
+        assert_eq!(rt; status, Status::Done);
         assert_eq!(rt; written.bytes(), report.as_bytes());
     }
     Ok(())

@@ -4,7 +4,7 @@ use crate::worlds::world_of;
 use fr_base::State::Active;
 use fr_base::{Channel, Counts, CycleRow, NodeId, State};
 use fr_node::Node;
-use fr_samples::{APART, FOUR_ON_A, ONE, TWO_FACED, TWO_ON_A};
+use fr_samples::{APART, FOUR_ON_A, ONE, THREE_ON_A, TWO_FACED, TWO_ON_A};
 use fr_world::World;
 use std::alloc::{AllocError, Global};
 use std::test::Fail;
@@ -212,5 +212,23 @@ fn answers_its_nodes(rt: HostRuntime) -> Result<(), Fail> {
         Some((399_979_998_000, 16, Active, Some(0), Some(40)))
     );
     assert_eq!(rt; [correct, arbitrary, unknown], [true, false, false]);
+    Ok(())
+}
+
+// Node 3 listens in cycles 0 and 1, follows in cycles 2 to 5, and takes part from cycle 6 on.
+#[test]
+fn tells_who_follows_and_who_takes_part(rt: HostRuntime) -> Result<(), Fail> {
+    let mut world = world_of(rt.alloc(), THREE_ON_A, "doubles,5,,,,\n", "join,0,3,1,,,\n")?;
+    let before = (world.following(), world.node(NodeId(3)).is_some());
+    assert_eq!(rt; before, (false, false));
+    for cycle in 0..10 {
+        world.cycle();
+        let seen = (world.following(), world.node(NodeId(3)).is_some());
+        assert_eq!(rt;
+            seen,
+            (2 <= cycle && cycle < 6, 6 <= cycle),
+            "behind {cycle}"
+        );
+    }
     Ok(())
 }

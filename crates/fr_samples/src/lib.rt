@@ -28,6 +28,19 @@ param,xChangeBound,0,,\n\
 param,xDelayError,500000,,\n\
 ";
 
+/// Lines with which nodes may join the cluster: an action point and limits that suffice for whoever follows.
+pub const JOINING: &[(&str, &str)] = &[
+    (
+        "param,gdActionPointOffset",
+        "param,gdActionPointOffset,12,,",
+    ),
+    (
+        "param,pOffsetCorrectionOut",
+        "param,pOffsetCorrectionOut,454,,",
+    ),
+    ("param,pRateCorrectionOut", "param,pRateCorrectionOut,84,,"),
+];
+
 pub const TWO_ON_A: &str = "node,1,1,A,1\nnode,2,2,A,1\n";
 
 pub const TWO_ON_BOTH: &str = "node,1,1,AB,1\nnode,2,2,AB,1\n";

@@ -1,12 +1,10 @@
 use Rattle.std.proofs.Common.{◌≡◌}
-use Rattle.fr_history.specs.Next.{history_of}
-use Rattle.fr_report.specs.Held.{ReportHolds}
-use Rattle.fr_world.specs.World.{setting_after}
+use Rattle.fr_report.specs.Held.{IsReportOf}
 use Rattle.fr_run_tests.proofs.report.tell.Given as goal
 
--- so many cycles are run, whose history the report holds
+-- so many cycles are run, which the report holds
 abbrev pub invariant-loop-done : goal.invariant-loop-done
 invariant-loop-done l = record {
   ran : l.world ≡ record l.fn.world { cycles = l._done };
-  held : ReportHolds l.world.params l.report (history_of (setting_after l.world) l.world.cycles);
+  held : IsReportOf l.world l.report;
 }
