@@ -31,6 +31,7 @@ class Cluster:
     lengths: dict = field(default_factory=dict)
     delays: dict = field(default_factory=dict)
     script: dict = field(default_factory=dict)
+    joins: dict = field(default_factory=dict)
 
     @property
     def cycles(self):
@@ -146,7 +147,7 @@ def read_slots(source, nodes):
 
 def read_cluster(path, changes=None):
     """Reads a cluster, with its clocks and its script."""
-    from .rows import read_delays, read_lengths, read_script
+    from .rows import read_delays, read_joins, read_lengths, read_script
     source = Source(path, changes)
     bench = source.table("bench")
     microtick_ns = bench.number("microtick_ns", Fraction(1), Fraction(1000), "ns")
@@ -167,6 +168,7 @@ def read_cluster(path, changes=None):
     cluster = Cluster(path, microtick_ns, bit_rate, start_bits, parameters, doubles, nodes,
                       read_slots(source, nodes))
     read_script(source, cluster)
+    read_joins(source, cluster)
     read_lengths(source, cluster)
     read_delays(source, cluster)
     return cluster

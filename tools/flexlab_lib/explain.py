@@ -70,7 +70,7 @@ def explain_line(line, words):
         return [f"{file_of('params', words)}: {rest}:", *explain_constraint(int(rest.split()[1]), known_of(words))]
     if rest.startswith("incomplete"):
         return [f"{file_of(role, words)}: after its {rest.split()[-1]} records the trace is not whole: in the last "
-                "cycle a correct node has no cycle row"]
+                "cycle a correct node that takes part has no cycle row"]
     if line in ("no memory", "write fault"):
         return ["memory ran out" if line == "no memory" else "standard output could not be written: is the disk full, "
                 "or did the program that reads it end?"]
@@ -152,6 +152,8 @@ LAWS = {
     "deviation": "a deviation is how far the sender's action point lies after the receiver's by their rows, as "
                  "exactly as delays and whole microticks allow, in microticks",
     "silent": "nothing is measured of a correct node that is not active, nor by one in halt",
+    "apart": "a node that joins takes part from its first row on, and is then in sync with the others; nothing is "
+             "measured of it before",
 }
 
 
@@ -169,7 +171,17 @@ def explain_trace(rest, words):
     found = [f"{path}:{record.line}: {short(record.text)}", LAWS.get(told[2], rest)]
     if told[2] == "silent":
         return found + [f"this record speaks of a node in state {told[3]}"]
+    if told[2] == "apart":
+        return found + [apart(record, int(told[3]))]
     return found + [f"the record has {told[3]}, and the records before it ask for {' '.join(told[5:])}"]
+
+
+def apart(record, double):
+    cycles = f"double cycle {double} (cycles {2 * double} and {2 * double + 1})"
+    if record.fields[0] == "dev":
+        return f"the node of slot {record.fields[3]} has no row in cycle {record.fields[1]}, of {cycles}"
+    return (f"node {record.fields[2]} has its first row here, and in {cycles} the rows are not in sync: a start lies "
+            "further than pi from another, a length further than lambda, or a node is not active")
 
 
 def explain_check(number, left, right, words):

@@ -25,6 +25,7 @@ def drift_lines(cluster):
 
 def script_lines(cluster):
     yield from (f"arbitrary,{node},,,,,\n" for node in cluster.arbitrary)
+    yield from (f"join,{double},{node},{reference},,,\n" for node, (double, reference) in sorted(cluster.joins.items()))
     for (cycle, sender, receiver, channel), (kind, value, frame) in sorted(cluster.script.items()):
         yield f"{kind},{cycle},{sender},{receiver},{channel},{value},{frame}\n"
 

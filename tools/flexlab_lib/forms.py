@@ -38,6 +38,7 @@ FORMS = {
     }),
     "script": (7, {
         "arbitrary": [node(), EMPTY, EMPTY, EMPTY, EMPTY, EMPTY],
+        "join": [number("DOUBLE", *ranges.DOUBLE, "double cycles"), node(), node("REFERENCE"), EMPTY, EMPTY, EMPTY],
         "say": [CYCLE, node("SENDER"), node("RECEIVER"), CHANNEL, number("SHIFT", *ranges.SHIFT, "ticks"),
                 plain("BYTES", "hex")],
         "lose": [CYCLE, node("SENDER"), node("RECEIVER"), CHANNEL, EMPTY, EMPTY],
@@ -52,6 +53,7 @@ FORMS = {
     "trace": (8, {
         "run": [number("DOUBLES", *ranges.DOUBLES), *[EMPTY] * 6],
         "arbitrary": [node(), *[EMPTY] * 6],
+        "join": [node(), node("REFERENCE"), number("DOUBLE", *ranges.DOUBLE, "double cycles"), *[EMPTY] * 4],
         "cycle": [CYCLE, node(), number("START", 0, 900000000000000000, "ticks"),
                   number("LENGTH", *ranges.LENGTH, "ticks"), ("RATE", "rate", None, None, "microticks"),
                   ("OFFSET", "offset", None, None, "microticks"), plain("STATE", "state")],

@@ -21,7 +21,7 @@ def gap_words(gap, cluster):
         return check_words(*numbers, parameters)
     if kind == "count":
         return [f"{numbers[0]} correct sync nodes do not outweigh {numbers[1]} arbitrary ones: none needs 1, "
-                "one needs 3, two need 6"]
+                "one needs 3, two need 6 (nodes that join do not count)"]
     if kind == "length":
         return [f"in cycle {numbers[1]} the oscillator of node {numbers[0]} is off by "
                 f"{signed(ppm_of(numbers[2]), 2)} ppm (its microtick lasts {numbers[2]} ticks), which is further than "

@@ -118,17 +118,26 @@ def node_lines(run):
     found = ["", f"{'node':>4} {'state':<8}{'ppm at first':>14}{'ppm at last':>13}{'microtick':>11}"
                  f"{'rate':>7}{'offset':>8}"]
     for node, (state, _, rate, offset) in sorted(run.report.ends.items()):
-        first, last = run.cycles[0][node].length, run.cycles[-1][node].length
+        first, last = run.cycles[run.first_row(node)][node].length, run.cycles[-1][node].length
         found.append(f"{node:>4} {state:<8}{signed(ppm_of(first), 2):>14}{signed(ppm_of(last), 2):>13}"
                      f"{last:>11}{rate:>7}{offset:>8}")
     for node in run.cluster.arbitrary:
         found.append(f"{node:>4} arbitrary: it says what the script has it say, and has no clock")
+    for node, (double, reference) in sorted(run.cluster.joins.items()):
+        found.append(f"{node:>4} joins: it listens to node {reference} in double cycle {double}, and "
+                     + joined_words(run.first_row(node), run.cluster))
     limits = f"limits {parameters['pRateCorrectionOut']} and {parameters['pOffsetCorrectionOut']}"
     return found + ["", *field("", "ppm: of the frequency, read back from the trace; above 0 the oscillator is "
                                    "fast and its microtick shorter than 1,000,000 ticks. A tick is about 1 ppm, and "
                                    "flexray has whole ones.",
                                f"rate, offset: the correction terms at the end, in microticks ({limits}); above 0 they "
                                "lengthen the cycle.")]
+
+
+def joined_words(cycle, cluster):
+    if cycle is None:
+        return "takes no part in this run"
+    return f"takes part from cycle {cycle} on ({decimal(ms_of_cycle(cycle, cluster), 3)} ms)"
 
 
 def frame_lines(run):
@@ -151,7 +160,8 @@ def page(run):
         found += field("Not installed", "flexray-series, which prints the skew of each cycle (in the repository "
                                         "`./flexray-series` builds it); without it the picture has how far the starts "
                                         "of cycles lie apart")
-    found += field("Left out", "the dynamic segment, the duration of frames, wakeup and startup: all nodes run from "
-                               "cycle 0, with one set of parameters")
+    begin = "nodes run from cycle 0 or join" if run.cluster.joins else "all nodes run from cycle 0"
+    found += field("Left out", f"the dynamic segment, the duration of frames, wakeup and startup: {begin}, with one "
+                               "set of parameters")
     found += field("Origin", ORIGIN)
     return "\n".join(found) + "\n"

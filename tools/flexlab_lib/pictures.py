@@ -1,5 +1,6 @@
 """Pictures of a run by gnuplot: the skew over time beside the precision, and each node's terms."""
 import os
+from fractions import Fraction
 
 from . import program as programs
 from .ending import FILE, PROGRAM, Stop
@@ -88,6 +89,7 @@ def skew_script(run):
         lost = 2 * run.lost
         lines += [f"set arrow 2 from {lost}, graph 0 to {lost}, graph 1 nohead linecolor '#b00020' dashtype 3",
                   f"set label 2 'sync lost in cycle {lost}' at {lost}, graph 0.9 offset 0.8,0 textcolor '#b00020'"]
+    lines += join_lines(run)
     plots = [f"{decimal(precision, 6)} title 'precision, {decimal(precision, 3)} us' "
              "with lines linewidth 2 linecolor '#b00020'",
              f"$skew using 1:2 title '{what}' with lines linewidth 1.5 linecolor '#0072b2'"]
@@ -101,13 +103,37 @@ def skew_script(run):
     return "\n".join(lines) + "\nplot " + ", \\\n     ".join(plots) + "\n"
 
 
+def join_lines(run):
+    """Where nodes that join begin to take part: a node that listens or follows has no row."""
+    found = []
+    for at, (cycle, nodes) in enumerate(sorted(begun(run).items())):
+        named = ("node " if len(nodes) == 1 else "nodes ") + ", ".join(map(str, nodes))
+        height = f"graph {decimal(Fraction(84 - 6 * (at % 4), 100), 2)}"
+        found += [f"set arrow {10 + at} from {cycle}, graph 0 to {cycle}, graph 1 nohead linecolor '#009e73' "
+                  "dashtype 3",
+                  f"set label {10 + at} '{named} from cycle {cycle}' at {cycle}, {height} offset 0.8,0 "
+                  "textcolor '#00694d'"]
+    return found
+
+
+def begun(run):
+    """The nodes that joined, by the cycle from which on they have rows."""
+    found = {}
+    for node in sorted(run.cluster.joins):
+        cycle = run.first_row(node)
+        if cycle is not None:
+            found.setdefault(cycle, []).append(node)
+    return found
+
+
 def terms_script(run):
     nodes = sorted(run.report.ends)
     parameters, lines = run.cluster.parameters, []
     step = 2 * -(-len(run.cycles) // (2 * POINTS))
     for node in nodes:
+        told = [cycle for cycle in range(0, len(run.cycles) - 1, step) if node in run.cycles[cycle]]
         data = "".join(f"{cycle} {run.cycles[cycle][node].rate} {run.cycles[cycle + 1][node].offset}\n"
-                       for cycle in range(0, len(run.cycles) - 1, step))
+                       for cycle in told or [run.first_row(node)])
         lines.append(f"$node{node} << end\n{data}end")
     lines.append(plain_axes() + f"set multiplot layout 2,1 title "
                  f"{quoted('Correction terms of ' + os.path.basename(run.cluster.path))} font ',14'")

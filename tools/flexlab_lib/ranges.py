@@ -39,6 +39,7 @@ def table(version):
 
 
 DOUBLES = (1, 100000)
+DOUBLE = (0, 99999)
 CYCLES = (0, 199999)
 LENGTH = (500000, 1500000)
 DELAY = (0, 1000000000)

@@ -14,7 +14,7 @@ MEANING = {
     "UnknownNode": "the node is not there",
     "BadChannel": "the channels are spelt otherwise",
     "Role": "the fields do not go together, or the record may not stand there",
-    "Link": "the channel is not common to both nodes",
+    "Link": "the channel is not common to both nodes, or they have none in common",
     "NotHex": "bytes are not hexadecimal",
     "Repeated": "there is such a record already",
 }
@@ -159,12 +159,35 @@ def role_of(role, record, cluster, earlier):
     if role == "power":
         yield from power_role(record, cluster, earlier)
     if role == "trace":
-        yield ("the record may not come next: the run row, arbitrary nodes in ascending order, then for each cycle "
-               "each correct node's cycle row with its dev rows, ascending by slot and channel")
+        yield from trace_role(record, cluster, earlier)
+
+
+def join_role(node, reference, cluster, earlier, arbitrary):
+    """Of a row of a node that joins; `earlier` are such rows, as pairs of numbers with their records."""
+    if node == reference:
+        yield f"NODE and REFERENCE are both node {node}"
+    for name, number in (("NODE", node), ("REFERENCE", reference)):
+        if number in arbitrary:
+            yield f"{name}, node {number}, is arbitrary (line {arbitrary[number].line}), and only correct nodes join"
+    if reference in cluster.nodes and cluster.nodes[reference][0] is None:
+        yield (f"REFERENCE, node {reference}, has no key slot (line {cluster.nodes[reference][3].line} of the "
+               "parameters), so there is nothing of it to listen to")
+    for joined, of, row in earlier:
+        if joined == reference:
+            yield f"REFERENCE, node {reference}, joins itself (line {row.line}): a reference is there from cycle 0 on"
+        if of == node:
+            yield f"NODE, node {node}, is a reference (line {row.line}): a reference is there from cycle 0 on"
+
+
+def script_joins(earlier):
+    return [(whole(other.fields[2]), whole(other.fields[3]), other) for other in earlier if other.fields[0] == "join"]
 
 
 def script_role(record, cluster, earlier):
     kind, fields, arbitrary = record.fields[0], record.fields, arbitrary_before(earlier)
+    if kind == "join":
+        yield from join_role(whole(fields[2]), whole(fields[3]), cluster, script_joins(earlier), arbitrary)
+        return
     if kind == "arbitrary":
         node = whole(fields[1])
         if node in cluster.nodes and cluster.nodes[node][0] is None:
@@ -184,6 +207,28 @@ def script_role(record, cluster, earlier):
         yield f"the sender, node {sender}, is arbitrary (line {arbitrary[sender].line}), and says only what `say` says"
 
 
+def trace_joins(earlier):
+    return [(whole(other.fields[1]), whole(other.fields[2]), other) for other in earlier if other.fields[0] == "join"]
+
+
+def trace_role(record, cluster, earlier):
+    kind, fields, joins, found = record.fields[0], record.fields, trace_joins(earlier), []
+    if kind == "join":
+        found = list(join_role(whole(fields[1]), whole(fields[2]), cluster, joins, arbitrary_before(earlier)))
+        if joins and whole(fields[1]) <= joins[-1][0]:
+            found.append(f"`join` rows ascend by NODE, and line {joins[-1][2].line} has node {joins[-1][0]}")
+    if kind == "cycle":
+        for node, _, row in joins:
+            first = 2 * whole(row.fields[3]) + 6
+            if node == whole(fields[2]):
+                found.append(f"node {node} joins (line {row.line}): it has cycle rows from cycle {first} on, or none")
+    yield from found
+    if not found or kind == "cycle":
+        yield ("the record may not come next: the run row, arbitrary nodes and nodes that join, each in ascending "
+               "order, then for each cycle the cycle row of each correct node that takes part, with its dev rows, "
+               "ascending by slot and channel")
+
+
 def power_role(record, cluster, earlier):
     node, time = whole(record.fields[1]), whole(record.fields[2])
     if node in cluster.nodes and cluster.nodes[node][2] not in ("1", "01"):
@@ -197,7 +242,17 @@ def power_role(record, cluster, earlier):
         yield f"TIME is {time}, and line {own[-1].line} of node {node} has {own[-1].fields[2]}: times ascend"
 
 
+def none_in_common(node, reference, cluster):
+    told = [f"node {number} has {cluster.nodes[number][1]} (line {cluster.nodes[number][3].line} of the parameters)"
+            for number in (node, reference) if number in cluster.nodes]
+    yield ", and ".join(told) + ": they have no channel in common"
+
+
 def link(role, record, cluster, earlier):
+    if record.fields[0] == "join":
+        first = 2 if role == "script" else 1
+        yield from none_in_common(whole(record.fields[first]), whole(record.fields[first + 1]), cluster)
+        return
     if role == "trace":
         yield "the channel is not common to the receiver and the node whose key slot it is"
         return
@@ -229,7 +284,7 @@ def same_key(role, record):
         return {"doubles": (kind,), "start": (kind, numbers[1]), "length": (kind, *numbers[1:3])}.get(
             kind, (kind, *numbers[1:5]))
     if role == "script":
-        return (kind, numbers[1]) if kind == "arbitrary" else ("frames", *numbers[1:5])
+        return {"arbitrary": (kind, numbers[1]), "join": (kind, numbers[2])}.get(kind, ("frames", *numbers[1:5]))
     return (kind,)
 
 

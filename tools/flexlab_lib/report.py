@@ -11,6 +11,7 @@ class Bounds:
     lambda_: int = 0
     pi: int = 0
     precision: int = 0
+    reach: int | None = None
     checks: list = field(default_factory=list)
 
     @property
@@ -26,7 +27,7 @@ def read_bounds(text):
     found = Bounds()
     for line in text.splitlines():
         words = line.split()
-        if words[0] in ("y1", "lambda", "pi", "precision"):
+        if words[0] in ("y1", "lambda", "pi", "precision", "reach"):
             setattr(found, words[0] + ("_" if words[0] == "lambda" else ""), int(words[1]))
         elif re.fullmatch(r"C\d+ (holds|fails) -?\d+ -?\d+", line):
             found.checks.append((int(words[0][1:]), words[1] == "holds", int(words[2]), int(words[3])))

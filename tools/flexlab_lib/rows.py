@@ -115,6 +115,38 @@ def read_script(source, cluster):
                     put(table, cluster, (cycle, sender, receiver, channel), (name, bit, ""))
 
 
+def read_joins(source, cluster):
+    """For each node that joins the double cycle in which it listens, and its reference."""
+    for table in source.tables("join"):
+        double = table.whole("double_cycle", *ranges.DOUBLE)
+        node, reference = one_correct(table, "node", cluster), one_correct(table, "reference", cluster)
+        if node in cluster.joins:
+            table.refuse("node", f"node {node} joins already")
+        if cluster.nodes[node].start or cluster.nodes[node].rate:
+            table.refuse("node", f"node {node} has a start or a rate, and both come of what it hears as it joins")
+        if node == reference:
+            table.refuse("reference", f"node {node} cannot be its own reference")
+        if cluster.nodes[reference].key_slot is None:
+            table.refuse("reference", f"node {reference} has no key slot, and a reference needs one")
+        if not cluster.common(reference, node):
+            table.refuse("reference", f"nodes {node} and {reference} have no channel in common")
+        table.finish()
+        cluster.joins[node] = (double, reference)
+    for table in source.tables("join"):
+        reference = one_correct(table, "reference", cluster)
+        if reference in cluster.joins:
+            table.refuse("reference", f"node {reference} joins itself, and a reference is there from cycle 0 on")
+
+
+def one_correct(table, key, cluster):
+    nodes = table.nodes(key, cluster.nodes)
+    if len(nodes) != 1:
+        table.refuse(key, "one node is wanted")
+    if nodes[0] in cluster.arbitrary:
+        table.refuse(key, f"node {nodes[0]} is arbitrary, and only correct nodes join")
+    return nodes[0]
+
+
 def put(table, cluster, place, row):
     if place in cluster.script:
         table.refuse(None, "cycle {}, node {} to node {}, channel {}: another table says something of "

@@ -8,7 +8,7 @@ from .ending import FILE, NO, PROGRAM, Stop
 from .files import write_files
 from .report import Bounds, Report, Series, read_bounds, read_report, read_series, read_trace
 from .settled import skew_in_sync
-from .sync import sync_of
+from .sync import fits, sync_of
 
 
 @dataclass
@@ -30,6 +30,10 @@ class Run:
         if self.report.in_sync is None:
             return None
         return next((at for at in range(self.report.in_sync, len(self.synced)) if not self.synced[at]), None)
+
+    def first_row(self, node):
+        """The first cycle in which a node has a row, or None."""
+        return next((cycle for cycle, rows in enumerate(self.cycles) if node in rows), None)
 
     @property
     def at_end(self):
@@ -55,6 +59,11 @@ def keep(folder, name, text):
         raise Stop(FILE, f"{fault.filename}: {fault.strerror}")
 
 
+def bound_words(cluster, path):
+    """What `bound` is asked for: of a cluster that nodes join also the checks for that."""
+    return ["bound", path, "join"] if cluster.joins else ["bound", path]
+
+
 def try_advice(program, cluster, bounds, folder):
     """What flexray bound says of the parameters with the advised values put in, in one sentence, or None.
 
@@ -73,7 +82,7 @@ def try_advice(program, cluster, bounds, folder):
         if start is not None and start < now["gOffsetCorrectionStart"]:
             now["gOffsetCorrectionStart"] = changed["gOffsetCorrectionStart"] = start
         paths = write_files(replace(cluster, parameters=now), os.path.join(folder, "advised"))
-        status, text, told = programs.call(program, ["bound", paths[0]])
+        status, text, told = programs.call(program, bound_words(cluster, paths[0]))
         named = ", ".join(f"{name} = {value}" for name, value in changed.items())
         if status != 0:
             return (f"tried together with flexray bound: {named}: refused, {told}; "
@@ -87,7 +96,7 @@ def try_advice(program, cluster, bounds, folder):
 def run_cluster(cluster, folder, program, traced=True):
     """Writes the files, calls bound, run, trace and flexray-series, and gathers what they say."""
     paths = write_files(cluster, folder)
-    told = answer(program, ["bound", paths[0]])
+    told = answer(program, bound_words(cluster, paths[0]))
     keep(folder, "bound.txt", told)
     bounds = read_bounds(told)
     told = answer(program, ["run", *paths])
@@ -98,8 +107,8 @@ def run_cluster(cluster, folder, program, traced=True):
         answer(program, ["trace", *paths], out)
     cycles = read_trace(trace)
     synced = sync_of(cycles, bounds, cluster.parameters)
-    first = next((at for at, good in enumerate(synced) if good), None)
-    if first != report.in_sync and cycles and cluster.correct:
+    if not fits(synced, report.in_sync, cluster.joins) and cycles and cluster.correct:
+        first = next((at for at, good in enumerate(synced) if good), None)
         raise Stop(PROGRAM, f"flexray says in sync {report.in_sync}, and its trace says {first}")
     run = Run(cluster, folder, bounds, report, cycles, synced, files=paths)
     run.series = call_series(program, paths, folder)

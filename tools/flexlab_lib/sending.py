@@ -32,8 +32,8 @@ def sent(cluster, cycles):
     plan = list(senders(cluster))
     for cycle, rows in enumerate(cycles):
         for slot, node, base, repetition, key in plan:
-            row = rows[node.number]
-            if row.state != "active":
+            row = rows.get(node.number)
+            if row is None or row.state != "active":
                 continue
             ticks = instant(cluster.parameters, row, slot)
             ns = rounded(Fraction(ticks) * cluster.microtick_ns / 1000000)

@@ -25,6 +25,8 @@ def begun_at(cluster, cycles, double):
     zero = min(row.start for row in cycles[cycle].values())
     for number, row in cycles[cycle].items():
         later.nodes[number].start, later.nodes[number].rate = row.start - zero, row.rate
+    later.joins = {node: (at - double, reference) for node, (at, reference) in cluster.joins.items()
+                   if node not in cycles[cycle]}
     later.lengths = {node: moved(steps, cycle) for node, steps in cluster.lengths.items()}
     later.delays = {link: moved(steps, cycle) for link, steps in cluster.delays.items()}
     later.script = {(at - cycle, *link): row for (at, *link), row in cluster.script.items() if at >= cycle}
@@ -44,6 +46,8 @@ def same(cycles, rest, cycle, zero):
 
 def skew_in_sync(cluster, cycles, double, program, folder):
     """(skew, cycle, macrotick) from that double cycle on, or None where the second run is not the rest."""
+    if any(at < double and node not in cycles[2 * double] for node, (at, _) in cluster.joins.items()):
+        return None
     later, zero = begun_at(cluster, cycles, double)
     paths = write_files(later, os.path.join(folder, "in-sync"))
     status, text, _ = programs.call(program, ["run", *paths])

@@ -7,7 +7,7 @@ from .ending import FILE, REFUSED, Stop
 from .values import Table, near, shown
 
 SINGLE = ("bench", "cluster", "limits", "run", "values")
-MANY = ("node", "slot", "oscillator", "delay", "two_faced", "say", "lose", "flip")
+MANY = ("node", "slot", "oscillator", "delay", "two_faced", "say", "lose", "flip", "join")
 
 
 class Source:

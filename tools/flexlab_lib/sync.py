@@ -27,6 +27,17 @@ def is_in_sync(pair, bounds, parameters):
     return spread(row.start for row in pair[0].values()) <= bounds.pi
 
 
+def fits(synced, told, joins):
+    """Whether the told double cycle may be the first one in sync in which no node follows.
+
+    A trace does not say who follows: only nodes that join can, in the two double cycles behind that in which they
+    listen.
+    """
+    good = [at for at, in_sync in enumerate(synced) if in_sync]
+    early = good if told is None else good[:good.index(told)] if told in good else [None]
+    return all(at is not None and any(double < at < double + 3 for double, _ in joins.values()) for at in early)
+
+
 def sync_of(cycles, bounds, parameters):
     """For each double cycle whether it is in sync."""
     return [is_in_sync(cycles[at:at + 2], bounds, parameters) for at in range(0, len(cycles) - 1, 2)]

@@ -89,6 +89,21 @@ CASES = (
     ("script", "C0FFEE", "C0FFE", "script: record 5: NotHex", "5 digits, and two make a byte"),
     ("script", "lose,2,2,4,A,,", "flip,1,1,2,B,7,", "script: record 7: Repeated", "line 6 is of the same: "
                                                                                   "flip,1,1,2,B,40,"),
+    ("script", "lose,2,2,4,A,,", "join,1,4,2,,, ", "script: record 7: Shape", "a blank is a text too"),
+    ("script", "lose,2,2,4,A,,", "join,1,4,2,,", "script: record 7: Shape", "1 more belong to it"),
+    ("script", "lose,2,2,4,A,,", "join,1,4,x,,,", "script: record 7: NotNumber", 'field 4 (REFERENCE) is "x"'),
+    ("script", "lose,2,2,4,A,,", "join,100000,4,2,,,", "script: record 7: OutOfRange",
+     'field 2 (DOUBLE) is "100000", which is not from 0 to 99999 double cycles'),
+    ("script", "lose,2,2,4,A,,", "join,1,4,9,,,", "script: record 7: UnknownNode", 'field 4 (REFERENCE) is "9"'),
+    ("script", "lose,2,2,4,A,,", "join,1,4,4,,,", "script: record 7: Role", "NODE and REFERENCE are both node 4"),
+    ("script", "lose,2,2,4,A,,", "join,1,4,5,,,", "script: record 7: Role", "REFERENCE, node 5, is arbitrary (line 1)"),
+    ("script", "lose,2,2,4,A,,", "join,1,5,4,,,", "script: record 7: Role", "NODE, node 5, is arbitrary (line 1)"),
+    ("script", "lose,2,2,4,A,,", "join,1,4,2,,,\njoin,2,3,4,,,", "script: record 8: Role",
+     "REFERENCE, node 4, joins itself (line 7)"),
+    ("script", "lose,2,2,4,A,,", "join,1,4,2,,,\njoin,2,2,1,,,", "script: record 8: Role",
+     "NODE, node 2, is a reference (line 7)"),
+    ("script", "lose,2,2,4,A,,", "join,1,4,2,,,\njoin,2,4,1,,,", "script: record 8: Repeated",
+     "line 7 is of the same: join,1,4,2,,,"),
 )
 
 
@@ -133,6 +148,16 @@ class Explain(Bench):
         out = self.flexlab("explain", *words, status=1)[0]
         self.assertIn("drift: record 3: Link", out)
         self.assertIn("the channel is B, and the receiver, node 3, has A (line 22 of the parameters)", out)
+
+    def test_references(self):
+        for node, line, told in (("node,4,,AB,0", "Role", "REFERENCE, node 4, has no key slot (line 23"),
+                                 ("node,4,4,B,0", "Link", "node 3 has A (line 22 of the parameters), and node 4 "
+                                                          "has B")):
+            with self.subTest(node=node):
+                params = PARAMS.replace("node,4,4,AB,0", node).replace("node,3,3,AB,0", "node,3,3,A,0")
+                words = self.files(params=params, drift="doubles,4,,,,\n", script="join,0,3,4,,,\n")
+                self.assertEqual(self.flexray(*words)[2], f"script: record 1: {line}")
+                self.assertIn(told, self.explained(f"script: record 1: {line}", words))
 
     def test_constraint_6(self):
         params = re.sub(r"^node,.*\n|^slot,.*\n", "", PARAMS, flags=re.M) + "node,1,,A,0\n"
@@ -194,6 +219,9 @@ class Explain(Bench):
         joining = self.flexlab("explain", "bound", "params.csv", "join")[0]
         for told in ("C6 asks for 84 at least", "C7 asks for 454 at least", "C8 asks for 12 at least"):
             self.assertIn(told, joining)
+        joining = self.flexlab("explain", *self.files(script=SCRIPT + "join,0,4,1,,,\n"))[0]
+        for told in ("covered no check 6", "C6 asks for 84 at least"):
+            self.assertIn(told, joining)
         words = self.files(script=SCRIPT.replace("lose,2,2,4,A,,", "lose,2,2,4,A,,\nlose,2,2,4,B,,"))
         self.assertIn("no channel carries the frames of node 2 to node 4", self.flexlab("explain", *words)[0])
         self.assertIn("nothing in its answer needs", self.flexlab("explain", *self.files())[0])
@@ -215,6 +243,46 @@ class Explain(Bench):
                 if "record " in line:
                     number = int(line.split()[2].rstrip(":"))
                     self.assertIn(f"trace.csv:{number}: {self.read('trace.csv').splitlines()[number - 1]}", out)
+
+    def test_traces_of_clusters_that_nodes_join(self):
+        def line(number, text=None):
+            lines = trace.splitlines()
+            lines[number - 1:number] = [text] if text is not None else []
+            return "".join(f"{one}\n" for one in lines)
+
+        with open(os.path.join(REPOSITORY, "examples", "joins-trace", "printed.txt"), encoding="utf-8") as file:
+            trace = file.read()
+        with open(os.path.join(REPOSITORY, "examples", "joins", "params.csv"), encoding="utf-8") as file:
+            params = file.read()
+        words = "check", "params.csv", "trace.csv"
+        for changed, made, told, says in (
+                (params, line(2, "join,3,1,1,,,1,"), "record 2: Shape", "to be left empty"),
+                (params, line(2, "join,3,1,,,,,"), "record 2: NotNumber", 'field 4 (DOUBLE) is ""'),
+                (params, line(2, "join,3,1,100000,,,,"), "record 2: OutOfRange", "is not from 0 to 99999 double "
+                                                                                 "cycles"),
+                (params, line(2, "join,3,4,1,,,,"), "record 2: UnknownNode", 'field 3 (REFERENCE) is "4"'),
+                (params, line(2, "join,3,3,1,,,,"), "record 2: Role", "NODE and REFERENCE are both node 3"),
+                (params, line(2, "join,3,1,1,,,,\njoin,3,1,1,,,,"), "record 3: Role", "line 2 has node 3"),
+                (params, line(2, "join,2,1,1,,,,\njoin,3,2,1,,,,"), "record 3: Role", "node 2, joins itself (line 2)"),
+                (params, line(2, "join,3,1,2,,,,"), "record 41: Role", "it has cycle rows from cycle 10 on, or none"),
+                (params.replace("node,1,1,A,1", "node,1,1,B,1"), trace, "record 2: Link", "no channel in common"),
+                (params, line(37, "dev,8,1,3,A,9,,"), "record 37 deviation 9 expected -1 to 0", "the record has 9")):
+            with self.subTest(told=told, says=says):
+                self.write("params.csv", changed)
+                self.write("trace.csv", made)
+                status, _, err = self.flexray(*words)
+                self.assertEqual((status, err), (5 if ": " in told else 1, f"trace: {told}"))
+                self.assertIn(says, self.explained(err, words))
+        with open(os.path.join(REPOSITORY, "examples", "apart", "trace.csv"), encoding="utf-8") as file:
+            late = file.read()
+        for made, told, says in (
+                (late, "record 41 apart 4", "node 3 has its first row here, and in double cycle 4 (cycles 8 and 9)"),
+                (line(32, "dev,7,1,2,A,0,,\ndev,7,1,3,A,0,,"), "record 33 apart 3", "slot 3 has no row in cycle 7")):
+            with self.subTest(told=told):
+                self.write("params.csv", params)
+                self.write("trace.csv", made)
+                self.assertEqual(self.flexray(*words), (1, "", f"trace: {told}"))
+                self.assertIn(says, self.explained(f"trace: {told}", words))
 
     def test_other_lines(self):
         self.files()

@@ -66,6 +66,22 @@ class Pictures(Bench):
                 self.flexlab("run", "-p", "a.toml")
                 self.assertIn(told, self.read("a.lab", "skew.svg"))
 
+    @needs("gnuplot")
+    def test_a_node_that_joins(self):
+        join = "[[join]]\nnode = {}\nreference = 1\ndouble_cycle = {}\n"
+        self.write("a.toml", EXAMPLE + join.format(5, 20) + join.format(3, 20) + join.format(4, 60))
+        self.flexlab("run", "-p", "a.toml")
+        skew, terms = self.read("a.lab", "skew.svg"), self.read("a.lab", "terms.svg")
+        self.assertIn("nodes 3, 5 from cycle 46", skew)
+        self.assertIn("node 4 from cycle 126", skew)
+        rows = self.read("a.lab", "terms.gnuplot").split("$node5 << end\n")[1].split("end")[0].splitlines()
+        self.assertEqual([int(row.split()[0]) for row in rows], list(range(46, 399, 2)))
+        for node in range(1, 6):
+            self.assertIn(f"node {node}", terms)
+        self.write("a.toml", edited(("double_cycles = 200", "double_cycles = 4000")) + join.format(5, 3996))
+        self.flexlab("run", "-p", "a.toml")
+        self.assertIn("node 5 from cycle 7998", self.read("a.lab", "skew.svg"))
+
     def test_without_gnuplot(self):
         self.write("a.toml", EXAMPLE)
         self.assertIn("install the Debian package gnuplot-nox", self.flexlab("run", "-p", "a.toml", status=4,

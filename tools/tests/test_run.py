@@ -5,7 +5,13 @@ import unittest
 from fractions import Fraction
 
 from bench import EXAMPLE, SERIES, Bench, edited, needs_series
-from flexlab_lib import report
+from flexlab_lib import report, sync
+
+
+# Limits of the example that suffice for nodes that join.
+WIDE = (("pRateCorrectionOut = 81", "pRateCorrectionOut = 85"),
+        ("pOffsetCorrectionOut = 320", "pOffsetCorrectionOut = 572"),
+        ("gdActionPointOffset = 10", "gdActionPointOffset = 15"))
 
 
 class Pages(Bench):
@@ -76,6 +82,46 @@ class Pages(Bench):
                                 ('cycles = "181-"', "cycles = 181")))
         self.assertIn("In sync NEVER", page)
         self.assertIn("there is none", page)
+
+    def test_a_node_that_joins(self):
+        join = "[[join]]\nnode = 5\nreference = 1\ndouble_cycle = {}\n"
+        page = self.page(edited(*WIDE) + join.format(20))
+        self.assertIn("covered yes", self.read("a.lab", "report.txt"))
+        self.assertIn("C1 to C9 hold", page)
+        self.assertRegex(page, r"5 active \+0\.00 \+0\.00 1000000 ")
+        self.assertIn("5 joins: it listens to node 1 in double cycle 20, and takes part from cycle 46 on (230.000 ms)",
+                      page)
+        self.assertIn("nodes run from cycle 0 or join", page)
+        rows = [line.split(",")[1] for line in self.read("a.lab", "trace.csv").splitlines()
+                if re.match(r"cycle,\d+,5,", line)]
+        self.assertEqual(rows, [str(cycle) for cycle in range(46, 400)])
+        page = self.page(edited(*WIDE) + join.format(20)
+                         + '[[lose]]\nfrom = 1\nto = 5\nchannels = "A"\ncycles = 41\n')
+        self.assertIn("5 joins: it listens to node 1 in double cycle 20, and takes no part in this run", page)
+        self.assertIn("no channel carries the frames of node 1 to node 5 in both its cycles (cycles 40 and 41)", page)
+        page = self.page(EXAMPLE + join.format(20))
+        self.assertIn("check C6 fails, see below", page)
+        self.assertIn("tried together with flexray bound: all checks hold with", page)
+
+    def test_frames_and_skew_beside_a_node_that_joins(self):
+        text = edited(*WIDE) + "[[join]]\nnode = 4\nreference = 1\ndouble_cycle = 20\n"
+        self.write("a.toml", text)
+        self.assertIn("as many on each channel", self.flexlab("pcap", "a.toml")[0])
+        # From its first double cycle in sync on the run is run again, and there too the node joins.
+        page = self.page(edited(("drift = 150", "drift = 200"), text=text))
+        self.assertIn("before sync, so it is not to be held against the precision", page)
+        self.assertRegex(page, r"Skew in sync [\d.]+ us at most")
+        first = int(re.search(r"^in sync (\d+)$", self.read("a.lab", "report.txt"), re.M)[1])
+        self.assertEqual(self.read("a.lab", "in-sync", "script.csv").splitlines()[1], f"join,{20 - first},4,1,,,")
+
+    def test_the_first_sync_of_a_run_that_nodes_join(self):
+        yes, no = True, False
+        for synced, told, joins, fits in (((yes, yes), 0, {}, yes), ((yes, yes), 1, {}, no), ((no, no), None, {}, yes),
+                                          ((yes, no), None, {}, no), ((no, yes, yes, yes), 3, {5: (0, 1)}, yes),
+                                          ((yes, yes, yes, yes), 3, {5: (0, 1)}, no), ((no, yes), 0, {}, no),
+                                          ((no, yes, yes), None, {5: (0, 1)}, yes)):
+            with self.subTest(synced=synced, told=told):
+                self.assertEqual(sync.fits(synced, told, joins), fits)
 
     def test_gaps_in_words(self):
         for changes, more, told in (

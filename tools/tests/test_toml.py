@@ -61,6 +61,18 @@ MORE = (
     ("[[say]]\nnode = 6\nto = 1\ncycles = 3\nframe = \"ABC\"\n", 'say[1].frame: "ABC" is not text of hexadecimal '
                                                                  'digits'),
     ("[[two_faced]]\nnode = 6\nmicroticks = 1\n", "two_faced[2]: it wants receivers"),
+    ("[[join]]\nnode = 3\nreference = 1\n", "join[1]: the key `double_cycle` is missing"),
+    ("[[join]]\nnode = 3\nreference = 1\ndouble_cycle = 100000\n", "join[1].double_cycle: 100000 is not a whole number "
+                                                                  "from 0 to 99999"),
+    ("[[join]]\nnode = 3\nreference = 3\ndouble_cycle = 1\n", "join[1].reference: node 3 cannot be its own reference"),
+    ("[[join]]\nnode = 3\nreference = [1, 2]\ndouble_cycle = 1\n", "join[1].reference: one node is wanted"),
+    ("[[join]]\nnode = 3\nreference = 5\ndouble_cycle = 1\n", "join[1].reference: node 5 has no key slot"),
+    ("[[join]]\nnode = 6\nreference = 1\ndouble_cycle = 1\n", "join[1].node: node 6 is arbitrary"),
+    ("[[join]]\nnode = 3\nreference = 6\ndouble_cycle = 1\n", "join[1].reference: node 6 is arbitrary"),
+    ("[[join]]\nnode = 2\nreference = 1\ndouble_cycle = 1\n", "join[1].node: node 2 has a start or a rate"),
+    ("[[join]]\nnode = 3\nreference = 1\ndouble_cycle = 1\n" * 2, "join[2].node: node 3 joins already"),
+    ("[[join]]\nnode = 3\nreference = 4\ndouble_cycle = 1\n[[join]]\nnode = 4\nreference = 1\ndouble_cycle = 1\n",
+     "join[1].reference: node 4 joins itself"),
 )
 
 
@@ -131,6 +143,13 @@ class Toml(Bench):
         for row in [f"lose,{cycle},1,{node},A,," for cycle in (5, 6) for node in (2, 3, 4, 5)] + [
                 "flip,9,3,2,A,191,", "flip,9,3,2,B,191,"]:
             self.assertIn(f"{row}\n", script)
+
+    def test_rows_of_nodes_that_join(self):
+        self.write("a.toml", EXAMPLE + "[[join]]\nnode = 5\nreference = 2\ndouble_cycle = 20\n"
+                                       "[[join]]\nnode = 3\nreference = 1\ndouble_cycle = 4\n")
+        self.flexlab("build", "a.toml")
+        self.assertTrue(self.read("a.lab", "script.csv").startswith(
+            "arbitrary,6,,,,,\njoin,4,3,1,,,\njoin,20,5,2,,,\nsay,0,6,1,A,"))
 
     def test_the_files_of_the_example_are_those_of_its_toml(self):
         folder = os.path.join(REPOSITORY, "examples", "bench")
