@@ -200,8 +200,9 @@ const APART_CHANNELS: &[(&str, &str)] = &[
     ),
 ];
 
-// Lines of the parameter file, nodes, a drift, a script, and the report: of nodes that join, of which the last takes part
-// three double cycles before its cluster is in sync with none that follows; and of channels with compensations of their own.
+// Lines of the parameter file, nodes, a drift, a script, and the report: of nodes that join; and of channels with
+// compensations of their own. In the last run that a node joins it follows while the others come into sync, so that the
+// first double cycle in sync in which none follows is that from which on it takes part.
 const OTHER_RUNS: &[(&[(&str, &str)], &str, &str, &str, &str)] = &[
     (
         JOINING,
