@@ -44,6 +44,15 @@ OR = {
     8: "lower what widens the reach (as for C7), or make a macrotick longer",
     9: "lower what widens the reach (as for C7), or gdActionPointOffset",
 }
+# The checks for the way to sync have the peak in place of the precision ("The way to sync").
+WAY_WHY = {
+    3: "the offset limit has to suffice for the peak, the furthest that clocks lie apart on the way to sync",
+    4: "an early arrival must not fall before its slot, with clocks as far apart as the peak",
+    5: "a late arrival must not fall behind its slot, with clocks as far apart as the peak",
+}
+WAY_FORMULA = {number: FORMULA[number].replace("precision", "peak") for number in WAY_WHY}
+WAY_OR = {number: "let clocks begin nearer together, so give a lower START or RATE (the peak grows with both), or " + text
+          for number, text in ((3, OR[3]), (4, OR[4]), (5, OR[5]))}
 TURNS = {1: "pClusterDriftDamping", 2: "pRateCorrectionOut", 3: "pOffsetCorrectionOut",
          4: "gdActionPointOffset", 5: "gdStaticSlot", 6: "pRateCorrectionOut", 7: "pOffsetCorrectionOut",
          8: "gdActionPointOffset", 9: "gdStaticSlot"}

@@ -6,9 +6,13 @@ import tempfile
 from dataclasses import dataclass, field
 
 from . import program as programs
+from .cluster import read_cluster
 from .ending import DONE, FILE, NO, PROGRAM, REFUSED, USAGE, Stop
+from .frames import frame_crc
 from .packets import FLAGS, FRAME, LINK_FLEXRAY, SYMBOL, read_capture
+from .machine import printed
 from .page import field as lines_of
+from .timing import draw_timing, timing, timing_lines, timing_objects, write_timing
 
 PIECE = 1 << 20
 LIMIT = 16777216
@@ -20,6 +24,7 @@ class Taken:
     """What became of the packets of a capture."""
     packets: list
     whole: dict = field(default_factory=dict)
+    headed: dict = field(default_factory=dict)
     damaged: dict = field(default_factory=dict)
     bare: list = field(default_factory=list)
     symbols: list = field(default_factory=list)
@@ -27,12 +32,18 @@ class Taken:
     cycles: dict = field(default_factory=dict)
     ends: tuple | None = None
 
+    @property
+    def known(self):
+        """What is known of frames: of whole ones all, of those without a frame CRC what their header says."""
+        return {**self.headed, **self.whole}
+
 
 def load(path):
     """The packets of a capture, whatever form tshark reads, by their numbers there."""
+    with open(path, "rb") as file:
+        if not file.read(1):
+            raise Stop(NO, f"{path}: it has 0 bytes, so it is no capture: did the logger write?")
     tshark = programs.helper("tshark")
-    with open(path, "rb"):
-        pass
     with tempfile.TemporaryDirectory() as room:
         plain = os.path.join(room, "plain.pcap")
         status, _, told = programs.call(tshark, ["-r", path, "-F", "nsecpcap", "-w", plain])
@@ -43,6 +54,8 @@ def load(path):
         link, packets = read_capture(plain)
     if packets and link != LINK_FLEXRAY:
         raise Stop(REFUSED, f"{path}: its link type is {link}, and FlexRay's is {LINK_FLEXRAY}")
+    if not packets:
+        raise Stop(NO, f"{path}: a capture without a packet: was the logger on the bus, and its filter open?")
     return packets
 
 
@@ -78,7 +91,12 @@ def ask(program, words, data, room):
     return programs.call(program, [*words, path])
 
 
-def check_channel(program, channel, packets, taken, room):
+def completed(packet):
+    """The bytes of a frame without its frame CRC, with one that is right: so flexray looks at its header."""
+    return packet.frame + frame_crc(packet.channel, packet.frame).to_bytes(3, "big")
+
+
+def check_channel(program, channel, packets, whole, taken, room, bytes_of=lambda packet: packet.frame):
     """Asks flexray capture which packets are whole: piece by piece, behind a fault from the next packet on.
 
     Where there are many faults pieces are short, since what stands behind a fault is read in vain.
@@ -89,12 +107,12 @@ def check_channel(program, channel, packets, taken, room):
         while at + len(piece) < len(packets) and size < limit:
             piece.append(packets[at + len(piece)])
             size += len(piece[-1].frame)
-        status, text, told = ask(program, ["capture", channel], b"".join(packet.frame for packet in piece), room)
+        status, text, told = ask(program, ["capture", channel], b"".join(bytes_of(packet) for packet in piece), room)
         if status != 0:
             raise Stop(PROGRAM, f"flexray capture {channel} ended with status {status}: {told}")
         found = re.findall(r"^at \d+ id (\d+) words (\d+) cycle (\d+) crc (\w+)$", text, re.M)
         for packet, (number, words, cycle, _) in zip(piece, found):
-            taken.whole[packet.number] = int(number), int(words), int(cycle)
+            whole[packet.number] = int(number), int(words), int(cycle)
         fault = re.search(r"^fault (\d+) (.*)$", text, re.M)
         if fault:
             taken.damaged[piece[len(found)].number] = fault[2]
@@ -106,17 +124,17 @@ def check_channel(program, channel, packets, taken, room):
 
 def count_cycles(taken):
     """Cycles from the first one's count on: from packet to packet the count goes on by less than 64."""
-    last = None
+    last, known = None, taken.known
     for packet in taken.packets:
-        if packet.number in taken.whole:
-            count = taken.whole[packet.number][2]
+        if packet.number in known:
+            count = known[packet.number][2]
             if last is None:
                 last = count
             step = (count - last) % 64
             # A packet of the cycle before may stand behind one of this cycle.
             taken.cycles[packet.number] = last + (step if step < 48 else step - 64)
             last = max(last, taken.cycles[packet.number])
-    ends = [(cycle, taken.whole[number][0]) for number, cycle in taken.cycles.items()]
+    ends = [(cycle, known[number][0]) for number, cycle in taken.cycles.items()]
     taken.ends = (min(ends), max(ends)) if ends else None
 
 
@@ -124,7 +142,9 @@ def take_apart(path, program):
     taken, todo = sort_packets(load(path))
     with tempfile.TemporaryDirectory() as room:
         for channel in "AB":
-            check_channel(program, channel, todo[channel], taken, room)
+            check_channel(program, channel, todo[channel], taken.whole, taken, room)
+            check_channel(program, channel, [packet for packet in taken.bare if packet.channel == channel], taken.headed,
+                          taken, room, completed)
         for packet in taken.packets:
             if packet.number in taken.damaged and taken.damaged[packet.number] is None:
                 told = ask(program, ["frame", packet.channel], packet.frame, room)[2]
@@ -168,14 +188,16 @@ def write_table(folder, taken):
     path = os.path.join(folder, "frames.csv")
     with open(path, "w", encoding="utf-8", newline="") as file:
         writer = csv.writer(file, lineterminator="\n")
-        writer.writerow(("packet", "seconds", "channel", "id", "cycle_count", "cycle", "words", "flags", "fault"))
+        writer.writerow(("packet", "seconds", "channel", "id", "cycle_count", "cycle", "words", "flags", "checked", "fault"))
+        all_known = taken.known
         for packet in taken.packets:
-            if packet.number in taken.whole or packet.number in taken.damaged:
-                known = taken.whole.get(packet.number, ("", "", ""))
+            if packet.number in all_known or packet.number in taken.damaged:
+                known = all_known.get(packet.number, ("", "", ""))
+                checked = "frame" if packet.number in taken.whole else "header" if packet.number in taken.headed else ""
                 flags = " and ".join(name for bit, name in FLAGS.items() if packet.flags & bit)
                 seconds = f"{packet.ns // 10**9}.{packet.ns % 10**9:09}"
                 writer.writerow((packet.number, seconds, packet.channel, known[0], known[2],
-                                 taken.cycles.get(packet.number, ""), known[1], flags,
+                                 taken.cycles.get(packet.number, ""), known[1], flags, checked,
                                  taken.damaged.get(packet.number, "")))
     return path
 
@@ -212,11 +234,33 @@ def missing_of(taken, number, cycles):
     return every, [cycle for cycle in range(begin, last + 1, every) if cycle not in have]
 
 
-def id_lines(taken, channel):
-    seen = {}
+def seen_of(taken, channel):
+    """Of each ID of a channel the cycles of its whole frames, or of those with a right header."""
+    seen, known = {}, taken.known
     for packet in taken.packets:
-        if packet.number in taken.whole and packet.channel == channel:
-            seen.setdefault(taken.whole[packet.number][0], []).append(taken.cycles[packet.number])
+        if packet.number in known and packet.channel == channel:
+            seen.setdefault(known[packet.number][0], []).append(taken.cycles[packet.number])
+    return seen
+
+
+def capture_object(path, taken, times):
+    """A capture as an object: names stand in docs/FLEXLAB.md, "For machines"."""
+    ids = []
+    for channel in "AB":
+        for number, cycles in sorted(seen_of(taken, channel).items()):
+            every, missing = missing_of(taken, number, cycles)
+            ids.append({"channel": channel, "id": number, "frames": len(cycles), "every": every, "first": min(cycles),
+                        "last": max(cycles), "missing": missing, "twice": len(cycles) - len(set(cycles))})
+    damaged = [{"packet": packet.number, "channel": packet.channel, "fault": taken.damaged[packet.number]}
+               for packet in taken.packets if packet.number in taken.damaged]
+    cycles = [min(taken.cycles.values()), max(taken.cycles.values())] if taken.cycles else None
+    return {"file": path, "packets": len(taken.packets), "whole": len(taken.whole), "damaged": damaged,
+            "without_trailer": len(taken.bare), "header_right": len(taken.headed), "symbols": len(taken.symbols),
+            "others": len(taken.other), "cycles": cycles, "ids": ids, "times": timing_objects(times)}
+
+
+def id_lines(taken, channel):
+    seen = seen_of(taken, channel)
     if not seen:
         return []
     found = ["", f"Channel {channel}", f"{'id':>6}{'frames':>9}{'every':>7}{'first':>8}{'last':>8}  missing cycles"]
@@ -246,50 +290,67 @@ def damaged_lines(taken):
     return found
 
 
-def page_lines(path, taken, beyond):
+def page_lines(path, taken, beyond, times):
     flagged = [packet for packet in taken.packets if packet.data and packet.flags]
     fine = sum(packet.number in taken.whole for packet in flagged)
     found = lines_of("Capture", f"{path}: {len(taken.packets)} packets")
-    found += lines_of("Frames", f"{len(taken.whole)} whole, {len(taken.damaged)} damaged, {len(taken.bare)} without a "
-                                "trailer (the frame CRC; left out, since nothing tells whether they are whole)")
+    found += lines_of("Frames", f"{len(taken.whole)} whole, {len(taken.damaged)} damaged, {len(taken.headed)} without a "
+                                "trailer, the frame CRC"
+                                + (": of these the header is right, by its CRC, and the payload is not checked by anything"
+                                   if taken.headed else ""))
     found += lines_of("Others", f"{len(taken.symbols)} symbols, {len(taken.other)} of another kind")
     found += lines_of("Flagged", f"{len(flagged)} frames have an error flag of the logger, {fine} of them whole")
     if taken.cycles:
         found += lines_of("Cycles", f"{min(taken.cycles.values())} to {max(taken.cycles.values())}, counted on "
                                     "from the first cycle count; a silence of 64 cycles or more is not seen")
-    if taken.bare and not taken.whole and not taken.damaged:
-        found += lines_of("WARNING", "no frame could be checked: have the logger keep the three bytes of the frame CRC")
+    if taken.bare and not taken.whole:
+        found += lines_of("WARNING", "no payload could be checked: have the logger keep the three bytes of the frame CRC")
     listed = [line for channel in "AB" for line in id_lines(taken, channel)]
     found += listed + damaged_lines(taken)
+    if taken.known:
+        found += timing_lines(times, lines_of)
     if beyond:
         found += lines_of("WARNING", f"{beyond} frames are not in vectors.csv: a cycle from {CYCLES} on, or a file "
                                      "that is too long")
     found.append("")
     if listed:
         found += lines_of("", "every: in one of so many cycles; missing: such cycles of the capture without a whole "
-                              "frame of the ID.")
-    return found + lines_of("Origin", "Which frames are whole, and the faults of others, flexray told; flexlab sorts "
-                                      "and counts.")
+                              "frame of the ID (or one with a right header, where there is no frame CRC).")
+    return found + lines_of("Origin", "Which frames are whole, which headers are right, and the faults of others, "
+                                      "flexray told; flexlab sorts and counts, and reckons with the time stamps.")
+
+
+def fold(program, width, vectors):
+    status, text, told = programs.call(program, ["nm", str(width), vectors])
+    if status != 0:
+        raise Stop(PROGRAM, f"flexray nm ended with status {status}: {told}")
+    return text
 
 
 def capture(words, folder):
     if words.nm is not None and not 1 <= words.nm <= 12:
         raise Stop(USAGE, f"--nm: {words.nm} is not from 1 to 12 bytes")
     program = programs.flexray(words.flexray)
+    cluster = read_cluster(words.cluster) if words.cluster else None
     taken = take_apart(words.file, program)
+    times = timing(taken, cluster)
     try:
         os.makedirs(folder, exist_ok=True)
         files = [path for channel in "AB" for path in write_bytes(folder, channel, [
             packet.frame for packet in taken.packets if packet.number in taken.whole and packet.channel == channel])]
         vectors, beyond = write_vectors(folder, taken)
-        files += [vectors, write_table(folder, taken)]
+        files += [vectors, write_table(folder, taken), *(write_timing(folder, times) if times else [])]
     except OSError as fault:
         raise Stop(FILE, f"{fault.filename}: {fault.strerror}")
-    print("\n".join(page_lines(words.file, taken, beyond)))
+    folded = fold(program, words.nm, vectors) if words.nm else None
+    if words.json:
+        printed({**capture_object(words.file, taken, times), "vectors": folded and folded.splitlines(), "files": files})
+        return NO if taken.damaged else DONE
+    print("\n".join(page_lines(words.file, taken, beyond, times)))
     print(f"{'Files':<16}{', '.join(files)}")
+    if words.pictures and times:
+        for path in draw_timing(folder, times, os.path.basename(words.file)):
+            print(f"{'Picture':<16}{path}")
     if words.nm:
-        status, text, told = programs.call(program, ["nm", str(words.nm), vectors])
-        if status != 0:
-            raise Stop(PROGRAM, f"flexray nm ended with status {status}: {told}")
-        print(f"\nNetwork management vectors (flexray nm {words.nm} {vectors})\n{text}", end="")
+        print(f"\nNetwork management vectors (flexray nm {words.nm} {vectors})\n{folded}", end="")
     return NO if taken.damaged else DONE

@@ -1,4 +1,6 @@
 """The eight constraints of a cluster's parameters with the numbers put in (docs/PROTOCOL.md)."""
+from . import ranges
+from .advice import latest_start
 
 
 def with_lines(known, *names):
@@ -13,8 +15,10 @@ def explain_constraint(number, known):
         macros = value("gMacroPerCycle")
         return ["gMacroPerCycle = gNumberOfStaticSlots * gdStaticSlot + gdNIT",
                 f"{macros} is not {slots} * {slot} + {rest} = {slots * slot + rest}: "
-                f"{abs(macros - slots * slot - rest)} macroticks too "
-                + ("many" if macros > slots * slot + rest else "few") + " in gMacroPerCycle",
+                f"{macroticks(abs(macros - slots * slot - rest))} too "
+                + ("many" if macros > slots * slot + rest else "few") + " in gMacroPerCycle, so "
+                + (f"gdNIT = {macros - slots * slot} is one way" if 0 < macros - slots * slot <= 15999
+                   else "fewer or shorter static slots are wanted"),
                 with_lines(known, "gMacroPerCycle", "gNumberOfStaticSlots", "gdStaticSlot", "gdNIT")]
     if number == 2:
         return ["gdActionPointOffset < gdStaticSlot",
@@ -35,7 +39,7 @@ def explain_constraint(number, known):
                 "macrotick keeps a microtick, however the terms are",
                 f"({micros} - {rate}) * ({macros} - {start}) = {left} is less than "
                 f"{macros} * ({macros} - {start} + {limit} + 1) = {right}",
-                "an earlier gOffsetCorrectionStart or a lower pOffsetCorrectionOut helps",
+                room_words(known),
                 with_lines(known, "pMicroPerCycle", "pRateCorrectionOut", "gMacroPerCycle", "gOffsetCorrectionStart",
                            "pOffsetCorrectionOut")]
     if number == 5:
@@ -49,6 +53,43 @@ def explain_constraint(number, known):
     if number == 7:
         return ["key slots are static slots, and all different", *faulty_keys(known)]
     return ["a further slot is a static slot and no key slot", *faulty_slots(known)]
+
+
+def room_words(known):
+    """The values of one parameter alone with which constraint 4 holds."""
+    names = ("gMacroPerCycle", "pMicroPerCycle", "pRateCorrectionOut", "pOffsetCorrectionOut", "gNumberOfStaticSlots",
+             "gdStaticSlot")
+    values = {name: known.parameter(name) for name in names}
+    macros, rest = values["gMacroPerCycle"], values["gMacroPerCycle"] - known.parameter("gOffsetCorrectionStart")
+    start = latest_start(values)
+    most = (values["pMicroPerCycle"] - values["pRateCorrectionOut"]) * rest // macros - rest - 1
+    ways = [f"gOffsetCorrectionStart = {start} or earlier is one way"] if start is not None else []
+    if most >= ranges.PARAMETERS["pOffsetCorrectionOut"][0]:
+        ways.append(f"pOffsetCorrectionOut = {most} or lower is {'another' if ways else 'one way'}")
+    return ", ".join(ways) or ("no gOffsetCorrectionStart behind the static slots and no pOffsetCorrectionOut helps: "
+                               "pMicroPerCycle is wanted greater")
+
+
+def macroticks(count):
+    return f"{count} macrotick" + ("" if count == 1 else "s")
+
+
+def broken(known):
+    """The numbers of the constraints that do not hold, where every parameter is known."""
+    value, keys = known.parameter, known.keys()
+    macros, slots = value("gMacroPerCycle"), value("gNumberOfStaticSlots") * value("gdStaticSlot")
+    start = value("gOffsetCorrectionStart")
+    rest = macros - start
+    holds = {
+        1: macros == slots + value("gdNIT"),
+        2: value("gdActionPointOffset") < value("gdStaticSlot"),
+        3: slots < start < macros,
+        4: (value("pMicroPerCycle") - value("pRateCorrectionOut")) * rest
+           >= macros * (rest + value("pOffsetCorrectionOut") + 1),
+        5: value("gMaxWithoutClockCorrectionPassive") <= value("gMaxWithoutClockCorrectionFatal"),
+        6: 1 <= len(keys) <= 15, 7: not list(faulty_keys(known)), 8: not list(faulty_slots(known)),
+    }
+    return [number for number, held in holds.items() if not held]
 
 
 def faulty_keys(known):

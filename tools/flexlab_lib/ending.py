@@ -1,16 +1,19 @@
 """How flexlab ends: its exit statuses, and the exception that carries one with its line."""
 
-DONE, NO, USAGE, FILE, MISSING, REFUSED, PROGRAM = 0, 1, 2, 3, 4, 5, 6
+DONE, NO, USAGE, FILE, MISSING, REFUSED, PROGRAM, UNMET = 0, 1, 2, 3, 4, 5, 6, 7
 
 STATUSES = """exit statuses:
-  0  done; of `run`: the page was printed, whatever it says
-  1  the answer is no: `flexray` refused the files that are explained, a run of a study failed,
-     or a packet of a capture is damaged
+  0  done; of `run`: the page was printed, whatever it says, unless something is required of it
+  1  the answer is no: `flexray` refused the files, a run of a study failed, a packet of a capture is damaged,
+     or it has none; none or several nodes lead a startup, clocks that begin so may not come into sync, or no
+     run of the cluster is covered (`worst`)
   2  the words are wrong
   3  a file could not be read or written
   4  a program that is needed is missing; the line names the Debian package
-  5  a value of the TOML file is refused; the line has the file's line, the key and the range
+  5  a value of the TOML file is refused; the line has the file's line, the key and the range. Or a file is no
+     capture of a FlexRay network
   6  `flexray` failed where it should not have, or its answer does not fit what was asked
+  7  what is required of a run is not met; standard error has what and why
 """
 
 
@@ -21,3 +24,11 @@ class Stop(Exception):
         super().__init__(line)
         self.status = status
         self.line = line
+
+
+class Refused(Stop):
+    """A fault of a file, with its line there where that is known."""
+
+    def __init__(self, path, place, why):
+        super().__init__(REFUSED, f"{path}:{place}: {why}" if place else f"{path}: {why}")
+        self.place = place

@@ -4,15 +4,17 @@ import re
 from fractions import Fraction
 from types import SimpleNamespace
 
-from .advice import FORMULA, LETTERS, advise
-from .constraints import explain_constraint
-from .ending import FILE, NO, DONE, Stop
+from .advice import FORMULA, LETTERS, WAY_FORMULA, advise
+from .constraints import broken, explain_constraint
+from .ending import USAGE as WORDS
+from .ending import DONE, FILE, NO, Stop
 from .forms import FORMS
 from .gaps import check_words, gap_words
 from .known import Known, version_of
 from .ranges import FILE_BYTES, NAMES, table
 from .reasons import EXPLAIN, MEANING, short
 from .records import load
+from .machine import printed
 from . import program as programs
 
 ROLES = {
@@ -39,8 +41,19 @@ def file_of(role, words):
     return words[place] if place is not None and place < len(words) else None
 
 
+def named(role, words):
+    """The path that has this role, or the end of flexlab where the words do not name it."""
+    path = file_of(role, words)
+    if path is None:
+        form = USAGE.get(words[0] if words else "", "")
+        raise Stop(WORDS, f"the words do not name the {role} file: they are those that flexray had, "
+                          + (f"flexray {form}" if form else "as in flexlab explain run PARAMS DRIFT SCRIPT"))
+    return path
+
+
 def known_of(words):
-    path = file_of("params", words)
+    has_none = words and words[0] in ROLES and "params" not in ROLES[words[0]]
+    path = None if has_none else named("params", words)
     try:
         return Known(path)
     except OSError as fault:
@@ -55,7 +68,7 @@ def explain_line(line, words):
     if rest == "read fault":
         return explain_read(role, file_of(role, words))
     if rest == "too long":
-        path = file_of(role, words)
+        path = named(role, words)
         return [f"{path}: it has {os.path.getsize(path)} bytes, and a file may have {FILE_BYTES}"]
     if role == "frame":
         return explain_frame(rest)
@@ -67,7 +80,12 @@ def explain_line(line, words):
     if rest.startswith("missing "):
         return explain_missing(role, rest.split()[1], words)
     if re.fullmatch(r"constraint [1-8]", rest):
-        return [f"{file_of('params', words)}: {rest}:", *explain_constraint(int(rest.split()[1]), known_of(words))]
+        known, first = known_of(words), int(rest.split()[1])
+        found = [f"{named('params', words)}: {rest}:", *explain_constraint(first, known)]
+        for number in broken(known):
+            if number != first:
+                found += [f"constraint {number} does not hold either:", *("  " + line for line in explain_constraint(number, known))]
+        return found
     if rest.startswith("incomplete"):
         return [f"{file_of(role, words)}: after its {rest.split()[-1]} records the trace is not whole: in the last "
                 "cycle a correct node that takes part has no cycle row"]
@@ -77,10 +95,31 @@ def explain_line(line, words):
     return [f"this line is none that flexlab knows: {line}"]
 
 
+# The words of a request that are no files, by their place: a name, and what they may be.
+WORD = {
+    ("settle", 2): ("START", 0, 1000000000000, "ticks by which the first starts may differ, 1000000 in a microtick"),
+    ("settle", 3): ("RATE", 0, 1000000000000, "ticks by which the first lengths of cycles may differ"),
+    ("make", 1): ("SEED", 0, 4294967295, ""), ("make", 2): ("DOUBLES", 1, 10000, "double cycles"),
+    ("nm", 1): ("WIDTH", 1, 12, "bytes"),
+}
+
+
+def wrong_word(request, word, place):
+    """What is wrong with one of the words behind a request, or None."""
+    if request in ("frame", "capture") and place == 1 and word not in ("A", "B"):
+        return f"{short(word)} is not A or B, the channel"
+    if (request, place) in WORD:
+        name, least, most, unit = WORD[request, place]
+        if not re.fullmatch(r"\d{1,18}", word, re.ASCII) or not least <= int(word) <= most:
+            return f"{short(word)} is not a whole number from {least} to {most}, for {name}" + (f": {unit}" if unit else "")
+    return None
+
+
 def explain_usage(words):
     if words and words[0] in USAGE:
-        return [f"the words have to be: flexray {USAGE[words[0]]}",
-                f"and {len(words)} were given: {short(' '.join(words))}"]
+        found = [f"the words have to be: flexray {USAGE[words[0]]}",
+                 f"and behind {words[0]} {len(words) - 1} were given: {short(' '.join(words[1:]))}"]
+        return found + [wrong for wrong in map(wrong_word, [words[0]] * len(words), words[1:], range(1, len(words))) if wrong]
     return ["there are these requests:", *(f"  flexray {form}" for form in USAGE.values())]
 
 
@@ -96,7 +135,7 @@ def explain_read(role, path):
 
 
 def explain_missing(role, name, words):
-    path = file_of(role, words)
+    path = named(role, words)
     if name in NAMES:
         least, most, unit, meaning = NAMES[name]
         known = known_of(words)
@@ -128,15 +167,25 @@ def explain_frame(rest):
     return [meaning.get(words[0], rest)]
 
 
-def explain_record(role, number, reason, words):
-    path, cluster = file_of(role, words), known_of(words)
+def loaded(path):
     try:
-        found = load(path)
-    except (OSError, TypeError) as fault:
-        raise Stop(FILE, f"{path}: {getattr(fault, 'strerror', 'the words do not name it')}")
+        return load(path)
+    except OSError as fault:
+        raise Stop(FILE, f"{path}: {fault.strerror}")
+
+
+def beyond(path, number):
+    return f"{path}: it has no record {number}; is it another file than flexray read?"
+
+
+def explain_record(role, number, reason, words):
+    path, cluster = named(role, words), known_of(words)
+    found = loaded(path)
     if number > len(found):
-        return [f"{path}: it has no record {number}; is it another file than flexray read?"]
+        return [beyond(path, number)]
     record = found[number - 1]
+    if path.endswith(".toml"):
+        return [f"{path}: this is a TOML file, and flexray reads its own three files: `flexlab run {path}` writes and runs them"]
     causes = list(EXPLAIN[reason](role, record, cluster, found[:number - 1]))
     return [f"{path}:{record.line}: {short(record.text)}", f"{reason}: {MEANING[reason]}",
             *(causes or ["no field of it is found to be so; is it another file than flexray read?"])]
@@ -166,8 +215,11 @@ def explain_trace(rest, words):
                     f"in both its cycles ({2 * int(gap[3])} and {2 * int(gap[3]) + 1})"]
         return explain_gap(gap, words)
     told = rest.split()
-    path = file_of("trace", words)
-    record = load(path)[int(told[1]) - 1]
+    path, number = named("trace", words), int(told[1])
+    records = loaded(path)
+    if number > len(records):
+        return [beyond(path, number)]
+    record = records[number - 1]
     found = [f"{path}:{record.line}: {short(record.text)}", LAWS.get(told[2], rest)]
     if told[2] == "silent":
         return found + [f"this record speaks of a node in state {told[3]}"]
@@ -184,12 +236,13 @@ def apart(record, double):
             "further than pi from another, a length further than lambda, or a node is not active")
 
 
-def explain_check(number, left, right, words):
+def explain_check(number, left, right, words, way=False):
     known = known_of(words)
     parameters = {name: value for name, (value, _) in known.values.items()}
     name = advise(number, right, parameters)[0]
-    return [f"C{number} fails: {left} against {right}", f"it asks: {FORMULA[number]}", f"with {LETTERS}",
-            *check_words(number, left, right, parameters)[1:], f"{name} stands on line {known.line(name)}"]
+    formula = WAY_FORMULA.get(number, FORMULA[number]) if way else FORMULA[number]
+    return [f"C{number} fails: {left} against {right}", f"it asks: {formula}", f"with {LETTERS}",
+            *check_words(number, left, right, parameters, way)[1:], f"{name} stands on line {known.line(name)}"]
 
 
 def explain_answer(text, words):
@@ -199,12 +252,23 @@ def explain_answer(text, words):
         check = re.fullmatch(r"(?:C([1-9]) fails|covered no check ([1-9])|settles no check ([1-5])) (\d+) (\d+)", line)
         if check:
             number = int(check[1] or check[2] or check[3])
-            found += [line, *("  " + told for told in explain_check(number, int(check[4]), int(check[5]), words))]
+            told = explain_check(number, int(check[4]), int(check[5]), words, check[3] is not None)
+            found += [line, *("  " + part for part in told)]
         elif line.startswith("covered no"):
             found += [line, *("  " + told for told in explain_gap(line.split()[2:], words))]
         elif line.startswith("fault ") and line != "fault none":
             found += [line, "  behind this place no frame begins"]
+            path = file_of("capture", words)
+            if path and is_pcap(path):
+                found.append(f"  {path} is a pcap file, and flexray takes frames alone: `flexlab capture {path}`")
     return found
+
+
+def is_pcap(path):
+    """Whether a file begins as pcap or pcapng files do."""
+    with open(path, "rb") as file:
+        return file.read(4) in (b"\xd4\xc3\xb2\xa1", b"\xa1\xb2\xc3\xd4", b"\x4d\x3c\xb2\xa1", b"\xa1\xb2\x3c\x4d",
+                                b"\x0a\x0d\x0d\x0a")
 
 
 def explain_gap(gap, words):
@@ -214,14 +278,20 @@ def explain_gap(gap, words):
     return ["at a microtick of 25 ns:", *found] if gap[0] == "delay" else found
 
 
-def explain(words, line, given):
+def explain(words, line, given, as_json=False):
     """Prints the explanation; runs flexray where no line is given."""
+    accepted, found = False, None
     if line is None:
         status, text, line = programs.call(programs.flexray(given), words)
-        if status == 0:
-            found = explain_answer(text, words)
-            print("\n".join(found or ["flexray accepted these files, and nothing in its answer needs explanation"]))
-            return DONE
-    print(line)
-    print("\n".join(explain_line(line, words)))
-    return NO
+        accepted = status == 0
+        if accepted:
+            line, found = None, explain_answer(text, words)
+    if not accepted:
+        found = explain_line(line, words)
+    if as_json:
+        printed({"words": words, "accepted": accepted, "line": line, "told": found})
+    elif accepted:
+        print("\n".join(found or ["flexray accepted these files, and nothing in its answer needs explanation"]))
+    else:
+        print("\n".join([line, *found]))
+    return DONE if accepted else NO

@@ -1,13 +1,15 @@
 """The first gap in coverage that a report names, in words, and what closes it."""
-from .advice import OR, WHY, advise, also
+from .advice import OR, WAY_OR, WAY_WHY, WHY, advise, also
 from .units import microseconds, ppm_of, signed
 
 
-def check_words(number, left, right, parameters):
-    found = [f"check C{number} fails: {left} against {right}; {WHY[number]}"]
+def check_words(number, left, right, parameters, way=False):
+    """A failing check in words, or one of those for the way to sync."""
+    why, other = (WAY_WHY, WAY_OR) if way and number in WAY_WHY else (WHY, OR)
+    found = [f"check C{number}{' for the way' if way else ''} fails: {left} against {right}; {why[number]}"]
     name, now, value, fits = advise(number, right, parameters)
     found.append(f"turn {name}: it is {now}, and with all else as it is C{number} asks for {value} at least"
-                 + ("" if fits else ", which is beyond its range") + f"; or {OR[number]}")
+                 + ("" if fits else ", which is beyond its range") + f"; or {other[number]}")
     more = also(number, parameters, value)
     return found + ([more] if more else [])
 

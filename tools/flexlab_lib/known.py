@@ -1,6 +1,9 @@
 """What a parameter file says of a cluster, as far as its records can be read."""
 import re
 
+from types import SimpleNamespace
+
+from .places import line_of
 from .ranges import NAMES
 from .records import load
 
@@ -37,3 +40,25 @@ class Known:
     def keys(self):
         """(node, key slot, record) of each node with a key slot."""
         return [(number, key, record) for number, (key, _, _, record) in self.nodes.items() if key is not None]
+
+
+class KnownToml:
+    """The same of a cluster that a TOML file describes, with the lines of that file."""
+
+    def __init__(self, cluster):
+        self.cluster = cluster
+        self.slots = {slot: (node, self.record("slot", place, "slot"))
+                      for place, (slot, node, _, _) in enumerate(cluster.slots)}
+
+    def record(self, table, place, key):
+        return SimpleNamespace(line=line_of(self.cluster.text, table, place, key))
+
+    def parameter(self, name):
+        return self.cluster.parameters.get(name)
+
+    def line(self, name):
+        return line_of(self.cluster.text, "limits" if name.startswith("x") else "cluster", None, name)
+
+    def keys(self):
+        return [(node.number, node.key_slot, self.record("node", node.place, "key_slot"))
+                for node in self.cluster.nodes.values() if node.key_slot is not None]

@@ -4,7 +4,9 @@ from fractions import Fraction
 from .gaps import check_words, gap_words
 from .model import warnings
 from .sync import starts_apart
-from .units import decimal, microseconds, percent, ppm_of, signed
+from .units import decimal, microseconds, percent, ppm_of, signed, us_of_ticks
+from .ways import way_lines
+from .windows import MOST, exact, later, windows
 
 ORIGIN = ("Every number here is one that flexray printed, converted, divided or held against another. flexlab "
           "computes no answer of its own.")
@@ -34,7 +36,16 @@ def head_lines(run):
     return field("Cluster", f"{report.nodes} nodes, {report.sync} sync nodes, {report.arbitrary} arbitrary; "
                             f"{2 * report.doubles} cycles of {decimal(length, 3)} ms, "
                             f"{decimal(ms_of_cycle(cluster.cycles, cluster), 3)} ms in all; a microtick is "
-                            f"{decimal(cluster.microtick_ns, 3).rstrip('0').rstrip('.')} ns")
+                            f"{decimal(cluster.microtick_ns, 3).rstrip('0').rstrip('.')} ns"
+                 ) + drawn_lines(cluster)
+
+
+def drawn_lines(cluster):
+    """The numbers that were drawn, as the file would have them."""
+    if not cluster.drawn:
+        return []
+    told = ", ".join(f"{name} = {decimal(value, 6).rstrip('0').rstrip('.')}" for name, value in cluster.drawn.items())
+    return field("Drawn", told)
 
 
 def verdict_lines(run):
@@ -77,6 +88,7 @@ def skew_lines(run):
         apart = max(starts_apart(rows) for rows in run.cycles[2 * report.in_sync:])
         found += field("Skew in sync", f"not known within cycles; starts of cycles lie {microseconds(apart, unit)} "
                                        f"apart at most, {percent(apart, report.precision)} of the precision")
+    found += later_lines(run)
     if run.cycles:
         apart = max(starts_apart(rows) for rows in run.cycles[-2:])
         found += field("At the end", f"starts of the last two cycles lie {microseconds(apart, unit)} apart at most, "
@@ -98,6 +110,36 @@ def within_lines(run, skew):
     return field("Within", f"NO: since it was first in sync the skew was above the precision{place}")
 
 
+def later_lines(run):
+    """The skew behind the transient: from where it has settled on, or from the cycle that was asked for."""
+    found, unit = later(run, run.begin), run.cluster.microtick_ns
+    if found is None:
+        return []
+    why = "where it has settled" if run.begin is None else "as asked"
+    return field("Later skew" if exact(run) else "Later starts",
+                 f"from cycle {found.first} on ({decimal(ms_of_cycle(found.first, run.cluster), 3)} ms), {why}: "
+                 f"{microseconds(found.greatest, unit)} at most (cycle {found.cycle}), "
+                 f"{percent(found.greatest, run.report.precision)} of the precision; 99 % of cycles within "
+                 f"{microseconds(found.most, unit)}, the mean is {microseconds(found.mean, unit)}")
+
+
+def window_lines(run):
+    """The skew by stretches of cycles."""
+    found, unit = windows(run, run.asked), run.cluster.microtick_ns
+    if not found:
+        return []
+    lines = ["", f"{'skew of cycles' if exact(run) else 'starts of cycles':<18}{'greatest':>10}{'in cycle':>10}"
+                 f"{'99 %':>9}{'mean':>9}{'settled':>9}{'within':>9}"]
+    for one in found[:MOST]:
+        numbers = [decimal(us_of_ticks(value, unit), 3) for value in (one.greatest, one.most, one.mean, one.level)]
+        lines.append((f"{f'{one.first}-{one.last}':<18}{numbers[0]:>10}{one.cycle:>10}{numbers[1]:>9}{numbers[2]:>9}"
+                      f"{one.settled:>9}{numbers[3]:>9}  {one.what}").rstrip())
+    if len(found) > MOST:
+        lines.append(f".. and {len(found) - MOST} more")
+    return lines + ["", *field("", "in us. settled: the cycle from which on the skew stays within its later level, the "
+                                   "greatest of the second half of these cycles.")]
+
+
 def check_lines(run):
     found = []
     for number, _, left, right in run.bounds.failing:
@@ -108,8 +150,6 @@ def check_lines(run):
         tight = max(run.bounds.checks, key=lambda check: Fraction(check[3], check[2]) if check[2] else 0)
         return field("Checks", f"C1 to C{count} hold; C{tight[0]} is the tightest, used to "
                                f"{percent(tight[3], tight[2])}")
-    if run.tried:
-        found += field("", run.tried)
     return found
 
 
@@ -152,9 +192,12 @@ def frame_lines(run):
 
 
 def page(run):
-    found = head_lines(run) + verdict_lines(run) + skew_lines(run) + check_lines(run) + frame_lines(run)
-    found += node_lines(run)
-    for line in warnings(run.cluster):
+    found = head_lines(run) + verdict_lines(run) + skew_lines(run) + check_lines(run)
+    if run.ways:
+        found += way_lines(run.ways, run.cluster, field)
+    found += frame_lines(run)
+    found += window_lines(run) + node_lines(run)
+    for line in [*warnings(run.cluster), *run.cluster.notes]:
         found += field("WARNING", line)
     if not run.series:
         found += field("Not installed", "flexray-series, which prints the skew of each cycle (in the repository "

@@ -7,10 +7,13 @@ from .ending import FILE, PROGRAM, Stop
 from .page import ms_of_cycle
 from .sync import starts_apart
 from .units import decimal, us_of_ticks
+from .windows import changes, later, named
 
 COLOURS = ("#0072b2", "#d55e00", "#009e73", "#cc79a7", "#e69f00", "#56b4e9", "#7f3f00", "#555555")
 POINTS = 1500
 KEY = "set bmargin 6\nset key at screen 0.5, 0.02 bottom center vertical maxrows 2 Left reverse samplen 2 width 2"
+UPPER = ("set tmargin 5\nset bmargin 6\nset key at screen 0.5, 0.475 bottom center vertical maxrows 2 Left reverse samplen 2 "
+         "width 2")
 
 
 def thinned(rows):
@@ -63,6 +66,7 @@ def plain_axes():
 
 
 def skew_script(run):
+    """Two panels over the same cycles: the skew beside the precision, and in the scale of what it is later."""
     report, unit = run.report, run.cluster.microtick_ns
     rows, what = skew_rows(run)
     precision = us_of_ticks(report.precision, unit)
@@ -70,25 +74,26 @@ def skew_script(run):
     top = max(most, precision) * 115 / 100
     wide = most > 20 * precision
     lines = [f"$skew << end\n" + "".join(f"{cycle} {decimal(value, 6)}\n" for cycle, value in thinned(rows)) + "end",
-             plain_axes() + f"set title {quoted('Clock skew of ' + os.path.basename(run.cluster.path))} font ',14'",
+             plain_axes() + "set multiplot layout 2,1 title "
+             f"{quoted('Clock skew of ' + os.path.basename(run.cluster.path))} font ',14'",
              "set xlabel 'cycle'", f"set ylabel 'microseconds{', a logarithmic scale' if wide else ''}'",
              f"set xrange [0:{last}]\nset x2range [0:{decimal(ms_of_cycle(last, run.cluster), 3)}]",
-             "set x2tics nomirror\nset x2label 'milliseconds'\nset border 7",
+             "set x2tics nomirror\nset x2label 'milliseconds'\nset border 7\nset lmargin 9",
              "set logscale y" if wide else f"set yrange [0:{decimal(top, 6)}]",
-             KEY]
+             UPPER]
     if report.in_sync is not None:
         first = 2 * report.in_sync
         lines += [f"set object 1 rectangle from graph 0, graph 0 to first {first}, graph 1 fillcolor '#f3e9d8' "
                   "fillstyle solid noborder behind" if first else "",
                   f"set arrow 1 from {first}, graph 0 to {first}, graph 1 nohead linecolor '#a67c2d' dashtype 3",
-                  f"set label 1 'in sync from cycle {first}' at {first}, graph 0.965 offset 0.8,0 "
+                  f"set label 1 'in sync from cycle {first}' at {first}, graph 0.93 offset 0.8,0 "
                   "textcolor '#8a6420'"]
     else:
-        lines.append("set label 1 'never in sync' at graph 0.02, graph 0.965 textcolor '#b00020'")
+        lines.append("set label 1 'never in sync' at graph 0.02, graph 0.93 textcolor '#b00020'")
     if run.lost is not None:
         lost = 2 * run.lost
         lines += [f"set arrow 2 from {lost}, graph 0 to {lost}, graph 1 nohead linecolor '#b00020' dashtype 3",
-                  f"set label 2 'sync lost in cycle {lost}' at {lost}, graph 0.9 offset 0.8,0 textcolor '#b00020'"]
+                  f"set label 2 'sync lost in cycle {lost}' at {lost}, graph 0.86 offset 0.8,0 textcolor '#b00020'"]
     lines += join_lines(run)
     plots = [f"{decimal(precision, 6)} title 'precision, {decimal(precision, 3)} us' "
              "with lines linewidth 2 linecolor '#b00020'",
@@ -100,7 +105,30 @@ def skew_script(run):
         lines.append(f"$point << end\n{cycle} {decimal(value, 6)}\nend")
         plots.append(f"$point using 1:2 title 'greatest skew {name}, {decimal(value, 3)} us in cycle {cycle}' "
                      "with points pointtype 7 pointsize 1.1 linecolor '#d55e00'")
-    return "\n".join(lines) + "\nplot " + ", \\\n     ".join(plots) + "\n"
+    return ("\n".join(lines) + "\nplot " + ", \\\n     ".join(plots) + "\n" + near_panel(run) + "unset multiplot\n")
+
+
+def near_panel(run):
+    """The panel in the scale of the later skew, with the stretches in which oscillators change."""
+    found, unit = later(run, run.begin), run.cluster.microtick_ns
+    if found is None:
+        return ""
+    top = max(us_of_ticks(found.greatest, unit), Fraction(1, 1000)) * 140 / 100
+    lines = ["unset logscale y", f"set yrange [0:{decimal(top, 6)}]", "unset x2label", "set tmargin 2", "set bmargin 5",
+             "set ylabel 'microseconds, magnified'", "unset label", "unset object 1"]
+    changing, _ = changes(run)
+    for at, (first, end, nodes) in enumerate(changing[:8]):
+        lines += [f"set object {20 + at} rectangle from {first}, graph 0 to {end + 1}, graph 1 fillcolor '#e3eef7' "
+                  "fillstyle solid noborder behind",
+                  f"set label {20 + at} '{named(nodes)} change{'s' if len(nodes) == 1 else ''}' at {first}, graph 0.93 "
+                  "offset 0.5,0 textcolor '#3b6ea5'"]
+    data = [(found.greatest, "greatest", "'#d55e00' dashtype 2"), (found.mean, "mean", "'#777777' dashtype 3")]
+    plots = ["$skew using 1:2 notitle with lines linewidth 1.5 linecolor '#0072b2'"]
+    plots += [f"[{found.first}:{found.last + 1}] {decimal(us_of_ticks(value, unit), 6)} title '{name} from cycle "
+              f"{found.first} on, {decimal(us_of_ticks(value, unit), 3)} us' with lines linewidth 1.2 linecolor {style}"
+              for value, name, style in data]
+    return "\n".join(lines) + "\nset key at screen 0.5, 0.01 bottom center maxrows 1\nplot " + ", \\\n     ".join(
+        plots) + "\n"
 
 
 def join_lines(run):
@@ -154,5 +182,5 @@ def draw_run(run):
     """Draws both pictures into the run's folder, and hands back their paths."""
     if not run.cycles:
         return []
-    return (draw(run.folder, "skew", skew_script(run))
+    return (draw(run.folder, "skew", skew_script(run), "1000,860")
             + draw(run.folder, "terms", terms_script(run), "1000,720"))

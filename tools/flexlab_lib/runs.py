@@ -1,11 +1,13 @@
 """One run of a cluster: its files, what flexray says of them, and what of it a page shows."""
 import os
-from dataclasses import dataclass, field, replace
+import re
+from dataclasses import dataclass, field
 
 from . import program as programs
-from .advice import advise, latest_start
+from .constraints import broken, explain_constraint
 from .ending import FILE, NO, PROGRAM, Stop
 from .files import write_files
+from .known import KnownToml
 from .report import Bounds, Report, Series, read_bounds, read_report, read_series, read_trace
 from .settled import skew_in_sync
 from .sync import fits, sync_of
@@ -21,8 +23,10 @@ class Run:
     synced: list
     in_sync_skew: tuple | None = None
     series: Series | None = None
-    tried: str | None = None
+    ways: object = None
     files: list = field(default_factory=list)
+    begin: int | None = None
+    asked: list = field(default_factory=list)
 
     @property
     def lost(self):
@@ -40,9 +44,21 @@ class Run:
         return bool(self.synced) and self.synced[-1]
 
 
-def answer(program, words, out=None):
-    """What flexray prints; a refusal ends flexlab, with the explanation of it."""
+def broken_constraints(told, cluster):
+    """What ends flexlab where flexray refuses the parameters of a TOML file: each constraint that is broken, by its lines."""
+    known, first = KnownToml(cluster), int(told.split()[-1])
+    found = [f"{cluster.path}: flexray refuses the parameters that come of it: {told}"]
+    for number in [first, *(other for other in broken(known) if other != first)]:
+        asks, *rest = explain_constraint(number, known)
+        found += [f"constraint {number} asks: {asks}", *("  " + line for line in rest)]
+    return Stop(NO, "\n".join(found))
+
+
+def answer(program, words, out=None, cluster=None):
+    """What flexray prints; a refusal ends flexlab, with the explanation of it, by the TOML file where it is of one."""
     status, text, told = programs.call(program, words, out)
+    if status == 5 and cluster and re.fullmatch(r"params: constraint [1-8]", told):
+        raise broken_constraints(told, cluster)
     if status == 5:
         from .explain import explain_line
         raise Stop(NO, f"flexray {' '.join(words)}\n{told}\n" + "\n".join(explain_line(told, words)))
@@ -64,39 +80,10 @@ def bound_words(cluster, path):
     return ["bound", path, "join"] if cluster.joins else ["bound", path]
 
 
-def try_advice(program, cluster, bounds, folder):
-    """What flexray bound says of the parameters with the advised values put in, in one sentence, or None.
-
-    A value that is turned moves the bounds too, so checks that fail then are advised of again; and where the limits
-    are raised the offset correction starts early enough for them.
-    """
-    now, changed = dict(cluster.parameters), {}
-    for _ in range(10):
-        for number, _, _, right in bounds.failing:
-            name, _, value, fits = advise(number, right, now)
-            if not fits:
-                return f"no values of these parameters alone are found with which all hold: {name} would be {value}"
-            changed[name] = value
-        now.update(changed)
-        start = latest_start(now)
-        if start is not None and start < now["gOffsetCorrectionStart"]:
-            now["gOffsetCorrectionStart"] = changed["gOffsetCorrectionStart"] = start
-        paths = write_files(replace(cluster, parameters=now), os.path.join(folder, "advised"))
-        status, text, told = programs.call(program, bound_words(cluster, paths[0]))
-        named = ", ".join(f"{name} = {value}" for name, value in changed.items())
-        if status != 0:
-            return (f"tried together with flexray bound: {named}: refused, {told}; "
-                    f"`flexlab explain bound {paths[0]}` has the numbers")
-        bounds = read_bounds(text)
-        if not bounds.failing:
-            return f"tried together with flexray bound: all checks hold with {named}"
-    return f"tried together with flexray bound: {named}: checks still fail"
-
-
-def run_cluster(cluster, folder, program, traced=True):
+def run_cluster(cluster, folder, program, begin=None):
     """Writes the files, calls bound, run, trace and flexray-series, and gathers what they say."""
     paths = write_files(cluster, folder)
-    told = answer(program, bound_words(cluster, paths[0]))
+    told = answer(program, bound_words(cluster, paths[0]), cluster=cluster)
     keep(folder, "bound.txt", told)
     bounds = read_bounds(told)
     told = answer(program, ["run", *paths])
@@ -110,13 +97,11 @@ def run_cluster(cluster, folder, program, traced=True):
     if not fits(synced, report.in_sync, cluster.joins) and cycles and cluster.correct:
         first = next((at for at, good in enumerate(synced) if good), None)
         raise Stop(PROGRAM, f"flexray says in sync {report.in_sync}, and its trace says {first}")
-    run = Run(cluster, folder, bounds, report, cycles, synced, files=paths)
+    run = Run(cluster, folder, bounds, report, cycles, synced, files=paths, begin=begin)
     run.series = call_series(program, paths, folder)
     if run.series and synced != [row[1] for row in run.series.rows[::2]] and cycles:
         raise Stop(PROGRAM, "flexray-series says of a double cycle that it is in sync, and the trace does not, or back")
     run.in_sync_skew = find_skew(run, program)
-    if bounds.failing:
-        run.tried = try_advice(program, cluster, bounds, folder)
     return run
 
 

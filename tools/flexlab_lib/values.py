@@ -4,8 +4,9 @@ import re
 from decimal import Decimal
 from fractions import Fraction
 
-from .ending import REFUSED, Stop
+from .ending import Refused
 from .places import line_of
+from .ranges import CYCLES
 from .units import decimal
 
 
@@ -31,37 +32,48 @@ def near(word, known):
 class Table:
     """One table of the file: hands out its values and refuses what does not fit."""
 
-    def __init__(self, source, name, index, entries):
-        self.source, self.name, self.index, self.entries = source, name, index, entries
-        self.used = set()
+    def __init__(self, source, name, index, entries, keys=()):
+        self.source, self.name, self.index, self.entries, self.keys = source, name, index, entries, keys
 
     def key(self, key=None):
         table = self.name if self.index is None else f"{self.name}[{self.index + 1}]"
         return table if key is None else f"{table}.{key}"
 
+    def line(self, key=None):
+        return line_of(self.source.text, self.name, self.index, key)
+
     def refuse(self, key, why):
-        line = line_of(self.source.text, self.name, self.index, key)
-        place = f"{self.source.path}:{line}" if line else self.source.path
-        raise Stop(REFUSED, f"{place}: {self.key(key)}: {why}")
+        raise Refused(self.source.path, self.line(key), f"{self.key(key)}: {why}")
 
     def has(self, key):
         return key in self.entries
 
     def take(self, key, wanted, default):
-        self.used.add(key)
         if key in self.entries:
             return self.entries[key]
+        for other in self.unknown():
+            if near(other, self.keys) == key:
+                self.refuse_unknown(other)
         if default is not None:
             return default[0]
         self.refuse(None, f"the key `{key}` is missing: {wanted}")
 
-    def number(self, key, least, most, unit="", default=None):
+    def unknown(self):
+        return [key for key in self.entries if key not in self.keys] if self.keys else []
+
+    def refuse_unknown(self, key):
+        like, other = near(key, self.keys), self.source.home(key)
+        self.refuse(key, "there is no such key" + (f": it belongs into {other}" if other
+                                                   else f"; did you mean `{like}`?" if like
+                                                   else f"; it may have {', '.join(sorted(self.keys))}"))
+
+    def number(self, key, least, most, unit="", default=None, more=""):
         """A number as an exact fraction, or the name of one of [values], a `-` before it allowed."""
         span = f"a number from {shown(least)} to {shown(most)}{' ' + unit if unit else ''}"
         value = self.take(key, span, default)
         value = self.plain(key, value, span)
         if not least <= value <= most:
-            self.refuse(key, f"{shown(value)} is not {span}")
+            self.refuse(key, f"{shown(value)} is not {span}{more}")
         return value
 
     def plain(self, key, value, span):
@@ -69,7 +81,8 @@ class Table:
             named = re.fullmatch(r"([+-]?)\s*([A-Za-z_]\w*)", value)
             if not named or named.group(2) not in self.source.values:
                 known = ", ".join(sorted(self.source.values)) or "none"
-                self.refuse(key, f"{shown(value)} is neither {span} nor a name of [values] (there: {known})")
+                plain = "; write it without quotes" if re.fullmatch(r"[+-]?\d+([.,]\d+)?", value) else ""
+                self.refuse(key, f"{shown(value)} is neither {span} nor a name of [values] (there: {known}){plain}")
             number = self.source.values[named.group(2)]
             return -number if named.group(1) == "-" else number
         if isinstance(value, bool) or not isinstance(value, (int, Decimal, Fraction)):
@@ -129,8 +142,8 @@ class Table:
         return sorted(found)
 
     def cycles(self, key, cycles, default=None):
-        """First and last cycle: one number, "all", "FROM-TO" or "FROM-"."""
-        wanted = f'a cycle from 0 to {cycles - 1}, "all", "FROM-TO" or "FROM-"'
+        """First and last cycle: one number, "all", "FROM-TO" or "FROM-". They may lie behind the end of the run."""
+        wanted = f'a cycle from 0 to {CYCLES[1]}, "all", "FROM-TO" or "FROM-"'
         value = self.take(key, wanted, default)
         if value == "all":
             return 0, cycles - 1
@@ -138,15 +151,9 @@ class Table:
         if isinstance(value, bool) or not span:
             self.refuse(key, f"{shown(value)} is not {wanted}")
         first = int(span.group(1))
-        last = first if not span.group(2) else int(span.group(3) or cycles - 1)
-        if last < first or last >= cycles:
+        last = first if not span.group(2) else int(span.group(3) or max(first, cycles - 1))
+        if last < first:
+            self.refuse(key, f"{shown(value)} runs backward")
+        if last > CYCLES[1]:
             self.refuse(key, f"{shown(value)} is not {wanted}")
         return first, last
-
-    def finish(self):
-        """Refuses keys that nobody asked for, the first one by name."""
-        for key in self.entries:
-            if key not in self.used:
-                like = near(key, self.used)
-                hint = f"; did you mean `{like}`?" if like else f"; it has {', '.join(sorted(self.used))}"
-                self.refuse(key, f"there is no such key{hint}")

@@ -84,8 +84,13 @@ class Captures(Bench):
             self.assertEqual(got, wanted)
         self.assertEqual(tshark(self.path("sent", "wireshark.pcap"), "-Y", "_ws.malformed"), "")
         page = self.one_line(self.flexlab("capture", self.path("sent", "wireshark.pcap"))[0])
-        self.assertIn("WARNING no frame could be checked", page)
-        self.assertNotIn("every:", page)
+        self.assertIn("WARNING no payload could be checked", page)
+        self.assertIn(f"0 whole, 0 damaged, {len(sent)} without a trailer, the frame CRC: of these the header is right", page)
+        # The tables by ID are those of the same frames with their CRC.
+        whole = self.one_line(self.flexlab("capture", path)[0])
+        for one in (page, whole):
+            self.assertIn("Channel A id frames every first last missing cycles 1 200 1 0 199 none", one)
+        self.assertEqual(page.split("Channel A")[1].split("Origin")[0], whole.split("Channel A")[1].split("Origin")[0])
 
     def test_a_halted_node_sends_nothing(self):
         path = self.run_sent(EXAMPLE + '[[oscillator]]\nnodes = 1\ncycles = "200-"\nppm = -1400\n')
@@ -121,10 +126,66 @@ class Captures(Bench):
         self.assertTrue(faults["9"].startswith("frame crc kept"))
         self.assertEqual(faults["21"], "length stated 24 given 23")
         self.assertTrue(faults["25"].startswith("header crc kept"))
-        # Packets 9, 21, 25, 41 and the one that was taken out are of ID 1 on channel A in cycles 2, 5, 6, 10 and 15.
-        self.assertIn("1 65 1 0 69 5: 2, 5-6, 10, 15", page)
+        # Packets 9, 21, 25 and the one that was taken out are of ID 1 on channel A in cycles 2, 5, 6 and 15; that of cycle
+        # 10 has no frame CRC, and its header is right.
+        self.assertIn("1 66 1 0 69 4: 2, 5-6, 15", page)
         self.assertIn("packet 9, channel A, id 1 cycle 2 by its bytes: frame crc kept", page)
-        self.assertEqual(len(rows), 278)
+        self.assertEqual(len(rows), 279)
+        self.assertEqual({row["packet"]: row["checked"] for row in rows if row["checked"] != "frame"},
+                         {"9": "", "21": "", "25": "", "41": "header"})
+
+    def test_a_header_that_is_wrong_without_a_frame_crc(self):
+        made = [(ns, channel, frame[:-3]) for ns, channel, frame in self.made(range(4))]
+        ns, channel, frame = made[5]
+        made[5] = ns, channel, frame[:3] + bytes([frame[3] ^ 1]) + frame[4:]
+        page = self.capture(made, status=1)
+        self.assertIn("0 whole, 1 damaged, 15 without a trailer", page)
+        self.assertIn("packet 6, channel B, id 1 cycle 1 by its bytes: header crc kept", page)
+        self.assertEqual(os.path.getsize(self.path("a.lab", "A.bin")), 0)
+
+    def timed(self, *words):
+        """Five slots of 50 us in a cycle of 5 ms: slot 4 lies 3 us late and jitters by 2 us, B comes 0.25 us later."""
+        made = [(5000000 * cycle + 50000 * slot + (3000 if slot == 4 else 0) + (1000 if slot == 4 and cycle % 2 else 0)
+                 - (1000 if slot == 4 and cycle % 2 == 0 else 0) + (250 if channel == "B" else 0), channel,
+                 frames.regular_frame(channel, slot, cycle, 8, True, slot != 4, False))
+                for cycle in range(100) for slot in (1, 2, 3, 4, 5) for channel in "AB"]
+        return self.capture(made, *words)
+
+    def test_what_the_time_stamps_say(self):
+        page = self.timed()
+        with open(self.path("a.lab", "timing.csv"), encoding="utf-8", newline="") as file:
+            rows = {(row["channel"], row["id"]): row for row in csv.DictReader(file)}
+        self.assertEqual(len(rows), 10)
+        for place in (("A", "1"), ("B", "5")):
+            self.assertEqual([rows[place][name] for name in ("cycle_us", "least_cycle_us", "greatest_cycle_us", "jitter_us",
+                                                             "offset_us")], ["5000.000"] * 3 + ["0.000", "0.000"])
+        four = rows["A", "4"]
+        self.assertEqual((four["least_cycle_us"], four["greatest_cycle_us"], four["offset_us"]), ("4998.000", "5002.000", "3.000"))
+        self.assertTrue(1.99 <= float(four["jitter_us"]) <= 2.1 and 0.99 <= float(four["deviation_us"]) <= 1.01, four)
+        with open(self.path("a.lab", "channels.csv"), encoding="utf-8", newline="") as file:
+            pairs = list(csv.DictReader(file))
+        self.assertEqual([(row["id"], row["pairs"], row["mean_us"]) for row in pairs],
+                         [(str(slot), "100", "-0.250") for slot in range(1, 6)])
+        self.assertIn("(50.000 on A, 50.000 on B us long)", page)
+
+    def test_places_by_the_toml_file(self):
+        self.write("a.toml", EXAMPLE)
+        self.timed("--cluster", self.write("net.toml", EXAMPLE))
+        with open(self.path("a.lab", "timing.csv"), encoding="utf-8", newline="") as file:
+            self.assertEqual([row["offset_us"] for row in csv.DictReader(file)][:5], ["0.000", "0.000", "0.000", "3.000", "0.000"])
+
+    def test_two_slots_have_no_places(self):
+        page = self.capture(self.made(range(5)))
+        self.assertIn("for that it takes three sync slots of a channel", page)
+        made = [(0, channel, frame) for _, channel, frame in self.made(range(1))]
+        self.assertIn("so of times nothing is told", self.capture(made))
+
+    @needs("gnuplot")
+    def test_pictures_of_times(self):
+        self.timed("--pictures")
+        drawn = self.read("a.lab", "timing.svg")
+        for told in ("cycle, us", "off its own line, us", "ID 4 on A"):
+            self.assertIn(told, drawn)
 
     def test_pcapng_and_cycles_beyond_64(self):
         packets.write_capture(self.path("plain.pcap"), self.made(range(60, 200)))
@@ -178,6 +239,12 @@ class Captures(Bench):
         finally:
             packets.LINK_FLEXRAY = kept
         self.assertIn("its link type is 1, and FlexRay's is 210", self.flexlab("capture", "ethernet.pcap", status=5)[1])
+
+    def test_a_capture_without_packets_is_a_failure(self):
+        self.write("empty.pcap", "")
+        self.assertIn("empty.pcap: it has 0 bytes, so it is no capture", self.flexlab("capture", "empty.pcap", status=1)[1])
+        packets.write_capture(self.path("none.pcap"), [])
+        self.assertIn("none.pcap: a capture without a packet", self.flexlab("capture", "none.pcap", status=1)[1])
 
     def test_without_tshark(self):
         self.capture(self.made(range(1)))

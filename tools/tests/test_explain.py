@@ -42,12 +42,16 @@ CASES = (
     ("params", "slot,6,2,0,2", "slot,6,2,2,2", "params: record 25: Role", "BASE is 2, and it has to be below"),
     ("params", "param,gdNIT,800,,\n", "", "params: missing gdNIT", "from 1 to 15999 macroticks: the rest of the cycle"),
     ("params", "gMacroPerCycle,5000", "gMacroPerCycle,5001", "params: constraint 1",
-     "5001 is not 140 * 30 + 800 = 5000: 1 macroticks too many"),
+     "5001 is not 140 * 30 + 800 = 5000: 1 macrotick too many"),
     ("params", "gdActionPointOffset,7", "gdActionPointOffset,30", "params: constraint 2", "30 is not below 30"),
     ("params", "gOffsetCorrectionStart,4900", "gOffsetCorrectionStart,4200", "params: constraint 3",
      "gOffsetCorrectionStart, 4200, is not above 4200 and below 5000"),
     ("params", "pOffsetCorrectionOut,254", "pOffsetCorrectionOut,16000", "params: constraint 4",
      "(200000 - 81) * (5000 - 4900) = 19991900 is less than 5000 * (5000 - 4900 + 16000 + 1) = 80505000"),
+    ("params", "pOffsetCorrectionOut,254", "pOffsetCorrectionOut,16000", "params: constraint 4",
+     "gOffsetCorrectionStart = 4589 or earlier is one way, pOffsetCorrectionOut = 3897 or lower is another"),
+    ("params", "pMicroPerCycle,200000", "pMicroPerCycle,5080", "params: constraint 4",
+     "no gOffsetCorrectionStart behind the static slots and no pOffsetCorrectionOut helps"),
     ("params", "Passive,2", "Passive,5", "params: constraint 5", "5 is above 4"),
     ("params", "node,5,5,AB,0", "node,5,141,AB,0", "params: constraint 7",
      "line 24: node 5 has key slot 141, and there are 140 static slots"),
@@ -142,6 +146,56 @@ class Explain(Bench):
         for reason in ("Shape", "UnknownName", "NotNumber", "OutOfRange", "UnknownNode", "BadChannel", "Role", "NotHex",
                        "Repeated", *(f"params: constraint {number}" for number in (1, 2, 3, 4, 5, 7, 8))):
             self.assertIn(reason, seen)
+
+    def test_the_way_to_sync(self):
+        with open(os.path.join(REPOSITORY, "examples", "settle", "params.csv"), encoding="ascii") as file:
+            self.write("params.csv", file.read())
+        out = self.flexlab("explain", "settle", "params.csv", "190438201", "30005200")[0]
+        self.assertIn("it asks: pOffsetCorrectionOut * Qm >= peak + E1 + Qp", out)
+        self.assertIn("give a lower START or RATE", out)
+        self.assertIn("C3 asks for 255 at least", out)
+        self.write("params.csv", re.sub("pOffsetCorrectionOut,254", "pOffsetCorrectionOut,255", self.read("params.csv")))
+        self.assertIn("nothing in its answer needs",
+                      self.flexlab("explain", "settle", "params.csv", "190438201", "30005200")[0])
+
+    def test_a_line_without_the_files(self):
+        for line in ("trace: record 40 deviation 99 expected -6 to 4", "trace: not covered length 1 0 999000",
+                     "params: record 6: Shape", "params: constraint 1", "drift: missing doubles", "script: too long"):
+            with self.subTest(line=line):
+                words = "check" if line.startswith("trace") else "run"
+                err = self.flexlab("explain", "--line", line, words, status=2)[1]
+                self.assertRegex(err, f"the words do not name the [a-z]+ file: .* flexray {words} PARAMS")
+        self.files()
+        self.write("trace.csv", "run,1,,,,,,\n")
+        out = self.flexlab("explain", "--line", "trace: record 40 deviation 99 expected -6 to 4", "check", "params.csv",
+                           "trace.csv", status=1)[0]
+        self.assertIn("it has no record 40", out)
+        self.flexlab("explain", "--line", "trace: record 1 start 1 expected 2", "check", "params.csv", "none.csv", status=3)
+
+    def test_which_word_is_wrong(self):
+        self.files()
+        for words, told in ((("settle", "params.csv", "2us", "0"), "2us is not a whole number from 0 to 1000000000000, for "
+                                                                   "START"),
+                            (("nm", "13", "x"), "13 is not a whole number from 1 to 12, for WIDTH: bytes"),
+                            (("frame", "C", "x"), "C is not A or B, the channel")):
+            out = self.flexlab("explain", *words, status=1)[0]
+            self.assertIn(told, out)
+            self.assertIn(f"and behind {words[0]} {len(words) - 1} were given", out)
+
+    def test_files_of_another_tool(self):
+        self.files()
+        self.write("a.toml", "[run]\n")
+        out = self.flexlab("explain", "run", "a.toml", "drift.csv", "script.csv", status=1)[0]
+        self.assertIn("`flexlab run ", out)
+        with open(self.path("a.pcap"), "wb") as file:
+            file.write(b"\xd4\xc3\xb2\xa1" + bytes(20))
+        self.assertIn("a.pcap is a pcap file", self.flexlab("explain", "capture", "A", "a.pcap")[0])
+
+    def test_several_constraints_are_told_at_once(self):
+        words = self.files(params=PARAMS.replace("Passive,2", "Passive,5").replace("gdNIT,800", "gdNIT,801"))
+        out = self.flexlab("explain", *words, status=1)[0]
+        self.assertIn("constraint 5 does not hold either:", out)
+        self.assertIn("5 is above 4", out)
 
     def test_link(self):
         words = self.files(params=PARAMS.replace("node,3,3,AB,0", "node,3,3,A,0"), script="")

@@ -1,6 +1,7 @@
 """The Debian package: installed under another root it runs, its pages are shown, and bash completes words."""
 import os
 import re
+import shutil
 import subprocess
 import unittest
 
@@ -8,9 +9,9 @@ from bench import EXAMPLE, FLEXRAY, REPOSITORY, TOOLS, Bench, needs
 
 
 class Package(Bench):
-    def build(self):
+    def build(self, env=None):
         ended = subprocess.run([os.path.join(TOOLS, "package"), self.room], capture_output=True, text=True, check=False,
-                               env={**os.environ, "FLEXRAY": FLEXRAY})
+                               env={**os.environ, "FLEXRAY": FLEXRAY, **(env or {})})
         self.assertEqual(ended.returncode, 0, ended.stderr)
         return ended.stdout.strip()
 
@@ -45,6 +46,22 @@ class Package(Bench):
             self.assertEqual(printed, file.read())
         for name in ("README.md", "docs/FORMATS.md", "docs/FLEXLAB.md", "docs/GLOSSARY.md", "docs/skew.svg"):
             self.assertTrue(os.path.exists(os.path.join(root, "usr/share/doc/flexray", name)), name)
+
+    @needs("dpkg-deb")
+    def test_it_depends_on_what_its_libraries_are_of(self):
+        """Another package has libraries of the same name, as libc6-i386 has, and is told first where only the name is asked."""
+        os.makedirs(self.path("bin"))
+        self.write("bin/dpkg", f"""#!/bin/sh
+case "$*" in
+    "-S "*"*"*) echo "libc6-i386: /lib32/libc.so.6" ;;
+esac
+exec {shutil.which("dpkg")} "$@"
+""")
+        os.chmod(self.path("bin/dpkg"), 0o755)
+        package = self.build({"PATH": self.path("bin") + ":" + os.environ["PATH"]})
+        told = subprocess.run(["dpkg-deb", "-f", package, "Depends"], capture_output=True, text=True, check=True).stdout
+        self.assertIn("libc6 (>= ", told)
+        self.assertNotIn("i386", told)
 
     @needs("dpkg-deb")
     @needs("man")
@@ -101,7 +118,8 @@ class Completion(Bench):
 
     def test_every_request_and_option_is_completed(self):
         told = self.flexlab("--help")[0]
-        for request in ("new", "build", "run", "explain", "study", "capture", "pcap"):
+        for request in ("new", "build", "run", "power", "settle", "precision", "worst", "explain", "study", "capture",
+                        "pcap"):
             self.assertIn(request, told)
             self.assertIn(request, self.complete("flexlab", "flexlab", ""))
             help_text = self.flexlab(request, "--help")[0]

@@ -1,10 +1,12 @@
 """The page of a run: what it says of sync, coverage, skew and checks, and that its numbers are flexray's."""
 import os
 import re
+import subprocess
+import sys
 import unittest
 from fractions import Fraction
 
-from bench import EXAMPLE, SERIES, Bench, edited, needs_series
+from bench import EXAMPLE, FLEXLAB, SERIES, Bench, edited, needs_series
 from flexlab_lib import report, sync
 
 
@@ -101,7 +103,7 @@ class Pages(Bench):
         self.assertIn("no channel carries the frames of node 1 to node 5 in both its cycles (cycles 40 and 41)", page)
         page = self.page(EXAMPLE + join.format(20))
         self.assertIn("check C6 fails, see below", page)
-        self.assertIn("tried together with flexray bound: all checks hold with", page)
+        self.assertIn("all checks hold with", page)
 
     def test_frames_and_skew_beside_a_node_that_joins(self):
         text = edited(*WIDE) + "[[join]]\nnode = 4\nreference = 1\ndouble_cycle = 20\n"
@@ -162,17 +164,11 @@ class Pages(Bench):
         page = self.page(edited(*late))
         told = re.search(r"asks for an earlier gOffsetCorrectionStart, (\d+) at most", page)
         self.assertIsNotNone(told, page)
-        self.assertIn("all checks hold with pOffsetCorrectionOut = 318, gOffsetCorrectionStart = " + told[1], page)
+        self.assertIn(f"all checks hold with gOffsetCorrectionStart = {told[1]}, pOffsetCorrectionOut = 318. ", page)
         for start, status in ((int(told[1]), 0), (int(told[1]) + 1, 1)):
             self.write("a.toml", edited(("pOffsetCorrectionOut = 320", "pOffsetCorrectionOut = 318"),
                                         ("gOffsetCorrectionStart = 4900", f"gOffsetCorrectionStart = {start}")))
             self.flexlab("run", "a.toml", status=status)
-
-    def test_advice_that_is_refused_says_where(self):
-        page = self.page(edited(("gdActionPointOffset = 10", "gdActionPointOffset = 45")))
-        self.assertIn("refused, params: constraint 1; `flexlab explain bound a.lab/advised/params.csv`", page)
-        told = self.flexlab("explain", "bound", "a.lab/advised/params.csv", status=1)[0]
-        self.assertIn("macroticks too few in gMacroPerCycle", told)
 
     def test_each_check_has_its_parameter(self):
         for old, new, told in (
@@ -267,9 +263,18 @@ class Series(unittest.TestCase):
 
 
 class Words(Bench):
+    def test_an_older_python_is_told(self):
+        program = (f"import runpy, sys\nsys.version_info = (3, 10, 12, 'final', 0)\nsys.modules['tomllib'] = None\n"
+                   f"sys.argv = [{FLEXLAB!r}, 'run', 'a.toml']\nrunpy.run_path({FLEXLAB!r}, run_name='__main__')\n")
+        ended = subprocess.run([sys.executable, "-c", program], capture_output=True, text=True, check=False, cwd=self.room)
+        self.assertEqual(ended.returncode, 4)
+        self.assertIn("flexlab: it needs Python 3.11 or later, and this is Python 3.10", ended.stderr)
+        self.assertNotIn("Traceback", ended.stderr)
+
     def test_help(self):
         self.assertIn("exit statuses", self.flexlab("--help")[0])
-        for request in ("new", "build", "run", "explain", "study", "capture", "pcap"):
+        for request in ("new", "build", "run", "power", "settle", "precision", "worst", "explain", "study", "capture",
+                        "pcap"):
             told = self.flexlab(request, "--help")[0]
             self.assertIn("usage: flexlab " + request, told)
             self.assertIn("exit statuses", told)

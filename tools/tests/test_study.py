@@ -1,5 +1,6 @@
 """Studies: one line a run, the same numbers as the page's, stopped ones go on, failed ones are lines."""
 import csv
+import json
 import os
 import signal
 import subprocess
@@ -19,10 +20,11 @@ class Studies(Bench):
 
     def test_a_value_is_varied(self):
         self.write("a.toml", SHORT)
-        out = self.flexlab("study", "a.toml", "--vary", "values.drift", "--values", "50:200:75")[0]
+        out = self.flexlab("study", "a.toml", "--vary", "values.drift", "--values", "50:200:75", "--keep", "all")[0]
         lines = self.lines()
         self.assertEqual([line["values.drift"] for line in lines], ["50", "125", "200"])
         self.assertTrue(all(line["status"] == "0" and line["covered"] == "yes" for line in lines))
+        self.assertEqual([json.loads(line)["run"] for line in self.read("a.study", "study.jsonl").splitlines()], [1, 2, 3])
         self.assertEqual(len({line["greatest_skew_us"] for line in lines}), 3)
         self.assertIn("run 3 of 3", out)
         drift = self.read("a.study", "runs", "00002", "drift.csv")
@@ -39,7 +41,7 @@ class Studies(Bench):
 
     def test_one_node_of_several(self):
         self.write("a.toml", SHORT)
-        self.flexlab("study", "a.toml", "--vary", "node[3].ppm", "--values", "-60,-40.5")
+        self.flexlab("study", "a.toml", "--vary", "node[3].ppm", "--values", "-60,-40.5", "--keep", "all")
         self.assertIn("length,3,0,1000041,,\n", self.read("a.study", "runs", "00002", "drift.csv"))
 
     def test_a_failed_run_is_a_line(self):
@@ -57,20 +59,25 @@ class Studies(Bench):
         words = ["study", "a.toml", "--vary", "values.drift", "--values", "10:80:10", "--jobs", "1", "--flexray", slow]
         started = subprocess.Popen([sys.executable, FLEXLAB, *words], cwd=self.room, start_new_session=True,
                                    stdout=subprocess.DEVNULL, stderr=subprocess.DEVNULL)
-        runs = self.path("a.study", "runs")
-        end = time.monotonic() + 30
-        while time.monotonic() < end and not os.path.exists(os.path.join(runs, "00002.csv")):
+        results = self.path("a.study", "study.jsonl")
+        end = time.monotonic() + 60
+        while time.monotonic() < end and not (os.path.exists(results) and self.read("a.study", "study.jsonl").count("\n") > 1):
             time.sleep(0.02)
         os.killpg(started.pid, signal.SIGINT)
         started.wait(30)
         time.sleep(1.5)
-        done = {name for name in os.listdir(runs) if name.endswith(".csv")}
+        done = self.read("a.study", "study.jsonl").splitlines()
         self.assertTrue(2 <= len(done) < 8, done)
-        kept = {name: os.stat(os.path.join(runs, name)).st_mtime_ns for name in done}
+        # A line that was cut is none, and its run is run again.
+        with open(results, "a", encoding="utf-8") as file:
+            file.write('{"run": 8, "sta')
+        calls = self.read("calls").count("bound")
         out = self.flexlab(*words)[0]
         self.assertIn(f"{len(done)} of 8 runs are there already", out)
         self.assertEqual(len(self.lines()), 8)
-        self.assertEqual(kept, {name: os.stat(os.path.join(runs, name)).st_mtime_ns for name in done})
+        self.assertEqual(self.read("a.study", "study.jsonl").splitlines()[:len(done)], done)
+        # Eight less those that were there, and three that are run again for their files.
+        self.assertEqual(self.read("calls").count("bound") - calls, 8 - len(done) + 3)
 
     def test_failed_runs_again(self):
         broken = self.write("broken", f"#!/bin/sh\n[ -e {self.path('mended')} ] || exit 9\nexec {FLEXRAY} \"$@\"\n")
@@ -84,6 +91,12 @@ class Studies(Bench):
         self.flexlab(*words, "--again")
         self.assertEqual([line["status"] for line in self.lines()], ["0", "0"])
 
+    def test_paths_with_blanks(self):
+        os.makedirs(self.path("a b"))
+        self.write("a b/my cluster's.toml", SHORT)
+        self.flexlab("study", "a b/my cluster's.toml", "--vary", "node[6].id", "--values", "6,7", "-o", "q r$.study", status=1)
+        self.assertEqual([line["status"] for line in self.lines("q r$.study")], ["0", "5"])
+
     def test_another_study_is_not_mixed_in(self):
         self.write("a.toml", SHORT)
         self.flexlab("study", "a.toml", "--vary", "values.drift", "--values", "10")
@@ -91,6 +104,92 @@ class Studies(Bench):
         self.assertIn("another study", self.flexlab(*words, "20", status=2)[1])
         self.write("a.toml", SHORT + "# changed\n")
         self.assertIn("another study", self.flexlab(*words, "10", status=2)[1])
+
+    def test_a_grid(self):
+        self.write("a.toml", SHORT)
+        self.flexlab("study", "a.toml", "--vary", "values.drift", "--values", "50,150", "--vary", "node[3].ppm", "--values",
+                     "-60,-40,-20", "--keep", "worst:1")
+        lines = self.lines()
+        self.assertEqual([(line["values.drift"], line["node[3].ppm"]) for line in lines],
+                         [(one, other) for one in ("50", "150") for other in ("-60", "-40", "-20")])
+        worst = max(lines, key=lambda line: float(line["later_skew_us"]))
+        self.assertEqual(os.listdir(self.path("a.study", "runs")), [f"{int(worst['run']):05}"])
+        drift = self.read("a.study", "runs", f"{int(worst['run']):05}", "drift.csv")
+        self.assertIn(f"length,3,0,{1000000 - int(worst['node[3].ppm'])},,", drift)
+        for words in (("--vary", "values.drift", "--values", "1", "--vary", "node[3].ppm"), ("--keep", "best:1"),
+                      ("--vary", "values.drift", "--values", "1", "--vary", "values.drift", "--values", "2")):
+            self.flexlab("study", "a.toml", *words, "-o", "b", status=2)
+
+    def test_draws(self):
+        text = edited(('ppm = "-drift"', "ppm = { uniform = [-150, 150] }"), ("ppm = 20\n\n[[node]]",
+                      "ppm = { normal = [0, 30], limit = 100 }\n\n[[node]]"), text=SHORT)
+        self.write("a.toml", text)
+        out = self.flexlab("study", "a.toml", "--draws", "6", "--keep", "worst:2")[0]
+        lines = self.lines()
+        for name, most in (("node[2].ppm", 150), ("node[4].ppm", 100)):
+            self.assertEqual(len({line[name] for line in lines}), 6)
+            self.assertTrue(all(-most <= float(line[name]) <= most for line in lines))
+        order = sorted(lines, key=lambda line: (-float(line["later_skew_us"]), int(line["run"])))
+        self.assertIn(f"Worst run       {order[0]['run']}: draw {order[0]['draw']}: later skew "
+                      f"{float(order[0]['later_skew_us']):.3f} us; files in a.study/runs/{int(order[0]['run']):05}/", out)
+        self.assertIn("6 of 6, 6 of them covered", out)
+        # A run by itself draws the same, and another seed something else.
+        page = self.one_line(self.flexlab("run", "a.toml", "--draw", order[0]["draw"])[0])
+        self.assertIn(f"Drawn node[2].ppm = {order[0]['node[2].ppm']}, node[4].ppm = {order[0]['node[4].ppm']}", page)
+        self.assertNotIn(order[0]["node[2].ppm"], self.flexlab("run", "a.toml", "--seed", "2", "--draw", order[0]["draw"])[0])
+        self.write("b.toml", text.replace("[run]", "[run]\nseed = 2"))
+        self.assertEqual(self.flexlab("run", "a.toml", "--seed", "2")[0].split("In sync")[0],
+                         self.flexlab("run", "b.toml")[0].split("In sync")[0])
+
+    def test_what_is_no_distribution(self):
+        for value, told in (("{ uniform = [1] }", "a number that is drawn is"), ("{ uniform = [2, 1] }", "which is backward"),
+                            ("{ normal = [0, -1] }", "below 0"), ("{ normal = [0, 9], limit = 0.1 }", "at least a tenth"),
+                            ("{ uniform = [1, 2], limit = 3 }", "limit goes with normal"),
+                            ("{ even = [1, 2] }", "a number that is drawn is")):
+            self.write("a.toml", edited(("ppm = -40", f"ppm = {value}")))
+            line = next(at for at, text in enumerate(self.read("a.toml").splitlines(), 1) if value in text)
+            err = self.flexlab("run", "a.toml", status=5)[1]
+            self.assertIn(f"a.toml:{line}: node[3].ppm: ", err)
+            self.assertIn(told, err)
+        self.write("a.toml", EXAMPLE)
+        self.assertIn("has no number that is drawn", self.flexlab("study", "a.toml", "--draws", "2", status=2)[1])
+        self.write("a.toml", edited(("[run]", "[run]\nseed = -1")))
+        self.assertIn("run.seed: -1 is not a whole number", self.flexlab("run", "a.toml", status=5)[1])
+
+    def test_hosts_that_are_spelt_otherwise(self):
+        self.write("a.toml", SHORT)
+        for host in ("host/:", "0/host", "8/", "/host", "8/4/host"):
+            _, err = self.flexlab("study", "a.toml", "--vary", "values.drift", "--values", "50", "--hosts", f"{host},:", status=2)
+            self.assertEqual(err.strip(), f"flexlab: --hosts: {host} is neither HOST nor COUNT/HOST, as in host1,8/host2,: "
+                                          "where : is this machine")
+
+    @needs("parallel")
+    def test_hosts_need_no_folder_in_common(self):
+        far = self.path("far away")
+        os.mkdir(far)
+        ssh = self.write("ssh", "#!/bin/sh\nwhile [ \"${1#-}\" != \"$1\" ]; do case $1 in -o | -l | -p) shift ;; esac; shift; "
+                                f"done\nhost=$1; shift; [ \"$1\" != -- ] || shift\necho $host >>{self.path('asked')}\n"
+                                "[ $host != dead ] || { echo 'ssh: connect to host dead: no route' >&2; exit 255; }\n"
+                                f"cd '{far}' && exec sh -c \"$*\"\n")
+        os.chmod(ssh, 0o755)
+        self.write("a.toml", SHORT)
+        words = ("study", "a.toml", "--vary", "values.drift", "--values", "50,100,150", "--ssh", ssh, "--jobs", "1")
+        out, err = self.flexlab(*words, "--hosts", "one,dead,two")
+        self.assertIn("host dead is left out", err)
+        self.assertIn("ssh: connect to host dead: no route", err)
+        self.assertEqual([line["status"] for line in self.lines()], ["0"] * 3)
+        self.assertIn("3 of 3, 3 of them covered", out)
+        self.assertEqual(os.listdir(far), [])
+        self.assertIn("two", self.read("asked"))
+        err = self.flexlab(*words, "--hosts", "one", "--host-flexlab", "flexlab-that-is-not-there", "-o", "b", status=4)[1]
+        self.assertIn("host one is left out: it has no flexlab-that-is-not-there", err)
+        self.assertIn("no host is left", err)
+
+    def test_a_large_study_is_one_file(self):
+        self.flexlab("study", "--seeds", "1:300:1", "--doubles", "1", "-o", "m", "--jobs", "2")
+        self.assertEqual(self.read("m", "study.jsonl").count("\n"), 300)
+        self.assertEqual(sorted(os.listdir(self.path("m")))[0], "study.csv")
+        self.assertNotIn("runs", os.listdir(self.path("m")))
 
     def test_seeds(self):
         self.flexlab("study", "--seeds", "7,8", "--doubles", "2")

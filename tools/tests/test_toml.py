@@ -1,5 +1,6 @@
 """TOML files: wrong values are refused with line, key and range; right ones are in the files as they should be."""
 import os
+import re
 import unittest
 
 from bench import EXAMPLE, REPOSITORY, Bench, edited
@@ -12,17 +13,24 @@ def line_with(text, part):
 REFUSED = (
     # what is changed, into what, and what the line on standard error has to say
     ("gdNIT = 2000", "gdNIT = 16000", "cluster.gdNIT: 16000 is not a whole number from 1 to 15999 macroticks"),
-    ("gdNIT = 2000", "gdNit = 2000", "cluster: the key `gdNIT` is missing: a whole number from 1 to 15999"),
+    ("gdNIT = 2000", "gdNit = 2000", "a.toml:26: cluster.gdNit: there is no such key; did you mean `gdNIT`?"),
+    ("gdNIT = 2000", "", "cluster: the key `gdNIT` is missing: a whole number from 1 to 15999"),
     ("gdNIT = 2000", "gdNIT = 2000\ngdNitt = 1", "cluster.gdNitt: there is no such key; did you mean `gdNIT`?"),
     ("gdNIT = 2000", "gdNIT = 2000.5", "cluster.gdNIT: 2000.5 is not a whole number"),
+    ("gdNIT = 2000", "gdNIT = 2000\nxRateBound = 200", "cluster.xRateBound: there is no such key: it belongs into [limits]"),
+    ("gdNIT = 2000", 'gdNIT = "2000"', "(there: drift); write it without quotes"),
+    ("[[slot]]", "[slot]", "a.toml:85: `slot` has to be [[slot]] tables"),
     ("gdNIT = 2000", "gdNIT = true", "cluster.gdNIT: true is not a whole number"),
     ("gdNIT = 2000", "gdNIT = inf", "cluster.gdNIT: Infinity is not a whole number"),
     ("microtick_ns = 25", "microtick_ns = 0", "bench.microtick_ns: 0 is not a number from 1 to 1000 ns"),
     ("bit_rate_mbit = 10", "bit_rate_mbit = 20", "bench.bit_rate_mbit: 20 is not a number from 1 to 10 Mbit/s"),
-    ("oscillator_ppm = 200", "oscillator_ppm = 1600", "limits.oscillator_ppm: 1600 is not a number from 0 to 1499 ppm"),
-    ("oscillator_ppm = 200", "oscillator_ppm = 1498.9", "xRateBound would be 1501"),
+    ("oscillator_ppm = 200", "oscillator_ppm = 1600", "limits.oscillator_ppm: 1600 is not a number from 0 to 1498.25 ppm"),
+    ("oscillator_ppm = 200", "oscillator_ppm = 1498.26", "take xRateBound = 1500 in place of it"),
+    ("oscillator_ppm = 200", "oscilator_ppm = 200", "limits.oscilator_ppm: there is no such key; did you mean `oscillator_ppm`?"),
     ("oscillator_ppm = 200", "oscillator_ppm = 200\nxRateBound = 3", "one of both"),
-    ("delay_error_us = 0.0125", "delay_error_us = 0.3", "limits.delay_error_us: 0.3 is not a number from 0 to 0.25 us"),
+    ("delay_error_us = 0.0125", "delay_error_us = 0.3", "limits.delay_error_us: 0.3 is not a number from 0 to 0.25 us; if the "
+                                                                "delays of the cluster spread further, put "
+                                                                "cluster.pDelayCompensation amid them"),
     ("delay_error_us = 0.0125", "delay_error_us = 0.01\ndelay_error_ns = 1", "it wants one of `delay_error_us`"),
     ("double_cycles = 200", "double_cycles = 0", "run.double_cycles: 0 is not a whole number from 1 to 100000"),
     ("id = 4", "id = 3", "node[4].id: node 3 is there already"),
@@ -37,25 +45,29 @@ REFUSED = (
     ("node = 1\nbase", "node = 9\nbase", "slot[1].node: there is no node 9; nodes are 1, 2, 3, 4, 5, 6"),
     ("repetition = 2", "repetition = 3", "slot[1].repetition: 3 is not 1, 2, 4, 8, 16, 32 or 64"),
     ("base = 0", "base = 2", "slot[1].base: 2 is not below the repetition, 2"),
-    ('cycles = "100-180"', 'cycles = "100-400"', 'oscillator[1].cycles: "100-400" is not a cycle from 0 to 399'),
-    ('cycles = "100-180"', 'cycles = "180-100"', 'oscillator[1].cycles: "180-100" is not a cycle'),
+    ('cycles = "100-180"', 'cycles = "100-200000"', 'oscillator[1].cycles: "100-200000" is not a cycle from 0 to '
+                                                  "199999"),
+    ('cycles = "100-180"', 'cycles = "180-100"', 'oscillator[1].cycles: "180-100" runs backward'),
+    ('cycles = "100-180"', 'cycls = "100-180"', 'oscillator[1].cycls: there is no such key; did you mean `cycles`?'),
     ('nodes = 3\ncycles = "100', 'nodes = "4-3"\ncycles = "100', 'oscillator[1].nodes: "4-3" runs backward'),
     ("microticks = 0.3", "microticks = 1001", "delay[1].microticks: 1001 is not a number from 0 to 1000"),
     ("microticks = 0.3", "", "it wants one of `us`, `ns`, `microticks`, `ticks`, and not 0"),
-    ('channels = "B"\nns', 'channels = "B"\nfrom_cycle = 400\nns', "delay[2].from_cycle: 400 is not a whole number"),
-    ("from = 1\nto = [3, 4]", "from = 6\nto = [3, 4]", "delay[2].from: node 6 is arbitrary"),
+    ('channels = "B"\nns', 'channels = "B"\nfrom_cycle = 200000\nns', "delay[2].from_cycle: 200000 is not a whole number"),
     ("from = 1\nto = [3, 4]", "from = 1\nto = 5", "delay[2].channels: no two of these nodes have a common channel "
                                                   "of B"),
     ("early = [1, 3, 5]", "early = [1, 2]", "two_faced[1].late: node 2 is in two"),
     ("node = 6\ncycles", "node = 5\ncycles", "two_faced[1].node: node 5 has no key slot"),
-    ("[run]", "[runs]", "there is no table `runs`; did you mean `run`?"),
-    ("[run]", "[run", "this is not TOML"),
+    ("[run]", "[runs]", "a.toml:43: there is no table `runs`; did you mean `run`?"),
+    ("[run]", "[run", "a.toml:43: this is not TOML"),
+    ("start_us = 1.5", "start_us = 1,5", "a.toml:61: this is not TOML: Expected newline or end of document after a statement (at "
+                                         "line 61, column 13): start_us = 1,5; a number has a point, no comma"),
+    ('channels = "A"', "channels = A", "channels = A; a text has quotes"),
     ("drift = 150", 'drift = "x"', 'values.drift: "x" is not a number'),
 )
 
 MORE = (
     ("[[lose]]\nfrom = 6\nto = 1\ncycles = 3\n", "lose[1].from: node 6 is arbitrary"),
-    ("[[lose]]\nfrom = 1\nto = 2\ncycles = 400\n", "lose[1].cycles: 400 is not a cycle from 0 to 399"),
+    ("[[lose]]\nfrom = 1\nto = 2\ncycles = 200000\n", "lose[1].cycles: 200000 is not a cycle from 0 to 199999"),
     ("[[flip]]\nfrom = 1\nto = 2\ncycles = 3\nbit = 192\n", "flip[1].bit: 192 is not a whole number from 0 to 191"),
     ("[[say]]\nnode = 6\nto = 1\ncycles = 3\nus = 1\n", "cycle 3, node 6 to node 1, channel A: another table says"),
     ("[[say]]\nnode = 6\nto = 1\ncycles = 3\nframe = \"ABC\"\n", 'say[1].frame: "ABC" is not text of hexadecimal '
@@ -99,6 +111,100 @@ class Toml(Bench):
             text = edited((old.strip(), new.strip()))
             err = self.refused(text, "is not a")
             self.assertIn(f"a.toml:{line_with(text, new.strip())}: ", err)
+
+    def test_all_faults_are_told_at_once(self):
+        text = edited(("gdNIT = 2000", "gdNit = 2000"), ("ppm = 20\n\n", "pmm = 20\n\n"),
+                      ("start_us = 1.5", "start_us = -1"), ("oscillator_ppm = 200", "oscillator_ppm = 1600"))
+        told = self.refused(text, "did you mean").splitlines()
+        self.assertEqual([int(line.split(":")[2]) for line in told],
+                         [line_with(text, part) for part in ("gdNit", "oscillator_ppm = 1600", "start_us = -1", "pmm")])
+        self.assertNotIn("missing", "".join(told))
+
+    def test_faults_of_the_last_tables_too(self):
+        text = edited(("gdNIT = 2000", "gdNIT = 0")) + "[[lose]]\nfrom = 1\nto = 9\ncycles = 3\n"
+        told = self.refused(text, "cluster.gdNIT: 0 is not")
+        self.assertIn("lose[1].to: there is no node 9", told)
+
+    def test_a_byte_order_mark(self):
+        self.write("a.toml", "\ufeff" + EXAMPLE)
+        self.flexlab("build", "a.toml")
+        self.assertIn("a.toml:26: cluster.gdNIT: 0 is", self.refused("\ufeff" + edited(("gdNIT = 2000", "gdNIT = 0")), ""))
+
+    def test_every_ppm_of_the_range_is_taken(self):
+        told = self.refused(edited(("oscillator_ppm = 200", "oscillator_ppm = 1500")), "limits.oscillator_ppm: 1500 is not")
+        most = re.search(r"from 0 to ([\d.]+) ppm", told)[1]
+        self.write("a.toml", edited(("oscillator_ppm = 200", f"oscillator_ppm = {most}")))
+        self.flexlab("build", "a.toml")
+        self.assertIn("param,xRateBound,1500,,", self.read("a.lab", "params.csv"))
+
+    def test_rows_behind_the_end_of_the_run(self):
+        self.write("a.toml", edited(("double_cycles = 200", "double_cycles = 70")) + '[[lose]]\nfrom = 1\nto = 2\n'
+                   'channels = "A"\ncycles = "138-160"\n[[join]]\nnode = 4\nreference = 1\ndouble_cycle = 70\n')
+        err = self.flexlab("build", "a.toml")[1]
+        self.assertIn("oscillator[2].cycles: it lies behind the end of the run, whose last cycle is 139", err)
+        self.assertIn("join[1].double_cycle: it lies behind the end", err)
+        self.assertNotIn("oscillator[1]", err)
+        self.assertIn("lose,139,1,2,A,,\n", self.read("a.lab", "script.csv"))
+        self.assertNotIn("lose,140", self.read("a.lab", "script.csv"))
+        # The ramp is that of the longer run, as far as this one goes.
+        short = [line for line in self.read("a.lab", "drift.csv").splitlines() if line.startswith("length,3,")]
+        self.write("a.toml", EXAMPLE)
+        self.flexlab("build", "a.toml")
+        long = [line for line in self.read("a.lab", "drift.csv").splitlines() if line.startswith("length,3,")]
+        self.assertEqual(short, [line for line in long if int(line.split(",")[2]) < 140])
+        self.assertGreater(len(short), 10)
+        self.assertEqual(self.flexray("run", "a.lab/params.csv", "a.lab/drift.csv", "a.lab/script.csv")[0], 0)
+
+    def test_oscillators_and_delays_of_arbitrary_nodes(self):
+        self.write("a.toml", edited(("from = 1\nto = [3, 4]", "from = 6\nto = [3, 4]")) + "[[oscillator]]\nnodes = [1, 6]\n"
+                   'ppm = 3\n[[oscillator]]\nnodes = "all"\nppm = 3\n[[delay]]\nfrom = 1\nto = "2-6"\nns = 30\n')
+        err, last = self.flexlab("build", "a.toml")[1].splitlines(), EXAMPLE.count("\n")
+        self.assertEqual([line.split(": ")[2:5] for line in err],
+                         [["a.toml:" + str(line), key, "node 6 is arbitrary, so it has no clock and its frames come when they "
+                           "are said to"] for line, key in ((last + 2, "oscillator[3].nodes"), (110, "delay[2].from"),
+                                                            (last + 9, "delay[3].to"))])
+        drift = self.read("a.lab", "drift.csv")
+        self.assertIn("length,1,0,999997,,", drift)
+        self.assertIn("delay,1,5,A,0,1200000", drift)
+        for row in ("length,6", "delay,6", "delay,1,6"):
+            self.assertNotIn(row, drift)
+        self.assertIn("WARNING a.toml:110: delay[2].from: node 6 is arbitrary",
+                      self.one_line(self.flexlab("run", "a.toml")[0]))
+
+    def test_broken_constraints_are_told_by_the_lines_of_the_file(self):
+        text = edited(("gdNIT = 2000", "gdNIT = 2001"), ("Passive = 2", "Passive = 5"), ("key_slot = 2", "key_slot = 3"))
+        self.write("a.toml", text)
+        for request in ("build", "run"):
+            err = self.flexlab(request, "a.toml", status=1)[1]
+            self.assertIn("a.toml: flexray refuses the parameters that come of it: params: constraint 1", err)
+            self.assertIn("5000 is not 60 * 50 + 2001 = 5001: 1 macrotick too few in gMacroPerCycle, so gdNIT = 2000", err)
+            self.assertIn(f"line {line_with(text, 'gdNIT = 2001')}: gdNIT 2001", err)
+            self.assertIn("constraint 5 asks", err)
+            self.assertIn(f"line {line_with(text, 'id = 3') + 1}: node 3 has key slot 3, as node 2 has", err)
+            self.assertNotIn("params.csv", err)
+        for change in (("gdActionPointOffset = 10", "gdActionPointOffset = 50"), ("slot = 10", "slot = 61"),
+                       ("gOffsetCorrectionStart = 4900", "gOffsetCorrectionStart = 3000"),
+                       ("pOffsetCorrectionOut = 320", "pOffsetCorrectionOut = 16000")):
+            self.write("a.toml", edited(change))
+            err = self.flexlab("build", "a.toml", status=1)[1]
+            self.assertEqual(err.count(" asks: "), 1, err)
+            self.assertIn(f"line {line_with(edited(change), change[1])}: ", err)
+
+    def test_a_constraint_without_room_is_mended_by_what_is_told(self):
+        start, limit = "gOffsetCorrectionStart = 4900", "pOffsetCorrectionOut = 320"
+        self.write("a.toml", edited((start, "gOffsetCorrectionStart = 4998")))
+        _, err = self.flexlab("build", "a.toml", status=1)
+        told = dict(re.findall(r"(\w+) = (\d+) or (?:earlier|lower)", err))
+        self.assertEqual(sorted(told), ["gOffsetCorrectionStart", "pOffsetCorrectionOut"], err)
+        late, most = int(told["gOffsetCorrectionStart"]), int(told["pOffsetCorrectionOut"])
+        for first, most_, status in ((late, 320, 0), (late + 1, 320, 1), (4998, most, 0), (4998, most + 1, 1)):
+            self.write("a.toml", edited((start, f"gOffsetCorrectionStart = {first}"), (limit, f"pOffsetCorrectionOut = {most_}")))
+            self.flexlab("build", "a.toml", status=status)
+
+    def test_without_the_program_constraints_are_not_checked(self):
+        self.write("a.toml", edited(("gdNIT = 2000", "gdNIT = 2001")))
+        self.assertIn("the constraints of the parameters are not checked",
+                      self.flexlab("build", "a.toml", env={"FLEXRAY": self.path("none")})[1])
 
     def test_no_file(self):
         self.assertIn("none.toml: No such file", self.flexlab("build", "none.toml", status=3)[1])

@@ -2,8 +2,8 @@
 //! whether they are in sync.
 #![tactic(auto)]
 
-use fr_answer_series::{Status, flexray_series};
 use fr_base::{DiskShelf, StreamSink};
+use fr_report::{Status, flexray_series};
 use std::env;
 use std::process::ExitCode;
 

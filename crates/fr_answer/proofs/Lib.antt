@@ -1,3 +1,2 @@
-pub mod Endings
 pub mod Requests
-mod Usages
+mod Undone

@@ -12,7 +12,7 @@ use Rattle.fr_base.specs.declared.channel.Channel.TheVariants.{A, B}
 use Rattle.fr_base.specs.declared.numbers.NumberFault.{NumberFault}
 use Rattle.fr_bound.specs.Settling.{most_stated}
 use Rattle.fr_records.specs.Fields.{natural_of}
-use Rattle.fr_ending.specs.Program.{texts}
+use Rattle.fr_program.specs.Program.{texts}
 use Rattle.fr_answer.specs.Request.{Asked, AsksFor, frame, bound, bound_join, upgrade, settle, run, capture, nm, cold, make, trace, check}
 
 -- two numbers that are there
@@ -37,8 +37,8 @@ asked_in_three command first second =
     if bytes_eq command (codes "frame") then option_map (λ ch. frame ch second) (channel_of first)
     else (if bytes_eq command (codes "make") then make_in (natural_of 0 4_294_967_295 first) (natural_of 1 10_000 second)
     else (if bytes_eq command (codes "capture") then option_map (λ ch. capture ch second) (channel_of first)
-    else (if bytes_eq command (codes "cold") then Some (cold (record { params = first; power = second }))
-    else (if bytes_eq command (codes "check") then Some (check (record { params = first; trace = second }))
+    else (if bytes_eq command (codes "cold") then Some (cold first second)
+    else (if bytes_eq command (codes "check") then Some (check first second)
     else (if bytes_eq command (codes "nm") then nm_in second (natural_of 1 12 first)
     else (if bytes_eq command (codes "bound") then bound_in first second else None))))))
 
@@ -67,10 +67,10 @@ asked_again words (run names) asks = ap asked_in asks
 asked_again words (capture A file) asks = ap asked_in asks
 asked_again words (capture B file) asks = ap asked_in asks
 asked_again words (nm width file) asks = ap asked_in asks.spelt ∙ ap (nm_in file) asks.width_is
-asked_again words (cold names) asks = ap asked_in asks
+asked_again words (cold params power) asks = ap asked_in asks
 asked_again words (make seed doubles) asks = ap asked_in asks.spelt ∙ ap₂ make_in asks.seed_is asks.doubles_is
 asked_again words (trace names) asks = ap asked_in asks
-asked_again words (check names) asks = ap asked_in asks
+asked_again words (check params recorded) asks = ap asked_in asks
 
 -- they are two to four
 asks_length : (words : List (List ℕ)) (asked : Asked) → AsksFor words asked → (2 ≤ length words) × (length words ≤ 4)
@@ -82,10 +82,10 @@ asks_length words (settle file start rate) asks = let long : length words ≡ 4 
 asks_length words (run names) asks = let long : length words ≡ 4 = ap length asks in (omega (arith, long), omega (arith, long))
 asks_length words (capture channel file) asks = let long : length words ≡ 3 = ap length asks in (omega (arith, long), omega (arith, long))
 asks_length words (nm width file) asks = let long : length words ≡ 3 = ap length asks.spelt in (omega (arith, long), omega (arith, long))
-asks_length words (cold names) asks = let long : length words ≡ 3 = ap length asks in (omega (arith, long), omega (arith, long))
+asks_length words (cold params power) asks = let long : length words ≡ 3 = ap length asks in (omega (arith, long), omega (arith, long))
 asks_length words (make seed doubles) asks = let long : length words ≡ 3 = ap length asks.spelt in (omega (arith, long), omega (arith, long))
 asks_length words (trace names) asks = let long : length words ≡ 4 = ap length asks in (omega (arith, long), omega (arith, long))
-asks_length words (check names) asks = let long : length words ≡ 3 = ap length asks in (omega (arith, long), omega (arith, long))
+asks_length words (check params recorded) asks = let long : length words ≡ 3 = ap length asks in (omega (arith, long), omega (arith, long))
 
 pub asks_not_short : (words : List (String Global)) (asked : Asked) → AsksFor (texts words) asked → length words < 2 → ⊥
 asks_not_short words asked asks short =

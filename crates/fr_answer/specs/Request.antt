@@ -6,9 +6,7 @@ use Rattle.fr_bound.specs.Settling.{most_stated}
 use Rattle.fr_generator.specs.Generated.{IsMadeCount}
 use Rattle.fr_records.specs.Fields.{natural_of}
 use Rattle.fr_answer.specs.declared.request.Request.{Request}
-use Rattle.fr_answer_check.specs.CheckAnswer.{CheckNames, check_names}
-use Rattle.fr_answer_cold.specs.ColdAnswer.{ColdNames, cold_names}
-use Rattle.fr_run_files.specs.Names.{RunNames, names_of}
+use Rattle.fr_report.specs.Names.{RunNames, run_names_of}
 use Rattle.fr_answer.specs.declared.request.Request.TheVariants.{Frame, Bound, BoundJoin, Upgrade, Settle, Run, Capture, Nm, Cold, Make, Trace, Check}
 
 -- decode the bytes of the file as a frame on the channel; print the bounds and checks of the parameters in the file;
@@ -27,9 +25,9 @@ pub data Asked : Type 0 where
   make : (seed doubles : ℕ) → Asked
   capture : (channel : Channel) (file : List ℕ) → Asked
   nm : (width : ℕ) (file : List ℕ) → Asked
-  cold : (names : ColdNames) → Asked
+  cold : (params power : List ℕ) → Asked
   trace : (names : RunNames) → Asked
-  check : (names : CheckNames) → Asked
+  check : (params recorded : List ℕ) → Asked
 
 -- `settle PARAMS START RATE`, with two numbers of ticks
 pub record AsksSettle (words : List (List ℕ)) (file : List ℕ) (start rate : ℕ) : Type 0 where
@@ -66,9 +64,9 @@ AsksFor words (run names) = words ≡ codes "run" ∷ names.params ∷ names.dri
 AsksFor words (make seed doubles) = AsksMake words seed doubles
 AsksFor words (capture channel file) = words ≡ codes "capture" ∷ letter channel ∷ file ∷ []
 AsksFor words (nm width file) = AsksNm words width file
-AsksFor words (cold names) = words ≡ codes "cold" ∷ names.params ∷ names.power ∷ []
+AsksFor words (cold params power) = words ≡ codes "cold" ∷ params ∷ power ∷ []
 AsksFor words (trace names) = words ≡ codes "trace" ∷ names.params ∷ names.drift ∷ names.script ∷ []
-AsksFor words (check names) = words ≡ codes "check" ∷ names.params ∷ names.trace ∷ []
+AsksFor words (check params recorded) = words ≡ codes "check" ∷ params ∷ recorded ∷ []
 
 -- what a request asks for
 abbrev pub asked_of : Request → Asked
@@ -77,13 +75,13 @@ asked_of (Bound file) = bound file.now
 asked_of (BoundJoin file) = bound_join file.now
 asked_of (Upgrade file) = upgrade file.now
 asked_of (Settle file start rate) = settle file.now start rate
-asked_of (Run files) = run (names_of files)
+asked_of (Run files) = run (run_names_of files)
 asked_of (Make seed doubles) = make seed doubles
 asked_of (Capture channel file) = capture channel file.now
 asked_of (Nm width file) = nm width file.now
-asked_of (Cold files) = cold (cold_names files)
-asked_of (Trace files) = trace (names_of files)
-asked_of (Check files) = check (check_names files)
+asked_of (Cold files) = cold files.params.now files.power.now
+asked_of (Trace files) = trace (run_names_of files)
+asked_of (Check files) = check files.params.now files.trace.now
 
 -- what words are read as: a request that asks for what they ask for, or none
 abbrev pub IsRequestOf : List (List ℕ) → Option Request → Type 0

@@ -4,6 +4,6 @@
 mod request;
 mod top;
 
-pub use fr_answer_run::play;
-pub use fr_ending::Status;
+pub use fr_records::Status;
+pub use fr_report::play;
 pub use top::flexray;

@@ -1,12 +1,12 @@
 ghost use Rattle.std.specs.Prelude.{◌∷◌, [], codes, IfSome};
-ghost use Rattle.fr_ending.specs.Program.{texts};
+ghost use Rattle.fr_program.specs.Program.{texts};
 ghost use Rattle.fr_answer.specs.Request.{IsInRange, IsRequestOf};
 
-use fr_answer_check::CheckFiles;
-use fr_answer_cold::ColdFiles;
 use fr_base::Channel;
+use fr_check::CheckFiles;
+use fr_cold::ColdFiles;
 use fr_records::natural;
-use fr_run_files::RunFiles;
+use fr_report::RunFiles;
 
 // The greatest number of ticks that may be stated.
 const MOST_STATED: u64 = 1_000_000_000_000;

@@ -1,14 +1,15 @@
-ghost use Rattle.std.specs.Prelude.{◌≡◌, ◌↔◌, ◌+◌, ◌≤◌, Err};
-ghost use Rattle.fr_ending.specs.declared.failure.Failure.TheVariants.{Usage};
-ghost use Rattle.fr_ending.specs.Around.{around_of};
-ghost use Rattle.fr_ending.specs.Failure.{EndingWritesNothing, WritesNothing};
-ghost use Rattle.fr_ending.specs.Program.{IsNoRequest, IsProgramAnswer, WordsEnd, texts};
-ghost use Rattle.fr_answer.specs.Answer.{Ends, IsDefinedBy, file_count, flexray_program};
-ghost use Rattle.fr_answer.specs.Request.{Asked, AsksFor, IsInRange, asked_of};
+ghost use Rattle.std.specs.Prelude.{◌≡◌, ◌≢◌, ◌↔◌, IfErr};
+ghost use Rattle.fr_program.specs.Around.{around_of};
+ghost use Rattle.fr_program.specs.Command.{AreLoads, CommandEnds};
+ghost use Rattle.fr_program.specs.Failure.{EndingWritesNothing, WritesNothing, ending_status, status_of};
+ghost use Rattle.fr_program.specs.Program.{IsNoRequest, IsProgramAnswer, IsProgramComplete, WordsEnd, texts};
+ghost use Rattle.fr_answer.specs.Answer.{command_of, flexray_program};
+ghost use Rattle.fr_answer.specs.Request.{IsInRange, asked_of};
 
 use crate::request::{Request, request_of};
 use fr_base::{Shelf, Sink};
-use fr_ending::{Failure, Status};
+use fr_program::Failure;
+use fr_records::Status;
 use std::alloc::Global;
 
 /// Does what the words ask for, which are those after the program's name: loads the files that they name
@@ -32,8 +33,8 @@ pub fn flexray<S: Shelf, O: Sink, E: Sink>(
         (E.state err.old) (E.state err.new) result }
 
     // Where the bytes of the files are told and no fault was counted, they decide the status, but for want of memory.
-    ensures complete { (asked : Asked) → AsksFor (texts words.now) asked →
-        IsDefinedBy asked (around_of (S.state shelf.old) (S.state shelf.new) (O.state out.old) (O.state out.new)) result }
+    ensures complete { IsProgramComplete flexray_program (texts words.now)
+        (around_of (S.state shelf.old) (S.state shelf.new) (O.state out.old) (O.state out.new)) result }
 
     // Only `Done` and a failed write leave anything on `out`, and `Done` nothing on `err`.
     ensures unwritten { WritesNothing result → out.new ≡ out.old }
@@ -55,8 +56,9 @@ fn answer<S: Shelf, O: Sink>(
     shelf: &mut S,
     out: &mut O,
 ) -> Result<(), Failure>
-    ensures usage { (result ≡ Err Usage) → IsNoRequest flexray_program (texts words.now) }
-    ensures unread { result ≡ Err Usage → shelf.new ≡ shelf.old }
+    ensures usage { ending_status result ≡ Status.Usage → IsNoRequest flexray_program (texts words.now) }
+    ensures unread { ending_status result ≡ Status.Usage → shelf.new ≡ shelf.old }
+    ensures undone { IfErr result (λ why. status_of why ≢ Status.Done) }
     ensures ends { WordsEnd flexray_program (texts words.now)
         (around_of (S.state shelf.old) (S.state shelf.new) (O.state out.old) (O.state out.new)) result }
     ensures unwritten { EndingWritesNothing result → out.new ≡ out.old }
@@ -74,29 +76,29 @@ fn carry_out<S: Shelf, O: Sink>(
     out: &mut O,
 ) -> Result<(), Failure>
     requires { IsInRange request }
-    ensures ends { Ends (asked_of request.entry)
+    ensures ends { CommandEnds (command_of (asked_of request.entry))
         (around_of (S.state shelf.old) (S.state shelf.new) (O.state out.old) (O.state out.new)) result }
-    ensures loads { (S.state shelf.new).loads ≤ (S.state shelf.old).loads + file_count (asked_of request.entry) result }
+    ensures loads { AreLoads (command_of (asked_of request.entry)).names (S.state shelf.old) (S.state shelf.new) }
     ensures unwritten { EndingWritesNothing result → out.new ≡ out.old }
 {
     match request {
-        Request::Frame { channel, file } => fr_answer_frame::answer(
+        Request::Frame { channel, file } => fr_commands::answer_frame(
             alloc, channel, file, shelf, out,
         ),
-        Request::Bound { file } => fr_answer_bound::answer(alloc, file, shelf, out),
-        Request::BoundJoin { file } => fr_answer_bound::join_answer(alloc, file, shelf, out),
-        Request::Upgrade { file } => fr_answer_upgrade::answer(alloc, file, shelf, out),
+        Request::Bound { file } => fr_commands::answer_bound(alloc, file, shelf, out),
+        Request::BoundJoin { file } => fr_commands::answer_bound_join(alloc, file, shelf, out),
+        Request::Upgrade { file } => fr_params::answer_upgrade(alloc, file, shelf, out),
         Request::Settle { file, start, rate } => {
-            fr_answer_bound::settle_answer(alloc, file, start, rate, shelf, out)
+            fr_commands::answer_settle(alloc, file, start, rate, shelf, out)
         }
-        Request::Run(files) => fr_answer_run::answer(alloc, files, shelf, out),
-        Request::Make { seed, doubles } => { fr_answer_run::answer_made(alloc, seed, doubles, out) }
-        Request::Capture { channel, file } => fr_answer_capture::answer(
+        Request::Run(files) => fr_report::answer_run(alloc, files, shelf, out),
+        Request::Make { seed, doubles } => { fr_report::answer_made(alloc, seed, doubles, out) }
+        Request::Capture { channel, file } => fr_capture::answer_capture(
             alloc, channel, file, shelf, out,
         ),
-        Request::Nm { width, file } => fr_answer_nm::answer(alloc, width, file, shelf, out),
-        Request::Cold(files) => fr_answer_cold::answer(alloc, files, shelf, out),
-        Request::Trace(files) => fr_answer_trace::answer(alloc, files, shelf, out),
-        Request::Check(files) => fr_answer_check::answer(alloc, files, shelf, out),
+        Request::Nm { width, file } => fr_nm::answer_nm(alloc, width, file, shelf, out),
+        Request::Cold(files) => fr_cold::answer_cold(alloc, files, shelf, out),
+        Request::Trace(files) => fr_report::answer_trace(alloc, files, shelf, out),
+        Request::Check(files) => fr_check::answer_check(alloc, files, shelf, out),
     }
 }

@@ -1,10 +1,14 @@
 -- Numbers within a bound.
-use Rattle.std.specs.Prelude.{ℤ, neg_ℤ, ◌≤ℤ◌, ◌-ℤ◌, List, All}
+use Rattle.std.specs.Prelude.{ℤ, neg_ℤ, ◌≤ℤ◌, ◌-ℤ◌, int_lt, ◌||◌, not, Bool, List, All}
 
 -- a number lies within a bound of 0, on either side
 pub record IsWithin (bound value : ℤ) : Type 0 where
   pub low : neg_ℤ bound ≤ℤ value
   pub high : value ≤ℤ bound
+
+-- the same as a truth value
+abbrev pub lies_within : ℤ → ℤ → Bool
+lies_within bound value = not (int_lt value (neg_ℤ bound) || int_lt bound value)
 
 -- a number lies from one number to another
 pub record IsBetween (least greatest value : ℤ) : Type 0 where

@@ -8,13 +8,25 @@ use std::collections::BTreeMap;
 /// A shelf in memory: names with their bytes, and a count of faults for each name. All names that it
 /// does not hold have one count in common, at which a newly held name begins. Chosen loads can be made
 /// to fail. Counters stay at their last value.
-#[derive(Drop)]
 pub struct MemoryShelf {
     alloc: Global,
     files: BTreeMap<String, HeldFile>,
     missing: u64,
     loads: u64,
     failing: Vec<u64>,
+}
+
+// One call: a derived drop is opened in each function that drops a value, and proved there.
+impl Drop for MemoryShelf {
+    fn drop(self) {
+        let MemoryShelf {
+            alloc: _,
+            files: _,
+            missing: _,
+            loads: _,
+            failing: _,
+        } = self;
+    }
 }
 
 // The bytes under a name, and how often a load of it failed.

@@ -6,7 +6,6 @@ use std::alloc::{AllocError, Global};
 
 /// A sink in memory, with a room in bytes that is reserved when it is made. A piece that does not fit
 /// the room fails, and so do the puts that are chosen to. Counters stay at their last value.
-#[derive(Drop)]
 pub struct MemorySink {
     bytes: Vec<u8>,
     room: usize,
@@ -15,6 +14,19 @@ pub struct MemorySink {
     failing: Vec<u64>,
     ghost reserved: { room ≤ vec_capacity bytes },
     ghost within: { vec_len bytes ≤ room },
+}
+
+// One call: a derived drop is opened in each function that drops a value, and proved there.
+impl Drop for MemorySink {
+    fn drop(self) {
+        let MemorySink {
+            bytes: _,
+            room: _,
+            faults: _,
+            puts: _,
+            failing: _,
+        } = self;
+    }
 }
 
 impl MemorySink {

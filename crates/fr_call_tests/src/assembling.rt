@@ -5,7 +5,7 @@ use fr_base::{NodeId, Slot};
 use fr_cluster::{NAMES, NodeSpec, Params, SlotSpec};
 use fr_params::{ParamFault, assemble};
 use fr_samples::params_of;
-use std::alloc::Global;
+use std::alloc::{AllocError, Global};
 use std::test::Fail;
 
 // The numbers of the cluster of all tests in the order of the second version's table, with 8 words of payload.
@@ -57,24 +57,24 @@ fn assembled(alloc: Global) -> Result<Params, ParamFault> {
     assemble(alloc, &NUMBERS, &nodes(), &slots())
 }
 
-#[test]
-fn has_the_numbers_of_its_file(rt: HostRuntime) -> Result<(), Fail> {
-    let params = assembled(rt.alloc())?;
-    let read = params_of(rt.alloc(), &[WORDS], LINES)?;
+// Its numbers, and the first nodes and slots.
+fn told(alloc: Global, params: &Params) -> Result<String, AllocError> {
+    let mut text = String::new(alloc);
     for name in NAMES {
-        assert_eq!(rt; params.value(name), read.value(name), "{name:?}");
+        text.push_str(&format!(in alloc; "{} ", params.value(name))?)?;
     }
-    Ok(())
+    for place in 0..3 {
+        let (node, slot) = (params.nodes.get(place), params.slots.get(place));
+        text.push_str(&format!(in alloc; "{node:?} {slot:?} ")?)?;
+    }
+    Ok(text)
 }
 
 #[test]
-fn has_the_nodes_and_slots_of_its_file(rt: HostRuntime) -> Result<(), Fail> {
-    let params = assembled(rt.alloc())?;
+fn is_as_its_file(rt: HostRuntime) -> Result<(), Fail> {
+    let made = assembled(rt.alloc())?;
     let read = params_of(rt.alloc(), &[WORDS], LINES)?;
-    for place in 0..3 {
-        assert_eq!(rt; params.nodes.get(place), read.nodes.get(place));
-        assert_eq!(rt; params.slots.get(place), read.slots.get(place));
-    }
     assert_eq!(rt; (read.nodes.len(), read.slots.len()), (2, 1));
+    assert_eq!(rt; told(rt.alloc(), &made)?, told(rt.alloc(), &read)?);
     Ok(())
 }

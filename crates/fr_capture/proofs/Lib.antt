@@ -3,3 +3,5 @@ pub mod Beginning
 pub mod Filling
 pub mod Walking
 pub mod Rows
+pub mod Decided
+pub mod Going

@@ -14,7 +14,7 @@ use Rattle.fr_frame.proofs.Fronts.{front_read}
 use Rattle.fr_capture.specs.declared.fault.CaptureFault.{CaptureFault}
 use Rattle.fr_capture.specs.Frames.{AreFrom, AreFrames}
 use Rattle.fr_capture.specs.Rest.{fault_in, has_right_header, size_of, whole_fault}
-use Rattle.fr_capture.specs.Walk.{Walk, frames_in, found_or, walked}
+use Rattle.fr_capture.specs.Walk.{FramesSoFar, frames_in, found_or, after_frames}
 use Rattle.fr_capture.proofs.Beginning.{fault_of_few, fault_of_wrong, fault_of_cut, fault_of_read, no_fault}
 use Rattle.fr_capture.proofs.Filling.{nothing_begins}
 use Rattle.fr_capture.proofs.Standing.{NoneBegins, frames_are}
@@ -62,7 +62,7 @@ begins channel bytes small none = elim (cases_Bool (nat_lt (length bytes) 5)) [
         (whole, subst (λ (p : List ℕ). IsFrame channel (header_of bytes) p front) (same_payload bytes) (subst (λ (h : Header). IsFrame channel h (payload_in h front) front) (sym head) frame))
 
 -- the frame that begins the bytes, and frames that stand behind it
-stands_by : (channel : Channel) (place : ℕ) (bytes : List ℕ) (next : List ℕ → Walk) → All (λ b. b < 2 ^ 8) bytes → (o : Option CaptureFault) → fault_in channel bytes ≡ o →
+stands_by : (channel : Channel) (place : ℕ) (bytes : List ℕ) (next : List ℕ → FramesSoFar) → All (λ b. b < 2 ^ 8) bytes → (o : Option CaptureFault) → fault_in channel bytes ≡ o →
     ((behind : List ℕ) → All (λ b. b < 2 ^ 8) behind → AreFrom channel (place + size_of bytes) (next behind).frames behind (next behind).rest) →
     AreFrom channel place (found_or o place bytes next).frames bytes (found_or o place bytes next).rest
 stands_by channel place bytes next small (Some why) is rest = refl
@@ -82,27 +82,27 @@ stands_by channel place bytes next small None is rest =
     )
 
 -- the frames that are found stand one after the other
-pub walk_stands : (n : ℕ) (channel : Channel) (place : ℕ) (bytes : List ℕ) → All (λ b. b < 2 ^ 8) bytes → AreFrom channel place (walked n channel place bytes).frames bytes (walked n channel place bytes).rest
-unfolding walked
+pub walk_stands : (n : ℕ) (channel : Channel) (place : ℕ) (bytes : List ℕ) → All (λ b. b < 2 ^ 8) bytes → AreFrom channel place (after_frames n channel place bytes).frames bytes (after_frames n channel place bytes).rest
+unfolding after_frames
 walk_stands zero channel place bytes small = refl
 walk_stands (suc n) channel place bytes small =
-    stands_by channel place bytes (λ behind. walked n channel (place + size_of bytes) behind) small (fault_in channel bytes) refl
+    stands_by channel place bytes (λ behind. after_frames n channel (place + size_of bytes) behind) small (fault_in channel bytes) refl
     (λ behind few. walk_stands n channel (place + size_of bytes) behind few)
 
-ends_by : (channel : Channel) (place : ℕ) (bytes : List ℕ) (next : List ℕ → Walk) → (o : Option CaptureFault) → fault_in channel bytes ≡ o →
+ends_by : (channel : Channel) (place : ℕ) (bytes : List ℕ) (next : List ℕ → FramesSoFar) → (o : Option CaptureFault) → fault_in channel bytes ≡ o →
     NoneBegins channel (next (drop (size_of bytes) bytes)).rest → NoneBegins channel (found_or o place bytes next).rest
 ends_by channel place bytes next (Some why) is rest = λ h payload front behind frame cut.
     some_is_none (fault_in channel bytes) is (ap (fault_in channel) cut ∙ no_fault channel h payload front behind frame)
 ends_by channel place bytes next None is rest = rest
 
 -- and no frame stands behind them
-pub walk_ends : (n : ℕ) (channel : Channel) (place : ℕ) (bytes : List ℕ) → length bytes ≤ n → NoneBegins channel (walked n channel place bytes).rest
-unfolding walked
+pub walk_ends : (n : ℕ) (channel : Channel) (place : ℕ) (bytes : List ℕ) → length bytes ≤ n → NoneBegins channel (after_frames n channel place bytes).rest
+unfolding after_frames
 walk_ends zero channel place bytes few = λ h payload front behind is cut. nothing_begins channel h payload front behind is (sym (nil_from_length bytes (omega arith)) ∙ cut)
 walk_ends (suc n) channel place bytes few =
     let size : ℕ = size_of bytes in
     let long : length (drop size bytes) ≡ length bytes - size = length-drop size bytes in
-    ends_by channel place bytes (λ behind. walked n channel (place + size) behind) (fault_in channel bytes) refl
+    ends_by channel place bytes (λ behind. after_frames n channel (place + size) behind) (fault_in channel bytes) refl
     (walk_ends n channel (place + size) (drop size bytes) (omega arith))
 
 -- they are the frames of the bytes

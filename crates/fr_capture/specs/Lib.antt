@@ -3,3 +3,5 @@ pub mod Frames
 pub mod Rest
 pub mod View
 pub mod Walk
+pub mod CaptureAnswer
+pub mod CaptureText

@@ -18,12 +18,12 @@ pub record CaptureView : Type 0 where
   pub whole : Option Checks
 
 -- the bytes behind the last frame, among those that are kept
-abbrev pub rest_behind : List ℕ → Option Checks → List ℕ
-rest_behind kept None = kept
-rest_behind kept (Some checks) = []
+abbrev pub rest_after : List ℕ → Option Checks → List ℕ
+rest_after kept None = kept
+rest_after kept (Some checks) = []
 
-abbrev pub rest_of : CaptureView → List ℕ
-rest_of c = rest_behind c.kept c.whole
+abbrev pub unread_bytes : CaptureView → List ℕ
+unread_bytes c = rest_after c.kept c.whole
 
 -- the bytes are the frame of this header, with these CRCs
 abbrev pub IsChecked : Channel → Checks → List ℕ → Type 0
@@ -53,23 +53,23 @@ IsCapture channel kept (Some checks) = IsChecked channel checks kept
 -- a capture stands for bytes: its place is the length of all their frames, and it keeps what is behind them
 pub record StandsFor (c : CaptureView) (bytes : List ℕ) : Type 0 where
   pub frames : List Found
-  pub are : AreFrames c.channel bytes frames (rest_of c)
-  pub placed : c.place + length (rest_of c) ≡ length bytes
+  pub are : AreFrames c.channel bytes frames (unread_bytes c)
+  pub placed : c.place + length (unread_bytes c) ≡ length bytes
 
 -- the bytes behind the last frame and those that were taken are a frame, at this place
 pub record IsCompleted (before after : CaptureView) (taken : List ℕ) (place : ℕ) : Type 0 where
   pub at : place ≡ before.place
-  pub kept : after.kept ≡ rest_of before ++ taken
+  pub kept : after.kept ≡ unread_bytes before ++ taken
   pub there : IsSome after.whole
   pub frame : IfSome after.whole (λ checks. IsChecked after.channel checks after.kept)
   pub next : after.place ≡ place + length after.kept
 
 -- they are none, so that none can be asked for, and the piece was used up or a fault is shown
 pub record IsUnfinished (before after : CaptureView) (piece : List ℕ) (used : ℕ) : Type 0 where
-  pub kept : rest_of after ≡ rest_of before ++ take used piece
+  pub kept : unread_bytes after ≡ unread_bytes before ++ take used piece
   pub place : after.place ≡ before.place
   pub no_frame : after.whole ≡ None
-  pub why : (used ≡ length piece) ⊎ ShowsFault after.channel (rest_of after)
+  pub why : (used ≡ length piece) ⊎ ShowsFault after.channel (unread_bytes after)
 
 -- the bytes are frames and nothing else, so many bytes
 pub record AreWhole (channel : Channel) (bytes : List ℕ) (count : ℕ) : Type 0 where

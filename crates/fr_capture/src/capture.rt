@@ -1,7 +1,7 @@
 ghost use Rattle.std.specs.Prelude.{◌≡◌, ℕ, ◌+◌, ◌<◌, ◌≤◌, ◌^◌, ◌⊎◌, List, [], ◌++◌, Some, None, IsSome, IfSome, length, take};
 ghost use Rattle.fr_frame.specs.Frame.{IsFrameWith};
 ghost use Rattle.fr_capture.specs.Rest.{ShowsFault};
-ghost use Rattle.fr_capture.specs.View.{IsCompleted, IsEndOf, IsUnfinished, StandsFor, rest_behind, rest_of};
+ghost use Rattle.fr_capture.specs.View.{IsCompleted, IsEndOf, IsUnfinished, StandsFor, rest_after, unread_bytes};
 
 use crate::fault::CaptureFault;
 use crate::kept::Kept;
@@ -56,21 +56,21 @@ impl Capture {
     /// Takes bytes until one frame is whole, a fault is shown, or the piece ends. What is left of the piece is to
     /// be fed again. The bytes fed in all are fewer than 2^63.
     pub fn feed(&mut self, piece: &[u8]) -> Fed
-        requires { self.old.place + length (rest_of self.old) + length piece.now < 2 ^ 63 }
+        requires { self.old.place + length (unread_bytes self.old) + length piece.now < 2 ^ 63 }
         // It stands for what it stood for, and the bytes that were used.
         ensures goes_on { (bytes : List ℕ) → StandsFor self.old bytes →
             StandsFor self.new (bytes ++ take result.used piece.now) }
         ensures channel { self.new.channel ≡ self.old.channel }
         // No more bytes are used than there are, and none where a fault was shown before.
         ensures used { (result.used ≤ length piece.now) ×
-            (ShowsFault self.old.channel (rest_of self.old) → result.used ≡ 0) }
+            (ShowsFault self.old.channel (unread_bytes self.old) → result.used ≡ 0) }
         // Where there is a place, a frame was completed there.
         ensures found { IfSome result.at (IsCompleted self.old self.new (take result.used piece.now)) }
         // Else none was, and the piece was used up, or a fault is shown.
         ensures none { result.at ≡ None → IsUnfinished self.old self.new piece.now result.used }
         // A byte is used, unless there is none or a fault was shown before.
         ensures moves { 0 < length piece.now →
-            (1 ≤ result.used) ⊎ ShowsFault self.old.channel (rest_of self.old) }
+            (1 ≤ result.used) ⊎ ShowsFault self.old.channel (unread_bytes self.old) }
     {
         start_anew(&mut self.kept, self.whole);
         let used = fill(&mut self.kept, piece);
@@ -121,7 +121,7 @@ impl Capture {
 
 // Drops the bytes of a frame that is whole.
 fn start_anew(kept: &mut Kept, whole: Option<Checks>)
-    ensures { kept.new ≡ rest_behind kept.old whole }
+    ensures { kept.new ≡ rest_after kept.old whole }
 {
     if whole.is_some() {
         kept.clear();

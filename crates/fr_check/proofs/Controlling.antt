@@ -8,21 +8,21 @@ use Rattle.fr_base.specs.declared.dev.Dev.{Dev}
 use Rattle.fr_base.specs.declared.node_row.NodeRow.{NodeRow}
 use Rattle.fr_base.specs.declared.state.Outcome.{Outcome}
 use Rattle.fr_cluster.specs.Values.{Values}
-use Rattle.fr_history.specs.History.{History, Record, clock_of, heard_in, row_of}
+use Rattle.fr_history.specs.History.{History, Record, row_of}
 use Rattle.fr_history.specs.Terms.{offset_term_in, outcomes_by, outcomes_in, rate_term_in, status_in}
 use Rattle.fr_history.proofs.Rows.{more_control}
-use Rattle.fr_poc.specs.Control.{Control, Status, control_of, first_status, step_of, stepped}
+use Rattle.fr_poc.specs.Control.{Control, Status, after_double, control_of, first_status, step_of}
 use Rattle.fr_poc.specs.Limits.{limits_of}
 use Rattle.fr_poc.specs.declared.control.PocLimits.{PocLimits}
 use Rattle.fr_time.specs.Cycles.{is_odd}
 use Rattle.fr_trace.specs.Cycles.{history_by}
 use Rattle.fr_trace.specs.declared.trace.TracedCycle.{TracedCycle}
-use Rattle.fr_trace_gap.proofs.Parts.{all_rest, history_length}
-use Rattle.fr_check.specs.Controls.{HasStepped, Hold, Stands, control_at}
+use Rattle.fr_verdict.proofs.Parts.{all_rest, history_length}
+use Rattle.fr_check.specs.Controls.{ControlStands, HasStepped, Hold, control_at}
 use Rattle.fr_check.specs.Corrections.{IsCorrection, correction_at}
 use Rattle.fr_check.specs.declared.corrections.Correction.{Correction}
 
-pub fresh_stands : (p : Values) (limits : PocLimits) (controls : List Control) (node : ℕ) → limits ≡ limits_of p → control_at controls node ≡ record { limits = limits; status = first_status } → Stands p [] controls node
+pub fresh_stands : (p : Values) (limits : PocLimits) (controls : List Control) (node : ℕ) → limits ≡ limits_of p → control_at controls node ≡ record { limits = limits; status = first_status } → ControlStands p [] controls node
 unfolding outcomes_in
 fresh_stands p limits controls node same made = made ∙ ap (λ (l : PocLimits). let control : Control = record { limits = l; status = first_status } in control) same
 
@@ -30,14 +30,14 @@ appended_none : {X : Type 0} (xs : List X) → xs ++ [] ≡ xs
 appended_none [] = refl
 appended_none (x ∷ xs) = ap (λ ys. x ∷ ys) (appended_none xs)
 
-pub stood_still : (p : Values) (h : History) (odds : List Dev) (rows : List NodeRow) (controls : List Control) (node : ℕ) → Stands p h controls node → row_of rows node ≡ None → HasStepped p h odds rows controls node
+pub stood_still : (p : Values) (h : History) (odds : List Dev) (rows : List NodeRow) (controls : List Control) (node : ℕ) → ControlStands p h controls node → row_of rows node ≡ None → HasStepped p h odds rows controls node
 stood_still p h odds rows controls node stands none =
     let same : outcomes_in p h node ++ outcomes_by p h odds (row_of rows node) ≡ outcomes_in p h node =
     ap (λ (o : Option NodeRow). outcomes_in p h node ++ outcomes_by p h odds o) none ∙ appended_none (outcomes_in p h node) in
     stands ∙ sym (ap (λ (outcomes : List (Outcome × Outcome)). let control : Control = record { limits = limits_of p; status = control_of (limits_of p) outcomes } in control) same)
 
 pub has_stepped : (p : Values) (h : History) (odds : List Dev) (rows : List NodeRow) (old new : List Control) (node : ℕ) (row : NodeRow) (offset rate : Outcome)
-    → Stands p h old node → row_of rows node ≡ Some row → control_at new node ≡ stepped (control_at old node) offset rate
+    → ControlStands p h old node → row_of rows node ≡ Some row → control_at new node ≡ after_double (control_at old node) offset rate
     → offset ≡ (offset_term_in p h odds row.node).outcome → rate ≡ (rate_term_in p h odds row).outcome → HasStepped p h odds rows new node
 has_stepped p h odds rows old new node row offset rate stands some moved by_offset by_rate =
     let o : Outcome = (offset_term_in p h odds row.node).outcome in
@@ -45,12 +45,12 @@ has_stepped p h odds rows old new node row offset rate stands some moved by_offs
     let outcomes : outcomes_in p h node ++ outcomes_by p h odds (row_of rows node) ≡ outcomes_in p h node ++ (o, r) ∷ [] =
     ap (λ (found : Option NodeRow). outcomes_in p h node ++ outcomes_by p h odds found) some in
     moved
-    ∙ ap (λ (control : Control). stepped control offset rate) stands
+    ∙ ap (λ (control : Control). after_double control offset rate) stands
     ∙ ap₂ (λ (a b : Outcome). let control : Control = record { limits = limits_of p; status = step_of (limits_of p) (status_in p h node) a b } in control) by_offset by_rate
     ∙ sym (ap (λ (status : Status). let control : Control = record { limits = limits_of p; status = status } in control)
     (ap (control_of (limits_of p)) outcomes ∙ more_control (limits_of p) (outcomes_in p h node) o r))
 
-stands_where_none : (p : Values) (h : History) (odds : List Dev) (rows : List NodeRow) (controls : List Control) (node : ℕ) → HasStepped p h odds rows controls node → row_of rows node ≡ None → Stands p h controls node
+stands_where_none : (p : Values) (h : History) (odds : List Dev) (rows : List NodeRow) (controls : List Control) (node : ℕ) → HasStepped p h odds rows controls node → row_of rows node ≡ None → ControlStands p h controls node
 stands_where_none p h odds rows controls node so none =
     let same : outcomes_in p h node ++ outcomes_by p h odds (row_of rows node) ≡ outcomes_in p h node =
     ap (λ (o : Option NodeRow). outcomes_in p h node ++ outcomes_by p h odds o) none ∙ appended_none (outcomes_in p h node) in
@@ -74,7 +74,7 @@ or_nothing (Some row) = refl
 
 pub one_stepped : (p : Values) (h : History) (odds : List Dev) (rows more : List NodeRow) (row : NodeRow) (corrections : List Correction) (old new : List Control) (node : ℕ)
     → more ≡ rows ++ row ∷ [] → All (λ earlier. earlier.node < row.node) rows → IsCorrection p h odds corrections row → HasStepped p h odds rows old node
-    → control_at new row.node ≡ stepped (control_at old row.node) (correction_at corrections row.node).offset.outcome (correction_at corrections row.node).rate.outcome
+    → control_at new row.node ≡ after_double (control_at old row.node) (correction_at corrections row.node).offset.outcome (correction_at corrections row.node).rate.outcome
     → ((other : ℕ) → other ≢ row.node → control_at new other ≡ control_at old other)
     → HasStepped p h odds more new node
 one_stepped p h odds rows more row corrections old new node parted below kept before here others = by_node (cases_eq node row.node)
@@ -87,8 +87,8 @@ one_stepped p h odds rows more row corrections old new node parted below kept be
         let own : (row.node == node) ≡ true = grind arith in
         let some : row_of more node ≡ Some row =
         with_one_more rows more row node parted ∙ ap₂ (λ (o : Option NodeRow) (b : Bool). option_or o (if b then Some row else None)) none own in
-        let moved : control_at new node ≡ stepped (control_at old node) offset rate =
-        ap (control_at new) same ∙ here ∙ sym (ap (λ (n : ℕ). stepped (control_at old n) offset rate) same) in
+        let moved : control_at new node ≡ after_double (control_at old node) offset rate =
+        ap (control_at new) same ∙ here ∙ sym (ap (λ (n : ℕ). after_double (control_at old n) offset rate) same) in
         has_stepped p h odds more old new node row offset rate (stands_where_none p h odds rows old node before none) some moved
         (ap (λ (both : Correction). both.offset.outcome) kept) (ap (λ (both : Correction). both.rate.outcome) kept)
     by_node (inr differs) =
@@ -109,15 +109,15 @@ pub hold_even : (p : Values) (h : History) (r : Record) (controls : List Control
 unfolding outcomes_in
 hold_even p h r controls even hold = λ node from to.
     let same : outcomes_in p (r ∷ h) node ≡ outcomes_in p h node =
-    ap (λ (b : Bool). outcomes_in p h node ++ (if b then outcomes_by p h (heard_in r) (clock_of r node) else [])) even ∙ appended_none (outcomes_in p h node) in
+    ap (λ (b : Bool). outcomes_in p h node ++ (if b then outcomes_by p h r.devs (row_of r.rows node) else [])) even ∙ appended_none (outcomes_in p h node) in
     hold node from to ∙ sym (ap (λ (outcomes : List (Outcome × Outcome)). let control : Control = record { limits = limits_of p; status = control_of (limits_of p) outcomes } in control) same)
 
 pub hold_odd : (p : Values) (h : History) (r : Record) (controls : List Control) → is_odd (length h) ≡ true
     → ((node : ℕ) → 1 ≤ node → node ≤ 64 → HasStepped p h r.devs r.rows controls node) → Hold p (r ∷ h) controls
 unfolding outcomes_in
 hold_odd p h r controls odd hold = λ node from to.
-    let same : outcomes_in p (r ∷ h) node ≡ outcomes_in p h node ++ outcomes_by p h (heard_in r) (clock_of r node) =
-    ap (λ (b : Bool). outcomes_in p h node ++ (if b then outcomes_by p h (heard_in r) (clock_of r node) else [])) odd in
+    let same : outcomes_in p (r ∷ h) node ≡ outcomes_in p h node ++ outcomes_by p h r.devs (row_of r.rows node) =
+    ap (λ (b : Bool). outcomes_in p h node ++ (if b then outcomes_by p h r.devs (row_of r.rows node) else [])) odd in
     hold node from to ∙ sym (ap (λ (outcomes : List (Outcome × Outcome)). let control : Control = record { limits = limits_of p; status = control_of (limits_of p) outcomes } in control) same)
 
 -- ---- controls that begin

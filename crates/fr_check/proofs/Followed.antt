@@ -6,7 +6,7 @@ use Rattle.std.proofs.lemmas.Bool.{and_parts, cases_lt}
 use Rattle.std.proofs.lemmas.List.Sums.{fold-append}
 use Rattle.fr_cluster.specs.Values.{Values}
 use Rattle.fr_time.specs.Cycles.{even_cycle, odd_cycle}
-use Rattle.fr_history.specs.Gauged.{FollowedRecord, first_free_sync_of, followed_at, is_free_sync_at, is_free_sync_by, records_of}
+use Rattle.fr_history.specs.Gauged.{FollowedRecord, first_free_sync_of, followed_at, is_free_sync_at, is_free_sync_by, told_only}
 use Rattle.fr_history.specs.History.{History, Record, record_at}
 use Rattle.fr_history.specs.Sync.{is_sync_at, is_sync_by}
 use Rattle.fr_history.proofs.Gauged.{find-same}
@@ -15,14 +15,14 @@ use Rattle.fr_bound.specs.Sync.{is_in_sync}
 use Rattle.fr_trace.specs.Cycles.{and_then, history_by}
 use Rattle.fr_trace.specs.Trace.{TraceView}
 use Rattle.fr_trace.specs.declared.trace.TracedCycle.{TracedCycle}
-use Rattle.fr_trace_gap.proofs.Records.{record_stays}
+use Rattle.fr_verdict.proofs.Records.{record_stays}
 use Rattle.fr_verdict.specs.Sync.{IsFirstSynced, IsSyncedAt, first_synced_of, is_early, is_synced_at, may_follow}
 use Rattle.fr_verdict.proofs.Syncing.{behind_early, by_synced, early_not, first_synced_is, never_synced, synced_by}
 use Rattle.fr_check.specs.Followed.{Foretells, followed_by}
 
 -- ---- the records of a part
 
-pub records_followed : (t : TraceView) (h : History) → records_of (followed_by t h) ≡ h
+pub records_followed : (t : TraceView) (h : History) → told_only (followed_by t h) ≡ h
 unfolding followed_by
 records_followed t [] = refl
 records_followed t (r ∷ h) = ap (λ (g : History). r ∷ g) (records_followed t h)

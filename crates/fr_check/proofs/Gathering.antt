@@ -18,15 +18,15 @@ use Rattle.fr_trace.specs.declared.trace.TracedCycle.{TracedCycle}
 use Rattle.fr_check.specs.Controls.{Hold}
 use Rattle.fr_check.specs.Corrections.{AreLatest}
 use Rattle.fr_check.specs.declared.corrections.Correction.{Correction}
-use Rattle.fr_trace_gap.specs.Sound.{IsSound}
+use Rattle.fr_verdict.specs.Sound.{IsSound}
 use Rattle.fr_verdict.specs.Search.{first_breach_of, first_from}
 use Rattle.fr_verdict.specs.declared.unlawful.Unlawful.{Unlawful}
-use Rattle.fr_trace_gap.proofs.Parts.{history_length}
+use Rattle.fr_verdict.proofs.Parts.{history_length}
 use Rattle.fr_verdict.specs.Sync.{may_follow}
 use Rattle.fr_check.specs.Followed.{Foretells, followed_by}
 use Rattle.fr_check.proofs.Followed.{followed_length, foretold, same_records}
 use Rattle.fr_check.proofs.Sounded.{placed_all}
-use Rattle.fr_trace_gap.proofs.Parts.{history_more, take_one_more}
+use Rattle.fr_verdict.proofs.Parts.{history_more, take_one_more}
 use Rattle.fr_check.proofs.Walking.{cycle_found, cycle_passed, first_parts}
 
 -- the records of a history are passed from one record number to another, without a breach

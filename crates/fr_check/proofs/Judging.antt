@@ -12,7 +12,7 @@ use Rattle.fr_history.proofs.Greatest.{greatest_is_found}
 use Rattle.fr_trace.specs.Fits.{TraceFits}
 use Rattle.fr_trace.specs.Lasting.{IsTrace}
 use Rattle.fr_trace.specs.Trace.{TraceView}
-use Rattle.fr_verdict.specs.Answer.{IsAnswer, IsSyncedFrom, IsVerdict}
+use Rattle.fr_verdict.specs.Answer.{IsJudgement, IsSyncedFrom, IsVerdict}
 use Rattle.fr_verdict.specs.FirstGap.{first_gap_of}
 use Rattle.fr_verdict.specs.Precision.{KeepsItsPrecision}
 use Rattle.fr_verdict.specs.Search.{first_breach_of}
@@ -27,11 +27,11 @@ use Rattle.fr_check.specs.Followed.{followed_by}
 use Rattle.fr_check.proofs.Followed.{followed_length, records_followed, synced_whole}
 
 -- the first breach is the answer
-pub breach_told : (p : Values) (t : TraceView) (u : Unlawful) → first_breach_of p t ≡ Some u → IsAnswer p t (Err u)
+pub breach_told : (p : Values) (t : TraceView) (u : Unlawful) → first_breach_of p t ≡ Some u → IsJudgement p t (Err u)
 breach_told p t u found = inl (found_breach_is_first p t u found)
 
 -- and so is the first gap where there is none
-pub gap_told : (p : Values) (t : TraceView) (g : Gap) → IsSane p → first_breach_of p t ≡ None → first_gap_of p t ≡ Some g → IsAnswer p t (Err (unlawful.Uncovered g))
+pub gap_told : (p : Values) (t : TraceView) (g : Gap) → IsSane p → first_breach_of p t ≡ None → first_gap_of p t ≡ Some g → IsJudgement p t (Err (unlawful.Uncovered g))
 gap_told p t g sane none found = inr (found_uncovered p t g sane none found)
 
 -- a trace has cycles

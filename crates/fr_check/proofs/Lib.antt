@@ -8,3 +8,4 @@ mod Gathering
 mod Judging
 mod Kept
 mod Quotients
+pub mod Decided

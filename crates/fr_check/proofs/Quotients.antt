@@ -4,7 +4,7 @@ use lib.Signed.{le_z}
 use Rattle.std.specs.Prelude.{◌+ℤ◌, ◌-ℤ◌, ◌*ℤ◌, ◌≤ℤ◌, ◌<ℤ◌, int_lt}
 use Rattle.std.proofs.lemmas.Int.{ints, by_lt_z}
 use Rattle.fr_midpoint.proofs.Products.{addz-mulz, mulz-lez}
-use Rattle.fr_precision.proofs.Lines.{Rest, rest_of}
+use Rattle.fr_time.proofs.Lines.{Rest, rest_of}
 use Rattle.fr_time.proofs.Ends.{int_lt_false, int_lt_true}
 use Rattle.fr_time.specs.Position.{floor_of}
 

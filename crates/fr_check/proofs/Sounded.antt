@@ -13,7 +13,7 @@ use Rattle.fr_cluster.specs.Values.{Values, amount}
 use Rattle.fr_cluster.specs.declared.names.ParamName.TheVariants as name
 use Rattle.fr_cluster.specs.declared.nodes.NodeSpec.{NodeSpec}
 use Rattle.fr_cluster.proofs.KeyNodes.{AllPairs-rest, key_among}
-use Rattle.fr_round.proofs.Keys.{key_node_has, key_slot_within}
+use Rattle.fr_precision.proofs.Keys.{key_node_has, key_slot_within}
 use Rattle.fr_history.specs.History.{History, Record}
 use Rattle.fr_time.specs.Instant.{KeepsLimits}
 use Rattle.fr_time.specs.Placed.{IsPlacedRow}
@@ -24,10 +24,10 @@ use Rattle.fr_trace.specs.Fits.{FitsRecord, HistoryFits, IsAboutOther, TraceFits
 use Rattle.fr_trace.specs.Lasting.{IsTrace, IsTracedRecord}
 use Rattle.fr_trace.specs.Trace.{TraceView, has_row_in}
 use Rattle.fr_trace.specs.declared.trace.TracedCycle.{TracedCycle}
-use Rattle.fr_trace_gap.specs.Sound.{AreSound, IsSound}
-use Rattle.fr_trace_gap.proofs.Parts.{history_length}
-use Rattle.fr_trace_gap.proofs.Parts.{all_cons, all_rest, take_one_more}
-use Rattle.fr_trace_gap.proofs.Records.{kept_each}
+use Rattle.fr_verdict.specs.Sound.{AreSound, IsSound}
+use Rattle.fr_verdict.proofs.Parts.{history_length}
+use Rattle.fr_verdict.proofs.Parts.{all_cons, all_rest, take_one_more}
+use Rattle.fr_verdict.proofs.Records.{kept_each}
 
 -- ---- how many deviations a record has
 

@@ -16,9 +16,9 @@ use Rattle.fr_trace.specs.Items.Item.{Clock, Heard}
 use Rattle.fr_trace.specs.Trace.{TraceView}
 use Rattle.fr_trace.specs.declared.trace.TracedCycle.{TracedCycle}
 use Rattle.fr_verdict.specs.Search.{breach_at, first_from}
-use Rattle.fr_trace_gap.specs.Sound.{IsSoundDev}
+use Rattle.fr_verdict.specs.Sound.{IsSoundDev}
 use Rattle.fr_check.specs.Allowed.{allowed_by}
-use Rattle.fr_check.specs.Walked.{heard_by}
+use Rattle.fr_check.specs.Walked.{devs_told_of}
 use Rattle.fr_check.specs.declared.deviations.Allowed.{Allowed}
 use Rattle.fr_verdict.specs.declared.unlawful.Unlawful.{Unlawful}
 use Rattle.fr_verdict.proofs.Passing.{passes_in_parts}
@@ -125,7 +125,7 @@ unfolding first_from
 no_item p t n = refl
 
 -- one row, and the deviations of its node
-pub row_items : (h : History) (r : Record) (row : NodeRow) → items_by h r (row ∷ []) ≡ Clock h r row ∷ heard_by h r row.node r.devs
+pub row_items : (h : History) (r : Record) (row : NodeRow) → items_by h r (row ∷ []) ≡ Clock h r row ∷ devs_told_of h r row.node r.devs
 unfolding items_by
 row_items h r row = ap (λ (rest : List Item). Clock h r row ∷ rest) (appended (map (Heard h r) (filter (λ dev. dev.receiver == row.node) r.devs)))
   where
@@ -135,20 +135,20 @@ row_items h r row = ap (λ (rest : List Item). Clock h r row ∷ rest) (appended
 
 pub row_found : (p : Values) (t : TraceView) (n : ℕ) (h : History) (r : Record) (row : NodeRow) (u : Unlawful) → breach_at p t n (Clock h r row) ≡ Some u → first_from p t n (items_by h r (row ∷ [])) ≡ Some u
 unfolding first_from
-row_found p t n h r row u e = ap (first_from p t n) (row_items h r row) ∙ ap (λ (a : Option Unlawful). option_or a (first_from p t (suc n) (heard_by h r row.node r.devs))) e
+row_found p t n h r row u e = ap (first_from p t n) (row_items h r row) ∙ ap (λ (a : Option Unlawful). option_or a (first_from p t (suc n) (devs_told_of h r row.node r.devs))) e
 
-pub row_passed : (p : Values) (t : TraceView) (n : ℕ) (h : History) (r : Record) (row : NodeRow) (o : Option Unlawful) → breach_at p t n (Clock h r row) ≡ None → first_from p t (n + 1) (heard_by h r row.node r.devs) ≡ o
+pub row_passed : (p : Values) (t : TraceView) (n : ℕ) (h : History) (r : Record) (row : NodeRow) (o : Option Unlawful) → breach_at p t n (Clock h r row) ≡ None → first_from p t (n + 1) (devs_told_of h r row.node r.devs) ≡ o
     → first_from p t n (items_by h r (row ∷ [])) ≡ o
 unfolding first_from
 row_passed p t n h r row o none e =
     let count : suc n ≡ n + 1 = omega arith in
     ap (first_from p t n) (row_items h r row)
-    ∙ ap (λ (a : Option Unlawful). option_or a (first_from p t (suc n) (heard_by h r row.node r.devs))) none
-    ∙ ap (λ (m : ℕ). first_from p t m (heard_by h r row.node r.devs)) count ∙ e
+    ∙ ap (λ (a : Option Unlawful). option_or a (first_from p t (suc n) (devs_told_of h r row.node r.devs))) none
+    ∙ ap (λ (m : ℕ). first_from p t m (devs_told_of h r row.node r.devs)) count ∙ e
 
-pub row_count : (n after : ℕ) (h : History) (r : Record) (row : NodeRow) → after ≡ (n + 1) + length (heard_by h r row.node r.devs) → after ≡ n + length (items_by h r (row ∷ []))
+pub row_count : (n after : ℕ) (h : History) (r : Record) (row : NodeRow) → after ≡ (n + 1) + length (devs_told_of h r row.node r.devs) → after ≡ n + length (items_by h r (row ∷ []))
 row_count n after h r row e =
-    let longer : length (items_by h r (row ∷ [])) ≡ suc (length (heard_by h r row.node r.devs)) = ap (λ (ys : List Item). length ys) (row_items h r row) in
+    let longer : length (items_by h r (row ∷ [])) ≡ suc (length (devs_told_of h r row.node r.devs)) = ap (λ (ys : List Item). length ys) (row_items h r row) in
     omega arith
 
 -- ---- cycles

@@ -19,8 +19,8 @@ use Rattle.fr_check.specs.declared.deviations.Allowed.{Allowed}
 use Rattle.fr_check.specs.declared.deviations.Limits.{Limits}
 
 -- their limits in ticks, where both the sender and the receiver have a row
-abbrev pub limits_of : Values → Bool → ℕ → NodeRow → NodeRow → Limits
-limits_of p odd slot sender receiver = record {
+abbrev pub dev_limits_of : Values → Bool → ℕ → NodeRow → NodeRow → Limits
+dev_limits_of p odd slot sender receiver = record {
   least = gap_of p odd (pos (action_point_of p slot)) sender receiver -ℤ pos (arrival_error p);
   most = gap_of p odd (pos (action_point_of p slot)) sender receiver +ℤ pos (arrival_error p);
   length = receiver.length;
@@ -35,7 +35,7 @@ pub record AreTicks (limits : Limits) : Type 0 where
 abbrev pub limits_by : Values → Bool → ℕ → Option NodeRow → Option NodeRow → Option Limits
 limits_by p odd slot None receiver = None
 limits_by p odd slot (Some sender) None = None
-limits_by p odd slot (Some sender) (Some receiver) = Some (limits_of p odd slot sender receiver)
+limits_by p odd slot (Some sender) (Some receiver) = Some (dev_limits_of p odd slot sender receiver)
 
 -- of a sender that is away no state is told
 abbrev pub silent_by : Bool → Option NodeRow → Option NodeRow → Option State
@@ -51,8 +51,8 @@ allowed_by p t odd r receiver slot = record {
 }
 
 -- what is kept is that of no slot, or right for its own
-abbrev pub IsRight : Values → TraceView → Bool → Record → Option NodeRow → Allowed → Type 0
-IsRight p t odd r receiver kept = (kept.slot ≢ 0) → kept ≡ allowed_by p t odd r receiver kept.slot
+abbrev pub IsAllowedFor : Values → TraceView → Bool → Record → Option NodeRow → Allowed → Type 0
+IsAllowedFor p t odd r receiver kept = (kept.slot ≢ 0) → kept ≡ allowed_by p t odd r receiver kept.slot
 
 -- the breach of a deviation outside of limits
 abbrev pub outside_of : ℕ → Dev → Option Limits → Option Unlawful

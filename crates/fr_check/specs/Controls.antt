@@ -14,8 +14,8 @@ control_at controls node =
     slice_index_or controls node (record { limits = record { passive = 1; fatal = 1; halt_allowed = false; to_active = 0 }; status = first_status })
 
 -- a node stands as it does after a history
-abbrev pub Stands : Values → History → List Control → ℕ → Type 0
-Stands p h controls node = control_at controls node ≡ record { limits = limits_of p; status = status_in p h node }
+abbrev pub ControlStands : Values → History → List Control → ℕ → Type 0
+ControlStands p h controls node = control_at controls node ≡ record { limits = limits_of p; status = status_in p h node }
 
 -- and as it does after a history and the double cycle that an odd cycle with these deviations and rows ends
 abbrev pub HasStepped : Values → History → List Dev → List NodeRow → List Control → ℕ → Type 0
@@ -25,4 +25,4 @@ HasStepped p h odds rows controls node =
 
 -- all nodes do
 abbrev pub Hold : Values → History → List Control → Type 0
-Hold p h controls = (node : ℕ) → 1 ≤ node → node ≤ 64 → Stands p h controls node
+Hold p h controls = (node : ℕ) → 1 ≤ node → node ≤ 64 → ControlStands p h controls node

@@ -22,8 +22,8 @@ abbrev pub IsCorrection : Values → History → List Dev → List Correction �
 IsCorrection p h odds corrections row = correction_at corrections row.node ≡ correction_of p h odds row
 
 -- they are, where a record is that of an odd cycle
-abbrev pub IsKept : Values → History → Record → List Correction → NodeRow → Type 0
-IsKept p h r corrections row = is_odd (length h) ≡ true → IsCorrection p h r.devs corrections row
+abbrev pub IsNoted : Values → History → Record → List Correction → NodeRow → Type 0
+IsNoted p h r corrections row = is_odd (length h) ≡ true → IsCorrection p h r.devs corrections row
 
 -- where a record is that of an odd cycle, those of all its rows are kept
 abbrev pub AreCorrections : Values → History → Record → List Correction → Type 0

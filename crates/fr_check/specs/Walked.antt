@@ -4,5 +4,5 @@ use Rattle.fr_base.specs.declared.dev.Dev.{Dev}
 use Rattle.fr_history.specs.History.{History, Record}
 use Rattle.fr_trace.specs.Items.{Item}
 
-abbrev pub heard_by : History → Record → ℕ → List Dev → List Item
-heard_by h r node devs = map (Item.Heard h r) (filter (λ dev. dev.receiver == node) devs)
+abbrev pub devs_told_of : History → Record → ℕ → List Dev → List Item
+devs_told_of h r node devs = map (Item.Heard h r) (filter (λ dev. dev.receiver == node) devs)

@@ -6,7 +6,7 @@ ghost use Rattle.fr_trace.specs.Cycles.{history_by};
 ghost use Rattle.fr_verdict.specs.Breach.{is_first_row};
 ghost use Rattle.fr_verdict.specs.Search.{apart_row, whenever};
 ghost use Rattle.fr_verdict.specs.Sync.{may_follow};
-ghost use Rattle.fr_trace_gap.specs.Sound.{AreTimed};
+ghost use Rattle.fr_verdict.specs.Sound.{AreTimed};
 ghost use Rattle.fr_check.specs.Followed.{Foretells};
 
 use crate::past::{any_row, last_cycle};
@@ -14,8 +14,7 @@ use fr_base::NodeRow;
 use fr_cluster::Params;
 use fr_skew::{in_sync_within, sync_bounds};
 use fr_trace::{Trace, TracedCycle};
-use fr_trace_gap::timed_cycles;
-use fr_verdict::Unlawful;
+use fr_verdict::{Unlawful, timed_cycles};
 
 // The breach of a double cycle in which a node or a deviation is apart.
 pub(crate) fn apart(number: u64, double: u32, is: bool) -> Option<Unlawful>

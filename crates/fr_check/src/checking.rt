@@ -6,10 +6,10 @@ ghost use Rattle.fr_trace.specs.Cycles.{history_by, kept_of};
 ghost use Rattle.fr_trace.specs.Fits.{TraceFits};
 ghost use Rattle.fr_trace.specs.Items.{first_number};
 ghost use Rattle.fr_trace.specs.Lasting.{IsTrace};
-ghost use Rattle.fr_verdict.specs.Answer.{IsAnswer};
+ghost use Rattle.fr_verdict.specs.Answer.{IsJudgement};
 ghost use Rattle.fr_verdict.specs.Precision.{KeepsItsPrecision};
 ghost use Rattle.fr_verdict.specs.Search.{first_breach_of};
-ghost use Rattle.fr_trace_gap.specs.Sound.{AreSound, IsSound};
+ghost use Rattle.fr_verdict.specs.Sound.{AreSound, IsSound};
 ghost use Rattle.fr_check.specs.Followed.{followed_by};
 
 use crate::apart::{double_behind, may_follow};
@@ -21,8 +21,7 @@ use fr_cluster::Params;
 use fr_skew::Gauge;
 use fr_time::grid_of;
 use fr_trace::{Trace, TracedCycle};
-use fr_trace_gap::first_gap;
-use fr_verdict::{Unlawful, Verdict};
+use fr_verdict::{Unlawful, Verdict, first_gap};
 
 /// Whether a trace of a cluster is that of a lawful run that the precision theorem covers.
 ///
@@ -33,7 +32,7 @@ use fr_verdict::{Unlawful, Verdict};
 /// takes no memory.
 pub fn check(params: &Params, trace: &Trace) -> Result<Verdict, Unlawful>
     requires fits { TraceFits params.now trace.now }
-    ensures answer { IsAnswer params.now trace.now result }
+    ensures answer { IsJudgement params.now trace.now result }
     ensures precise { IfOk result (λ verdict. KeepsItsPrecision params.now trace.now verdict) }
 {
     match gauged(params, trace) {
@@ -47,7 +46,7 @@ fn judged(params: &Params, trace: &Trace, gauge: &Gauge) -> Result<Verdict, Unla
     requires fits { TraceFits params.now trace.now }
     requires none { first_breach_of params.now trace.now ≡ None }
     requires holds { GaugeHolds params.now gauge.now (followed_by trace.now trace.now.history) }
-    ensures answer { IsAnswer params.now trace.now result }
+    ensures answer { IsJudgement params.now trace.now result }
     ensures precise { IfOk result (λ verdict. KeepsItsPrecision params.now trace.now verdict) }
 {
     standing(params, trace);
@@ -70,7 +69,8 @@ fn standing(params: &Params, trace: &Trace)
 fn verdict(gauge: &Gauge) -> Verdict
     requires { 0 < gauge.now.added }
     ensures synced { result.synced ≡ gauge.now.synced }
-    ensures peak { gauge.now.greatest ≡ Some (record { skew = result.skew; cycle = result.cycle; macrotick = nat_abs result.macrotick }) }
+    ensures peak { gauge.now.greatest ≡
+        Some (record { skew = result.skew; cycle = result.cycle; macrotick = nat_abs result.macrotick }) }
     ensures macrotick { result.macrotick ≡ pos (nat_abs result.macrotick) }
 {
     match gauge.greatest() {

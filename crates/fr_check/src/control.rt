@@ -5,10 +5,10 @@ ghost use Rattle.fr_cluster.specs.Sane.{IsSane};
 ghost use Rattle.fr_cluster.specs.Values.{Values};
 ghost use Rattle.fr_history.specs.History.{History};
 ghost use Rattle.fr_history.specs.Terms.{status_in};
-ghost use Rattle.fr_poc.specs.Control.{first_status, stepped, ArePocLimits};
+ghost use Rattle.fr_poc.specs.Control.{first_status, after_double, ArePocLimits};
 ghost use Rattle.fr_poc.specs.Limits.{limits_of};
 ghost use Rattle.fr_trace.specs.Cycles.{history_by, kept_of};
-ghost use Rattle.fr_check.specs.Controls.{control_at, HasStepped, Hold, Stands};
+ghost use Rattle.fr_check.specs.Controls.{control_at, HasStepped, Hold, ControlStands};
 ghost use Rattle.fr_check.specs.Corrections.{AreCorrections, IsCorrection, correction_at};
 
 use crate::corrections::Corrections;
@@ -85,7 +85,8 @@ impl Controls {
 
     // The state of a node for the next double cycle.
     pub(crate) fn state(&self, node: NodeId) -> State
-        ensures value { (p : Values) (h : History) → Stands p h self.now node → result ≡ (status_in p h node).state }
+        ensures value { (p : Values) (h : History) → ControlStands p h self.now node →
+            result ≡ (status_in p h node).state }
         ensures from { 1 ≤ node }
         ensures to { node ≤ 64 }
     {
@@ -94,7 +95,7 @@ impl Controls {
 
     // Takes a step of a node.
     fn step(&mut self, node: NodeId, offset: Outcome, rate: Outcome)
-        ensures here { control_at self.new node ≡ stepped (control_at self.old node) offset rate }
+        ensures here { control_at self.new node ≡ after_double (control_at self.old node) offset rate }
         ensures others { (other : ℕ) → other ≢ node → control_at self.new other ≡ control_at self.old other }
     {
         self.by_node[usize::from(node.0)].step(offset, rate);
@@ -102,8 +103,9 @@ impl Controls {
 
     // Takes the step of the node of a row at the end of an odd cycle.
     fn end_of(&mut self, corrections: &Corrections, row: &NodeRow)
-        ensures here { control_at self.new row.now.node ≡ stepped (control_at self.old row.now.node)
-            (correction_at corrections.now row.now.node).offset.outcome (correction_at corrections.now row.now.node).rate.outcome }
+        ensures here { control_at self.new row.now.node ≡ after_double (control_at self.old row.now.node)
+            (correction_at corrections.now row.now.node).offset.outcome
+            (correction_at corrections.now row.now.node).rate.outcome }
         ensures others { (other : ℕ) → other ≢ row.now.node → control_at self.new other ≡ control_at self.old other }
     {
         let correction = corrections.of(row.node);

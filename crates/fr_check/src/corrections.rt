@@ -1,7 +1,7 @@
 ghost use Rattle.std.specs.Prelude.{◌≡◌, ◌≢◌, All, ℕ};
 ghost use Rattle.fr_base.specs.Within.{IsWithin};
 ghost use Rattle.fr_trace.specs.Cycles.{history_by, kept_of};
-ghost use Rattle.fr_trace_gap.specs.Sound.{AreSound, IsSound};
+ghost use Rattle.fr_verdict.specs.Sound.{AreSound, IsSound};
 ghost use Rattle.fr_check.specs.Corrections.{AreCorrections, AreLatest, IsCorrection, correction_at, correction_of};
 
 use crate::past::latest_devs;
@@ -74,7 +74,8 @@ impl Corrections {
     fn compute(&mut self, params: &Params, behind: &[TracedCycle], cycle: &TracedCycle)
         requires behind { AreSound params.now behind.now }
         requires cycle { IsSound params.now (kept_of cycle.now) }
-        ensures { All (IsCorrection params.now (history_by behind.now) cycle.now.devs.items self.new) cycle.now.rows.items }
+        ensures { All
+            (IsCorrection params.now (history_by behind.now) cycle.now.devs.items self.new) cycle.now.rows.items }
     {
         for row in &cycle.rows {
             self.put(row.node, both_terms(params, behind, cycle, row));

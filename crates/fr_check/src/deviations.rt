@@ -16,8 +16,8 @@ ghost use Rattle.fr_trace.specs.Items.{Item};
 ghost use Rattle.fr_trace.specs.Trace.{TraceView};
 ghost use Rattle.fr_verdict.specs.Breach.{halted_state, is_away, sender_is_away, sender_row, silent_state};
 ghost use Rattle.fr_verdict.specs.Search.{breach_at};
-ghost use Rattle.fr_trace_gap.specs.Sound.{IsSound};
-ghost use Rattle.fr_check.specs.Allowed.{allowed_by, limits_by, limits_of, outside_of, silent_by, AreTicks, IsRight};
+ghost use Rattle.fr_verdict.specs.Sound.{IsSound};
+ghost use Rattle.fr_check.specs.Allowed.{allowed_by, limits_by, dev_limits_of, outside_of, silent_by, AreTicks, IsAllowedFor};
 
 use crate::apart::apart;
 use crate::first::first_of;
@@ -26,8 +26,7 @@ use fr_base::{Dev, NodeRow, Slot, State};
 use fr_cluster::{NodeSpec, ParamName, Params};
 use fr_time::{action_point, grid_of, instant};
 use fr_trace::{Trace, TracedCycle};
-use fr_trace_gap::is_named;
-use fr_verdict::Unlawful;
+use fr_verdict::{Unlawful, is_named};
 
 // The row of the correct node whose key slot a slot is.
 fn sender_row<'a>(params: &Params, cycle: &'a TracedCycle, slot: Slot) -> Option<&'a NodeRow>
@@ -268,7 +267,7 @@ fn limits_of(params: &Params, odd: bool, slot: Slot, sender: &NodeRow, receiver:
     requires slot { slot ≤ amount params.now name.gNumberOfStaticSlots }
     requires sender { KeepsLimits params.now sender.now }
     requires receiver { KeepsLimits params.now receiver.now }
-    ensures value { result ≡ limits_of params.now odd slot sender.now receiver.now }
+    ensures value { result ≡ dev_limits_of params.now odd slot sender.now receiver.now }
     ensures ticks { AreTicks result }
 {
     let gap = gap(params, odd, slot, sender, receiver);
@@ -314,7 +313,8 @@ fn allowed_in(
     requires cycle { IsSound params.now (kept_of cycle.now) }
     requires keeps { IfSome receiver (λ row. KeepsLimits params.now row.now) }
     requires slot { slot ≤ amount params.now name.gNumberOfStaticSlots }
-    ensures value { result ≡ allowed_by params.now trace.now odd (kept_of cycle.now) (option_copied receiver.entry) slot }
+    ensures value { result ≡
+        allowed_by params.now trace.now odd (kept_of cycle.now) (option_copied receiver.entry) slot }
     ensures ticks { IfSome result.limits AreTicks }
 {
     let sender = sender_row(params, cycle, slot);
@@ -353,10 +353,11 @@ impl Allowed {
     )
         requires cycle { IsSound params.now (kept_of cycle.now) }
         requires keeps { IfSome receiver (λ row. KeepsLimits params.now row.now) }
-        requires kept { IsRight params.now trace.now odd (kept_of cycle.now) (option_copied receiver) self.old }
+        requires kept { IsAllowedFor params.now trace.now odd (kept_of cycle.now) (option_copied receiver) self.old }
         requires ticks { IfSome self.old.limits AreTicks }
         requires slot { slot ≤ amount params.now name.gNumberOfStaticSlots }
-        ensures value { self.new ≡ allowed_by params.now trace.now odd (kept_of cycle.now) (option_copied receiver.entry) slot }
+        ensures value { self.new ≡
+            allowed_by params.now trace.now odd (kept_of cycle.now) (option_copied receiver.entry) slot }
         ensures ticks { IfSome self.new.limits AreTicks }
     {
         if self.slot != slot.0 {

@@ -1,16 +1,24 @@
-//! The check of a recorded trace: the first record that breaks a law, or the first gap, or else from when on its
-//! clocks were in sync and how far they lay apart.
+//! The check of a recorded trace, and `flexray check PARAMS TRACE`: the first record that breaks a law, or the first
+//! gap, or else from when on its clocks were in sync and how far they lay apart.
 #![tactic(auto)]
 
+mod answering;
 mod apart;
 mod checking;
+mod command_laws;
 mod control;
 mod corrections;
 mod deviations;
+mod files;
 mod first;
 mod past;
+mod printing;
 mod rows;
 mod terms;
+mod unlawful_line;
 mod walk;
 
+pub use answering::answer_check;
 pub use checking::check;
+pub use command_laws::files_decide_the_verdict;
+pub use files::CheckFiles;

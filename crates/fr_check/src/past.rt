@@ -5,13 +5,13 @@ ghost use Rattle.fr_history.specs.History.{row_of};
 ghost use Rattle.fr_history.specs.Terms.{latest_devs};
 ghost use Rattle.fr_time.specs.Instant.{KeepsLimits};
 ghost use Rattle.fr_trace.specs.Cycles.{history_by, kept_of};
-ghost use Rattle.fr_trace_gap.specs.Sound.{AreSound, AreSoundDevs, IsSound};
+ghost use Rattle.fr_verdict.specs.Sound.{AreSound, AreSoundDevs, IsSound};
 ghost use Rattle.std.specs.Option.{option_copied};
 
 use fr_base::{Dev, NodeId, NodeRow};
 use fr_cluster::Params;
 use fr_trace::TracedCycle;
-use fr_trace_gap::{devs_of, row_of};
+use fr_verdict::{devs_of, row_of};
 
 // The last of some cycles, and those before it.
 pub(crate) fn last_cycle(cycles: &[TracedCycle]) -> Option<(&TracedCycle, &[TracedCycle])>

@@ -2,16 +2,16 @@ ghost use Rattle.std.specs.Prelude.{◌≡◌, ◌<◌, length, IfSome, Some};
 ghost use Rattle.std.specs.Option.{option_copied};
 ghost use Rattle.fr_cluster.specs.Values.{Values};
 ghost use Rattle.fr_history.specs.History.{Record, row_of};
-ghost use Rattle.fr_history.specs.Lawful.{is_corrected, offset_after, rate_by};
+ghost use Rattle.fr_history.specs.Rows.{is_corrected, offset_after, rate_by};
 ghost use Rattle.fr_time.specs.Instant.{KeepsLimits};
 ghost use Rattle.fr_trace.specs.Cycles.{history_by, kept_of};
 ghost use Rattle.fr_trace.specs.Items.{Item};
-ghost use Rattle.fr_verdict.specs.Breach.{rate_behind, rate_from, start_behind, start_from};
+ghost use Rattle.fr_verdict.specs.Breach.{rate_from, start_from, traced_rate, traced_start};
 ghost use Rattle.fr_check.specs.Controls.{Hold};
-ghost use Rattle.fr_check.specs.Corrections.{AreCorrections, AreLatest, IsKept};
-ghost use Rattle.fr_verdict.specs.Search.{breach_at, is_same, turned, unless, wrong_start};
+ghost use Rattle.fr_check.specs.Corrections.{AreCorrections, AreLatest, IsNoted};
+ghost use Rattle.fr_verdict.specs.Search.{breach_at, is_same_number, turned, unless, wrong_start};
 ghost use Rattle.fr_verdict.specs.declared.unlawful.Unlawful.TheVariants as unlawful;
-ghost use Rattle.fr_trace_gap.specs.Sound.{AreSound};
+ghost use Rattle.fr_verdict.specs.Sound.{AreSound};
 ghost use Rattle.fr_check.specs.Followed.{Foretells};
 
 use crate::apart::apart_row;
@@ -46,7 +46,7 @@ fn start_from(params: &Params, row: &NodeRow, before: Option<&NodeRow>) -> i64
 // The start that a row must have behind some cycles.
 fn start_behind(params: &Params, behind: &[TracedCycle], row: &NodeRow) -> i64
     requires { AreSound params.now behind.now }
-    ensures { result ≡ start_behind params.now (history_by behind.now) row.now }
+    ensures { result ≡ traced_start params.now (history_by behind.now) row.now }
 {
     match last_cycle(behind) {
         None => row.start,
@@ -56,7 +56,7 @@ fn start_behind(params: &Params, behind: &[TracedCycle], row: &NodeRow) -> i64
 
 // The rate that follows a row of the last cycle, by the terms that are kept of it.
 fn rate_after(earlier: &[TracedCycle], before: &NodeRow, corrections: &Corrections) -> i32
-    ensures { (p : Values) (last : Record) → IsKept p (history_by earlier.now) last corrections.now before.now →
+    ensures { (p : Values) (last : Record) → IsNoted p (history_by earlier.now) last corrections.now before.now →
         result ≡ rate_by p (history_by earlier.now) last (Some before.now) }
 {
     if is_corrected(earlier, before) {
@@ -74,7 +74,8 @@ fn rate_from(
     corrections: &Corrections,
 ) -> i32
     ensures { (p : Values) → AreCorrections p (history_by earlier.now) (kept_of last.now) corrections.now →
-        result ≡ rate_from p (history_by earlier.now) (kept_of last.now) row.now (row_of last.now.rows.items row.now.node) }
+        result ≡ rate_from p (history_by earlier.now) (kept_of last.now) row.now
+        (row_of last.now.rows.items row.now.node) }
 {
     match any_row(last, row.node) {
         None => row.rate,
@@ -85,7 +86,7 @@ fn rate_from(
 // The rate that a row must have behind some cycles.
 fn rate_behind(behind: &[TracedCycle], row: &NodeRow, corrections: &Corrections) -> i32
     ensures { (p : Values) → AreLatest p (history_by behind.now) corrections.now →
-        result ≡ rate_behind p (history_by behind.now) row.now }
+        result ≡ traced_rate p (history_by behind.now) row.now }
 {
     match last_cycle(behind) {
         None => row.rate,
@@ -95,7 +96,7 @@ fn rate_behind(behind: &[TracedCycle], row: &NodeRow, corrections: &Corrections)
 
 // The offset that a row of a cycle must have behind some cycles, by the terms that are kept of the cycle.
 fn offset_after(behind: &[TracedCycle], row: &NodeRow, corrections: &Corrections) -> i32
-    ensures { (p : Values) (here : Record) → IsKept p (history_by behind.now) here corrections.now row.now →
+    ensures { (p : Values) (here : Record) → IsNoted p (history_by behind.now) here corrections.now row.now →
         result ≡ offset_after p (history_by behind.now) here row.now }
 {
     if is_corrected(behind, row) {
@@ -127,7 +128,7 @@ fn wrong_start(
 }
 
 fn wrong_rate(number: u64, kept: i32, wanted: i32) -> Option<Unlawful>
-    ensures { result ≡ unless (is_same kept wanted) (unlawful.Rate number kept wanted) }
+    ensures { result ≡ unless (is_same_number kept wanted) (unlawful.Rate number kept wanted) }
 {
     if kept == wanted {
         None
@@ -155,7 +156,7 @@ fn wrong_turn(number: u64, kept: State, wanted: State) -> Option<Unlawful>
 }
 
 fn wrong_offset(number: u64, kept: i32, wanted: i32) -> Option<Unlawful>
-    ensures { result ≡ unless (is_same kept wanted) (unlawful.Offset number kept wanted) }
+    ensures { result ≡ unless (is_same_number kept wanted) (unlawful.Offset number kept wanted) }
 {
     if kept == wanted {
         None
@@ -185,7 +186,7 @@ pub(crate) fn row_breach(
     requires foretells { Foretells params.now trace.now (history_by behind.now) synced }
     requires hold { Hold params.now (history_by behind.now) controls.now }
     requires latest { AreLatest params.now (history_by behind.now) corrections.now }
-    ensures { (here : Record) → IsKept params.now (history_by behind.now) here corrections.now row.now →
+    ensures { (here : Record) → IsNoted params.now (history_by behind.now) here corrections.now row.now →
         result ≡ breach_at params.now trace.now number (Item.Clock (history_by behind.now) here row.now) }
 {
     let start = wrong_start(params, number, behind, row);

@@ -9,14 +9,14 @@ ghost use Rattle.fr_measure.specs.Deviations.{deviations_of, offset_values_of, r
 ghost use Rattle.fr_measure.specs.Readings.{reading};
 ghost use Rattle.fr_measure.specs.Values.{offset_at, rate_at, values_of};
 ghost use Rattle.fr_check.specs.Measured.{look_among, told_by, TakesIn};
-ghost use Rattle.fr_trace_gap.specs.Sound.{AreSoundDevs, IsSoundDev};
+ghost use Rattle.fr_verdict.specs.Sound.{AreSoundDevs, IsSoundDev};
 
 use fr_base::{Dev, NodeId, NodeRow};
 use fr_cluster::{ParamName, Params};
 use fr_correct::{Term, offset_term, rate_term};
 use fr_measure::Table;
 use fr_midpoint::List15;
-use fr_trace_gap::devs_of;
+use fr_verdict::devs_of;
 
 // The place of a node's own key slot among the key slots.
 fn own_key_index(params: &Params, id: NodeId) -> Option<usize>

@@ -2,11 +2,11 @@ ghost use Rattle.std.specs.Prelude.{◌≡◌, ◌≤◌, ◌<◌, ◌+◌, ◌�
 ghost use Rattle.fr_trace.specs.Cycles.{history_by, kept_of};
 ghost use Rattle.fr_trace.specs.Items.{items_by};
 ghost use Rattle.fr_check.specs.Controls.{Hold};
-ghost use Rattle.fr_check.specs.Corrections.{AreCorrections, AreLatest, IsKept};
+ghost use Rattle.fr_check.specs.Corrections.{AreCorrections, AreLatest, IsNoted};
 ghost use Rattle.fr_verdict.specs.Search.{first_from};
-ghost use Rattle.fr_trace_gap.specs.Sound.{AreSound, IsSound};
+ghost use Rattle.fr_verdict.specs.Sound.{AreSound, IsSound};
 ghost use Rattle.fr_check.specs.Followed.{Foretells};
-ghost use Rattle.fr_check.specs.Walked.{heard_by};
+ghost use Rattle.fr_check.specs.Walked.{devs_told_of};
 
 use crate::apart::double_behind;
 use crate::control::Controls;
@@ -32,11 +32,13 @@ fn pass_devs(
     requires few { length behind.now < 200_000 }
     requires cycle { IsSound params.now (kept_of cycle.now) }
     ensures found { IfErr result (λ breach.
-        first_from params.now trace.now number (heard_by (history_by behind.now) (kept_of cycle.now) node cycle.now.devs.items) ≡ Some breach) }
+        first_from params.now trace.now number
+        (devs_told_of (history_by behind.now) (kept_of cycle.now) node cycle.now.devs.items) ≡ Some breach) }
     ensures none { IfOk result (λ next.
-        first_from params.now trace.now number (heard_by (history_by behind.now) (kept_of cycle.now) node cycle.now.devs.items) ≡ None) }
+        first_from params.now trace.now number
+        (devs_told_of (history_by behind.now) (kept_of cycle.now) node cycle.now.devs.items) ≡ None) }
     ensures next { IfOk result (λ next.
-        next ≡ number + length (heard_by (history_by behind.now) (kept_of cycle.now) node cycle.now.devs.items)) }
+        next ≡ number + length (devs_told_of (history_by behind.now) (kept_of cycle.now) node cycle.now.devs.items)) }
     ensures most { IfOk result (λ next. next ≤ number + 140_000) }
 {
     let receiver = sound_row(params, cycle, node);
@@ -74,11 +76,13 @@ fn pass_row(
     requires cycle { IsSound params.now (kept_of cycle.now) }
     requires hold { Hold params.now (history_by behind.now) controls.now }
     requires latest { AreLatest params.now (history_by behind.now) corrections.now }
-    requires kept { IsKept params.now (history_by behind.now) (kept_of cycle.now) corrections.now row.now }
+    requires kept { IsNoted params.now (history_by behind.now) (kept_of cycle.now) corrections.now row.now }
     ensures found { IfErr result (λ breach.
-        first_from params.now trace.now number (items_by (history_by behind.now) (kept_of cycle.now) (row.now ∷ [])) ≡ Some breach) }
+        first_from params.now trace.now number
+        (items_by (history_by behind.now) (kept_of cycle.now) (row.now ∷ [])) ≡ Some breach) }
     ensures none { IfOk result (λ next.
-        first_from params.now trace.now number (items_by (history_by behind.now) (kept_of cycle.now) (row.now ∷ [])) ≡ None) }
+        first_from params.now trace.now number
+        (items_by (history_by behind.now) (kept_of cycle.now) (row.now ∷ [])) ≡ None) }
     ensures next { IfOk result (λ next.
         next ≡ number + length (items_by (history_by behind.now) (kept_of cycle.now) (row.now ∷ []))) }
     ensures most { IfOk result (λ next. next ≤ number + 140_001) }
@@ -122,9 +126,11 @@ pub(crate) fn pass_cycle(
     requires latest { AreLatest params.now (history_by behind.now) corrections.now }
     requires here { AreCorrections params.now (history_by behind.now) (kept_of cycle.now) corrections.now }
     ensures found { IfErr result (λ breach.
-        first_from params.now trace.now number (items_by (history_by behind.now) (kept_of cycle.now) cycle.now.rows.items) ≡ Some breach) }
+        first_from params.now trace.now number
+        (items_by (history_by behind.now) (kept_of cycle.now) cycle.now.rows.items) ≡ Some breach) }
     ensures none { IfOk result (λ next.
-        first_from params.now trace.now number (items_by (history_by behind.now) (kept_of cycle.now) cycle.now.rows.items) ≡ None) }
+        first_from params.now trace.now number
+        (items_by (history_by behind.now) (kept_of cycle.now) cycle.now.rows.items) ≡ None) }
     ensures next { IfOk result (λ next.
         next ≡ number + length (items_by (history_by behind.now) (kept_of cycle.now) cycle.now.rows.items)) }
     ensures most { IfOk result (λ next. next ≤ number + 9_000_000) }

@@ -1,5 +1,5 @@
 -- What the questions to the parameters answer.
-use Rattle.std.specs.Prelude.{ℕ, ◌==◌, ℤ, Bool, false, ◌&&◌, Option, Some, None, find}
+use Rattle.std.specs.Prelude.{ℕ, ◌==◌, ℤ, Bool, false, ◌&&◌, Option, Some, None, is_some, find}
 use Rattle.std.specs.Int.{int_max}
 use Rattle.std.specs.Option.{option_map_or}
 use Rattle.fr_base.specs.declared.channel.Channel.{Channel}
@@ -21,6 +21,10 @@ widest_compensation_of p = int_max (compensation_of p channel.A) (compensation_o
 -- the node of a number, if there is one
 abbrev pub node_of : Values → ℕ → Option NodeSpec
 node_of p id = node_in p.nodes id
+
+-- whether the cluster has a node of this number
+abbrev pub is_known : Values → ℕ → Bool
+is_known p node = is_some (node_of p node)
 
 -- the place of a slot among the key slots in ascending order: how many of them are below it; only if it is one
 abbrev pub key_index_of : Values → ℕ → Option ℕ

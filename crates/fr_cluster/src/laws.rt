@@ -6,7 +6,9 @@ ghost use Rattle.fr_cluster.specs.declared.names.ParamName.TheVariants as name;
 
 /// Under the constraints no difference of natural numbers in their definitions is cut off at 0.
 pub fn no_difference_is_cut()
-    ensures { (p : Values) → IsSane p → (amount p name.pRateCorrectionOut < amount p name.pMicroPerCycle) × (amount p name.gOffsetCorrectionStart < amount p name.gMacroPerCycle) }
+    ensures { (p : Values) → IsSane p →
+        (amount p name.pRateCorrectionOut < amount p name.pMicroPerCycle) ×
+        (amount p name.gOffsetCorrectionStart < amount p name.gMacroPerCycle) }
 {}
 
 /// The fourth constraint is said over natural numbers; where the third holds it is the one that is stated

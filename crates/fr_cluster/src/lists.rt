@@ -11,7 +11,6 @@ use std::marker::Model;
 
 /// The nodes of a cluster, seen as a list. That of a `Params` is in ascending order of id.
 /// What a search by number or by key slot finds is kept beside it, so that an answer reads one place.
-#[derive(Drop)]
 pub struct NodeList {
     nodes: Vec<NodeSpec>,
     by_id: Vec<Option<NodeSpec>>,
@@ -30,6 +29,18 @@ impl Model for NodeList {
     ghost view = { λ a. a.nodes.items };
 
     ghost invariant = { λ a. AreFound a.nodes.items a.by_id.items a.by_key.items a.indices.items };
+}
+
+// One call: a derived drop is opened in each function that drops a value, and proved there.
+impl Drop for NodeList {
+    fn drop(self) {
+        let NodeList {
+            nodes: _,
+            by_id: _,
+            by_key: _,
+            indices: _,
+        } = self;
+    }
 }
 
 impl NodeList {
@@ -88,7 +99,6 @@ impl NodeList {
 
 /// The further slots of a cluster, seen as a list. That of a `Params` is in ascending order of slot.
 /// What a search by number finds is kept beside it, so that an answer reads one place.
-#[derive(Drop)]
 pub struct SlotList {
     slots: Vec<SlotSpec>,
     by_number: Vec<Option<SlotSpec>>,
@@ -107,6 +117,16 @@ impl Model for SlotList {
     ghost view = { λ a. a.slots.items };
 
     ghost invariant = { λ a. a.by_number.items ≡ map (slot_in a.slots.items) (range_with_len 0 1024) };
+}
+
+// One call: a derived drop is opened in each function that drops a value, and proved there.
+impl Drop for SlotList {
+    fn drop(self) {
+        let SlotList {
+            slots: _,
+            by_number: _,
+        } = self;
+    }
 }
 
 impl SlotList {

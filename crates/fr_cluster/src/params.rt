@@ -16,7 +16,6 @@ use std::marker::Model;
 
 /// The parameters of a cluster, as an accepted file has them: each number lies in its range, and the
 /// numbers, nodes and slots meet the eight constraints.
-#[derive(Drop)]
 pub struct Params {
     /// Macroticks per cycle.
     pub macros: i64,
@@ -75,6 +74,36 @@ impl Model for Params {
     ghost view = { values_of_params };
 
     ghost invariant = { λ a. IsSane (values_of_params a) };
+}
+
+// One call: a derived drop is opened in each function that drops a value, and proved there.
+impl Drop for Params {
+    fn drop(self) {
+        let Params {
+            macros: _,
+            micros: _,
+            static_slots: _,
+            slot_macros: _,
+            action_offset: _,
+            idle_macros: _,
+            words: _,
+            correction: _,
+            max_passive: _,
+            max_fatal: _,
+            halt_allowed: _,
+            to_active: _,
+            damping: _,
+            offset_limit: _,
+            rate_limit: _,
+            compensation_a: _,
+            compensation_b: _,
+            rate_bound: _,
+            change_bound: _,
+            delay_error: _,
+            nodes: _,
+            slots: _,
+        } = self;
+    }
 }
 
 impl Params {

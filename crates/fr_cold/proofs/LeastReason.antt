@@ -15,8 +15,9 @@ use Rattle.fr_startup.specs.Cluster.{is_starter}
 use Rattle.fr_startup.specs.declared.state.Switch.{Switch}
 use Rattle.fr_startup.specs.declared.state.Switch.TheVariants as switch
 use Rattle.fr_cold.specs.Rows.{cycles_row, power_file_row, power_row_of, switch_row, switch_with}
-use Rattle.fr_cold.specs.Reasons.{cycles_at, is_known, is_out_of_turn, last_at, power_reason_after, power_row_reason}
-use Rattle.fr_cold.specs.Holding.{cycles_form, is_misplaced, is_said_again, names_stranger, power_form, power_holds, switch_form}
+use Rattle.fr_cold.specs.Reasons.{cycles_at, is_out_of_turn, last_at, power_reason_after, power_row_reason}
+use Rattle.fr_cluster.specs.Questions.{is_known}
+use Rattle.fr_cold.specs.Holding.{are_cycles_said_again, cycles_form, is_switch_misplaced, power_form, power_holds, power_names_stranger, switch_form}
 use Rattle.fr_cold.specs.declared.rows.Row.{Row}
 use Rattle.fr_cold.specs.declared.rows.Row.TheVariants as row
 
@@ -54,8 +55,8 @@ formed r =
 -- by what it says
 least-row : (p : Values) (test : Reason → Bool) (before : List FileRecord) (x : Result Row Reason)
     → IsFormed far far (test reason.Shape) (test reason.UnknownName) (test reason.NotNumber) (test reason.OutOfRange) (test reason.BadChannel) x
-    → test reason.UnknownNode ≡ row_passes (names_stranger p) x → test reason.Role ≡ row_passes (is_misplaced p before) x → test reason.Link ≡ false → test reason.NotHex ≡ false
-    → test reason.Repeated ≡ row_passes (is_said_again before) x → IsLeastReason test (power_row_reason p before x)
+    → test reason.UnknownNode ≡ row_passes (power_names_stranger p) x → test reason.Role ≡ row_passes (is_switch_misplaced p before) x → test reason.Link ≡ false → test reason.NotHex ≡ false
+    → test reason.Repeated ≡ row_passes (are_cycles_said_again before) x → IsLeastReason test (power_row_reason p before x)
 unfolding far
 least-row p test before (Err why) f node role link hex again = least-formed far far test why f node
 least-row p test before (Ok (row.Cycles n)) f node role link hex again =

@@ -8,3 +8,5 @@ pub mod Lines
 pub mod Steps
 pub mod Runs
 pub mod Turns
+pub mod Decided
+pub mod Texts

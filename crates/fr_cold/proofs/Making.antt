@@ -13,7 +13,8 @@ use Rattle.std.specs.FinMap.{FinMap, IsAntisymmetric, entries-from_sorted, find,
 use Rattle.std.specs.FinMap.Entries.{below_all}
 use Rattle.std.proofs.lemmas.Cmp.{nat_cmp_total, on_total, then_total}
 use Rattle.fr_records.specs.Records.{FileRecord}
-use Rattle.fr_cold.specs.Keys.{found_at, power_cmp}
+use Rattle.fr_cold.specs.Keys.{power_cmp}
+use Rattle.fr_records.specs.Keys.{found_at}
 use Rattle.fr_cold.specs.Draft.{IsPowerDraft}
 use Rattle.fr_cold.specs.Files.{PowerStandsFor}
 use Rattle.fr_cold.specs.declared.draft.Draft.{Draft}

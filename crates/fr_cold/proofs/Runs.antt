@@ -4,14 +4,14 @@ use Rattle.std.specs.Prelude.{nat_lt, ◌==◌, ◌||◌, if◌then◌else◌}
 use Rattle.std.proofs.lemmas.Bool.Decides.{nat_tests}
 use Rattle.fr_cluster.specs.Values.{Values}
 use Rattle.fr_startup.specs.Node.{acts, is_resolved, resolved, sends, sent, switched}
-use Rattle.fr_startup.specs.Cluster.{Switches, action_of, begins_at, cycle_of, is_starter, moved_states, ready_states, states_at, stepped}
+use Rattle.fr_startup.specs.Cluster.{Switches, action_of, after_macrotick, begins_at, is_starter, macroticks_of_cycle, moved_states, ready_states, states_at}
 use Rattle.fr_startup.specs.Laws.{IsNumber}
 use Rattle.fr_startup.specs.declared.state.ColdState.{ColdState}
 use Rattle.fr_startup.specs.declared.state.ColdState.TheVariants as state
 use Rattle.fr_startup.proofs.Ages.{next-as, ready-as, sends-as, sends_at, starts-off}
 use Rattle.fr_startup.proofs.Hearing.{hears-none}
 use Rattle.fr_cold.specs.View.{PowerView, switch_rows}
-use Rattle.fr_cold.specs.Questions.{IsUnswitched, end_of, switches_of}
+use Rattle.fr_cold.specs.Questions.{IsUnswitched, macroticks_of_run, switches_of}
 use Rattle.fr_cold.specs.Cold.{Agrees, state_in}
 use Rattle.fr_cold.specs.Events.{IsQuietUpTo, ready_at}
 use Rattle.fr_cold.specs.Leads.{lead_at, leads_after, leads_at, leads_in, leads_of, leads_or_none}
@@ -44,32 +44,32 @@ no-switch p v t node e = by (is_starter p node)
     by false = refl
 
 module _ (p : Values) (v : PowerView) (t : ℕ) (s : ℕ → ColdState) (unswitched : IsUnswitched v t) (same : (node : ℕ) → IsNumber node → states_at p (switches_of p v) t node ≡ s node)
-    (idle : (node : ℕ) → IsNumber node → acts (cycle_of p) (action_of p node) t (s node) ≡ false) where
+    (idle : (node : ℕ) → IsNumber node → acts (macroticks_of_cycle p) (action_of p node) t (s node) ≡ false) where
   idle-now : (node : ℕ) → IsNumber node → ready_at p v t node ≡ s node
   idle-now node number =
-      let parts = neither (is_resolved (cycle_of p) t (s node)) (sends (cycle_of p) (action_of p node) t (s node)) (idle node number) in
-      ready-as p (switches_of p v) t node None (s node) (no-switch p v t node (unswitched node number)) (same node number) ∙ idle-ready (cycle_of p) t (s node) parts.0
+      let parts = neither (is_resolved (macroticks_of_cycle p) t (s node)) (sends (macroticks_of_cycle p) (action_of p node) t (s node)) (idle node number) in
+      ready-as p (switches_of p v) t node None (s node) (no-switch p v t node (unswitched node number)) (same node number) ∙ idle-ready (macroticks_of_cycle p) t (s node) parts.0
 
   idle-silent : (node : ℕ) → IsNumber node → sends_at p (switches_of p v) t node ≡ false
   idle-silent node number =
-      let parts = neither (is_resolved (cycle_of p) t (s node)) (sends (cycle_of p) (action_of p node) t (s node)) (idle node number) in
+      let parts = neither (is_resolved (macroticks_of_cycle p) t (s node)) (sends (macroticks_of_cycle p) (action_of p node) t (s node)) (idle node number) in
       sends-as p (switches_of p v) t node (s node) (idle-now node number) ∙ parts.1
 
   -- after it all nodes are as they were
   idle-next : (node : ℕ) → IsNumber node → states_at p (switches_of p v) (suc t) node ≡ s node
   idle-next node number =
-      let parts = neither (is_resolved (cycle_of p) t (s node)) (sends (cycle_of p) (action_of p node) t (s node)) (idle node number) in
+      let parts = neither (is_resolved (macroticks_of_cycle p) t (s node)) (sends (macroticks_of_cycle p) (action_of p node) t (s node)) (idle node number) in
       next-as p (switches_of p v) t node (s node) false (idle-now node number)
       (hears-none p t (ready_states p (switches_of p v) t (states_at p (switches_of p v) t)) node (λ j other. idle-silent j other))
-      ∙ idle-sent (cycle_of p) (action_of p node) t (s node) parts.1
+      ∙ idle-sent (macroticks_of_cycle p) (action_of p node) t (s node) parts.1
 
   -- and none began to lead
   idle-begins : (node : ℕ) → IsNumber node → begins_at p (switches_of p v) t node ≡ false
   unfolding begins_at
   idle-begins node number =
-      let parts = neither (is_resolved (cycle_of p) t (s node)) (sends (cycle_of p) (action_of p node) t (s node)) (idle node number) in
+      let parts = neither (is_resolved (macroticks_of_cycle p) t (s node)) (sends (macroticks_of_cycle p) (action_of p node) t (s node)) (idle node number) in
       let none : switches_of p v t node ≡ None = no-switch p v t node (unswitched node number) in
-      (λ i. is_resolved (cycle_of p) t (switched (none i) t (same node number i))) ∙ parts.0
+      (λ i. is_resolved (macroticks_of_cycle p) t (switched (none i) t (same node number i))) ∙ parts.0
 
 -- the begins of nodes none of which begins
 leads-none : (p : Values) (switches : Switches) (t node n : ℕ) → 1 ≤ node → node + n ≤ 65 → ((j : ℕ) → IsNumber j → begins_at p switches t j ≡ false) → leads_at p switches t node n ≡ []
@@ -124,47 +124,47 @@ quiet-same p v list from to end stands quiet later within =
     quiet-leads p v list from to stands quiet end (to - from) (omega arith) within ∙ ap (λ (t : ℕ). leads_in p (switches_of p v) t (end - t)) whole
 
 -- the begins from a macrotick on, with all nodes
-pub rest-at : (p : Values) (v : PowerView) (t : ℕ) → t ≤ end_of p v → leads_after p v t 0 ≡ leads_in p (switches_of p v) t (end_of p v - t)
+pub rest-at : (p : Values) (v : PowerView) (t : ℕ) → t ≤ macroticks_of_run p v → leads_after p v t 0 ≡ leads_in p (switches_of p v) t (macroticks_of_run p v - t)
 unfolding leads_after leads_in
-rest-at p v t within = by (nat_lt t (end_of p v)) refl
+rest-at p v t within = by (nat_lt t (macroticks_of_run p v)) refl
   where
-    by : (b : Bool) → nat_lt t (end_of p v) ≡ b
-        → leads_or_none (nat_lt t (end_of p v)) (leads_at p (switches_of p v) t 1 64 ++ leads_in p (switches_of p v) (suc t) (end_of p v - suc t)) ≡ leads_in p (switches_of p v) t (end_of p v - t)
+    by : (b : Bool) → nat_lt t (macroticks_of_run p v) ≡ b
+        → leads_or_none (nat_lt t (macroticks_of_run p v)) (leads_at p (switches_of p v) t 1 64 ++ leads_in p (switches_of p v) (suc t) (macroticks_of_run p v - suc t)) ≡ leads_in p (switches_of p v) t (macroticks_of_run p v - t)
     by true e =
-        let below : t < end_of p v = grind (arith, nat_tests) in
-        let less : (end_of p v - t) - 1 ≡ end_of p v - suc t = omega arith in
-        rw e (sym (leads-more p (switches_of p v) t (end_of p v - t) (omega arith) ∙ rw less refl))
+        let below : t < macroticks_of_run p v = grind (arith, nat_tests) in
+        let less : (macroticks_of_run p v - t) - 1 ≡ macroticks_of_run p v - suc t = omega arith in
+        rw e (sym (leads-more p (switches_of p v) t (macroticks_of_run p v - t) (omega arith) ∙ rw less refl))
     by false e =
-        let none : end_of p v - t ≡ 0 = grind (arith, nat_tests) in
+        let none : macroticks_of_run p v - t ≡ 0 = grind (arith, nat_tests) in
         rw (e, none) (sym nothing)
       where
         nothing : leads_in p (switches_of p v) t 0 ≡ []
         nothing = refl
 
 -- at the end none is left
-pub rest-over : (p : Values) (v : PowerView) (t told : ℕ) → end_of p v ≤ t → leads_after p v t told ≡ []
+pub rest-over : (p : Values) (v : PowerView) (t told : ℕ) → macroticks_of_run p v ≤ t → leads_after p v t told ≡ []
 unfolding leads_after
-rest-over p v t told over = let past : nat_lt t (end_of p v) ≡ false = grind (arith, nat_tests) in rw past refl
+rest-over p v t told over = let past : nat_lt t (macroticks_of_run p v) ≡ false = grind (arith, nat_tests) in rw past refl
 
 -- before it, those of the macrotick and of the later ones
-pub rest-now : (p : Values) (v : PowerView) (t told : ℕ) → t < end_of p v
-    → leads_after p v t told ≡ leads_at p (switches_of p v) t (suc told) (64 - told) ++ leads_in p (switches_of p v) (suc t) (end_of p v - suc t)
+pub rest-now : (p : Values) (v : PowerView) (t told : ℕ) → t < macroticks_of_run p v
+    → leads_after p v t told ≡ leads_at p (switches_of p v) t (suc told) (64 - told) ++ leads_in p (switches_of p v) (suc t) (macroticks_of_run p v - suc t)
 unfolding leads_after
-rest-now p v t told below = let ahead : nat_lt t (end_of p v) ≡ true = grind (arith, nat_tests) in rw ahead refl
+rest-now p v t told below = let ahead : nat_lt t (macroticks_of_run p v) ≡ true = grind (arith, nat_tests) in rw ahead refl
 
 pub rest-start : (p : Values) (v : PowerView) → leads_after p v 0 0 ≡ leads_of p v
 unfolding leads_of
 rest-start p v = rest-at p v 0 (omega arith) ∙ ap (λ (n : ℕ). leads_in p (switches_of p v) 0 n) (omega arith)
 
 -- a begin is told
-pub rest-told : (p : Values) (v : PowerView) (t told node : ℕ) → t < end_of p v
+pub rest-told : (p : Values) (v : PowerView) (t told node : ℕ) → t < macroticks_of_run p v
     → leads_at p (switches_of p v) t (suc told) (64 - told) ≡ lead_at t node ∷ leads_at p (switches_of p v) t (suc node) (64 - node)
     → leads_after p v t told ≡ lead_at t node ∷ leads_after p v t node
 rest-told p v t told node below e = rest-now p v t told below ∙ rw e (ap (λ (rest : List Lead). lead_at t node ∷ rest) (sym (rest-now p v t node below)))
 
 -- or none is left at this macrotick
-pub rest-passed : (p : Values) (v : PowerView) (t told : ℕ) → t < end_of p v → leads_at p (switches_of p v) t (suc told) (64 - told) ≡ []
-    → leads_after p v t told ≡ leads_in p (switches_of p v) (t + 1) (end_of p v - (t + 1))
+pub rest-passed : (p : Values) (v : PowerView) (t told : ℕ) → t < macroticks_of_run p v → leads_at p (switches_of p v) t (suc told) (64 - told) ≡ []
+    → leads_after p v t told ≡ leads_in p (switches_of p v) (t + 1) (macroticks_of_run p v - (t + 1))
 rest-passed p v t told below e = let one : t + 1 ≡ suc t = omega arith in rest-now p v t told below ∙ rw (e, one) refl
 
 -- the nodes are asked one by one whether they begin
@@ -185,13 +185,13 @@ unfolding leads_at
 asked-all p switches t n past = let none : 65 - n ≡ 0 = omega arith in rw none refl
 
 pub begins-is : (p : Values) (v : PowerView) (t node : ℕ) (s : ColdState) → s ≡ states_at p (switches_of p v) t node
-    → is_resolved (cycle_of p) t (switched (switches_of p v t node) t s) ≡ begins_at p (switches_of p v) t node
+    → is_resolved (macroticks_of_cycle p) t (switched (switches_of p v t node) t s) ≡ begins_at p (switches_of p v) t node
 unfolding begins_at
-begins-is p v t node s e = ap (λ (x : ColdState). is_resolved (cycle_of p) t (switched (switches_of p v t node) t x)) e
+begins-is p v t node s e = ap (λ (x : ColdState). is_resolved (macroticks_of_cycle p) t (switched (switches_of p v t node) t x)) e
 
 -- the states after one macrotick more
 pub passed : (p : Values) (v : PowerView) (t : ℕ) (list : List ColdState) → Agrees list (moved_states p t (ready_at p v t)) → Agrees list (states_at p (switches_of p v) (t + 1))
-unfolding states_at stepped
+unfolding states_at after_macrotick
 passed p v t list h node number = let one : t + 1 ≡ suc t = omega arith in rw one (h node number)
 
 -- the states before macrotick 0

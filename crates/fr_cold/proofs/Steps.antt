@@ -8,7 +8,7 @@ use Rattle.fr_base.specs.declared.channel.Channel.TheVariants as channel
 use Rattle.fr_cluster.specs.Values.{Values}
 use Rattle.fr_cluster.specs.Questions.{has_channel, node_of}
 use Rattle.fr_startup.specs.Node.{acts, heard, resolved, sends, sent, switched}
-use Rattle.fr_startup.specs.Cluster.{States, action_of, cycle_of, is_busy, is_hearing, is_sending, moved_states, ready_states, states_at}
+use Rattle.fr_startup.specs.Cluster.{States, action_of, is_busy, is_hearing, is_sending, macroticks_of_cycle, moved_states, ready_states, states_at}
 use Rattle.fr_startup.specs.Laws.{IsNumber}
 use Rattle.fr_startup.specs.declared.state.ColdState.{ColdState}
 use Rattle.fr_cold.specs.View.{PowerView}
@@ -50,37 +50,37 @@ unfolding is_busy
 busy-none p t states ch = refl
 
 pub busy-more : (p : Values) (t : ℕ) (states : States) (ch : Channel) (n : ℕ) (busy : Bool) (s : ColdState) → 1 ≤ n → busy ≡ is_busy p t states ch (n - 1) → s ≡ states n
-    → (busy || (sends (cycle_of p) (action_of p n) t s && has_channel (node_of p n) ch)) ≡ is_busy p t states ch (n + 1 - 1)
+    → (busy || (sends (macroticks_of_cycle p) (action_of p n) t s && has_channel (node_of p n) ch)) ≡ is_busy p t states ch (n + 1 - 1)
 unfolding is_busy is_sending
 busy-more p t states ch zero busy s some e f = absurd (omega arith)
 busy-more p t states ch (suc n) busy s some e f =
     let here : suc n - 1 ≡ n = omega arith in
     let next : suc n + 1 - 1 ≡ suc n = omega arith in
     let before : busy ≡ is_busy p t states ch n = e ∙ ap (λ (k : ℕ). is_busy p t states ch k) here in
-    (λ i. before i || (sends (cycle_of p) (action_of p (suc n)) t (f i) && has_channel (node_of p (suc n)) ch)) ∙ ap (λ (k : ℕ). is_busy p t states ch k) (sym next)
+    (λ i. before i || (sends (macroticks_of_cycle p) (action_of p (suc n)) t (f i) && has_channel (node_of p (suc n)) ch)) ∙ ap (λ (k : ℕ). is_busy p t states ch k) (sym next)
 
 -- what a node is after the first two parts, and after the last two
 pub ready-is : (p : Values) (v : PowerView) (t node : ℕ) (s : ColdState) → s ≡ states_at p (switches_of p v) t node
-    → resolved (cycle_of p) t (switched (switches_of p v t node) t s) ≡ ready_at p v t node
+    → resolved (macroticks_of_cycle p) t (switched (switches_of p v t node) t s) ≡ ready_at p v t node
 unfolding ready_states
-ready-is p v t node s e = ap (λ (x : ColdState). resolved (cycle_of p) t (switched (switches_of p v t node) t x)) e
+ready-is p v t node s e = ap (λ (x : ColdState). resolved (macroticks_of_cycle p) t (switched (switches_of p v t node) t x)) e
 
 pub moved-is : (p : Values) (t : ℕ) (states : States) (node : ℕ) (s : ColdState) (busy_a busy_b : Bool) → s ≡ states node → busy_a ≡ is_busy p t states channel.A 64
-    → busy_b ≡ is_busy p t states channel.B 64 → heard (hears_by p t s busy_a busy_b node) t (sent (cycle_of p) t s) ≡ moved_states p t states node
+    → busy_b ≡ is_busy p t states channel.B 64 → heard (hears_by p t s busy_a busy_b node) t (sent (macroticks_of_cycle p) t s) ≡ moved_states p t states node
 unfolding moved_states is_hearing is_sending
-moved-is p t states node s busy_a busy_b e a b = λ i. heard (hears_by p t (e i) (a i) (b i) node) t (sent (cycle_of p) t (e i))
+moved-is p t states node s busy_a busy_b e a b = λ i. heard (hears_by p t (e i) (a i) (b i) node) t (sent (macroticks_of_cycle p) t (e i))
 
 -- one node more is quiet
 pub quiet-more : (p : Values) (v : PowerView) (list : List ColdState) (from to next n : ℕ) (s : ColdState) → IsQuietUpTo p v list from to n → next ≤ to → s ≡ state_in list n
-    → ((t : ℕ) → from ≤ t → t < next → acts (cycle_of p) (action_of p n) t s ≡ false) → IsQuietUpTo p v list from next (n + 1)
+    → ((t : ℕ) → from ≤ t → t < next → acts (macroticks_of_cycle p) (action_of p n) t s ≡ false) → IsQuietUpTo p v list from next (n + 1)
 quiet-more p v list from to next n s h less e quiet = record {
   switches = λ t low high. h.switches t low (omega arith);
   acts = λ t node low high number below. by t node low high number below (cases_eq node n);
 }
   where
-    by : (t node : ℕ) → from ≤ t → t < next → IsNumber node → node < n + 1 → (node ≡ n) ⊎ (node ≡ n → ⊥) → acts (cycle_of p) (action_of p node) t (state_in list node) ≡ false
+    by : (t node : ℕ) → from ≤ t → t < next → IsNumber node → node < n + 1 → (node ≡ n) ⊎ (node ≡ n → ⊥) → acts (macroticks_of_cycle p) (action_of p node) t (state_in list node) ≡ false
     by t node low high number below (inl same) =
-        (λ i. acts (cycle_of p) (action_of p (same i)) t (state_in list (same i))) ∙ ap (λ (x : ColdState). acts (cycle_of p) (action_of p n) t x) (sym e) ∙ quiet t low high
+        (λ i. acts (macroticks_of_cycle p) (action_of p (same i)) t (state_in list (same i))) ∙ ap (λ (x : ColdState). acts (macroticks_of_cycle p) (action_of p n) t x) (sym e) ∙ quiet t low high
     by t node low high number below (inr apart) = h.acts t node low (omega arith) number (omega arith)
 
 pub quiet-none : (p : Values) (v : PowerView) (list : List ColdState) (from to : ℕ) → ((t : ℕ) → from ≤ t → t < to → IsUnswitched v t) → IsQuietUpTo p v list from to 1

@@ -15,7 +15,8 @@ use Rattle.fr_startup.specs.Laws.{StaysOn, SwitchesStarters}
 use Rattle.fr_startup.specs.declared.state.Switch.{Switch}
 use Rattle.fr_startup.specs.declared.state.Switch.TheVariants as switch
 use Rattle.fr_cold.specs.Rows.{power_row_of}
-use Rattle.fr_cold.specs.Reasons.{is_known, is_out_of_turn, is_same, last_at, last_in, power_reason_after, power_row_reason, switch_at, switch_in, switch_reason}
+use Rattle.fr_cold.specs.Reasons.{is_out_of_turn, last_at, last_in, power_reason_after, power_row_reason, switch_alike, switch_at, switch_in, switch_reason}
+use Rattle.fr_cluster.specs.Questions.{is_known}
 use Rattle.fr_cold.specs.View.{PowerView, switch_rows}
 use Rattle.fr_cold.specs.Files.{PowerFits}
 use Rattle.fr_cold.specs.Questions.{IsNeverOff, switches_of}
@@ -90,11 +91,11 @@ module _ (done : List FileRecord) (r : FileRecord) (s : SwitchRow) (says : power
   own-last : last_at s.node (done ++ r ∷ []) ≡ Some (record { at = s.at; switch = s.switch })
   own-last = last_at-more s.node done r _ says ∙ rw (test-same s.node s.node refl) refl
 
-  in-turn : (last : Last) → last_at s.node done ≡ Some last → (is_same last.switch s.switch ≡ false) × (last.at < s.at)
-  in-turn last e = parts (is_same last.switch s.switch) (nat_lt last.at s.at) refl refl (rw e at turn)
+  in-turn : (last : Last) → last_at s.node done ≡ Some last → (switch_alike last.switch s.switch ≡ false) × (last.at < s.at)
+  in-turn last e = parts (switch_alike last.switch s.switch) (nat_lt last.at s.at) refl refl (rw e at turn)
     where
-      parts : (a b : Bool) → is_same last.switch s.switch ≡ a → nat_lt last.at s.at ≡ b → (is_same last.switch s.switch || not (nat_lt last.at s.at)) ≡ false
-          → (is_same last.switch s.switch ≡ false) × (last.at < s.at)
+      parts : (a b : Bool) → switch_alike last.switch s.switch ≡ a → nat_lt last.at s.at ≡ b → (switch_alike last.switch s.switch || not (nat_lt last.at s.at)) ≡ false
+          → (switch_alike last.switch s.switch ≡ false) × (last.at < s.at)
       parts true b ea eb all = let never : true ≡ false = rw ea at all in absurd (cc never)
       parts false true ea eb all = (ea, grind (arith, nat_tests))
       parts false false ea eb all = let never : true ≡ false = rw (ea, eb) at all in absurd (cc never)
@@ -107,7 +108,7 @@ module _ (done : List FileRecord) (r : FileRecord) (s : SwitchRow) (says : power
       let before = old.before in
       other-time at (λ same. absurd (omega arith)) ∙ e
 
-  not-same : (how : Switch) → is_same switch.On how ≡ false → how ≡ switch.Off
+  not-same : (how : Switch) → switch_alike switch.On how ≡ false → how ≡ switch.Off
   not-same switch.On e = cc e
   not-same switch.Off e = refl
 
@@ -123,7 +124,7 @@ module _ (done : List FileRecord) (r : FileRecord) (s : SwitchRow) (says : power
       offs at switch.Off last is or e = (at, still at switch.Off e)
       offs at switch.On last is (inr off) e = (off.0, still off.0 switch.Off off.1)
       offs at switch.On last is (inl one) e =
-          let differ : is_same switch.On s.switch ≡ false = (λ i. is_same (sym (ap (λ (l : Last). l.switch) one) i) s.switch) ∙ (in-turn last is).0 in
+          let differ : switch_alike switch.On s.switch ≡ false = (λ i. switch_alike (sym (ap (λ (l : Last). l.switch) one) i) s.switch) ∙ (in-turn last is).0 in
           (s.at, own-switch ∙ ap (λ (x : Switch). Some x) (not-same s.switch differ))
 
       own-said : (at : ℕ) (how : Switch) → switch_at at s.node (done ++ r ∷ []) ≡ Some how → (s.at ≡ at) ⊎ (s.at ≡ at → ⊥) → IsSaid (done ++ r ∷ []) s.node at how

@@ -6,7 +6,7 @@ use Rattle.fr_startup.specs.Laws.{IsNumber}
 use Rattle.fr_startup.specs.declared.state.ColdState.{ColdState}
 use Rattle.fr_startup.specs.declared.state.ColdState.TheVariants as state
 use Rattle.fr_cold.specs.View.{PowerView}
-use Rattle.fr_cold.specs.Questions.{end_of, switches_of}
+use Rattle.fr_cold.specs.Questions.{macroticks_of_run, switches_of}
 use Rattle.fr_cold.specs.Leads.{leads_after}
 use Rattle.fr_cold.specs.declared.cold.Lead.{Lead}
 
@@ -28,18 +28,18 @@ Agrees list states = (node : ℕ) → IsNumber node → state_in list node ≡ s
 -- it stands for the startup of these parameters and this power file at its moment: it has what each node does after the
 -- macroticks below its own, which lies in the run or at its end
 pub record StandsForStartup (p : Values) (v : PowerView) (c : ColdView) : Type 0 where
-  pub within : c.at ≤ end_of p v
+  pub within : c.at ≤ macroticks_of_run p v
   pub states : Agrees c.states (states_at p (switches_of p v) c.at)
 
 -- the begins that are still to be told
-abbrev pub rest_of : Values → PowerView → ColdView → List Lead
-rest_of p v c = leads_after p v c.at c.told
+abbrev pub leads_left : Values → PowerView → ColdView → List Lead
+leads_left p v c = leads_after p v c.at c.told
 
 -- the next begin is told, and comes off those that are still to be told; where there is none it stands at the end of the run
-pub record IsOver (p : Values) (v : PowerView) (before after : ColdView) : Type 0 where
-  pub none : rest_of p v before ≡ []
-  pub ended : after.at ≡ end_of p v
+pub record IsRunOver (p : Values) (v : PowerView) (before after : ColdView) : Type 0 where
+  pub none : leads_left p v before ≡ []
+  pub ended : after.at ≡ macroticks_of_run p v
 
 abbrev pub TellsLead : Values → PowerView → ColdView → ColdView → Option Lead → Type 0
-TellsLead p v before after None = IsOver p v before after
-TellsLead p v before after (Some lead) = rest_of p v before ≡ lead ∷ rest_of p v after
+TellsLead p v before after None = IsRunOver p v before after
+TellsLead p v before after (Some lead) = leads_left p v before ≡ lead ∷ leads_left p v after

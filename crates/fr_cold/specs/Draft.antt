@@ -5,7 +5,7 @@ use Rattle.std.specs.Ordering.{nat_cmp}
 use Rattle.std.specs.BTreeMap.{BTreeMap, IsOrdered, get, is_at}
 use Rattle.fr_base.specs.declared.reason.Reason.{Reason}
 use Rattle.fr_records.specs.Records.{FileRecord}
-use Rattle.fr_records.specs.Takes.{Takes}
+use Rattle.fr_records.specs.Takes.{TakesRow}
 use Rattle.fr_cluster.specs.Values.{Values}
 use Rattle.fr_cold.specs.Keys.{power_cmp, power_key}
 use Rattle.fr_cold.specs.Reasons.{cycles_at, last_at, power_row_reason, switch_at}
@@ -29,7 +29,7 @@ pub record IsPowerDraft (draft : Draft) (records : List FileRecord) : Type 0 whe
 
 -- a row is refused against these parameters for its reason, or held after the records so far
 abbrev pub TakesPowerRow : {Error : Type 0} → Values → Draft → Draft → Row → Result (Option Reason) Error → Type 0
-TakesPowerRow p before after row result = Takes IsPowerDraft power_row_of (power_row_reason p) before after row result
+TakesPowerRow p before after row result = TakesRow IsPowerDraft power_row_of (power_row_reason p) before after row result
 
 -- the same where it takes no memory
 abbrev pub TakesPowerRowAtOnce : Values → Draft → Draft → Row → Option Reason → Type 0

@@ -4,12 +4,12 @@ use Rattle.fr_base.specs.declared.channel.Channel.TheVariants as channel
 use Rattle.fr_cluster.specs.Values.{Values}
 use Rattle.fr_cluster.specs.Questions.{has_channel, node_of}
 use Rattle.fr_startup.specs.Node.{acts, sends}
-use Rattle.fr_startup.specs.Cluster.{Switches, action_of, cycle_of, ready_states, states_at}
+use Rattle.fr_startup.specs.Cluster.{Switches, action_of, macroticks_of_cycle, ready_states, states_at}
 use Rattle.fr_startup.specs.Laws.{IsNumber}
 use Rattle.fr_startup.specs.declared.state.ColdState.{ColdState}
 use Rattle.fr_cold.specs.View.{PowerView}
-use Rattle.fr_cold.specs.Questions.{IsUnswitched, end_of, switches_of}
-use Rattle.fr_cold.specs.Cold.{ColdView, rest_of, state_in}
+use Rattle.fr_cold.specs.Questions.{IsUnswitched, macroticks_of_run, switches_of}
+use Rattle.fr_cold.specs.Cold.{ColdView, leads_left, state_in}
 use Rattle.fr_cold.specs.Leads.{lead_at, leads_at, leads_in}
 use Rattle.fr_cold.specs.declared.cold.Lead.{Lead}
 
@@ -20,12 +20,12 @@ ready_at p v t = ready_states p (switches_of p v) t (states_at p (switches_of p 
 -- whether a node in a state hears something, by which channels are busy
 abbrev pub hears_by : Values → ℕ → ColdState → Bool → Bool → ℕ → Bool
 hears_by p t s busy_a busy_b node =
-    not (sends (cycle_of p) (action_of p node) t s) && ((has_channel (node_of p node) channel.A && busy_a) || (has_channel (node_of p node) channel.B && busy_b))
+    not (sends (macroticks_of_cycle p) (action_of p node) t s) && ((has_channel (node_of p node) channel.A && busy_a) || (has_channel (node_of p node) channel.B && busy_b))
 
 -- from a macrotick up to another no node is switched, and none of the nodes below a number acts by itself
 pub record IsQuietUpTo (p : Values) (v : PowerView) (states : List ColdState) (from to number : ℕ) : Type 0 where
   pub switches : (t : ℕ) → from ≤ t → t < to → IsUnswitched v t
-  pub acts : (t node : ℕ) → from ≤ t → t < to → IsNumber node → node < number → acts (cycle_of p) (action_of p node) t (state_in states node) ≡ false
+  pub acts : (t node : ℕ) → from ≤ t → t < to → IsNumber node → node < number → acts (macroticks_of_cycle p) (action_of p node) t (state_in states node) ≡ false
 
 -- of the nodes after one, the first that begins to lead at a macrotick, if there is one
 abbrev pub IsNextBeginner : Values → Switches → ℕ → ℕ → Option ℕ → Type 0
@@ -35,11 +35,11 @@ IsNextBeginner p switches t told (Some node) =
 
 -- a macrotick is over, or a begin is told
 abbrev pub Steps : Values → PowerView → ColdView → ColdView → Option Lead → Type 0
-Steps p v before after None = (before.at < after.at) × (rest_of p v before ≡ rest_of p v after)
-Steps p v before after (Some lead) = rest_of p v before ≡ lead ∷ rest_of p v after
+Steps p v before after None = (before.at < after.at) × (leads_left p v before ≡ leads_left p v after)
+Steps p v before after (Some lead) = leads_left p v before ≡ lead ∷ leads_left p v after
 
 -- it moves on, and no begin lies between
 pub record IsSkipped (p : Values) (v : PowerView) (before after : ColdView) : Type 0 where
   pub later : before.at ≤ after.at
   pub told : after.told ≡ 0
-  pub same : leads_in p (switches_of p v) before.at (end_of p v - before.at) ≡ leads_in p (switches_of p v) after.at (end_of p v - after.at)
+  pub same : leads_in p (switches_of p v) before.at (macroticks_of_run p v - before.at) ≡ leads_in p (switches_of p v) after.at (macroticks_of_run p v - after.at)

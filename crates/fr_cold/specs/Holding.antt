@@ -10,7 +10,8 @@ use Rattle.fr_records.specs.Least.{row_passes}
 use Rattle.fr_cluster.specs.Values.{Values}
 use Rattle.fr_startup.specs.Cluster.{is_starter}
 use Rattle.fr_cold.specs.Rows.{power_row_of}
-use Rattle.fr_cold.specs.Reasons.{cycles_at, is_known, is_out_of_turn, last_at}
+use Rattle.fr_cold.specs.Reasons.{cycles_at, is_out_of_turn, last_at}
+use Rattle.fr_cluster.specs.Questions.{is_known}
 use Rattle.fr_cold.specs.declared.rows.Row.{Row}
 use Rattle.fr_cold.specs.declared.rows.Row.TheVariants as row
 
@@ -42,19 +43,19 @@ power_form r =
     else None
 
 -- a node that is none of the parameters
-abbrev pub names_stranger : Values → Row → Bool
-names_stranger p (row.Cycles n) = false
-names_stranger p (row.Switched s) = not (is_known p s.node)
+abbrev pub power_names_stranger : Values → Row → Bool
+power_names_stranger p (row.Cycles n) = false
+power_names_stranger p (row.Switched s) = not (is_known p s.node)
 
 -- a node that is no coldstart node, or a record out of the turn of its node
-abbrev pub is_misplaced : Values → List FileRecord → Row → Bool
-is_misplaced p before (row.Cycles n) = false
-is_misplaced p before (row.Switched s) = not (is_starter p s.node) || is_out_of_turn (last_at s.node before) s
+abbrev pub is_switch_misplaced : Values → List FileRecord → Row → Bool
+is_switch_misplaced p before (row.Cycles n) = false
+is_switch_misplaced p before (row.Switched s) = not (is_starter p s.node) || is_out_of_turn (last_at s.node before) s
 
 -- a second row of the number of cycles
-abbrev pub is_said_again : List FileRecord → Row → Bool
-is_said_again before (row.Cycles n) = is_some (cycles_at before)
-is_said_again before (row.Switched s) = false
+abbrev pub are_cycles_said_again : List FileRecord → Row → Bool
+are_cycles_said_again before (row.Cycles n) = is_some (cycles_at before)
+are_cycles_said_again before (row.Switched s) = false
 
 -- whether a reason holds of a record after the records before it
 abbrev pub power_holds : Values → List FileRecord → FileRecord → Reason → Bool
@@ -62,9 +63,9 @@ power_holds p before r reason.Shape = misses_form 3 r (power_form r)
 power_holds p before r reason.UnknownName = has_unknown_name (power_form r)
 power_holds p before r reason.NotNumber = has_no_number (power_form r)
 power_holds p before r reason.OutOfRange = is_out_of_range (power_form r)
-power_holds p before r reason.UnknownNode = row_passes (names_stranger p) (power_row_of r)
+power_holds p before r reason.UnknownNode = row_passes (power_names_stranger p) (power_row_of r)
 power_holds p before r reason.BadChannel = false
-power_holds p before r reason.Role = row_passes (is_misplaced p before) (power_row_of r)
+power_holds p before r reason.Role = row_passes (is_switch_misplaced p before) (power_row_of r)
 power_holds p before r reason.Link = false
 power_holds p before r reason.NotHex = false
-power_holds p before r reason.Repeated = row_passes (is_said_again before) (power_row_of r)
+power_holds p before r reason.Repeated = row_passes (are_cycles_said_again before) (power_row_of r)

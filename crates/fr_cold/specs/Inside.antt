@@ -3,5 +3,5 @@ use Rattle.fr_cold.specs.View.{PowerView}
 use Rattle.fr_cold.specs.declared.power.Power.TheInside.{Inside}
 
 -- the list has the entries of the table: nothing is left out
-abbrev pub view_of : Inside → PowerView
-view_of a = record { cycles = a.cycles; switches = a.switches.entries }
+abbrev pub power_view_of : Inside → PowerView
+power_view_of a = record { cycles = a.cycles; switches = a.switches.entries }

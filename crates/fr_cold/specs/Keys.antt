@@ -1,9 +1,7 @@
 -- The order of the keys under which switches stand.
-use Rattle.std.specs.Prelude.{ℕ, List, Option, refl}
+use Rattle.std.specs.Prelude.{ℕ, refl}
 use Rattle.std.specs.declared.cmp.Ordering.{Ordering}
 use Rattle.std.specs.Ordering.{nat_cmp, ordering_then}
-use Rattle.std.specs.BTreeMap.{is_at}
-use Rattle.std.specs.Map.{lookup}
 use Rattle.std.specs.Coded.{Coded, code_by, coded×, coded_ℕ}
 use Rattle.fr_cold.specs.declared.keys.PowerKey.{PowerKey}
 
@@ -14,10 +12,6 @@ power_key at node = record { at = at; node = node }
 -- by macrotick, and then by node
 abbrev pub power_cmp : PowerKey → PowerKey → Ordering
 power_cmp a b = ordering_then (nat_cmp a.at b.at) (nat_cmp a.node b.node)
-
--- what stands under a key
-abbrev pub found_at : {K V : Type 0} → (K → K → Ordering) → List (K × V) → K → Option V
-found_at cmp rows key = lookup (is_at (cmp key)) rows
 
 -- a key as a pair of numbers
 abbrev pub coded_key : Coded PowerKey

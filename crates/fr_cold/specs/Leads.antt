@@ -3,7 +3,7 @@ use Rattle.std.specs.Prelude.{ℕ, zero, suc, pos, ◌-◌, ◌++◌, nat_lt, Bo
 use Rattle.fr_cluster.specs.Values.{Values}
 use Rattle.fr_startup.specs.Cluster.{Switches, begins_at}
 use Rattle.fr_cold.specs.View.{PowerView}
-use Rattle.fr_cold.specs.Questions.{end_of, switches_of}
+use Rattle.fr_cold.specs.Questions.{macroticks_of_run, switches_of}
 use Rattle.fr_cold.specs.declared.cold.Lead.{Lead}
 
 -- a node that begins to lead at a macrotick
@@ -27,7 +27,7 @@ leads_in p switches t (suc n) = leads_at p switches t 1 64 ++ leads_in p switche
 
 -- those of a run
 unfoldable pub leads_of : Values → PowerView → List Lead
-leads_of p v = leads_in p (switches_of p v) 0 (end_of p v)
+leads_of p v = leads_in p (switches_of p v) 0 (macroticks_of_run p v)
 
 -- those from a macrotick on, without those of the nodes up to one of them at that macrotick
 abbrev pub leads_or_none : Bool → List Lead → List Lead
@@ -36,5 +36,5 @@ leads_or_none false leads = []
 
 unfoldable pub leads_after : Values → PowerView → ℕ → ℕ → List Lead
 leads_after p v t node =
-    leads_or_none (nat_lt t (end_of p v))
-    (leads_at p (switches_of p v) t (suc node) (64 - node) ++ leads_in p (switches_of p v) (suc t) (end_of p v - suc t))
+    leads_or_none (nat_lt t (macroticks_of_run p v))
+    (leads_at p (switches_of p v) t (suc node) (64 - node) ++ leads_in p (switches_of p v) (suc t) (macroticks_of_run p v - suc t))

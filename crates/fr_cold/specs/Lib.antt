@@ -9,7 +9,10 @@ pub mod Files
 pub mod Holding
 pub mod Leads
 pub mod Cold
+pub mod Told
 -- what only functions inside cite
 pub mod Draft
 pub mod Spans
 pub mod Events
+pub mod ColdAnswer
+pub mod ColdText

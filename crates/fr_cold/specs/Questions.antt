@@ -1,18 +1,18 @@
 -- What a power file says of a run.
 use Rattle.std.specs.Prelude.{◌≢◌, ℕ, ◌≡◌, ◌*◌, Some, None, if◌then◌else◌}
 use Rattle.fr_cluster.specs.Values.{Values}
-use Rattle.fr_startup.specs.Cluster.{Switches, cycle_of, is_starter}
+use Rattle.fr_startup.specs.Cluster.{Switches, is_starter, macroticks_of_cycle}
 use Rattle.fr_startup.specs.Laws.{IsNumber}
 use Rattle.fr_startup.specs.declared.state.Switch.TheVariants as switch
 use Rattle.fr_cold.specs.View.{PowerView, switch_rows}
 
 -- how many cycles it has
-unfoldable pub cycles_of : PowerView → ℕ
-cycles_of v = v.cycles
+unfoldable pub cycles_of_power : PowerView → ℕ
+cycles_of_power v = v.cycles
 
 -- the macroticks of the run
-unfoldable pub end_of : Values → PowerView → ℕ
-end_of p v = v.cycles * cycle_of p
+unfoldable pub macroticks_of_run : Values → PowerView → ℕ
+macroticks_of_run p v = v.cycles * macroticks_of_cycle p
 
 -- how each coldstart node is switched at each macrotick
 unfoldable pub switches_of : Values → PowerView → Switches

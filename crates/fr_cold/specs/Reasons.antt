@@ -6,7 +6,7 @@ use Rattle.fr_base.specs.declared.reason.Reason.TheVariants as reason
 use Rattle.fr_records.specs.Records.{FileRecord}
 use Rattle.fr_records.specs.Fields.{looked_up, or_else}
 use Rattle.fr_cluster.specs.Values.{Values}
-use Rattle.fr_cluster.specs.Questions.{node_of}
+use Rattle.fr_cluster.specs.Questions.{is_known}
 use Rattle.fr_startup.specs.Cluster.{is_starter}
 use Rattle.fr_startup.specs.declared.state.Switch.{Switch}
 use Rattle.fr_startup.specs.declared.state.Switch.TheVariants as switch
@@ -49,22 +49,18 @@ switch_at at node records = last_given (λ r. switch_in at node (power_row_of r)
 abbrev pub last_at : ℕ → List FileRecord → Option Last
 last_at node records = last_given (λ r. last_in node (power_row_of r)) records
 
--- whether the cluster has a node of this number
-abbrev pub is_known : Values → ℕ → Bool
-is_known p node = is_some (node_of p node)
-
 -- whether both switch alike
-abbrev pub is_same : Switch → Switch → Bool
-is_same switch.On switch.On = true
-is_same switch.On switch.Off = false
-is_same switch.Off switch.On = false
-is_same switch.Off switch.Off = true
+abbrev pub switch_alike : Switch → Switch → Bool
+switch_alike switch.On switch.On = true
+switch_alike switch.On switch.Off = false
+switch_alike switch.Off switch.On = false
+switch_alike switch.Off switch.Off = true
 
 -- whether a record may not come after the last one of its node: the records of a node begin with one that switches it on,
 -- switch it on and off by turns, and ascend in time
 abbrev pub is_out_of_turn : Option Last → SwitchRow → Bool
-is_out_of_turn None s = is_same s.switch switch.Off
-is_out_of_turn (Some last) s = is_same last.switch s.switch || not (nat_lt last.at s.at)
+is_out_of_turn None s = switch_alike s.switch switch.Off
+is_out_of_turn (Some last) s = switch_alike last.switch s.switch || not (nat_lt last.at s.at)
 
 -- the least reason of a row about a switch
 abbrev pub switch_reason : Values → List FileRecord → SwitchRow → Option Reason

@@ -1,9 +1,9 @@
 ghost use Rattle.std.specs.Prelude.{◌≡◌, ◌<◌, ◌+◌};
 ghost use Rattle.fr_startup.specs.Node.{is_leading};
 ghost use Rattle.fr_cold.specs.View.{PowerView};
-ghost use Rattle.fr_cold.specs.Questions.{end_of, switches_of};
+ghost use Rattle.fr_cold.specs.Questions.{macroticks_of_run, switches_of};
 ghost use Rattle.fr_cold.specs.Leads.{lead_at, leads_of};
-ghost use Rattle.fr_cold.specs.Cold.{StandsForStartup, TellsLead, rest_of, state_in};
+ghost use Rattle.fr_cold.specs.Cold.{StandsForStartup, TellsLead, leads_left, state_in};
 ghost use Rattle.fr_cold.specs.Events.{IsNextBeginner, IsSkipped, Steps};
 
 use crate::power::Power;
@@ -46,7 +46,7 @@ impl Cold {
     /// The startup before macrotick 0, when all nodes are off. It stands for the run of every power file.
     pub fn new(_params: &Params) -> Cold
         ensures stands { (v : PowerView) → StandsForStartup _params.now v result }
-        ensures rest { (v : PowerView) → rest_of _params.now v result ≡ leads_of _params.now v }
+        ensures rest { (v : PowerView) → leads_left _params.now v result ≡ leads_of _params.now v }
     {
         Cold {
             at: 0,
@@ -83,7 +83,7 @@ impl Cold {
     // The next begin of leading at this macrotick, or on to the next event.
     fn step(&mut self, params: &Params, power: &Power) -> Option<Lead>
         requires stands { StandsForStartup params.now power.now self.old }
-        requires within { self.old.at < end_of params.now power.now }
+        requires within { self.old.at < macroticks_of_run params.now power.now }
         ensures stands { StandsForStartup params.now power.now self.new }
         ensures steps { Steps params.now power.now self.old self.new result }
     {
@@ -129,7 +129,7 @@ impl Cold {
     // One macrotick.
     fn pass(&mut self, params: &Params, power: &Power)
         requires stands { StandsForStartup params.now power.now self.old }
-        requires within { self.old.at < end_of params.now power.now }
+        requires within { self.old.at < macroticks_of_run params.now power.now }
         ensures stands { StandsForStartup params.now power.now self.new }
         ensures at { self.new.at ≡ self.old.at + 1 }
         ensures told { self.new.told ≡ 0 }

@@ -3,7 +3,8 @@ ghost use Rattle.std.specs.Option.{option_copied};
 ghost use Rattle.fr_cluster.specs.Values.{Values};
 ghost use Rattle.fr_startup.specs.Cluster.{is_starter};
 ghost use Rattle.fr_cold.specs.Rows.{IsProperCycles};
-ghost use Rattle.fr_cold.specs.Reasons.{is_known, is_out_of_turn};
+ghost use Rattle.fr_cold.specs.Reasons.{is_out_of_turn};
+ghost use Rattle.fr_cluster.specs.Questions.{is_known};
 ghost use Rattle.fr_cold.specs.Draft.{IsEntryPut, IsPowerDraft, TakesPowerRow, TakesPowerRowAtOnce};
 ghost use Rattle.fr_cold.specs.declared.rows.Row.TheVariants as said;
 

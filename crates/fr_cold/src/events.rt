@@ -27,7 +27,8 @@ pub(crate) fn next_switch(rows: &BTreeMap<PowerKey, Switch>, tick: u32, end: u32
     requires { tick ≤ end }
     ensures from { tick ≤ result }
     ensures to { result ≤ end }
-    ensures quiet { (t node : ℕ) → tick ≤ t → t < result → IsNumber node → get power_cmp rows.now (power_key t node) ≡ None }
+    ensures quiet { (t node : ℕ) → tick ≤ t → t < result → IsNumber node →
+        get power_cmp rows.now (power_key t node) ≡ None }
 {
     let first = PowerKey {
         at: tick,

@@ -2,7 +2,7 @@ ghost use Rattle.std.specs.Prelude.{◌≡◌, ◌≤◌, ◌<◌, ℕ, List, So
 ghost use Rattle.fr_records.specs.Records.{FileRecord};
 ghost use Rattle.fr_cold.specs.Draft.{IsPowerDraft};
 ghost use Rattle.fr_cold.specs.Files.{PowerStandsFor};
-ghost use Rattle.fr_cold.specs.Questions.{IsUnswitched, cycles_of};
+ghost use Rattle.fr_cold.specs.Questions.{IsUnswitched, cycles_of_power};
 ghost use Rattle.fr_cold.specs.Rows.{IsProperCycles};
 ghost use Rattle.fr_cold.specs.View.{switch_rows};
 ghost use Rattle.std.specs.BTreeMap.{IsOrdered};
@@ -18,25 +18,34 @@ use std::marker::Model;
 
 /// What a power file says of a cluster: how many cycles a run of startup has, and at which macrotick each coldstart
 /// node is switched on and off.
-#[derive(Drop)]
 pub struct Power {
     cycles: u32,
     switches: BTreeMap<PowerKey, Switch>,
 }
 
 impl Model for Power {
-    ghost use Rattle.fr_cold.specs.View.{PowerView, coded_view};
+    ghost use Rattle.fr_cold.specs.View.{PowerView, coded_power_view};
 
     ghost Value = { PowerView };
 
-    ghost coded = { coded_view };
+    ghost coded = { coded_power_view };
 
-    ghost use Rattle.fr_cold.specs.Inside.{view_of};
+    ghost use Rattle.fr_cold.specs.Inside.{power_view_of};
     ghost use Rattle.fr_cold.specs.View.{IsPower};
 
-    ghost view = { view_of };
+    ghost view = { power_view_of };
 
-    ghost invariant = { λ a. IsPower (view_of a) };
+    ghost invariant = { λ a. IsPower (power_view_of a) };
+}
+
+// One call: a derived drop is opened in each function that drops a value, and proved there.
+impl Drop for Power {
+    fn drop(self) {
+        let Power {
+            cycles: _,
+            switches: _,
+        } = self;
+    }
 }
 
 // What the tables stand for.
@@ -54,9 +63,9 @@ pub(crate) fn power_of(draft: Draft, cycles: u32) -> Power
 
 impl Power {
     /// How many cycles a run has.
-    #[tactic(auto, unfolding(crate::specs::Questions::cycles_of))]
+    #[tactic(auto, unfolding(crate::specs::Questions::cycles_of_power))]
     pub fn cycles(&self) -> u32
-        ensures value { result ≡ cycles_of self.now }
+        ensures value { result ≡ cycles_of_power self.now }
         ensures from { 1 ≤ result }
         ensures to { result ≤ 1000 }
     {

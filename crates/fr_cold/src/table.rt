@@ -44,7 +44,8 @@ impl StateTable {
 
     pub(crate) fn set(&mut self, node: NodeId, state: ColdState)
         requires { IsTimely state }
-        ensures { (other : ℕ) → IsNumber other → state_in self.new other ≡ (if other == node then state else state_in self.old other) }
+        ensures { (other : ℕ) → IsNumber other →
+            state_in self.new other ≡ (if other == node then state else state_in self.old other) }
     {
         self.states[usize::from(node.0) - 1] = state;
     }

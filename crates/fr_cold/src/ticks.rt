@@ -1,9 +1,9 @@
 ghost use Rattle.std.specs.Prelude.{◌≡◌, ◌≤◌, ◌&&◌, ◌||◌};
 ghost use Rattle.fr_startup.specs.Node.{sends};
 ghost use Rattle.fr_startup.specs.Moves.{IsTimely};
-ghost use Rattle.fr_startup.specs.Cluster.{States, action_of, cycle_of, is_busy, moved_states, states_at};
+ghost use Rattle.fr_startup.specs.Cluster.{States, action_of, is_busy, macroticks_of_cycle, moved_states, states_at};
 ghost use Rattle.fr_cluster.specs.Questions.{has_channel, node_of};
-ghost use Rattle.fr_cold.specs.Questions.{end_of, switches_of};
+ghost use Rattle.fr_cold.specs.Questions.{macroticks_of_run, switches_of};
 ghost use Rattle.fr_cold.specs.Cold.{Agrees};
 ghost use Rattle.fr_cold.specs.Events.{IsQuietUpTo, hears_by, ready_at};
 
@@ -16,7 +16,7 @@ use fr_startup::{ColdState, Switch, action, moved, quiet_before, ready, sends};
 
 // The macroticks of a cycle.
 pub(crate) fn cycle_length(params: &Params) -> u32
-    ensures value { result ≡ cycle_of params.now }
+    ensures value { result ≡ macroticks_of_cycle params.now }
     ensures from { 10 ≤ result }
     ensures to { result ≤ 16_000 }
 {
@@ -78,14 +78,16 @@ fn is_sending_on(
     node: NodeId,
 ) -> bool
     requires { IsTimely state }
-    ensures { result ≡ (sends (cycle_of params.now) (action_of params.now node) tick state && has_channel (node_of params.now node) channel) }
+    ensures { result ≡
+        (sends (macroticks_of_cycle params.now) (action_of params.now node) tick state &&
+        has_channel (node_of params.now node) channel) }
 {
     is_sending(params, tick, state, node) && has_channel(params, node, channel)
 }
 
 fn is_sending(params: &Params, tick: u32, state: ColdState, node: NodeId) -> bool
     requires { IsTimely state }
-    ensures { result ≡ sends (cycle_of params.now) (action_of params.now node) tick state }
+    ensures { result ≡ sends (macroticks_of_cycle params.now) (action_of params.now node) tick state }
 {
     sends(cycle_length(params), action(params, node), tick, state)
 }
@@ -159,9 +161,9 @@ pub(crate) fn next_event(
 }
 
 // The macroticks of the run.
-#[tactic(auto, unfolding(crate::specs::Questions::end_of, crate::specs::Questions::cycles_of))]
+#[tactic(auto, unfolding(crate::specs::Questions::macroticks_of_run, crate::specs::Questions::cycles_of_power))]
 pub(crate) fn end_tick(params: &Params, power: &Power) -> u32
-    ensures value { result ≡ end_of params.now power.now }
+    ensures value { result ≡ macroticks_of_run params.now power.now }
     ensures few { result ≤ 16_000_000 }
 {
     power.cycles() * cycle_length(params)

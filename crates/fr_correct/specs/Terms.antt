@@ -1,5 +1,6 @@
 -- The correction terms of a double cycle (sections 8.6.2 to 8.6.4), in microticks.
-use Rattle.std.specs.Prelude.{◌≡◌, ◌⊎◌, ◌↔◌, ℤ, pos, neg_ℤ, ◌+ℤ◌, ◌-ℤ◌, ◌≤ℤ◌, ◌<ℤ◌, int_lt, ◌||◌, if◌then◌else◌, Option, Some, None, List, []}
+use Rattle.std.specs.Prelude.{◌≡◌, ◌⊎◌, ◌↔◌, ℤ, pos, neg_ℤ, ◌+ℤ◌, ◌-ℤ◌, ◌≤ℤ◌, ◌<ℤ◌, int_lt, ◌||◌, ◌&&◌, Bool, true, false, if◌then◌else◌, Option, Some, None, List, []}
+use Rattle.fr_base.specs.declared.Outcome.{Outcome}
 use Rattle.fr_base.specs.declared.Outcome.TheVariants.{Within, Missing, Exceeded}
 use Rattle.fr_base.specs.Within.{IsWithin}
 use Rattle.fr_midpoint.specs.Midpoint.{IsMidpoint, midpoint_of}
@@ -29,6 +30,17 @@ term_of limit before = record {
 -- the term where there are no values: the one that is kept
 abbrev pub missing_term : ℤ → Term
 missing_term kept = record { value = kept; before = kept; outcome = Missing }
+
+-- whether a term lay within its limit
+abbrev pub is_uncut : Outcome → Bool
+is_uncut Within = true
+is_uncut Missing = false
+is_uncut Exceeded = false
+
+-- whether both terms did, where there are two
+abbrev pub are_uncut : Option (Outcome × Outcome) → Bool
+are_uncut None = false
+are_uncut (Some pair) = is_uncut pair.0 && is_uncut pair.1
 
 -- the offset term of some values (section 8.6.2): 0 without any, else their midpoint, cut to the limit
 abbrev pub IsOffsetTerm : ℤ → List ℤ → Term → Type 0

@@ -13,7 +13,7 @@ use Rattle.fr_drift.specs.Questions.{doubles_of, length_of, delay_of}
 use Rattle.fr_script.specs.View.{ScriptView, is_arbitrary}
 use Rattle.fr_coverage.specs.First.{first_below, first_in}
 use Rattle.fr_coverage.specs.Links.{is_link, shares, is_carried, link_gap}
-use Rattle.fr_coverage.specs.Coverage.{asked_checks, cycles_of, check_gap, count_of, outweighs, count_gap, is_off, length_gap, lengths_gap, has_jumped, change_gap, changes_gap, is_wrong, delay_gap, channel_gap, delays_gap, links_gap, first_of_nodes, first_of_pairs, first_gap}
+use Rattle.fr_coverage.specs.Coverage.{asked_checks, how_many_cycles, check_gap, count_of, outweighs, count_gap, is_off, length_gap, lengths_gap, has_jumped, change_gap, changes_gap, is_wrong, delay_gap, channel_gap, delays_gap, links_gap, first_of_nodes, first_of_pairs, first_gap}
 use Rattle.fr_coverage.specs.Order.{place_of_gap, IsEarlierGap, IsFailingCheck, IsRunCheckGap, IsCountGap, IsLengthGap, IsChangeGap, IsDelayGap, IsLinkGap, IsGap, IsFirstGap}
 use Rattle.fr_coverage.specs.declared.gap.Gap.{Gap}
 use Rattle.fr_coverage.specs.declared.gap.Gap.TheVariants as gap
@@ -53,7 +53,7 @@ abbrev AtLength : Values → DriftView → ℕ → ℕ → Gap → Type 0
 AtLength p d node cycle g = (is_off p (length_of d node cycle) ≡ true) × (g ≡ gap.Length node cycle (length_of d node cycle))
 
 abbrev OfLengths : Values → DriftView → ScriptView → NodeSpec → Gap → Type 0
-OfLengths p d s node g = (is_arbitrary s node.id ≡ false) × Below (AtLength p d node.id) (cycles_of d) g
+OfLengths p d s node g = (is_arbitrary s node.id ≡ false) × Below (AtLength p d node.id) (how_many_cycles d) g
 
 lengths-least : (p : Values) (d : DriftView) (s : ScriptView) → AllPairs (λ a b. a.id < b.id) p.nodes → IsLeast (IsLengthGap p d s) (first_of_nodes p (lengths_gap p d s))
 lengths-least p d s ascend =
@@ -69,8 +69,8 @@ lengths-least p d s ascend =
 
     of : (n : NodeSpec) → IsLeast (OfLengths p d s n) (lengths_gap p d s n)
     of n =
-        least-where-not (Below (AtLength p d n.id) (cycles_of d)) (is_arbitrary s n.id) _
-        (least-below (AtLength p d n.id) (length_gap p d n.id) (cycles_of d)
+        least-where-not (Below (AtLength p d n.id) (how_many_cycles d)) (is_arbitrary s n.id) _
+        (least-below (AtLength p d n.id) (length_gap p d n.id) (how_many_cycles d)
         (λ c. least-if (is_off p (length_of d n.id c)) (gap.Length n.id c (length_of d n.id c))) (along n.id))
 
     apart : (a b : NodeSpec) → a.id < b.id → AreApart (OfLengths p d s a) (OfLengths p d s b)
@@ -84,7 +84,7 @@ AtChange p d node cycle g =
     (has_jumped p (length_of d node (cycle - 1)) (length_of d node cycle) ≡ true) × (g ≡ gap.Change node cycle (length_of d node cycle -ℤ length_of d node (cycle - 1)))
 
 abbrev OfChanges : Values → DriftView → ScriptView → NodeSpec → Gap → Type 0
-OfChanges p d s node g = (is_arbitrary s node.id ≡ false) × Below (AtChange p d node.id) (cycles_of d) g
+OfChanges p d s node g = (is_arbitrary s node.id ≡ false) × Below (AtChange p d node.id) (how_many_cycles d) g
 
 -- nothing has changed since itself
 jumped-later : (p : Values) (d : DriftView) (node cycle : ℕ) → has_jumped p (length_of d node (cycle - 1)) (length_of d node cycle) ≡ true → 1 ≤ cycle
@@ -105,8 +105,8 @@ changes-least p d s ascend =
 
     of : (n : NodeSpec) → IsLeast (OfChanges p d s n) (changes_gap p d s n)
     of n =
-        least-where-not (Below (AtChange p d n.id) (cycles_of d)) (is_arbitrary s n.id) _
-        (least-below (AtChange p d n.id) (change_gap p d n.id) (cycles_of d)
+        least-where-not (Below (AtChange p d n.id) (how_many_cycles d)) (is_arbitrary s n.id) _
+        (least-below (AtChange p d n.id) (change_gap p d n.id) (how_many_cycles d)
         (λ c. least-if (has_jumped p (length_of d n.id (c - 1)) (length_of d n.id c)) (gap.Change n.id c (length_of d n.id c -ℤ length_of d n.id (c - 1)))) (along n.id))
 
     apart : (a b : NodeSpec) → a.id < b.id → AreApart (OfChanges p d s a) (OfChanges p d s b)
@@ -119,7 +119,7 @@ abbrev AtDelay : Values → DriftView → ℕ → ℕ → Channel → ℕ → Ga
 AtDelay p d i j ch cycle g = (is_wrong p ch (delay_of d i j ch cycle) ≡ true) × (g ≡ gap.Delay i j ch cycle (delay_of d i j ch cycle))
 
 abbrev OnChannel : Values → DriftView → NodeSpec → NodeSpec → Channel → Gap → Type 0
-OnChannel p d a b ch g = (shares a b ch ≡ true) × Below (AtDelay p d a.id b.id ch) (cycles_of d) g
+OnChannel p d a b ch g = (shares a b ch ≡ true) × Below (AtDelay p d a.id b.id ch) (how_many_cycles d) g
 
 abbrev OfDelays : Values → DriftView → ScriptView → NodeSpec → NodeSpec → Gap → Type 0
 OfDelays p d s a b g = (is_link s a b ≡ true) × (OnChannel p d a b channel.A g ⊎ OnChannel p d a b channel.B g)
@@ -169,8 +169,8 @@ delays-least p d s ascend =
   where
     on : (a b : NodeSpec) (ch : Channel) → IsLeast (OnChannel p d a b ch) (channel_gap p d a b ch)
     on a b ch =
-        least-where (Below (AtDelay p d a.id b.id ch) (cycles_of d)) (shares a b ch) _
-        (least-below (AtDelay p d a.id b.id ch) (delay_gap p d a.id b.id ch) (cycles_of d)
+        least-where (Below (AtDelay p d a.id b.id ch) (how_many_cycles d)) (shares a b ch) _
+        (least-below (AtDelay p d a.id b.id ch) (delay_gap p d a.id b.id ch) (how_many_cycles d)
         (λ c. least-if (is_wrong p ch (delay_of d a.id b.id ch c)) (gap.Delay a.id b.id ch c (delay_of d a.id b.id ch c))) (delays-along p d a.id b.id ch))
 
     of : (a b : NodeSpec) → IsLeast (OfDelays p d s a b) (delays_gap p d s a b)

@@ -19,8 +19,8 @@ use Rattle.fr_coverage.specs.declared.gap.Gap.{Gap}
 use Rattle.fr_coverage.specs.declared.gap.Gap.TheVariants as gap
 
 -- the cycles of the run
-abbrev pub cycles_of : DriftView → ℕ
-cycles_of d = 2 * doubles_of d
+abbrev pub how_many_cycles : DriftView → ℕ
+how_many_cycles d = 2 * doubles_of d
 
 -- 1: the check after k others, numbered from 1, fails
 abbrev pub check_gap : Values → ℕ → Option Gap
@@ -48,11 +48,11 @@ abbrev pub run_checks_gap : Values → ScriptView → Option Gap
 run_checks_gap p s = first_below (check_gap p) (asked_checks p s)
 
 -- 2: so many correct sync nodes that take part from cycle 0 on do not outweigh so many arbitrary ones
-abbrev pub stays_on : ScriptView → ℕ → Bool
-stays_on s node = not (is_arbitrary s node) && is_none (join_of s node)
+abbrev pub is_counted_on : ScriptView → ℕ → Bool
+is_counted_on s node = not (is_arbitrary s node) && is_none (join_of s node)
 
 abbrev pub is_counted : ScriptView → Bool → NodeSpec → Bool
-is_counted s arbitrary node = is_sync node && (if arbitrary then is_arbitrary s node.id else stays_on s node.id)
+is_counted s arbitrary node = is_sync node && (if arbitrary then is_arbitrary s node.id else is_counted_on s node.id)
 
 abbrev pub count_of : ScriptView → Bool → List NodeSpec → ℕ
 count_of s arbitrary nodes = count_by (is_counted s arbitrary) nodes
@@ -76,7 +76,7 @@ abbrev pub length_gap : Values → DriftView → ℕ → ℕ → Option Gap
 length_gap p d node cycle = if is_off p (length_of d node cycle) then Some (gap.Length node cycle (length_of d node cycle)) else None
 
 abbrev pub lengths_gap : Values → DriftView → ScriptView → NodeSpec → Option Gap
-lengths_gap p d s node = if is_arbitrary s node.id then None else first_below (length_gap p d node.id) (cycles_of d)
+lengths_gap p d s node = if is_arbitrary s node.id then None else first_below (length_gap p d node.id) (how_many_cycles d)
 
 -- 4: a microtick differs by too much from that of the cycle before; before cycle 0 there is none, so it is compared with itself
 abbrev pub has_jumped : Values → ℤ → ℤ → Bool
@@ -90,7 +90,7 @@ change_gap p d node cycle =
     else None
 
 abbrev pub changes_gap : Values → DriftView → ScriptView → NodeSpec → Option Gap
-changes_gap p d s node = if is_arbitrary s node.id then None else first_below (change_gap p d node.id) (cycles_of d)
+changes_gap p d s node = if is_arbitrary s node.id then None else first_below (change_gap p d node.id) (how_many_cycles d)
 
 -- 5: a delay lies too far from what is taken off each arrival on its channel
 abbrev pub expected_delay : Values → Channel → ℤ
@@ -105,7 +105,7 @@ delay_gap p d sender receiver ch cycle =
     if is_wrong p ch (delay_of d sender receiver ch cycle) then Some (gap.Delay sender receiver ch cycle (delay_of d sender receiver ch cycle)) else None
 
 abbrev pub channel_gap : Values → DriftView → NodeSpec → NodeSpec → Channel → Option Gap
-channel_gap p d a b ch = if shares a b ch then first_below (delay_gap p d a.id b.id ch) (cycles_of d) else None
+channel_gap p d a b ch = if shares a b ch then first_below (delay_gap p d a.id b.id ch) (how_many_cycles d) else None
 
 abbrev pub delays_gap : Values → DriftView → ScriptView → NodeSpec → NodeSpec → Option Gap
 delays_gap p d s a b = if is_link s a b then option_or (channel_gap p d a b channel.A) (channel_gap p d a b channel.B) else None

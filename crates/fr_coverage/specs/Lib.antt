@@ -4,3 +4,4 @@ pub mod Links
 pub mod Coverage
 pub mod Order
 pub mod Decided
+pub mod Phrases

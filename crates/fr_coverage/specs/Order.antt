@@ -12,7 +12,7 @@ use Rattle.fr_drift.specs.View.{DriftView}
 use Rattle.fr_drift.specs.Questions.{doubles_of, length_of, delay_of}
 use Rattle.fr_script.specs.View.{ScriptView, is_arbitrary}
 use Rattle.fr_coverage.specs.Links.{is_link, shares, is_carried}
-use Rattle.fr_coverage.specs.Coverage.{asked_checks, cycles_of, count_of, outweighs, is_off, has_jumped, is_wrong, first_gap}
+use Rattle.fr_coverage.specs.Coverage.{asked_checks, how_many_cycles, count_of, outweighs, is_off, has_jumped, is_wrong, first_gap}
 use Rattle.fr_coverage.specs.declared.gap.Gap.{Gap}
 use Rattle.fr_coverage.specs.declared.gap.Gap.TheVariants as gap
 
@@ -55,7 +55,7 @@ pub record IsLengthGap (p : Values) (d : DriftView) (s : ScriptView) (g : Gap) :
   pub there : Contains p.nodes node
   pub correct : is_arbitrary s node.id ≡ false
   pub cycle : ℕ
-  pub within : cycle < cycles_of d
+  pub within : cycle < how_many_cycles d
   pub off : is_off p (length_of d node.id cycle) ≡ true
   pub told : g ≡ gap.Length node.id cycle (length_of d node.id cycle)
 
@@ -66,7 +66,7 @@ pub record IsChangeGap (p : Values) (d : DriftView) (s : ScriptView) (g : Gap) :
   pub correct : is_arbitrary s node.id ≡ false
   pub cycle : ℕ
   pub later : 1 ≤ cycle
-  pub within : cycle < cycles_of d
+  pub within : cycle < how_many_cycles d
   pub jumped : has_jumped p (length_of d node.id (cycle - 1)) (length_of d node.id cycle) ≡ true
   pub told : g ≡ gap.Change node.id cycle (length_of d node.id cycle -ℤ length_of d node.id (cycle - 1))
 
@@ -81,7 +81,7 @@ pub record IsDelayGap (p : Values) (d : DriftView) (s : ScriptView) (g : Gap) : 
   pub ch : Channel
   pub shared : shares sender receiver ch ≡ true
   pub cycle : ℕ
-  pub within : cycle < cycles_of d
+  pub within : cycle < how_many_cycles d
   pub wrong : is_wrong p ch (delay_of d sender.id receiver.id ch cycle) ≡ true
   pub told : g ≡ gap.Delay sender.id receiver.id ch cycle (delay_of d sender.id receiver.id ch cycle)
 

@@ -1,6 +1,6 @@
 ghost use Rattle.std.specs.Prelude.{◌≡◌, ◌≤◌, ◌&&◌, not, is_some, length};
 ghost use Rattle.fr_script.specs.View.{is_arbitrary, join_of};
-ghost use Rattle.fr_coverage.specs.Coverage.{is_counted, some_join_in, stays_on};
+ghost use Rattle.fr_coverage.specs.Coverage.{is_counted, is_counted_on, some_join_in};
 
 use fr_cluster::{NodeList, NodeSpec};
 use fr_script::Script;
@@ -42,7 +42,7 @@ pub(crate) fn is_counted(script: &Script, arbitrary: bool, node: &NodeSpec) -> b
 }
 
 fn stays_on(script: &Script, node: &NodeSpec) -> bool
-    ensures { result ≡ stays_on script.now node.now.id }
+    ensures { result ≡ is_counted_on script.now node.now.id }
 {
     !script.arbitrary(node.id) && script.join(node.id).is_none()
 }

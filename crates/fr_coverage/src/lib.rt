@@ -1,7 +1,10 @@
-//! Whether a run is covered by the precision theorem: the first gap of its three files, if there is one.
+//! Whether a run is covered by the precision theorem: the first gap of its three files, if there is one; and the
+//! lines that are told of a run and of a recorded trace alike.
 #![tactic(auto)]
 
+mod clocks;
 mod gap;
+mod gap_words;
 mod gaps;
 mod joining;
 mod laws;
@@ -9,6 +12,8 @@ mod linking;
 mod search;
 mod spans;
 
+pub use clocks::{precision_line, skew_line, sync_line};
 pub use gap::Gap;
+pub use gap_words::gap_line;
 pub use gaps::covered;
 pub use laws::{covered_run_has_no_gap, first_gap_is_found, found_gap_is_first};

@@ -1,6 +1,6 @@
 ghost use Rattle.std.specs.Prelude.{◌≡◌, ◌≤◌, ◌≤ℤ◌, pos, neg_ℤ};
 ghost use Rattle.fr_coverage.specs.First.{first_below};
-ghost use Rattle.fr_coverage.specs.Coverage.{change_gap, cycles_of, delay_gap, has_jumped, is_off, is_wrong, length_gap};
+ghost use Rattle.fr_coverage.specs.Coverage.{change_gap, delay_gap, has_jumped, how_many_cycles, is_off, is_wrong, length_gap};
 
 use crate::gap::Gap;
 use fr_base::{Channel, NodeId};
@@ -13,7 +13,7 @@ const NOMINAL: i64 = 1_000_000;
 // The first cycle of the run in which the microtick of a node is too short or too long. It takes time as the
 // node has rows of lengths.
 pub(crate) fn first_length(params: &Params, drift: &Drift, node: NodeId) -> Option<Gap>
-    ensures { result ≡ first_below (length_gap params.now drift.now node) (cycles_of drift.now) }
+    ensures { result ≡ first_below (length_gap params.now drift.now node) (how_many_cycles drift.now) }
 {
     let end = cycles(drift);
     let mut cycle = 0;
@@ -30,7 +30,7 @@ pub(crate) fn first_length(params: &Params, drift: &Drift, node: NodeId) -> Opti
 // The first cycle of the run in which the microtick of a node has changed by too much. It takes time as the
 // node has rows of lengths.
 pub(crate) fn first_change(params: &Params, drift: &Drift, node: NodeId) -> Option<Gap>
-    ensures { result ≡ first_below (change_gap params.now drift.now node) (cycles_of drift.now) }
+    ensures { result ≡ first_below (change_gap params.now drift.now node) (how_many_cycles drift.now) }
 {
     let end = cycles(drift);
     let mut cycle: u32 = 0;
@@ -58,7 +58,8 @@ pub(crate) fn first_delay(
     receiver: NodeId,
     channel: Channel,
 ) -> Option<Gap>
-    ensures { result ≡ first_below (delay_gap params.now drift.now sender receiver channel) (cycles_of drift.now) }
+    ensures { result ≡
+        first_below (delay_gap params.now drift.now sender receiver channel) (how_many_cycles drift.now) }
 {
     let end = cycles(drift);
     let mut cycle = 0;
@@ -79,7 +80,7 @@ pub(crate) fn first_delay(
 }
 
 fn cycles(drift: &Drift) -> u32
-    ensures value { result ≡ cycles_of drift.now }
+    ensures value { result ≡ how_many_cycles drift.now }
     ensures few { result ≤ 200_000 }
 {
     2 * drift.doubles()

@@ -7,7 +7,7 @@ use Rattle.fr_crc.specs.Register.{register_stepped, after}
 use Rattle.fr_crc.proofs.Sums.{length-xor, length-zeros}
 use Rattle.fr_crc.proofs.Division.{after-append, divides}
 use Rattle.fr_crc.proofs.Unique.{remainder_is_one}
-use Rattle.fr_damage.specs.Damage.{inverted, is_odd, EndsInOne, DifferWithin}
+use Rattle.fr_damage.specs.Damage.{inverted, has_odd_ones, EndsInOne, DifferWithin}
 use Rattle.fr_damage.proofs.Registers.{xor_self, xor_none, after-sum, feed}
 use Rattle.fr_damage.proofs.Patterns.{Unseen, not_empty, length-inverted, one_difference, one_is_seen, two_difference, two_are_seen, odd_is_seen, burst_is_seen, burst_difference, burst_long, two_unseen, stays_away, generator_unseen, window_difference}
 
@@ -95,11 +95,11 @@ two_bits_alike g s m r q place d some back below one other =
     let P : List Bool → Type 0 = λ (xs : List Bool). IsCrc g none (xor m n) xs in
     (equal_crcs g s m n r q some long one other).1 (subst P unseen (divides g none (xor m n) some (length-zeros (length g))))
 
-has_some : (g : List Bool) → is_odd g ≡ true → 0 < length g
+has_some : (g : List Bool) → has_odd_ones g ≡ true → 0 < length g
 has_some [] odd = absurd (cc)
 has_some (x ∷ g) odd = omega arith
 
-pub odd_bits : (g s m n r q : List Bool) → is_odd g ≡ true → length m ≡ length n → is_odd (xor m n) ≡ true → IsCrc g s m r → IsCrc g s n q → r ≡ q → ⊥
+pub odd_bits : (g s m n r q : List Bool) → has_odd_ones g ≡ true → length m ≡ length n → has_odd_ones (xor m n) ≡ true → IsCrc g s m r → IsCrc g s n q → r ≡ q → ⊥
 odd_bits g s m n r q odd long some one other same =
     odd_is_seen g (xor m n) odd some (alike_unseen g s m n r q (has_some g odd) long one other same)
 

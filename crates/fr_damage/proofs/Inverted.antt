@@ -10,7 +10,7 @@ use Rattle.fr_frame.specs.declared.header.Header.{Header}
 use Rattle.fr_frame.specs.Frame.{IsFrame, IsNoFrame}
 use Rattle.fr_frame.proofs.Exact.{lengths_fit}
 use Rattle.fr_frame.proofs.Parts.{frame_checks}
-use Rattle.fr_damage.specs.Damage.{inverted, is_odd, EndsInOne, header_code, IsInHeaderCode, IsOutsideHeaderCode, FailsHeaderCrc, FailsFrameCrc}
+use Rattle.fr_damage.specs.Damage.{inverted, has_odd_ones, EndsInOne, header_code, IsInHeaderCode, IsOutsideHeaderCode, FailsHeaderCrc, FailsFrameCrc}
 use Rattle.fr_damage.proofs.Patterns.{Unseen, length-inverted, one_difference, one_is_seen, two_difference, two_are_seen, odd_is_seen, stays_away}
 use Rattle.fr_damage.proofs.Periods.{header_ends, frame_ends, header_odd, frame_odd, header_stays_away, frame_stays_away}
 use Rattle.fr_damage.proofs.Spelling.{length-message}
@@ -180,16 +180,16 @@ two_outside channel h payload bytes damaged place distance frame small near far 
 
 -- ---- an odd number of inverted bits
 pub odd_no_frame : (channel : Channel) (h : Header) (payload bytes damaged : List ℕ) → IsFrame channel h payload bytes → length damaged ≡ length bytes →
-    is_odd (xor (message_of bytes) (message_of damaged)) ≡ true → IsNoFrame channel damaged
+    has_odd_ones (xor (message_of bytes) (message_of damaged)) ≡ true → IsNoFrame channel damaged
 odd_no_frame channel h payload bytes damaged frame long odd =
     seen_is_no_frame channel h payload bytes damaged frame (sym long) (odd_is_seen frame_generator (xor (message_of bytes) (message_of damaged)) frame_odd odd)
 
 pub odd_in_header_code : (channel : Channel) (h : Header) (payload bytes damaged : List ℕ) → IsFrame channel h payload bytes → All (λ b. b < 2 ^ 8) damaged → length damaged ≡ length bytes →
-    is_odd (xor (header_code (message_of bytes)) (header_code (message_of damaged))) ≡ true → FailsHeaderCrc channel damaged
+    has_odd_ones (xor (header_code (message_of bytes)) (header_code (message_of damaged))) ≡ true → FailsHeaderCrc channel damaged
 odd_in_header_code channel h payload bytes damaged frame small long odd =
     seen_in_header channel h payload bytes damaged frame (sym long) small (odd_is_seen header_generator (xor (header_code (message_of bytes)) (header_code (message_of damaged))) header_odd odd)
 
 pub odd_outside : (channel : Channel) (h : Header) (payload bytes damaged : List ℕ) → IsFrame channel h payload bytes → All (λ b. b < 2 ^ 8) damaged → length damaged ≡ length bytes →
-    header_code (message_of damaged) ≡ header_code (message_of bytes) → is_odd (xor (message_of bytes) (message_of damaged)) ≡ true → FailsFrameCrc channel damaged
+    header_code (message_of damaged) ≡ header_code (message_of bytes) → has_odd_ones (xor (message_of bytes) (message_of damaged)) ≡ true → FailsFrameCrc channel damaged
 odd_outside channel h payload bytes damaged frame small long same odd =
     seen_in_frame channel h payload bytes damaged frame (sym long) small same (odd_is_seen frame_generator (xor (message_of bytes) (message_of damaged)) frame_odd odd)

@@ -11,3 +11,6 @@ pub mod Crossed
 pub mod Sees
 pub mod Weights
 pub mod Few
+pub mod Copies
+pub mod Unstored
+pub mod Rows

@@ -6,7 +6,7 @@ use Rattle.fr_crc.specs.Bits.{differ, xor, zeros}
 use Rattle.fr_crc.specs.Register.{register_stepped, after}
 use Rattle.fr_crc.proofs.Sums.{xor_comm, xor-append, xor-zeros, xor_twice, length-xor, length-zeros}
 use Rattle.fr_crc.proofs.Division.{length-stepped, after-append}
-use Rattle.fr_damage.specs.Damage.{inverted, EndsInOne, is_odd, DifferWithin}
+use Rattle.fr_damage.specs.Damage.{inverted, EndsInOne, has_odd_ones, DifferWithin}
 use Rattle.fr_damage.proofs.Registers.{xor_self, xor_none, stepped-sum, after-sum, length-after, zeros_end, zeros_join, idle, feed, after_back, is_odd-zeros, is_odd-after}
 
 -- a difference that leaves the register as it is
@@ -192,12 +192,12 @@ pub two_difference : (i j : ℕ) (m : List Bool) → xor m (inverted i (inverted
 two_difference i j m = inverted-xor i m (inverted j m) ∙ ap (inverted i) (one_difference j m)
 
 -- ---- an odd number of inverted bits
-pub odd_is_seen : (g e : List Bool) → is_odd g ≡ true → is_odd e ≡ true → Unseen g e → ⊥
+pub odd_is_seen : (g e : List Bool) → has_odd_ones g ≡ true → has_odd_ones e ≡ true → Unseen g e → ⊥
 odd_is_seen g e odd some unseen =
     let none : List Bool = zeros (length g) in
-    let even : is_odd none ≡ false = is_odd-zeros (length g) in
-    let parity : is_odd (after g none e) ≡ differ (is_odd none) (is_odd e) = is_odd-after g none e odd (length-zeros (length g)) in
-    let both : true ≡ false = sym (parity ∙ ap (λ (b : Bool). differ b (is_odd e)) even ∙ some) ∙ ap is_odd unseen ∙ even in
+    let even : has_odd_ones none ≡ false = is_odd-zeros (length g) in
+    let parity : has_odd_ones (after g none e) ≡ differ (has_odd_ones none) (has_odd_ones e) = is_odd-after g none e odd (length-zeros (length g)) in
+    let both : true ≡ false = sym (parity ∙ ap (λ (b : Bool). differ b (has_odd_ones e)) even ∙ some) ∙ ap has_odd_ones unseen ∙ even in
     absurd (cc)
 
 -- ---- a burst: zeros, at most so many bits that are not all zeros, zeros

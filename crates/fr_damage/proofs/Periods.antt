@@ -5,7 +5,7 @@ use Rattle.fr_crc.specs.Bits.{bits, zeros}
 use Rattle.fr_crc.specs.Crc.{header_generator, frame_generator}
 use Rattle.fr_crc.proofs.Remainders.{length-bits}
 use Rattle.fr_crc.specs.Register.{register_stepped, after}
-use Rattle.fr_damage.specs.Damage.{is_odd, EndsInOne}
+use Rattle.fr_damage.specs.Damage.{has_odd_ones, EndsInOne}
 use Rattle.fr_damage.proofs.Patterns.{stays_away}
 use Rattle.fr_damage.proofs.Sees.{sees}
 
@@ -17,11 +17,11 @@ pub frame_ends : EndsInOne frame_generator
 unfolding bits
 frame_ends = refl
 
-pub header_odd : is_odd header_generator ≡ true
+pub header_odd : has_odd_ones header_generator ≡ true
 unfolding bits
 header_odd = refl
 
-pub frame_odd : is_odd frame_generator ≡ true
+pub frame_odd : has_odd_ones frame_generator ≡ true
 unfolding bits
 frame_odd = refl
 

@@ -5,7 +5,7 @@ use Rattle.fr_crc.specs.Bits.{differ, xor, zeros, times_bit}
 use Rattle.fr_crc.specs.Register.{register_stepped, after}
 use Rattle.fr_crc.proofs.Sums.{differ-false, differ_self, differ_comm, differ_assoc, xor_comm, xor_assoc, xor-append, xor-zeros, xor_twice, length-zeros, length-times_bit}
 use Rattle.fr_crc.proofs.Division.{length-stepped, zeros_after}
-use Rattle.fr_damage.specs.Damage.{last_after, EndsInOne, is_odd}
+use Rattle.fr_damage.specs.Damage.{last_after, EndsInOne, has_odd_ones}
 
 -- ---- sums
 pub xor_self : (xs : List Bool) → xor xs xs ≡ zeros (length xs)
@@ -130,42 +130,42 @@ after_back g s (suc n) ends long none =
     step_back g s ends long (after_back g (register_stepped g s false) n ends (length-stepped g s false long) none)
 
 -- ---- the parity of the register
-is_odd-xor : (xs ys : List Bool) → length xs ≡ length ys → is_odd (xor xs ys) ≡ differ (is_odd xs) (is_odd ys)
+is_odd-xor : (xs ys : List Bool) → length xs ≡ length ys → has_odd_ones (xor xs ys) ≡ differ (has_odd_ones xs) (has_odd_ones ys)
 is_odd-xor [] [] same = refl
 is_odd-xor [] (y ∷ ys) same = absurd (omega arith)
 is_odd-xor (x ∷ xs) [] same = absurd (omega arith)
-is_odd-xor (x ∷ xs) (y ∷ ys) same = ap (differ (differ x y)) (is_odd-xor xs ys (omega arith)) ∙ differ_middle x y (is_odd xs) (is_odd ys)
+is_odd-xor (x ∷ xs) (y ∷ ys) same = ap (differ (differ x y)) (is_odd-xor xs ys (omega arith)) ∙ differ_middle x y (has_odd_ones xs) (has_odd_ones ys)
 
-pub is_odd-zeros : (n : ℕ) → is_odd (zeros n) ≡ false
+pub is_odd-zeros : (n : ℕ) → has_odd_ones (zeros n) ≡ false
 is_odd-zeros zero = refl
 is_odd-zeros (suc n) = is_odd-zeros n
 
-is_odd-end : (s : List Bool) → is_odd (s ++ false ∷ []) ≡ is_odd s
+is_odd-end : (s : List Bool) → has_odd_ones (s ++ false ∷ []) ≡ has_odd_ones s
 is_odd-end [] = refl
 is_odd-end (x ∷ s) = ap (differ x) (is_odd-end s)
 
-is_odd-times : (b : Bool) (g : List Bool) → is_odd g ≡ true → is_odd (times_bit b g) ≡ b
+is_odd-times : (b : Bool) (g : List Bool) → has_odd_ones g ≡ true → has_odd_ones (times_bit b g) ≡ b
 is_odd-times false g odd = is_odd-zeros (length g)
 is_odd-times true g odd = odd
 
-is_odd-stepped : (g s : List Bool) (b : Bool) → is_odd g ≡ true → length s ≡ length g → is_odd (register_stepped g s b) ≡ differ (is_odd s) b
+is_odd-stepped : (g s : List Bool) (b : Bool) → has_odd_ones g ≡ true → length s ≡ length g → has_odd_ones (register_stepped g s b) ≡ differ (has_odd_ones s) b
 is_odd-stepped g [] b odd long = absurd (nothing g odd long)
   where
-    nothing : (xs : List Bool) → is_odd xs ≡ true → 0 ≡ length xs → ⊥
+    nothing : (xs : List Bool) → has_odd_ones xs ≡ true → 0 ≡ length xs → ⊥
     nothing [] odd none = cc
     nothing (x ∷ xs) odd none = omega arith
 is_odd-stepped g (t ∷ s) b odd long =
     let one : List Bool = false ∷ [] in
     let e : length (s ++ one) ≡ length (times_bit (differ t b) g) = rw (length-append, length-times_bit (differ t b) g) (omega (arith, long)) in
     is_odd-xor (s ++ one) (times_bit (differ t b) g) e
-    ∙ ap (λ (x : Bool). differ x (is_odd (times_bit (differ t b) g))) (is_odd-end s)
-    ∙ ap (differ (is_odd s)) (is_odd-times (differ t b) g odd)
-    ∙ sym (differ_assoc (is_odd s) t b)
-    ∙ ap (λ (x : Bool). differ x b) (differ_comm (is_odd s) t)
+    ∙ ap (λ (x : Bool). differ x (has_odd_ones (times_bit (differ t b) g))) (is_odd-end s)
+    ∙ ap (differ (has_odd_ones s)) (is_odd-times (differ t b) g odd)
+    ∙ sym (differ_assoc (has_odd_ones s) t b)
+    ∙ ap (λ (x : Bool). differ x b) (differ_comm (has_odd_ones s) t)
 
-pub is_odd-after : (g s m : List Bool) → is_odd g ≡ true → length s ≡ length g → is_odd (after g s m) ≡ differ (is_odd s) (is_odd m)
-is_odd-after g s [] odd long = sym (differ-false (is_odd s))
+pub is_odd-after : (g s m : List Bool) → has_odd_ones g ≡ true → length s ≡ length g → has_odd_ones (after g s m) ≡ differ (has_odd_ones s) (has_odd_ones m)
+is_odd-after g s [] odd long = sym (differ-false (has_odd_ones s))
 is_odd-after g s (b ∷ m) odd long =
     is_odd-after g (register_stepped g s b) m odd (length-stepped g s b long)
-    ∙ ap (λ (x : Bool). differ x (is_odd m)) (is_odd-stepped g s b odd long)
-    ∙ differ_assoc (is_odd s) b (is_odd m)
+    ∙ ap (λ (x : Bool). differ x (has_odd_ones m)) (is_odd-stepped g s b odd long)
+    ∙ differ_assoc (has_odd_ones s) b (has_odd_ones m)

@@ -7,7 +7,7 @@ use Rattle.fr_crc.specs.Register.{register_stepped, after}
 use Rattle.fr_crc.proofs.Division.{after-append, length-stepped}
 use Rattle.fr_crc.proofs.Remainders.{length-bits}
 use Rattle.fr_crc.proofs.Sums.{xor-append, length-xor, length-zeros}
-use Rattle.fr_damage.specs.Damage.{EndsInOne, is_odd, ones}
+use Rattle.fr_damage.specs.Damage.{EndsInOne, has_odd_ones, ones}
 use Rattle.fr_damage.proofs.Registers.{xor_none, idle, after_back}
 use Rattle.fr_damage.proofs.Patterns.{Unseen, away, not_empty, odd_is_seen, one_stepped, passed, two_return}
 use Rattle.fr_damage.proofs.Periods.{header_ends, frame_ends, header_odd, frame_odd, frame_stays_away, header_sees}
@@ -28,9 +28,9 @@ no_ones [] none = refl
 no_ones (false ∷ e) none = ap (λ (xs : List Bool). false ∷ xs) (no_ones e (omega arith))
 no_ones (true ∷ e) none = absurd (omega arith)
 
-parity : (e : List Bool) → (k : ℕ) × (ones e ≡ 2 * k + one_of (is_odd e))
+parity : (e : List Bool) → (k : ℕ) × (ones e ≡ 2 * k + one_of (has_odd_ones e))
 parity [] = (0, refl)
-parity (b ∷ e) = let rest : (k : ℕ) × (ones e ≡ 2 * k + one_of (is_odd e)) = parity e in more b (is_odd e) rest.0 (ones e) rest.1
+parity (b ∷ e) = let rest : (k : ℕ) × (ones e ≡ 2 * k + one_of (has_odd_ones e)) = parity e in more b (has_odd_ones e) rest.0 (ones e) rest.1
   where
     more : (b odd : Bool) (k n : ℕ) → n ≡ 2 * k + one_of odd → (j : ℕ) × (one_of b + n ≡ 2 * j + one_of (differ b odd))
     more false odd k n is = (k, omega (arith, is))
@@ -38,10 +38,10 @@ parity (b ∷ e) = let rest : (k : ℕ) × (ones e ≡ 2 * k + one_of (is_odd e)
     more true true k n is = (suc k, omega (arith, is))
 
 -- an even number of bits
-even_ones : (e : List Bool) → is_odd e ≡ false → (k : ℕ) × (ones e ≡ 2 * k)
+even_ones : (e : List Bool) → has_odd_ones e ≡ false → (k : ℕ) × (ones e ≡ 2 * k)
 even_ones e even =
-    let found : (k : ℕ) × (ones e ≡ 2 * k + one_of (is_odd e)) = parity e in
-    let none : one_of (is_odd e) ≡ 0 = ap one_of even in
+    let found : (k : ℕ) × (ones e ≡ 2 * k + one_of (has_odd_ones e)) = parity e in
+    let none : one_of (has_odd_ones e) ≡ 0 = ap one_of even in
     (found.0, omega (arith, found.1, none))
 
 -- the first one
@@ -99,7 +99,7 @@ sees_each (suc n) (suc w) g r (true ∷ e) ends wide sees_it long few none =
 
 -- ---- 31 bits and the header's generator
 pub five_are_seen : (e : List Bool) → length e ≤ 31 → 1 ≤ ones e → ones e ≤ 5 → Unseen header_generator e → ⊥
-five_are_seen e short some few unseen = elim (cases_Bool (is_odd e)) [
+five_are_seen e short some few unseen = elim (cases_Bool (has_odd_ones e)) [
   | inl odd ↦ odd_is_seen header_generator e header_odd odd unseen
   | inr even ↦
       let g : List Bool = header_generator in
@@ -119,7 +119,7 @@ five_are_seen e short some few unseen = elim (cases_Bool (is_odd e)) [
 
 -- ---- 2,096 bits and the frame's generator
 pub three_are_seen : (e : List Bool) → length e ≤ 2096 → 1 ≤ ones e → ones e ≤ 3 → Unseen frame_generator e → ⊥
-three_are_seen e short some few unseen = elim (cases_Bool (is_odd e)) [
+three_are_seen e short some few unseen = elim (cases_Bool (has_odd_ones e)) [
   | inl odd ↦ odd_is_seen frame_generator e frame_odd odd unseen
   | inr even ↦
       let g : List Bool = frame_generator in

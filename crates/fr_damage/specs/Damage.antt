@@ -13,9 +13,9 @@ inverted (suc place) [] = []
 inverted (suc place) (b ∷ bits) = b ∷ inverted place bits
 
 -- whether an odd number of bits is 1
-abbrev pub is_odd : List Bool → Bool
-is_odd [] = false
-is_odd (b ∷ bits) = differ b (is_odd bits)
+abbrev pub has_odd_ones : List Bool → Bool
+has_odd_ones [] = false
+has_odd_ones (b ∷ bits) = differ b (has_odd_ones bits)
 
 -- how many bits are 1
 abbrev pub ones : List Bool → ℕ

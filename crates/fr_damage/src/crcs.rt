@@ -1,7 +1,7 @@
 ghost use Rattle.std.specs.Prelude.{◌≡◌, ◌≢◌, ◌↔◌, ◌+◌, ◌*◌, ◌<◌, ◌≤◌, ℕ, true, List, ◌∷◌, ◌++◌, Bool, length};
 ghost use Rattle.fr_crc.specs.Bits.{xor, zeros};
 ghost use Rattle.fr_crc.specs.Crc.{IsCrc, frame_generator, header_generator};
-ghost use Rattle.fr_damage.specs.Damage.{DifferWithin, EndsInOne, inverted, is_odd, ones};
+ghost use Rattle.fr_damage.specs.Damage.{DifferWithin, EndsInOne, has_odd_ones, inverted, ones};
 
 /// A law: the remainder of a sum without carry of two messages of one length is the sum of their remainders,
 /// with the sum of their start values.
@@ -35,12 +35,12 @@ pub fn one_bit_changes_the_crc()
 /// generator with its first bit has an even number of ones. Both generators have.
 pub fn an_odd_number_of_bits_changes_the_crc()
     ensures any { (generator start message further first second : List Bool) →
-        is_odd generator ≡ true → length message ≡ length further →
-        is_odd (xor message further) ≡ true →
+        has_odd_ones generator ≡ true → length message ≡ length further →
+        has_odd_ones (xor message further) ≡ true →
         IsCrc generator start message first → IsCrc generator start further second →
         first ≢ second }
-    ensures header { is_odd header_generator ≡ true }
-    ensures frame { is_odd frame_generator ≡ true }
+    ensures header { has_odd_ones header_generator ≡ true }
+    ensures frame { has_odd_ones frame_generator ≡ true }
 {}
 
 /// A law: two messages that differ only within a window as wide as the CRC have different CRCs, where the last bit

@@ -5,7 +5,7 @@ ghost use Rattle.fr_frame.specs.declared.header.Header.{Header};
 ghost use Rattle.fr_frame.specs.Frame.{IsFrame, IsFrameWith, IsNoFrame};
 ghost use Rattle.fr_frame.specs.Fault.{IsFirstFault};
 ghost use Rattle.fr_frame.specs.declared.fault.FrameFault.TheVariants.{FrameCrc, HeaderCrc};
-ghost use Rattle.fr_damage.specs.Damage.{DifferWithin, FailsFrameCrc, FailsHeaderCrc, IsInHeaderCode, IsOutsideHeaderCode, header_code, inverted, is_odd, ones};
+ghost use Rattle.fr_damage.specs.Damage.{DifferWithin, FailsFrameCrc, FailsHeaderCrc, IsInHeaderCode, IsOutsideHeaderCode, has_odd_ones, header_code, inverted, ones};
 
 /// A law: a frame with one bit inverted is no frame on its channel. Its first fault is the header CRC where the bit
 /// is one of the 20 bits that this covers or of its own 11 bits, and else the frame CRC. Bits count from 0, the
@@ -89,17 +89,17 @@ pub fn two_bits_leave_no_frame()
 pub fn an_odd_number_of_bits_leaves_no_frame()
     ensures none { (channel : Channel) (header : Header) (payload bytes damaged : List ℕ) →
         IsFrame channel header payload bytes → length damaged ≡ length bytes →
-        is_odd (xor (message_of bytes) (message_of damaged)) ≡ true → IsNoFrame channel damaged }
+        has_odd_ones (xor (message_of bytes) (message_of damaged)) ≡ true → IsNoFrame channel damaged }
     ensures header { (channel : Channel) (header : Header) (payload bytes damaged : List ℕ) →
         IsFrame channel header payload bytes → All (λ b. b < 2 ^ 8) damaged →
         length damaged ≡ length bytes →
-        is_odd (xor (header_code (message_of bytes)) (header_code (message_of damaged))) ≡ true →
+        has_odd_ones (xor (header_code (message_of bytes)) (header_code (message_of damaged))) ≡ true →
         FailsHeaderCrc channel damaged }
     ensures frame { (channel : Channel) (header : Header) (payload bytes damaged : List ℕ) →
         IsFrame channel header payload bytes → All (λ b. b < 2 ^ 8) damaged →
         length damaged ≡ length bytes →
         header_code (message_of damaged) ≡ header_code (message_of bytes) →
-        is_odd (xor (message_of bytes) (message_of damaged)) ≡ true → FailsFrameCrc channel damaged }
+        has_odd_ones (xor (message_of bytes) (message_of damaged)) ≡ true → FailsFrameCrc channel damaged }
 {}
 
 /// A law: bytes as many as those of a frame that differ from it in one, two or three bits are no frame on its channel.

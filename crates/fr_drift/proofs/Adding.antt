@@ -21,11 +21,13 @@ use Rattle.fr_records.specs.Refusal.{NoneRefused}
 use Rattle.fr_records.proofs.Cuts.{none-empty, none-more}
 use Rattle.fr_records.proofs.Written.{natural-decimal, within-signed}
 use Rattle.fr_cluster.specs.Values.{Values}
-use Rattle.fr_cluster.specs.Questions.{compensation_of, is_common}
+use Rattle.fr_cluster.specs.Questions.{compensation_of, is_common, is_known}
 use Rattle.fr_records.specs.Fields.{looked_up}
-use Rattle.fr_drift.specs.Keys.{delay_cmp, delay_key, found_at, length_cmp, length_key}
+use Rattle.fr_drift.specs.Keys.{delay_cmp, delay_key, length_cmp, length_key}
+use Rattle.fr_records.specs.Keys.{found_at}
 use Rattle.fr_drift.specs.Rows.{IsProperCount, IsProperDelay, IsMicrotickLength, IsProperStart, drift_row_of, rate_in}
-use Rattle.fr_drift.specs.Reasons.{delay_at, delay_reason, doubles_at, drift_reason_after, drift_row_reason, is_known, is_within, length_reason, length_said_at, start_at, start_reason}
+use Rattle.fr_drift.specs.Reasons.{delay_at, delay_reason, doubles_at, drift_reason_after, drift_row_reason, length_reason, length_said_at, start_at, start_reason}
+use Rattle.fr_base.specs.Within.{lies_within}
 use Rattle.fr_drift.specs.View.{DriftView, compensation_on, delay_rows, delays_on}
 use Rattle.fr_drift.specs.Inside.{view_of}
 use Rattle.fr_drift.specs.Sane.{IsDrift, IsProperCompensation}
@@ -164,7 +166,7 @@ where_not false why rest h = h
 pub start-free : (p : Values) (a : Inside) (r : FileRecord) (s : StartRow) → drift_row_of r ≡ Ok (row.Start s) → TakesDriftRecord p (view_of a) r → get nat_cmp a.starts s.node ≡ None
 start-free p a r s says t =
     let fine : start_reason p t.records s ≡ None = last-fine p t.records r (Ok (row.Start s)) t.accepted says in
-    t.stands.starts s.node ∙ repeated (start_at s.node t.records) (unless (is_known p s.node) _ _ (unless (is_within p.rate_limit s.start.rate) _ _ fine))
+    t.stands.starts s.node ∙ repeated (start_at s.node t.records) (unless (is_known p s.node) _ _ (unless (lies_within p.rate_limit s.start.rate) _ _ fine))
 
 pub length-free : (p : Values) (a : Inside) (r : FileRecord) (l : LengthRow) → drift_row_of r ≡ Ok (row.Length l) → TakesDriftRecord p (view_of a) r → get length_cmp a.lengths (length_key l.node l.from) ≡ None
 length-free p a r l says t =

@@ -17,7 +17,8 @@ use Rattle.fr_records.proofs.Cuts.{none-or-first-refused}
 use Rattle.fr_cluster.specs.Values.{Values}
 use Rattle.fr_cluster.specs.Questions.{compensation_of}
 use Rattle.fr_records.specs.Fields.{is_channel, or_else, looked_up}
-use Rattle.fr_drift.specs.Keys.{delay_cmp, delay_key, found_at, length_cmp, length_key}
+use Rattle.fr_drift.specs.Keys.{delay_cmp, delay_key, length_cmp, length_key}
+use Rattle.fr_records.specs.Keys.{found_at}
 use Rattle.fr_drift.specs.Rows.{drift_row_of}
 use Rattle.fr_drift.specs.Reasons.{drift_reason_after, doubles_at, delay_at, start_in, length_in, delay_in, is_delay_of}
 use Rattle.fr_drift.specs.View.{DriftView, compensation_on, delay_rows}

@@ -18,10 +18,11 @@ use Rattle.fr_records.proofs.LeastReasons.{least-first}
 use Rattle.fr_records.proofs.FormFacts.{IsFault, IsFormed, IsFormedBy, IsRead, formed-four, formed-if, formed-read, formed-sized, formed-two, is_overfull, least-formed, natural-read, never, read-both, within-read}
 use Rattle.fr_cluster.specs.Values.{Values}
 use Rattle.fr_cluster.specs.Sane.{IsSane}
-use Rattle.fr_cluster.specs.Questions.{is_common}
+use Rattle.fr_cluster.specs.Questions.{is_common, is_known}
 use Rattle.fr_cluster.specs.declared.names.ParamName.TheVariants as name
 use Rattle.fr_drift.specs.Rows.{delay_on, delay_row, doubles_row, drift_file_row, drift_row_of, length_row, length_with, rate_in, short_row, start_row, start_with}
-use Rattle.fr_drift.specs.Reasons.{delay_at, doubles_at, drift_reason_after, drift_row_reason, is_known, is_within, length_said_at, start_at}
+use Rattle.fr_drift.specs.Reasons.{delay_at, doubles_at, drift_reason_after, drift_row_reason, length_said_at, start_at}
+use Rattle.fr_base.specs.Within.{lies_within}
 use Rattle.fr_drift.specs.Holding.{delay_form, doubles_form, drift_form, drift_holds, is_said_again, length_form, links_apart, links_itself, names_stranger, start_form}
 use Rattle.fr_drift.specs.declared.rows.Row.{Row}
 use Rattle.fr_drift.specs.declared.rows.Row.TheVariants as row
@@ -29,7 +30,7 @@ use Rattle.fr_drift.specs.declared.rows.Row.TheVariants as row
 -- what of a row is left to ask: its rate term against the limit, and its channel
 far : ℤ → Row → Bool
 far limit (row.Doubles n) = false
-far limit (row.Start s) = not (is_within limit s.start.rate)
+far limit (row.Start s) = not (lies_within limit s.start.rate)
 far limit (row.Length l) = false
 far limit (row.Delay d) = false
 
@@ -55,16 +56,16 @@ module _ (limit : ℤ) where
   twice false = refl
 
   rate-if : (z : ℤ) (b : Bool) → limit ≤ℤ pos 2000 → (int_lt z (negsuc 1999) || int_lt (pos 2000) z) ≡ b
-      → IsFault (λ rate. not (is_within limit rate)) false ((lies_outside (neg_ℤ limit) limit (Some z) || false) || false) (if b then Err fault.OutOfRange else Ok z)
+      → IsFault (λ rate. not (lies_within limit rate)) false ((lies_outside (neg_ℤ limit) limit (Some z) || false) || false) (if b then Err fault.OutOfRange else Ok z)
   rate-if z true h e = (refl, rw (wide z h e) refl)
   rate-if z false h e = (refl, twice (int_lt z (neg_ℤ limit) || int_lt limit z))
 
   rate-of : (o : Option ℤ) (text : List ℕ) → limit ≤ℤ pos 2000 → number_of text ≡ o
-      → IsRead (λ rate. not (is_within limit rate)) (record { text = text; low = neg_ℤ limit; high = limit } ∷ []) true (within (negsuc 1999) (pos 2000) o)
+      → IsRead (λ rate. not (lies_within limit rate)) (record { text = text; low = neg_ℤ limit; high = limit } ∷ []) true (within (negsuc 1999) (pos 2000) o)
   rate-of None text h e = rw e refl
   rate-of (Some z) text h e = rw e (rate-if z (int_lt z (negsuc 1999) || int_lt (pos 2000) z) h refl)
 
-  rate-read : (text : List ℕ) → limit ≤ℤ pos 2000 → IsRead (λ rate. not (is_within limit rate)) (record { text = text; low = neg_ℤ limit; high = limit } ∷ []) true (rate_in text)
+  rate-read : (text : List ℕ) → limit ≤ℤ pos 2000 → IsRead (λ rate. not (lies_within limit rate)) (record { text = text; low = neg_ℤ limit; high = limit } ∷ []) true (rate_in text)
   unfolding rate_in
   rate-read text h = rate-of (number_of text) text h refl
 
@@ -75,14 +76,14 @@ start-formed p r h =
     let limit = p.rate_limit in
     let rate_field : NumberField = record { text = field_of r 3; low = neg_ℤ limit; high = limit } in
     let rest =
-    read-both never (λ (z : ℤ). not (is_within limit z)) (number_field (field_of r 2) 0 1_000_000_000_000 ∷ []) (rate_field ∷ []) true true (within (pos 0) (pos 1_000_000_000_000) (number_of (field_of r 2)))
+    read-both never (λ (z : ℤ). not (lies_within limit z)) (number_field (field_of r 2) 0 1_000_000_000_000 ∷ []) (rate_field ∷ []) true true (within (pos 0) (pos 1_000_000_000_000) (number_of (field_of r 2)))
     (rate_in (field_of r 3)) (within-read (pos 0) (pos 1_000_000_000_000) (field_of r 2)) (rate-read limit (field_of r 3) h)
     in
     let all =
-    read-both never (λ (q : ℤ × ℤ). never q.0 || not (is_within limit q.1)) (number_field (field_of r 1) 1 64 ∷ []) (number_field (field_of r 2) 0 1_000_000_000_000 ∷ rate_field ∷ []) true true (natural_of 1 64 (field_of r 1))
+    read-both never (λ (q : ℤ × ℤ). never q.0 || not (lies_within limit q.1)) (number_field (field_of r 1) 1 64 ∷ []) (number_field (field_of r 2) 0 1_000_000_000_000 ∷ rate_field ∷ []) true true (natural_of 1 64 (field_of r 1))
     (both_of (within (pos 0) (pos 1_000_000_000_000) (number_of (field_of r 2))) (rate_in (field_of r 3))) (natural-read 1 64 (field_of r 1)) rest
     in
-    formed-read (far limit) astray (λ (q : ℕ × (ℤ × ℤ)). never q.0 || (never q.1.0 || not (is_within limit q.1.1))) _ _ _ start_with
+    formed-read (far limit) astray (λ (q : ℕ × (ℤ × ℤ)). never q.0 || (never q.1.0 || not (lies_within limit q.1.1))) _ _ _ start_with
     (both_of (natural_of 1 64 (field_of r 1)) (both_of (within (pos 0) (pos 1_000_000_000_000) (number_of (field_of r 2))) (rate_in (field_of r 3)))) all
     (λ a d o e f. (refl, refl, e, f, refl))
 
@@ -166,7 +167,7 @@ least-row p test before (Err why) f node role link hex again = least-formed (far
 least-row p test before (Ok (row.Doubles n)) f node role link hex again =
     least-first test false false false false false false false false false (is_some (doubles_at before)) f.0 f.1 f.2 f.3 node f.4 role link hex again
 least-row p test before (Ok (row.Start s)) f node role link hex again =
-    least-first test false false false (not (is_within p.rate_limit s.start.rate)) (not (is_known p s.node)) false false false false (is_some (start_at s.node before)) f.0 f.1 f.2 f.3 node f.4 role link hex again
+    least-first test false false false (not (lies_within p.rate_limit s.start.rate)) (not (is_known p s.node)) false false false false (is_some (start_at s.node before)) f.0 f.1 f.2 f.3 node f.4 role link hex again
 least-row p test before (Ok (row.Length l)) f node role link hex again =
     least-first test false false false false (not (is_known p l.node)) false false false false (is_some (length_said_at l.node l.from before)) f.0 f.1 f.2 f.3 node f.4 role link hex again
 least-row p test before (Ok (row.Delay d)) f node role link hex again =

@@ -18,7 +18,8 @@ use Rattle.fr_base.specs.declared.channel.Channel.TheVariants as channel
 use Rattle.fr_records.specs.Records.{FileRecord}
 use Rattle.fr_cluster.specs.Values.{Values}
 use Rattle.fr_cluster.specs.Questions.{compensation_of}
-use Rattle.fr_drift.specs.Keys.{delay_cmp, found_at, length_cmp}
+use Rattle.fr_drift.specs.Keys.{delay_cmp, length_cmp}
+use Rattle.fr_records.specs.Keys.{found_at}
 use Rattle.fr_drift.specs.Rows.{IsProperDelay}
 use Rattle.fr_drift.specs.View.{DriftView, compensation_on, delay_rows, delays_on}
 use Rattle.fr_drift.specs.Sane.{IsDrift, IsProperCompensation}

@@ -15,7 +15,7 @@ use Rattle.fr_records.proofs.Lookups.{looked_up-more, looked_up-nil, or_else-non
 use Rattle.fr_drift.specs.Keys.{delay_cmp, delay_key, length_cmp, length_key}
 use Rattle.fr_drift.specs.Rows.{IsProperCount, IsProperDelay, IsMicrotickLength, IsProperStart, drift_row_of}
 use Rattle.fr_drift.specs.Reasons.{doubles_in, start_in, length_in, delay_in, doubles_at, start_at, length_said_at, delay_at}
-use Rattle.fr_drift.specs.Draft.{IsDriftDraft, IsEntryPut}
+use Rattle.fr_drift.specs.Draft.{IsDriftDraft, IsNewEntryPut}
 use Rattle.fr_drift.specs.declared.draft.Draft.{Draft}
 use Rattle.fr_drift.specs.declared.keys.LengthKey.{LengthKey}
 use Rattle.fr_drift.specs.declared.keys.DelayKey.{DelayKey}
@@ -105,7 +105,7 @@ draft-doubles d done r n h e proper empty = record {
 
 -- a start that was not there is taken
 pub draft-start : (d : Draft) (new : BTreeMap ℕ Start) (done : List FileRecord) (r : FileRecord) (s : StartRow) → IsDriftDraft d done
-    → drift_row_of r ≡ Ok (row.Start s) → IsProperStart s.start → IsEntryPut nat_cmp d.starts new s.node s.start
+    → drift_row_of r ≡ Ok (row.Start s) → IsProperStart s.start → IsNewEntryPut nat_cmp d.starts new s.node s.start
     → IsDriftDraft (record d { starts = new }) (done ++ r ∷ [])
 draft-start d new done r s h e proper put = record {
   doubles = kept d.doubles (doubles_at done) _ h.doubles (doubles_at-more done r _ e);
@@ -133,7 +133,7 @@ draft-start d new done r s h e proper put = record {
 
 -- a length that was not there is taken
 pub draft-length : (d : Draft) (new : BTreeMap LengthKey ℤ) (done : List FileRecord) (r : FileRecord) (l : LengthRow) → IsDriftDraft d done
-    → drift_row_of r ≡ Ok (row.Length l) → IsMicrotickLength l.ticks → IsEntryPut length_cmp d.lengths new (length_key l.node l.from) l.ticks
+    → drift_row_of r ≡ Ok (row.Length l) → IsMicrotickLength l.ticks → IsNewEntryPut length_cmp d.lengths new (length_key l.node l.from) l.ticks
     → IsDriftDraft (record d { lengths = new }) (done ++ r ∷ [])
 draft-length d new done r l h e proper put = record {
   doubles = kept d.doubles (doubles_at done) _ h.doubles (doubles_at-more done r _ e);
@@ -166,7 +166,7 @@ draft-length d new done r l h e proper put = record {
 -- the row of a delay on a channel, in a table of that channel that was empty there
 module _ (ch : Channel) (old new : BTreeMap DelayKey ℤ) (done : List FileRecord) (r : FileRecord) (d : DelayRow)
     (same : (a b from : ℕ) → get delay_cmp old (delay_key a b from) ≡ delay_at a b ch from done)
-    (put : IsEntryPut delay_cmp old new (delay_key d.sender d.receiver d.from) d.ticks) where
+    (put : IsNewEntryPut delay_cmp old new (delay_key d.sender d.receiver d.from) d.ticks) where
   hits : ℕ → ℕ → ℕ → Bool
   hits a b from = (d.sender == a) && ((d.receiver == b) && (d.from == from))
 
@@ -203,7 +203,7 @@ b_not_a d a b from e = rw e refl
 -- a delay that was not there is taken
 pub draft-delay_a : (t : Draft) (new : BTreeMap DelayKey ℤ) (done : List FileRecord) (r : FileRecord) (d : DelayRow) → IsDriftDraft t done
     → drift_row_of r ≡ Ok (row.Delay d) → d.channel ≡ Some channel.A → IsProperDelay d.ticks
-    → IsEntryPut delay_cmp t.delays_a new (delay_key d.sender d.receiver d.from) d.ticks
+    → IsNewEntryPut delay_cmp t.delays_a new (delay_key d.sender d.receiver d.from) d.ticks
     → IsDriftDraft (record t { delays_a = new }) (done ++ r ∷ [])
 unfolding hits
 draft-delay_a t new done r d h e on proper put = record {
@@ -231,7 +231,7 @@ draft-delay_a t new done r d h e on proper put = record {
 
 pub draft-delay_b : (t : Draft) (new : BTreeMap DelayKey ℤ) (done : List FileRecord) (r : FileRecord) (d : DelayRow) → IsDriftDraft t done
     → drift_row_of r ≡ Ok (row.Delay d) → d.channel ≡ Some channel.B → IsProperDelay d.ticks
-    → IsEntryPut delay_cmp t.delays_b new (delay_key d.sender d.receiver d.from) d.ticks
+    → IsNewEntryPut delay_cmp t.delays_b new (delay_key d.sender d.receiver d.from) d.ticks
     → IsDriftDraft (record t { delays_b = new }) (done ++ r ∷ [])
 unfolding hits
 draft-delay_b t new done r d h e on proper put = record {

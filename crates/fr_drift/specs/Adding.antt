@@ -7,7 +7,7 @@ use Rattle.fr_records.specs.Refusal.{NoneRefused}
 use Rattle.fr_cluster.specs.Values.{Values}
 use Rattle.fr_drift.specs.Reasons.{drift_reason_after}
 use Rattle.fr_drift.specs.View.{DriftView}
-use Rattle.fr_drift.specs.Draft.{IsEntryPut}
+use Rattle.fr_drift.specs.Draft.{IsNewEntryPut}
 use Rattle.fr_drift.specs.Files.{DriftFits, DriftStandsFor}
 use Rattle.fr_drift.specs.declared.fault.DriftFault.{DriftFault}
 use Rattle.fr_drift.specs.declared.fault.DriftFault.TheVariants as fault
@@ -30,5 +30,5 @@ AddsDriftRecord p before after record_at (Err why) = (why ≡ fault.NoMemory) ×
 
 -- a value is put under a key that had none; or memory ran out, and the rows are as they were
 abbrev pub EntersRow : {K V : Type 0} → (K → K → Ordering) → BTreeMap K V → BTreeMap K V → K → V → Result (Unit {0}) DriftFault → Type 0
-EntersRow cmp old new key value (Ok done) = IsEntryPut cmp old new key value
+EntersRow cmp old new key value (Ok done) = IsNewEntryPut cmp old new key value
 EntersRow cmp old new key value (Err why) = (why ≡ fault.NoMemory) × (new.entries ≡ old.entries)

@@ -7,7 +7,7 @@ use Rattle.fr_base.specs.declared.channel.Channel.{Channel}
 use Rattle.fr_base.specs.declared.channel.Channel.TheVariants as channel
 use Rattle.fr_base.specs.declared.reason.Reason.{Reason}
 use Rattle.fr_records.specs.Records.{FileRecord}
-use Rattle.fr_records.specs.Takes.{Takes}
+use Rattle.fr_records.specs.Takes.{TakesRow}
 use Rattle.fr_cluster.specs.Values.{Values}
 use Rattle.fr_drift.specs.Keys.{delay_cmp, delay_key, length_cmp, length_key}
 use Rattle.fr_drift.specs.Reasons.{delay_at, doubles_at, drift_row_reason, length_said_at, start_at}
@@ -19,7 +19,7 @@ use Rattle.fr_drift.specs.declared.keys.DelayKey.{DelayKey}
 use Rattle.fr_drift.specs.declared.keys.LengthKey.{LengthKey}
 
 -- a value is put under a key that had none, and all else stays
-pub record IsEntryPut {K V : Type 0} (cmp : K → K → Ordering) (old new : BTreeMap K V) (key : K) (value : V) : Type 0 where
+pub record IsNewEntryPut {K V : Type 0} (cmp : K → K → Ordering) (old new : BTreeMap K V) (key : K) (value : V) : Type 0 where
   pub empty : get cmp old key ≡ None
   pub ordered : IsOrdered cmp new
   pub filled : (q : K) → get cmp new q ≡ (if is_at (cmp key) q then Some value else get cmp old q)
@@ -47,7 +47,7 @@ pub record IsDriftDraft (draft : Draft) (records : List FileRecord) : Type 0 whe
 
 -- a row is refused against these parameters for its reason, or held after the records so far
 abbrev pub TakesDriftRow : {Error : Type 0} → Values → Draft → Draft → Row → Result (Option Reason) Error → Type 0
-TakesDriftRow p before after row result = Takes IsDriftDraft drift_row_of (drift_row_reason p) before after row result
+TakesDriftRow p before after row result = TakesRow IsDriftDraft drift_row_of (drift_row_reason p) before after row result
 
 -- the same where it takes no memory
 abbrev pub TakesDriftRowAtOnce : Values → Draft → Draft → Row → Option Reason → Type 0

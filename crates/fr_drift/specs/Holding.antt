@@ -10,9 +10,9 @@ use Rattle.fr_records.specs.Fields.{field_of}
 use Rattle.fr_records.specs.Forms.{Form, number_field, misses_form, has_unknown_name, has_no_number, is_out_of_range, has_bad_channels}
 use Rattle.fr_records.specs.Least.{row_passes}
 use Rattle.fr_cluster.specs.Values.{Values}
-use Rattle.fr_cluster.specs.Questions.{is_common}
+use Rattle.fr_cluster.specs.Questions.{is_common, is_known}
 use Rattle.fr_drift.specs.Rows.{drift_row_of}
-use Rattle.fr_drift.specs.Reasons.{is_known, doubles_at, start_at, length_said_at, delay_at}
+use Rattle.fr_drift.specs.Reasons.{doubles_at, start_at, length_said_at, delay_at}
 use Rattle.fr_drift.specs.declared.rows.Row.{Row}
 use Rattle.fr_drift.specs.declared.rows.Row.TheVariants as row
 

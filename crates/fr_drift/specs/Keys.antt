@@ -1,9 +1,7 @@
 -- The order of the keys under which rows stand.
-use Rattle.std.specs.Prelude.{ℕ, List, Option, refl}
+use Rattle.std.specs.Prelude.{ℕ, refl}
 use Rattle.std.specs.declared.cmp.Ordering.{Ordering}
 use Rattle.std.specs.Ordering.{nat_cmp, ordering_then}
-use Rattle.std.specs.BTreeMap.{is_at}
-use Rattle.std.specs.Map.{lookup}
 use Rattle.std.specs.Coded.{Coded, code_by, coded×, coded_ℕ}
 use Rattle.fr_drift.specs.declared.keys.LengthKey.{LengthKey}
 use Rattle.fr_drift.specs.declared.keys.DelayKey.{DelayKey}
@@ -23,10 +21,6 @@ length_cmp a b = ordering_then (nat_cmp a.node b.node) (nat_cmp a.from b.from)
 -- by sender, by receiver, and then by cycle
 abbrev pub delay_cmp : DelayKey → DelayKey → Ordering
 delay_cmp a b = ordering_then (nat_cmp a.sender b.sender) (ordering_then (nat_cmp a.receiver b.receiver) (nat_cmp a.from b.from))
-
--- what stands under a key
-abbrev pub found_at : {K V : Type 0} → (K → K → Ordering) → List (K × V) → K → Option V
-found_at cmp rows key = lookup (is_at (cmp key)) rows
 
 -- a key as a tuple of numbers
 abbrev pub coded_length_key : Coded LengthKey

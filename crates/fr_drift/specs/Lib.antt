@@ -12,5 +12,6 @@ pub mod Files
 pub mod Written
 pub mod Adding
 pub mod Holding
+pub mod Told
 -- what only functions inside cite
 pub mod Spans

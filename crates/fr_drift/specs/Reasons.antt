@@ -1,13 +1,14 @@
 -- Why a record of a drift file is refused after the records before it: what the earlier records say is
 -- looked up in their list.
-use Rattle.std.specs.Prelude.{ℕ, ℤ, neg_ℤ, int_lt, Bool, not, ◌==◌, ◌&&◌, ◌||◌, List, Option, Some, None, is_some, Result, Ok, Err, if◌then◌else◌}
+use Rattle.std.specs.Prelude.{ℕ, ℤ, Bool, not, ◌==◌, ◌&&◌, ◌||◌, List, Option, Some, None, is_some, Result, Ok, Err, if◌then◌else◌}
 use Rattle.fr_base.specs.declared.channel.Channel.{Channel}
 use Rattle.fr_base.specs.declared.reason.Reason.{Reason}
 use Rattle.fr_base.specs.declared.reason.Reason.TheVariants as reason
+use Rattle.fr_base.specs.Within.{lies_within}
 use Rattle.fr_records.specs.Records.{FileRecord}
 use Rattle.fr_cluster.specs.Values.{Values}
 use Rattle.fr_records.specs.Fields.{is_channel, looked_up}
-use Rattle.fr_cluster.specs.Questions.{is_common, node_of}
+use Rattle.fr_cluster.specs.Questions.{is_common, is_known}
 use Rattle.fr_drift.specs.Rows.{drift_row_of}
 use Rattle.fr_drift.specs.declared.rows.Start.{Start}
 use Rattle.fr_drift.specs.declared.rows.StartRow.{StartRow}
@@ -66,18 +67,10 @@ length_said_at node from records = looked_up (λ r. length_in node from (drift_r
 abbrev pub delay_at : ℕ → ℕ → Channel → ℕ → List FileRecord → Option ℤ
 delay_at sender receiver ch from records = looked_up (λ r. delay_in sender receiver ch from (drift_row_of r)) records
 
--- whether the cluster has a node of this number
-abbrev pub is_known : Values → ℕ → Bool
-is_known p node = is_some (node_of p node)
-
--- whether a rate term lies within a limit of 0
-abbrev pub is_within : ℤ → ℤ → Bool
-is_within limit rate = not (int_lt rate (neg_ℤ limit) || int_lt limit rate)
-
 -- the least reason of a row about a start
 abbrev pub start_reason : Values → List FileRecord → StartRow → Option Reason
 start_reason p records s =
-    if not (is_within p.rate_limit s.start.rate) then Some reason.OutOfRange
+    if not (lies_within p.rate_limit s.start.rate) then Some reason.OutOfRange
     else if not (is_known p s.node) then Some reason.UnknownNode
     else if is_some (start_at s.node records) then Some reason.Repeated
     else None

@@ -3,8 +3,9 @@ ghost use Rattle.std.specs.BTreeMap.{get};
 ghost use Rattle.fr_base.specs.declared.reason.Reason.TheVariants as reason;
 ghost use Rattle.fr_cluster.specs.Values.{Values};
 ghost use Rattle.fr_drift.specs.Rows.{IsProperCount, IsProperDelay, IsMicrotickLength, IsProperStart};
-ghost use Rattle.fr_drift.specs.Reasons.{is_known, is_within};
-ghost use Rattle.fr_drift.specs.Draft.{IsDriftDraft, IsEntryPut, TakesDriftRow, TakesDriftRowAtOnce};
+ghost use Rattle.fr_base.specs.Within.{lies_within};
+ghost use Rattle.fr_cluster.specs.Questions.{is_known};
+ghost use Rattle.fr_drift.specs.Draft.{IsDriftDraft, IsNewEntryPut, TakesDriftRow, TakesDriftRowAtOnce};
 ghost use Rattle.fr_drift.specs.declared.rows.Row.TheVariants as said;
 
 use crate::keys::{DelayKey, LengthKey};
@@ -124,7 +125,7 @@ pub(crate) fn put<K: Ord + Copy, V: Drop>(
     value: V,
 ) -> Result<Option<Reason>, AllocError>
     ensures why { IfOk result (λ why. why ≡ (if is_some (get K.cmp rows.old key) then Some reason.Repeated else None)) }
-    ensures puts { IfOk result (λ why. why ≡ None → IsEntryPut K.cmp rows.old rows.new key value) }
+    ensures puts { IfOk result (λ why. why ≡ None → IsNewEntryPut K.cmp rows.old rows.new key value) }
     ensures kept { OnErr result (rows.new.entries ≡ rows.old.entries) }
 {
     if rows.contains_key(&key) {
@@ -135,7 +136,7 @@ pub(crate) fn put<K: Ord + Copy, V: Drop>(
 }
 
 fn is_rate(params: &Params, rate: i32) -> bool
-    ensures { result ≡ is_within params.now.rate_limit rate }
+    ensures { result ≡ lies_within params.now.rate_limit rate }
 {
     let limit = params.value(ParamName::pRateCorrectionOut);
     let rate = i64::from(rate);

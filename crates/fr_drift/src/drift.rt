@@ -28,7 +28,6 @@ const NOMINAL: i64 = 1_000_000;
 /// how long its microticks are in each cycle, and how long frames travel.
 ///
 /// It keeps the delay compensation of each channel of the parameters against which it was read.
-#[derive(Drop)]
 pub struct Drift {
     doubles: u32,
     compensation_a: i64,
@@ -52,6 +51,21 @@ impl Model for Drift {
     ghost view = { view_of };
 
     ghost invariant = { λ a. IsDrift (view_of a) };
+}
+
+// One call: a derived drop is opened in each function that drops a value, and proved there.
+impl Drop for Drift {
+    fn drop(self) {
+        let Drift {
+            doubles: _,
+            compensation_a: _,
+            compensation_b: _,
+            starts: _,
+            lengths: _,
+            delays_a: _,
+            delays_b: _,
+        } = self;
+    }
 }
 
 // What the tables stand for against these parameters.

@@ -11,6 +11,7 @@ mod laws;
 mod reading;
 mod rows;
 mod spans;
+mod told;
 mod typed;
 
 pub use drift::Drift;

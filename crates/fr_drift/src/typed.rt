@@ -80,7 +80,8 @@ impl Drift {
         requires proper { IsProperDelay ticks }
         requires limited { from ≤ 199_999 }
         requires taken { TakesDriftRecord params.now self.old (delay_record sender receiver channel from ticks) }
-        ensures { AddsDriftRecord params.now self.old self.new (delay_record sender receiver channel from ticks) result }
+        ensures { AddsDriftRecord params.now self.old self.new
+            (delay_record sender receiver channel from ticks) result }
     {
         let key = DelayKey {
             sender,

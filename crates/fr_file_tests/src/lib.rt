@@ -2,19 +2,11 @@
 #![tactic(auto)]
 
 #[cfg(test)]
+mod checks;
+#[cfg(test)]
 mod coverage;
 #[cfg(test)]
-mod cuts;
-#[cfg(test)]
 mod drift;
-#[cfg(test)]
-mod gaps;
-#[cfg(test)]
-mod joined;
-#[cfg(test)]
-mod joining;
-#[cfg(test)]
-mod joins;
 #[cfg(test)]
 mod params;
 #[cfg(test)]
@@ -22,16 +14,8 @@ mod records;
 #[cfg(test)]
 mod script;
 #[cfg(test)]
-mod silent;
-#[cfg(test)]
 mod startup;
 #[cfg(test)]
 mod trace;
 #[cfg(test)]
-mod upgrades;
-#[cfg(test)]
 mod vectors;
-#[cfg(test)]
-mod verdict;
-#[cfg(test)]
-mod versions;

@@ -2,9 +2,10 @@ ghost use Rattle.std.specs.Prelude.{List, ℕ, None, Some, ◌==◌, length, if�
 ghost use Rattle.fr_base.specs.declared.reason.Reason.TheVariants as reason;
 
 use csv::ByteRecord;
-use fr_base::{Channel, NumberFault, Reason};
+use fr_base::{Channel, Reason};
 use fr_records::{RowFault, Table, both, natural, read_all, reason_of};
-use std::alloc::AllocError;
+use std::alloc::{AllocError, Global};
+use std::test::Fail;
 
 // The records so far, a `|` after each field and a `;` after each record; one of three fields is refused.
 #[derive(Drop)]
@@ -30,81 +31,88 @@ impl Table for Shown {
     }
 }
 
-#[test]
-fn reads_records_as_csv_does(rt: HostRuntime) {
-    let rows: [(&[u8], &[u8]); 21] = [
-        (b"".as_slice(), b"".as_slice()),
-        (b"a,b\nc,d\n".as_slice(), b"a|b|;c|d|;".as_slice()),
-        (b"a,b\nc,d".as_slice(), b"a|b|;c|d|;".as_slice()),
-        (b"a,b\r\nc,d\r\n".as_slice(), b"a|b|;c|d|;".as_slice()),
-        (b"a\rb\r".as_slice(), b"a|;b|;".as_slice()),
-        (b"\n\n\r\na,b\n\n\nc\n".as_slice(), b"a|b|;c|;".as_slice()),
-        (b" \n".as_slice(), b" |;".as_slice()),
-        (b"\xEF\xBB\xBFa,b\n".as_slice(), b"a|b|;".as_slice()),
-        (
-            b"a\n\xEF\xBB\xBFb\n".as_slice(),
-            b"a|;\xEF\xBB\xBFb|;".as_slice(),
-        ),
-        (b"\"a\",\"b\"\n".as_slice(), b"a|b|;".as_slice()),
-        (b"\"a,b\nc\"\n".as_slice(), b"a,b\nc|;".as_slice()),
-        (b"\"a\"\"b\"\n".as_slice(), b"a\"b|;".as_slice()),
-        (b"a\"b,c\"\n".as_slice(), b"a\"b|c\"|;".as_slice()),
-        (b"\"a\"b\n".as_slice(), b"ab|;".as_slice()),
-        (b"\"\"\n".as_slice(), b"|;".as_slice()),
-        (b"a,\"b\nc,d\n".as_slice(), b"a|b\nc,d\n|;".as_slice()),
-        (b" a , b \n".as_slice(), b" a | b |;".as_slice()),
-        (b"a,\n".as_slice(), b"a||;".as_slice()),
-        (b",,,\n".as_slice(), b"||||;".as_slice()),
-        (b"\xFF,\x00\n".as_slice(), b"\xFF|\x00|;".as_slice()),
-        (b"a,b,c,d\n".as_slice(), b"a|b|c|d|;".as_slice()),
-    ];
-    for (bytes, want) in rows {
-        let mut shown = Shown {
-            text: Vec::new(rt.alloc()),
-        };
-        assert_eq!(rt;
-            read_all(rt.alloc(), bytes, &mut shown),
-            Ok(()),
-            "at {bytes:?}"
-        );
-        assert_eq!(rt; shown.text.as_slice(), want, "at {bytes:?}");
-    }
-}
+// Bytes, and the records in them, with the one that is refused.
+const FILES: &[(&[u8], &[u8])] = &[
+    (b"", b""),
+    (b"a,b\nc,d\n", b"a|b|;c|d|;"),
+    (b"a,b\nc,d", b"a|b|;c|d|;"),
+    (b"a,b\r\nc,d\r\n", b"a|b|;c|d|;"),
+    (b"a\rb\r", b"a|;b|;"),
+    (b"\n\n\r\na,b\n\n\nc\n", b"a|b|;c|;"),
+    (b" \n", b" |;"),
+    (b"\xEF\xBB\xBFa,b\n", b"a|b|;"),
+    (b"a\n\xEF\xBB\xBFb\n", b"a|;\xEF\xBB\xBFb|;"),
+    (b"\"a\",\"b\"\n", b"a|b|;"),
+    (b"\"a,b\nc\"\n", b"a,b\nc|;"),
+    (b"\"a\"\"b\"\n", b"a\"b|;"),
+    (b"a\"b,c\"\n", b"a\"b|c\"|;"),
+    (b"\"a\"b\n", b"ab|;"),
+    (b"\"\"\n", b"|;"),
+    (b"a,\"b\nc,d\n", b"a|b\nc,d\n|;"),
+    (b" a , b \n", b" a | b |;"),
+    (b"a,\n", b"a||;"),
+    (b",,,\n", b"||||;"),
+    (b"\xFF,\x00\n", b"\xFF|\x00|;"),
+    (b"a,b,c,d\n", b"a|b|c|d|;"),
+    (b"a\n\nb,c\nd,e,f\ng\nh,i,j\n", b"a|;b|c|;3 Shape"),
+];
 
-#[test]
-fn names_the_first_refused(rt: HostRuntime) {
+fn shown_of(alloc: Global, bytes: &[u8]) -> Result<Vec<u8>, AllocError> {
     let mut shown = Shown {
-        text: Vec::new(rt.alloc()),
+        text: Vec::new(alloc),
     };
-    let refused = read_all(rt.alloc(), b"a\n\nb,c\nd,e,f\ng\nh,i,j\n", &mut shown);
-    let want = RowFault::Row {
-        number: 3,
-        reason: Reason::Shape,
+    let told = match read_all(alloc, bytes, &mut shown) {
+        Ok(()) => String::new(alloc),
+        Err(RowFault::Row { number, reason }) => format!(in alloc; "{number} {reason:?}")?,
+        Err(fault) => format!(in alloc; "{fault:?}")?,
     };
-    assert_eq!(rt; refused, Err(want));
-    assert_eq!(rt; shown.text.as_slice(), b"a|;b|c|;".as_slice());
+    shown.text.extend_from_slice(told.as_bytes())?;
+    Ok(shown.text)
 }
 
 #[test]
-fn reads_fields(rt: HostRuntime) {
-    let rows: [(&[u8], Result<u64, NumberFault>); 6] = [
-        (b"1".as_slice(), Ok(1)),
-        (b"064".as_slice(), Ok(64)),
-        (b"0".as_slice(), Err(NumberFault::OutOfRange)),
-        (b"65".as_slice(), Err(NumberFault::OutOfRange)),
-        (b"-1".as_slice(), Err(NumberFault::OutOfRange)),
-        (b"x".as_slice(), Err(NumberFault::NotDigits)),
-    ];
-    for (text, want) in rows {
-        assert_eq!(rt; natural(text, 1, 64), want, "at {text:?}");
+fn reads_records_as_csv_does(rt: HostRuntime) -> Result<(), Fail> {
+    for (bytes, want) in FILES {
+        let shown = shown_of(rt.alloc(), bytes)?;
+        assert_eq!(rt; shown.as_slice(), *want, "at {bytes:?}");
     }
-    let out: Result<u64, NumberFault> = Err(NumberFault::OutOfRange);
-    let none: Result<u64, NumberFault> = Err(NumberFault::NotDigits);
-    assert_eq!(rt; both(out, none), Err(NumberFault::NotDigits));
-    assert_eq!(rt; both(natural(b"1", 0, 1), natural(b"7", 0, 9)), Ok((1, 7)));
-    assert_eq!(rt; reason_of(NumberFault::NotDigits), Reason::NotNumber);
-    assert_eq!(rt; reason_of(NumberFault::OutOfRange), Reason::OutOfRange);
-    assert_eq!(rt; Channel::spelt(b"A"), Some(Channel::A));
-    assert_eq!(rt; Channel::spelt(b"B"), Some(Channel::B));
-    assert_eq!(rt; Channel::spelt(b"AB"), None);
+    Ok(())
+}
+
+// Two fields, and the numbers from 1 to 64 and from 0 to 9 that they are, or the reason for which they are refused.
+const NUMBERS: &[(&str, &str, &str)] = &[
+    ("1", "7", "1 7"),
+    ("064", "0", "64 0"),
+    ("0", "0", "OutOfRange"),
+    ("65", "0", "OutOfRange"),
+    ("-1", "0", "OutOfRange"),
+    ("x", "0", "NotNumber"),
+    ("0", "x", "NotNumber"),
+    ("x", "10", "NotNumber"),
+];
+
+const CHANNELS: &[(&str, Option<Channel>)] = &[
+    ("A", Some(Channel::A)),
+    ("B", Some(Channel::B)),
+    ("AB", None),
+];
+
+fn numbers_of(alloc: Global, first: &str, second: &str) -> Result<String, AllocError> {
+    let first = natural(first.as_bytes(), 1, 64);
+    match both(first, natural(second.as_bytes(), 0, 9)) {
+        Ok((first, second)) => format!(in alloc; "{first} {second}"),
+        Err(fault) => format!(in alloc; "{:?}", reason_of(fault)),
+    }
+}
+
+#[test]
+fn reads_fields(rt: HostRuntime) -> Result<(), Fail> {
+    for (first, second, want) in NUMBERS {
+        let shown = numbers_of(rt.alloc(), first, second)?;
+        assert_eq!(rt; shown.as_str(), *want, "at {first} {second}");
+    }
+    for (text, want) in CHANNELS {
+        assert_eq!(rt; Channel::spelt(text.as_bytes()), *want, "at {text}");
+    }
+    Ok(())
 }

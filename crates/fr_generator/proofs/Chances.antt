@@ -11,7 +11,7 @@ use Rattle.fr_records.specs.Refusal.{NoneRefused}
 use Rattle.fr_records.proofs.Cuts.{none-empty, none-more}
 use Rattle.fr_script.specs.Deeds.{passage_of}
 use Rattle.fr_script.specs.Rows.{IsProperSay, farthest, script_row_of}
-use Rattle.fr_script.specs.Reasons.{deed_by, deed_reason, deed_said, is_misplaced, is_named, is_same, names, script_reason_after, script_row_reason}
+use Rattle.fr_script.specs.Reasons.{deed_by, deed_reason, deed_said, is_misplaced, is_named_in, is_same_passage, names, script_reason_after, script_row_reason}
 use Rattle.fr_script.specs.Written.{arbitrary_record, say_record}
 use Rattle.fr_script.specs.declared.deeds.Deed.{Deed}
 use Rattle.fr_script.specs.declared.deeds.Deed.TheVariants as deed
@@ -30,7 +30,7 @@ use Rattle.rand_pcg.specs.Lcg.{Lcg}
 -- the first chances are taken, and no more
 pub record AreChances (count : ℕ) (records : List FileRecord) : Type 0 where
   pub accepted : NoneRefused (script_reason_after made_values) records
-  pub named : (node : ℕ) → is_named node records ≡ ((7 == node) || (8 == node))
+  pub named : (node : ℕ) → is_named_in node records ≡ ((7 == node) || (8 == node))
   pub free : (place : ℕ) → count ≤ place
       → deed_by (chance_at place).link.channel (passage_of (chance_at place).link.sender (chance_at place).link.receiver (chance_at place).cycle) records ≡ None
 
@@ -71,11 +71,11 @@ below-seven : (n : ℕ) → n ≤ 6 → ((7 == n) || (8 == n)) ≡ false
 below-seven n high = grind (arith, nat_tests)
 
 -- what is said by a node from 7 on to one below it is placed
-placed : (records : List FileRecord) (a b cycle : ℕ) → ((node : ℕ) → is_named node records ≡ ((7 == node) || (8 == node))) → 7 ≤ a → a ≤ 8 → b ≤ 6
+placed : (records : List FileRecord) (a b cycle : ℕ) → ((node : ℕ) → is_named_in node records ≡ ((7 == node) || (8 == node))) → 7 ≤ a → a ≤ 8 → b ≤ 6
     → is_misplaced records (passage_of a b cycle) true ≡ false
 placed records a b cycle h la ha hb = rw (h a, h b, seven-or-eight a la ha, below-seven b hb, other a b (λ is. absurd (omega (arith, is)))) refl
 
-said-fine : (records : List FileRecord) (a b cycle : ℕ) (ch : Channel) (shift : ℤ) → ((node : ℕ) → is_named node records ≡ ((7 == node) || (8 == node))) → 7 ≤ a → a ≤ 8 → 1 ≤ b → b ≤ 6
+said-fine : (records : List FileRecord) (a b cycle : ℕ) (ch : Channel) (shift : ℤ) → ((node : ℕ) → is_named_in node records ≡ ((7 == node) || (8 == node))) → 7 ≤ a → a ≤ 8 → 1 ≤ b → b ≤ 6
     → deed_by ch (passage_of a b cycle) records ≡ None → deed_reason made_values records (said_row cycle a b ch shift) ≡ None
 said-fine records a b cycle ch shift h la ha lb hb free =
     rw (both a b ch (omega arith) ha lb (omega arith), known a (omega arith) ha, known b lb (omega arith), placed records a b cycle h la ha hb, free) refl
@@ -104,7 +104,7 @@ chance-said : (place : ℕ) (records : List FileRecord) (shift : ℤ) → place 
 unfolding quiet
 chance-said place records shift room proper h = record {
   accepted = none-more (script_reason_after made_values) records r h.accepted (ap (λ (x : Result Row Reason). script_row_reason made_values records x) says ∙ fine);
-  named = λ node. is_named-more node records r _ says ∙ or-false (is_named node records) ∙ h.named node;
+  named = λ node. is_named-more node records r _ says ∙ or-false (is_named_in node records) ∙ h.named node;
   free = λ later above.
       deed_by-more (chance_at later).link.channel (passage_of (chance_at later).link.sender (chance_at later).link.receiver (chance_at later).cycle) records r _ says
       ∙ ap (λ (o : Option Deed). or_else o (deed_said (chance_at later).link.channel (passage_of (chance_at later).link.sender (chance_at later).link.receiver (chance_at later).cycle)

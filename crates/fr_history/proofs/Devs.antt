@@ -1,5 +1,5 @@
 -- The deviations of a cycle, part by part: what the rules list is what the nodes' rows store, slot by slot.
-use Rattle.std.proofs.Common.{◌≡◌, ◌≢◌, ◌⊎◌, ℕ, ◌≤◌, ◌==◌, ℤ, Bool, true, false, Option, Some, None, IfSome, List, map, length, refl, ap, sym, ◌∙◌, inl, inr, arith}
+use Rattle.std.proofs.Common.{◌≡◌, ◌≢◌, ◌⊎◌, ℕ, ◌≤◌, ◌==◌, ℤ, Bool, true, false, Option, Some, None, IfSome, List, map, refl, ap, sym, ◌∙◌, inl, inr, arith}
 use Rattle.std.specs.Prelude.{find, option_and_then}
 use Rattle.std.specs.List.{filter_map, flat_map}
 use Rattle.std.specs.Option.{option_map, option_to_list}
@@ -16,10 +16,8 @@ use Rattle.fr_reception.specs.Answers.{answer_of}
 use Rattle.fr_reception.specs.Offers.{Offer}
 use Rattle.fr_reception.specs.declared.heard.Heard.{Heard}
 use Rattle.fr_reception.specs.declared.heard.Heard.TheVariants.{Stored, Ignored}
-use Rattle.fr_cluster.specs.Setting.{Setting, correct_nodes}
-use Rattle.fr_history.specs.History.{History}
+use Rattle.fr_cluster.specs.Setting.{Setting}
 use Rattle.fr_history.specs.Offers.{channels, dev_by, dev_of, devs_between, offer_in, offers_between, offers_to, reception_of, static_slots_of, stored_in, value_of}
-use Rattle.fr_history.specs.Next.{early_row, early_rows, next_devs}
 use Rattle.fr_base.specs.Rows.{dev_with, is_dev_of, dev_in}
 use Rattle.fr_history.proofs.Flat.{Among, among_range, filter_map-flat_map, filter_map-map, filter_map-option, find_found, find_nowhere, flat_map_same}
 use Rattle.fr_history.proofs.Marks.{HasMarks, offer_in-marked}
@@ -70,10 +68,6 @@ devs_are_stored x cycle rows receivers =
     ∙ filter_map-flat_map (λ pair. dev_of (reception_of x cycle pair)) pairs receivers
     ∙ flat_map_same (λ row. filter_map (λ pair. dev_of (reception_of x cycle pair)) (pairs row)) (stored_of x cycle rows) receivers
     (λ row _. filter_map-map (λ pair. dev_of (reception_of x cycle pair)) (λ offer. (row, offer)) (offers_to x cycle rows row) ∙ row_devs x cycle rows row)
-
-pub next_devs_are : (x : Setting) (h : History) → next_devs x h ≡ stored_among x (length h) (early_rows x h) (early_rows x h)
-unfolding next_devs
-next_devs_are x h = devs_are_stored x (length h) (early_rows x h) (early_rows x h)
 
 -- ---- one deviation is found again
 
@@ -194,9 +188,23 @@ dev_in-between x cycle rows row_at nodes node slot channel own is low high =
     by_id spec there (inr ne) =
         inl (find_in_other x cycle rows (row_at spec.id) (row_at node.id).node slot channel (λ same. ne (sym (own spec there) ∙ same ∙ own node is)))
 
--- as of a correct node in the record that follows a history
-pub dev_in-next : (x : Setting) (h : History) (node : NodeSpec) (slot : ℕ) (channel : Channel) → Among node (correct_nodes x) → 1 ≤ slot → slot ≤ amount x.params name.gNumberOfStaticSlots →
-    dev_in (next_devs x h) node.id slot channel ≡ stored_in x (length h) (early_rows x h) (early_row x h node.id) slot channel
-unfolding early_row next_devs
-dev_in-next x h node slot channel is low high =
-    dev_in-between x (length h) (early_rows x h) (early_row x h) (correct_nodes x) node slot channel (λ spec there. refl) is low high
+-- none is found of a receiver whose rows store nothing there
+pub dev_in-unstored : (x : Setting) (cycle : ℕ) (rows receivers : List NodeRow) (receiver slot : ℕ) (channel : Channel) → ((row : NodeRow) → row.node ≡ receiver → stored_in x cycle rows row slot channel ≡ None)
+    → dev_in (devs_between x cycle rows receivers) receiver slot channel ≡ None
+unfolding wanted
+dev_in-unstored x cycle rows receivers receiver slot channel none =
+    ap (λ (listed : List Dev). option_map (λ (dev : Dev). dev.value) (find (is_dev_of receiver slot channel) listed)) (devs_are_stored x cycle rows receivers)
+    ∙ ap (option_map (λ (dev : Dev). dev.value)) (find_nowhere (is_dev_of receiver slot channel) (stored_of x cycle rows) receivers (λ row. by_receiver row (grind arith)))
+  where
+    by_slot : (row : NodeRow) → row.node ≡ receiver → (s : ℕ) → (s ≡ slot) ⊎ (s ≢ slot) → find (is_dev_of row.node slot channel) (flat_map (stored_at x cycle rows row s) channels) ≡ None
+    by_slot row own s (inl same) =
+        ap (λ (k : ℕ). find (is_dev_of row.node slot channel) (flat_map (stored_at x cycle rows row k) channels)) same
+        ∙ find_in_slot x cycle rows row slot channel
+        ∙ ap (option_map (dev_with row.node slot channel)) (none row own)
+    by_slot row own s (inr ne) = find_elsewhere x cycle rows row slot s channel ne
+
+    by_receiver : (row : NodeRow) → (row.node ≡ receiver) ⊎ (row.node ≢ receiver) → find (is_dev_of receiver slot channel) (stored_of x cycle rows row) ≡ None
+    by_receiver row (inl own) =
+        ap (λ (node : ℕ). find (is_dev_of node slot channel) (stored_of x cycle rows row)) (sym own)
+        ∙ find_nowhere (is_dev_of row.node slot channel) (λ s. flat_map (stored_at x cycle rows row s) channels) (static_slots_of x) (λ s. by_slot row own s (grind arith))
+    by_receiver row (inr ne) = find_in_other x cycle rows row receiver slot channel ne

@@ -1,5 +1,5 @@
--- The record that the function gives obeys the laws.
-use Rattle.std.proofs.Common.{◌≡◌, ℕ, ◌<◌, ◌^◌, ◌-◌, ◌/◌, ◌%◌, ℤ, Bool, true, false, Option, Some, None, List, [], ◌∷◌, All, IfSome, map, length, refl, sym, ◌∙◌, subst, lit<, arith, get_or, bit_xor, if◌then◌else◌, ◌≤◌, zero, suc, ◌==◌, not, ◌||◌, ◌&&◌}
+-- The receptions that the function gives are those of the laws.
+use Rattle.std.proofs.Common.{◌≡◌, ℕ, ◌<◌, ◌^◌, ◌-◌, ◌/◌, ◌%◌, ℤ, Bool, true, false, Option, Some, None, List, [], ◌∷◌, All, IfSome, map, refl, ◌∙◌, lit<, arith, get_or, bit_xor, if◌then◌else◌, ◌≤◌, zero, suc, ◌==◌, not, ◌||◌, ◌&&◌}
 use Rattle.std.specs.Prelude.{option_and_then, slice_index_or}
 use Rattle.std.specs.List.{flat_map}
 use Rattle.std.specs.Option.{option_map, option_to_list}
@@ -19,12 +19,9 @@ use Rattle.fr_reception.specs.Answers.{IsAnswer, answer_of}
 use Rattle.fr_reception.specs.Offers.{Offer, flipped}
 use Rattle.fr_reception.specs.Regular.{is_sync_frame, regular_frame}
 use Rattle.fr_cluster.specs.Setting.{IsSetting, SaysBytes, Setting}
-use Rattle.fr_history.specs.History.{History, Record, row_of}
-use Rattle.fr_history.specs.Offers.{AreReceptions, AreReceptionsBetween, IsProper, active_offer, is_on, arrived_of, offer_in, offer_pair, offers_between, offers_to, reception_of, receptions_between, said_in_event, said_offer, sender_offer, sent_offer, channels, static_slots_of}
-use Rattle.fr_history.specs.Lawful.{AreCounts, IsLawful, Obeys, cut_after, laws_after, offset_after, row_nodes, uncorrected}
-use Rattle.fr_history.specs.Next.{early_record, early_row, early_rows, history_of, next_counts, next_devs, next_receptions, next_record}
+use Rattle.fr_history.specs.History.{row_of}
+use Rattle.fr_history.specs.Offers.{AreReceptionsBetween, IsProper, active_offer, is_on, arrived_of, offer_in, offer_pair, offers_between, offers_to, reception_of, receptions_between, said_in_event, said_offer, sender_offer, sent_offer, channels, static_slots_of}
 use Rattle.fr_history.proofs.Lists.{All-every, All-flat_map, map-map, map_left}
-use Rattle.fr_history.proofs.RowLaws.{cuts_run_by, rows_run_by, uncorrected_by}
 
 -- an offer of bytes has an answer, the one that the function gives
 abbrev pub AnswersExist : Type 0
@@ -131,7 +128,7 @@ offers-good frames x setting cycle rows receivers =
     (static_slots_of x)))
     receivers
 
--- ---- the receptions that the function gives are those of the laws
+-- ---- each offer is answered
 
 pub receptions_are : AnswersExist → FramesAreBytes → (x : Setting) → IsSetting x → (cycle : ℕ) (rows receivers : List NodeRow)
     → AreReceptionsBetween x cycle rows receivers (receptions_between x cycle rows receivers)
@@ -143,34 +140,3 @@ receptions_are answers frames x setting cycle rows receivers =
           (All-weaker (λ (pair : NodeRow × Offer). IsOfBytes pair.1) (λ pair. IsProper x cycle (reception_of x cycle pair))
           (λ pair small. answers x.params cycle pair.0 pair.1 small) pairs (offers-good frames x setting cycle rows receivers));
     }
-
--- ---- the record that the function gives obeys the laws
-
-pub record_obeys : AnswersExist → FramesAreBytes → (x : Setting) → IsSetting x → (h : History) → Obeys x h (next_record x h)
-unfolding next_record next_devs next_counts early_row
-record_obeys answers frames x setting h =
-    let early : Record = early_record x h in
-    let offset : NodeRow → ℤ = offset_after x.params h early in
-    let cut : NodeRow → ℕ = cut_after x.params h early in
-    let rows : map uncorrected (next_record x h).rows ≡ early_rows x h = uncorrected_by (laws_after x h) offset cut (row_nodes x h) in
-    let Heard : List NodeRow → Type 0 = λ rs. AreReceptions x (length h) rs (next_receptions x h) in
-    let Counted : List NodeRow → Type 0 = λ rs. AreCounts x (length h) rs (next_receptions x h) (next_counts x h) in
-    record {
-      clocks = rows_run_by (laws_after x h) offset cut (row_nodes x h) (record { same = λ row o c. refl });
-      cuts = cuts_run_by (laws_after x h) offset cut (row_nodes x h) (record { same = λ row o c. refl });
-      receptions = next_receptions x h;
-      received = subst Heard (sym rows) (receptions_are answers frames x setting (length h) (early_rows x h) (early_rows x h));
-      devs = refl;
-      counts = subst Counted (sym rows) (record { sent_a = refl; sent_b = refl; xor_a = refl; xor_b = refl; stored = refl; outside = refl; damaged = refl; wrong_id = refl; wrong_cycle = refl; wrong_length = refl; plain = refl });
-    }
-
--- so the histories that the function gives are lawful, each of its length
-pub history_lawful : AnswersExist → FramesAreBytes → (x : Setting) → IsSetting x → (n : ℕ) → IsLawful x (history_of x n)
-unfolding history_of
-history_lawful answers frames x setting zero = tt
-history_lawful answers frames x setting (suc n) = (record_obeys answers frames x setting (history_of x n), history_lawful answers frames x setting n)
-
-pub length-history_of : (x : Setting) (n : ℕ) → length (history_of x n) ≡ n
-unfolding history_of
-length-history_of x zero = refl
-length-history_of x (suc n) = let e : length (history_of x n) ≡ n = length-history_of x n in omega (arith, e)

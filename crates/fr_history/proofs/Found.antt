@@ -1,19 +1,16 @@
--- A record that obeys the laws after a history is the one that the function gives.
-use Rattle.std.proofs.Common.{◌≡◌, ℕ, List, [], ◌∷◌, All, map, length, refl, ap, sym, ◌∙◌, subst}
+-- Receptions and counts that obey the laws are those that the functions give.
+use Rattle.std.proofs.Common.{◌≡◌, ℕ, List, All, map, ap, sym, ◌∙◌}
 use Rattle.fr_base.specs.declared.cycle_row.Counts.{Counts}
-use Rattle.fr_base.specs.declared.dev.Dev.{Dev}
 use Rattle.fr_base.specs.declared.node_row.NodeRow.{NodeRow}
 use Rattle.fr_cluster.specs.Values.{Values}
 use Rattle.fr_reception.specs.Answers.{IsAnswer, answer_of}
 use Rattle.fr_reception.specs.Offers.{Offer}
 use Rattle.fr_reception.specs.declared.heard.Heard.{Heard}
 use Rattle.fr_cluster.specs.Setting.{Setting}
-use Rattle.fr_history.specs.History.{History, Record}
-use Rattle.fr_history.specs.Offers.{AreReceptionsBetween, IsProper, Reception, devs_among, offer_pair, reception_of, receptions_among, receptions_between}
-use Rattle.fr_history.specs.Lawful.{AreCounts, IsLawful, Obeys, cut_after, laws_after, offset_after, row_nodes, uncorrected}
-use Rattle.fr_history.specs.Next.{counts_over, early_record, early_row, early_rows, ended_row, history_of, next_counts, next_devs, next_receptions, next_record}
+use Rattle.fr_history.specs.Offers.{AreReceptionsBetween, IsProper, Reception, offer_pair, reception_of, receptions_among, receptions_between}
+use Rattle.fr_history.specs.Rows.{AreCounts}
+use Rattle.fr_history.specs.Records.{counts_over}
 use Rattle.fr_history.proofs.Lists.{map-map, map_left}
-use Rattle.fr_history.proofs.RowLaws.{AsksNoCorrection, early_rows_by, ended_rows_by}
 use Rattle.std.proofs.lemmas.List.Elements.{All-weaker}
 
 -- each answer is the one that the function gives
@@ -37,29 +34,6 @@ pub receptions_found : AnswersAreFound → (x : Setting) (cycle : ℕ) (rows rec
     → receptions ≡ receptions_between x cycle rows receivers
 receptions_found found x cycle rows receivers receptions are =
     receptions_are found x cycle receptions are.answered ∙ ap (map (reception_of x cycle)) are.whole
-
--- ---- rows
-
-no_offset : (x : Setting) (h : History) (r : Record) → AsksNoCorrection (offset_after x.params h r)
-no_offset x h r = record { same = λ row offset cut. refl }
-
-no_cut : (x : Setting) (h : History) (r : Record) → AsksNoCorrection (cut_after x.params h r)
-no_cut x h r = record { same = λ row offset cut. refl }
-
-pub early_rows_are : (x : Setting) (h : History) (r : Record) → Obeys x h r → map uncorrected r.rows ≡ early_rows x h
-unfolding early_row
-early_rows_are x h r laws = early_rows_by (laws_after x h) (offset_after x.params h r) (cut_after x.params h r) (row_nodes x h) r.rows laws.clocks laws.cuts
-
--- rows with the corrections of some deviations
-corrected_by : Setting → History → Record → List Dev → List NodeRow
-corrected_by x h r devs = map (ended_row x h (record r { devs = devs })) (early_rows x h)
-
-rows_are : (x : Setting) (h : History) (r : Record) → Obeys x h r → r.devs ≡ next_devs x h → r.rows ≡ map (ended_row x h (early_record x h)) (early_rows x h)
-unfolding early_row corrected_by
-rows_are x h r laws devs =
-    let ended : r.rows ≡ corrected_by x h r r.devs =
-    ended_rows_by (laws_after x h) (offset_after x.params h r) (cut_after x.params h r) (row_nodes x h) r.rows (no_offset x h r) (no_cut x h r) laws.clocks laws.cuts in
-    ended ∙ ap (corrected_by x h r) devs
 
 -- ---- counts
 
@@ -91,33 +65,3 @@ counts_same a b h0 h1 h2 h3 h4 h5 h6 h7 h8 h9 h10 =
 pub counts_over_found : (x : Setting) (cycle : ℕ) (rows : List NodeRow) (counts : Counts) → AreCounts x cycle rows (receptions_among x cycle rows) counts → counts ≡ counts_over x cycle rows
 counts_over_found x cycle rows counts are =
     counts_same counts (counts_over x cycle rows) are.sent_a are.sent_b are.xor_a are.xor_b are.stored are.outside are.damaged are.wrong_id are.wrong_cycle are.wrong_length are.plain
-
--- ---- the record
-
-abbrev record_with : List NodeRow → List Dev → Counts → Record
-record_with rows devs counts = record { rows = rows; devs = devs; counts = counts }
-
-record_same : (rs ts : List NodeRow) (ds es : List Dev) (cs os : Counts) → rs ≡ ts → ds ≡ es → cs ≡ os → record_with rs ds cs ≡ record_with ts es os
-record_same rs ts ds es cs os a b c = cc
-
-pub record_found : AnswersAreFound → (x : Setting) (h : History) (r : Record) → Obeys x h r → r ≡ next_record x h
-unfolding next_record next_devs next_counts
-record_found found x h r laws =
-    let rows : map uncorrected r.rows ≡ early_rows x h = early_rows_are x h r laws in
-    let receptions : laws.receptions ≡ next_receptions x h =
-    receptions_found found x (length h) (map uncorrected r.rows) (map uncorrected r.rows) laws.receptions laws.received ∙ ap (receptions_among x (length h)) rows in
-    let devs : r.devs ≡ next_devs x h = laws.devs ∙ ap devs_among receptions in
-    let P : List NodeRow → Type 0 = λ rs. AreCounts x (length h) rs laws.receptions r.counts in
-    let Q : List Reception → Type 0 = λ rs. AreCounts x (length h) (early_rows x h) rs r.counts in
-    let counts : r.counts ≡ next_counts x h = counts_over_found x (length h) (early_rows x h) r.counts (subst Q receptions (subst P rows laws.counts)) in
-    let ended : r.rows ≡ map (ended_row x h (early_record x h)) (early_rows x h) = rows_are x h r laws devs in
-    record_same r.rows (map (ended_row x h (early_record x h)) (early_rows x h)) r.devs (next_devs x h) r.counts (next_counts x h) ended devs counts
-
--- the lawful histories are those that the function gives
-pub history_found : AnswersAreFound → (x : Setting) (h : History) → IsLawful x h → h ≡ history_of x (length h)
-unfolding history_of
-history_found found x [] lawful = refl
-history_found found x (r ∷ h) lawful =
-    let after : h ≡ history_of x (length h) = history_found found x h lawful.1 in
-    let first : r ≡ next_record x h = record_found found x h r lawful.0 in
-    ap (λ (s : Record). s ∷ h) first ∙ ap (λ (g : History). next_record x g ∷ g) after

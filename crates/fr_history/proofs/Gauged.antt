@@ -9,13 +9,11 @@ use Rattle.fr_base.specs.declared.node_row.NodeRow.{NodeRow}
 use Rattle.fr_bound.specs.Sync.{is_in_sync}
 use Rattle.fr_cluster.specs.Values.{Values}
 use Rattle.fr_skew.specs.Gauge.{GaugeView, are_free_in_sync, fresh_gauge, gauged, next_sync}
-use Rattle.fr_skew.specs.Sync.{are_in_sync, sync_bounds_of}
+use Rattle.fr_skew.specs.Sync.{sync_bounds_of}
 use Rattle.fr_skew.proofs.Closeness.{in_sync_is}
 use Rattle.fr_time.specs.Cycles.{double_cycle_of, even_cycle, is_odd, odd_cycle}
-use Rattle.fr_history.specs.Gauged.{FollowedHistory, FollowedRecord, GaugeHolds, first_free_sync_of, followed_at, is_free_sync_at, is_free_sync_by, last_even_followed, last_even_of, records_of, unfollowed}
-use Rattle.fr_history.specs.History.{History, Record, record_at}
+use Rattle.fr_history.specs.Gauged.{FollowedHistory, FollowedRecord, GaugeHolds, first_free_sync_of, followed_at, is_free_sync_at, is_free_sync_by, last_even_followed, last_even_of, told_only}
 use Rattle.fr_history.specs.Skew.{greatest_skew_of}
-use Rattle.fr_history.specs.Sync.{first_sync_of, is_sync_at, is_sync_by}
 
 -- ---- the first of a range
 
@@ -129,7 +127,7 @@ first_free-next p r h = first_free-next_by p r h (is_odd (length h)) refl
 
 -- ---- all that a gauge holds
 
-records_length : (h : FollowedHistory) → length (records_of h) ≡ length h
+records_length : (h : FollowedHistory) → length (told_only h) ≡ length h
 records_length [] = refl
 records_length (r ∷ h) = ap suc (records_length h)
 
@@ -148,60 +146,3 @@ gauge_holds_more p g h r held = record {
   even = rw (held.counted, held.even) refl;
   followed = rw (held.counted, held.followed) refl;
 }
-
--- ---- a history in which none follows
-
-pub unfollowed_length : (h : History) → length (unfollowed h) ≡ length h
-unfollowed_length [] = refl
-unfollowed_length (r ∷ h) = ap suc (unfollowed_length h)
-
-pub records_unfollowed : (h : History) → records_of (unfollowed h) ≡ h
-records_unfollowed [] = refl
-records_unfollowed (r ∷ h) = ap (λ (t : History). r ∷ t) (records_unfollowed h)
-
-plainly : Option Record → Option FollowedRecord
-plainly None = None
-plainly (Some r) = Some (record { told = r; following = false })
-
-unfollowed_at_by : (r : Record) (h : History) (n : ℕ) (b : Bool) → (length h == n) ≡ b → followed_at (unfollowed h) n ≡ plainly (record_at h n) → followed_at (unfollowed (r ∷ h)) n ≡ plainly (record_at (r ∷ h) n)
-unfolding followed_at record_at plainly
-unfollowed_at_by r h n true here after = rw (unfollowed_length h, here) refl
-unfollowed_at_by r h n false other after = rw (unfollowed_length h, other) after
-
-unfollowed_at : (h : History) (n : ℕ) → followed_at (unfollowed h) n ≡ plainly (record_at h n)
-unfolding followed_at record_at plainly
-unfollowed_at [] n = refl
-unfollowed_at (r ∷ h) n = unfollowed_at_by r h n (length h == n) refl (unfollowed_at h n)
-
-plain_sync : (p : Values) (even odd : Option Record) → is_free_sync_by p (plainly even) (plainly odd) ≡ is_sync_by p even odd
-unfolding plainly
-plain_sync p None odd = refl
-plain_sync p (Some even) None = refl
-plain_sync p (Some even) (Some odd) = both_true (is_in_sync p even.rows odd.rows)
-  where
-    both_true : (b : Bool) → (b && true && true) ≡ b
-    both_true true = refl
-    both_true false = refl
-
--- the first double cycle in sync is then that of the history
-pub unfollowed_sync : (p : Values) (h : History) → first_free_sync_of p (unfollowed h) ≡ first_sync_of p h
-unfolding first_free_sync_of first_sync_of
-unfollowed_sync p h =
-    ap (λ (n : ℕ). find (is_free_sync_at p (unfollowed h)) (range_with_len 0 (n / 2))) (unfollowed_length h)
-    ∙ find-same (is_free_sync_at p (unfollowed h)) (is_sync_at p h) 0 (length h / 2) (λ k low high. same k)
-  where
-    same : (k : ℕ) → is_free_sync_at p (unfollowed h) k ≡ is_sync_at p h k
-    same k =
-        ap (λ (o : Option FollowedRecord). is_free_sync_by p o (followed_at (unfollowed h) (odd_cycle k))) (unfollowed_at h (even_cycle k))
-        ∙ ap (λ (o : Option FollowedRecord). is_free_sync_by p (plainly (record_at h (even_cycle k))) o) (unfollowed_at h (odd_cycle k))
-        ∙ plain_sync p (record_at h (even_cycle k)) (record_at h (odd_cycle k))
-
--- what a gauge that holds it tells
-pub unfollowed_counted : (p : Values) (g : GaugeView) (h : History) → GaugeHolds p g (unfollowed h) → g.added ≡ length h
-unfollowed_counted p g h held = held.counted ∙ unfollowed_length h
-
-pub unfollowed_greatest : (p : Values) (g : GaugeView) (h : History) → GaugeHolds p g (unfollowed h) → g.greatest ≡ greatest_skew_of p h
-unfollowed_greatest p g h held = held.greatest ∙ ap (greatest_skew_of p) (records_unfollowed h)
-
-pub unfollowed_synced : (p : Values) (g : GaugeView) (h : History) → GaugeHolds p g (unfollowed h) → g.synced ≡ first_sync_of p h
-unfollowed_synced p g h held = held.synced ∙ unfollowed_sync p h

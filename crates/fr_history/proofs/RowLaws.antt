@@ -5,8 +5,8 @@ use Rattle.fr_base.specs.declared.node_row.NodeRow.{NodeRow}
 use Rattle.fr_base.specs.declared.state.State.{State}
 use Rattle.fr_cluster.specs.declared.nodes.NodeSpec.{NodeSpec}
 use Rattle.fr_history.specs.History.{AreRowsOf}
-use Rattle.fr_history.specs.Lawful.{ClockLaws, RowsRun, uncorrected}
-use Rattle.fr_history.specs.Next.{row_by}
+use Rattle.fr_history.specs.Rows.{ClockLaws, RowsRun, uncorrected}
+use Rattle.fr_history.specs.Records.{row_by}
 use Rattle.fr_history.proofs.Lists.{All-both, All-every, map-map, map_left, map_same}
 
 -- a row with the corrections that laws of offsets and of cuts give

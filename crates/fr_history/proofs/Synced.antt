@@ -1,13 +1,9 @@
--- The first double cycle in sync: the function finds it, and there is no other. The record of a cycle.
-use Rattle.std.proofs.Common.{◌≡◌, ◌⊎◌, ℕ, zero, suc, ◌+◌, ◌/◌, ◌<◌, ◌≤◌, ◌++◌, Bool, true, false, Option, Some, None, IsSome, [], ◌∷◌, length, refl, ap, sym, ◌∙◌, inl, inr, arith, ◌==◌}
+-- The record of a cycle, and the first of a range of numbers that passes a test.
+use Rattle.std.proofs.Common.{◌≡◌, ◌⊎◌, ℕ, zero, suc, ◌+◌, ◌<◌, ◌≤◌, ◌++◌, Bool, true, false, Some, None, IsSome, [], ◌∷◌, length, refl, ap, sym, ◌∙◌, inl, inr, arith, ◌==◌}
 use Rattle.std.specs.Prelude.{find}
 use Rattle.std.specs.List.{range_with_len}
 use Rattle.std.proofs.lemmas.List.{length-append}
-use Rattle.fr_cluster.specs.Values.{Values}
-use Rattle.fr_bound.proofs.Sync.{in_sync_from, to_in_sync}
-use Rattle.fr_time.specs.Cycles.{even_cycle, odd_cycle}
 use Rattle.fr_history.specs.History.{History, IsRecordOf, Record, record_at}
-use Rattle.fr_history.specs.Sync.{IsFirstInSync, IsInSyncAt, first_sync_of, is_sync_at, is_sync_by}
 use Rattle.fr_history.proofs.Greatest.{record_after, record_here}
 
 -- ---- the record of a cycle
@@ -100,49 +96,6 @@ pub none_passes : (test : ℕ → Bool) (from count : ℕ) → find test (range_
 none_passes test from zero is j low high = absurd (omega arith)
 none_passes test from (suc count) is j low high =
     none_passes_by test from count (test from) refl (none_passes test (from + 1) count) is j low high (grind arith)
-
--- ---- in sync
-
-sync_from : (p : Values) (h : History) (k : ℕ) (even odd : Option Record) → record_at h (even_cycle k) ≡ even → record_at h (odd_cycle k) ≡ odd → is_sync_by p even odd ≡ true → IsInSyncAt p h k
-sync_from p h k None odd has_even has_odd is = absurd (cc)
-sync_from p h k (Some even) None has_even has_odd is = absurd (cc)
-sync_from p h k (Some even) (Some odd) has_even has_odd is =
-    record { even = even; odd = odd; has_even = has_even; has_odd = has_odd; in_sync = in_sync_from p even.rows odd.rows is }
-
-is_in_sync_at : (p : Values) (h : History) (k : ℕ) → is_sync_at p h k ≡ true → IsInSyncAt p h k
-is_in_sync_at p h k is = sync_from p h k (record_at h (even_cycle k)) (record_at h (odd_cycle k)) refl refl is
-
-to_is_sync_at : (p : Values) (h : History) (k : ℕ) → IsInSyncAt p h k → is_sync_at p h k ≡ true
-to_is_sync_at p h k is = rw (is.has_even, is.has_odd) (to_in_sync p is.even.rows is.odd.rows is.in_sync)
-
--- a double cycle in sync is a complete one
-sync_within : (p : Values) (h : History) (k : ℕ) → IsInSyncAt p h k → k < length h / 2
-sync_within p h k is = let below : odd_cycle k < length h = record_at-lt h (odd_cycle k) is.odd is.has_odd in omega (arith, below)
-
-no_test_no_sync : (p : Values) (h : History) (k : ℕ) → is_sync_at p h k ≡ false → IsInSyncAt p h k → ⊥
-no_test_no_sync p h k fails is = let passes : is_sync_at p h k ≡ true = to_is_sync_at p h k is in let e : false ≡ true = sym fails ∙ passes in cc
-
-pub first_sync_is : (p : Values) (h : History) (k : ℕ) → first_sync_of p h ≡ Some k → IsFirstInSync p h k
-unfolding first_sync_of
-first_sync_is p h k is =
-    let first : IsFirstOf (is_sync_at p h) 0 (length h / 2) k = found_first (is_sync_at p h) 0 (length h / 2) k is in
-    record {
-      in_sync = is_in_sync_at p h k first.passes;
-      first = λ j below synced. no_test_no_sync p h j (first.earlier j (omega arith) below) synced;
-    }
-
-pub never_in_sync : (p : Values) (h : History) → first_sync_of p h ≡ None → (k : ℕ) → IsInSyncAt p h k → ⊥
-unfolding first_sync_of
-never_in_sync p h is k synced =
-    no_test_no_sync p h k (none_passes (is_sync_at p h) 0 (length h / 2) is k (omega arith) (let w : k < length h / 2 = sync_within p h k synced in omega (arith, w))) synced
-
-pub first_sync_is_one : (p : Values) (h : History) (k l : ℕ) → IsFirstInSync p h k → IsFirstInSync p h l → k ≡ l
-first_sync_is_one p h k l one other = by_order (grind arith)
-  where
-    by_order : ((k < l) ⊎ (l < k)) ⊎ (k ≡ l) → k ≡ l
-    by_order (inl (inl less)) = absurd (other.first k less one.in_sync)
-    by_order (inl (inr more)) = absurd (one.first l more other.in_sync)
-    by_order (inr same) = same
 
 -- ---- each cycle of a history has a record
 

@@ -1,5 +1,5 @@
 -- When a gauge holds a history, and from when on none follows in it.
-use Rattle.std.specs.Prelude.{◌≡◌, ℕ, ◌/◌, ◌==◌, Bool, true, false, not, ◌&&◌, List, [], ◌∷◌, length, map, Option, Some, None, find, if◌then◌else◌}
+use Rattle.std.specs.Prelude.{◌≡◌, ℕ, ◌/◌, ◌==◌, Bool, false, not, ◌&&◌, List, [], ◌∷◌, length, map, Option, Some, None, find, if◌then◌else◌}
 use Rattle.std.specs.List.{range_with_len}
 use Rattle.fr_base.specs.declared.node_row.NodeRow.{NodeRow}
 use Rattle.fr_bound.specs.Sync.{is_in_sync}
@@ -21,12 +21,8 @@ abbrev pub FollowedHistory : Type 0
 FollowedHistory = List FollowedRecord
 
 -- what is told of them
-abbrev pub records_of : FollowedHistory → History
-records_of h = map (λ r. r.told) h
-
--- a history in which none follows
-abbrev pub unfollowed : History → FollowedHistory
-unfollowed h = map (λ (r : Record). record { told = r; following = false }) h
+abbrev pub told_only : FollowedHistory → History
+told_only h = map (λ r. r.told) h
 
 -- the record of a cycle, if there is one
 unfoldable pub followed_at : FollowedHistory → ℕ → Option FollowedRecord
@@ -63,7 +59,7 @@ pub record GaugeHolds (p : Values) (g : GaugeView) (h : FollowedHistory) : Type 
   pub grid : g.grid ≡ grid_for p
   pub bounds : g.bounds ≡ sync_bounds_of p
   pub counted : g.added ≡ length h
-  pub greatest : g.greatest ≡ greatest_skew_of p (records_of h)
+  pub greatest : g.greatest ≡ greatest_skew_of p (told_only h)
   pub synced : g.synced ≡ first_free_sync_of p h
   pub even : g.even ≡ last_even_of h
   pub followed : g.followed ≡ last_even_followed h

@@ -1,8 +1,9 @@
 -- A history of a cluster: a finished list of records, one a cycle (this project's own; clocks by section 8.2).
-use Rattle.std.specs.Prelude.{◌≡◌, ℕ, ◌==◌, List, [], ◌∷◌, ◌++◌, length, map, Option, Some, None, find, if◌then◌else◌}
+use Rattle.std.specs.Prelude.{◌≡◌, ℕ, ◌==◌, pos, List, [], ◌∷◌, ◌++◌, length, map, Option, Some, None, find, unwrap_or, if◌then◌else◌}
 use Rattle.fr_base.specs.declared.cycle_row.Counts.{Counts}
 use Rattle.fr_base.specs.declared.dev.Dev.{Dev}
 use Rattle.fr_base.specs.declared.node_row.NodeRow.{NodeRow}
+use Rattle.fr_base.specs.declared.state.State.TheVariants.{Halt}
 use Rattle.fr_cluster.specs.declared.nodes.NodeSpec.{NodeSpec}
 
 -- The record of a cycle: a row for each node that takes part, in ascending order of node (where no node joins, for each
@@ -39,10 +40,9 @@ AreRowsOf nodes rows = map (λ row. row.node) rows ≡ map (λ node. node.id) no
 abbrev pub row_of : List NodeRow → ℕ → Option NodeRow
 row_of rows node = find (λ row. row.node == node) rows
 
--- the row of a node whose clock follows from a record, if it has one: the clocks of a record are those of its rows
-abbrev pub clock_of : Record → ℕ → Option NodeRow
-clock_of r node = row_of r.rows node
+-- and one of zeros where it has none
+abbrev pub blank_row : NodeRow
+blank_row = record { node = 0; start = pos 0; length = pos 0; rate = pos 0; offset = pos 0; state = Halt; cut = 0 }
 
--- the deviations of the clocks of a record
-abbrev pub heard_in : Record → List Dev
-heard_in r = r.devs
+unfoldable pub row_for : List NodeRow → ℕ → NodeRow
+row_for rows node = unwrap_or (row_of rows node) blank_row

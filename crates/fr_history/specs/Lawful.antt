@@ -1,133 +1,35 @@
--- Which histories are lawful: each record obeys the laws, given the records before it (chapters 2, 5 and 8).
-use Rattle.std.specs.Prelude.{◌≡◌, ℕ, ℤ, pos, Bool, not, ◌&&◌, List, [], ◌∷◌, length, map, fold, All, count_by, bit_xor, Option, Some, None, if◌then◌else◌}
-use Rattle.fr_base.specs.States.{is_halted}
-use Rattle.fr_base.specs.declared.channel.Channel.TheVariants.{A, B}
-use Rattle.fr_base.specs.declared.cycle_row.Counts.{Counts}
-use Rattle.fr_base.specs.declared.node_row.NodeRow.{NodeRow}
-use Rattle.fr_base.specs.declared.state.State.{State}
-use Rattle.fr_cluster.specs.Values.{Values}
-use Rattle.fr_cluster.specs.declared.nodes.NodeSpec.{NodeSpec}
-use Rattle.fr_time.specs.Cycles.{is_odd}
-use Rattle.fr_time.specs.Instant.{next_start_of}
-use Rattle.fr_time.specs.Position.{grid_for}
-use Rattle.fr_reception.specs.Regular.{carried_crc}
-use Rattle.fr_cluster.specs.Setting.{Setting, correct_nodes}
-use Rattle.fr_history.specs.History.{AreRowsOf, History, Record, clock_of, heard_in}
-use Rattle.fr_history.specs.Offers.{AreReceptions, Reception, devs_among, frames_on}
-use Rattle.fr_history.specs.Kinds.{is_stored, is_outside, is_damaged, is_wrong_id, is_wrong_cycle, is_wrong_length, is_plain}
-use Rattle.fr_history.specs.Terms.{cuts_in, offset_term_in, rate_term_in, status_in}
+-- Which cycles are lawful: each record obeys the laws, given the records before it.
+use Rattle.std.specs.Prelude.{◌≡◌, List, [], ◌∷◌, length, map, All}
+use Rattle.fr_history.specs.Rows.{AreCounts, CutsRun, RowsRun, offset_after, uncorrected}
+use Rattle.fr_history.specs.Offers.{AreReceptions, AreReceptionsBetween, Reception, devs_among}
+use Rattle.fr_cluster.specs.Setting.{Setting}
+use Rattle.fr_history.specs.Cycles.{Cycle, Cycles, told_of}
+use Rattle.fr_history.specs.Laws.{follower_cut, follower_laws, follower_offset, row_laws}
+use Rattle.fr_history.specs.Standing.{following_nodes, row_nodes}
 
--- ---- the laws of a row, each as a function of the records before it
+-- what is told obeys the laws: each node that has a row sends and receives
+pub record ToldObeys (x : Setting) (h : Cycles) (c : Cycle) : Type 0 where
+  pub clocks : RowsRun (row_laws x h) (offset_after x.params (told_of h) c.told) (row_nodes x h) c.told.rows
+  pub cuts : CutsRun x (told_of h) c.told
+  pub receptions : List Reception
+  pub received : AreReceptions x (length h) (map uncorrected c.told.rows) receptions
+  pub devs : c.told.devs ≡ devs_among receptions
+  pub counts : AreCounts x (length h) (map uncorrected c.told.rows) receptions c.told.counts
 
--- the start that follows from the row of the cycle before: the end of that cycle
-abbrev pub start_by : Values → Option NodeRow → ℤ
-start_by p None = pos 0
-start_by p (Some before) = next_start_of (grid_for p) before
-
--- starts: that of cycle 0 is given, and each cycle begins where the one before ends
-abbrev pub start_after : Setting → History → ℕ → ℤ
-start_after x [] node = x.start node
-start_after x (r ∷ h) node = start_by x.params (clock_of r node)
-
--- whether a row's cycle ends with corrections: an odd cycle of a node that is not halted
-abbrev pub is_corrected : History → NodeRow → Bool
-is_corrected h row = is_odd (length h) && not (is_halted row.state)
-
--- the rate term that follows from the row of the cycle before: within a double cycle it stays; after one it is the
--- rate term of that double cycle's deviations, and a halted node keeps its own
-abbrev pub rate_by : Values → History → Record → Option NodeRow → ℤ
-rate_by p h r None = pos 0
-rate_by p h r (Some before) =
-    if is_corrected h before then (rate_term_in p h (heard_in r) before).value else before.rate
-
--- rates: that of cycle 0 is given
-abbrev pub rate_after : Setting → History → ℕ → ℤ
-rate_after x [] node = x.rate node
-rate_after x (r ∷ h) node = rate_by x.params h r (clock_of r node)
-
--- offsets: 0 in even cycles and in Halt, else the offset term
-abbrev pub offset_after : Values → History → Record → NodeRow → ℤ
-offset_after p h r row = if is_corrected h row then (offset_term_in p h (heard_in r) row.node).value else pos 0
-
--- cuts: none in even cycles and in Halt, else how many of the two terms were cut
-abbrev pub cut_after : Values → History → Record → NodeRow → ℕ
-cut_after p h r row = if is_corrected h row then cuts_in p h (heard_in r) row else 0
-
--- a row before the corrections at the end of its cycle
-abbrev pub uncorrected : NodeRow → NodeRow
-uncorrected row = record row { offset = pos 0; cut = 0 }
-
--- ---- the laws of a record's counts
-
--- the sum without carry of the frame CRCs of some frames
-abbrev pub crcs_sum : List (List ℕ) → ℕ
-crcs_sum frames = fold (λ sum frame. bit_xor sum (carried_crc frame)) 0 frames
-
--- the frames of correct active nodes on each channel, and what the receivers answered
-pub record AreCounts (x : Setting) (cycle : ℕ) (rows : List NodeRow) (receptions : List Reception) (counts : Counts) : Type 0 where
-  pub sent_a : counts.sent_a ≡ length (frames_on x cycle rows A)
-  pub sent_b : counts.sent_b ≡ length (frames_on x cycle rows B)
-  pub xor_a : counts.xor_a ≡ crcs_sum (frames_on x cycle rows A)
-  pub xor_b : counts.xor_b ≡ crcs_sum (frames_on x cycle rows B)
-  pub stored : counts.stored ≡ count_by (λ reception. is_stored reception.heard) receptions
-  pub outside : counts.outside ≡ count_by (λ reception. is_outside reception.heard) receptions
-  pub damaged : counts.damaged ≡ count_by (λ reception. is_damaged reception.heard) receptions
-  pub wrong_id : counts.wrong_id ≡ count_by (λ reception. is_wrong_id reception.heard) receptions
-  pub wrong_cycle : counts.wrong_cycle ≡ count_by (λ reception. is_wrong_cycle reception.heard) receptions
-  pub wrong_length : counts.wrong_length ≡ count_by (λ reception. is_wrong_length reception.heard) receptions
-  pub plain : counts.plain ≡ count_by (λ reception. is_plain reception.heard) receptions
-
--- ---- the laws of a record
-
--- the nodes that have a row in the cycle after a history: all correct ones
-abbrev pub row_nodes : Setting → History → List NodeSpec
-row_nodes x h = correct_nodes x
-
--- what clocks run by in a cycle: the start, the length of a microtick, the rate and the state that a node has
-pub record ClockLaws : Type 0 where
-  pub start : ℕ → ℤ
-  pub microtick : ℕ → ℤ
-  pub rate : ℕ → ℤ
-  pub state : ℕ → State
-
--- rows are those of some nodes and run by such laws, and each ends with the offset that its law gives
-pub record RowsRun (laws : ClockLaws) (offset : NodeRow → ℤ) (members : List NodeSpec) (rows : List NodeRow) : Type 0 where
-  pub nodes : AreRowsOf members rows
-  pub starts : All (λ row. row.start ≡ laws.start row.node) rows
-  pub lengths : All (λ row. row.length ≡ laws.microtick row.node) rows
-  pub rates : All (λ row. row.rate ≡ laws.rate row.node) rows
-  pub states : All (λ row. row.state ≡ laws.state row.node) rows
-  pub offsets : All (λ row. row.offset ≡ offset row) rows
-
--- what the nodes that have a row run by in the cycle after a history; the number of that cycle is how many records it has
-abbrev pub laws_after : Setting → History → ClockLaws
-laws_after x h = record {
-  start = start_after x h;
-  microtick = λ node. x.microtick node (length h);
-  rate = rate_after x h;
-  state = λ node. (status_in x.params h node).state;
-}
-
--- the clocks of a record obey the laws after the records before it, by the deviations that it has
-abbrev pub ClocksRun : Setting → History → Record → Type 0
-ClocksRun x h r = RowsRun (laws_after x h) (offset_after x.params h r) (row_nodes x h) r.rows
-
--- and so does what they tell of cut terms
-abbrev pub CutsRun : Setting → History → Record → Type 0
-CutsRun x h r = All (λ row. row.cut ≡ cut_after x.params h r row) r.rows
+-- and so do the followers, which receive what the nodes with rows send; their answers are counted nowhere
+pub record FollowersObey (x : Setting) (h : Cycles) (c : Cycle) : Type 0 where
+  pub clocks : RowsRun (follower_laws x h) (follower_offset x.params h c.follower_devs) (following_nodes x h) c.followers
+  pub cuts : All (λ row. row.cut ≡ follower_cut x.params h c.follower_devs row) c.followers
+  pub receptions : List Reception
+  pub received : AreReceptionsBetween x (length h) (map uncorrected c.told.rows) (map uncorrected c.followers) receptions
+  pub devs : c.follower_devs ≡ devs_among receptions
 
 -- a record obeys the laws after the records before it
-pub record Obeys (x : Setting) (h : History) (r : Record) : Type 0 where
-  pub clocks : ClocksRun x h r
-  pub cuts : CutsRun x h r
-  -- each offer has its answer
-  pub receptions : List Reception
-  pub received : AreReceptions x (length h) (map uncorrected r.rows) receptions
-  -- the deviations are those that were stored, and no others
-  pub devs : r.devs ≡ devs_among receptions
-  pub counts : AreCounts x (length h) (map uncorrected r.rows) receptions r.counts
+pub record Obeys (x : Setting) (h : Cycles) (c : Cycle) : Type 0 where
+  pub told : ToldObeys x h c
+  pub followers : FollowersObey x h c
 
--- a history is lawful where each of its records obeys the laws
-abbrev pub IsLawful : Setting → History → Type 0
+-- cycles are lawful where each of their records obeys the laws
+abbrev pub IsLawful : Setting → Cycles → Type 0
 IsLawful x [] = Unit {0}
-IsLawful x (r ∷ h) = Obeys x h r × IsLawful x h
+IsLawful x (c ∷ h) = Obeys x h c × IsLawful x h

@@ -1,6 +1,5 @@
--- From when on the clocks of a history are in sync (this project's own).
-use Rattle.std.specs.Prelude.{◌≡◌, ℕ, ◌/◌, ◌<◌, Bool, false, length, Option, Some, None, find}
-use Rattle.std.specs.List.{range_with_len}
+-- In which double cycles the clocks of a history are in sync (this project's own).
+use Rattle.std.specs.Prelude.{◌≡◌, ℕ, Bool, false, Option, Some, None}
 use Rattle.fr_cluster.specs.Values.{Values}
 use Rattle.fr_time.specs.Cycles.{even_cycle, odd_cycle}
 use Rattle.fr_bound.specs.Sync.{IsInSync, is_in_sync}
@@ -14,11 +13,6 @@ pub record IsInSyncAt (p : Values) (h : History) (double : ℕ) : Type 0 where
   pub has_odd : record_at h (odd_cycle double) ≡ Some odd
   pub in_sync : IsInSync p even.rows odd.rows
 
--- the first double cycle in which it is
-pub record IsFirstInSync (p : Values) (h : History) (double : ℕ) : Type 0 where
-  pub in_sync : IsInSyncAt p h double
-  pub first : (earlier : ℕ) → earlier < double → IsInSyncAt p h earlier → ⊥
-
 -- ---- the same as a function
 
 abbrev pub is_sync_by : Values → Option Record → Option Record → Bool
@@ -28,7 +22,3 @@ is_sync_by p (Some even) (Some odd) = is_in_sync p even.rows odd.rows
 
 abbrev pub is_sync_at : Values → History → ℕ → Bool
 is_sync_at p h double = is_sync_by p (record_at h (even_cycle double)) (record_at h (odd_cycle double))
-
--- the first double cycle in sync, if there is one
-unfoldable pub first_sync_of : Values → History → Option ℕ
-first_sync_of p h = find (is_sync_at p h) (range_with_len 0 (length h / 2))

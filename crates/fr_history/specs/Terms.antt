@@ -13,13 +13,13 @@ use Rattle.fr_correct.specs.declared.term.Term.{Term}
 use Rattle.fr_poc.specs.Control.{Status, control_of}
 use Rattle.fr_poc.specs.Limits.{limits_of}
 use Rattle.fr_measure.specs.Deviations.{offset_values_by, rate_values_by}
-use Rattle.fr_history.specs.History.{History, clock_of, heard_in}
+use Rattle.fr_history.specs.History.{History, row_of}
 
 -- the deviations of the latest cycle of a history: where an odd cycle follows, those of the even cycle of its double
 -- cycle
 abbrev pub latest_devs : History → List Dev
 latest_devs [] = []
-latest_devs (r ∷ h) = heard_in r
+latest_devs (r ∷ h) = r.devs
 
 -- the offset term of a receiver at the end of a double cycle, by the deviations of both cycles and by its own key index
 abbrev pub offset_term_by : Values → List Dev → List Dev → ℕ → Option ℕ → Term
@@ -57,7 +57,7 @@ outcomes_by p h odds (Some row) = ((offset_term_in p h odds row.node).outcome, (
 unfoldable pub outcomes_in : Values → History → ℕ → List (Outcome × Outcome)
 outcomes_in p [] node = []
 outcomes_in p (r ∷ h) node =
-    outcomes_in p h node ++ (if is_odd (length h) then outcomes_by p h (heard_in r) (clock_of r node) else [])
+    outcomes_in p h node ++ (if is_odd (length h) then outcomes_by p h r.devs (row_of r.rows node) else [])
 
 -- how the operation control of a node stands after a history: after one step for each complete double cycle
 abbrev pub status_in : Values → History → ℕ → Status

@@ -14,7 +14,7 @@ use Rattle.fr_records.specs.Refusal.{NoneRefused, FirstRefused}
 use Rattle.fr_records.proofs.Cuts.{none-or-first-refused}
 use Rattle.fr_nm.specs.Files.{recording_of, vectors_file}
 use Rattle.fr_nm.specs.Reasons.{vectors_reason_after}
-use Rattle.fr_nm.specs.Vectors.{Recorded, counted, folded, given_to, joined, one_frame, vector_in}
+use Rattle.fr_nm.specs.Vectors.{Recorded, folded, given_to, how_many_count, merged, one_frame, vector_in}
 use Rattle.fr_nm.specs.View.{VectorsStandFor, VectorsView}
 use Rattle.fr_nm.specs.declared.vector.Folded.{Folded}
 use Rattle.fr_nm.specs.declared.fault.FileFault.{FileFault}
@@ -29,7 +29,7 @@ put_some m key (Some row) = map.insert m key row
 -- what the cycles have of records, as a finite map
 told : ℕ → List Recorded → FinMap nat_cmp Folded
 told width [] = map.empty
-told width (r ∷ rest) = put_some (told width rest) r.cycle (joined (one_frame (vector_in width r)) (map.get (told width rest) r.cycle))
+told width (r ∷ rest) = put_some (told width rest) r.cycle (merged (one_frame (vector_in width r)) (map.get (told width rest) r.cycle))
 
 tied : (a b : ℕ) → eq_by_cmp nat_cmp a b ≡ (b == a)
 tied a b = grind (arith, nat_tests)
@@ -37,28 +37,28 @@ tied a b = grind (arith, nat_tests)
 same : (a b : ℕ) → (a == b) ≡ true → a ≡ b
 same a b e = grind (arith, nat_tests)
 
-joined-nothing : (o p : Option Folded) → joined o p ≡ None → p ≡ None
+joined-nothing : (o p : Option Folded) → merged o p ≡ None → p ≡ None
 joined-nothing None p e = e
 joined-nothing (Some a) None e = refl
 joined-nothing (Some a) (Some b) e = absurd cc
 
-joined-none : (b : Bool) (o p : Option Folded) → joined o p ≡ None → joined (if b then o else None) p ≡ p
+joined-none : (b : Bool) (o p : Option Folded) → merged o p ≡ None → merged (if b then o else None) p ≡ p
 joined-none false o p e = refl
 joined-none true o p e = e ∙ sym (joined-nothing o p e)
 
 -- at a key, and elsewhere
-placed_at : (b : Bool) (key q : ℕ) (row : Folded) (one : Option Folded) (rest : ℕ → Option Folded) → (key == q) ≡ b → joined one (rest key) ≡ Some row
-    → cond b (Some row) (rest q) ≡ joined (if b then one else None) (rest q)
+placed_at : (b : Bool) (key q : ℕ) (row : Folded) (one : Option Folded) (rest : ℕ → Option Folded) → (key == q) ≡ b → merged one (rest key) ≡ Some row
+    → cond b (Some row) (rest q) ≡ merged (if b then one else None) (rest q)
 placed_at false key q row one rest e is = refl
-placed_at true key q row one rest e is = sym is ∙ ap (λ (k : ℕ). joined one (rest k)) (same key q e)
+placed_at true key q row one rest e is = sym is ∙ ap (λ (k : ℕ). merged one (rest k)) (same key q e)
 
-get-put : (m : FinMap nat_cmp Folded) (key q : ℕ) (one p : Option Folded) → joined one (map.get m key) ≡ p → map.get (put_some m key p) q ≡ joined (if key == q then one else None) (map.get m q)
+get-put : (m : FinMap nat_cmp Folded) (key q : ℕ) (one p : Option Folded) → merged one (map.get m key) ≡ p → map.get (put_some m key p) q ≡ merged (if key == q then one else None) (map.get m q)
 unfolding put_some
 get-put m key q one None e = by (key == q) refl
   where
-    by : (b : Bool) → (key == q) ≡ b → map.get m q ≡ joined (if b then one else None) (map.get m q)
+    by : (b : Bool) → (key == q) ≡ b → map.get m q ≡ merged (if b then one else None) (map.get m q)
     by false f = refl
-    by true f = sym (joined-none true one (map.get m q) (ap (λ (k : ℕ). joined one (map.get m k)) (sym (same key q f)) ∙ e))
+    by true f = sym (joined-none true one (map.get m q) (ap (λ (k : ℕ). merged one (map.get m k)) (sym (same key q f)) ∙ e))
 get-put m key q one (Some row) e =
     get-insert nat_cmp_total m key row q
     ∙ ap (λ (b : Bool). cond b (Some row) (map.get m q)) (tied q key)
@@ -68,19 +68,19 @@ get-told : (width : ℕ) (records : List Recorded) (q : ℕ) → map.get (told w
 unfolding told folded
 get-told width [] q = get-empty nat_cmp q
 get-told width (r ∷ rest) q =
-    get-put (told width rest) r.cycle q (one_frame (vector_in width r)) _ refl ∙ ap (λ (o : Option Folded). joined (given_to width q r) o) (get-told width rest q)
+    get-put (told width rest) r.cycle q (one_frame (vector_in width r)) _ refl ∙ ap (λ (o : Option Folded). merged (given_to width q r) o) (get-told width rest q)
 
 one_at_most : (b : Bool) → (if b then 1 else 0) ≤ 1
 one_at_most true = omega arith
 one_at_most false = omega arith
 
-counted-few : (width : ℕ) (records : List Recorded) → counted width records ≤ length records
-unfolding counted
+counted-few : (width : ℕ) (records : List Recorded) → how_many_count width records ≤ length records
+unfolding how_many_count
 counted-few width [] = omega arith
 counted-few width (r ∷ rest) = let one = one_at_most (is_some (vector_in width r)) in let more = counted-few width rest in omega (arith, one, more)
 
 vectors_told : ℕ → List Recorded → VectorsView
-vectors_told width records = record { width = width; rows = map.entries (told width records); frames = counted width records; ignored = length records - counted width records }
+vectors_told width records = record { width = width; rows = map.entries (told width records); frames = how_many_count width records; ignored = length records - how_many_count width records }
 
 stands-told : (width : ℕ) (records : List Recorded) → VectorsStandFor (vectors_told width records) records
 unfolding vectors_told

@@ -10,14 +10,14 @@ use Rattle.fr_frame.specs.Fault.{IsFirstFault}
 use Rattle.fr_frame.specs.Reading.{payload_in, read_as}
 use Rattle.fr_frame.proofs.Exact.{frame_payload, read_frame}
 use Rattle.fr_frame.proofs.Found.{fault_read, frame_read}
-use Rattle.fr_nm.specs.Vectors.{Counts, Recorded, has_vector, placed, recorded, vector_in, vector_read}
+use Rattle.fr_nm.specs.Vectors.{Counts, Recorded, has_vector, placed, vector_in, vector_read, vector_record}
 
-pub vector-fault : (width cycle : ℕ) (channel : Channel) (bytes : List ℕ) (fault : FrameFault) → IsFirstFault channel bytes fault → vector_in width (recorded cycle channel bytes) ≡ None
+pub vector-fault : (width cycle : ℕ) (channel : Channel) (bytes : List ℕ) (fault : FrameFault) → IsFirstFault channel bytes fault → vector_in width (vector_record cycle channel bytes) ≡ None
 unfolding vector_in
 vector-fault width cycle channel bytes fault is = ap (vector_read width cycle bytes) (fault_read channel bytes fault is)
 
 pub vector-frame : (width cycle : ℕ) (channel : Channel) (h : Header) (payload bytes : List ℕ) (a b : ℕ) → IsFrameWith channel h payload a b bytes
-    → vector_in width (recorded cycle channel bytes) ≡ (if has_vector width cycle h then Some (placed width payload) else None)
+    → vector_in width (vector_record cycle channel bytes) ≡ (if has_vector width cycle h then Some (placed width payload) else None)
 unfolding vector_in
 vector-frame width cycle channel h payload bytes a b is =
     ap (vector_read width cycle bytes) (frame_read channel h payload bytes (a, (b, is)))

@@ -8,14 +8,14 @@ use Rattle.fr_base.specs.declared.numbers.NumberFault.TheVariants as fault
 use Rattle.fr_base.specs.declared.reason.Reason.{Reason}
 use Rattle.fr_base.specs.declared.reason.Reason.TheVariants as reason
 use Rattle.fr_records.specs.Records.{FileRecord}
-use Rattle.fr_records.specs.Fields.{both_of, field_of, natural_of}
+use Rattle.fr_records.specs.Fields.{both_of, field_of, hex_digits_in, natural_of}
 use Rattle.fr_records.specs.Forms.{number_field, misses_form, has_no_number, is_out_of_range, has_bad_channels}
 use Rattle.fr_records.specs.Least.{GivesLeast, IsLeastReason, row_passes}
 use Rattle.fr_records.proofs.LeastReasons.{least-first}
 use Rattle.fr_records.proofs.FormFacts.{IsFault, IsFormed, IsFormedBy, IsRead, formed-read, formed-sized, is_overfull, least-formed, natural-read, never, read-both}
-use Rattle.fr_nm.specs.Rows.{digits_in, row_with, said_row, vectors_row_of}
+use Rattle.fr_nm.specs.Rows.{said_row, vector_row_with, vectors_row_of}
 use Rattle.fr_nm.specs.Reasons.{field_reason, vectors_reason_after, vectors_row_reason}
-use Rattle.fr_nm.specs.Holding.{is_not_hex, vectors_form, vectors_holds}
+use Rattle.fr_nm.specs.Holding.{are_bytes_not_hex, vectors_form, vectors_holds}
 use Rattle.fr_nm.specs.declared.rows.Row.{Row}
 
 far : Row → Bool
@@ -35,17 +35,17 @@ digits-if : (b : Bool) (n : ℕ) → IsFault never false (false || not (not b)) 
 digits-if true n = (refl, refl)
 digits-if false n = (refl, refl)
 
-digits-read : (text : List ℕ) → IsRead never [] (nat_le (length text) 524) (digits_in text)
+digits-read : (text : List ℕ) → IsRead never [] (nat_le (length text) 524) (hex_digits_in text)
 digits-read text = rw (few (length text)) (digits-if (nat_lt 524 (length text)) (length text))
 
 said-formed : (r : FileRecord) → IsFormedBy far astray (Some (vectors_form r)) (said_row r)
 unfolding far astray
 said-formed r =
     let all =
-    read-both never never (number_field (field_of r 0) 0 199_999 ∷ []) [] true (nat_le (length (field_of r 2)) 524) (natural_of 0 199_999 (field_of r 0)) (digits_in (field_of r 2))
+    read-both never never (number_field (field_of r 0) 0 199_999 ∷ []) [] true (nat_le (length (field_of r 2)) 524) (natural_of 0 199_999 (field_of r 0)) (hex_digits_in (field_of r 2))
     (natural-read 0 199_999 (field_of r 0)) (digits-read (field_of r 2))
     in
-    formed-read far astray (λ (q : ℕ × ℕ). never q.0 || never q.1) _ _ _ (λ numbers. Ok (row_with r numbers.0)) (both_of (natural_of 0 199_999 (field_of r 0)) (digits_in (field_of r 2))) all
+    formed-read far astray (λ (q : ℕ × ℕ). never q.0 || never q.1) _ _ _ (λ numbers. Ok (vector_row_with r numbers.0)) (both_of (natural_of 0 199_999 (field_of r 0)) (hex_digits_in (field_of r 2))) all
     (λ a d o e f. (refl, refl, e, f, spelt (channel_of (field_of r 1))))
 
 formed : (r : FileRecord) → IsFormed far astray (misses_form 3 r (Some (vectors_form r))) false (has_no_number (Some (vectors_form r))) (is_out_of_range (Some (vectors_form r))) (has_bad_channels (Some (vectors_form r))) (vectors_row_of r)
@@ -61,7 +61,7 @@ least-fields test (Some ch) None e1 e2 e3 e4 e5 e6 e7 e8 e9 e10 = least-first te
 least-fields test (Some ch) (Some bytes) e1 e2 e3 e4 e5 e6 e7 e8 e9 e10 = least-first test false false false false false false false false false false e1 e2 e3 e4 e5 e6 e7 e8 e9 e10
 
 least-row : (test : Reason → Bool) (before : List FileRecord) (x : Result Row Reason) → IsFormed far astray (test reason.Shape) (test reason.UnknownName) (test reason.NotNumber) (test reason.OutOfRange) (test reason.BadChannel) x
-    → test reason.UnknownNode ≡ false → test reason.Role ≡ false → test reason.Link ≡ false → test reason.NotHex ≡ row_passes is_not_hex x → test reason.Repeated ≡ false
+    → test reason.UnknownNode ≡ false → test reason.Role ≡ false → test reason.Link ≡ false → test reason.NotHex ≡ row_passes are_bytes_not_hex x → test reason.Repeated ≡ false
     → IsLeastReason test (vectors_row_reason before x)
 unfolding far astray
 least-row test before (Err why) f node role link hex again = least-formed far astray test why f node

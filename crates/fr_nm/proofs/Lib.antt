@@ -8,3 +8,4 @@ pub mod Places
 pub mod Lines
 pub mod Orders
 mod Worked
+pub mod Decided

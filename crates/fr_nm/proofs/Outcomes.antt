@@ -15,7 +15,7 @@ use Rattle.fr_records.specs.Kind.{HasOneAnswer}
 use Rattle.fr_records.proofs.Cuts.{first-same, refused-none}
 use Rattle.fr_nm.specs.Files.{vectors_file}
 use Rattle.fr_nm.specs.Reasons.{vectors_reason_after}
-use Rattle.fr_nm.specs.Vectors.{Recorded, counted, folded}
+use Rattle.fr_nm.specs.Vectors.{Recorded, folded, how_many_count}
 use Rattle.fr_nm.specs.View.{VectorsStandFor, VectorsView}
 use Rattle.fr_nm.specs.declared.vector.Folded.{Folded}
 use Rattle.fr_nm.specs.declared.fault.FileFault.TheVariants as fault
@@ -68,7 +68,7 @@ pub stands-same : (v w : VectorsView) (records : List Recorded) → v.width ≡ 
 stands-same v w records width f g =
     alike-same v w (length records) width f.order g.order
     (λ cycle. f.rows cycle ∙ ap (λ (n : ℕ). folded n cycle records) width ∙ sym (g.rows cycle))
-    (f.frames ∙ ap (λ (n : ℕ). counted n records) width ∙ sym g.frames)
+    (f.frames ∙ ap (λ (n : ℕ). how_many_count n records) width ∙ sym g.frames)
     f.ignored g.ignored
 
 -- two answers to one file are the same, but for want of memory

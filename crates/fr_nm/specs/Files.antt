@@ -5,7 +5,7 @@ use Rattle.fr_base.specs.declared.reason.Reason.{Reason}
 use Rattle.fr_records.specs.Kind.{Kind}
 use Rattle.fr_records.specs.Records.{FileRecord, records_of}
 use Rattle.fr_records.specs.Refusal.{NoneRefused, FirstRefused}
-use Rattle.fr_records.specs.Takes.{Takes}
+use Rattle.fr_records.specs.Takes.{TakesRow}
 use Rattle.fr_nm.specs.Rows.{vectors_row_of}
 use Rattle.fr_nm.specs.Reasons.{recorded_in, vectors_reason_after, vectors_row_reason}
 use Rattle.fr_nm.specs.Vectors.{Recorded}
@@ -24,7 +24,7 @@ HoldsEntries v records = VectorsStandFor v (recording_of records)
 
 -- what is said is refused for its reason, or held after the records so far
 abbrev pub TakesVectorsRow : {Error : Type 0} → VectorsView → VectorsView → Row → Result (Option Reason) Error → Type 0
-TakesVectorsRow before after row result = Takes HoldsEntries vectors_row_of vectors_row_reason before after row result
+TakesVectorsRow before after row result = TakesRow HoldsEntries vectors_row_of vectors_row_reason before after row result
 
 -- the file is accepted, and these are the vectors of its records
 pub record IsVectorsFile (width : ℕ) (v : VectorsView) (bytes : List ℕ) : Type 0 where

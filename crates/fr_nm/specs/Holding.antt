@@ -21,8 +21,8 @@ vectors_form r = record {
 }
 
 -- bytes that are not hexadecimal digits
-abbrev pub is_not_hex : Row → Bool
-is_not_hex row = is_none row.bytes
+abbrev pub are_bytes_not_hex : Row → Bool
+are_bytes_not_hex row = is_none row.bytes
 
 -- whether a reason holds of a record; the records before it are of no account
 abbrev pub vectors_holds : List FileRecord → FileRecord → Reason → Bool
@@ -34,5 +34,5 @@ vectors_holds before r reason.UnknownNode = false
 vectors_holds before r reason.BadChannel = has_bad_channels (Some (vectors_form r))
 vectors_holds before r reason.Role = false
 vectors_holds before r reason.Link = false
-vectors_holds before r reason.NotHex = row_passes is_not_hex (vectors_row_of r)
+vectors_holds before r reason.NotHex = row_passes are_bytes_not_hex (vectors_row_of r)
 vectors_holds before r reason.Repeated = false

@@ -8,3 +8,5 @@ pub mod Reasons
 pub mod Files
 pub mod Holding
 pub mod Laws
+pub mod Told
+pub mod NmAnswer

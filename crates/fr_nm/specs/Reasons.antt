@@ -5,7 +5,7 @@ use Rattle.fr_base.specs.declared.reason.Reason.{Reason}
 use Rattle.fr_base.specs.declared.reason.Reason.TheVariants as reason
 use Rattle.fr_records.specs.Records.{FileRecord}
 use Rattle.fr_nm.specs.Rows.{vectors_row_of}
-use Rattle.fr_nm.specs.Vectors.{Recorded, recorded}
+use Rattle.fr_nm.specs.Vectors.{Recorded, vector_record}
 use Rattle.fr_nm.specs.declared.rows.Row.{Row}
 
 abbrev pub field_reason : Option Channel → Option (List ℕ) → Option Reason
@@ -25,7 +25,7 @@ vectors_reason_after before r = vectors_row_reason before (vectors_row_of r)
 abbrev pub recorded_by : ℕ → Option Channel → Option (List ℕ) → List Recorded
 recorded_by cycle None bytes = []
 recorded_by cycle (Some channel) None = []
-recorded_by cycle (Some channel) (Some bytes) = recorded cycle channel bytes ∷ []
+recorded_by cycle (Some channel) (Some bytes) = vector_record cycle channel bytes ∷ []
 
 abbrev pub recorded_in : Result Row Reason → List Recorded
 recorded_in (Err why) = []

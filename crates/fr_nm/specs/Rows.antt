@@ -1,34 +1,29 @@
 -- What a record of a recording says by itself.
-use Rattle.std.specs.Prelude.{ℕ, ◌==◌, nat_lt, List, length, Option, Some, None, Result, Ok, Err, if◌then◌else◌}
+use Rattle.std.specs.Prelude.{ℕ, ◌==◌, List, length, Option, Some, None, Result, Ok, Err, if◌then◌else◌}
 use Rattle.hex.specs.Hex.{decode_of}
 use Rattle.hex.specs.declared.error.FromHexError.{FromHexError}
 use Rattle.fr_base.specs.Channels.{channel_of}
-use Rattle.fr_base.specs.declared.numbers.NumberFault.{NumberFault}
 use Rattle.fr_base.specs.declared.numbers.NumberFault.TheVariants as fault
 use Rattle.fr_base.specs.declared.reason.Reason.{Reason}
 use Rattle.fr_base.specs.declared.reason.Reason.TheVariants as reason
 use Rattle.fr_records.specs.Records.{FileRecord}
-use Rattle.fr_records.specs.Fields.{both_of, field_of, natural_of, or_reason}
+use Rattle.fr_records.specs.Fields.{both_of, field_of, hex_digits_in, natural_of, or_reason}
 use Rattle.fr_nm.specs.declared.rows.Row.{Row}
-
--- how many digits a field has, if they are no more than a frame has; every byte counts as one
-abbrev pub digits_in : List ℕ → Result ℕ NumberFault
-digits_in text = if nat_lt 524 (length text) then Err fault.OutOfRange else Ok (length text)
 
 -- the bytes that a field writes; none where it is not hexadecimal
 abbrev pub decoded : Result (List ℕ) FromHexError → Option (List ℕ)
 decoded (Ok bytes) = Some bytes
 decoded (Err why) = None
 
-abbrev pub bytes_in : List ℕ → Option (List ℕ)
-bytes_in text = decoded (decode_of text)
+abbrev pub hex_bytes_in : List ℕ → Option (List ℕ)
+hex_bytes_in text = decoded (decode_of text)
 
 -- what a record of three fields says
-abbrev pub row_with : FileRecord → ℕ → Row
-row_with fields cycle = record { cycle = cycle; channel = channel_of (field_of fields 1); bytes = bytes_in (field_of fields 2) }
+abbrev pub vector_row_with : FileRecord → ℕ → Row
+vector_row_with fields cycle = record { cycle = cycle; channel = channel_of (field_of fields 1); bytes = hex_bytes_in (field_of fields 2) }
 
 abbrev pub said_row : FileRecord → Result Row Reason
-said_row fields = or_reason (λ numbers. Ok (row_with fields numbers.0)) (both_of (natural_of 0 199_999 (field_of fields 0)) (digits_in (field_of fields 2)))
+said_row fields = or_reason (λ numbers. Ok (vector_row_with fields numbers.0)) (both_of (natural_of 0 199_999 (field_of fields 0)) (hex_digits_in (field_of fields 2)))
 
 -- what a record says, or the least of the reasons that it shows by its number of fields and by its numbers
 unfoldable pub vectors_row_of : FileRecord → Result Row Reason

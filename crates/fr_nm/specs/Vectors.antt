@@ -13,8 +13,8 @@ pub record Recorded : Type 0 where
   pub channel : Channel
   pub bytes : List ℕ
 
-abbrev pub recorded : ℕ → Channel → List ℕ → Recorded
-recorded cycle channel bytes = record { cycle = cycle; channel = channel; bytes = bytes }
+abbrev pub vector_record : ℕ → Channel → List ℕ → Recorded
+vector_record cycle channel bytes = record { cycle = cycle; channel = channel; bytes = bytes }
 
 -- a record counts: its bytes are a frame on its channel with a vector of this width in its cycle
 pub record Counts (width : ℕ) (r : Recorded) : Type 0 where
@@ -49,10 +49,10 @@ unfoldable pub vector_in : ℕ → Recorded → Option (List ℕ)
 vector_in width r = vector_read width r.cycle r.bytes (read_as r.channel r.bytes)
 
 -- what a cycle has of two parts of a recording together
-abbrev pub joined : Option Folded → Option Folded → Option Folded
-joined None other = other
-joined (Some a) None = Some a
-joined (Some a) (Some b) = Some (record { vector = or_bytes a.vector b.vector; frames = a.frames + b.frames })
+abbrev pub merged : Option Folded → Option Folded → Option Folded
+merged None other = other
+merged (Some a) None = Some a
+merged (Some a) (Some b) = Some (record { vector = or_bytes a.vector b.vector; frames = a.frames + b.frames })
 
 abbrev pub one_frame : Option (List ℕ) → Option Folded
 one_frame None = None
@@ -65,9 +65,9 @@ given_to width cycle r = if r.cycle == cycle then one_frame (vector_in width r) 
 -- what a cycle has of a recording: the OR of the vectors of its records that count, and how many these are
 unfoldable pub folded : ℕ → ℕ → List Recorded → Option Folded
 folded width cycle [] = None
-folded width cycle (r ∷ rest) = joined (given_to width cycle r) (folded width cycle rest)
+folded width cycle (r ∷ rest) = merged (given_to width cycle r) (folded width cycle rest)
 
 -- how many records count
-unfoldable pub counted : ℕ → List Recorded → ℕ
-counted width [] = 0
-counted width (r ∷ rest) = (if is_some (vector_in width r) then 1 else 0) + counted width rest
+unfoldable pub how_many_count : ℕ → List Recorded → ℕ
+how_many_count width [] = 0
+how_many_count width (r ∷ rest) = (if is_some (vector_in width r) then 1 else 0) + how_many_count width rest

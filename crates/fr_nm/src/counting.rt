@@ -1,5 +1,5 @@
 ghost use Rattle.std.specs.Prelude.{◌≡◌, ◌≤◌};
-ghost use Rattle.fr_nm.specs.Vectors.{has_vector, recorded, vector_in};
+ghost use Rattle.fr_nm.specs.Vectors.{has_vector, vector_in, vector_record};
 
 use crate::vector::placed;
 use fr_base::Channel;
@@ -13,7 +13,7 @@ pub(crate) fn vector_of(
     bytes: &[u8],
 ) -> Option<[u8; 12]>
     requires { width ≤ 12 }
-    ensures { result ≡ vector_in width (recorded cycle channel bytes.now) }
+    ensures { result ≡ vector_in width (vector_record cycle channel bytes.now) }
 {
     let Ok(frame) = decode(channel, bytes) else {
         return None;

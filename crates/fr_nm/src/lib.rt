@@ -1,6 +1,9 @@
-//! Network management vectors of a recording: which records count, and their bitwise OR cycle by cycle.
+//! Network management vectors of a recording: which records count, and their bitwise OR cycle by cycle; and
+//! `flexray nm WIDTH FILE`, which prints them.
 #![tactic(auto)]
 
+mod answering;
+mod command_laws;
 mod counting;
 mod fault;
 mod folding;
@@ -8,10 +11,13 @@ mod kind;
 mod laws;
 mod reading;
 mod rows;
+mod told;
 mod vector;
 mod vectors;
 mod writing;
 
+pub use answering::answer_nm;
+pub use command_laws::file_decides_the_vectors;
 pub use fault::{FileFault, VectorFault};
 pub use folding::fold;
 pub use kind::VectorsFile;

@@ -1,6 +1,7 @@
 ghost use Rattle.std.specs.Prelude.{◌≡◌, ◌≤◌, length, IfOk};
 ghost use Rattle.csv.specs.Records.{fields_of};
-ghost use Rattle.fr_nm.specs.Rows.{bytes_in, digits_in, said_row, vectors_row_of};
+ghost use Rattle.fr_nm.specs.Rows.{hex_bytes_in, said_row, vectors_row_of};
+ghost use Rattle.fr_records.specs.Fields.{hex_digits_in};
 
 use csv::ByteRecord;
 use fr_base::{Channel, NumberFault, Reason};
@@ -83,7 +84,7 @@ fn read_fields(alloc: Global, row: &ByteRecord) -> Result<Result<Row, Reason>, A
 }
 
 fn few_digits(text: &[u8]) -> Result<usize, NumberFault>
-    ensures { result ≡ digits_in text.now }
+    ensures { result ≡ hex_digits_in text.now }
 {
     if text.len() > MOST_DIGITS {
         return Err(NumberFault::OutOfRange);
@@ -93,7 +94,7 @@ fn few_digits(text: &[u8]) -> Result<usize, NumberFault>
 
 // The bytes that a text writes; None where it is not hexadecimal. `AllocError` where memory ran out.
 fn read_bytes(alloc: Global, text: &[u8]) -> Result<Option<SeenBytes>, AllocError>
-    ensures { IfOk result (λ bytes. bytes ≡ bytes_in text.now) }
+    ensures { IfOk result (λ bytes. bytes ≡ hex_bytes_in text.now) }
 {
     match hex::decode(alloc, text) {
         Ok(bytes) => Ok(Some(SeenBytes::of(bytes))),

@@ -1,6 +1,6 @@
 ghost use Rattle.std.specs.Prelude.{◌≡◌, ◌≤◌, ◌<◌, ◌+◌, ◌-◌, ◌^◌, ◌↔◌, ◌++◌, ◌∷◌, [], List, Some, IfOk, IfSome, OnOk, OnErr, IsTrue, false};
 ghost use Rattle.std.specs.Option.{option_copied};
-ghost use Rattle.fr_nm.specs.Vectors.{Counts, Recorded, joined, one_frame, recorded};
+ghost use Rattle.fr_nm.specs.Vectors.{Counts, Recorded, merged, one_frame, vector_record};
 ghost use Rattle.fr_nm.specs.View.{IsRowPut, VectorsStandFor};
 
 use crate::counting::vector_of;
@@ -22,13 +22,13 @@ pub struct Vectors {
 
 impl Model for Vectors {
     ghost use Rattle.fr_nm.specs.View.{VectorsView, IsFolding};
-    ghost use Rattle.fr_nm.specs.Inside.{view_of};
+    ghost use Rattle.fr_nm.specs.Inside.{vectors_view_of};
 
     ghost Value = { VectorsView };
 
-    ghost view = { view_of };
+    ghost view = { vectors_view_of };
 
-    ghost invariant = { λ a. IsFolding (view_of a) };
+    ghost invariant = { λ a. IsFolding (vectors_view_of a) };
 }
 
 impl Vectors {
@@ -54,10 +54,10 @@ impl Vectors {
     pub fn add(&mut self, cycle: u32, channel: Channel, bytes: &[u8]) -> Result<bool, VectorFault>
         requires cycle { cycle ≤ 199_999 }
         requires room { self.old.frames + self.old.ignored < 2 ^ 63 - 1 }
-        ensures counts { IfOk result (λ b. IsTrue b ↔ Counts self.old.width (recorded cycle channel bytes.now)) }
+        ensures counts { IfOk result (λ b. IsTrue b ↔ Counts self.old.width (vector_record cycle channel bytes.now)) }
         ensures width { self.new.width ≡ self.old.width }
         ensures stands { OnOk result ((records : List Recorded) → VectorsStandFor self.old records →
-            VectorsStandFor self.new (records ++ recorded cycle channel bytes.now ∷ [])) }
+            VectorsStandFor self.new (records ++ vector_record cycle channel bytes.now ∷ [])) }
         ensures unchanged { OnErr result (self.new ≡ self.old) }
     {
         match vector_of(self.width, cycle, channel, bytes) {
@@ -85,7 +85,7 @@ impl Vectors {
 // The frames of a cycle with one more.
 fn more(row: Option<&Folded>, vector: [u8; 12]) -> Folded
     requires { IfSome (option_copied row) (λ f. f.frames < 2 ^ 63) }
-    ensures { Some result ≡ joined (option_copied row.entry) (one_frame (Some vector)) }
+    ensures { Some result ≡ merged (option_copied row.entry) (one_frame (Some vector)) }
 {
     match row {
         None => Folded { vector, frames: 1 },

@@ -18,16 +18,16 @@ IfStored (Stored value) P = P value
 IfStored (Ignored why) P = Unit {0}
 
 -- whether an instant comes before a slot begins at a node, or not before it ends
-abbrev pub is_outside : Values → NodeRow → ℕ → ℤ → Bool
-is_outside p row slot at = int_lt at (slot_begins p row slot) || int_le (slot_ends p row slot) at
+abbrev pub is_outside_slot : Values → NodeRow → ℕ → ℤ → Bool
+is_outside_slot p row slot at = int_lt at (slot_begins p row slot) || int_le (slot_ends p row slot) at
 
 -- it does, and the slot begins and ends at these instants
 pub record LiesOutside (p : Values) (row : NodeRow) (slot : ℕ) (at : ℤ) (bounds : ℤ × ℤ) : Type 0 where
-  pub out : is_outside p row slot at ≡ true
+  pub out : is_outside_slot p row slot at ≡ true
   pub begins : bounds.0 ≡ slot_begins p row slot
   pub ends : bounds.1 ≡ slot_ends p row slot
 
 -- it does not
 pub record LiesInSlot (p : Values) (row : NodeRow) (slot : ℕ) (at : ℤ) : Type 0 where
-  pub within : is_outside p row slot at ≡ false
+  pub within : is_outside_slot p row slot at ≡ false
   pub in_cycle : IsInCycle row at

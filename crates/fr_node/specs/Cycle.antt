@@ -1,10 +1,9 @@
 -- What the calls make of a node: one cycle of one node (chapters 2 and 8).
-use Rattle.std.specs.Prelude.{ℕ, ◌+◌, ℤ, Bool, true, false, not, ◌&&◌, if◌then◌else◌, Option, Some, None}
+use Rattle.std.specs.Prelude.{ℕ, ◌+◌, ℤ, Bool, false, not, ◌&&◌, if◌then◌else◌, Option, Some, None}
 use Rattle.fr_base.specs.States.{cut_of, is_halted}
 use Rattle.fr_base.specs.declared.channel.Channel.{Channel}
 use Rattle.fr_base.specs.declared.node_row.NodeRow.{NodeRow}
 use Rattle.fr_base.specs.declared.state.Outcome.{Outcome}
-use Rattle.fr_base.specs.declared.state.Outcome.TheVariants.{Exceeded, Missing, Within}
 use Rattle.fr_cluster.specs.Values.{Values}
 use Rattle.fr_cluster.specs.Questions.{key_index_of, own_index}
 use Rattle.fr_time.specs.Cycles.{is_odd}
@@ -14,7 +13,7 @@ use Rattle.fr_measure.specs.Readings.{no_readings, reading, stored}
 use Rattle.fr_measure.specs.Values.{offset_at, rate_at, values_of}
 use Rattle.fr_correct.specs.declared.term.Term.{Term}
 use Rattle.fr_correct.specs.Terms.{offset_term_of, rate_term_of}
-use Rattle.fr_poc.specs.Control.{Control, first_status, stepped}
+use Rattle.fr_poc.specs.Control.{Control, after_double, first_status}
 use Rattle.fr_reception.specs.declared.heard.Heard.{Heard}
 use Rattle.fr_reception.specs.declared.heard.Heard.TheVariants.{Stored, Ignored}
 use Rattle.fr_node.specs.View.{NodeView, node_row_of, state_of_node}
@@ -83,13 +82,13 @@ abbrev pub next_rate : Values → NodeView → ℤ
 next_rate p node = if corrects node then (rate_term_of_node p node).value else node.rate
 
 -- its operation control behind two outcomes: one step, and none where it follows
-abbrev pub control_behind : NodeView → Outcome → Outcome → Control
-control_behind node offset rate = if node.follows then node.control else stepped node.control offset rate
+abbrev pub control_after_terms : NodeView → Outcome → Outcome → Control
+control_after_terms node offset rate = if node.follows then node.control else after_double node.control offset rate
 
 -- its operation control from the next cycle on
 abbrev pub next_control : Values → NodeView → Control
 next_control p node =
-    if corrects node then control_behind node (offset_term_of_node p node).outcome (rate_term_of_node p node).outcome
+    if corrects node then control_after_terms node (offset_term_of_node p node).outcome (rate_term_of_node p node).outcome
     else node.control
 
 -- how both terms of its last odd cycle ended, from the next cycle on: also where it is halted, and takes none
@@ -110,7 +109,7 @@ passed p node row rate = record node {
 -- its cycle has ended with a correction
 abbrev pub ended_corrected : Values → NodeView → NodeView
 ended_corrected p node = record (passed p node (corrected_row p node) (rate_term_of_node p node).value) {
-  control = control_behind node (offset_term_of_node p node).outcome (rate_term_of_node p node).outcome;
+  control = control_after_terms node (offset_term_of_node p node).outcome (rate_term_of_node p node).outcome;
 }
 
 -- its cycle has ended, but for what is kept of the outcomes
@@ -121,17 +120,6 @@ ended_but p node = record (passed p node (ended_row_of_node p node) (next_rate p
 abbrev pub ended : Values → NodeView → NodeView
 ended p node = record (ended_but p node) { outcomes = next_outcomes p node }
 
--- whether a term lay within its limit
-abbrev pub is_within : Outcome → Bool
-is_within Within = true
-is_within Missing = false
-is_within Exceeded = false
-
--- whether both terms of the last odd cycle that has ended lay within their limits; there is one
-abbrev pub are_within : Option (Outcome × Outcome) → Bool
-are_within None = false
-are_within (Some pair) = is_within pair.0 && is_within pair.1
-
 -- one that followed has joined the cluster: its operation control begins
-abbrev pub joined : NodeView → NodeView
-joined node = record node { follows = false; control = record node.control { status = first_status } }
+abbrev pub as_joined : NodeView → NodeView
+as_joined node = record node { follows = false; control = record node.control { status = first_status } }

@@ -59,14 +59,14 @@ after_catching l odd channel at true = with_arrival l odd channel at
 after_catching l odd channel at false = l
 
 -- what it has caught on a channel, with the lengths of its microticks in both cycles
-abbrev pub caught_on : ListenerView → ℤ → ℤ → Channel → Option Caught
-caught_on l even_length odd_length channel =
+abbrev pub caught_of_listener_on : ListenerView → ℤ → ℤ → Channel → Option Caught
+caught_of_listener_on l even_length odd_length channel =
     caught_by l.reference channel even_length odd_length (arrival_of l false channel) (arrival_of l true channel)
 
 -- what it has caught: on channel A, or else on channel B
 abbrev pub caught_of_listener : ListenerView → ℤ → ℤ → Option Caught
 caught_of_listener l even_length odd_length =
-    first_or (caught_on l even_length odd_length A) (caught_on l even_length odd_length B)
+    first_or (caught_of_listener_on l even_length odd_length A) (caught_of_listener_on l even_length odd_length B)
 
 -- a node that begins to follow with a start and a rate, before a cycle
 abbrev pub follower_of : Values → ℕ → ℕ → ℤ → ℤ → NodeView

@@ -46,7 +46,7 @@ impl Model for Listener {
 }
 
 impl Listener {
-    ghost use Rattle.fr_node.specs.Listening.{after_catching, arrival_of, caught_of_listener, caught_on, first_of, listening, with_arrival};
+    ghost use Rattle.fr_node.specs.Listening.{after_catching, arrival_of, caught_of_listener, caught_of_listener_on, first_of, listening, with_arrival};
 
     /// A listener that has caught nothing, by its number and the key slot of its reference.
     pub fn new(id: NodeId, reference: Slot) -> Listener
@@ -167,7 +167,7 @@ impl Listener {
     fn caught_on(&self, channel: Channel, even_length: i64, odd_length: i64) -> Option<Catch>
         requires even { IsLength even_length }
         requires odd { IsLength odd_length }
-        ensures value { option_map caught_in result ≡ caught_on self.now even_length odd_length channel }
+        ensures value { option_map caught_in result ≡ caught_of_listener_on self.now even_length odd_length channel }
         ensures proper { IfSome result (IsCatch self.now.reference) }
     {
         match (self.arrival(false, channel), self.arrival(true, channel)) {
@@ -352,7 +352,8 @@ fn rest_of(params: &Params, slot: Slot, rate: i32) -> i64
     requires slot { slot ≤ amount params.now name.gNumberOfStaticSlots }
     requires rate { IsWithin params.now.rate_limit rate }
     ensures value { result
-        ≡ (params.now.micros +ℤ rate) -ℤ even_position (grid_for params.now) rate (pos (action_point_of params.now slot)) }
+        ≡ (params.now.micros +ℤ rate) -ℤ even_position (grid_for params.now) rate
+        (pos (action_point_of params.now slot)) }
     ensures within { IsWithin (pos 1_400_000) result }
 {
     let whole = micros_with(params, rate);

@@ -8,7 +8,7 @@ ghost use Rattle.fr_cluster.specs.Questions.{node_of};
 ghost use Rattle.fr_cluster.specs.Values.{Values};
 ghost use Rattle.fr_frame.specs.Reading.{read_as};
 ghost use Rattle.fr_reception.specs.Answers.{answer_of};
-ghost use Rattle.fr_node.specs.Cycle.{is_within};
+ghost use Rattle.fr_correct.specs.Terms.{is_uncut};
 
 use crate::answers::{Arrival, answer, read};
 use crate::corrections::{cut_count, offset_term_from, rate_term_from};
@@ -56,7 +56,8 @@ impl Model for Node {
 impl Node {
     ghost use Rattle.fr_node.specs.View.{node_row_of, state_of_node};
     ghost use Rattle.fr_node.specs.Fits.{CanBegin, CanReceive, IsEndedRow, IsUnderWay, NodeFits};
-    ghost use Rattle.fr_node.specs.Cycle.{after_hearing, are_within, control_behind, in_cycle, corrected_row, corrects, ended, ended_but, ended_corrected, ended_row_of_node, fresh, joined, offset_term_of_node, own_index_of_node, passed, rate_term_of_node};
+    ghost use Rattle.fr_node.specs.Cycle.{after_hearing, control_after_terms, in_cycle, corrected_row, corrects, ended, ended_but, ended_corrected, ended_row_of_node, fresh, as_joined, offset_term_of_node, own_index_of_node, passed, rate_term_of_node};
+    ghost use Rattle.fr_correct.specs.Terms.{are_uncut};
     ghost use Rattle.fr_node.specs.Fits.{AreTermsOf};
     ghost use Rattle.fr_node.specs.Listening.{follower_of};
     ghost use Rattle.fr_node.specs.Arrivals.{IfStored};
@@ -250,7 +251,7 @@ impl Node {
     /// Whether both terms of the last odd cycle that has ended lay within their limits; one has ended.
     pub fn steady(&self) -> bool
         requires { IsSome self.now.outcomes }
-        ensures { result ≡ are_within self.now.outcomes }
+        ensures { result ≡ are_uncut self.now.outcomes }
     {
         let (offset, rate) = self.outcomes.unwrap();
         is_within(offset) && is_within(rate)
@@ -261,7 +262,7 @@ impl Node {
     pub fn join(&mut self)
         requires follows { self.old.follows ≡ true }
         requires between { IsNone self.old.length }
-        ensures value { self.new ≡ joined self.old }
+        ensures value { self.new ≡ as_joined self.old }
         ensures fits { (p : Values) → NodeFits p self.old → NodeFits p self.new }
     {
         self.follows = false;
@@ -355,7 +356,7 @@ impl Node {
 
     // One step of operation control, and none where it follows.
     fn step(&mut self, offset: Outcome, rate: Outcome)
-        ensures value { self.new ≡ record self.old { control = control_behind self.old offset rate } }
+        ensures value { self.new ≡ record self.old { control = control_after_terms self.old offset rate } }
         ensures fits { (p : Values) → NodeFits p self.old → NodeFits p self.new }
     {
         if !self.follows {
@@ -454,7 +455,7 @@ impl Node {
 
 // Whether a term lay within its limit.
 fn is_within(outcome: Outcome) -> bool
-    ensures { result ≡ is_within outcome }
+    ensures { result ≡ is_uncut outcome }
 {
     matches!(outcome, Outcome::Within)
 }

@@ -23,7 +23,7 @@ use Rattle.fr_params.specs.Draft.{AreTables, IsParamsDraft, entry}
 use Rattle.fr_params.specs.Files.{IsParamsFile}
 use Rattle.fr_params.specs.Reasons.{node_at, param_reason_after, param_row_reason, slot_at}
 use Rattle.fr_params.specs.Rows.{param_row_of}
-use Rattle.fr_params.specs.Versions.{is_of, row_name, version_of, version_with}
+use Rattle.fr_params.specs.Versions.{is_of_version, row_name, version_of, version_with}
 use Rattle.fr_params.specs.declared.draft.Draft.{Draft}
 use Rattle.fr_params.specs.declared.draft.Tables.{Tables}
 use Rattle.fr_params.specs.declared.fault.ParamFault.{ParamFault}
@@ -100,7 +100,7 @@ file-ranged p bytes f n = by n
     draft : (d : Draft) × IsParamsDraft d (records_of bytes)
     draft = drafted (records_of bytes) f.none_refused
 
-    in_row : (m : ParamName) → is_of Two m ≡ true → InRange m (figure p m)
+    in_row : (m : ParamName) → is_of_version Two m ≡ true → InRange m (figure p m)
     in_row m e =
         row-range (version_of (records_of bytes)) m (figure p m)
         (draft.1.tables.ranged (row_name (version_of (records_of bytes)) m) (figure p m)

@@ -19,7 +19,7 @@ use Rattle.fr_cluster.specs.Ranges.{has_turn, is_keyless_starter}
 use Rattle.fr_cluster.specs.declared.names.ParamName.{ParamName}
 use Rattle.fr_cluster.specs.declared.names.Version.{Version}
 use Rattle.fr_params.specs.Rows.{channels_of, key_of, named_row, node_on, param_file_row, param_node_row, param_row, param_row_of, slot_row, slot_with, some_key, version_row}
-use Rattle.fr_params.specs.Reasons.{is_later, node_at, param_reason_after, param_row_reason, slot_at, value_at}
+use Rattle.fr_params.specs.Reasons.{is_not_first, node_at, param_reason_after, param_row_reason, slot_at, value_at}
 use Rattle.fr_params.specs.Versions.{version_with}
 use Rattle.fr_params.specs.Holding.{goes_not_together, has_unknown_node, is_second_row, key_fields, node_form, param_form, param_holds_in, param_holds, slot_form, value_fields, value_form, version_form}
 use Rattle.fr_params.specs.declared.rows.Row.{Row}
@@ -121,7 +121,7 @@ least-row : (version : Version) (test : Reason → Bool) (before : List FileReco
     → test reason.Repeated ≡ row_passes (is_second_row version before) x → IsLeastReason test (param_row_reason version before x)
 least-row version test before (Err why) f node role link hex again = least-formed {Row = Row} never never test why f node
 least-row version test before (Ok row.Version) f node role link hex again =
-    least-first test false false false false false false (is_later before) false false false f.0 f.1 f.2 f.3 node f.4 role link hex again
+    least-first test false false false false false false (is_not_first before) false false false f.0 f.1 f.2 f.3 node f.4 role link hex again
 least-row version test before (Ok (row.Param n v)) f node role link hex again =
     least-first test false false false false false false false false false (is_some (value_at version (place n) before)) f.0 f.1 f.2 f.3 node f.4 role link hex again
 least-row version test before (Ok (row.Node n)) f node role link hex again =

@@ -9,3 +9,14 @@ pub mod Deciding
 pub mod Existence
 pub mod ProperRows
 pub mod Accepted
+pub mod UpgradeDecided
+pub mod Upgraded
+pub mod Says
+pub mod Plain
+pub mod Ascending
+pub mod Looked
+pub mod UpgradedAccepted
+pub mod Channels
+pub mod Again
+pub mod Putting
+pub mod Sane

@@ -8,7 +8,7 @@ use Rattle.fr_records.specs.Kind.{HasOneAnswer}
 use Rattle.fr_records.proofs.Cuts.{first-same, refused-none}
 use Rattle.fr_cluster.specs.Names.{place}
 use Rattle.fr_params.specs.Reasons.{param_reason_after}
-use Rattle.fr_params.specs.Versions.{is_of, name_at, row_name, version_of}
+use Rattle.fr_params.specs.Versions.{is_of_version, name_at, row_name, version_of}
 use Rattle.fr_cluster.specs.Values.{Values, figure, amount}
 use Rattle.fr_cluster.specs.Constraints.{Amounts, ConstraintHolds, AllHold, FirstFails, key_slots}
 use Rattle.fr_params.specs.Files.{ParamsStandFor, IsParamsFile, IsMissing, FailsConstraint, params_file, value_named}
@@ -50,7 +50,7 @@ stands-same p q records f g = λ i. record {
   slots = slots i;
 }
   where
-    figures : (n : ParamName) → is_of Two n ≡ true → figure p n ≡ figure q n
+    figures : (n : ParamName) → is_of_version Two n ≡ true → figure p n ≡ figure q n
     figures n e = some-same (figure p n) (figure q n) (sym (f.figures n e) ∙ g.figures n e)
 
     nodes : p.nodes ≡ q.nodes
@@ -73,7 +73,7 @@ holds-of f keys slots h (suc (suc (suc (suc (suc (suc (suc (suc zero)))))))) = h
 holds-of f keys slots h (suc (suc (suc (suc (suc (suc (suc (suc (suc k))))))))) = tt
 
 -- a name of the version is that of the row of one of the numbers
-stands-missing : (p : Values) (records : List FileRecord) (n : ParamName) → ParamsStandFor p records → is_of (version_of records) n ≡ true → value_named n records ≡ None → ⊥
+stands-missing : (p : Values) (records : List FileRecord) (n : ParamName) → ParamsStandFor p records → is_of_version (version_of records) n ≡ true → value_named n records ≡ None → ⊥
 stands-missing p records n f known none =
     let there = f.figures (name_at (index n)) (two-at (index n) (index-lt n)) in
     let here : row_name (version_of records) (name_at (index n)) ≡ n = row-at (version_of records) n known in

@@ -17,7 +17,7 @@ use Rattle.fr_cluster.specs.declared.names.TheConstants.{NAMES_OF_TWO}
 use Rattle.fr_cluster.proofs.Places.{place-lt}
 use Rattle.fr_params.specs.Draft.{AreNumbers, AreRanged, entry}
 use Rattle.fr_params.specs.Files.{IsMissingIn}
-use Rattle.fr_params.specs.Versions.{is_of, name_at, row_name}
+use Rattle.fr_params.specs.Versions.{is_of_version, name_at, row_name}
 
 -- the place of a name in the table of version 2; the one compensation of version 1 counts as the first of the two
 abbrev pub index : ParamName → ℕ
@@ -27,7 +27,7 @@ pub index-lt : (n : ParamName) → index n < 20
 index-lt n = let few = place-lt n in omega (arith, few)
 
 -- the name at the place of a name is that name, and in a file of version 1 its row is found there too
-pub row-at : (version : Version) (n : ParamName) → is_of version n ≡ true → row_name version (name_at (index n)) ≡ n
+pub row-at : (version : Version) (n : ParamName) → is_of_version version n ≡ true → row_name version (name_at (index n)) ≡ n
 row-at One name.pDelayCompensationA e = cc e
 row-at One name.pDelayCompensationB e = cc e
 row-at One other e = refl
@@ -45,46 +45,46 @@ index-at k lt =
     places = refl
 
 -- it is a name of the table
-pub two-at : (k : ℕ) → k < 20 → is_of Two (name_at k) ≡ true
+pub two-at : (k : ℕ) → k < 20 → is_of_version Two (name_at k) ≡ true
 two-at k lt =
-    sym (get_or-map (is_of Two) NAMES_OF_TWO k name.gMacroPerCycle true (omega arith))
+    sym (get_or-map (is_of_version Two) NAMES_OF_TWO k name.gMacroPerCycle true (omega arith))
     ∙ ap (λ (xs : List Bool). slice_index_or xs k true) all
     ∙ get_or-replicate 20 k true true lt
   where
-    all : map (is_of Two) NAMES_OF_TWO ≡ replicate 20 true
+    all : map (is_of_version Two) NAMES_OF_TWO ≡ replicate 20 true
     all = refl
 
-row-known : (version : Version) (n : ParamName) → is_of Two n ≡ true → is_of version (row_name version n) ≡ true
+row-known : (version : Version) (n : ParamName) → is_of_version Two n ≡ true → is_of_version version (row_name version n) ≡ true
 row-known One name.pDelayCompensationA e = refl
 row-known One name.pDelayCompensationB e = refl
 row-known One other e = refl
 row-known Two n e = e
 
 -- each row that is asked for is one of the version's table
-pub known-at : (version : Version) (k : ℕ) → k < 20 → is_of version (row_name version (name_at k)) ≡ true
+pub known-at : (version : Version) (k : ℕ) → k < 20 → is_of_version version (row_name version (name_at k)) ≡ true
 known-at version k lt = row-known version (name_at k) (two-at k lt)
 
-not-both : (n : ParamName) → is_of Two n ≡ true → place n ≡ 15 → ⊥
+not-both : (n : ParamName) → is_of_version Two n ≡ true → place n ≡ 15 → ⊥
 not-both name.pDelayCompensation e same = cc e
 not-both other e same = absurd (omega (arith, same))
 
 -- the rows are asked for in the order of the version's table
-row-order : (version : Version) (m n : ParamName) → is_of version n ≡ true → place n < place (row_name version m) → index n < index m
+row-order : (version : Version) (m n : ParamName) → is_of_version version n ≡ true → place n < place (row_name version m) → index n < index m
 row-order One name.pDelayCompensationA n e lt = omega (arith, lt)
 row-order One name.pDelayCompensationB n e lt = omega (arith, lt)
 row-order One other n e lt = omega (arith, lt)
 row-order Two m n e lt = let other = not-both n e in omega (arith, lt, other)
 
-pub earlier-at : (version : Version) (k : ℕ) (n : ParamName) → k < 20 → is_of version n ≡ true → place n < place (row_name version (name_at k)) → index n < k
+pub earlier-at : (version : Version) (k : ℕ) (n : ParamName) → k < 20 → is_of_version version n ≡ true → place n < place (row_name version (name_at k)) → index n < k
 earlier-at version k n few e lt = let less = row-order version (name_at k) n e lt in let at = index-at k few in omega (arith, less, at)
 
 -- a number of the table stands at the place of its name
-pub number-at : (numbers : List ℤ) (n : ParamName) → is_of Two n ≡ true → number_in numbers n ≡ slice_index_or numbers (index n) (pos 0)
+pub number-at : (numbers : List ℤ) (n : ParamName) → is_of_version Two n ≡ true → number_in numbers n ≡ slice_index_or numbers (index n) (pos 0)
 number-at numbers name.pDelayCompensation e = cc e
 number-at numbers other e = refl
 
 -- the number of a name is that of its row
-pub number-row : (version : Version) (values : List (Option ℤ)) (numbers : List ℤ) (n : ParamName) → AreNumbers version values numbers → is_of Two n ≡ true
+pub number-row : (version : Version) (values : List (Option ℤ)) (numbers : List ℤ) (n : ParamName) → AreNumbers version values numbers → is_of_version Two n ≡ true
     → entry values (place (row_name version n)) ≡ Some (number_in numbers n)
 number-row version values numbers n all e =
     let here : name_at (index n) ≡ n = row-at Two n e in
@@ -112,7 +112,7 @@ rows-ranged version values numbers ranged all name.pDelayCompensation =
     range-max (number_in numbers name.pDelayCompensationA) (number_in numbers name.pDelayCompensationB)
     (in_row name.pDelayCompensationA refl) (in_row name.pDelayCompensationB refl)
   where
-    in_row : (n : ParamName) → is_of Two n ≡ true → InRange n (number_in numbers n)
+    in_row : (n : ParamName) → is_of_version Two n ≡ true → InRange n (number_in numbers n)
     in_row n e = row-range version n (number_in numbers n) (ranged (row_name version n) (number_in numbers n) (number-row version values numbers n all e))
 rows-ranged version values numbers ranged all other =
     row-range version other (number_in numbers other) (ranged (row_name version other) (number_in numbers other) (number-row version values numbers other all refl))

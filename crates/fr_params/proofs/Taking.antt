@@ -9,7 +9,7 @@ use Rattle.fr_records.specs.Takes.{TakesRecord}
 use Rattle.fr_cluster.specs.declared.names.Version.{Version}
 use Rattle.fr_params.specs.Rows.{param_row_of}
 use Rattle.fr_params.specs.Versions.{version_by, version_of, version_with}
-use Rattle.fr_params.specs.Reasons.{is_later, param_reason_after, param_row_reason}
+use Rattle.fr_params.specs.Reasons.{is_not_first, param_reason_after, param_row_reason}
 use Rattle.fr_params.specs.Draft.{AreTables, IsParamsDraft, TakesParamRow, version_after, version_seen, version_told}
 use Rattle.fr_params.specs.declared.draft.Draft.{Draft}
 use Rattle.fr_params.specs.declared.draft.Tables.{Tables}
@@ -30,7 +30,7 @@ pub seen-more : (done : List FileRecord) (r : FileRecord) → version_seen (done
 seen-more [] r = refl
 seen-more (first ∷ rest) r = refl
 
-first-seen : (done : List FileRecord) → is_none (version_seen done) ≡ not (is_later done)
+first-seen : (done : List FileRecord) → is_none (version_seen done) ≡ not (is_not_first done)
 first-seen [] = refl
 first-seen (first ∷ rest) = refl
 
@@ -91,7 +91,7 @@ pub takes-version : (d : Draft) (version : Version) (r : FileRecord) (first : Bo
 takes-version d version r first is says here = record {
   why = λ done h.
       ap (λ (b : Bool). if b then None else Some reason.Role) (here ∙ ap (λ (seen : Option Version). is_none seen) h.version ∙ first-seen done)
-      ∙ first-role (is_later done)
+      ∙ first-role (is_not_first done)
       ∙ sym (reason-of d version done r (Ok row.Version) h is says);
   adds = λ done h none. held d d.tables version done r h is (tables-version version d.tables done r (before-with d version done r h is) says);
 }

@@ -3,7 +3,7 @@ use Rattle.std.specs.Prelude.{ℕ, ℤ, pos, ◌≡◌, ◌<◌, true, false, Li
 use Rattle.fr_base.specs.declared.reason.Reason.{Reason}
 use Rattle.fr_records.specs.Records.{FileRecord, records_of}
 use Rattle.fr_records.specs.Refusal.{NoneRefused}
-use Rattle.fr_records.specs.Takes.{Takes}
+use Rattle.fr_records.specs.Takes.{TakesRow}
 use Rattle.fr_cluster.specs.Names.{place}
 use Rattle.fr_cluster.specs.Ranges.{InRange, IsProperNode, IsProperSlot}
 use Rattle.fr_params.specs.Reasons.{value_at, node_at, slot_at, param_reason_after, param_row_reason}
@@ -84,7 +84,7 @@ pub record IsParamsDraft (draft : Draft) (records : List FileRecord) : Type 0 wh
 abbrev pub TakesParamRow : Tables → Tables → Row → Option Reason → Type 0
 TakesParamRow before after row why =
     let answer : Result (Option Reason) (Unit {0}) = Ok why in
-    (version : Version) → Takes (AreTables version) (param_row_of version) (param_row_reason version) before after row answer
+    (version : Version) → TakesRow (AreTables version) (param_row_of version) (param_row_reason version) before after row answer
 
 -- the draft holds what the records of a file say, of which none is refused
 pub record IsDraftOf (draft : Draft) (bytes : List ℕ) : Type 0 where

@@ -5,7 +5,7 @@ use Rattle.fr_records.specs.Records.{FileRecord, records_of}
 use Rattle.fr_records.specs.Refusal.{NoneRefused, FirstRefused}
 use Rattle.fr_cluster.specs.Names.{place}
 use Rattle.fr_params.specs.Reasons.{value_at, node_at, slot_at, param_reason_after}
-use Rattle.fr_params.specs.Versions.{is_of, row_name, version_of}
+use Rattle.fr_params.specs.Versions.{is_of_version, row_name, version_of}
 use Rattle.fr_params.specs.Lists.{listed}
 use Rattle.fr_params.specs.Draft.{entry}
 use Rattle.fr_cluster.specs.Values.{Values, figure, amount}
@@ -34,7 +34,7 @@ value_named n records = value_at (version_of records) (place n) records
 -- the parameters are what the records say: each number is that of its row, in a file of version 1 both delay compensations
 -- that of one row; nodes and slots are those of theirs
 pub record ParamsStandFor (p : Values) (records : List FileRecord) : Type 0 where
-  pub figures : (n : ParamName) → is_of Two n ≡ true → value_named (row_name (version_of records) n) records ≡ Some (figure p n)
+  pub figures : (n : ParamName) → is_of_version Two n ≡ true → value_named (row_name (version_of records) n) records ≡ Some (figure p n)
   pub nodes : p.nodes ≡ nodes_said records
   pub slots : p.slots ≡ slots_said records
 
@@ -48,9 +48,9 @@ pub record IsParamsFile (p : Values) (bytes : List ℕ) : Type 0 where
 -- no record is refused, and this is the first name of the table of the file's version that no record has
 pub record IsMissing (name : ParamName) (records : List FileRecord) : Type 0 where
   pub none_refused : NoneRefused param_reason_after records
-  pub known : is_of (version_of records) name ≡ true
+  pub known : is_of_version (version_of records) name ≡ true
   pub missing : value_named name records ≡ None
-  pub earlier : (n : ParamName) → is_of (version_of records) n ≡ true → place n < place name → IsSome (value_named n records)
+  pub earlier : (n : ParamName) → is_of_version (version_of records) n ≡ true → place n < place name → IsSome (value_named n records)
 
 -- no record is refused and no name is missing, and this is the least number of a constraint that what the records
 -- say does not meet
@@ -69,9 +69,9 @@ RefusesParams bytes fault.NoMemory = ⊤
 
 -- the first name of a version's table that a table of values lacks
 pub record IsMissingIn (version : Version) (values : List (Option ℤ)) (name : ParamName) : Type 0 where
-  pub known : is_of version name ≡ true
+  pub known : is_of_version version name ≡ true
   pub missing : entry values (place name) ≡ None
-  pub earlier : (n : ParamName) → is_of version n ≡ true → place n < place name → IsSome (entry values (place n))
+  pub earlier : (n : ParamName) → is_of_version version n ≡ true → place n < place name → IsSome (entry values (place n))
 
 -- the kind of a parameter file
 abbrev pub params_file : Kind Values ParamFault

@@ -11,7 +11,7 @@ use Rattle.fr_cluster.specs.Names.{name_of, place, least, greatest}
 use Rattle.fr_cluster.specs.Ranges.{has_turn, is_keyless_starter}
 use Rattle.fr_cluster.specs.declared.names.ParamName.{ParamName}
 use Rattle.fr_params.specs.Rows.{channels_of, param_row_of}
-use Rattle.fr_params.specs.Reasons.{is_later, value_at, node_at, slot_at}
+use Rattle.fr_params.specs.Reasons.{is_not_first, value_at, node_at, slot_at}
 use Rattle.fr_params.specs.Versions.{version_with}
 use Rattle.fr_cluster.specs.declared.names.Version.{Version}
 use Rattle.fr_params.specs.declared.rows.Row.{Row}
@@ -82,7 +82,7 @@ has_unknown_node version before (row.Slot slot) = is_none (node_at version slot.
 -- a version that is not said by the first record; a coldstart node without a key slot; a slot whose base and repetition
 -- do not go together
 abbrev pub goes_not_together : List FileRecord → Row → Bool
-goes_not_together before row.Version = is_later before
+goes_not_together before row.Version = is_not_first before
 goes_not_together before (row.Param n v) = false
 goes_not_together before (row.Node node) = is_keyless_starter node
 goes_not_together before (row.Slot slot) = not (has_turn slot)

@@ -50,14 +50,14 @@ abbrev pub slot_at : Version → ℕ → List FileRecord → Option SlotSpec
 slot_at version k records = looked_up (λ r. slot_said k (param_row_of version r)) records
 
 -- whether a record after these is not the first of its file
-abbrev pub is_later : List FileRecord → Bool
-is_later [] = false
-is_later (first ∷ rest) = true
+abbrev pub is_not_first : List FileRecord → Bool
+is_not_first [] = false
+is_not_first (first ∷ rest) = true
 
 -- the least reason after these records of a file of a version, of what a record says or shows by itself
 abbrev pub param_row_reason : Version → List FileRecord → Result Row Reason → Option Reason
 param_row_reason version records (Err why) = Some why
-param_row_reason version records (Ok row.Version) = if is_later records then Some reason.Role else None
+param_row_reason version records (Ok row.Version) = if is_not_first records then Some reason.Role else None
 param_row_reason version records (Ok (row.Param n v)) = if is_some (value_at version (place n) records) then Some reason.Repeated else None
 param_row_reason version records (Ok (row.Node node)) =
     if is_keyless_starter node then Some reason.Role

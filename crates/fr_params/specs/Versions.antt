@@ -35,8 +35,8 @@ abbrev pub version_with : List FileRecord → FileRecord → Version
 version_with records r = version_of (records ++ r ∷ [])
 
 -- whether a name is one of a version's table
-abbrev pub is_of : Version → ParamName → Bool
-is_of version n = list_any (λ other. place other == place n) (names_of version)
+abbrev pub is_of_version : Version → ParamName → Bool
+is_of_version version n = list_any (λ other. place other == place n) (names_of version)
 
 -- the name whose row has the number of a name of version 2: in a file of version 1 one row has both delay compensations
 abbrev pub row_name : Version → ParamName → ParamName

@@ -1,5 +1,5 @@
-//! The parameter file of a cluster: what a file must hold to be accepted, and the parameters that it stands
-//! for.
+//! The parameter file of a cluster: what a file must hold to be accepted, the parameters that it stands for, and
+//! these as the text of a file of version 2, which `flexray upgrade PARAMS` prints.
 #![tactic(auto)]
 
 mod assembling;
@@ -9,6 +9,11 @@ mod kind;
 mod laws;
 mod reading;
 mod rows;
+mod told;
+mod upgrade;
+mod upgrade_laws;
+mod upgraded_texts;
+mod writing;
 
 pub use assembling::assemble;
 pub use fault::ParamFault;
@@ -17,3 +22,9 @@ pub use laws::{
     an_accepted_file_is_assembled, one_answer, refused_for_the_least_reason, some_answer,
 };
 pub use reading::read;
+pub use upgrade::answer_upgrade;
+pub use upgrade_laws::file_decides_the_upgrade;
+pub use upgraded_texts::{
+    accepted_are_on_channels, accepted_are_sane, files_are_upgraded, texts_are_accepted,
+};
+pub use writing::write;

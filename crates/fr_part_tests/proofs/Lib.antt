@@ -1,3 +1,1 @@
-mod Caught
 mod Fed
-mod Following

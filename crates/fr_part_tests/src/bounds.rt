@@ -1,35 +1,24 @@
+// The bounds and checks of a cluster, and whether clocks are in sync.
 ghost use Rattle.std.specs.Prelude.{◌≡◌, All};
 ghost use Rattle.fr_base.specs.Timed.{IsTimed};
-ghost use Rattle.fr_bound.specs.Checks.{IsCheck};
 
 use fr_base::{Channel, NodeId, NodeRow, RowList, State};
 use fr_bound::{CheckSides, bounds, checks, join_checks, reach, side};
 use fr_cluster::{ParamName, Params};
+use fr_samples::params_of;
 use fr_skew::in_sync;
-use std::alloc::Global;
+use std::alloc::{AllocError, Global};
 use std::test::Fail;
 
-// The action point comes a macrotick earlier.
-fn params_of(alloc: Global) -> Result<Params, Fail> {
-    let early = ("param,gdActionPointOffset", "param,gdActionPointOffset,6,,");
-    Ok(fr_samples::params_of(alloc, &[early], "node,1,1,A,1\n")?)
-}
+type Lines = &'static [(&'static str, &'static str)];
 
-#[test]
-fn the_first_failing_check_is_named(rt: HostRuntime) -> Result<(), Fail> {
-    let params = params_of(rt.alloc())?;
-    assert_eq!(rt; bounds(&params).precision, 252_043_600);
-    assert_eq!(rt; checks(&params), Err(4));
-    let CheckSides { left, right, holds } = side(&params, 4);
-    assert_eq!(rt;
-        (left, right, holds),
-        (1_194_275_097_200, 1_262_718_000_000, false)
-    );
-    Ok(())
-}
+const ONE_NODE: &str = "node,1,1,A,1\n";
+
+// The action point comes a macrotick earlier.
+const EARLY: Lines = &[("param,gdActionPointOffset", "param,gdActionPointOffset,6,,")];
 
 // A compensation of one microtick on channel A, and of three on channel B.
-const COMPENSATED: &[(&str, &str)] = &[
+const COMPENSATED: Lines = &[
     (
         "param,gMacroPerCycle",
         "version,2,,,\nparam,gMacroPerCycle,5000,,",
@@ -40,58 +29,104 @@ const COMPENSATED: &[(&str, &str)] = &[
     ),
 ];
 
-#[test]
-fn the_greater_compensation_decides(rt: HostRuntime) -> Result<(), Fail> {
-    let params = fr_samples::params_of(rt.alloc(), COMPENSATED, "node,1,1,A,1\n")?;
-    assert_eq!(rt; params.compensation(Channel::A), 1);
-    assert_eq!(rt; params.compensation(Channel::B), 3);
-    assert_eq!(rt; params.widest_compensation(), 3);
-    assert_eq!(rt; params.value(ParamName::pDelayCompensation), 3);
-    assert_eq!(rt; bounds(&params).precision, 252_084_400);
-    Ok(())
-}
-
 // A wider rate limit and offset limit, and a later action point, which leave room for nodes that join.
-fn wide_params_of(alloc: Global, action: &'static str) -> Result<Params, Fail> {
-    let offset = "param,pOffsetCorrectionOut";
-    let rate = "param,pRateCorrectionOut";
-    let changes = [
-        ("param,gdActionPointOffset", action),
-        (offset, "param,pOffsetCorrectionOut,454,,"),
-        (rate, "param,pRateCorrectionOut,84,,"),
-    ];
-    Ok(fr_samples::params_of(alloc, &changes, "node,1,1,A,1\n")?)
+const WIDE: Lines = &[
+    (
+        "param,gdActionPointOffset",
+        "param,gdActionPointOffset,12,,",
+    ),
+    (
+        "param,pOffsetCorrectionOut",
+        "param,pOffsetCorrectionOut,454,,",
+    ),
+    ("param,pRateCorrectionOut", "param,pRateCorrectionOut,84,,"),
+];
+
+// The same with an action point that is a macrotick too early.
+const NARROWER: Lines = &[
+    (
+        "param,gdActionPointOffset",
+        "param,gdActionPointOffset,11,,",
+    ),
+    (
+        "param,pOffsetCorrectionOut",
+        "param,pOffsetCorrectionOut,454,,",
+    ),
+    ("param,pRateCorrectionOut", "param,pRateCorrectionOut,84,,"),
+];
+
+// Lines of the parameters, a check, and its sides and whether it holds.
+const SIDES: &[(Lines, u8, i64, i64, bool)] = &[
+    (EARLY, 4, 1_194_275_097_200, 1_262_718_000_000, false),
+    (WIDE, 6, 83_983_200, 83_000_400, true),
+    (WIDE, 7, 453_909_200, 453_577_800, true),
+    (WIDE, 8, 2_393_513_201_600, 2_262_888_000_000, true),
+    (WIDE, 9, 3_592_769_302_400, 2_262_888_000_000, true),
+    (NARROWER, 8, 2_193_637_184_800, 2_262_888_000_000, false),
+];
+
+// Lines of the parameters, and what is told of them: the precision, the reach, the first check and the first check of
+// nodes that join that fail, and the delay compensation on both channels, the wider one, and by its name.
+const TOLD: &[(Lines, &str)] = &[
+    (EARLY, "252043600 452077600 Err(4) Err(6) 0 0 0 0"),
+    (COMPENSATED, "252084400 452154400 Ok(()) Err(6) 1 3 3 3"),
+    (WIDE, "252043600 452077600 Ok(()) Ok(()) 0 0 0 0"),
+    (NARROWER, "252043600 452077600 Ok(()) Err(8) 0 0 0 0"),
+];
+
+// Both sides of a check and whether it holds; none where the parameters are refused or there is no such check.
+fn sides_of(alloc: Global, lines: Lines, number: u8) -> Option<(i64, i64, bool)> {
+    if number < 1 || number > 9 {
+        return None;
+    }
+    match params_of(alloc, lines, ONE_NODE) {
+        Ok(params) => {
+            let CheckSides { left, right, holds } = side(&params, number);
+            Some((left, right, holds))
+        }
+        Err(_) => None,
+    }
 }
 
-fn sides_of(params: &Params, number: u8) -> (i64, i64, bool)
-    requires { IsCheck number }
-{
-    let CheckSides { left, right, holds } = side(params, number);
-    (left, right, holds)
+fn told(alloc: Global, params: &Params) -> Result<String, AllocError> {
+    let (precision, reach) = (bounds(params).precision, reach(params));
+    let (first, joining) = (checks(params), join_checks(params));
+    let (on_a, on_b) = (
+        params.compensation(Channel::A),
+        params.compensation(Channel::B),
+    );
+    let widest = params.widest_compensation();
+    let named = params.value(ParamName::pDelayCompensation);
+    format!(in alloc; "{precision} {reach} {first:?} {joining:?} {on_a} {on_b} {widest} {named}")
+}
+
+fn told_of(alloc: Global, lines: Lines) -> Result<String, AllocError> {
+    match params_of(alloc, lines, ONE_NODE) {
+        Ok(params) => told(alloc, &params),
+        Err(_) => String::from_str(alloc, "refused"),
+    }
 }
 
 #[test]
-fn the_checks_of_nodes_that_join(rt: HostRuntime) -> Result<(), Fail> {
-    let params = wide_params_of(rt.alloc(), "param,gdActionPointOffset,12,,")?;
-    let rate = sides_of(&params, 6);
-    let offset = sides_of(&params, 7);
-    let front = sides_of(&params, 8);
-    let back = sides_of(&params, 9);
-    let early = wide_params_of(rt.alloc(), "param,gdActionPointOffset,11,,")?;
-    let early_front = sides_of(&early, 8);
-    assert_eq!(rt; reach(&params), 452_077_600);
-    assert_eq!(rt; join_checks(&params), Ok(()));
-    assert_eq!(rt; rate, (83_983_200, 83_000_400, true));
-    assert_eq!(rt; offset, (453_909_200, 453_577_800, true));
-    assert_eq!(rt; front, (2_393_513_201_600, 2_262_888_000_000, true));
-    assert_eq!(rt; back, (3_592_769_302_400, 2_262_888_000_000, true));
-    assert_eq!(rt; join_checks(&early), Err(8));
-    assert_eq!(rt; early_front, (2_193_637_184_800, 2_262_888_000_000, false));
+fn bounds_and_checks_are_those_of_the_rows(rt: HostRuntime) -> Result<(), Fail> {
+    for (lines, number, left, right, holds) in SIDES {
+        let told = sides_of(rt.alloc(), lines, *number);
+        assert_eq!(rt; told, Some((*left, *right, *holds)), "check {number}");
+    }
+    for (lines, wanted) in TOLD {
+        assert_eq!(rt; told_of(rt.alloc(), lines)?.as_str(), *wanted);
+    }
     Ok(())
 }
 
 // A node's row: a start and a rate term, and whether it is active.
 type Short = (i64, i32, bool);
+
+const PLAIN: Short = (0, 0, true);
+
+const SILENT: Short = (0, 0, false);
+
+const LATE: Short = (190_032_801, 0, true);
 
 // The rows of nodes 1 and 2 in the even and then in the odd cycle, and whether they are in sync.
 const ROWS: &[(Short, Short, Short, Short, bool)] = &[
@@ -102,41 +137,11 @@ const ROWS: &[(Short, Short, Short, Short, bool)] = &[
         (7, 0, true),
         true,
     ),
-    (
-        (190_032_801, 0, true),
-        (0, 0, true),
-        (0, 0, true),
-        (0, 0, true),
-        false,
-    ),
-    (
-        (0, 0, true),
-        (190_032_801, 0, true),
-        (0, 0, true),
-        (0, 0, true),
-        false,
-    ),
-    (
-        (0, 0, true),
-        (0, 0, true),
-        (190_032_801, 0, true),
-        (0, 0, true),
-        true,
-    ),
-    (
-        (0, 31, true),
-        (0, 0, true),
-        (0, 0, true),
-        (0, 0, true),
-        false,
-    ),
-    (
-        (0, 0, true),
-        (0, 0, true),
-        (0, 0, true),
-        (0, 31, true),
-        false,
-    ),
+    (LATE, PLAIN, PLAIN, PLAIN, false),
+    (PLAIN, LATE, PLAIN, PLAIN, false),
+    (PLAIN, PLAIN, LATE, PLAIN, true),
+    ((0, 31, true), PLAIN, PLAIN, PLAIN, false),
+    (PLAIN, PLAIN, PLAIN, (0, 31, true), false),
     (
         (0, -40, true),
         (0, -40, true),
@@ -144,34 +149,10 @@ const ROWS: &[(Short, Short, Short, Short, bool)] = &[
         (0, 40, true),
         true,
     ),
-    (
-        (0, -41, true),
-        (0, -41, true),
-        (0, 0, true),
-        (0, 0, true),
-        false,
-    ),
-    (
-        (0, 0, true),
-        (0, 0, true),
-        (0, 41, true),
-        (0, 41, true),
-        false,
-    ),
-    (
-        (0, 0, false),
-        (0, 0, true),
-        (0, 0, true),
-        (0, 0, true),
-        false,
-    ),
-    (
-        (0, 0, true),
-        (0, 0, true),
-        (0, 0, true),
-        (0, 0, false),
-        false,
-    ),
+    ((0, -41, true), (0, -41, true), PLAIN, PLAIN, false),
+    (PLAIN, PLAIN, (0, 41, true), (0, 41, true), false),
+    (SILENT, PLAIN, PLAIN, PLAIN, false),
+    (PLAIN, PLAIN, PLAIN, SILENT, false),
 ];
 
 fn row_of(node: NodeId, short: Short) -> NodeRow
@@ -205,13 +186,11 @@ fn rows_of(first: Short, second: Short) -> RowList
 
 #[test]
 fn tells_whether_clocks_are_in_sync(rt: HostRuntime) -> Result<(), Fail> {
-    let params = params_of(rt.alloc())?;
+    let params = params_of(rt.alloc(), EARLY, ONE_NODE)?;
     assert!(rt; in_sync(&params, &RowList::new(), &RowList::new()));
-    for (even, even_2, odd, odd_2, want) in ROWS {
-        let even_rows = rows_of(*even, *even_2);
-        let odd_rows = rows_of(*odd, *odd_2);
-        let told = in_sync(&params, &even_rows, &odd_rows);
-        assert_eq!(rt; told, *want, "at {even:?} {odd:?}");
+    for (row, (even, even_2, odd, odd_2, wanted)) in ROWS.iter().enumerate() {
+        let told = in_sync(&params, &rows_of(*even, *even_2), &rows_of(*odd, *odd_2));
+        assert_eq!(rt; told, *wanted, "row {row}");
     }
     Ok(())
 }

@@ -1,8 +1,6 @@
+// A capture is fed pieces, and tells the frames and the fault.
 use fr_base::Channel;
-use fr_capture::{Capture, CaptureFault, Fed};
-use fr_crc::{
-    frame_crc, frame_crc_by_bits, frame_entry, header_crc, header_crc_by_bits, header_entry,
-};
+use fr_capture::{Capture, CaptureFault};
 use fr_frame::{Header, encode};
 use std::alloc::{AllocError, Global};
 use std::test::Fail;
@@ -13,158 +11,62 @@ const TWO: [u8; 21] = [
     0x12, 0x6B, 0x18, 0x01, 0x00,
 ];
 
-#[test]
-fn entries_are_those_of_the_tables(rt: HostRuntime) {
-    let rows = [
-        (0, 0x000, 0x000000),
-        (1, 0x385, 0x5D6DCB),
-        (2, 0x70A, 0xBADB96),
-        (3, 0x48F, 0xE7B65D),
-        (4, 0x591, 0x28DAE7),
-    ];
-    for (index, header, frame) in rows {
-        assert!(rt; index < 16);
-        assert_eq!(rt; header_entry(index), header);
-        assert_eq!(rt; frame_entry(index), frame);
-    }
-}
-
-#[test]
-fn tables_and_bits_agree(rt: HostRuntime) {
-    for end in [0, 1, 5, 8, 18, 21] {
-        let body = &TWO[..end];
-        assert_eq!(rt;
-            frame_crc(Channel::A, body),
-            frame_crc_by_bits(Channel::A, body)
-        );
-        assert_eq!(rt;
-            frame_crc(Channel::B, body),
-            frame_crc_by_bits(Channel::B, body)
-        );
-    }
-    for (id, words) in [(0, 0), (5, 1), (1024, 64), (2047, 127)] {
-        assert!(rt; id <= 2047 && words <= 127);
-        assert_eq!(rt;
-            header_crc(true, false, id, words),
-            header_crc_by_bits(true, false, id, words)
-        );
-        assert_eq!(rt;
-            header_crc(false, true, id, words),
-            header_crc_by_bits(false, true, id, words)
-        );
-    }
-}
-
-#[test]
-fn a_piece_ends_with_its_first_frame(rt: HostRuntime) {
-    let mut capture = Capture::new(Channel::A);
-    assert_eq!(rt;
-        capture.feed(&TWO),
-        Fed {
-            used: 8,
-            at: Some(0)
-        }
-    );
-    assert_eq!(rt;
-        capture.feed(&TWO[8..]),
-        Fed {
-            used: 10,
-            at: Some(8)
-        }
-    );
-    assert_eq!(rt; capture.finish(), Ok(18));
-}
-
-#[test]
-fn a_wrong_header_is_shown_by_five_bytes(rt: HostRuntime) {
-    let mut capture = Capture::new(Channel::A);
-    let bytes = [0x18, 0x01, 0x02, 0x6F, 0x00, 0x18, 0x01];
-    assert_eq!(rt; capture.feed(&bytes), Fed { used: 5, at: None });
-    assert_eq!(rt; capture.feed(&bytes), Fed { used: 0, at: None });
-    let fault = CaptureFault::HeaderCrc {
-        kept: 0x1BC,
-        computed: 0x239,
-    };
-    assert_eq!(rt; capture.finish(), Err((0, fault)));
-}
-
-// Bytes in which no frame begins, though one stands further on, how many of them show that, and the reason: a
-// wrong frame CRC behind a payload that is a frame, a wrong header CRC before it, a frame of no ID, and a startup
-// frame that is no sync frame, with a frame behind them.
-const FAULTS: &[([u8; 16], usize, CaptureFault)] = &[
+// Two pieces; how many bytes of each are used, with the place of a frame that was completed; and the end.
+const FED: &[(&[u8], &[u8], &str)] = &[
+    // A piece ends with its first frame.
     (
-        [
-            0x20, 0x07, 0x09, 0xCC, 0x02, 0x18, 0x01, 0x00, 0x6F, 0x00, 0x9A, 0xE5, 0x25, 0x1A,
-            0xBD, 0x91,
-        ],
-        16,
-        CaptureFault::FrameCrc {
-            kept: 0x1ABD91,
-            computed: 0x6BF65A,
-        },
+        b"\x18\x01\x00\x6F\x00\x9A\xE5\x25\x20\x05\x02\xB3\x89\x12\x34\x75\x12\x6B\x18\x01\x00",
+        b"\x20\x05\x02\xB3\x89\x12\x34\x75\x12\x6B\x18\x01\x00",
+        "8 Some(0) 10 Some(8) Ok(18)",
+    ),
+    // A wrong header is shown by five bytes.
+    (
+        b"\x18\x01\x02\x6F\x00\x18\x01",
+        b"\x18\x01\x02\x6F\x00\x18\x01",
+        "5 None 0 None Err((0, HeaderCrc { kept: 444, computed: 569 }))",
+    ),
+    // A frame of four words, which are a frame: it is none.
+    (
+        b"\x20\x07\x09\xCC\x03\x18\x01\x00\x6F\x00\x9A\xE5\x25\x1A\xBD\x91",
+        b"",
+        "16 Some(0) 0 None Ok(16)",
+    ),
+    // Bytes in which no frame begins, though one stands further on: a wrong frame CRC behind a payload that is a
+    // frame, a wrong header CRC before it, a frame of no ID, and a startup frame that is no sync frame, with a frame
+    // behind them. No frame is looked for behind a fault.
+    (
+        b"\x20\x07\x09\xCC\x02\x18\x01\x00\x6F\x00\x9A\xE5\x25\x1A\xBD\x91",
+        b"\x18\x01\x00\x6F\x00\x9A\xE5\x25",
+        "16 None 0 None Err((0, FrameCrc { kept: 1752465, computed: 7075418 }))",
     ),
     (
-        [
-            0x20, 0x07, 0x0B, 0xCC, 0x03, 0x18, 0x01, 0x00, 0x6F, 0x00, 0x9A, 0xE5, 0x25, 0x1A,
-            0xBD, 0x91,
-        ],
-        5,
-        CaptureFault::HeaderCrc {
-            kept: 0x730,
-            computed: 0x4B5,
-        },
+        b"\x20\x07\x0B\xCC\x03\x18\x01\x00\x6F\x00\x9A\xE5\x25\x1A\xBD\x91",
+        b"\x18\x01\x00\x6F\x00\x9A\xE5\x25",
+        "5 None 0 None Err((0, HeaderCrc { kept: 1840, computed: 1205 }))",
     ),
     (
-        [
-            0x00, 0x00, 0x01, 0xDA, 0x80, 0x5F, 0xA2, 0x6B, 0x18, 0x01, 0x00, 0x6F, 0x00, 0x9A,
-            0xE5, 0x25,
-        ],
-        8,
-        CaptureFault::ZeroId,
+        b"\x00\x00\x01\xDA\x80\x5F\xA2\x6B\x18\x01\x00\x6F\x00\x9A\xE5\x25",
+        b"\x18\x01\x00\x6F\x00\x9A\xE5\x25",
+        "8 None 0 None Err((0, ZeroId))",
     ),
     (
-        [
-            0x08, 0x01, 0x01, 0x1F, 0x80, 0xF6, 0xC4, 0x62, 0x18, 0x01, 0x00, 0x6F, 0x00, 0x9A,
-            0xE5, 0x25,
-        ],
-        8,
-        CaptureFault::StartupNotSync,
+        b"\x08\x01\x01\x1F\x80\xF6\xC4\x62\x18\x01\x00\x6F\x00\x9A\xE5\x25",
+        b"\x18\x01\x00\x6F\x00\x9A\xE5\x25",
+        "8 None 0 None Err((0, StartupNotSync))",
     ),
 ];
 
-// A frame of four words, which are a frame.
-#[test]
-fn a_frame_in_a_payload_is_none(rt: HostRuntime) {
-    let mut capture = Capture::new(Channel::A);
-    let bytes = [
-        0x20, 0x07, 0x09, 0xCC, 0x03, 0x18, 0x01, 0x00, 0x6F, 0x00, 0x9A, 0xE5, 0x25, 0x1A, 0xBD,
-        0x91,
-    ];
-    let whole = Fed {
-        used: 16,
-        at: Some(0),
-    };
-    assert_eq!(rt; capture.feed(&bytes), whole);
-    assert_eq!(rt; capture.finish(), Ok(16));
-}
-
-// No frame is looked for behind a fault.
-#[test]
-fn nothing_is_taken_behind_a_fault(rt: HostRuntime) {
-    for (bytes, used, fault) in FAULTS {
-        let mut capture = Capture::new(Channel::A);
-        let first = capture.feed(bytes);
-        assert_eq!(rt;
-            first,
-            Fed {
-                used: *used,
-                at: None
-            }
-        );
-        let rest = capture.feed(&bytes[8..]);
-        assert_eq!(rt; rest, Fed { used: 0, at: None });
-        assert_eq!(rt; capture.finish(), Err((0, *fault)));
+fn fed(alloc: Global, first: &[u8], second: &[u8]) -> Result<String, AllocError> {
+    if first.len() > 100 || second.len() > 100 {
+        return String::from_str(alloc, "too long");
     }
+    let mut capture = Capture::new(Channel::A);
+    let (one, other) = (capture.feed(first), capture.feed(second));
+    let end = capture.finish();
+    format!(in alloc;
+        "{} {:?} {} {:?} {end:?}",
+        one.used, one.at, other.used, other.at
+    )
 }
 
 // The place, the ID and the frame CRC of a frame.
@@ -173,8 +75,15 @@ type Seen = (u64, u16, u32);
 // How a capture ends.
 type End = Result<u64, (u64, CaptureFault)>;
 
-// The frames of bytes that are fed one at a time, and how they end.
-fn fed_by_bytes(alloc: Global, bytes: &[u8]) -> Result<(Vec<Seen>, End), AllocError> {
+// The frames of bytes, and how they end.
+#[derive(Drop)]
+struct Told {
+    frames: Vec<Seen>,
+    end: End,
+}
+
+// What is told of bytes that are fed one at a time.
+fn fed_by_bytes(alloc: Global, bytes: &[u8]) -> Result<Told, AllocError> {
     let mut capture = Capture::new(Channel::A);
     let mut frames = Vec::new(alloc);
     for done in 0..bytes.len() {
@@ -184,22 +93,8 @@ fn fed_by_bytes(alloc: Global, bytes: &[u8]) -> Result<(Vec<Seen>, End), AllocEr
             frames.push((place, frame.header.id, frame.frame_crc))?;
         }
     }
-    Ok((frames, capture.finish()))
-}
-
-#[test]
-fn bytes_one_at_a_time_make_the_same_frames(rt: HostRuntime) -> Result<(), Fail> {
-    let (frames, end) = fed_by_bytes(rt.alloc(), &TWO)?;
-    assert_eq!(rt;
-        frames.as_slice(),
-        [(0, 1, 0x9AE525), (8, 5, 0x75126B)].as_slice()
-    );
-    let cut = CaptureFault::Cut {
-        needed: 8,
-        given: 3,
-    };
-    assert_eq!(rt; end, Err((18, cut)));
-    Ok(())
+    let end = capture.finish();
+    Ok(Told { frames, end })
 }
 
 fn cut(place: usize, needed: usize, end: usize) -> End {
@@ -213,27 +108,31 @@ fn end_of(end: usize) -> End {
         0 | 8 | 18 => Ok(end as u64),
         1..=7 => cut(0, 8, end),
         9..=12 => cut(8, 8, end),
-        _ => cut(8, 10, end),
+        13..=17 => cut(8, 10, end),
+        _ => cut(18, 8, end),
     }
 }
 
-#[test]
-fn each_cut_is_told(rt: HostRuntime) -> Result<(), Fail> {
-    for end in 0..=18 {
-        let mut capture = Capture::new(Channel::A);
-        let used = capture.feed(&TWO[..end]).used;
-        capture.feed(&TWO[used..end]);
-        assert_eq!(rt; capture.finish(), end_of(end));
-        let (_, by_bytes) = fed_by_bytes(rt.alloc(), &TWO[..end])?;
-        assert_eq!(rt; by_bytes, end_of(end));
-    }
-    Ok(())
-}
-
-// Whether a capture takes the frame of this header and payload whole, at place 0.
-fn is_taken(channel: Channel, header: &Header, payload: &[u8]) -> bool {
+// Whether a capture takes a frame of so many words whole, at place 0.
+fn is_taken(channel: Channel, words: u8) -> bool {
+    let header = Header {
+        reserved: false,
+        preamble: false,
+        null_bit: true,
+        sync: false,
+        startup: false,
+        id: 2047,
+        words,
+        cycle: 63,
+    };
+    let payload = [0xA5; 254];
     let mut bytes = [0; 262];
-    match encode(channel, header, payload, &mut bytes) {
+    match encode(
+        channel,
+        &header,
+        &payload[..2 * usize::from(words.min(127))],
+        &mut bytes,
+    ) {
         Ok(count) => {
             let fed = Capture::new(channel).feed(&bytes[..count]);
             fed.used == count && fed.at == Some(0)
@@ -242,24 +141,45 @@ fn is_taken(channel: Channel, header: &Header, payload: &[u8]) -> bool {
     }
 }
 
+#[test]
+fn frames_are_told_piece_by_piece(rt: HostRuntime) -> Result<(), Fail> {
+    for (first, second, wanted) in FED {
+        assert_eq!(rt; fed(rt.alloc(), first, second)?.as_str(), *wanted);
+    }
+    let frames = fed_by_bytes(rt.alloc(), &TWO)?.frames;
+    assert_eq!(rt;
+        frames.as_slice(),
+        [(0, 1, 0x9AE525), (8, 5, 0x75126B)].as_slice()
+    );
+    Ok(())
+}
+
+// How a capture ends that is fed the first bytes of the two frames in two pieces.
+fn end_in_pieces(end: usize) -> End {
+    let mut capture = Capture::new(Channel::A);
+    let bytes = &TWO[..end.min(21)];
+    let used = capture.feed(bytes).used;
+    capture.feed(&bytes[used..]);
+    capture.finish()
+}
+
+#[test]
+fn each_cut_is_told(rt: HostRuntime) -> Result<(), Fail> {
+    for end in 0..=21 {
+        if end <= 18 {
+            assert_eq!(rt; end_in_pieces(end), end_of(end));
+        }
+        assert_eq!(rt; fed_by_bytes(rt.alloc(), &TWO[..end])?.end, end_of(end));
+    }
+    Ok(())
+}
+
 // The bytes before the frame CRC are 5, 7, 9, 11, 13 and 259: one by one, and with a part of eight or more.
 #[test]
 fn frames_of_all_lengths_are_taken(rt: HostRuntime) {
-    let payload = [0xA5; 254];
     for words in [0, 1, 2, 3, 4, 127] {
-        let header = Header {
-            reserved: false,
-            preamble: false,
-            null_bit: true,
-            sync: false,
-            startup: false,
-            id: 2047,
-            words,
-            cycle: 63,
-        };
-        let end = 2 * usize::from(words);
-        assert!(rt; end <= payload.len());
-        assert!(rt; is_taken(Channel::A, &header, &payload[..end]));
-        assert!(rt; is_taken(Channel::B, &header, &payload[..end]));
+        for channel in [Channel::A, Channel::B] {
+            assert!(rt; is_taken(channel, words), "{words} words");
+        }
     }
 }

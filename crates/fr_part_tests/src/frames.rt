@@ -1,3 +1,4 @@
+// Frames are decoded and encoded.
 ghost use Rattle.std.specs.Prelude.{IsTrue};
 
 use fr_base::Channel;
@@ -14,8 +15,55 @@ const HEADER: Header = Header {
     cycle: 63,
 };
 
+// Bytes on a channel, and their first fault.
+const FAULTS: &[(Channel, &[u8], FrameFault)] = &[
+    (
+        Channel::B,
+        b"\x18\x01\x00\x6F\x00\x9A\xE5\x25",
+        FrameFault::FrameCrc {
+            kept: 0x9AE525,
+            computed: 0x716B40,
+        },
+    ),
+    (
+        Channel::A,
+        b"\x18\x01\x00\x6F\x00\x9A\xE5",
+        FrameFault::Short { given: 7 },
+    ),
+    (Channel::A, b"", FrameFault::Short { given: 0 }),
+    (
+        Channel::A,
+        b"\x18\x01\x02\x6F\x00\x9A\xE5\x25",
+        FrameFault::HeaderCrc {
+            kept: 0x1BC,
+            computed: 0x239,
+        },
+    ),
+    (
+        Channel::A,
+        b"\x18\x01\x02\x8E\x40\x00\x00\x00",
+        FrameFault::Length {
+            stated: 10,
+            given: 8,
+        },
+    ),
+    (
+        Channel::A,
+        b"\x00\x00\x01\xDA\x80\x5F\xA2\x6B",
+        FrameFault::ZeroId,
+    ),
+    (
+        Channel::A,
+        b"\x08\x01\x01\x1F\x80\xF6\xC4\x62",
+        FrameFault::StartupNotSync,
+    ),
+];
+
 #[test]
-fn rows_are_read(rt: HostRuntime) {
+fn rows_are_read_and_faults_are_the_first(rt: HostRuntime) {
+    for (channel, bytes, fault) in FAULTS {
+        assert_eq!(rt; decode(*channel, bytes).err(), Some(*fault));
+    }
     let bytes = [0x20, 0x05, 0x02, 0xB3, 0x89, 0x12, 0x34, 0x75, 0x12, 0x6B];
     let header = Header {
         id: 5,
@@ -32,52 +80,6 @@ fn rows_are_read(rt: HostRuntime) {
     assert_eq!(rt; decode(Channel::A, &bytes), Ok(read));
 }
 
-#[test]
-fn faults_are_the_first(rt: HostRuntime) {
-    let sync = [0x18, 0x01, 0x00, 0x6F, 0x00, 0x9A, 0xE5, 0x25];
-    let rows: [(Channel, &[u8], FrameFault); 7] = [
-        (
-            Channel::B,
-            &sync,
-            FrameFault::FrameCrc {
-                kept: 0x9AE525,
-                computed: 0x716B40,
-            },
-        ),
-        (Channel::A, &sync[..7], FrameFault::Short { given: 7 }),
-        (Channel::A, &[], FrameFault::Short { given: 0 }),
-        (
-            Channel::A,
-            &[0x18, 0x01, 0x02, 0x6F, 0x00, 0x9A, 0xE5, 0x25],
-            FrameFault::HeaderCrc {
-                kept: 0x1BC,
-                computed: 0x239,
-            },
-        ),
-        (
-            Channel::A,
-            &[0x18, 0x01, 0x02, 0x8E, 0x40, 0x00, 0x00, 0x00],
-            FrameFault::Length {
-                stated: 10,
-                given: 8,
-            },
-        ),
-        (
-            Channel::A,
-            &[0x00, 0x00, 0x01, 0xDA, 0x80, 0x5F, 0xA2, 0x6B],
-            FrameFault::ZeroId,
-        ),
-        (
-            Channel::A,
-            &[0x08, 0x01, 0x01, 0x1F, 0x80, 0xF6, 0xC4, 0x62],
-            FrameFault::StartupNotSync,
-        ),
-    ];
-    for (channel, bytes, fault) in rows {
-        assert_eq!(rt; decode(channel, bytes).err(), Some(fault));
-    }
-}
-
 // What is written is read back: proved for every frame, and run for one.
 fn is_read_back(channel: Channel, header: &Header, payload: &[u8], out: &mut [u8]) -> bool
     ensures { IsTrue result }
@@ -91,25 +93,36 @@ fn is_read_back(channel: Channel, header: &Header, payload: &[u8], out: &mut [u8
     }
 }
 
+// Whether a frame that is a byte longer than the room is refused, and nothing is written.
+fn is_too_long() -> bool {
+    let mut narrow = [7; 261];
+    let refused = encode(Channel::A, &HEADER, &[0; 254], &mut narrow);
+    let fault = EncodeFault::Room {
+        needed: 262,
+        given: 261,
+    };
+    refused == Err(fault) && narrow == [7; 261]
+}
+
+// Whether the longest frame is written, and read back, on channel A.
+fn is_written() -> bool {
+    let payload = [0; 254];
+    let mut out = [7; 262];
+    if encode(Channel::A, &HEADER, &payload, &mut out) != Ok(262) {
+        return false;
+    }
+    if !out.starts_with(&[0x27, 0xFF, 0xFE, 0x4D, 0x7F]) {
+        return false;
+    }
+    match decode(Channel::A, &out) {
+        Ok(frame) => frame.header == HEADER && frame.payload == payload.as_slice(),
+        Err(_) => false,
+    }
+}
+
 #[test]
 fn the_longest_frame_is_written_and_read_back(rt: HostRuntime) {
-    let payload = [0; 254];
-    let mut narrow = [7; 261];
-    assert_eq!(rt;
-        encode(Channel::A, &HEADER, &payload, &mut narrow),
-        Err(EncodeFault::Room {
-            needed: 262,
-            given: 261
-        })
-    );
-    assert!(rt; narrow.iter().all(|b| *b == 7));
-
-    let mut out = [7; 262];
-    assert_eq!(rt; encode(Channel::A, &HEADER, &payload, &mut out), Ok(262));
-    assert_eq!(rt; &out[..5], [0x27, 0xFF, 0xFE, 0x4D, 0x7F].as_slice());
-    let read = decode(Channel::A, &out);
-    assert!(rt;
-        matches!(&read, Ok(frame) if frame.header == HEADER && frame.payload == payload.as_slice())
-    );
-    assert!(rt; is_read_back(Channel::B, &HEADER, &payload, &mut out));
+    assert!(rt; is_too_long());
+    assert!(rt; is_written());
+    assert!(rt; is_read_back(Channel::B, &HEADER, &[0; 254], &mut [7; 262]));
 }

@@ -1,33 +1,226 @@
+// From the deviations of a double cycle to its terms and the state: the table, the midpoint, both terms, the control.
+use fr_base::Channel::{A, B};
 use fr_base::Outcome::{Exceeded, Missing, Within};
+use fr_base::{Channel, Outcome, State};
 use fr_correct::{Term, offset_term, rate_term};
-use fr_midpoint::List15;
+use fr_measure::Table;
+use fr_midpoint::{List15, midpoint};
+use fr_poc::{Poc, PocLimits};
+use std::alloc::{AllocError, Global};
+use std::test::Fail;
+
+fn list_of(values: &[i32]) -> List15 {
+    let mut list = List15::new();
+    for value in values {
+        if list.len() < 15 {
+            list.push((*value).clamp(-2_000_000, 2_000_000));
+        }
+    }
+    list
+}
+
+fn middle_of(values: &[i32]) -> Option<i32> {
+    midpoint(&mut list_of(values))
+}
+
+const MIDPOINTS: &[(&[i32], Option<i32>)] = &[
+    (&[], None),
+    (&[5], Some(5)),
+    (&[-3, 4], Some(0)),
+    (&[-4, -3], Some(-3)),
+    (&[-9, 1, 30], Some(1)),
+    (&[-50, -40, 1, 2, 3, 4, 60, 70], Some(2)),
+    (&[0, 0, 0, 0, 0, 0, 100], Some(0)),
+    (&[0, 0, 0, 0, 0, 0, 100, -100], Some(0)),
+    // what two receivers hear of seven senders, of which the last is late to one and early to the other
+    (&[-190, -1, 1, -1, -1, 2, 1000], Some(0)),
+    (&[-191, 0, 1, 0, -1, 2, -1000], Some(-95)),
+];
+
+// A deviation that is stored: the place of its sync node, whether in the odd cycle, the channel, and the value. Where no
+// channel is given the table is cleared.
+type Stored = (usize, bool, Option<Channel>, i32);
+
+fn table_of(stored: &[Stored]) -> Table {
+    let mut table = Table::new();
+    for (place, odd, channel, value) in stored {
+        match channel {
+            Some(channel) => {
+                if *place < 15 {
+                    table.store(
+                        *place,
+                        *odd,
+                        *channel,
+                        (*value).clamp(-1_000_000, 1_000_000),
+                    );
+                }
+            }
+            None => table.clear(),
+        }
+    }
+    table
+}
+
+// The deviation of sync node 3 in the odd cycle on channel B; how many offset values there are, and their midpoint; and
+// the same of the rate values.
+fn listed(alloc: Global, stored: &[Stored]) -> Result<String, AllocError> {
+    let table = table_of(stored);
+    let kept = table.get(3, true, B);
+    let mut offsets = List15::new();
+    table.offset_values(None, &mut offsets);
+    let mut rates = List15::new();
+    table.rate_values(None, &mut rates);
+    let (offset_count, rate_count) = (offsets.len(), rates.len());
+    let (offset, rate) = (midpoint(&mut offsets), midpoint(&mut rates));
+    format!(in alloc; "{kept:?} {offset_count} {offset:?} {rate_count} {rate:?}")
+}
+
+const TABLES: &[(&[Stored], &str)] = &[
+    (
+        &[(3, true, Some(A), 5), (3, true, Some(B), -7)],
+        "Some(-7) 1 Some(-7) 0 None",
+    ),
+    (
+        &[
+            (3, true, Some(A), 5),
+            (3, true, Some(B), -7),
+            (0, false, None, 0),
+        ],
+        "None 0 None 0 None",
+    ),
+    (
+        &[(3, false, Some(A), 1), (3, true, Some(B), 4)],
+        "Some(4) 1 Some(4) 0 None",
+    ),
+    (
+        &[
+            (3, false, Some(A), 1),
+            (3, true, Some(B), 4),
+            (3, true, Some(A), 4),
+            (3, false, Some(B), 2),
+            (3, true, Some(B), -2),
+        ],
+        "Some(-2) 1 Some(-2) 1 Some(0)",
+    ),
+];
 
 #[test]
-fn computes_the_rows(rt: HostRuntime) {
-    for (mid, value, before, outcome) in [
-        (Some(5), 1, 1, Within),
-        (Some(4), 0, 0, Within),
-        (Some(-5), -1, -1, Within),
-        (Some(86), 81, 82, Exceeded),
-        (None, 0, 0, Missing),
-    ] {
-        let mut values = List15::new();
-        if let Some(mid) = mid {
-            values.push(mid);
-        }
-        let wanted = Term {
-            value,
-            before,
-            outcome,
-        };
-        assert_eq!(rt; rate_term(0, 4, 81, &mut values), wanted);
+fn values_are_listed_and_halved(rt: HostRuntime) -> Result<(), Fail> {
+    for (values, wanted) in MIDPOINTS {
+        assert_eq!(rt; middle_of(values), *wanted, "at {values:?}");
     }
-    let mut values = List15::new();
-    values.push(-400);
+    for (stored, wanted) in TABLES {
+        assert_eq!(rt; listed(rt.alloc(), stored)?.as_str(), *wanted);
+    }
+    Ok(())
+}
+
+// Values, and the rate term of the old term 0, a damping of 4 and a limit of 81: its value, that before the limit, and
+// the outcome.
+const RATES: &[(&[i32], i32, i32, Outcome)] = &[
+    (&[5], 1, 1, Within),
+    (&[4], 0, 0, Within),
+    (&[-5], -1, -1, Within),
+    (&[86], 81, 82, Exceeded),
+    (&[], 0, 0, Missing),
+];
+
+// Four outcomes of the offset terms, the state after each, as it is answered and as it is asked for, and the counts of
+// bad and good double cycles. All rates are within their limits.
+const STEPS: &[(&[Outcome], &str)] = &[
+    (&[Missing, Missing, Within, Within], "AA PP PP AA 0 0"),
+    (&[Missing, Missing, Missing, Missing], "AA PP PP HH 4 0"),
+    (&[Missing, Missing, Missing, Within], "AA PP PP PP 0 1"),
+    (&[Exceeded, Within, Missing, Within], "HH HH HH HH 0 0"),
+];
+
+fn letter(state: State) -> &'static str {
+    match state {
+        State::Active => "A",
+        State::Passive => "P",
+        State::Halt => "H",
+    }
+}
+
+fn stepped(alloc: Global, outcomes: &[Outcome]) -> Result<String, AllocError> {
+    let mut poc = Poc::new(PocLimits {
+        passive: 2,
+        fatal: 4,
+        halt_allowed: true,
+        to_active: 2,
+    });
+    let mut text = String::new(alloc);
+    for outcome in outcomes {
+        text.push_str(letter(poc.step(Within, *outcome)))?;
+        text.push_str(letter(poc.state()))?;
+        text.push_str(" ")?;
+    }
+    let (bad, good) = (poc.bad(), poc.good());
+    writeln!(text, "{bad} {good}")?;
+    Ok(text)
+}
+
+#[test]
+fn terms_and_states_are_those_of_the_rows(rt: HostRuntime) -> Result<(), Fail> {
+    for (values, value, before, outcome) in RATES {
+        let Term {
+            value: given,
+            before: uncut,
+            outcome: told,
+        } = rate_term(0, 4, 81, &mut list_of(values));
+        assert_eq!(rt;
+            (given, uncut, told),
+            (*value, *before, *outcome),
+            "at {values:?}"
+        );
+    }
     let wanted = Term {
         value: -316,
         before: -400,
         outcome: Exceeded,
     };
-    assert_eq!(rt; offset_term(316, &mut values), wanted);
+    assert_eq!(rt; offset_term(316, &mut list_of(&[-400])), wanted);
+    for (outcomes, wanted) in STEPS {
+        assert_eq!(rt; stepped(rt.alloc(), outcomes)?.trim_end(), *wanted);
+    }
+    Ok(())
+}
+
+// A position in ticks, and its values at a receiver with base 300 and a microtick of 1,000,100 ticks and at one
+// with base -700 and a microtick of 999,900, each rounded down.
+const PLACED: &[(i32, i32, i32)] = &[
+    (-190_000_000, -190, -191),
+    (3, -1, 0),
+    (1_700_000, 1, 1),
+    (0, -1, 0),
+    (-900_001, -1, -1),
+    (2_400_000, 2, 2),
+];
+
+fn places(one: i32, other: i32) -> [i64; 2] {
+    [300 + one as i64 * 1_000_100, -700 + other as i64 * 999_900]
+}
+
+// A seventh sender is late to one receiver and early to the other, so that one discards the position that lies
+// far off and the other keeps it: their midpoints are the last two above. The places of these lie nearly half of the
+// spread apart, and no further than the law of two receivers says.
+#[test]
+fn two_receivers_agree(rt: HostRuntime) {
+    for (position, one, other) in PLACED {
+        let position = *position as i64;
+        for place in places(*one, *other) {
+            assert!(rt;
+                position - 1_000_200 <= place && place <= position,
+                "at {position}"
+            );
+        }
+    }
+    let (spread, before, longest): (i64, i64, i64) = (192_400_000, 1_000_200, 1_000_200);
+    let most = spread + 2 * before + 2 * longest;
+    let (place, other): (i64, i64) = (300, -700 - 95 * 999_900);
+    let apart = 2 * (place - other);
+    assert!(rt; apart == 189_983_000 && apart <= most && most == 196_400_800);
+    for place in [place, other] {
+        assert!(rt; -190_000_000 - before <= place && place <= 2_400_000);
+    }
 }

@@ -1,11 +1,12 @@
-ghost use Rattle.std.specs.Prelude.{◌≤◌};
-
+// Macroticks in a cycle, the slots and their senders, and the greatest skew over all macroticks.
 use fr_base::{NodeId, NodeRow, Slot, State};
 use fr_cluster::{ParamName, Params};
 use fr_samples::params_of;
+use fr_skew::{Peak, swept, swept_through};
 use fr_time::{
     Grid, Kind, Macro, Sending, action_point, grid_of, instant, position, sender, slot_bounds,
 };
+use std::alloc::{AllocError, Global};
 use std::test::Fail;
 
 // Three static slots of two macroticks in a cycle of ten.
@@ -51,46 +52,6 @@ const ODD: Grid = Grid {
     correction: 8,
 };
 
-#[test]
-fn walks_through_the_cycle(rt: HostRuntime) {
-    let mut even = Macro::begin(&EVEN, 0, 0, false);
-    for want in [0, 2, 5, 7, 10, 12, 15, 17, 20, 22] {
-        assert_eq!(rt; even.next(), Some(want));
-    }
-    assert_eq!(rt; even.next(), None);
-    assert_eq!(rt; even.next(), None);
-    let mut odd = Macro::begin(&ODD, 0, 2, true);
-    for want in [0, 2, 5, 7, 10, 12, 15, 17, 20, 23] {
-        assert_eq!(rt; odd.next(), Some(want));
-    }
-    assert_eq!(rt; odd.next(), None);
-    assert_eq!(rt; position(&ODD, 0, 2, true, 10), 27);
-    let row = NodeRow {
-        node: NodeId(1),
-        start: 500,
-        length: 1_000_100,
-        rate: 0,
-        offset: 2,
-        state: State::Active,
-        cut: 0,
-    };
-    assert_eq!(rt; instant(&ODD, &row, true, 9), 23_002_800);
-}
-
-// Ahead and back, on both sides of the start of the offset correction, and to the end.
-#[test]
-fn goes_to_any_macrotick(rt: HostRuntime) {
-    let mut odd = Macro::begin(&ODD, 0, 2, true);
-    odd.go(9);
-    assert_eq!(rt; odd.next(), Some(23));
-    odd.go(3);
-    assert_eq!(rt; odd.next(), Some(7));
-    odd.go(4);
-    assert_eq!(rt; odd.next(), Some(10));
-    odd.go(10);
-    assert_eq!(rt; odd.next(), None);
-}
-
 // 26 microticks lie over seven macroticks, and what is left in an odd cycle, 14, over three.
 const UNEVEN: Grid = Grid {
     macros: 7,
@@ -98,39 +59,261 @@ const UNEVEN: Grid = Grid {
     correction: 4,
 };
 
-#[test]
-fn counts_what_is_computed(rt: HostRuntime) {
-    for (odd, last) in [(false, 22), (true, 23), (false, 22)] {
-        let mut walk = Macro::begin(&UNEVEN, 1, 2, odd);
-        for macrotick in 0u32..6 {
-            let at = position(&UNEVEN, 1, 2, odd, i64::from(macrotick));
-            assert_eq!(rt; walk.next(), Some(at));
+// All positions of a cycle, and what is answered behind them.
+fn walked(alloc: Global, walk: &mut Macro) -> Result<String, AllocError> {
+    let mut text = String::new(alloc);
+    for _ in 0..12 {
+        if let Some(position) = walk.next() {
+            writeln!(text, "{position}")?;
         }
-        assert_eq!(rt; walk.next(), Some(last));
-        assert_eq!(rt; walk.next(), None);
     }
+    Ok(text)
+}
+
+// The positions that are answered ahead and back, on both sides of the start of the offset correction, and at the end.
+fn gone() -> [Option<i64>; 4] {
+    let mut odd = Macro::begin(&ODD, 0, 2, true);
+    odd.go(9);
+    let ahead = odd.next();
+    odd.go(3);
+    let back = odd.next();
+    odd.go(4);
+    let behind = odd.next();
+    odd.go(10);
+    [ahead, back, behind, odd.next()]
+}
+
+// The positions of an uneven cycle, computed one by one.
+fn computed(alloc: Global, odd: bool) -> Result<String, AllocError> {
+    let mut text = String::new(alloc);
+    for macrotick in 0u32..7 {
+        let position = position(&UNEVEN, 1, 2, odd, i64::from(macrotick));
+        writeln!(text, "{position}")?;
+    }
+    Ok(text)
 }
 
 #[test]
-fn tells_slots_and_senders(rt: HostRuntime) -> Result<(), Fail> {
-    let params = params_of(rt.alloc(), NARROW, NODES)?;
-    assert_eq!(rt; grid_of(&params), ODD);
-    assert_eq!(rt; sends(&params, 1, 64), Some((1, Kind::SyncFrame)));
-    assert_eq!(rt; sends(&params, 2, 65), Some((2, Kind::SyncFrame)));
-    assert_eq!(rt; sends(&params, 3, 64), Some((1, Kind::NullFrame)));
-    assert_eq!(rt; sends(&params, 3, 65), Some((1, Kind::ValidFrame)));
-    assert_eq!(rt; sends(&params, 4, 64), None);
-    if params.natural(ParamName::gNumberOfStaticSlots) >= 3 {
-        assert_eq!(rt; action_point(&params, Slot(1)), 1);
-        assert_eq!(rt; slot_bounds(&params, Slot(3)), (4, 6));
+fn walks_through_the_cycle(rt: HostRuntime) -> Result<(), Fail> {
+    let even = walked(rt.alloc(), &mut Macro::begin(&EVEN, 0, 0, false))?;
+    let odd = walked(rt.alloc(), &mut Macro::begin(&ODD, 0, 2, true))?;
+    assert_eq!(rt; even.as_str(), "0\n2\n5\n7\n10\n12\n15\n17\n20\n22\n");
+    assert_eq!(rt; odd.as_str(), "0\n2\n5\n7\n10\n12\n15\n17\n20\n23\n");
+    assert_eq!(rt; gone(), [Some(23), Some(7), Some(10), None]);
+    Ok(())
+}
+
+#[test]
+fn counts_what_is_computed(rt: HostRuntime) -> Result<(), Fail> {
+    for (odd, last) in [(false, "22\n"), (true, "23\n")] {
+        let walked = walked(rt.alloc(), &mut Macro::begin(&UNEVEN, 1, 2, odd))?;
+        assert!(rt; walked.ends_with(last));
+        assert_eq!(rt; computed(rt.alloc(), odd)?.as_str(), walked.as_str());
     }
     Ok(())
 }
 
-fn sends(params: &Params, slot: u16, cycle: u32) -> Option<(u8, Kind)>
-    requires from { 1 ≤ slot }
-    requires to { slot ≤ 1023 }
-{
+// An odd cycle of a node whose microtick is 1,000,100 ticks.
+const ROW: NodeRow = NodeRow {
+    node: NodeId(1),
+    start: 500,
+    length: 1_000_100,
+    rate: 0,
+    offset: 2,
+    state: State::Active,
+    cut: 0,
+};
+
+// A slot, a cycle, and what is sent there.
+const SENDERS: &[(u16, u32, Option<(u8, Kind)>)] = &[
+    (1, 64, Some((1, Kind::SyncFrame))),
+    (2, 65, Some((2, Kind::SyncFrame))),
+    (3, 64, Some((1, Kind::NullFrame))),
+    (3, 65, Some((1, Kind::ValidFrame))),
+    (4, 64, None),
+];
+
+fn sent(params: &Params, slot: u16, cycle: u32) -> Option<(u8, Kind)> {
+    if slot < 1 || slot > 1023 {
+        return None;
+    }
     let Sending { node, kind } = sender(params, Slot(slot), cycle)?;
     Some((node.0, kind))
+}
+
+// The action point of slot 1, and the bounds of slot 3, where it has them.
+fn slots(params: &Params) -> Option<(i64, (i64, i64))> {
+    if params.natural(ParamName::gNumberOfStaticSlots) < 3 {
+        return None;
+    }
+    Some((action_point(params, Slot(1)), slot_bounds(params, Slot(3))))
+}
+
+#[test]
+fn tells_instants_slots_and_senders(rt: HostRuntime) -> Result<(), Fail> {
+    let params = params_of(rt.alloc(), NARROW, NODES)?;
+    for (slot, cycle, wanted) in SENDERS {
+        assert_eq!(rt; sent(&params, *slot, *cycle), *wanted);
+    }
+    assert_eq!(rt; slots(&params), Some((1, (4, 6))));
+    assert_eq!(rt; grid_of(&params), ODD);
+    assert_eq!(rt; position(&ODD, 0, 2, true, 10), 27);
+    assert_eq!(rt; instant(&ODD, &ROW, true, 9), 23_002_800);
+    Ok(())
+}
+
+const GRID: Grid = ODD;
+
+const FIRST: NodeRow = NodeRow {
+    node: NodeId(1),
+    start: 0,
+    length: 1_000_000,
+    rate: 0,
+    offset: 0,
+    state: State::Active,
+    cut: 0,
+};
+
+// Two microticks more behind the start of the offset correction.
+const SECOND: NodeRow = NodeRow {
+    node: NodeId(2),
+    start: 700_000,
+    length: 1_000_100,
+    rate: 0,
+    offset: 2,
+    state: State::Active,
+    cut: 0,
+};
+
+// 400 macroticks of ten microticks, in an odd cycle 250 of them before the start of the correction.
+const LONG: Grid = Grid {
+    macros: 400,
+    micros: 4000,
+    correction: 250,
+};
+
+// Five microticks more behind the start of the offset correction.
+const EVEN_CLOCK: NodeRow = NodeRow { offset: 5, ..FIRST };
+
+// A hundredth slower, and 13 microticks less there.
+const SLOW_CLOCK: NodeRow = NodeRow {
+    node: NodeId(2),
+    length: 1_010_000,
+    offset: -13,
+    ..FIRST
+};
+
+// A ten thousandth slower, with the same terms.
+const LATER: NodeRow = NodeRow {
+    node: NodeId(2),
+    start: 700_000,
+    length: 1_000_100,
+    ..FIRST
+};
+
+// The greatest skew, its cycle and its macrotick.
+type Place = (i64, u32, u32);
+
+// Two clocks, a cycle, the greatest skew before it, and that after it.
+const SWEEPS: &[(Clocks, u32, Option<Place>, Place)] = &[
+    // The greatest skew of an odd cycle lies behind the start of the correction, at macrotick 9: 23,702,300 ticks less
+    // 22,000,000. No skew of the cycle is above 2,702,700 ticks, that of its end, and so none above its bound of
+    // 4,202,700.
+    (Clocks::Short, 1, None, (1_702_300, 1, 9)),
+    (Clocks::Short, 1, Some((702_500, 0, 5)), (1_702_300, 1, 9)),
+    (Clocks::Short, 1, Some((4_202_700, 0, 5)), (4_202_700, 0, 5)),
+    // The clocks part by 100,000 ticks a macrotick up to the start of the correction. Behind it they draw near again,
+    // but for a microtick now and then: the greatest skew of the odd cycle is that of macrotick 273, above those of
+    // macroticks 0, 250 and 399. The stretches before macrotick 192 and behind macrotick 378 are far below it. In the
+    // even cycle, which no offset term moves, it is that of the last macrotick.
+    (Clocks::Parting, 1, None, (25_280_000, 1, 273)),
+    (
+        Clocks::Parting,
+        1,
+        Some((25_279_999, 0, 5)),
+        (25_280_000, 1, 273),
+    ),
+    (
+        Clocks::Parting,
+        1,
+        Some((25_280_000, 0, 5)),
+        (25_280_000, 0, 5),
+    ),
+    (
+        Clocks::Parting,
+        1,
+        Some((41_500_000, 0, 5)),
+        (41_500_000, 0, 5),
+    ),
+    (Clocks::Parting, 2, None, (39_900_000, 2, 399)),
+    (
+        Clocks::Parting,
+        2,
+        Some((39_900_000, 0, 5)),
+        (39_900_000, 0, 5),
+    ),
+    // Where the terms are the same the clocks part by 1,000 ticks a macrotick all along, from 700,000 ticks on.
+    (Clocks::Alike, 1, None, (1_099_000, 1, 399)),
+    (
+        Clocks::Alike,
+        1,
+        Some((1_098_999, 0, 5)),
+        (1_099_000, 1, 399),
+    ),
+    (Clocks::Alike, 1, Some((1_099_000, 0, 5)), (1_099_000, 0, 5)),
+    (Clocks::Alike, 1, Some((1_100_000, 0, 5)), (1_100_000, 0, 5)),
+];
+
+#[derive(Clone, Copy)]
+enum Clocks {
+    Short,
+    Parting,
+    Alike,
+}
+
+// The same by stretches and macrotick by macrotick.
+fn swept_both(clocks: Clocks, cycle: u32, before: Option<Peak>) -> [Option<Peak>; 2] {
+    match clocks {
+        Clocks::Short => {
+            let rows = [FIRST, SECOND];
+            [
+                swept(&GRID, cycle, &rows, before),
+                swept_through(&GRID, cycle, &rows, before),
+            ]
+        }
+        Clocks::Parting => {
+            let rows = [EVEN_CLOCK, SLOW_CLOCK];
+            [
+                swept(&LONG, cycle, &rows, before),
+                swept_through(&LONG, cycle, &rows, before),
+            ]
+        }
+        Clocks::Alike => {
+            let rows = [FIRST, LATER];
+            [
+                swept(&LONG, cycle, &rows, before),
+                swept_through(&LONG, cycle, &rows, before),
+            ]
+        }
+    }
+}
+
+fn peak(place: Place) -> Peak {
+    let (skew, cycle, macrotick) = place;
+    Peak {
+        skew,
+        cycle,
+        macrotick,
+    }
+}
+
+#[test]
+fn sweeps_by_stretches_as_macrotick_by_macrotick(rt: HostRuntime) {
+    for (clocks, cycle, before, found) in SWEEPS {
+        let found = Some(peak(*found));
+        assert_eq!(rt;
+            swept_both(*clocks, *cycle, before.map(peak)),
+            [found, found]
+        );
+    }
 }

@@ -82,8 +82,8 @@ abbrev pub step_of : PocLimits → Status → Outcome → Outcome → Status
 step_of limits status offset rate = status_after limits status status.state (worse_of offset rate)
 
 -- operation control with the step taken
-abbrev pub stepped : Control → Outcome → Outcome → Control
-stepped control offset rate = record control { status = step_of control.limits control.status offset rate }
+abbrev pub after_double : Control → Outcome → Outcome → Control
+after_double control offset rate = record control { status = step_of control.limits control.status offset rate }
 
 -- how a node stands after a list of pairs of outcomes (chapter 2), offset and rate, the earliest first
 abbrev pub control_of : PocLimits → List (Outcome × Outcome) → Status

@@ -1,5 +1,5 @@
 ghost use Rattle.std.specs.Prelude.{◌≡◌, ◌≢◌, ◌≤◌};
-ghost use Rattle.fr_poc.specs.Control.{first_status, worse_of, exceeded_from, missing_from, state_after_bad, status_after, stepped, ArePocLimits, ControlStepsAlong, EitherIsWorse};
+ghost use Rattle.fr_poc.specs.Control.{first_status, worse_of, exceeded_from, missing_from, state_after_bad, status_after, after_double, ArePocLimits, ControlStepsAlong, EitherIsWorse};
 
 use fr_base::{Outcome, State};
 use std::marker::Model;
@@ -81,7 +81,7 @@ impl Poc {
     /// Takes the step at the end of an odd cycle, by how the offset and the rate correction ended,
     /// and returns the state for the next double cycle (chapter 2, protocol operation control).
     pub fn step(&mut self, offset: Outcome, rate: Outcome) -> State
-        ensures steps { self.new ≡ stepped self.old offset rate }
+        ensures steps { self.new ≡ after_double self.old offset rate }
         ensures state { result ≡ self.new.status.state }
     {
         if matches!(self.state, State::Halt) {
@@ -141,7 +141,9 @@ impl Poc {
     // Both corrections were within their limits; the node is not halted.
     fn correct(&mut self)
         requires { self.old.status.state ≢ State.Halt }
-        ensures { self.new ≡ record self.old { status = status_after self.old.limits self.old.status self.old.status.state Outcome.Within } }
+        ensures { self.new ≡ record self.old {
+          status = status_after self.old.limits self.old.status self.old.status.state Outcome.Within;
+        } }
     {
         self.forget();
         self.good = match self.state {

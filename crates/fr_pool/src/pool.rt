@@ -10,7 +10,6 @@ use std::marker::Model;
 pub const CELL_BYTES: usize = 264;
 
 /// A region of cells of 264 bytes, taken once. Contracts see which cells are out, and the bytes of each cell.
-#[derive(Drop)]
 pub struct Pool {
     cells: Vec<[u8; CELL_BYTES]>,
     out: Vec<bool>,
@@ -26,6 +25,17 @@ impl Model for Pool {
     ghost view = { λ p. record { out = p.out.items; bytes = p.cells.items } };
 
     ghost invariant = { λ p. IsPool p.out.items p.cells.items p.lowest };
+}
+
+// One call: a derived drop is opened in each function that drops a value, and proved there.
+impl Drop for Pool {
+    fn drop(self) {
+        let Pool {
+            cells: _,
+            out: _,
+            lowest: _,
+        } = self;
+    }
 }
 
 impl Pool {

@@ -20,7 +20,7 @@ use Rattle.fr_precision.specs.Rows.{HasProperMicro}
 use Rattle.fr_precision.specs.Instants.{gap_of}
 use Rattle.fr_precision.specs.Deviations.{CountedIsDeviation, RecordedIsDeviation}
 use Rattle.fr_precision.proofs.InstantLaws.{before_correction}
-use Rattle.fr_precision.proofs.Lines.{rest_of}
+use Rattle.fr_time.proofs.Lines.{rest_of}
 use Rattle.fr_precision.proofs.OffsetLaws.{micro_lasts}
 use Rattle.fr_precision.proofs.ReceptionLaws.{ends_before, within_widest}
 

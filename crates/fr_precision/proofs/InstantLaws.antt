@@ -14,7 +14,7 @@ use Rattle.fr_bound.specs.Bounds.{lambda_of, longest_micro, pi_of}
 use Rattle.fr_bound.specs.Sync.{cycle_length_of}
 use Rattle.fr_precision.specs.Rows.{corrected_end_of, end_of, Lasts, IsDoubleCycle}
 use Rattle.fr_precision.specs.Instants.{ActionsStayNear, gap_of, LieNear, MacroticksLieBetween, MacroticksLieWithin, MacroticksStayNear, PrecisionHolds, row_in, Runs}
-use Rattle.fr_precision.proofs.Lines.{lines_between, lines_near, on_line, OnLine}
+use Rattle.fr_time.proofs.Lines.{lines_between, lines_near, on_line, OnLine}
 
 -- up to the offset correction the rule of even cycles places a macrotick
 int_lt_false : (a b : ℤ) → b ≤ℤ a → int_lt a b ≡ false

@@ -3,7 +3,6 @@ pub mod Ranges
 pub mod Moves
 pub mod Senders
 pub mod RateLaws
-pub mod Lines
 pub mod InstantLaws
 pub mod OffsetLaws
 pub mod PlacementLaws
@@ -12,3 +11,10 @@ pub mod DeviationLaws
 pub mod ReceiverLaws
 pub mod StepLaws
 pub mod Worked
+pub mod Lists
+pub mod Counting
+pub mod Parting
+pub mod Keys
+pub mod RoundSenders
+pub mod Values
+pub mod Guided

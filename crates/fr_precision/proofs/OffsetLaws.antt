@@ -25,7 +25,7 @@ use Rattle.fr_precision.specs.Instants.{gap_of}
 use Rattle.fr_precision.specs.Offsets.{CorrectedEndLiesAmong, EndsDrawTogether, EndsStayTogether, IsDeviation, IsOffsetRound, IsSending, LimitSuffices, NearAll, OffsetTermsAreUncut, OwnValueIsDeviation, ReachAll, SendersLieNear, ThirdCheckSuffices}
 use Rattle.fr_precision.proofs.Figures.{nat_le-true, times_natural}
 use Rattle.fr_precision.proofs.InstantLaws.{early_on_line, odd_start_is}
-use Rattle.fr_precision.proofs.Lines.{lines_end}
+use Rattle.fr_time.proofs.Lines.{lines_end}
 use Rattle.fr_precision.proofs.RateLaws.{half_within, limited_within, outcome_within}
 use Rattle.fr_precision.proofs.Senders.{heard_all, hears_mapped, length_mapped, lie_within, All-both, All-mapped}
 

@@ -24,7 +24,7 @@ use Rattle.fr_precision.specs.Rates.{PlacesLength}
 use Rattle.fr_precision.specs.Placement.{DifferencePlaces, HalfPlaces, IsRegular, OwnValuePlaces}
 use Rattle.fr_precision.proofs.Figures.{change_is, natural}
 use Rattle.fr_precision.proofs.InstantLaws.{before_correction, odd_start_is}
-use Rattle.fr_precision.proofs.Lines.{rest_of}
+use Rattle.fr_time.proofs.Lines.{rest_of}
 use Rattle.fr_precision.proofs.OffsetLaws.{deviation_within, micro_lasts}
 
 -- a product of two numbers within bounds

@@ -24,7 +24,7 @@ use Rattle.fr_bound.specs.Sync.{cycle_length_of}
 use Rattle.fr_precision.specs.Reception.{ArrivalsLieInSlots, IsDelay, RoomChecksSuffice}
 use Rattle.fr_precision.proofs.Figures.{nat_le-true, natural, times_natural}
 use Rattle.fr_precision.proofs.InstantLaws.{before_correction}
-use Rattle.fr_precision.proofs.Lines.{on_line, OnLine}
+use Rattle.fr_time.proofs.Lines.{on_line, OnLine}
 use Rattle.fr_precision.proofs.OffsetLaws.{shortest_from}
 
 nat_lt-true : (a b : ℕ) → nat_lt a b ≡ true → a < b

@@ -15,7 +15,7 @@ use Rattle.fr_base.specs.Within.{LieWithin}
 use Rattle.fr_precision.specs.Rows.{corrected_end_of, Sender}
 use Rattle.fr_precision.specs.Instants.{gap_of, LieNear, Runs}
 use Rattle.fr_precision.specs.Offsets.{IsSending, LimitSuffices, NearAll, ReachAll}
-use Rattle.fr_precision.specs.Receivers.{SendNear, TakesIn}
+use Rattle.fr_precision.specs.Receivers.{SendNear, TakesInRound}
 use Rattle.fr_precision.specs.Step.{AllKeepOne, AreSpread, AreSynced, ComputesTerms, DrawNear, IsAmong, IsFollowed, InSyncIsSpread, IsSpreadDouble, Member, NextIsInSync, NextIsSpread, SpreadsShrink, StaySynced, SyncIsKept, SyncOfAllIsKept, SyncShrinks, TakesPart}
 use Rattle.fr_precision.proofs.InstantLaws.{actions_stay_near, precision_holds_lem}
 use Rattle.fr_precision.proofs.OffsetLaws.{third_check_suffices}
@@ -62,7 +62,7 @@ near_of p senders starts lengths node near =
 
 -- such a node is a receiver within that reach
 pub takes_near : (p : Values) (senders : List Sender) (starts lengths reach : ℤ) (node : Member) → AreHeard p senders starts lengths reach
-    → ComputesTerms p senders node → IsNearAll p senders starts lengths node → TakesIn p senders reach lengths node
+    → ComputesTerms p senders node → IsNearAll p senders starts lengths node → TakesInRound p senders reach lengths node
 takes_near p senders starts lengths reach node heard computes near = record {
   hears = record {
     suffices = heard.limit;
@@ -113,7 +113,7 @@ sync_is_kept_lem p senders one other sane first second third synced part other_p
     (taken one part) (taken other other_part) keep_offsets keep_rates
     )
   where
-    taken : (node : Member) → TakesPart p senders node → TakesIn p senders (pos (precision_of p)) (pos (lambda_of p)) node
+    taken : (node : Member) → TakesPart p senders node → TakesInRound p senders (pos (precision_of p)) (pos (lambda_of p)) node
     taken node takes =
         takes_near p senders (pos (pi_of p)) (pos (lambda_of p)) (pos (precision_of p)) node
         (record {
@@ -222,7 +222,7 @@ are_senders p senders nodes starts lengths reach is =
         (All-contains (λ (node : Member). IsCycleLength p (cycle_length_of p node.odd)) nodes node (unmapped (λ row. IsCycleLength p (cycle_length_of p row)) (λ (node : Member). node.odd) nodes is.spread.odd_proper) here)
 
 pub takes_in : (p : Values) (senders : List Sender) (nodes : List Member) (starts lengths reach : ℤ) (node : Member) → IsSpreadDouble p senders nodes starts lengths reach
-    → Contains nodes node → TakesIn p senders reach lengths node
+    → Contains nodes node → TakesInRound p senders reach lengths node
 takes_in p senders nodes starts lengths reach node is here =
     takes_near p senders starts lengths reach node (are_senders p senders nodes starts lengths reach is).heard (All-contains (ComputesTerms p senders) nodes node is.computes here)
     (

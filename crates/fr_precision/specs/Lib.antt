@@ -8,3 +8,4 @@ pub mod Receivers
 pub mod Reception
 pub mod Rows
 pub mod Step
+pub mod Round

@@ -28,7 +28,7 @@ pub record HearsNear (p : Values) (senders : List Sender) (reach lengths : ℤ) 
   pub round : IsOffsetRound p senders row values term
 
 -- a receiver of a round, with both terms that it computes
-pub record TakesIn (p : Values) (senders : List Sender) (reach lengths : ℤ) (node : Member) : Type 0 where
+pub record TakesInRound (p : Values) (senders : List Sender) (reach lengths : ℤ) (node : Member) : Type 0 where
   pub hears : HearsNear p senders reach lengths node.odd node.offsets node.offset_term
   pub by_rate : IsRateRound p senders node.odd node.rates node.rate_term
 
@@ -38,7 +38,7 @@ ReceiversDrawNear =
     (p : Values) (senders : List Sender) (starts lengths reach : ℤ) (one other : Member)
     → IsSane p → holds_of 1 p ≡ true → holds_of 2 p ≡ true
     → SendNear p starts lengths senders → All (λ sender. IsCycleLength p (cycle_length_of p sender.odd)) senders
-    → TakesIn p senders reach lengths one → TakesIn p senders reach lengths other
+    → TakesInRound p senders reach lengths one → TakesInRound p senders reach lengths other
     → KeepOne one.offsets other.offsets senders → KeepOne one.rates other.rates senders
     → DrawNear p starts lengths one other
 
@@ -64,6 +64,6 @@ ReceiversComeNear =
     → IsSane p → holds_of 1 p ≡ true → holds_of 2 p ≡ true
     → SendNear p starts lengths senders → All (λ sender. IsCycleLength p (cycle_length_of p sender.odd)) senders
     → Shrinks p starts lengths next_starts next_lengths
-    → TakesIn p senders reach lengths one → TakesIn p senders reach lengths other
+    → TakesInRound p senders reach lengths one → TakesInRound p senders reach lengths other
     → KeepOne one.offsets other.offsets senders → KeepOne one.rates other.rates senders
     → ComeNear p next_starts next_lengths one other

@@ -1,6 +1,6 @@
 -- A run without a gap is covered: what each kind of gap would be, were it not.
-use Rattle.std.proofs.Common.{◌≡◌, ℕ, suc, ◌+◌, ◌*◌, ◌-◌, ◌<◌, ◌≤◌, ◌==◌, ℤ, pos, ◌-ℤ◌, ◌+ℤ◌, ◌≤ℤ◌, Bool, true, false, ◌&&◌, ◌||◌, Some, None, refl, ap, sym, ◌∙◌, inl, inr, arith, add-one}
-use Rattle.std.specs.Prelude.{int_lt, nat_le, neg_ℤ, not, is_none, is_some}
+use Rattle.std.proofs.Common.{◌≡◌, ℕ, suc, ◌+◌, ◌*◌, ◌-◌, ◌<◌, ◌≤◌, ◌==◌, ℤ, pos, ◌-ℤ◌, ◌+ℤ◌, ◌≤ℤ◌, Bool, true, false, ◌&&◌, ◌||◌, Some, refl, ap, sym, ◌∙◌, inl, inr, arith, add-one}
+use Rattle.std.specs.Prelude.{Contains, int_lt, nat_le, neg_ℤ}
 use Rattle.std.proofs.lemmas.Bool.{and_parts, ne_eqb, or_cases, or_parts, eqb-true}
 use Rattle.std.proofs.lemmas.Int.{ints}
 use Rattle.fr_base.specs.Event.{Event}
@@ -11,36 +11,30 @@ use Rattle.fr_cluster.specs.Values.{Values, amount}
 use Rattle.fr_cluster.specs.Sane.{IsSane}
 use Rattle.fr_cluster.specs.Questions.{has_channel}
 use Rattle.fr_cluster.specs.declared.names.ParamName.TheVariants as name
+use Rattle.fr_cluster.specs.Setting.{Setting, correct_nodes}
 use Rattle.fr_cluster.specs.declared.nodes.NodeSpec.{NodeSpec}
 use Rattle.fr_bound.specs.Bounds.{longest_micro, shortest_micro}
 use Rattle.fr_bound.specs.Checks.{holds_of, left_of, right_of}
 use Rattle.fr_midpoint.specs.Receivers.{AreFew}
 use Rattle.fr_base.specs.Within.{IsWithin}
 use Rattle.fr_precision.specs.Reception.{IsDelay}
-use Rattle.fr_drift.specs.Files.{IsRateWithin}
-use Rattle.fr_drift.specs.Questions.{delay_of, doubles_of, length_of, rate_of}
+use Rattle.fr_drift.specs.Questions.{delay_of, doubles_of, length_of}
 use Rattle.fr_drift.specs.View.{DriftView}
-use Rattle.fr_coverage.specs.Coverage.{asked_checks, asked_where, count_of, expected_delay, first_gap, has_jumped, is_counted, is_off, is_wrong, outweighs, some_join, stays_on}
+use Rattle.fr_coverage.specs.Coverage.{asked_checks, asked_where, count_of, expected_delay, has_jumped, is_off, is_wrong, outweighs, some_join}
 use Rattle.fr_script.specs.Events.{event_of}
+use Rattle.fr_coverage.specs.Order.{HasNoGap}
 use Rattle.fr_coverage.specs.Links.{is_carried, is_carried_on, is_free, is_link, is_regular, shares}
-use Rattle.fr_script.specs.View.{ScriptView, is_arbitrary, join_of}
+use Rattle.fr_script.specs.View.{ScriptView}
 use Rattle.fr_coverage.specs.declared.gap.Gap.TheVariants as gap
 use Rattle.fr_coverage.proofs.Checks.{five-asked}
-use Rattle.fr_coverage.proofs.GapParts.{found-none}
-use Rattle.fr_midpoint.proofs.Counts.{count_by-le-count_by}
-use Rattle.fr_round.specs.Round.{sync_count}
-use Rattle.fr_supplied.proofs.Covers.{more_are_few}
-use Rattle.fr_clocks.specs.Heard.{IsLinked}
-use Rattle.fr_runs.specs.Covered.{IsCarried, IsCovered, Share}
+use Rattle.fr_runs.specs.Links.{IsCarried, IsLinked, Share}
 use Rattle.fr_runs.proofs.Nodes.{correct_node, IsCorrectNode}
-use Rattle.fr_promise.specs.Files.{CoveredFilesAreCovered}
 use Rattle.fr_coverage.specs.Decided.{setting_of}
-use Rattle.fr_promise.proofs.Drifts.{rates_are_within}
 
 -- parameters of a cluster, a drift and a script without a gap
 pub record HaveNoGap (p : Values) (d : DriftView) (s : ScriptView) : Type 0 where
   pub sane : IsSane p
-  pub none : first_gap p d s ≡ None
+  pub none : HasNoGap p d s
 
 -- ---- checks and counts
 
@@ -50,7 +44,7 @@ check_holds p d s number w from to = by_test (holds_of number p) refl
     by_test : (b : Bool) → holds_of number p ≡ b → b ≡ true
     by_test true holds = refl
     by_test false fails =
-        absurd (found-none p d s (gap.Check number (pos (left_of number p)) (pos (right_of number p))) w.sane w.none (inl (record { number = number; from = from; to = to; fails = fails; told = refl })))
+        absurd (w.none (gap.Check number (pos (left_of number p)) (pos (right_of number p))) (inl (record { number = number; from = from; to = to; fails = fails; told = refl })))
 
 pub first_checks : (p : Values) (d : DriftView) (s : ScriptView) (number : ℕ) → HaveNoGap p d s → 1 ≤ number → number ≤ 5 → holds_of number p ≡ true
 first_checks p d s number w from to = let asked : 5 ≤ asked_checks p s = five-asked (some_join p s) in check_holds p d s number w from (omega (arith, to, asked))
@@ -83,21 +77,7 @@ few_nodes p d s w = few_if (count_of s false p.nodes) (count_of s true p.nodes) 
     by_test : (b : Bool) → outweighs (count_of s false p.nodes) (count_of s true p.nodes) ≡ b → b ≡ true
     by_test true holds = refl
     by_test false fails =
-        absurd (found-none p d s (gap.Count (count_of s false p.nodes) (count_of s true p.nodes)) w.sane w.none (inr (inl (record { few = fails; told = refl }))))
-
--- all correct nodes are no fewer than those that stay on
-few_correct : (p : Values) (d : DriftView) (s : ScriptView) → HaveNoGap p d s → AreFew (sync_count p (λ node. not (is_arbitrary s node))) (count_of s true p.nodes)
-few_correct p d s w =
-    more_are_few (count_of s false p.nodes) (sync_count p (λ node. not (is_arbitrary s node))) (count_of s true p.nodes)
-    (count_by-le-count_by (is_counted s false) (λ (node : NodeSpec). is_some node.key && not (is_arbitrary s node.id)) p.nodes
-    (λ node passes.
-    let both = and_parts (is_some node.key) (stays_on s node.id) passes in
-    let two = and_parts (not (is_arbitrary s node.id)) (is_none (join_of s node.id)) both.1 in
-    two_true (is_some node.key) (not (is_arbitrary s node.id)) both.0 two.0))
-    (few_nodes p d s w)
-  where
-    two_true : (key correct : Bool) → key ≡ true → correct ≡ true → (key && correct) ≡ true
-    two_true key correct a b = rw (a, b) refl
+        absurd (w.none (gap.Count (count_of s false p.nodes) (count_of s true p.nodes)) (inr (inl (record { few = fails; told = refl }))))
 
 -- ---- microticks
 
@@ -107,7 +87,7 @@ proper_micro p d s node cycle w is within = by_test (is_off p (length_of d node.
     by_test : (b : Bool) → is_off p (length_of d node.id cycle) ≡ b → b ≡ false
     by_test false fits = refl
     by_test true off =
-        absurd (found-none p d s (gap.Length node.id cycle (length_of d node.id cycle)) w.sane w.none
+        absurd (w.none (gap.Length node.id cycle (length_of d node.id cycle))
         (inr (inr (inl (record { node = node; there = is.there; correct = is.correct; cycle = cycle; within = within; off = off; told = refl })))))
 
 not_off : (p : Values) (ticks : ℤ) → is_off p ticks ≡ false → (pos (shortest_micro p) ≤ℤ ticks) × (ticks ≤ℤ pos (longest_micro p))
@@ -128,7 +108,7 @@ steady_micro p d s node cycle w is within =
     by_test : (b : Bool) → has_jumped p (length_of d node.id (suc cycle - 1)) (length_of d node.id (suc cycle)) ≡ b → b ≡ false
     by_test false fits = refl
     by_test true jumped =
-        absurd (found-none p d s (gap.Change node.id (suc cycle) (length_of d node.id (suc cycle) -ℤ length_of d node.id (suc cycle - 1))) w.sane w.none
+        absurd (w.none (gap.Change node.id (suc cycle) (length_of d node.id (suc cycle) -ℤ length_of d node.id (suc cycle - 1)))
         (inr (inr (inr (inl (record { node = node; there = is.there; correct = is.correct; cycle = suc cycle; later = omega arith; within = within; jumped = jumped; told = refl }))))))
 
 -- a number that lies within a bound of another
@@ -164,7 +144,7 @@ proper_delay p d s sender receiver slot ch cycle w link share within = by_test (
     by_test : (b : Bool) → is_wrong p ch (delay_of d sender.id receiver.id ch cycle) ≡ b → b ≡ false
     by_test false fits = refl
     by_test true wrong =
-        absurd (found-none p d s (gap.Delay sender.id receiver.id ch cycle (delay_of d sender.id receiver.id ch cycle)) w.sane w.none
+        absurd (w.none (gap.Delay sender.id receiver.id ch cycle (delay_of d sender.id receiver.id ch cycle))
         (inr (inr (inr (inr (inl (record {
           sender = sender;
           receiver = receiver;
@@ -218,7 +198,7 @@ carried p d s sender receiver slot double w link within =
     by_test : (b : Bool) → is_carried s sender receiver double ≡ b → b ≡ true
     by_test true holds = refl
     by_test false broken =
-        absurd (found-none p d s (gap.Link sender.id receiver.id double) w.sane w.none
+        absurd (w.none (gap.Link sender.id receiver.id double)
         (inr (inr (inr (inr (inr (record {
           sender = sender;
           receiver = receiver;
@@ -233,26 +213,30 @@ carried p d s sender receiver slot double w link within =
 
 -- ---- all of it
 
-pub covered_within : (p : Values) (d : DriftView) (s : ScriptView) → IsSane p → ((node : ℕ) → IsRateWithin p (rate_of d node)) → first_gap p d s ≡ None → IsCovered (setting_of p d s)
-covered_within p d s sane rates none =
-    let w : HaveNoGap p d s = record { sane = sane; none = none } in
-    record {
-      clocks = record {
-        sane = sane;
-        first = first_checks p d s 1 w (omega arith) (omega arith);
-        second = first_checks p d s 2 w (omega arith) (omega arith);
-        third = first_checks p d s 3 w (omega arith) (omega arith);
-        few = few_correct p d s w;
-        least = λ node cycle is within. (not_off p (length_of d node.id cycle) (proper_micro p d s node cycle w (correct_node (setting_of p d s) node is) within)).0;
-        most = λ node cycle is within. (not_off p (length_of d node.id cycle) (proper_micro p d s node cycle w (correct_node (setting_of p d s) node is) within)).1;
-        changes = λ node cycle is within. near (pos (amount p name.xChangeBound)) (length_of d node.id cycle) (length_of d node.id (suc cycle)) (steady_micro p d s node cycle w (correct_node (setting_of p d s) node is) within);
-      };
-      fourth = first_checks p d s 4 w (omega arith) (omega arith);
-      fifth = first_checks p d s 5 w (omega arith) (omega arith);
-      rates = λ node is. let rate : IsRateWithin p (rate_of d node.id) = rates node.id in record { low = rate.from; high = rate.to };
-      delays = λ sender receiver slot ch cycle link share within. delay_near p ch (delay_of d sender.id receiver.id ch cycle) (proper_delay p d s sender receiver slot ch cycle w link share within);
-      links = λ sender receiver slot double link within. carried p d s sender receiver slot double w link within;
-    }
+-- oscillators, delays and links of the correct nodes keep within what is stated
+pub record KeepWithin (x : Setting) : Type 0 where
+  pub least :
+      (node : NodeSpec) (cycle : ℕ) → Contains (correct_nodes x) node → cycle < 2 * x.doubles
+      → pos (shortest_micro x.params) ≤ℤ x.microtick node.id cycle
+  pub most :
+      (node : NodeSpec) (cycle : ℕ) → Contains (correct_nodes x) node → cycle < 2 * x.doubles
+      → x.microtick node.id cycle ≤ℤ pos (longest_micro x.params)
+  pub changes :
+      (node : NodeSpec) (cycle : ℕ) → Contains (correct_nodes x) node → suc cycle < 2 * x.doubles
+      → IsWithin (pos (amount x.params name.xChangeBound)) (x.microtick node.id (suc cycle) -ℤ x.microtick node.id cycle)
+  pub delays :
+      (sender receiver : NodeSpec) (slot : ℕ) (channel : Channel) (cycle : ℕ)
+      → IsLinked x sender receiver slot → Share sender receiver channel → cycle < 2 * x.doubles
+      → IsDelay x.params channel (x.delay sender.id receiver.id channel cycle)
+  pub links :
+      (sender receiver : NodeSpec) (slot double : ℕ)
+      → IsLinked x sender receiver slot → double < x.doubles → IsCarried x sender receiver double
 
-pub covered_files_are_covered : CoveredFilesAreCovered
-covered_files_are_covered p d s sane fits none = covered_within p d s sane (λ node. rates_are_within p d node sane fits) none
+pub nodes_keep_within : (p : Values) (d : DriftView) (s : ScriptView) → HaveNoGap p d s → KeepWithin (setting_of p d s)
+nodes_keep_within p d s w = record {
+  least = λ node cycle is within. (not_off p (length_of d node.id cycle) (proper_micro p d s node cycle w (correct_node (setting_of p d s) node is) within)).0;
+  most = λ node cycle is within. (not_off p (length_of d node.id cycle) (proper_micro p d s node cycle w (correct_node (setting_of p d s) node is) within)).1;
+  changes = λ node cycle is within. near (pos (amount p name.xChangeBound)) (length_of d node.id cycle) (length_of d node.id (suc cycle)) (steady_micro p d s node cycle w (correct_node (setting_of p d s) node is) within);
+  delays = λ sender receiver slot ch cycle link share within. delay_near p ch (delay_of d sender.id receiver.id ch cycle) (proper_delay p d s sender receiver slot ch cycle w link share within);
+  links = λ sender receiver slot double link within. carried p d s sender receiver slot double w link within;
+}

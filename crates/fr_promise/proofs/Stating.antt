@@ -15,21 +15,22 @@ use Rattle.fr_drift.specs.Questions.{rate_of}
 use Rattle.fr_drift.specs.View.{DriftView}
 use Rattle.fr_script.specs.Files.{ScriptFits}
 use Rattle.fr_script.specs.Events.{IsProperEvent, event_of}
-use Rattle.fr_script.specs.Promises.{JoinsProperly, NodesJoinProperly}
+use Rattle.fr_script.specs.Promises.{JoinsProperly}
 use Rattle.fr_script.specs.View.{IsScript, ScriptView, join_of}
 use Rattle.fr_script.proofs.Joining.{fits-join}
 use Rattle.fr_script.proofs.Proper.{event-proper}
-use Rattle.fr_coverage.specs.Coverage.{first_gap}
 use Rattle.fr_coverage.specs.Decided.{setting_of}
-use Rattle.fr_gathered.specs.References.{IsReference}
-use Rattle.fr_gathered.specs.Runs.{RatesBegin}
-use Rattle.fr_round.proofs.Lists.{found, kept_filtered}
-use Rattle.fr_runs.specs.Covered.{IsCovered}
+use Rattle.fr_coverage.specs.Order.{HasNoGap}
+use Rattle.fr_runs.specs.References.{IsReference}
+use Rattle.fr_runs.specs.Rounds.{RatesBegin}
+use Rattle.fr_history.specs.Cycles.{some_joins}
+use Rattle.fr_runs.proofs.Reach.{some_joins_by}
+use Rattle.fr_precision.proofs.Lists.{found, kept_filtered}
 use Rattle.fr_runs.proofs.Nodes.{correct_node, node_there}
-use Rattle.fr_supplied.specs.Supplied.{IsCoveredAsStated, StartsBegin}
-use Rattle.fr_supplied.proofs.Reception.{on_channel}
+use Rattle.fr_runs.specs.Supplied.{IsCoveredByFiles, StartsBegin}
+use Rattle.fr_runs.proofs.Exchanged.{on_channel}
 use Rattle.fr_promise.specs.Files.{CoveredFilesAreStated}
-use Rattle.fr_promise.proofs.Covering.{covered_within, few_nodes, first_checks, HaveNoGap, joining_checks}
+use Rattle.fr_promise.proofs.Covering.{HaveNoGap, few_nodes, first_checks, joining_checks, nodes_keep_within}
 use Rattle.fr_promise.proofs.Drifts.{rates_are_within}
 use Rattle.fr_promise.proofs.Starts.{starts_are_natural}
 
@@ -59,26 +60,32 @@ reference_is p d s node join proper = by_node (node_of p join.reference) refl
     by_node None is = let e = sym (ap (λ (o : Option NodeSpec). is_some o) is) ∙ proper.known_reference in absurd (cc)
     by_node (Some spec) is = by_key spec is spec.key refl
 
-pub covered_as_stated : (p : Values) (d : DriftView) (s : ScriptView) → HaveNoGap p d s → NodesJoinProperly p s → IsCovered (setting_of p d s) → IsCoveredAsStated (setting_of p d s)
-covered_as_stated p d s w proper c = record {
-  sane = w.sane;
-  checks = λ number from to. first_checks p d s number w from to;
-  join_checks = λ joins number from to. joining_checks p d s number w joins from to;
-  few = few_nodes p d s w;
-  least = c.clocks.least;
-  most = c.clocks.most;
-  changes = c.clocks.changes;
-  referenced = record {
-    references = λ node join there at. reference_is p d s node join (proper node.id join at);
-    delays =
-        λ sender receiver slot channel cycle sends hears key other by_sender by_receiver less.
-        let on = λ (node : NodeSpec) (is : Contains (correct_nodes (setting_of p d s)) node).
-        on_channel (setting_of p d s) node channel (node_there p node w.sane (correct_node (setting_of p d s) node is).there) in
-        c.delays sender receiver slot channel cycle (record { sends = sends; hears = hears; key = key; other = other })
-        (record { by_sender = sym (on sender sends) ∙ by_sender; by_receiver = sym (on receiver hears) ∙ by_receiver }) less;
-  };
-  links = c.links;
-}
+-- each correct node that joins does so properly
+abbrev CorrectJoinProperly : Values → DriftView → ScriptView → Type 0
+CorrectJoinProperly p d s = (node : NodeSpec) (join : Join) → Contains (correct_nodes (setting_of p d s)) node → join_of s node.id ≡ Some join → JoinsProperly p s node.id join
+
+pub covered_as_stated : (p : Values) (d : DriftView) (s : ScriptView) → HaveNoGap p d s → CorrectJoinProperly p d s → IsCoveredByFiles (setting_of p d s)
+covered_as_stated p d s w proper =
+    let c = nodes_keep_within p d s w in
+    record {
+      sane = w.sane;
+      checks = λ number from to. first_checks p d s number w from to;
+      join_checks = λ joins number from to. joining_checks p d s number w joins from to;
+      few = few_nodes p d s w;
+      least = c.least;
+      most = c.most;
+      changes = c.changes;
+      referenced = record {
+        references = λ node join there at. reference_is p d s node join (proper node join there at);
+        delays =
+            λ sender receiver slot channel cycle sends hears key other by_sender by_receiver less.
+            let on = λ (node : NodeSpec) (is : Contains (correct_nodes (setting_of p d s)) node).
+            on_channel (setting_of p d s) node channel (node_there p node w.sane (correct_node (setting_of p d s) node is).there) in
+            c.delays sender receiver slot channel cycle (record { sends = sends; hears = hears; key = key; other = other })
+            (record { by_sender = sym (on sender sends) ∙ by_sender; by_receiver = sym (on receiver hears) ∙ by_receiver }) less;
+      };
+      links = c.links;
+    }
 
 says_bytes : (event : Event) → IsProperEvent event → SaysBytes event
 says_bytes Regular proper = tt
@@ -93,9 +100,18 @@ is_setting p d s sane script = record {
   bytes = λ cycle sender receiver channel. says_bytes (event_of s cycle sender receiver channel) (event-proper s cycle sender receiver channel script);
 }
 
-pub files_are_covered : (p : Values) (d : DriftView) (s : ScriptView) → IsSane p → DriftFits p d → ScriptFits p s → first_gap p d s ≡ None → IsCoveredAsStated (setting_of p d s)
-files_are_covered p d s sane fits script none =
-    covered_as_stated p d s (record { sane = sane; none = none }) (fits-join p s script) (covered_within p d s sane (λ node. rates_are_within p d node sane fits) none)
+pub files_are_covered : (p : Values) (d : DriftView) (s : ScriptView) → IsSane p → ScriptFits p s → HasNoGap p d s → IsCoveredByFiles (setting_of p d s)
+files_are_covered p d s sane script none =
+    covered_as_stated p d s (record { sane = sane; none = none }) (λ node join there at. fits-join p s script node.id join at)
+
+-- so they are where no correct node joins, whatever else the script says
+pub files_are_covered_alone : (p : Values) (d : DriftView) (s : ScriptView) → IsSane p → some_joins (setting_of p d s) ≡ false → HasNoGap p d s
+    → IsCoveredByFiles (setting_of p d s)
+files_are_covered_alone p d s sane alone none =
+    covered_as_stated p d s (record { sane = sane; none = none })
+    (λ node join there at.
+    let e : false ≡ true = sym alone ∙ some_joins_by (setting_of p d s) node join there at in
+    absurd (cc))
 
 pub rates_begin : (p : Values) (d : DriftView) (s : ScriptView) → IsSane p → DriftFits p d → RatesBegin (setting_of p d s)
 rates_begin p d s sane fits node among = let rate : IsRateWithin p (rate_of d node.id) = rates_are_within p d node.id sane fits in record { low = rate.from; high = rate.to }
@@ -106,7 +122,7 @@ starts_begin p d s fits node among = starts_are_natural p d node.id fits
 pub covered_files_are_stated : CoveredFilesAreStated
 covered_files_are_stated p d s sane fits script proper none = record {
   setting = is_setting p d s sane proper;
-  covered = files_are_covered p d s sane fits script none;
+  covered = files_are_covered p d s sane script none;
   rates = rates_begin p d s sane fits;
   starts = λ joins. starts_begin p d s fits;
 }

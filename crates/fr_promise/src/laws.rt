@@ -1,27 +1,26 @@
-ghost use Rattle.fr_promise.specs.Files.{AcceptedFilesKeepPrecision, CoveredFilesAreCovered, CoveredFilesAreStated};
-ghost use Rattle.fr_promise.specs.Files.{DriftOfAFileFits, FilesKeepPrecision, GreatestSkewIsWithin};
+ghost use Rattle.fr_promise.specs.Files.{CoveredFilesAreStated, DriftOfAFileFits};
+ghost use Rattle.fr_promise.specs.Files.{FilesKeepPrecision, GreatestSkewIsWithin};
 ghost use Rattle.fr_promise.specs.Files.{RatesAreWithin, StartsAreNatural};
+ghost use Rattle.fr_promise.specs.Statement.{TheHeadline};
 
-/// A law: the clocks, delays and links of the correct nodes of sane parameters, of a drift that fits them, and of a
-/// script, are covered where the run has no gap, whoever joins.
-pub fn covered_files_are_covered()
-    ensures { CoveredFilesAreCovered }
-{}
-
-/// A law: and where the script fits them too, the run is stated as runs that nodes join are: each node that joins has
-/// a reference, and the checks of a cluster that nodes join hold where some node does.
+/// A law: where sane parameters, a drift and a script that fit them have no gap, the run is stated as runs that nodes
+/// join are: the clocks, delays and links of its correct nodes are covered, each node that joins has a reference, and
+/// the checks of a cluster that nodes join hold where some node does.
 pub fn covered_files_are_stated()
     ensures { CoveredFilesAreStated }
 {}
 
-/// The promise of a covered run: its lawful cycles keep their precision from each double cycle in sync on in which no
-/// node follows, whoever joins. No macrotick lies further apart than the precision, no term is cut, every node that has a
-/// row is active, after the last cycle too, and each node that listens in double cycle `e`, from there on, has a row in
-/// every cycle of the run from `2 e + 6` on. So it is of the drift and of the script of accepted files, from the first
-/// such double cycle on.
+/// The promise: the run that three accepted files decide, where they have no gap, keeps its precision from its first double
+/// cycle in sync on in which no node follows, whoever joins. No macrotick lies further apart than the precision, no term is
+/// cut, every node that has a row is active, after the last cycle too, and each node that listens in double cycle `e`, from
+/// there on, has a row in every cycle of the run from `2 e + 6` on.
+pub fn the_headline()
+    ensures { TheHeadline }
+{}
+
+/// A law: so it is of any parameters, drift and script that fit each other, and from each such double cycle on.
 pub fn files_keep_precision()
-    ensures files { FilesKeepPrecision }
-    ensures accepted { AcceptedFilesKeepPrecision }
+    ensures { FilesKeepPrecision }
 {}
 
 /// A law: the greatest skew of a covered run that is in sync from its first cycle on is at most the precision.

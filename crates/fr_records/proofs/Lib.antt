@@ -4,3 +4,7 @@ pub mod LeastReasons
 pub mod FormFacts
 pub mod Lookups
 pub mod Written
+pub mod Shelves
+pub mod Commands
+pub mod Plain
+pub mod Lines

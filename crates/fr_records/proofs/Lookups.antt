@@ -4,7 +4,7 @@ use Rattle.fr_base.specs.declared.reason.Reason.{Reason}
 use Rattle.std.specs.Prelude.{Result, Ok, IfOk}
 use Rattle.fr_records.specs.Records.{FileRecord}
 use Rattle.fr_records.specs.Fields.{or_else, looked_up}
-use Rattle.fr_records.specs.Takes.{Takes, TakesRecord}
+use Rattle.fr_records.specs.Takes.{TakesRecord, TakesRow}
 
 pub or_else-none : {A : Type 0} (o : Option A) → or_else o None ≡ o
 or_else-none None = refl
@@ -32,7 +32,7 @@ looked_up-more said row_of done r x e = looked_up-last (λ q. said (row_of q)) d
 
 -- what is done with a row is done with the record that says it
 pub takes-said : {Draft Row Error : Type 0} (Holds : Draft → List FileRecord → Type 0) (row_of : FileRecord → Result Row Reason) (reason : List FileRecord → Result Row Reason → Option Reason)
-    (before after : Draft) (row : Row) (result : Result (Option Reason) Error) → Takes Holds row_of reason before after row result → (r : FileRecord) → row_of r ≡ Ok row
+    (before after : Draft) (row : Row) (result : Result (Option Reason) Error) → TakesRow Holds row_of reason before after row result → (r : FileRecord) → row_of r ≡ Ok row
     → TakesRecord Holds (λ done q. reason done (row_of q)) before after r result
 takes-said {Row = Row} Holds row_of reason before after row result takes r says = record {
   why = λ done h. let P : Result Row Reason → Type 0 = λ x. IfOk result (λ why. why ≡ reason done x) in subst P (sym says) (takes.why done h);

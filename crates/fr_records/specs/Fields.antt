@@ -19,6 +19,10 @@ natural_within low high (Some (negsuc n)) = Err fault.OutOfRange
 abbrev pub natural_of : ℕ → ℕ → List ℕ → Result ℕ NumberFault
 natural_of low high text = natural_within low high (number_of text)
 
+-- how many hexadecimal digits a field has, if they are no more than a frame has; every byte counts as one
+abbrev pub hex_digits_in : List ℕ → Result ℕ NumberFault
+hex_digits_in text = if nat_lt 524 (length text) then Err fault.OutOfRange else Ok (length text)
+
 -- two numbers of one record: where one field is no number that is the fault, wherever it stands
 abbrev pub both_of : {A B : Type 0} → Result A NumberFault → Result B NumberFault → Result (A × B) NumberFault
 both_of (Ok a) (Ok b) = Ok (a, b)

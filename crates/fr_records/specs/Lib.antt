@@ -4,7 +4,15 @@ pub mod Kind
 pub mod Reader
 pub mod Refusal
 pub mod Fields
+pub mod Keys
 pub mod Tells
 pub mod Takes
 pub mod Least
 pub mod Forms
+pub mod Status
+pub mod Told
+pub mod Files
+pub mod Loading
+-- what the laws cite
+pub mod Texts
+pub mod ReadBack

@@ -5,7 +5,7 @@ use Rattle.fr_records.specs.Records.{FileRecord, records_of}
 use Rattle.fr_records.specs.Refusal.{Refusing, NoneRefused}
 
 -- of a draft that holds some records, the row that a record says is refused for its reason, or is held after them
-pub record Takes {Draft Row Error : Type 0} (Holds : Draft → List FileRecord → Type 0) (row_of : FileRecord → Result Row Reason)
+pub record TakesRow {Draft Row Error : Type 0} (Holds : Draft → List FileRecord → Type 0) (row_of : FileRecord → Result Row Reason)
     (reason : List FileRecord → Result Row Reason → Option Reason) (before after : Draft) (row : Row) (result : Result (Option Reason) Error) : Type 0 where
   pub why : (done : List FileRecord) → Holds before done → IfOk result (λ why. why ≡ reason done (Ok row))
   pub adds : (done : List FileRecord) (r : FileRecord) → Holds before done → row_of r ≡ Ok row → IfOk result (λ why. why ≡ None → Holds after (done ++ r ∷ []))

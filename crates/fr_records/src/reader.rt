@@ -11,7 +11,6 @@ use std::marker::Model;
 ///
 /// A record is what `csv` reads with no header row, with commas, without trimming and of any number of
 /// fields; a byte order mark at the start of the file is taken off.
-#[derive(Drop)]
 pub struct Records<'a> {
     reader: Reader<&'a [u8]>,
     done: bool,
@@ -28,6 +27,13 @@ impl<'a> Model for Records<'a> {
     ghost view = { λ a. left_by a.done (reader_state a.reader) (source_of (λ (s : Bor (List ℕ)). Some s.now) a.reader) };
 
     ghost invariant = { λ a. a.done ≡ false → IsReading (λ (s : Bor (List ℕ)). Some s.now) a.reader };
+}
+
+// One call: a derived drop is opened in each function that drops a value, and proved there.
+impl Drop for Records<'_> {
+    fn drop(self) {
+        let Records { reader: _, done: _ } = self;
+    }
 }
 
 impl<'a> Records<'a> {

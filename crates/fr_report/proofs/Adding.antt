@@ -5,11 +5,11 @@ use Rattle.fr_base.specs.declared.cycle_row.CycleRow.{CycleRow}
 use Rattle.fr_time.specs.Placed.{IsPlacedRow}
 use Rattle.fr_time.specs.declared.grid.Grid.{Grid}
 use Rattle.fr_cluster.specs.Setting.{Setting}
-use Rattle.fr_joined.specs.Cycles.{Cycle, Cycles}
-use Rattle.fr_joined.specs.Next.{cycles_of, next_cycle}
-use Rattle.fr_joined.specs.Sync.{is_none}
-use Rattle.fr_joined.proofs.Exists.{length-cycles_of}
-use Rattle.fr_joined.proofs.FollowedSync.{gathered_counted}
+use Rattle.fr_history.specs.Cycles.{Cycle, Cycles}
+use Rattle.fr_history.specs.Next.{cycles_of, next_cycle}
+use Rattle.fr_history.specs.Unfollowed.{is_none}
+use Rattle.fr_history.proofs.RunsExist.{length-cycles_of}
+use Rattle.fr_history.proofs.FollowedSync.{gathered_counted}
 use Rattle.fr_world.specs.World.{IsLastRowOf, IsRowOf, WorldView, followed_last, setting_after}
 use Rattle.fr_report.specs.Held.{IsRowToAdd, ReportHolds, ReportView, TellsOf}
 

@@ -5,8 +5,8 @@ use Rattle.std.specs.Option.{option_map}
 use Rattle.fr_base.specs.declared.channel.Channel.TheVariants.{A, B}
 use Rattle.fr_coverage.specs.declared.gap.Gap.{Gap}
 use Rattle.fr_cluster.specs.Setting.{Setting}
-use Rattle.fr_joined.specs.Cycles.{Cycles}
-use Rattle.fr_phrases.specs.Phrases.{precision_text, sync_text}
+use Rattle.fr_history.specs.Cycles.{Cycles}
+use Rattle.fr_coverage.specs.Phrases.{precision_text, sync_text}
 use Rattle.fr_report.specs.Text.{node_text, covered_text, cut_text, heard_text, nodes_text, greatest_line, report_of, sent_text, told_text, told_lines}
 use Rattle.fr_report.specs.Told.{run_told}
 use Rattle.fr_report.specs.declared.told.Told.{Told}

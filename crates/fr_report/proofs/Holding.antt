@@ -14,10 +14,10 @@ use Rattle.fr_history.specs.Recorded.{recorded}
 use Rattle.fr_history.specs.Skew.{IsGreatestSkew}
 use Rattle.fr_history.proofs.Gauged.{gauge_holds_more, gauge_holds_none}
 use Rattle.fr_history.proofs.Greatest.{greatest_is_found}
-use Rattle.fr_joined.specs.Cycles.{Cycle, Cycles, told_of}
-use Rattle.fr_joined.specs.Sync.{followed_of, is_none}
-use Rattle.fr_joined.proofs.FollowedSync.{followed_length, gathered_counted, gathered_greatest, gathered_synced}
-use Rattle.fr_joined.proofs.UnfollowedSync.{first_unfollowed_sync_is, never_unfollowed_sync}
+use Rattle.fr_history.specs.Cycles.{Cycle, Cycles, told_of}
+use Rattle.fr_history.specs.Unfollowed.{followed_of, is_none}
+use Rattle.fr_history.proofs.FollowedSync.{followed_length, gathered_counted, gathered_greatest, gathered_synced}
+use Rattle.fr_history.proofs.UnfollowedSync.{first_unfollowed_sync_is, never_unfollowed_sync}
 use Rattle.fr_report.specs.Held.{IsGreatestTold, IsSyncTold, ReportHolds, ReportView, TellsOf, last_odd_of, with_cycle}
 use Rattle.fr_report.specs.Sums.{cuts_of, totals_of}
 

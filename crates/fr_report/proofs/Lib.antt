@@ -3,3 +3,16 @@ pub mod Ended
 pub mod Holding
 pub mod KeySlots
 pub mod Telling
+pub mod ReportDecided
+pub mod ReportFigures
+pub mod SeriesDecided
+pub mod Requests
+pub mod Staying
+pub mod Texts
+pub mod TraceDecided
+pub mod RunDecided
+pub mod Written
+pub mod Above
+pub mod Following
+pub mod SeriesRows
+pub mod Worlds

@@ -11,13 +11,13 @@ use Rattle.fr_coverage.specs.declared.gap.Gap.{Gap}
 use Rattle.fr_time.specs.Cycles.{is_odd}
 use Rattle.fr_history.specs.History.{History, Record, row_of}
 use Rattle.fr_cluster.specs.Setting.{Setting, correct_nodes, is_correct}
-use Rattle.fr_joined.specs.Cycles.{Cycles, told_of}
-use Rattle.fr_joined.specs.Standing.{has_row}
-use Rattle.fr_joined.proofs.FollowedSync.{gathered_greatest, gathered_synced}
-use Rattle.fr_standing.specs.Views.{node_behind}
+use Rattle.fr_history.specs.Cycles.{Cycles, told_of}
+use Rattle.fr_history.specs.Standing.{has_row}
+use Rattle.fr_history.proofs.FollowedSync.{gathered_greatest, gathered_synced}
+use Rattle.fr_air.specs.Views.{node_of_next}
 use Rattle.fr_node.specs.View.{NodeView}
 use Rattle.fr_world.specs.Standing.{kept_row_nodes, nodes_kept}
-use Rattle.fr_report.specs.Clocks.{clock_behind, clock_between, last_offset_of, offset_by}
+use Rattle.fr_report.specs.Clocks.{clock_between, clock_of_next, last_offset_of, offset_by}
 use Rattle.fr_report.specs.Held.{ReportHolds, ReportView, last_odd_of}
 use Rattle.fr_report.specs.Told.{arbitrary_nodes, run_told}
 use Rattle.fr_report.specs.declared.told.Told.{Told}
@@ -34,10 +34,10 @@ last_offset_is [] node = refl
 last_offset_is (r ∷ h) node = last_offset-next r h node (is_odd (length h)) refl (last_offset_is h node)
 
 -- the clock of a node behind some cycles, by its rows
-clock_is : (x : Setting) (h : Cycles) (node : NodeSpec) → clock_between (last_odd_of (told_of h)) (node_behind x h false node.id) ≡ clock_behind x h node
+clock_is : (x : Setting) (h : Cycles) (node : NodeSpec) → clock_between (last_odd_of (told_of h)) (node_of_next x h false node.id) ≡ clock_of_next x h node
 clock_is x h node = rw (last_offset_is (told_of h) node.id) refl
 
-clocks_are : (x : Setting) (h : Cycles) (nodes : List NodeSpec) → map (clock_between (last_odd_of (told_of h))) (map (λ node. node_behind x h false node.id) nodes) ≡ map (clock_behind x h) nodes
+clocks_are : (x : Setting) (h : Cycles) (nodes : List NodeSpec) → map (clock_between (last_odd_of (told_of h))) (map (λ node. node_of_next x h false node.id) nodes) ≡ map (clock_of_next x h) nodes
 clocks_are x h [] = refl
 clocks_are x h (node ∷ nodes) = ap₂ (λ clock clocks. clock ∷ clocks) (clock_is x h node) (clocks_are x h nodes)
 
@@ -54,7 +54,7 @@ row_nodes-few x sane (c ∷ h) = omega (arith, length-kept (λ node. has_row x h
 
 pub nodes-few : (x : Setting) → IsSane x.params → (h : Cycles) (nodes : List NodeView) → nodes ≡ nodes_kept x h → length nodes ≤ 64
 nodes-few x sane h nodes are =
-    let long : length nodes ≡ length (kept_row_nodes x h) = ap length are ∙ length-map (kept_row_nodes x h) (λ node. node_behind x h false node.id) in
+    let long : length nodes ≡ length (kept_row_nodes x h) = ap length are ∙ length-map (kept_row_nodes x h) (λ node. node_of_next x h false node.id) in
     omega (arith, long, row_nodes-few x sane h)
 
 -- what is told by a report and by the nodes of a world

@@ -6,8 +6,8 @@ use Rattle.fr_time.specs.Cycles.{is_odd}
 use Rattle.fr_history.specs.History.{History, row_of}
 use Rattle.fr_cluster.specs.Setting.{Setting}
 use Rattle.fr_history.specs.Terms.{status_in}
-use Rattle.fr_joined.specs.Cycles.{Cycles, told_of}
-use Rattle.fr_joined.specs.Laws.{rate_behind, start_behind}
+use Rattle.fr_history.specs.Cycles.{Cycles, told_of}
+use Rattle.fr_history.specs.Laws.{rate_of_next, start_of_next}
 use Rattle.fr_node.specs.View.{NodeView, state_of_node}
 use Rattle.fr_report.specs.declared.clocks.Clock.{Clock}
 
@@ -22,12 +22,12 @@ last_offset_of [] node = pos 0
 last_offset_of (r ∷ h) node = if is_odd (length h) then offset_by (row_of r.rows node) else last_offset_of h node
 
 -- a node behind some cycles: the state, the start and the rate term that hold for the next one
-abbrev pub clock_behind : Setting → Cycles → NodeSpec → Clock
-clock_behind x h node = record {
+abbrev pub clock_of_next : Setting → Cycles → NodeSpec → Clock
+clock_of_next x h node = record {
   node = node.id;
   state = (status_in x.params (told_of h) node.id).state;
-  start = start_behind x h node.id;
-  rate = rate_behind x h node.id;
+  start = start_of_next x h node.id;
+  rate = rate_of_next x h node.id;
   offset = last_offset_of (told_of h) node.id;
 }
 

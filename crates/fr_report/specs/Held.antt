@@ -12,8 +12,8 @@ use Rattle.fr_history.specs.Gauged.{GaugeHolds}
 use Rattle.fr_history.specs.History.{History}
 use Rattle.fr_history.specs.Recorded.{recorded}
 use Rattle.fr_history.specs.Skew.{IsGreatestSkew}
-use Rattle.fr_joined.specs.Cycles.{Cycle, Cycles, told_of}
-use Rattle.fr_joined.specs.Sync.{IsFirstUnfollowedSync, IsUnfollowedSyncAt, followed_of, is_none}
+use Rattle.fr_history.specs.Cycles.{Cycle, Cycles, told_of}
+use Rattle.fr_history.specs.Unfollowed.{IsFirstUnfollowedSync, IsUnfollowedSyncAt, followed_of, is_none}
 use Rattle.fr_world.specs.World.{WorldView, world_cycles}
 use Rattle.fr_report.specs.Sums.{cuts_in_rows, cuts_of, totals_of}
 

@@ -11,8 +11,8 @@ use Rattle.fr_base.specs.declared.cycle_row.Counts.{Counts}
 use Rattle.fr_coverage.specs.declared.gap.Gap.{Gap}
 use Rattle.fr_coverage.specs.Coverage.{first_gap}
 use Rattle.fr_cluster.specs.Setting.{Setting}
-use Rattle.fr_joined.specs.Cycles.{Cycles}
-use Rattle.fr_phrases.specs.Phrases.{gap_text, precision_text, skew_text, sync_text}
+use Rattle.fr_history.specs.Cycles.{Cycles}
+use Rattle.fr_coverage.specs.Phrases.{gap_text, precision_text, skew_text, sync_text}
 use Rattle.fr_skew.specs.declared.peak.Peak.{Peak}
 use Rattle.fr_text.specs.Lines.{shown}
 use Rattle.fr_text.specs.Numerals.{hexadecimal}

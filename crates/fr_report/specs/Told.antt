@@ -6,10 +6,10 @@ use Rattle.fr_cluster.specs.declared.nodes.NodeSpec.{NodeSpec}
 use Rattle.fr_coverage.specs.declared.gap.Gap.{Gap}
 use Rattle.fr_cluster.specs.Setting.{Setting}
 use Rattle.fr_history.specs.Skew.{greatest_skew_of}
-use Rattle.fr_joined.specs.Cycles.{Cycles, told_of}
-use Rattle.fr_joined.specs.Sync.{first_unfollowed_sync_of}
+use Rattle.fr_history.specs.Cycles.{Cycles, told_of}
+use Rattle.fr_history.specs.Unfollowed.{first_unfollowed_sync_of}
 use Rattle.fr_world.specs.Standing.{kept_row_nodes}
-use Rattle.fr_report.specs.Clocks.{clock_behind}
+use Rattle.fr_report.specs.Clocks.{clock_of_next}
 use Rattle.fr_report.specs.Sums.{cuts_of, totals_of}
 use Rattle.fr_report.specs.declared.told.Told.{Told}
 
@@ -31,5 +31,5 @@ run_told x gap h = record {
   greatest = greatest_skew_of x.params (told_of h);
   sums = totals_of (told_of h);
   cut = cuts_of (told_of h);
-  clocks = map (clock_behind x h) (kept_row_nodes x h);
+  clocks = map (clock_of_next x h) (kept_row_nodes x h);
 }

@@ -4,7 +4,7 @@ ghost use Rattle.fr_base.specs.Device.{Puts};
 ghost use Rattle.fr_cluster.specs.Values.{Values};
 ghost use Rattle.fr_coverage.specs.Coverage.{first_gap};
 ghost use Rattle.fr_drift.specs.Questions.{doubles_of};
-ghost use Rattle.fr_joined.specs.Cycles.{Cycle, Cycles};
+ghost use Rattle.fr_history.specs.Cycles.{Cycle, Cycles};
 ghost use Rattle.fr_world.specs.World.{setting_after, world_cycles};
 ghost use Rattle.fr_report.specs.Held.{with_cycle, IsGreatestTold, IsReportOf, IsRowToAdd, IsSyncTold, ReportHolds, TellsOf};
 ghost use Rattle.fr_report.specs.Text.{report_of, world_text};

@@ -8,8 +8,7 @@ use crate::lines::{
     clock_line, covered_line, cut_line, greatest_line, heard_line, nodes_line, sent_line,
 };
 use fr_base::{Channel, Counts, PutFault, Sink};
-use fr_coverage::Gap;
-use fr_phrases::{precision_line, sync_line};
+use fr_coverage::{Gap, precision_line, sync_line};
 use fr_skew::Peak;
 use fr_text::{Line, put_lines};
 

@@ -1,31 +1,20 @@
-//! Tests of whole runs and of the program's answers. Nothing stands on this crate.
+//! Tests of whole runs and of the program's answers: `calls` tries one call, and the tables beside it are data. Nothing
+//! stands on this crate.
 #![tactic(auto)]
 
 #[cfg(test)]
-mod answers;
+mod bounds;
 #[cfg(test)]
-mod captures;
+mod calls;
 #[cfg(test)]
-mod cells;
+mod faults;
 #[cfg(test)]
-mod checks;
-#[cfg(test)]
-mod hostile;
-#[cfg(test)]
-mod made;
-#[cfg(test)]
-mod making;
-#[cfg(test)]
-mod report;
+mod frames;
 #[cfg(test)]
 mod runs;
 #[cfg(test)]
 mod series;
 #[cfg(test)]
-mod settling;
-#[cfg(test)]
 mod traces;
 #[cfg(test)]
 mod world;
-#[cfg(test)]
-mod worlds;

@@ -12,7 +12,6 @@ use Rattle.fr_base.specs.declared.state.State.TheVariants.{Active}
 use Rattle.fr_cluster.specs.Values.{Values}
 use Rattle.fr_cluster.specs.Sane.{IsSane}
 use Rattle.fr_cluster.specs.Questions.{has_channel, node_of}
-use Rattle.fr_cluster.specs.declared.names.ParamName.TheVariants as name
 use Rattle.fr_cluster.specs.declared.nodes.NodeSpec.{NodeSpec}
 use Rattle.fr_time.specs.Instant.{instant_of, action_instant, early_instant}
 use Rattle.fr_time.specs.Position.{grid_for}
@@ -24,7 +23,6 @@ use Rattle.fr_reception.specs.Answers.{ArrivesInSlot, IsStored, answer_of}
 use Rattle.fr_reception.specs.Offers.{Offer, deviation_of}
 use Rattle.fr_reception.specs.Regular.{regular_frame, regular_header, regular_payload}
 use Rattle.fr_reception.specs.declared.heard.Heard.TheVariants.{Stored}
-use Rattle.fr_reception.specs.declared.heard.Ignored.TheVariants as reason
 use Rattle.fr_reception.proofs.Answers.{answer_found}
 use Rattle.fr_reception.proofs.Early.{early}
 use Rattle.fr_reception.proofs.Frames.{regular_is_frame}
@@ -32,11 +30,10 @@ use Rattle.fr_precision.specs.Deviations.{counted_of}
 use Rattle.fr_precision.specs.Offsets.{IsDeviation}
 use Rattle.fr_precision.proofs.DeviationLaws.{counted_is_deviation}
 use Rattle.fr_precision.proofs.ReceptionLaws.{arrives_in_slot}
-use Rattle.fr_history.specs.Lawful.{uncorrected}
+use Rattle.fr_history.specs.Rows.{uncorrected}
 use Rattle.fr_history.specs.Offers.{is_on, stored_in, value_of}
 use Rattle.fr_cluster.specs.Setting.{Setting}
-use Rattle.fr_runs.specs.Covered.{Share}
-use Rattle.fr_runs.specs.Links.{AbsentIsNotStored, IsNearLink, Link, RegularIsStored, StoredIsPlaced, stored_on}
+use Rattle.fr_runs.specs.Links.{AbsentIsNotStored, IsNearLink, Link, RegularIsStored, Share, StoredIsPlaced, stored_on}
 use Rattle.fr_runs.proofs.Nodes.{IsKeySlot, key_slot_there, node_there}
 use Rattle.fr_runs.proofs.Known.{IsStoredOf, absent_offers_nothing, coming, does_send, is_deaf, offer_is, offer_with, parts_of, stored_value, whole_of}
 

@@ -10,8 +10,8 @@ use Rattle.fr_cluster.specs.Sane.{IsSane}
 use Rattle.fr_cluster.specs.declared.names.ParamName.TheVariants as name
 use Rattle.fr_cluster.specs.declared.nodes.NodeSpec.{NodeSpec}
 use Rattle.fr_reception.proofs.Answers.{answer_found}
-use Rattle.fr_history.specs.History.{AreRowsOf, row_of}
-use Rattle.fr_history.specs.Lawful.{uncorrected}
+use Rattle.fr_history.specs.History.{AreRowsOf, row_for, row_of}
+use Rattle.fr_history.specs.Rows.{uncorrected}
 use Rattle.fr_history.specs.Offers.{AreReceptionsBetween, Reception, devs_among, devs_between, stored_in}
 use Rattle.fr_cluster.specs.Setting.{Setting, correct_nodes}
 use Rattle.fr_base.specs.Rows.{dev_in}
@@ -19,8 +19,7 @@ use Rattle.fr_history.proofs.Devs.{dev_in-between}
 use Rattle.fr_history.proofs.Flat.{Among}
 use Rattle.fr_history.proofs.Found.{receptions_found}
 use Rattle.fr_history.proofs.Lists.{map-map}
-use Rattle.fr_clocks.specs.Clocks.{row_for}
-use Rattle.fr_clocks.proofs.Rows.{has_row, rows_are}
+use Rattle.fr_runs.proofs.Rows.{has_row, rows_are}
 use Rattle.fr_runs.specs.Links.{IsNearLink, Link, stored_on}
 use Rattle.fr_runs.specs.Exchange.{AbsentIsNotRecorded, Exchange, IsExchangeOf, IsExchanged, IsNearExchange, RecordedIsPlaced, RegularIsRecorded}
 use Rattle.fr_runs.proofs.Links.{absent_is_not_stored, regular_is_stored_on, stored_is_placed}

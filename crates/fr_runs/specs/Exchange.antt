@@ -17,11 +17,10 @@ use Rattle.fr_precision.specs.Instants.{gap_of}
 use Rattle.fr_precision.specs.Offsets.{IsDeviation}
 use Rattle.fr_precision.specs.Reception.{IsDelay, LeavesRoom}
 use Rattle.fr_precision.specs.Rows.{HasProperMicro}
-use Rattle.fr_history.specs.History.{AreRowsOf, row_of}
-use Rattle.fr_history.specs.Lawful.{uncorrected}
+use Rattle.fr_history.specs.History.{AreRowsOf, row_for, row_of}
+use Rattle.fr_history.specs.Rows.{uncorrected}
 use Rattle.fr_history.specs.Offers.{AreReceptionsBetween, Reception, devs_among}
-use Rattle.fr_clocks.specs.Clocks.{row_for}
-use Rattle.fr_runs.specs.Covered.{Share}
+use Rattle.fr_runs.specs.Links.{Share}
 
 -- the number of the cycle; the nodes that send, and their rows; those that receive, and theirs; and what these recorded
 pub record Exchange : Type 0 where

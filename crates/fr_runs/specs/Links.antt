@@ -1,24 +1,57 @@
 -- What a node stores of the frames of a correct sender, by the rows of both, whoever the receiver is: a node of a run, or one
 -- that only follows.
-use Rattle.std.specs.Prelude.{◌≡◌, ◌≢◌, ℕ, ℤ, pos, Bool, false, List, Contains, Option, Some, None, IsSome}
+use Rattle.std.specs.Prelude.{◌≡◌, ◌≢◌, ℕ, suc, ◌*◌, ℤ, pos, Bool, true, false, List, Contains, Option, Some, None, IsSome}
 use Rattle.fr_base.specs.Event.Event.{Regular}
 use Rattle.fr_base.specs.States.{is_halted}
 use Rattle.fr_base.specs.Within.{IsWithin}
 use Rattle.fr_base.specs.declared.channel.Channel.{Channel}
 use Rattle.fr_base.specs.declared.node_row.NodeRow.{NodeRow}
 use Rattle.fr_base.specs.declared.state.State.TheVariants.{Active}
+use Rattle.fr_cluster.specs.Questions.{has_channel}
 use Rattle.fr_cluster.specs.Sane.{IsSane}
-use Rattle.fr_cluster.specs.Setting.{Setting}
+use Rattle.fr_cluster.specs.Setting.{Setting, correct_nodes}
 use Rattle.fr_cluster.specs.declared.nodes.NodeSpec.{NodeSpec}
 use Rattle.fr_time.specs.Slots.{action_point_of}
 use Rattle.fr_precision.specs.Instants.{gap_of}
 use Rattle.fr_precision.specs.Offsets.{IsDeviation}
 use Rattle.fr_precision.specs.Reception.{IsDelay, LeavesRoom}
 use Rattle.fr_precision.specs.Rows.{HasProperMicro}
-use Rattle.fr_history.specs.History.{row_of}
-use Rattle.fr_history.specs.Lawful.{uncorrected}
+use Rattle.fr_history.specs.History.{Record, row_of}
+use Rattle.fr_history.specs.Rows.{uncorrected}
 use Rattle.fr_history.specs.Offers.{stored_in}
-use Rattle.fr_runs.specs.Covered.{Share}
+
+-- ---- two nodes
+
+-- a correct node with this key slot, and another correct node
+pub record IsLinked (x : Setting) (sender receiver : NodeSpec) (slot : ℕ) : Type 0 where
+  pub sends : Contains (correct_nodes x) sender
+  pub hears : Contains (correct_nodes x) receiver
+  pub key : sender.key ≡ Some slot
+  pub other : sender.id ≢ receiver.id
+
+-- both have the channel
+pub record Share (sender receiver : NodeSpec) (channel : Channel) : Type 0 where
+  pub by_sender : has_channel (Some sender) channel ≡ true
+  pub by_receiver : has_channel (Some receiver) channel ≡ true
+
+-- a channel that both have carries the regular frames of both cycles of a double cycle
+pub record IsCarried (x : Setting) (sender receiver : NodeSpec) (double : ℕ) : Type 0 where
+  pub channel : Channel
+  pub share : Share sender receiver channel
+  pub even : x.event (2 * double) sender.id receiver.id channel ≡ Regular
+  pub odd : x.event (suc (2 * double)) sender.id receiver.id channel ≡ Regular
+
+-- the record of one of both cycles
+abbrev pub record_in : Bool → Record → Record → Record
+record_in false even odd = even
+record_in true even odd = odd
+
+-- the number of one of both cycles
+abbrev pub cycle_in : Bool → ℕ → ℕ
+cycle_in false double = 2 * double
+cycle_in true double = suc (2 * double)
+
+-- ---- one frame
 
 -- a correct sender in its key slot, and a receiver, in a cycle: the rows with which the cycle ends at both, and the rows of
 -- all nodes that send, before their corrections

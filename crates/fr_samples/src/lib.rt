@@ -1,6 +1,7 @@
 //! The cluster of all tests: its files, and how a test changes them. Texts alone: nothing that is proved stands on them.
 #![tactic(auto)]
 
+use fr_base::NodeId;
 use fr_cluster::Params;
 use fr_params::{ParamFault, read};
 use std::alloc::{AllocError, Global};
@@ -135,30 +136,48 @@ pub fn params_of(
     }
 }
 
-/// The accepted records with a further one at a place, counted from 0.
-pub fn with_record(
-    alloc: Global,
-    records: &[&[u8]],
-    place: usize,
-    record: &[u8],
-) -> Result<Vec<u8>, AllocError> {
-    let mut bytes = Vec::new(alloc);
-    for (at, line) in records.iter().enumerate() {
-        if at == place {
-            bytes.extend_from_slice(record)?;
-            bytes.push(b'\n')?;
+/// The text with others in the place of some of its lines, which are counted from 1.
+pub fn edited(alloc: Global, text: &str, edits: &[(usize, &str)]) -> Result<String, AllocError> {
+    let mut made = String::new(alloc);
+    for (place, line) in text.lines().enumerate() {
+        let mut shown = line;
+        for (number, other) in edits {
+            if place + 1 == *number {
+                shown = other;
+            }
         }
-        bytes.extend_from_slice(line)?;
-        bytes.push(b'\n')?;
+        made.push_str(shown)?;
+        made.push('\n')?;
     }
-    if place == records.len() {
-        bytes.extend_from_slice(record)?;
-    }
-    Ok(bytes)
+    Ok(made)
 }
 
-pub fn joined(alloc: Global, head: &[u8], tail: &[u8]) -> Result<Vec<u8>, AllocError> {
-    let mut bytes = head.to_vec(alloc)?;
-    bytes.extend_from_slice(tail)?;
-    Ok(bytes)
+/// The records with a further one at a place, counted from 0.
+pub fn with_record(
+    alloc: Global,
+    records: &[&str],
+    place: usize,
+    record: &str,
+) -> Result<String, AllocError> {
+    let mut text = String::new(alloc);
+    for (at, line) in records.iter().enumerate() {
+        if at == place {
+            text.push_str(record)?;
+            text.push('\n')?;
+        }
+        text.push_str(line)?;
+        text.push('\n')?;
+    }
+    if place == records.len() {
+        text.push_str(record)?;
+    }
+    Ok(text)
+}
+
+/// The node of this number.
+pub fn node(number: u8) -> Option<NodeId> {
+    if number < 1 || 64 < number {
+        return None;
+    }
+    Some(NodeId(number))
 }

@@ -16,7 +16,7 @@ use Rattle.fr_cluster.specs.Values.{Values}
 use Rattle.fr_cluster.specs.Questions.{is_common}
 use Rattle.fr_script.specs.Deeds.{deed_in, passage_of, DeedsAscend}
 use Rattle.fr_script.specs.Rows.{IsProperDeed, IsProperSay, farthest, script_row_of}
-use Rattle.fr_script.specs.Reasons.{deed_by, deed_reason, is_misplaced, is_named, join_said, knows_both, script_reason_after, script_row_reason}
+use Rattle.fr_script.specs.Reasons.{deed_by, deed_reason, is_misplaced, is_named_in, join_said, knows_both, script_reason_after, script_row_reason}
 use Rattle.fr_script.specs.View.{AreDeeds, IsScript, ScriptView, deeds_on, is_arbitrary, join_of}
 use Rattle.fr_script.specs.Files.{ScriptFits, ScriptStandsFor}
 use Rattle.fr_script.specs.Written.{arbitrary_record, say_record}
@@ -127,7 +127,7 @@ unfolding is_arbitrary join_of
 more-deeds_a s new passage what records r e empty put h = record {
   long = h.long;
   joins_long = h.joins_long;
-  nodes = λ k below. h.nodes k below ∙ sym (is_named-more k records r _ e ∙ or-false (is_named k records));
+  nodes = λ k below. h.nodes k below ∙ sym (is_named-more k records r _ e ∙ or-false (is_named_in k records));
   joins = λ k below. h.joins k below ∙ sym (join_by-more k records r _ e ∙ or_else-none _);
   deeds = λ ch q. deeds ch q;
   ascending = λ ch. ascending ch;
@@ -147,7 +147,7 @@ unfolding is_arbitrary join_of
 more-deeds_b s new passage what records r e empty put h = record {
   long = h.long;
   joins_long = h.joins_long;
-  nodes = λ k below. h.nodes k below ∙ sym (is_named-more k records r _ e ∙ or-false (is_named k records));
+  nodes = λ k below. h.nodes k below ∙ sym (is_named-more k records r _ e ∙ or-false (is_named_in k records));
   joins = λ k below. h.joins k below ∙ sym (join_by-more k records r _ e ∙ or_else-none _);
   deeds = λ ch q. deeds ch q;
   ascending = λ ch. ascending ch;

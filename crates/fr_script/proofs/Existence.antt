@@ -22,7 +22,7 @@ use Rattle.fr_cluster.specs.Values.{Values}
 use Rattle.fr_records.specs.Fields.{is_channel, or_else, looked_up}
 use Rattle.fr_script.specs.Deeds.{DeedsAscend, deed_in, passage_cmp}
 use Rattle.fr_script.specs.Rows.{script_row_of}
-use Rattle.fr_script.specs.Reasons.{deed_by, deed_said, is_named, is_same, join_by, script_reason_after}
+use Rattle.fr_script.specs.Reasons.{deed_by, deed_said, is_named_in, is_same_passage, join_by, script_reason_after}
 use Rattle.fr_script.specs.View.{ScriptView, deeds_on, is_arbitrary, join_of}
 use Rattle.fr_script.specs.Files.{ScriptStandsFor, script_file}
 use Rattle.fr_script.specs.declared.deeds.Passage.{Passage}
@@ -94,9 +94,9 @@ neither : (b : Bool) → ◌≡◌ {A = Option Deed} (if b then None else None) 
 neither true = refl
 neither false = refl
 
-said-if : (b : Bool) (passage q : Passage) (what : Option Deed) → (if b && is_same passage q then what else None) ≡ said_by (entry_if b passage what) q
+said-if : (b : Bool) (passage q : Passage) (what : Option Deed) → (if b && is_same_passage passage q then what else None) ≡ said_by (entry_if b passage what) q
 unfolding entry_if said_by
-said-if true passage q None = neither (is_same passage q)
+said-if true passage q None = neither (is_same_passage passage q)
 said-if true passage q (Some what) =
     ap (λ (b : Bool). cond b (Some what) None) (is_same-at passage q ∙ sym ((eq_by_cmp_equiv passages_total).symm q passage))
 said-if false passage q what = refl
@@ -146,7 +146,7 @@ ascending-told ch records = ordered-keys passage_cmp (map.entries (deeds_told ch
 -- the script that records stand for
 script_told : List FileRecord → ScriptView
 script_told records = record {
-  arbitrary = answers (λ node. is_named node records) 65;
+  arbitrary = answers (λ node. is_named_in node records) 65;
   joins = answers (λ node. join_by node records) 65;
   on_a = map.entries (deeds_told channel.A records);
   on_b = map.entries (deeds_told channel.B records);
@@ -155,9 +155,9 @@ script_told records = record {
 stands-told : (records : List FileRecord) → ScriptStandsFor (script_told records) records
 unfolding script_told is_arbitrary join_of
 stands-told records = record {
-  long = length-answers (λ node. is_named node records) 65;
+  long = length-answers (λ node. is_named_in node records) 65;
   joins_long = length-answers (λ node. join_by node records) 65;
-  nodes = λ node low. get_or-answers false (λ node. is_named node records) 65 node (omega arith);
+  nodes = λ node low. get_or-answers false (λ node. is_named_in node records) 65 node (omega arith);
   joins = λ node low. get_or-answers None (λ node. join_by node records) 65 node (omega arith);
   deeds = λ ch q. deeds ch q;
   ascending = λ ch. ascending ch;

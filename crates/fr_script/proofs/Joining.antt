@@ -14,13 +14,13 @@ use Rattle.fr_base.specs.declared.reason.Reason.{Reason}
 use Rattle.fr_base.specs.declared.reason.Reason.TheVariants as reason
 use Rattle.fr_records.specs.Records.{FileRecord}
 use Rattle.fr_records.specs.Refusal.{NoneRefused}
-use Rattle.fr_records.specs.Fields.{both_of, field_of, is_blank, natural_of, natural_within, or_else, or_reason}
+use Rattle.fr_records.specs.Fields.{both_of, field_of, hex_digits_in, is_blank, natural_of, natural_within, or_else, or_reason}
 use Rattle.fr_records.proofs.Lookups.{looked_up-nil, or_else-none}
 use Rattle.fr_cluster.specs.Values.{Values}
 use Rattle.fr_cluster.specs.Questions.{is_common, node_of, own_key}
 use Rattle.fr_cluster.specs.declared.join.Join.{Join}
-use Rattle.fr_script.specs.Rows.{arbitrary_row, digits_in, flip_row, is_channel_last, is_node_alone, is_reference_last, join_in, join_row, joining, lose_row, passage_in, say_row, script_file_row, script_row_of, shift_in}
-use Rattle.fr_script.specs.Reasons.{acts, has_acted, is_named, is_reference, join_by, join_reason, join_said, knows_joining, may_not_join, names, refers, script_reason_after, script_row_reason, share_channel}
+use Rattle.fr_script.specs.Rows.{arbitrary_row, flip_row, is_channel_last, is_node_alone, is_reference_last, join_in, join_row, joining, lose_row, passage_in, say_row, script_file_row, script_row_of, shift_in}
+use Rattle.fr_script.specs.Reasons.{has_acted, is_deed_or_join, is_named_in, is_reference, join_by, join_reason, join_said, knows_joining, may_not_join, names, refers, script_reason_after, script_row_reason, share_channel}
 use Rattle.fr_script.specs.View.{ScriptView, is_arbitrary, join_of}
 use Rattle.fr_script.specs.Files.{ScriptFits}
 use Rattle.fr_script.specs.Promises.{JoinsProperly, NodesJoinProperly}
@@ -90,7 +90,7 @@ range-row r =
     range-if (length r == 7) (script_file_row r) (Err reason.Shape)
     (range-if (bytes_eq (field_of r 0) (codes "arbitrary")) (arbitrary_row r) _
     (range-if (is_node_alone r) _ (Err reason.Shape) (range-read (λ node. Ok (row.Arbitrary node)) (natural_of 1 64 (field_of r 1)) (λ node. tt)) tt)
-    (range-if (bytes_eq (field_of r 0) (codes "say")) (say_row r) _ (range-read _ (both_of (passage_in r) (both_of (shift_in r) (digits_in (field_of r 6)))) (λ numbers. tt))
+    (range-if (bytes_eq (field_of r 0) (codes "say")) (say_row r) _ (range-read _ (both_of (passage_in r) (both_of (shift_in r) (hex_digits_in (field_of r 6)))) (λ numbers. tt))
     (range-if (bytes_eq (field_of r 0) (codes "lose")) (lose_row r) _
     (range-if (is_channel_last r) _ (Err reason.Shape) (range-read _ (passage_in r) (λ passage. tt)) tt)
     (range-if (bytes_eq (field_of r 0) (codes "flip")) (flip_row r) _
@@ -107,9 +107,9 @@ range-row r =
 -- what holds after these records of a node that they let join
 record IsJoining (p : Values) (records : List FileRecord) (node : ℕ) (join : Join) : Type 0 where
   known : IsSome (node_of p node)
-  correct : is_named node records ≡ false
+  correct : is_named_in node records ≡ false
   known_reference : IsSome (node_of p join.reference)
-  correct_reference : is_named join.reference records ≡ false
+  correct_reference : is_named_in join.reference records ≡ false
   key : IsSome (own_key p join.reference)
   other : join.reference ≡ node → ⊥
   stays : join_by join.reference records ≡ None
@@ -136,7 +136,7 @@ later p before r x node join e h own reference stays = record {
   channel = h.channel;
   common = h.common;
   range = h.range;
-  acted = has_acted-more before r x e ∙ (λ i. h.acted i || acts x);
+  acted = has_acted-more before r x e ∙ (λ i. h.acted i || is_deed_or_join x);
   referred = is_reference-more join.reference before r x e ∙ (λ i. h.referred i || refers join.reference x);
 }
 
@@ -210,16 +210,16 @@ begins p before r j e none =
     let fine = fine-of (not (knows_joining p j)) (may_not_join p before j) (not (share_channel p j)) (join_by j.node before) none in
     let known = both-true (is_some (node_of p j.node)) (is_some (node_of p j.join.reference)) (not-false (knows_joining p j) fine.0) in
     let role =
-    none-true (j.node == j.join.reference) (is_named j.node before) (is_named j.join.reference before) (is_none (own_key p j.join.reference)) (is_some (join_by j.join.reference before))
+    none-true (j.node == j.join.reference) (is_named_in j.node before) (is_named_in j.join.reference before) (is_none (own_key p j.join.reference)) (is_some (join_by j.join.reference before))
     (is_reference j.node before) fine.1
     in
     let common = shared p j.node j.join.reference _ _ refl refl (not-false (share_channel p j) fine.2) in
     let stays : join_by j.join.reference before ≡ None = none-of (join_by j.join.reference before) role.4 in
     record {
       known = known.0;
-      correct = is_named-more j.node before r x e ∙ or-false (is_named j.node before) ∙ role.1;
+      correct = is_named-more j.node before r x e ∙ or-false (is_named_in j.node before) ∙ role.1;
       known_reference = known.1;
-      correct_reference = is_named-more j.join.reference before r x e ∙ or-false (is_named j.join.reference before) ∙ role.2;
+      correct_reference = is_named-more j.join.reference before r x e ∙ or-false (is_named_in j.join.reference before) ∙ role.2;
       key = some-of (own_key p j.join.reference) role.3;
       other = unequal-of j.node j.join.reference role.0;
       stays = join_by-more j.join.reference before r x e ∙ (λ i. or_else (stays i) (if role.0 i then Some j.join else None));
@@ -248,7 +248,7 @@ grows p before r all fine node join says = by (script_row_of r) refl fine
     role-of j none =
         let fine = fine-of (not (knows_joining p j)) (may_not_join p before j) (not (share_channel p j)) (join_by j.node before) none in
         let role =
-        none-true (j.node == j.join.reference) (is_named j.node before) (is_named j.join.reference before) (is_none (own_key p j.join.reference)) (is_some (join_by j.join.reference before))
+        none-true (j.node == j.join.reference) (is_named_in j.node before) (is_named_in j.join.reference before) (is_none (own_key p j.join.reference)) (is_some (join_by j.join.reference before))
         (is_reference j.node before) fine.1
         in
         role.5
@@ -270,7 +270,7 @@ grows p before r all fine node join says = by (script_row_of r) refl fine
     by : (x : Result Row Reason) → script_row_of r ≡ x → script_row_reason p before x ≡ None → IsJoining p (before ++ r ∷ []) node join
     by (Err why) e none = cc none
     by (Ok (row.Arbitrary n)) e none =
-        let quiet : has_acted before ≡ false = first-of (is_none (node_of p n)) (is_none (own_key p n)) (has_acted before) (is_named n before) none in
+        let quiet : has_acted before ≡ false = first-of (is_none (node_of p n)) (is_none (own_key p n)) (has_acted before) (is_named_in n before) none in
         let h = all node join (joined-before (Ok (row.Arbitrary n)) e refl) in
         cc (sym quiet ∙ h.acted)
     by (Ok (row.Deed d)) e none = later p before r (Ok (row.Deed d)) node join e (all node join (joined-before (Ok (row.Deed d)) e refl)) refl refl refl

@@ -12,7 +12,7 @@ use Rattle.fr_base.specs.declared.numbers.NumberFault.TheVariants as fault
 use Rattle.fr_base.specs.declared.reason.Reason.{Reason}
 use Rattle.fr_base.specs.declared.reason.Reason.TheVariants as reason
 use Rattle.fr_records.specs.Records.{FileRecord}
-use Rattle.fr_records.specs.Fields.{both_of, field_of, is_blank, natural_of, natural_within, or_reason}
+use Rattle.fr_records.specs.Fields.{both_of, field_of, hex_digits_in, is_blank, natural_of, natural_within, or_reason}
 use Rattle.fr_records.specs.Forms.{NumberField, number_field, misses_form, has_unknown_name, has_no_number, is_out_of_range, has_bad_channels}
 use Rattle.fr_records.specs.Least.{GivesLeast, IsLeastReason, row_passes}
 use Rattle.fr_records.proofs.LeastReasons.{least-first}
@@ -21,8 +21,8 @@ use Rattle.fr_cluster.specs.Values.{Values, amount}
 use Rattle.fr_cluster.specs.Sane.{IsSane}
 use Rattle.fr_cluster.specs.Questions.{is_common, node_of, own_key}
 use Rattle.fr_cluster.specs.declared.names.ParamName.TheVariants as name
-use Rattle.fr_script.specs.Rows.{arbitrary_row, deed_row, digits_in, farthest, flip_row, join_in, join_row, joining, lose_row, passage_in, passage_of_numbers, said_in, say_deed, say_row, script_file_row, script_row_of, shift_in}
-use Rattle.fr_script.specs.Reasons.{bits_of, deed_by, has_acted, is_after_frame, is_misplaced, is_named, is_say, join_by, knows_both, knows_joining, may_not_join, script_reason_after, script_row_reason, share_channel}
+use Rattle.fr_script.specs.Rows.{arbitrary_row, deed_row, farthest, flip_row, join_in, join_row, joining, lose_row, passage_in, passage_of_numbers, said_in, say_deed, say_row, script_file_row, script_row_of, shift_in}
+use Rattle.fr_script.specs.Reasons.{bits_of, deed_by, has_acted, is_after_frame, is_misplaced, is_named_in, is_say, join_by, knows_both, knows_joining, may_not_join, script_reason_after, script_row_reason, share_channel}
 use Rattle.fr_script.specs.Holding.{arbitrary_form, flip_form, join_form, is_not_hex, is_of_stranger, is_off_channel, is_second, lose_form, may_not_stand, passage_fields, say_form, script_form, script_holds}
 use Rattle.fr_script.specs.declared.deeds.Passage.{Passage}
 use Rattle.fr_script.specs.declared.deeds.Deed.{Deed}
@@ -79,7 +79,7 @@ digits-if : (b : Bool) (n : ℕ) → IsFault never false (false || not (not b)) 
 digits-if true n = (refl, refl)
 digits-if false n = (refl, refl)
 
-digits-read : (text : List ℕ) → IsRead never [] (nat_le (length text) 524) (digits_in text)
+digits-read : (text : List ℕ) → IsRead never [] (nat_le (length text) 524) (hex_digits_in text)
 digits-read text = rw (few (length text)) (digits-if (nat_lt 524 (length text)) (length text))
 
 say-before : (p : Values) (shift : ℤ) (o : Option (Option (List ℕ))) → is_after_frame p (say_deed shift o) ≡ false
@@ -91,12 +91,12 @@ unfolding far astray
 say-formed p r =
     let shift_field : NumberField = record { text = field_of r 5; low = neg_ℤ farthest; high = farthest } in
     let short = nat_le (length (field_of r 6)) 524 in
-    let rest = read-both never never (shift_field ∷ []) [] true short (shift_in r) (digits_in (field_of r 6)) (within-read (neg_ℤ farthest) farthest (field_of r 5)) (digits-read (field_of r 6)) in
+    let rest = read-both never never (shift_field ∷ []) [] true short (shift_in r) (hex_digits_in (field_of r 6)) (within-read (neg_ℤ farthest) farthest (field_of r 5)) (digits-read (field_of r 6)) in
     let all =
-    read-both never (λ (q : ℤ × ℕ). never q.0 || never q.1) (passage_fields r) (shift_field ∷ []) true short (passage_in r) (both_of (shift_in r) (digits_in (field_of r 6))) (passage-read r) rest
+    read-both never (λ (q : ℤ × ℕ). never q.0 || never q.1) (passage_fields r) (shift_field ∷ []) true short (passage_in r) (both_of (shift_in r) (hex_digits_in (field_of r 6))) (passage-read r) rest
     in
     formed-read (far p) astray (λ (q : Passage × (ℤ × ℕ)). never q.0 || (never q.1.0 || never q.1.1)) _ _ _ (λ numbers. Ok (deed_row r numbers.0 (say_deed numbers.1.0 (said_in (field_of r 6)))))
-    (both_of (passage_in r) (both_of (shift_in r) (digits_in (field_of r 6)))) all
+    (both_of (passage_in r) (both_of (shift_in r) (hex_digits_in (field_of r 6)))) all
     (λ a d o e f. (refl, refl, e, f ∙ sym (say-before p a.1.0 (said_in (field_of r 6))), spelt (channel_of (field_of r 4))))
 
 -- what is lost
@@ -198,7 +198,7 @@ least-row : (p : Values) (test : Reason → Bool) (before : List FileRecord) (x 
 unfolding far astray
 least-row p test before (Err why) f node role link hex again = least-formed (far p) astray test why f node
 least-row p test before (Ok (row.Arbitrary n)) f node role link hex again =
-    least-first test false false false false (is_none (node_of p n)) false (is_none (own_key p n) || has_acted before) false false (is_named n before) f.0 f.1 f.2 f.3 node f.4 role link hex again
+    least-first test false false false false (is_none (node_of p n)) false (is_none (own_key p n) || has_acted before) false false (is_named_in n before) f.0 f.1 f.2 f.3 node f.4 role link hex again
 least-row p test before (Ok (row.Deed d)) f node role link hex again =
     least-deed p test before d.passage d.deed d.channel f.0 f.1 f.2 f.3 node f.4 role link hex again
 least-row p test before (Ok (row.Join j)) f node role link hex again =

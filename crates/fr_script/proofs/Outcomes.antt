@@ -27,7 +27,7 @@ use Rattle.fr_cluster.specs.Questions.{node_of, own_key}
 use Rattle.fr_records.specs.Fields.{is_channel, or_else, looked_up}
 use Rattle.fr_script.specs.Deeds.{deed_in, passage_cmp, DeedsAscend, passage_of}
 use Rattle.fr_script.specs.Rows.{script_row_of}
-use Rattle.fr_script.specs.Reasons.{names, is_named, has_acted, node_reason, script_row_reason, script_reason_after, bits_of, deed_said, is_same, is_after_frame}
+use Rattle.fr_script.specs.Reasons.{names, is_named_in, has_acted, node_reason, script_row_reason, script_reason_after, bits_of, deed_said, is_same_passage, is_after_frame}
 use Rattle.fr_script.specs.View.{ScriptView, is_arbitrary, join_of, deeds_on, deed_of}
 use Rattle.fr_base.specs.Event as event
 use Rattle.fr_script.specs.Events.{event_by, event_of}
@@ -150,7 +150,7 @@ key-of false acted named None h = cc h
 key-of false acted named (Some k) h = refl
 
 named-key : (p : Values) (records : List FileRecord) (node : ℕ) → node_reason p records node ≡ None → IsSome (own_key p node)
-named-key p records node h = key-of (is_none (node_of p node)) (has_acted records) (is_named node records) (own_key p node) h
+named-key p records node h = key-of (is_none (node_of p node)) (has_acted records) (is_named_in node records) (own_key p node) h
 
 -- an arbitrary node of a script that fits has a key slot
 pub fits-key : (p : Values) (s : ScriptView) (node : ℕ) → ScriptFits p s → is_arbitrary s node ≡ true → IsSome (own_key p node)
@@ -216,7 +216,7 @@ flip-row p before ch passage bit (Ok (row.Arbitrary node)) says none = cc says
 flip-row p before ch passage bit (Ok (row.Join j)) says none = cc says
 flip-row p before ch passage bit (Err why) says none = cc says
 flip-row p before ch passage bit (Ok (row.Deed d)) says none =
-    let what = chosen (is_channel ch d.channel && is_same d.passage passage) d.deed (deed.Flip bit) says in
+    let what = chosen (is_channel ch d.channel && is_same_passage d.passage passage) d.deed (deed.Flip bit) says in
     let fits = not-refused (is_after_frame p d.deed) reason.OutOfRange _ none in
     below-not (bits_of p) bit (sym (ap (is_after_frame p) what) ∙ fits)
 

@@ -17,7 +17,7 @@ use Rattle.fr_records.specs.Fields.{is_channel, or_else, looked_up}
 use Rattle.fr_records.proofs.Lookups.{looked_up-more, looked_up-nil, or_else-none}
 use Rattle.fr_script.specs.Deeds.{deed_in, passage_cmp, DeedsAscend}
 use Rattle.fr_script.specs.Rows.{script_row_of, IsProperDeed}
-use Rattle.fr_script.specs.Reasons.{names, acts, is_same, deed_said, is_named, is_reference, has_acted, deed_by, join_by, join_said, refers}
+use Rattle.fr_script.specs.Reasons.{names, is_deed_or_join, is_same_passage, deed_said, is_named_in, is_reference, has_acted, deed_by, join_by, join_said, refers}
 use Rattle.fr_script.specs.View.{AreDeeds}
 use Rattle.fr_script.specs.Draft.{IsScriptDraft, repeated}
 use Rattle.fr_script.specs.declared.deeds.Passage.{Passage}
@@ -36,18 +36,18 @@ or-true true = refl
 or-true false = refl
 
 pub is_named-more : (node : ℕ) (done : List FileRecord) (r : FileRecord) (x : Result Row Reason) → script_row_of r ≡ x
-    → is_named node (done ++ r ∷ []) ≡ (is_named node done || names node x)
+    → is_named_in node (done ++ r ∷ []) ≡ (is_named_in node done || names node x)
 is_named-more node done r x e =
     list_any-append (λ q. names node (script_row_of q)) done (r ∷ [])
-    ∙ ap (λ (b : Bool). is_named node done || b) (or-false (names node (script_row_of r)))
-    ∙ ap (λ (y : Result Row Reason). is_named node done || names node y) e
+    ∙ ap (λ (b : Bool). is_named_in node done || b) (or-false (names node (script_row_of r)))
+    ∙ ap (λ (y : Result Row Reason). is_named_in node done || names node y) e
 
 pub has_acted-more : (done : List FileRecord) (r : FileRecord) (x : Result Row Reason) → script_row_of r ≡ x
-    → has_acted (done ++ r ∷ []) ≡ (has_acted done || acts x)
+    → has_acted (done ++ r ∷ []) ≡ (has_acted done || is_deed_or_join x)
 has_acted-more done r x e =
-    list_any-append (λ q. acts (script_row_of q)) done (r ∷ [])
-    ∙ ap (λ (b : Bool). has_acted done || b) (or-false (acts (script_row_of r)))
-    ∙ ap (λ (y : Result Row Reason). has_acted done || acts y) e
+    list_any-append (λ q. is_deed_or_join (script_row_of q)) done (r ∷ [])
+    ∙ ap (λ (b : Bool). has_acted done || b) (or-false (is_deed_or_join (script_row_of r)))
+    ∙ ap (λ (y : Result Row Reason). has_acted done || is_deed_or_join y) e
 
 pub deed_by-more : (ch : Channel) (q : Passage) (done : List FileRecord) (r : FileRecord) (x : Result Row Reason) → script_row_of r ≡ x
     → deed_by ch q (done ++ r ∷ []) ≡ or_else (deed_by ch q done) (deed_said ch q x)
@@ -161,7 +161,7 @@ draft-join d done r j h low below e none = record {
   long = h.long;
   joins_long = length-set d.joins j.node (Some j.join) ∙ h.joins_long;
   references_long = length-set d.references j.join.reference true ∙ h.references_long;
-  nodes = λ k small. h.nodes k small ∙ sym (is_named-more k done r _ e ∙ or-false (is_named k done));
+  nodes = λ k small. h.nodes k small ∙ sym (is_named-more k done r _ e ∙ or-false (is_named_in k done));
   joins = λ k small. noted d.joins j.node k j.join (λ n. join_by n done) h.joins_long low none (h.joins k small) ∙ sym (join_by-more k done r _ e);
   references = λ k small. marked d.references j.join.reference k _ h.references_long below (h.references k small) ∙ sym (is_reference-more k done r _ e);
   acted = sym (has_acted-more done r _ e ∙ or-true (has_acted done));
@@ -172,16 +172,16 @@ draft-join d done r j h low below e none = record {
 }
 
 -- passages compare alike exactly where their parts are the same
-pub is_same-at : (a b : Passage) → is_same a b ≡ is_at (passage_cmp a) b
+pub is_same-at : (a b : Passage) → is_same_passage a b ≡ is_at (passage_cmp a) b
 is_same-at a b = grind (arith, nat_tests)
 
-equal-sender : (a b : Passage) → is_same a b ≡ true → a.sender ≡ b.sender
+equal-sender : (a b : Passage) → is_same_passage a b ≡ true → a.sender ≡ b.sender
 equal-sender a b h = grind (arith, nat_tests)
 
-equal-receiver : (a b : Passage) → is_same a b ≡ true → a.receiver ≡ b.receiver
+equal-receiver : (a b : Passage) → is_same_passage a b ≡ true → a.receiver ≡ b.receiver
 equal-receiver a b h = grind (arith, nat_tests)
 
-equal-cycle : (a b : Passage) → is_same a b ≡ true → a.cycle ≡ b.cycle
+equal-cycle : (a b : Passage) → is_same_passage a b ≡ true → a.cycle ≡ b.cycle
 equal-cycle a b h = grind (arith, nat_tests)
 
 pub same-passage : (a b : Passage) → is_at (passage_cmp a) b ≡ true → a ≡ b
@@ -207,7 +207,7 @@ taken ch done r old new passage what e said before empty there q =
   where
     own : deed_said ch q (deed_line ch passage what) ≡ (if is_at (passage_cmp passage) q then Some what else None)
     own =
-        ap (λ (b : Bool). if (b && is_same passage q) then Some what else None) said
+        ap (λ (b : Bool). if (b && is_same_passage passage q) then Some what else None) said
         ∙ ap (λ (b : Bool). if b then Some what else None) (is_same-at passage q)
 
     by : (b : Bool) → is_at (passage_cmp passage) q ≡ b
@@ -227,7 +227,7 @@ pub kept : (ch on : Channel) (done : List FileRecord) (r : FileRecord) (old : Li
     → script_row_of r ≡ deed_line on passage what → is_channel ch (Some on) ≡ false
     → ((q : Passage) → deed_in old q ≡ deed_by ch q done) → (q : Passage) → deed_in old q ≡ deed_by ch q (done ++ r ∷ [])
 kept ch on done r old passage what e off before q =
-    let none : deed_said ch q (deed_line on passage what) ≡ None = ap (λ (b : Bool). if (b && is_same passage q) then Some what else None) off in
+    let none : deed_said ch q (deed_line on passage what) ≡ None = ap (λ (b : Bool). if (b && is_same_passage passage q) then Some what else None) off in
     before q ∙ sym (deed_by-more ch q done r _ e ∙ ap (λ (o : Option Deed). or_else (deed_by ch q done) o) none ∙ or_else-none (deed_by ch q done))
 
 -- deeds stay proper with one more
@@ -251,7 +251,7 @@ draft-deed_a d new done r passage what h e empty proper there ordered = record {
   long = h.long;
   joins_long = h.joins_long;
   references_long = h.references_long;
-  nodes = λ k below. h.nodes k below ∙ sym (is_named-more k done r _ e ∙ or-false (is_named k done));
+  nodes = λ k below. h.nodes k below ∙ sym (is_named-more k done r _ e ∙ or-false (is_named_in k done));
   joins = λ k below. h.joins k below ∙ sym (join_by-more k done r _ e ∙ or_else-none _);
   references = λ k below. h.references k below ∙ sym (is_reference-more k done r _ e ∙ or-false (is_reference k done));
   acted = sym (has_acted-more done r _ e ∙ or-true (has_acted done));
@@ -269,7 +269,7 @@ draft-deed_b d new done r passage what h e empty proper there ordered = record {
   long = h.long;
   joins_long = h.joins_long;
   references_long = h.references_long;
-  nodes = λ k below. h.nodes k below ∙ sym (is_named-more k done r _ e ∙ or-false (is_named k done));
+  nodes = λ k below. h.nodes k below ∙ sym (is_named-more k done r _ e ∙ or-false (is_named_in k done));
   joins = λ k below. h.joins k below ∙ sym (join_by-more k done r _ e ∙ or_else-none _);
   references = λ k below. h.references k below ∙ sym (is_reference-more k done r _ e ∙ or-false (is_reference k done));
   acted = sym (has_acted-more done r _ e ∙ or-true (has_acted done));

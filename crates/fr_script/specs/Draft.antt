@@ -4,9 +4,9 @@ use Rattle.fr_base.specs.declared.channel.Channel.TheVariants as channel
 use Rattle.fr_base.specs.declared.reason.Reason.{Reason}
 use Rattle.fr_base.specs.declared.reason.Reason.TheVariants as reason
 use Rattle.fr_records.specs.Records.{FileRecord}
-use Rattle.fr_records.specs.Takes.{Takes}
+use Rattle.fr_records.specs.Takes.{TakesRow}
 use Rattle.fr_script.specs.Deeds.{deed_in}
-use Rattle.fr_script.specs.Reasons.{is_named, is_reference, has_acted, deed_by, deed_reason, join_by, script_row_reason}
+use Rattle.fr_script.specs.Reasons.{is_named_in, is_reference, has_acted, deed_by, deed_reason, join_by, script_row_reason}
 use Rattle.fr_script.specs.Rows.{script_row_of}
 use Rattle.fr_script.specs.View.{AreDeeds}
 use Rattle.fr_script.specs.declared.deeds.Deed.{Deed}
@@ -22,7 +22,7 @@ pub record IsScriptDraft (draft : Draft) (records : List FileRecord) : Type 0 wh
   pub long : length draft.arbitrary ≡ 65
   pub joins_long : length draft.joins ≡ 65
   pub references_long : length draft.references ≡ 65
-  pub nodes : (node : ℕ) → node ≤ 64 → slice_index_or draft.arbitrary node false ≡ is_named node records
+  pub nodes : (node : ℕ) → node ≤ 64 → slice_index_or draft.arbitrary node false ≡ is_named_in node records
   pub joins : (node : ℕ) → node ≤ 64 → slice_index_or draft.joins node None ≡ join_by node records
   pub references : (node : ℕ) → node ≤ 64 → slice_index_or draft.references node false ≡ is_reference node records
   pub acted : draft.acted ≡ has_acted records
@@ -38,7 +38,7 @@ repeated there = if is_some there then Some reason.Repeated else None
 -- a row is refused for its reason, or held after the records so far; the parameters stay
 pub record TakesScriptRow {Error : Type 0} (before after : Draft) (row : Row) (result : Result (Option Reason) Error) : Type 0 where
   pub params : after.params ≡ before.params
-  pub takes : Takes IsScriptDraft script_row_of (script_row_reason before.params.now) before after row result
+  pub takes : TakesRow IsScriptDraft script_row_of (script_row_reason before.params.now) before after row result
 
 -- the same where it takes no memory
 abbrev pub TakesScriptRowAtOnce : Draft → Draft → Row → Option Reason → Type 0

@@ -6,7 +6,7 @@ use Rattle.fr_records.specs.Records.{FileRecord, records_of}
 use Rattle.fr_records.specs.Refusal.{NoneRefused, FirstRefused}
 use Rattle.fr_cluster.specs.Values.{Values}
 use Rattle.fr_script.specs.Deeds.{deed_in, DeedsAscend}
-use Rattle.fr_script.specs.Reasons.{is_named, deed_by, join_by, script_reason_after}
+use Rattle.fr_script.specs.Reasons.{is_named_in, deed_by, join_by, script_reason_after}
 use Rattle.fr_script.specs.View.{IsScript, ScriptView, is_arbitrary, join_of, deeds_on}
 use Rattle.fr_script.specs.declared.deeds.Passage.{Passage}
 use Rattle.fr_script.specs.declared.fault.ScriptFault.{ScriptFault}
@@ -17,7 +17,7 @@ use Rattle.fr_script.specs.declared.fault.ScriptFault.TheVariants as fault
 pub record ScriptStandsFor (s : ScriptView) (records : List FileRecord) : Type 0 where
   pub long : length s.arbitrary ≡ 65
   pub joins_long : length s.joins ≡ 65
-  pub nodes : (node : ℕ) → node ≤ 64 → is_arbitrary s node ≡ is_named node records
+  pub nodes : (node : ℕ) → node ≤ 64 → is_arbitrary s node ≡ is_named_in node records
   pub joins : (node : ℕ) → node ≤ 64 → join_of s node ≡ join_by node records
   pub deeds : (ch : Channel) (passage : Passage) → deed_in (deeds_on s ch) passage ≡ deed_by ch passage records
   pub ascending : (ch : Channel) → DeedsAscend (deeds_on s ch)

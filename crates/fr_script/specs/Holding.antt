@@ -12,7 +12,7 @@ use Rattle.fr_records.specs.Least.{row_passes}
 use Rattle.fr_cluster.specs.Values.{Values}
 use Rattle.fr_cluster.specs.Questions.{is_common, node_of, own_key}
 use Rattle.fr_script.specs.Rows.{farthest, script_row_of}
-use Rattle.fr_script.specs.Reasons.{bits_of, deed_by, has_acted, is_misplaced, is_named, is_say, join_by, knows_both, knows_joining, may_not_join, share_channel}
+use Rattle.fr_script.specs.Reasons.{bits_of, deed_by, has_acted, is_misplaced, is_named_in, is_say, join_by, knows_both, knows_joining, may_not_join, share_channel}
 use Rattle.fr_script.specs.declared.rows.Row.{Row}
 use Rattle.fr_script.specs.declared.rows.Row.TheVariants as row
 
@@ -110,7 +110,7 @@ is_not_hex (row.Join j) = false
 
 -- a node that is named twice; a second deed of a passage; a node that joins twice
 abbrev pub is_second : List FileRecord → Row → Bool
-is_second before (row.Arbitrary node) = is_named node before
+is_second before (row.Arbitrary node) = is_named_in node before
 is_second before (row.Deed d) = option_map_or (λ ch. is_some (deed_by ch d.passage before)) d.channel false
 is_second before (row.Join j) = is_some (join_by j.node before)
 

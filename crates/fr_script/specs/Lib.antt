@@ -13,3 +13,4 @@ pub mod Written
 pub mod Adding
 pub mod Holding
 pub mod Promises
+pub mod Told

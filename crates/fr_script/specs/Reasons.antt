@@ -29,19 +29,19 @@ names node (Ok (row.Join j)) = false
 names node (Err why) = false
 
 -- whether a row is of another kind
-abbrev pub acts : Result Row Reason → Bool
-acts (Ok (row.Arbitrary node)) = false
-acts (Ok (row.Deed d)) = true
-acts (Ok (row.Join j)) = true
-acts (Err why) = false
+abbrev pub is_deed_or_join : Result Row Reason → Bool
+is_deed_or_join (Ok (row.Arbitrary node)) = false
+is_deed_or_join (Ok (row.Deed d)) = true
+is_deed_or_join (Ok (row.Join j)) = true
+is_deed_or_join (Err why) = false
 
-abbrev pub is_same : Passage → Passage → Bool
-is_same a b = (a.sender == b.sender) && (a.receiver == b.receiver) && (a.cycle == b.cycle)
+abbrev pub is_same_passage : Passage → Passage → Bool
+is_same_passage a b = (a.sender == b.sender) && (a.receiver == b.receiver) && (a.cycle == b.cycle)
 
 -- the deed of a passage on a channel, if a row says it
 abbrev pub deed_said : Channel → Passage → Result Row Reason → Option Deed
 deed_said ch passage (Ok (row.Arbitrary node)) = None
-deed_said ch passage (Ok (row.Deed d)) = if is_channel ch d.channel && is_same d.passage passage then d.deed else None
+deed_said ch passage (Ok (row.Deed d)) = if is_channel ch d.channel && is_same_passage d.passage passage then d.deed else None
 deed_said ch passage (Ok (row.Join j)) = None
 deed_said ch passage (Err why) = None
 
@@ -59,11 +59,11 @@ refers node (Ok (row.Join j)) = j.join.reference == node
 refers node (Err why) = false
 
 -- whether the records name a node arbitrary, and whether one is of another kind
-abbrev pub is_named : ℕ → List FileRecord → Bool
-is_named node records = list_any (λ r. names node (script_row_of r)) records
+abbrev pub is_named_in : ℕ → List FileRecord → Bool
+is_named_in node records = list_any (λ r. names node (script_row_of r)) records
 
 abbrev pub has_acted : List FileRecord → Bool
-has_acted records = list_any (λ r. acts (script_row_of r)) records
+has_acted records = list_any (λ r. is_deed_or_join (script_row_of r)) records
 
 -- how a node joins the running cluster, as the records say
 abbrev pub join_by : ℕ → List FileRecord → Option Join
@@ -98,8 +98,8 @@ is_after_frame p (Some (deed.Say shift bytes)) = false
 abbrev pub is_misplaced : List FileRecord → Passage → Bool → Bool
 is_misplaced records passage says =
     (passage.sender == passage.receiver)
-    || is_named passage.receiver records
-    || (if says then not (is_named passage.sender records) else is_named passage.sender records)
+    || is_named_in passage.receiver records
+    || (if says then not (is_named_in passage.sender records) else is_named_in passage.sender records)
 
 -- whether the cluster has both nodes of a passage
 abbrev pub knows_both : Values → Passage → Bool
@@ -110,7 +110,7 @@ abbrev pub node_reason : Values → List FileRecord → ℕ → Option Reason
 node_reason p records node =
     if is_none (node_of p node) then Some reason.UnknownNode
     else if is_none (own_key p node) || has_acted records then Some reason.Role
-    else if is_named node records then Some reason.Repeated
+    else if is_named_in node records then Some reason.Repeated
     else None
 
 -- and for which a deed is not taken
@@ -138,8 +138,8 @@ knows_joining p j = is_some (node_of p j.node) && is_some (node_of p j.join.refe
 abbrev pub may_not_join : Values → List FileRecord → JoinRow → Bool
 may_not_join p records j =
     (j.node == j.join.reference)
-    || is_named j.node records
-    || is_named j.join.reference records
+    || is_named_in j.node records
+    || is_named_in j.join.reference records
     || is_none (own_key p j.join.reference)
     || is_some (join_by j.join.reference records)
     || is_reference j.node records

@@ -1,5 +1,5 @@
 -- What a record of a script says by itself.
-use Rattle.std.specs.Prelude.{ℕ, ℤ, ◌<◌, ◌≤ℤ◌, pos, neg_ℤ, ◌*◌, ◌==◌, ◌&&◌, nat_lt, Bool, List, length, Option, Some, None, IfSome, Result, Ok, Err, codes, if◌then◌else◌}
+use Rattle.std.specs.Prelude.{ℕ, ℤ, ◌<◌, ◌≤ℤ◌, pos, neg_ℤ, ◌*◌, ◌==◌, ◌&&◌, Bool, List, length, Option, Some, None, IfSome, Result, Ok, Err, codes, if◌then◌else◌}
 use Rattle.std.specs.Str.{bytes_eq}
 use Rattle.hex.specs.Hex.{decode_of}
 use Rattle.hex.specs.declared.error.FromHexError.{FromHexError}
@@ -10,7 +10,7 @@ use Rattle.fr_base.specs.declared.reason.Reason.{Reason}
 use Rattle.fr_base.specs.declared.reason.Reason.TheVariants as reason
 use Rattle.fr_records.specs.Records.{FileRecord}
 use Rattle.fr_base.specs.Channels.{channel_of}
-use Rattle.fr_records.specs.Fields.{natural_of, both_of}
+use Rattle.fr_records.specs.Fields.{both_of, hex_digits_in, natural_of}
 use Rattle.fr_records.specs.Fields.{is_blank, or_reason, field_of}
 use Rattle.fr_script.specs.Deeds.{passage_of}
 use Rattle.fr_script.specs.Said.{AreSaidBytes}
@@ -36,10 +36,6 @@ passage_of_numbers (Err fault) = Err fault
 
 abbrev pub passage_in : FileRecord → Result Passage NumberFault
 passage_in fields = passage_of_numbers (both_of (natural_of 0 199_999 (field_of fields 1)) (both_of (natural_of 1 64 (field_of fields 2)) (natural_of 1 64 (field_of fields 3))))
-
--- how many hexadecimal digits a field has, if they are no more than a frame has; every byte counts as one
-abbrev pub digits_in : List ℕ → Result ℕ NumberFault
-digits_in text = if nat_lt 524 (length text) then Err fault.OutOfRange else Ok (length text)
 
 -- what a row says of its passage
 abbrev pub deed_row : FileRecord → Passage → Option Deed → Row
@@ -73,7 +69,7 @@ shift_in fields = within (neg_ℤ farthest) farthest (number_of (field_of fields
 abbrev pub say_row : FileRecord → Result Row Reason
 say_row fields =
     or_reason (λ numbers. Ok (deed_row fields numbers.0 (say_deed numbers.1.0 (said_in (field_of fields 6)))))
-    (both_of (passage_in fields) (both_of (shift_in fields) (digits_in (field_of fields 6))))
+    (both_of (passage_in fields) (both_of (shift_in fields) (hex_digits_in (field_of fields 6))))
 
 -- the fields after a channel are empty
 abbrev pub is_channel_last : FileRecord → Bool

@@ -62,7 +62,6 @@ pub enum Deed {
 
 /// The deeds of one channel by their passage, seen as a list in ascending order: by sender, then by receiver, then by
 /// cycle.
-#[derive(Drop)]
 pub struct DeedTable {
     // What arbitrary nodes say, by cycle, sender and receiver, as far as it comes in this order.
     said: Sayings,
@@ -84,6 +83,18 @@ impl Model for DeedTable {
     ghost view = { λ a. in_order (a.rows.entries ++ a.said) };
 
     ghost invariant = { λ a. MarksSenders a.senders a.rows.entries × MarksSenders a.sayers a.said };
+}
+
+// One call: a derived drop is opened in each function that drops a value, and proved there.
+impl Drop for DeedTable {
+    fn drop(self) {
+        let DeedTable {
+            said: _,
+            rows: _,
+            sayers: _,
+            senders: _,
+        } = self;
+    }
 }
 
 // The place of a sender's mark.

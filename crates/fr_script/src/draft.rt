@@ -3,7 +3,7 @@ ghost use Rattle.fr_records.specs.Records.{FileRecord};
 ghost use Rattle.fr_cluster.specs.Questions.{is_common};
 ghost use Rattle.fr_script.specs.Rows.{IsProperDeed, IsProperScriptRow};
 ghost use Rattle.fr_base.specs.declared.reason.Reason.TheVariants as reason;
-ghost use Rattle.fr_script.specs.Reasons.{bits_of, is_after_frame, is_misplaced, is_named, is_say, knows_both, script_reason_after};
+ghost use Rattle.fr_script.specs.Reasons.{bits_of, is_after_frame, is_misplaced, is_named_in, is_say, knows_both, script_reason_after};
 ghost use Rattle.fr_script.specs.View.{IsScript};
 ghost use Rattle.fr_script.specs.Draft.{IsActOf, IsRefusedRow, IsScriptDraft, PutsAct, TakesScriptRow, TakesScriptRowAtOnce};
 ghost use Rattle.fr_script.specs.declared.rows.Row.TheVariants as said;
@@ -81,7 +81,7 @@ impl<'a> Draft<'a> {
     }
 
     pub(crate) fn is_arbitrary(&self, node: NodeId) -> bool
-        ensures { (done : List FileRecord) → IsScriptDraft self.now done → result ≡ is_named node done }
+        ensures { (done : List FileRecord) → IsScriptDraft self.now done → result ≡ is_named_in node done }
     {
         self.arbitrary[usize::from(node.0)]
     }

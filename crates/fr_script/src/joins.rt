@@ -25,7 +25,8 @@ impl<'a> Draft<'a> {
 
     // The least reason for which a node does not join.
     fn join_reason(&self, row: &JoinRow) -> Option<Reason>
-        ensures { (done : List FileRecord) → IsScriptDraft self.now done → result ≡ join_reason self.now.params.now done row.now }
+        ensures { (done : List FileRecord) → IsScriptDraft self.now done →
+            result ≡ join_reason self.now.params.now done row.now }
     {
         if !knows_joining(self.params, row) {
             return Some(Reason::UnknownNode);
@@ -45,7 +46,8 @@ impl<'a> Draft<'a> {
     // Whether a row is refused for its roles: a node joins another one, both are correct, and the reference has a key
     // slot and takes part from the first cycle on.
     fn may_not_join(&self, row: &JoinRow) -> bool
-        ensures { (done : List FileRecord) → IsScriptDraft self.now done → result ≡ may_not_join self.now.params.now done row.now }
+        ensures { (done : List FileRecord) → IsScriptDraft self.now done →
+            result ≡ may_not_join self.now.params.now done row.now }
     {
         let params = self.params;
         let reference = row.join.reference;

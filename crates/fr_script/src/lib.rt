@@ -12,6 +12,7 @@ mod reading;
 mod rows;
 mod sayings;
 mod script;
+mod told;
 mod typed;
 
 pub use fault::ScriptFault;

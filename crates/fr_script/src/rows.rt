@@ -1,8 +1,8 @@
 ghost use Rattle.std.specs.Prelude.{◌≡◌, ◌≤◌, ◌<◌, length, IfOk, IfSome, pos, neg_ℤ, ◌≤ℤ◌};
 ghost use Rattle.csv.specs.Records.{fields_of};
-ghost use Rattle.fr_records.specs.Fields.{field_of, is_blank};
+ghost use Rattle.fr_records.specs.Fields.{field_of, hex_digits_in, is_blank};
 ghost use Rattle.fr_script.specs.Said.{AreSaidBytes};
-ghost use Rattle.fr_script.specs.Rows.{IsProperDeed, IsProperScriptRow, arbitrary_row, deed_row, digits_in, farthest, flip_row, is_channel_last, is_node_alone, is_reference_last, join_in, join_row, script_file_row, lose_row, passage_in, script_row_of, said_in, say_deed, say_row, shift_in};
+ghost use Rattle.fr_script.specs.Rows.{IsProperDeed, IsProperScriptRow, arbitrary_row, deed_row, farthest, flip_row, is_channel_last, is_node_alone, is_reference_last, join_in, join_row, script_file_row, lose_row, passage_in, script_row_of, said_in, say_deed, say_row, shift_in};
 
 use crate::deeds::{Deed, Passage, SaidBytes};
 use csv::ByteRecord;
@@ -226,7 +226,7 @@ fn read_shift(row: &ByteRecord) -> Result<i64, NumberFault>
 }
 
 fn few_digits(text: &[u8]) -> Result<usize, NumberFault>
-    ensures { result ≡ digits_in text.now }
+    ensures { result ≡ hex_digits_in text.now }
 {
     if text.len() > MOST_DIGITS {
         return Err(NumberFault::OutOfRange);

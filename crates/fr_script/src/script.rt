@@ -25,7 +25,6 @@ pub enum Event<'a> {
 }
 
 /// The faults of a run and the nodes that join it, as an accepted script says them.
-#[derive(Drop)]
 pub struct Script {
     pub(crate) arbitrary: [bool; 65],
     pub(crate) joins: [Option<Join>; 65],
@@ -43,6 +42,18 @@ impl Model for Script {
     ghost view = { seen_of };
 
     ghost invariant = { λ a. IsScript (seen_of a) };
+}
+
+// One call: a derived drop is opened in each function that drops a value, and proved there.
+impl Drop for Script {
+    fn drop(self) {
+        let Script {
+            arbitrary: _,
+            joins: _,
+            on_a: _,
+            on_b: _,
+        } = self;
+    }
 }
 
 impl Script {

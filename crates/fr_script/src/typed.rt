@@ -53,7 +53,8 @@ impl Script {
         requires proper { IsProperSay shift None }
         requires limited { cycle ≤ 199_999 }
         requires taken { TakesScriptRecord params.now self.old (say_record cycle sender receiver channel shift) }
-        ensures { AddsScriptRecord params.now self.old self.new (say_record cycle sender receiver channel shift) result }
+        ensures { AddsScriptRecord params.now self.old self.new
+            (say_record cycle sender receiver channel shift) result }
     {
         let passage = Passage {
             sender,

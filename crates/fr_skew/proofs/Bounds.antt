@@ -15,7 +15,7 @@ use Rattle.fr_time.specs.Position.{corrected_micros, even_position, floor_of}
 use Rattle.fr_time.specs.declared.grid.Grid.{Grid}
 use Rattle.fr_time.proofs.Ends.{corrected_micros_from, even_end, start}
 use Rattle.fr_time.proofs.Floors.{share_of_all}
-use Rattle.fr_precision.proofs.Lines.{lines_between, on_line, OnLine}
+use Rattle.fr_time.proofs.Lines.{lines_between, on_line, OnLine}
 use Rattle.fr_skew.specs.Spreads.{running, spread_at, spread_of}
 use Rattle.fr_skew.proofs.Differences.{spread_from, within_by_spread}
 

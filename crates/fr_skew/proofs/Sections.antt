@@ -13,7 +13,7 @@ use Rattle.fr_time.specs.Position.{corrected_micros, floor_of}
 use Rattle.fr_time.specs.declared.grid.Grid.{Grid}
 use Rattle.fr_time.proofs.Ends.{corrected_micros_from}
 use Rattle.fr_time.proofs.Floors.{share_of_none}
-use Rattle.fr_precision.proofs.Lines.{on_line, OnLine}
+use Rattle.fr_time.proofs.Lines.{on_line, OnLine}
 use Rattle.fr_skew.specs.Spreads.{running, spread_at}
 use Rattle.fr_skew.specs.Stretches.{IsStretch}
 use Rattle.fr_skew.proofs.Bounds.{apart_at, before_correction, even_line, late_line, most, pair_apart, spread_of_pairs}

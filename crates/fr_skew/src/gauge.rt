@@ -83,7 +83,8 @@ impl Gauge {
     fn synced_after(&self, rows: &RowList, following: bool) -> Option<u32>
         requires rows { All IsTimed rows.now }
         ensures { result ≡
-            next_sync self.now.bounds self.now.added self.now.even self.now.followed rows.now following self.now.synced }
+            next_sync self.now.bounds self.now.added self.now.even self.now.followed rows.now following
+            self.now.synced }
     {
         if self.synced.is_none()
             && is_odd(self.added)

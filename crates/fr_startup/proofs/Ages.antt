@@ -6,7 +6,7 @@ use Rattle.std.proofs.lemmas.Bool.Decides.{nat_tests}
 use Rattle.fr_cluster.specs.Values.{Values}
 use Rattle.fr_cluster.specs.Sane.{IsSane}
 use Rattle.fr_startup.specs.Node.{heard, is_turn, resolved, sends, sent, switched}
-use Rattle.fr_startup.specs.Cluster.{Switches, action_of, cycle_of, is_hearing, is_sending, is_starter, moved_states, ready_states, states_at, stepped}
+use Rattle.fr_startup.specs.Cluster.{Switches, action_of, after_macrotick, is_hearing, is_sending, is_starter, macroticks_of_cycle, moved_states, ready_states, states_at}
 use Rattle.fr_startup.specs.Laws.{AreConnected, IsNumber, SwitchesStarters}
 use Rattle.fr_startup.specs.declared.state.ColdState.{ColdState}
 use Rattle.fr_startup.specs.declared.state.ColdState.TheVariants as state
@@ -25,17 +25,17 @@ hears_at p switches t i = is_hearing p t (ready_states p switches t (states_at p
 module _ (p : Values) (switches : Switches) where
   -- a macrotick by parts, where the switch and the state before are known
   pub ready-as : (t i : ℕ) (o : Option Switch) (s : ColdState) → switches t i ≡ o → states_at p switches t i ≡ s
-      → ready_states p switches t (states_at p switches t) i ≡ resolved (cycle_of p) t (switched o t s)
+      → ready_states p switches t (states_at p switches t) i ≡ resolved (macroticks_of_cycle p) t (switched o t s)
   unfolding ready_states
   ready-as t i o s eo es = rw (eo, es) refl
 
-  pub sends-as : (t i : ℕ) (r : ColdState) → ready_states p switches t (states_at p switches t) i ≡ r → sends_at p switches t i ≡ sends (cycle_of p) (action_of p i) t r
+  pub sends-as : (t i : ℕ) (r : ColdState) → ready_states p switches t (states_at p switches t) i ≡ r → sends_at p switches t i ≡ sends (macroticks_of_cycle p) (action_of p i) t r
   unfolding is_sending
-  sends-as t i r e = ap (λ (s : ColdState). sends (cycle_of p) (action_of p i) t s) e
+  sends-as t i r e = ap (λ (s : ColdState). sends (macroticks_of_cycle p) (action_of p i) t s) e
 
   pub next-as : (t i : ℕ) (r : ColdState) (hears : Bool) → ready_states p switches t (states_at p switches t) i ≡ r → hears_at p switches t i ≡ hears
-      → states_at p switches (suc t) i ≡ heard hears t (sent (cycle_of p) t r)
-  unfolding states_at stepped moved_states
+      → states_at p switches (suc t) i ≡ heard hears t (sent (macroticks_of_cycle p) t r)
+  unfolding states_at after_macrotick moved_states
   next-as t i r hears e h = rw (e, h) refl
 
   pub starts-off : (i : ℕ) → states_at p switches 0 i ≡ state.Off
@@ -72,16 +72,16 @@ module _ (p : Values) (switches : Switches) where
   -- one did too; and when it sent itself
   pub record IsAged (i begun t : ℕ) : Type 0 where
     pub before : begun < t
-    pub silent : (x j : ℕ) → begun < x + 2 * cycle_of p → x < begun → IsNumber j → sends_at p switches x j ≡ false
-    pub joins : (x j : ℕ) → begun ≤ x → x < t → x ≤ begun + 4 * cycle_of p → IsNumber j → sends_at p switches x j ≡ true → sends_at p switches x i ≡ true
-    pub own : (x : ℕ) → begun ≤ x → x < t → sends_at p switches x i ≡ ((x == begun) || is_turn (begun + 1 + action_of p i) (cycle_of p) x)
+    pub silent : (x j : ℕ) → begun < x + 2 * macroticks_of_cycle p → x < begun → IsNumber j → sends_at p switches x j ≡ false
+    pub joins : (x j : ℕ) → begun ≤ x → x < t → x ≤ begun + 4 * macroticks_of_cycle p → IsNumber j → sends_at p switches x j ≡ true → sends_at p switches x i ≡ true
+    pub own : (x : ℕ) → begun ≤ x → x < t → sends_at p switches x i ≡ ((x == begun) || is_turn (begun + 1 + action_of p i) (macroticks_of_cycle p) x)
 
   -- what the state before a macrotick tells
   unfoldable pub Kept : ℕ → ℕ → ColdState → Type 0
   Kept i t state.Off = Unit {0}
   Kept i t (state.Listening since) = (since < t) × IsSilent since t
-  Kept i t (state.Resolving begun) = (t ≤ begun + 1 + 4 * cycle_of p) × IsAged i begun t
-  Kept i t (state.Leading begun) = (begun + 1 + 4 * cycle_of p < t) × IsAged i begun t
+  Kept i t (state.Resolving begun) = (t ≤ begun + 1 + 4 * macroticks_of_cycle p) × IsAged i begun t
+  Kept i t (state.Leading begun) = (begun + 1 + 4 * macroticks_of_cycle p < t) × IsAged i begun t
 
   -- a node that listens anew
   fresh : (i t : ℕ) → Kept i (suc t) (state.Listening t)
@@ -89,8 +89,8 @@ module _ (p : Values) (switches : Switches) where
   fresh i t = (omega arith, record { none = λ x j low high number. absurd (omega arith) })
 
   -- one macrotick older
-  older : (i begun t : ℕ) → IsAged i begun t → sends_at p switches t i ≡ is_turn (begun + 1 + action_of p i) (cycle_of p) t
-      → ((j : ℕ) → t ≤ begun + 4 * cycle_of p → IsNumber j → sends_at p switches t j ≡ true → sends_at p switches t i ≡ true) → IsAged i begun (suc t)
+  older : (i begun t : ℕ) → IsAged i begun t → sends_at p switches t i ≡ is_turn (begun + 1 + action_of p i) (macroticks_of_cycle p) t
+      → ((j : ℕ) → t ≤ begun + 4 * macroticks_of_cycle p → IsNumber j → sends_at p switches t j ≡ true → sends_at p switches t i ≡ true) → IsAged i begun (suc t)
   older i begun t aged turn here = record {
     before = let before = aged.before in omega arith;
     silent = aged.silent;
@@ -98,15 +98,15 @@ module _ (p : Values) (switches : Switches) where
     own = λ x from to. own x from to (cases_eq x t);
   }
     where
-      joins : (x j : ℕ) → begun ≤ x → x < suc t → x ≤ begun + 4 * cycle_of p → IsNumber j → sends_at p switches x j ≡ true → (x ≡ t) ⊎ (x ≡ t → ⊥) → sends_at p switches x i ≡ true
+      joins : (x j : ℕ) → begun ≤ x → x < suc t → x ≤ begun + 4 * macroticks_of_cycle p → IsNumber j → sends_at p switches x j ≡ true → (x ≡ t) ⊎ (x ≡ t → ⊥) → sends_at p switches x i ≡ true
       joins x j from to near number sends (inl same) = subst (λ (y : ℕ). sends_at p switches y i ≡ true) (sym same) (here j (rw same at near) number (rw same at sends))
       joins x j from to near number sends (inr other) = aged.joins x j from (omega arith) near number sends
 
-      own : (x : ℕ) → begun ≤ x → x < suc t → (x ≡ t) ⊎ (x ≡ t → ⊥) → sends_at p switches x i ≡ ((x == begun) || is_turn (begun + 1 + action_of p i) (cycle_of p) x)
+      own : (x : ℕ) → begun ≤ x → x < suc t → (x ≡ t) ⊎ (x ≡ t → ⊥) → sends_at p switches x i ≡ ((x == begun) || is_turn (begun + 1 + action_of p i) (macroticks_of_cycle p) x)
       own x from to (inl same) =
           let later : (t == begun) ≡ false = let before = aged.before in grind (arith, nat_tests) in
-          let at_t : sends_at p switches t i ≡ ((t == begun) || is_turn (begun + 1 + action_of p i) (cycle_of p) t) = turn ∙ rw later refl in
-          subst (λ (y : ℕ). sends_at p switches y i ≡ ((y == begun) || is_turn (begun + 1 + action_of p i) (cycle_of p) y)) (sym same) at_t
+          let at_t : sends_at p switches t i ≡ ((t == begun) || is_turn (begun + 1 + action_of p i) (macroticks_of_cycle p) t) = turn ∙ rw later refl in
+          subst (λ (y : ℕ). sends_at p switches y i ≡ ((y == begun) || is_turn (begun + 1 + action_of p i) (macroticks_of_cycle p) y)) (sym same) at_t
       own x from to (inr other) = aged.own x from (omega arith)
 
   module _ (sane : IsSane p) (starters : SwitchesStarters p switches) (joined : AreConnected p) where
@@ -132,14 +132,14 @@ module _ (p : Values) (switches : Switches) where
     keeps-on : (t i : ℕ) → switches t i ≡ Some switch.On → Kept i (suc t) (states_at p switches (suc t) i)
     keeps-on t i eo = subst (Kept i (suc t)) (sym (next ∙ same (hears_at p switches t i))) (fresh i t)
       where
-        not_yet : (t == t + 2 * cycle_of p) ≡ false
+        not_yet : (t == t + 2 * macroticks_of_cycle p) ≡ false
         not_yet = let some = cycle-from p sane in grind (arith, nat_tests)
 
-        same : (b : Bool) → heard b t (sent (cycle_of p) t (state.Listening t)) ≡ state.Listening t
+        same : (b : Bool) → heard b t (sent (macroticks_of_cycle p) t (state.Listening t)) ≡ state.Listening t
         same true = rw not_yet refl
         same false = rw not_yet refl
 
-        next : states_at p switches (suc t) i ≡ heard (hears_at p switches t i) t (sent (cycle_of p) t (state.Listening t))
+        next : states_at p switches (suc t) i ≡ heard (hears_at p switches t i) t (sent (macroticks_of_cycle p) t (state.Listening t))
         next = next-as t i (state.Listening t) (hears_at p switches t i) (ready-as t i (Some switch.On) (states_at p switches t i) eo refl) refl
 
     -- one that is off
@@ -151,7 +151,7 @@ module _ (p : Values) (switches : Switches) where
     keeps-listening : (t i since : ℕ) → IsNumber i → switches t i ≡ None → states_at p switches t i ≡ state.Listening since → Kept i t (state.Listening since)
         → Kept i (suc t) (states_at p switches (suc t) i)
     unfolding Kept
-    keeps-listening t i since number eo es kept = by (t == since + 2 * cycle_of p) refl (hears_at p switches t i) refl
+    keeps-listening t i since number eo es kept = by (t == since + 2 * macroticks_of_cycle p) refl (hears_at p switches t i) refl
       where
         ready : ready_states p switches t (states_at p switches t) i ≡ state.Listening since
         ready = ready-as t i None (state.Listening since) eo es
@@ -159,9 +159,9 @@ module _ (p : Values) (switches : Switches) where
         on : states_at p switches t i ≢ state.Off
         on off = let never : state.Listening since ≡ state.Off = sym es ∙ off in cc never
 
-        due-aged : (t == since + 2 * cycle_of p) ≡ true → sends_at p switches t i ≡ true → Kept i (suc t) (state.Resolving t)
+        due-aged : (t == since + 2 * macroticks_of_cycle p) ≡ true → sends_at p switches t i ≡ true → Kept i (suc t) (state.Resolving t)
         due-aged due sends =
-            let at : t ≡ since + 2 * cycle_of p = grind (arith, nat_tests) in (
+            let at : t ≡ since + 2 * macroticks_of_cycle p = grind (arith, nat_tests) in (
               omega arith,
               record {
                 before = omega arith;
@@ -170,14 +170,14 @@ module _ (p : Values) (switches : Switches) where
                 own = λ x from to.
                     let same : t ≡ x = omega arith in
                     let itself : (t == t) ≡ true = grind (arith, nat_tests) in
-                    subst (λ (y : ℕ). sends_at p switches y i ≡ ((y == t) || is_turn (t + 1 + action_of p i) (cycle_of p) y)) same (sends ∙ rw itself refl);
+                    subst (λ (y : ℕ). sends_at p switches y i ≡ ((y == t) || is_turn (t + 1 + action_of p i) (macroticks_of_cycle p) y)) same (sends ∙ rw itself refl);
               },
             )
 
-        waits : (t == since + 2 * cycle_of p) ≡ false → sends_at p switches t i ≡ false → hears_at p switches t i ≡ false → Kept i (suc t) (state.Listening since)
+        waits : (t == since + 2 * macroticks_of_cycle p) ≡ false → sends_at p switches t i ≡ false → hears_at p switches t i ≡ false → Kept i (suc t) (state.Listening since)
         waits due sends deaf = (let before = kept.0 in omega arith, more-silent t since kept.1 (not-heard t i number on sends deaf))
 
-        by : (due : Bool) → (t == since + 2 * cycle_of p) ≡ due → (hears : Bool) → hears_at p switches t i ≡ hears → Kept i (suc t) (states_at p switches (suc t) i)
+        by : (due : Bool) → (t == since + 2 * macroticks_of_cycle p) ≡ due → (hears : Bool) → hears_at p switches t i ≡ hears → Kept i (suc t) (states_at p switches (suc t) i)
         by true due hears h =
             let sends : sends_at p switches t i ≡ true = sends-as t i (state.Listening since) ready ∙ rw due refl in
             let deaf : hears_at p switches t i ≡ false = sender-deaf p t (ready_states p switches t (states_at p switches t)) i sends in
@@ -196,7 +196,7 @@ module _ (p : Values) (switches : Switches) where
     stays-leading true t begun = refl
     stays-leading false t begun = refl
 
-    keeps-leading : (t i begun : ℕ) → ready_states p switches t (states_at p switches t) i ≡ state.Leading begun → begun + 4 * cycle_of p < t → IsAged i begun t
+    keeps-leading : (t i begun : ℕ) → ready_states p switches t (states_at p switches t) i ≡ state.Leading begun → begun + 4 * macroticks_of_cycle p < t → IsAged i begun t
         → Kept i (suc t) (states_at p switches (suc t) i)
     unfolding Kept
     keeps-leading t i begun ready late aged = subst (Kept i (suc t)) (sym next) here
@@ -211,9 +211,9 @@ module _ (p : Values) (switches : Switches) where
     keeps-resolving : (t i begun : ℕ) → IsNumber i → switches t i ≡ None → states_at p switches t i ≡ state.Resolving begun → Kept i t (state.Resolving begun)
         → Kept i (suc t) (states_at p switches (suc t) i)
     unfolding Kept
-    keeps-resolving t i begun number eo es kept = by (t == begun + 1 + 4 * cycle_of p) refl (hears_at p switches t i) refl
+    keeps-resolving t i begun number eo es kept = by (t == begun + 1 + 4 * macroticks_of_cycle p) refl (hears_at p switches t i) refl
       where
-        ready : ready_states p switches t (states_at p switches t) i ≡ resolved (cycle_of p) t (state.Resolving begun)
+        ready : ready_states p switches t (states_at p switches t) i ≡ resolved (macroticks_of_cycle p) t (state.Resolving begun)
         ready = ready-as t i None (state.Resolving begun) eo es
 
         on : states_at p switches t i ≢ state.Off
@@ -223,17 +223,17 @@ module _ (p : Values) (switches : Switches) where
         joins deaf j other sends true e = e
         joins deaf j other sends false e = let none : sends_at p switches t j ≡ false = not-heard t i number on e deaf j other in cc
 
-        goes-on : (t == begun + 1 + 4 * cycle_of p) ≡ false → hears_at p switches t i ≡ false → ready_states p switches t (states_at p switches t) i ≡ state.Resolving begun → Kept i (suc t) (state.Resolving begun)
+        goes-on : (t == begun + 1 + 4 * macroticks_of_cycle p) ≡ false → hears_at p switches t i ≡ false → ready_states p switches t (states_at p switches t) i ≡ state.Resolving begun → Kept i (suc t) (state.Resolving begun)
         goes-on due deaf is =
-            let other : t ≢ begun + 1 + 4 * cycle_of p = λ same. let yes : (t == begun + 1 + 4 * cycle_of p) ≡ true = grind (arith, nat_tests) in cc in
+            let other : t ≢ begun + 1 + 4 * macroticks_of_cycle p = λ same. let yes : (t == begun + 1 + 4 * macroticks_of_cycle p) ≡ true = grind (arith, nat_tests) in cc in
             let before = kept.0 in (
               omega arith,
               older i begun t kept.1 (sends-as t i (state.Resolving begun) is) (λ j near number sends. joins deaf j number sends (sends_at p switches t i) refl),
             )
 
-        by : (due : Bool) → (t == begun + 1 + 4 * cycle_of p) ≡ due → (hears : Bool) → hears_at p switches t i ≡ hears → Kept i (suc t) (states_at p switches (suc t) i)
+        by : (due : Bool) → (t == begun + 1 + 4 * macroticks_of_cycle p) ≡ due → (hears : Bool) → hears_at p switches t i ≡ hears → Kept i (suc t) (states_at p switches (suc t) i)
         by true due hears h =
-            let at : t ≡ begun + 1 + 4 * cycle_of p = grind (arith, nat_tests) in
+            let at : t ≡ begun + 1 + 4 * macroticks_of_cycle p = grind (arith, nat_tests) in
             keeps-leading t i begun (ready ∙ rw due refl) (omega arith) kept.1
         by false due true h =
             let is : ready_states p switches t (states_at p switches t) i ≡ state.Resolving begun = ready ∙ rw due refl in

@@ -4,7 +4,7 @@ use Rattle.std.specs.Prelude.{◌==◌}
 use Rattle.std.proofs.lemmas.Bool.{cases_eq}
 use Rattle.fr_cluster.specs.Values.{Values}
 use Rattle.fr_cluster.specs.Sane.{IsSane}
-use Rattle.fr_startup.specs.Cluster.{Switches, action_of, cycle_of, is_starter, ready_states, states_at}
+use Rattle.fr_startup.specs.Cluster.{Switches, action_of, is_starter, macroticks_of_cycle, ready_states, states_at}
 use Rattle.fr_startup.specs.Laws.{AreConnected, StaysOn, SwitchesStarters}
 use Rattle.fr_startup.specs.declared.state.ColdState.{ColdState}
 use Rattle.fr_startup.specs.declared.state.ColdState.TheVariants as state
@@ -62,19 +62,19 @@ module _ (p : Values) (switches : Switches) (sane : IsSane p) (starters : Switch
       by false is = let none : switches t j ≡ None = starters t j is in let never : Some switch.On ≡ None = sym e ∙ none in absurd (cc never)
 
   -- a node that is low sends nothing for two cycles
-  pub low-quiet : (low t j : ℕ) → t < low + 2 * cycle_of p → IsLow low (states_at p switches t j) → sends_at p switches t j ≡ false
+  pub low-quiet : (low t j : ℕ) → t < low + 2 * macroticks_of_cycle p → IsLow low (states_at p switches t j) → sends_at p switches t j ≡ false
   unfolding IsLow
   low-quiet low t j near is = by (on-or-none t j) (states_at p switches t j) refl is
     where
       by : (switches t j ≡ Some switch.On) ⊎ (switches t j ≡ None) → (s : ColdState) → states_at p switches t j ≡ s → IsLow low s → sends_at p switches t j ≡ false
       by (inl on) s es is = (move-on p switches sane t j on).sends_is
       by (inr none) state.Off es is = (move-off p switches sane t j none es).sends_is
-      by (inr none) (state.Listening since) es is = sends-not_due p switches sane t j since none es (not-equal t (since + 2 * cycle_of p) (λ same. absurd (omega arith)))
+      by (inr none) (state.Listening since) es is = sends-not_due p switches sane t j since none es (not-equal t (since + 2 * macroticks_of_cycle p) (λ same. absurd (omega arith)))
       by (inr none) (state.Resolving begun) es is = absurd is
       by (inr none) (state.Leading begun) es is = absurd is
 
   -- where it hears nothing it stays low
-  pub low-deaf : (low t j : ℕ) → low ≤ t → t < low + 2 * cycle_of p → hears_at p switches t j ≡ false → IsLow low (states_at p switches t j) → IsLow low (states_at p switches (suc t) j)
+  pub low-deaf : (low t j : ℕ) → low ≤ t → t < low + 2 * macroticks_of_cycle p → hears_at p switches t j ≡ false → IsLow low (states_at p switches t j) → IsLow low (states_at p switches (suc t) j)
   unfolding IsLow
   low-deaf low t j from near deaf is = by (on-or-none t j) (states_at p switches t j) refl is
     where
@@ -82,12 +82,12 @@ module _ (p : Values) (switches : Switches) (sane : IsSane p) (starters : Switch
       by (inl on) s es is = subst (IsLow low) (sym (move-on p switches sane t j on).next_is) from
       by (inr none) state.Off es is = subst (IsLow low) (sym (move-off p switches sane t j none es).next_is) tt
       by (inr none) (state.Listening since) es is =
-          subst (IsLow low) (sym (next-deaf p switches sane t j since none es (not-equal t (since + 2 * cycle_of p) (λ same. absurd (omega arith))) deaf)) is
+          subst (IsLow low) (sym (next-deaf p switches sane t j since none es (not-equal t (since + 2 * macroticks_of_cycle p) (λ same. absurd (omega arith))) deaf)) is
       by (inr none) (state.Resolving begun) es is = absurd is
       by (inr none) (state.Leading begun) es is = absurd is
 
   -- where it hears something, if it is on, it listens anew
-  pub low-hears : (low t j : ℕ) → t < low + 2 * cycle_of p → (states_at p switches t j ≢ state.Off → hears_at p switches t j ≡ true) → IsLow low (states_at p switches t j)
+  pub low-hears : (low t j : ℕ) → t < low + 2 * macroticks_of_cycle p → (states_at p switches t j ≢ state.Off → hears_at p switches t j ≡ true) → IsLow low (states_at p switches t j)
       → IsLow t (states_at p switches (suc t) j)
   unfolding IsLow
   low-hears low t j near hears is = by (on-or-none t j) (states_at p switches t j) refl is
@@ -98,7 +98,7 @@ module _ (p : Values) (switches : Switches) (sane : IsSane p) (starters : Switch
       by (inr none) (state.Listening since) es is =
           let there : states_at p switches t j ≢ state.Off = λ off. let never : state.Listening since ≡ state.Off = sym es ∙ off in cc never in
           let here : t ≤ t = omega arith in
-          subst (IsLow t) (sym (next-anew p switches sane t j since none es (not-equal t (since + 2 * cycle_of p) (λ same. absurd (omega arith))) (hears there))) here
+          subst (IsLow t) (sym (next-anew p switches sane t j since none es (not-equal t (since + 2 * macroticks_of_cycle p) (λ same. absurd (omega arith))) (hears there))) here
       by (inr none) (state.Resolving begun) es is = absurd is
       by (inr none) (state.Leading begun) es is = absurd is
 
@@ -110,7 +110,7 @@ module _ (p : Values) (switches : Switches) (sane : IsSane p) (starters : Switch
   rival-low own action low (state.Resolving begun) is = is
   rival-low own action low (state.Leading begun) is = is
 
-  pub rival-deaf : (own action low t j : ℕ) → low < t → t < low + 2 * cycle_of p → hears_at p switches t j ≡ false → IsRival own action low (states_at p switches t j)
+  pub rival-deaf : (own action low t j : ℕ) → low < t → t < low + 2 * macroticks_of_cycle p → hears_at p switches t j ≡ false → IsRival own action low (states_at p switches t j)
       → IsRival own action low (states_at p switches (suc t) j)
   unfolding IsRival
   rival-deaf own action low t j from near deaf is = by (on-or-none t j) (states_at p switches t j) refl is
@@ -122,12 +122,12 @@ module _ (p : Values) (switches : Switches) (sane : IsSane p) (starters : Switch
       by (inr none) state.Off es is = subst (IsRival own action low) (sym (move-off p switches sane t j none es).next_is) tt
       by (inr none) (state.Listening since) es is =
           let low_since = is.0 in
-          subst (IsRival own action low) (sym (next-deaf p switches sane t j since none es (not-equal t (since + 2 * cycle_of p) (λ same. absurd (omega arith))) deaf)) is
+          subst (IsRival own action low) (sym (next-deaf p switches sane t j since none es (not-equal t (since + 2 * macroticks_of_cycle p) (λ same. absurd (omega arith))) deaf)) is
       by (inr none) (state.Resolving begun) es is = absurd is
       by (inr none) (state.Leading begun) es is = absurd is
 
   -- two cycles after it may send the symbol, or hears one
-  pub rival-sends : (own action low t j : ℕ) → t ≡ low + 2 * cycle_of p → (states_at p switches t j ≢ state.Off → sends_at p switches t j ≡ false → hears_at p switches t j ≡ true)
+  pub rival-sends : (own action low t j : ℕ) → t ≡ low + 2 * macroticks_of_cycle p → (states_at p switches t j ≢ state.Off → sends_at p switches t j ≡ false → hears_at p switches t j ≡ true)
       → IsRival own action low (states_at p switches t j) → Contends own action t (states_at p switches (suc t) j)
   unfolding IsRival Contends
   rival-sends own action low t j at hears is = by (on-or-none t j) (states_at p switches t j) refl is
@@ -135,13 +135,13 @@ module _ (p : Values) (switches : Switches) (sane : IsSane p) (starters : Switch
       listens : (since : ℕ) → switches t j ≡ None → states_at p switches t j ≡ state.Listening since → (low ≤ since) × (since ≡ low → own < action) → (since ≡ low) ⊎ (since ≡ low → ⊥)
           → Contends own action t (states_at p switches (suc t) j)
       listens since none es is (inl same) =
-          let due : (t == since + 2 * cycle_of p) ≡ true = is-equal t (since + 2 * cycle_of p) (omega arith) in
+          let due : (t == since + 2 * macroticks_of_cycle p) ≡ true = is-equal t (since + 2 * macroticks_of_cycle p) (omega arith) in
           let deaf : hears_at p switches t j ≡ false = sender-deaf p t (ready_states p switches t (states_at p switches t)) j (sends-due p switches sane t j since none es due) in
           let both : (t ≡ t) × (own < action) = (refl, is.1 same) in
           subst (Contends own action t) (sym (move-due p switches sane t j since none es due deaf).next_is) both
       listens since none es is (inr other) =
           let low_since = is.0 in
-          let due : (t == since + 2 * cycle_of p) ≡ false = not-equal t (since + 2 * cycle_of p) (λ same. other (omega arith)) in
+          let due : (t == since + 2 * macroticks_of_cycle p) ≡ false = not-equal t (since + 2 * macroticks_of_cycle p) (λ same. other (omega arith)) in
           let there : states_at p switches t j ≢ state.Off = λ off. let never : state.Listening since ≡ state.Off = sym es ∙ off in cc never in
           let here : t ≤ t = omega arith in
           subst (Contends own action t) (sym (next-anew p switches sane t j since none es due (hears there (sends-not_due p switches sane t j since none es due)))) here
@@ -154,22 +154,22 @@ module _ (p : Values) (switches : Switches) (sane : IsSane p) (starters : Switch
       by (inr none) (state.Leading begun) es is = absurd is
 
   -- up to the first startup frame of the first one, none of the others sends
-  pub contends-quiet : (own low t j : ℕ) → t ≤ low + 1 + own → own < cycle_of p → Contends own (action_of p j) low (states_at p switches t j) → sends_at p switches t j ≡ false
+  pub contends-quiet : (own low t j : ℕ) → t ≤ low + 1 + own → own < macroticks_of_cycle p → Contends own (action_of p j) low (states_at p switches t j) → sends_at p switches t j ≡ false
   unfolding Contends
   contends-quiet own low t j near small is = by (on-or-none t j) (states_at p switches t j) refl is
     where
       by : (switches t j ≡ Some switch.On) ⊎ (switches t j ≡ None) → (s : ColdState) → states_at p switches t j ≡ s → Contends own (action_of p j) low s → sends_at p switches t j ≡ false
       by (inl on) s es is = (move-on p switches sane t j on).sends_is
       by (inr none) state.Off es is = (move-off p switches sane t j none es).sends_is
-      by (inr none) (state.Listening since) es is = sends-not_due p switches sane t j since none es (not-equal t (since + 2 * cycle_of p) (λ same. let some = cycle-from p sane in absurd (omega arith)))
+      by (inr none) (state.Listening since) es is = sends-not_due p switches sane t j since none es (not-equal t (since + 2 * macroticks_of_cycle p) (λ same. let some = cycle-from p sane in absurd (omega arith)))
       by (inr none) (state.Resolving begun) es is =
           let at = is.0 in
           let later = is.1 in
-          sends-resolving p switches sane t j begun none es (not-equal t (begun + 1 + 4 * cycle_of p) (λ same. absurd (omega arith)))
-          ∙ turn-before (begun + 1 + action_of p j) (cycle_of p) t (omega arith)
+          sends-resolving p switches sane t j begun none es (not-equal t (begun + 1 + 4 * macroticks_of_cycle p) (λ same. absurd (omega arith)))
+          ∙ turn-before (begun + 1 + action_of p j) (macroticks_of_cycle p) t (omega arith)
       by (inr none) (state.Leading begun) es is = absurd is
 
-  pub contends-deaf : (own low t j : ℕ) → low ≤ t → t ≤ low + 1 + own → own < cycle_of p → hears_at p switches t j ≡ false → Contends own (action_of p j) low (states_at p switches t j)
+  pub contends-deaf : (own low t j : ℕ) → low ≤ t → t ≤ low + 1 + own → own < macroticks_of_cycle p → hears_at p switches t j ≡ false → Contends own (action_of p j) low (states_at p switches t j)
       → Contends own (action_of p j) low (states_at p switches (suc t) j)
   unfolding Contends
   contends-deaf own low t j from near small deaf is = by (on-or-none t j) (states_at p switches t j) refl is
@@ -179,13 +179,13 @@ module _ (p : Values) (switches : Switches) (sane : IsSane p) (starters : Switch
       by (inl on) s es is = subst (Contends own (action_of p j) low) (sym (move-on p switches sane t j on).next_is) from
       by (inr none) state.Off es is = subst (Contends own (action_of p j) low) (sym (move-off p switches sane t j none es).next_is) tt
       by (inr none) (state.Listening since) es is =
-          subst (Contends own (action_of p j) low) (sym (next-deaf p switches sane t j since none es (not-equal t (since + 2 * cycle_of p) (λ same. let some = cycle-from p sane in absurd (omega arith))) deaf)) is
+          subst (Contends own (action_of p j) low) (sym (next-deaf p switches sane t j since none es (not-equal t (since + 2 * macroticks_of_cycle p) (λ same. let some = cycle-from p sane in absurd (omega arith))) deaf)) is
       by (inr none) (state.Resolving begun) es is =
           let at = is.0 in
-          subst (Contends own (action_of p j) low) (sym (resolving-deaf p switches sane t j begun none es (not-equal t (begun + 1 + 4 * cycle_of p) (λ same. absurd (omega arith))) deaf)) is
+          subst (Contends own (action_of p j) low) (sym (resolving-deaf p switches sane t j begun none es (not-equal t (begun + 1 + 4 * macroticks_of_cycle p) (λ same. absurd (omega arith))) deaf)) is
       by (inr none) (state.Leading begun) es is = absurd is
 
-  pub contends-hears : (own low t j : ℕ) → t ≤ low + 1 + own → own < cycle_of p → (states_at p switches t j ≢ state.Off → hears_at p switches t j ≡ true)
+  pub contends-hears : (own low t j : ℕ) → t ≤ low + 1 + own → own < macroticks_of_cycle p → (states_at p switches t j ≢ state.Off → hears_at p switches t j ≡ true)
       → Contends own (action_of p j) low (states_at p switches t j) → IsLow t (states_at p switches (suc t) j)
   unfolding Contends IsLow
   contends-hears own low t j near small hears is = by (on-or-none t j) (states_at p switches t j) refl is
@@ -198,9 +198,9 @@ module _ (p : Values) (switches : Switches) (sane : IsSane p) (starters : Switch
       by (inr none) state.Off es is = subst (IsLow t) (sym (move-off p switches sane t j none es).next_is) tt
       by (inr none) (state.Listening since) es is =
           let there : states_at p switches t j ≢ state.Off = λ off. let never : state.Listening since ≡ state.Off = sym es ∙ off in cc never in
-          subst (IsLow t) (sym (next-anew p switches sane t j since none es (not-equal t (since + 2 * cycle_of p) (λ same. let some = cycle-from p sane in absurd (omega arith))) (hears there))) here
+          subst (IsLow t) (sym (next-anew p switches sane t j since none es (not-equal t (since + 2 * macroticks_of_cycle p) (λ same. let some = cycle-from p sane in absurd (omega arith))) (hears there))) here
       by (inr none) (state.Resolving begun) es is =
           let at = is.0 in
           let there : states_at p switches t j ≢ state.Off = λ off. let never : state.Resolving begun ≡ state.Off = sym es ∙ off in cc never in
-          subst (IsLow t) (sym (resolving-anew p switches sane t j begun none es (not-equal t (begun + 1 + 4 * cycle_of p) (λ same. absurd (omega arith))) (hears there))) here
+          subst (IsLow t) (sym (resolving-anew p switches sane t j begun none es (not-equal t (begun + 1 + 4 * macroticks_of_cycle p) (λ same. absurd (omega arith))) (hears there))) here
       by (inr none) (state.Leading begun) es is = absurd is

@@ -17,7 +17,7 @@ use Rattle.fr_cluster.proofs.Found.{find_keeps}
 use Rattle.fr_cluster.proofs.KeyNodes.{found_key, key_among}
 use Rattle.fr_time.specs.Slots.{action_point_of, slot_end_of}
 use Rattle.fr_time.proofs.Placing.{action_point_lt, slot_end_lt}
-use Rattle.fr_startup.specs.Cluster.{action_of, cycle_of, is_starter}
+use Rattle.fr_startup.specs.Cluster.{action_of, is_starter, macroticks_of_cycle}
 
 some-same : {A : Type 0} (x y : A) → Some x ≡ Some y → x ≡ y
 some-same x y e = cc e
@@ -86,29 +86,29 @@ pub action-is : (p : Values) (i : ℕ) (k : HasKey p i) → action_of p i ≡ ac
 unfolding action_of
 action-is p i k = rw (own-key p i k) refl
 
-pub cycle-from : (p : Values) → IsSane p → 10 ≤ cycle_of p
+pub cycle-from : (p : Values) → IsSane p → 10 ≤ macroticks_of_cycle p
 cycle-from p sane = let range = sane.ranges name.gMacroPerCycle in omega (arith, ints, range.0)
 
-pub cycle-to : (p : Values) → IsSane p → cycle_of p ≤ 16_000
+pub cycle-to : (p : Values) → IsSane p → macroticks_of_cycle p ≤ 16_000
 cycle-to p sane = let range = sane.ranges name.gMacroPerCycle in omega (arith, ints, range.0, range.1)
 
 -- startup frames are sent within the cycle
-pub action-within : (p : Values) (i : ℕ) → IsSane p → action_of p i < cycle_of p
+pub action-within : (p : Values) (i : ℕ) → IsSane p → action_of p i < macroticks_of_cycle p
 unfolding action_of
 action-within p i sane = by (node_of p i) refl
   where
-    slot-within : (slot : ℕ) → 1 ≤ slot → slot ≤ amount p name.gNumberOfStaticSlots → action_point_of p slot < cycle_of p
+    slot-within : (slot : ℕ) → 1 ≤ slot → slot ≤ amount p name.gNumberOfStaticSlots → action_point_of p slot < macroticks_of_cycle p
     slot-within slot some static =
         let acts : action_point_of p slot < slot_end_of p slot = action_point_lt p slot sane some in
         let ends : slot_end_of p slot < amount p name.gOffsetCorrectionStart = slot_end_lt p slot sane static in
         let after = sane.constraints.corrects_after in
         omega (arith, acts, ends, after.1)
 
-    with_key : (spec : NodeSpec) → node_of p i ≡ Some spec → (key : Option ℕ) → spec.key ≡ key → option_map_or (λ slot. action_point_of p slot) key 0 < cycle_of p
+    with_key : (spec : NodeSpec) → node_of p i ≡ Some spec → (key : Option ℕ) → spec.key ≡ key → option_map_or (λ slot. action_point_of p slot) key 0 < macroticks_of_cycle p
     with_key spec e None k = let some = cycle-from p sane in omega arith
     with_key spec e (Some slot) k = let static = key-static p spec slot sane (node-among p i spec e) k in slot-within slot static.0 static.1
 
-    by : (o : Option NodeSpec) → node_of p i ≡ o → option_map_or (λ slot. action_point_of p slot) (key_in (node_of p i)) 0 < cycle_of p
+    by : (o : Option NodeSpec) → node_of p i ≡ o → option_map_or (λ slot. action_point_of p slot) (key_in (node_of p i)) 0 < macroticks_of_cycle p
     by None e = rw e (let some = cycle-from p sane in omega arith)
     by (Some spec) e = rw e (with_key spec e spec.key refl)
 

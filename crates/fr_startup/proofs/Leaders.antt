@@ -6,7 +6,7 @@ use Rattle.std.proofs.lemmas.Bool.Decides.{nat_tests}
 use Rattle.fr_cluster.specs.Values.{Values}
 use Rattle.fr_cluster.specs.Sane.{IsSane}
 use Rattle.fr_startup.specs.Node.{is_leading, is_turn}
-use Rattle.fr_startup.specs.Cluster.{Switches, action_of, cycle_of, is_starter, ready_states, states_at}
+use Rattle.fr_startup.specs.Cluster.{Switches, action_of, is_starter, macroticks_of_cycle, ready_states, states_at}
 use Rattle.fr_startup.specs.Laws.{AreConnected, AtMostOneLeads, IsNumber, SwitchesStarters}
 use Rattle.fr_startup.specs.declared.state.ColdState.{ColdState}
 use Rattle.fr_startup.specs.declared.state.ColdState.TheVariants as state
@@ -26,7 +26,7 @@ led (state.Resolving begun) e = cc e
 led (state.Leading begun) e = (begun, refl)
 
 module _ (p : Values) (switches : Switches) (sane : IsSane p) (starters : SwitchesStarters p switches) (joined : AreConnected p) where
-  aged : (t i begun : ℕ) → IsNumber i → states_at p switches t i ≡ state.Leading begun → (begun + 1 + 4 * cycle_of p < t) × IsAged p switches i begun t
+  aged : (t i begun : ℕ) → IsNumber i → states_at p switches t i ≡ state.Leading begun → (begun + 1 + 4 * macroticks_of_cycle p < t) × IsAged p switches i begun t
   unfolding Kept
   aged t i begun number e = subst (Kept p switches i t) e (kept p switches sane starters joined t i number)
 
@@ -43,24 +43,24 @@ module _ (p : Values) (switches : Switches) (sane : IsSane p) (starters : Switch
       let within_i = action-within p i sane in
       let within_j = action-within p j sane in
       let m = begun + 1 + action_of p i in
-      let sends_i : sends_at p switches m i ≡ true = one.1.own m (omega arith) (omega arith) ∙ rw (turn-first m (cycle_of p)) (or-true (m == begun)) in
+      let sends_i : sends_at p switches m i ≡ true = one.1.own m (omega arith) (omega arith) ∙ rw (turn-first m (macroticks_of_cycle p)) (or-true (m == begun)) in
       let sends_j : sends_at p switches m j ≡ true = other.1.joins m i (omega arith) (omega arith) (omega arith) number_i sends_i in
       let past : (m == begun) ≡ false = grind (arith, nat_tests) in
-      let turn : is_turn (begun + 1 + action_of p j) (cycle_of p) m ≡ true = sym (other.1.own m (omega arith) (omega arith) ∙ rw past refl) ∙ sends_j in
-      let same : m ≡ begun + 1 + action_of p j = turn-only (begun + 1 + action_of p j) (cycle_of p) m turn (omega arith) in
+      let turn : is_turn (begun + 1 + action_of p j) (macroticks_of_cycle p) m ≡ true = sym (other.1.own m (omega arith) (omega arith) ∙ rw past refl) ∙ sends_j in
+      let same : m ≡ begun + 1 + action_of p j = turn-only (begun + 1 + action_of p j) (macroticks_of_cycle p) m turn (omega arith) in
       omega arith
 
   -- of two that began at different macroticks the earlier sent in the two cycles before the later began
   apart : (t i j x y : ℕ) → IsNumber i → IsNumber j → states_at p switches t i ≡ state.Leading x → states_at p switches t j ≡ state.Leading y → x < y → ⊥
-  apart t i j x y number_i number_j at_i at_j less = by (cases_lt y (x + 2 * cycle_of p))
+  apart t i j x y number_i number_j at_i at_j less = by (cases_lt y (x + 2 * macroticks_of_cycle p))
     where
-      one : (x + 1 + 4 * cycle_of p < t) × IsAged p switches i x t
+      one : (x + 1 + 4 * macroticks_of_cycle p < t) × IsAged p switches i x t
       one = aged t i x number_i at_i
 
-      other : (y + 1 + 4 * cycle_of p < t) × IsAged p switches j y t
+      other : (y + 1 + 4 * macroticks_of_cycle p < t) × IsAged p switches j y t
       other = aged t j y number_j at_j
 
-      clash : (m : ℕ) → x ≤ m → m < y → y < m + 2 * cycle_of p → ((m == x) || is_turn (x + 1 + action_of p i) (cycle_of p) m) ≡ true → ⊥
+      clash : (m : ℕ) → x ≤ m → m < y → y < m + 2 * macroticks_of_cycle p → ((m == x) || is_turn (x + 1 + action_of p i) (macroticks_of_cycle p) m) ≡ true → ⊥
       clash m from below near turn =
           let late = other.0 in
           let sends : sends_at p switches m i ≡ true = one.1.own m from (omega arith) ∙ turn in
@@ -68,12 +68,12 @@ module _ (p : Values) (switches : Switches) (sane : IsSane p) (starters : Switch
           let never : true ≡ false = sym sends ∙ silent in
           cc never
 
-      by : (y < x + 2 * cycle_of p) ⊎ (x + 2 * cycle_of p ≤ y) → ⊥
+      by : (y < x + 2 * macroticks_of_cycle p) ⊎ (x + 2 * macroticks_of_cycle p ≤ y) → ⊥
       by (inl near) = let itself : (x == x) ≡ true = grind (arith, nat_tests) in clash x (omega arith) less near (rw itself refl)
       by (inr far) =
           let some = cycle-from p sane in
           let within = action-within p i sane in
-          let turn = turn-below (x + 1 + action_of p i) (cycle_of p) y (omega arith) (omega arith) in
+          let turn = turn-below (x + 1 + action_of p i) (macroticks_of_cycle p) y (omega arith) (omega arith) in
           let from = turn.from in
           let late = turn.late in
           clash turn.turn (omega arith) turn.below (omega arith) (rw turn.is_turn (or-true (turn.turn == x)))

@@ -6,7 +6,7 @@ use Rattle.std.proofs.lemmas.Bool.Decides.{nat_tests}
 use Rattle.fr_cluster.specs.Values.{Values}
 use Rattle.fr_cluster.specs.Sane.{IsSane}
 use Rattle.fr_startup.specs.Node.{is_leading, is_resolved, is_turn}
-use Rattle.fr_startup.specs.Cluster.{Switches, action_of, begins_at, cycle_of, is_starter, ready_states, states_at}
+use Rattle.fr_startup.specs.Cluster.{Switches, action_of, begins_at, is_starter, macroticks_of_cycle, ready_states, states_at}
 use Rattle.fr_startup.specs.Laws.{AreConnected, IsFirstOn, IsNumber, LeadsAlone, StaysOn, SwitchesStarters}
 use Rattle.fr_startup.specs.declared.state.ColdState.{ColdState}
 use Rattle.fr_startup.specs.declared.state.ColdState.TheVariants as state
@@ -21,14 +21,14 @@ use Rattle.fr_startup.proofs.First.{Contends, IsLow, IsRival, contends-deaf, con
 module _ (p : Values) (switches : Switches) (at i : ℕ) (sane : IsSane p) (starters : SwitchesStarters p switches) (joined : AreConnected p) (stays : StaysOn switches) (first : IsFirstOn p switches at i) where
   -- the macrotick of its symbol, that of its first startup frame, and those of the later ones
   abbrev symbol : ℕ
-  symbol = at + 2 * cycle_of p
+  symbol = at + 2 * macroticks_of_cycle p
 
   abbrev frame : ℕ → ℕ
-  frame n = (at + 2 * cycle_of p) + 1 + action_of p i + cycle_of p * n
+  frame n = (at + 2 * macroticks_of_cycle p) + 1 + action_of p i + macroticks_of_cycle p * n
 
   -- what the first one does from its symbol on
   unfoldable winner : ℕ → ColdState
-  winner t = if nat_lt (symbol + 1 + 4 * cycle_of p) t then state.Leading symbol else state.Resolving symbol
+  winner t = if nat_lt (symbol + 1 + 4 * macroticks_of_cycle p) t then state.Leading symbol else state.Resolving symbol
 
   -- before any node is switched on
   record IsBefore (t : ℕ) : Type 0 where
@@ -141,7 +141,7 @@ module _ (p : Values) (switches : Switches) (at i : ℕ) (sane : IsSane p) (star
   waiting-quiet : (t : ℕ) → IsWaiting t → t < symbol → sends_at p switches t i ≡ false
   waiting-quiet t is early =
       let from = is.from in
-      sends-not_due p switches sane t i at (first-none t (λ same. absurd (omega arith))) is.first_is (not-equal t (at + 2 * cycle_of p) (λ same. absurd (omega arith)))
+      sends-not_due p switches sane t i at (first-none t (λ same. absurd (omega arith))) is.first_is (not-equal t (at + 2 * macroticks_of_cycle p) (λ same. absurd (omega arith)))
 
   from-waiting : (t : ℕ) → IsWaiting t → (t < symbol) ⊎ (symbol ≤ t) → Phase (suc t)
   from-waiting t is (inl early) = Waiting (record {
@@ -149,7 +149,7 @@ module _ (p : Values) (switches : Switches) (at i : ℕ) (sane : IsSane p) (star
     to = omega arith;
     first_is =
         let from = is.from in
-        next-deaf p switches sane t i at (first-none t (λ same. absurd (omega arith))) is.first_is (not-equal t (at + 2 * cycle_of p) (λ same. absurd (omega arith))) (deaf i);
+        next-deaf p switches sane t i at (first-none t (λ same. absurd (omega arith))) is.first_is (not-equal t (at + 2 * macroticks_of_cycle p) (λ same. absurd (omega arith))) (deaf i);
     others = λ j number other. rival-deaf p switches sane starters joined stays (action_of p i) (action_of p j) at t j is.from early (deaf j) (is.others j number other);
   })
     where
@@ -172,8 +172,8 @@ module _ (p : Values) (switches : Switches) (at i : ℕ) (sane : IsSane p) (star
       none : switches t i ≡ None
       none = first-none t (λ same. let some = cycle-from p sane in absurd (omega arith))
 
-      due : (t == at + 2 * cycle_of p) ≡ true
-      due = is-equal t (at + 2 * cycle_of p) now
+      due : (t == at + 2 * macroticks_of_cycle p) ≡ true
+      due = is-equal t (at + 2 * macroticks_of_cycle p) now
 
       sends : sends_at p switches t i ≡ true
       sends = sends-due p switches sane t i at none is.first_is due
@@ -182,7 +182,7 @@ module _ (p : Values) (switches : Switches) (at i : ℕ) (sane : IsSane p) (star
   resolving-none : (t : ℕ) → symbol < t → switches t i ≡ None
   resolving-none t from = first-none t (λ same. absurd (omega arith))
 
-  small : action_of p i < cycle_of p
+  small : action_of p i < macroticks_of_cycle p
   small = action-within p i sane
 
   from-contending : (t : ℕ) → IsContending t → (t < frame 0) ⊎ (frame 0 ≤ t) → Phase (suc t)
@@ -195,11 +195,11 @@ module _ (p : Values) (switches : Switches) (at i : ℕ) (sane : IsSane p) (star
         contends-deaf p switches sane starters joined stays (action_of p i) symbol t j (let from = is.from in omega arith) (omega arith) small (deaf j) (is.others j number other);
   })
     where
-      due : (t == symbol + 1 + 4 * cycle_of p) ≡ false
-      due = let near = small in not-equal t (symbol + 1 + 4 * cycle_of p) (λ same. absurd (omega arith))
+      due : (t == symbol + 1 + 4 * macroticks_of_cycle p) ≡ false
+      due = let near = small in not-equal t (symbol + 1 + 4 * macroticks_of_cycle p) (λ same. absurd (omega arith))
 
       quiet : sends_at p switches t i ≡ false
-      quiet = sends-resolving p switches sane t i symbol (resolving-none t is.from) is.first_is due ∙ turn-before (symbol + 1 + action_of p i) (cycle_of p) t (omega arith)
+      quiet = sends-resolving p switches sane t i symbol (resolving-none t is.from) is.first_is due ∙ turn-before (symbol + 1 + action_of p i) (macroticks_of_cycle p) t (omega arith)
 
       deaf : (j : ℕ) → hears_at p switches t j ≡ false
       deaf j = none-hears t j quiet (λ k number other.
@@ -216,8 +216,8 @@ module _ (p : Values) (switches : Switches) (at i : ℕ) (sane : IsSane p) (star
       now : t ≡ frame 0
       now = let to = is.to in omega arith
 
-      due : (t == symbol + 1 + 4 * cycle_of p) ≡ false
-      due = let near = small in not-equal t (symbol + 1 + 4 * cycle_of p) (λ same. absurd (omega arith))
+      due : (t == symbol + 1 + 4 * macroticks_of_cycle p) ≡ false
+      due = let near = small in not-equal t (symbol + 1 + 4 * macroticks_of_cycle p) (λ same. absurd (omega arith))
 
       first_turn : t ≡ symbol + 1 + action_of p i
       first_turn = omega arith
@@ -225,42 +225,42 @@ module _ (p : Values) (switches : Switches) (at i : ℕ) (sane : IsSane p) (star
       sends : sends_at p switches t i ≡ true
       sends =
           sends-resolving p switches sane t i symbol (resolving-none t is.from) is.first_is due
-          ∙ subst (λ (x : ℕ). is_turn (symbol + 1 + action_of p i) (cycle_of p) x ≡ true) (sym first_turn) (turn-first (symbol + 1 + action_of p i) (cycle_of p))
+          ∙ subst (λ (x : ℕ). is_turn (symbol + 1 + action_of p i) (macroticks_of_cycle p) x ≡ true) (sym first_turn) (turn-first (symbol + 1 + action_of p i) (macroticks_of_cycle p))
 
       quiet : (j : ℕ) → IsNumber j → j ≢ i → sends_at p switches t j ≡ false
       quiet j number other = contends-quiet p switches sane starters joined stays (action_of p i) symbol t j (omega arith) small (is.others j number other)
 
       still : state.Resolving symbol ≡ winner (suc t)
-      still = let near = small in let young : nat_lt (symbol + 1 + 4 * cycle_of p) (suc t) ≡ false = grind (arith, nat_tests) in rw young refl
+      still = let near = small in let young : nat_lt (symbol + 1 + 4 * macroticks_of_cycle p) (suc t) ≡ false = grind (arith, nat_tests) in rw young refl
 
   -- the first one from its symbol on: when it sends, and what it does where it hears nothing
-  winner-sends : (t : ℕ) → symbol < t → states_at p switches t i ≡ winner t → sends_at p switches t i ≡ is_turn (symbol + 1 + action_of p i) (cycle_of p) t
+  winner-sends : (t : ℕ) → symbol < t → states_at p switches t i ≡ winner t → sends_at p switches t i ≡ is_turn (symbol + 1 + action_of p i) (macroticks_of_cycle p) t
   unfolding winner
-  winner-sends t from is = by (nat_lt (symbol + 1 + 4 * cycle_of p) t) refl (t == symbol + 1 + 4 * cycle_of p) refl
+  winner-sends t from is = by (nat_lt (symbol + 1 + 4 * macroticks_of_cycle p) t) refl (t == symbol + 1 + 4 * macroticks_of_cycle p) refl
     where
       none : switches t i ≡ None
       none = resolving-none t from
 
-      by : (old : Bool) → nat_lt (symbol + 1 + 4 * cycle_of p) t ≡ old → (due : Bool) → (t == symbol + 1 + 4 * cycle_of p) ≡ due
-          → sends_at p switches t i ≡ is_turn (symbol + 1 + action_of p i) (cycle_of p) t
+      by : (old : Bool) → nat_lt (symbol + 1 + 4 * macroticks_of_cycle p) t ≡ old → (due : Bool) → (t == symbol + 1 + 4 * macroticks_of_cycle p) ≡ due
+          → sends_at p switches t i ≡ is_turn (symbol + 1 + action_of p i) (macroticks_of_cycle p) t
       by true o due d = (leading-goes-on p switches sane t i symbol (ready-as p switches t i None (state.Leading symbol) none (is ∙ rw o refl))).sends_is
       by false o true d = (leading-goes-on p switches sane t i symbol (ready-as p switches t i None (state.Resolving symbol) none (is ∙ rw o refl) ∙ rw d refl)).sends_is
       by false o false d = sends-resolving p switches sane t i symbol none (is ∙ rw o refl) d
 
   winner-next : (t : ℕ) → symbol < t → hears_at p switches t i ≡ false → states_at p switches t i ≡ winner t → states_at p switches (suc t) i ≡ winner (suc t)
   unfolding winner
-  winner-next t from deaf is = by (nat_lt (symbol + 1 + 4 * cycle_of p) t) refl (t == symbol + 1 + 4 * cycle_of p) refl
+  winner-next t from deaf is = by (nat_lt (symbol + 1 + 4 * macroticks_of_cycle p) t) refl (t == symbol + 1 + 4 * macroticks_of_cycle p) refl
     where
       none : switches t i ≡ None
       none = resolving-none t from
 
-      leads : nat_lt (symbol + 1 + 4 * cycle_of p) (suc t) ≡ true → state.Leading symbol ≡ winner (suc t)
+      leads : nat_lt (symbol + 1 + 4 * macroticks_of_cycle p) (suc t) ≡ true → state.Leading symbol ≡ winner (suc t)
       leads late = rw late refl
 
-      waits : nat_lt (symbol + 1 + 4 * cycle_of p) (suc t) ≡ false → state.Resolving symbol ≡ winner (suc t)
+      waits : nat_lt (symbol + 1 + 4 * macroticks_of_cycle p) (suc t) ≡ false → state.Resolving symbol ≡ winner (suc t)
       waits early = rw early refl
 
-      by : (old : Bool) → nat_lt (symbol + 1 + 4 * cycle_of p) t ≡ old → (due : Bool) → (t == symbol + 1 + 4 * cycle_of p) ≡ due → states_at p switches (suc t) i ≡ winner (suc t)
+      by : (old : Bool) → nat_lt (symbol + 1 + 4 * macroticks_of_cycle p) t ≡ old → (due : Bool) → (t == symbol + 1 + 4 * macroticks_of_cycle p) ≡ due → states_at p switches (suc t) i ≡ winner (suc t)
       by true o due d =
           (leading-goes-on p switches sane t i symbol (ready-as p switches t i None (state.Leading symbol) none (is ∙ rw o refl))).next_is
           ∙ leads (grind (arith, nat_tests))
@@ -277,17 +277,17 @@ module _ (p : Values) (switches : Switches) (at i : ℕ) (sane : IsSane p) (star
     others = λ j number other. low-deaf p switches sane starters joined stays (frame n) t j (let from = is.from in omega arith) near (deaf j) (is.others j number other);
   })
     where
-      more : cycle_of p * suc n ≡ cycle_of p * n + cycle_of p
+      more : macroticks_of_cycle p * suc n ≡ macroticks_of_cycle p * n + macroticks_of_cycle p
       more = omega arith
 
-      near : t < frame n + 2 * cycle_of p
+      near : t < frame n + 2 * macroticks_of_cycle p
       near = let m = more in omega arith
 
       after : symbol < t
       after = let from = is.from in omega arith
 
       quiet : sends_at p switches t i ≡ false
-      quiet = winner-sends t after is.first_is ∙ turn-between (symbol + 1 + action_of p i) (cycle_of p) n t is.from (let m = more in omega arith)
+      quiet = winner-sends t after is.first_is ∙ turn-between (symbol + 1 + action_of p i) (macroticks_of_cycle p) n t is.from (let m = more in omega arith)
 
       deaf : (j : ℕ) → hears_at p switches t j ≡ false
       deaf j = none-hears t j quiet (λ k number other. low-quiet p switches sane starters joined stays (frame n) t k near (is.others k number other))
@@ -300,13 +300,13 @@ module _ (p : Values) (switches : Switches) (at i : ℕ) (sane : IsSane p) (star
         (low-hears p switches sane starters joined stays (frame n) t j near (λ on. hears-first t j number sends on (quiet j number other)) (is.others j number other));
   })
     where
-      more : (cycle_of p * suc n ≡ cycle_of p * n + cycle_of p) × (cycle_of p * suc (suc n) ≡ cycle_of p * n + 2 * cycle_of p)
+      more : (macroticks_of_cycle p * suc n ≡ macroticks_of_cycle p * n + macroticks_of_cycle p) × (macroticks_of_cycle p * suc (suc n) ≡ macroticks_of_cycle p * n + 2 * macroticks_of_cycle p)
       more = (omega arith, omega arith)
 
       now : t ≡ frame (suc n)
       now = let to = is.to in omega arith
 
-      near : t < frame n + 2 * cycle_of p
+      near : t < frame n + 2 * macroticks_of_cycle p
       near = let m = more in let some = cycle-from p sane in let e = now in omega arith
 
       after : symbol < t
@@ -315,7 +315,7 @@ module _ (p : Values) (switches : Switches) (at i : ℕ) (sane : IsSane p) (star
       sends : sends_at p switches t i ≡ true
       sends =
           winner-sends t after is.first_is
-          ∙ subst (λ (x : ℕ). is_turn (symbol + 1 + action_of p i) (cycle_of p) x ≡ true) (sym now) (turn-at (symbol + 1 + action_of p i) (cycle_of p) (suc n))
+          ∙ subst (λ (x : ℕ). is_turn (symbol + 1 + action_of p i) (macroticks_of_cycle p) x ≡ true) (sym now) (turn-at (symbol + 1 + action_of p i) (macroticks_of_cycle p) (suc n))
 
       quiet : (j : ℕ) → IsNumber j → j ≢ i → sends_at p switches t j ≡ false
       quiet j number other = low-quiet p switches sane starters joined stays (frame n) t j near (is.others j number other)
@@ -332,16 +332,16 @@ module _ (p : Values) (switches : Switches) (at i : ℕ) (sane : IsSane p) (star
 
   -- which of them leads
   abbrev begin : ℕ
-  begin = at + 6 * cycle_of p + 1
+  begin = at + 6 * macroticks_of_cycle p + 1
 
   first-leads : (t : ℕ) → Phase t → is_leading (states_at p switches t i) ≡ nat_lt begin t
   unfolding winner
   first-leads t (Before is) = let when = is.when in let early : nat_lt begin t ≡ false = grind (arith, nat_tests) in ap is_leading (is.all_off i) ∙ sym early
   first-leads t (Waiting is) = let to = is.to in let early : nat_lt begin t ≡ false = grind (arith, nat_tests) in ap is_leading is.first_is ∙ sym early
   first-leads t (Contending is) = let to = is.to in let near = small in let early : nat_lt begin t ≡ false = grind (arith, nat_tests) in ap is_leading is.first_is ∙ sym early
-  first-leads t (Won n is) = ap is_leading is.first_is ∙ by (nat_lt (symbol + 1 + 4 * cycle_of p) t) refl
+  first-leads t (Won n is) = ap is_leading is.first_is ∙ by (nat_lt (symbol + 1 + 4 * macroticks_of_cycle p) t) refl
     where
-      by : (old : Bool) → nat_lt (symbol + 1 + 4 * cycle_of p) t ≡ old → is_leading (winner t) ≡ nat_lt begin t
+      by : (old : Bool) → nat_lt (symbol + 1 + 4 * macroticks_of_cycle p) t ≡ old → is_leading (winner t) ≡ nat_lt begin t
       by true o = let late : nat_lt begin t ≡ true = grind (arith, nat_tests) in rw o (sym late)
       by false o = let early : nat_lt begin t ≡ false = grind (arith, nat_tests) in rw o (sym early)
 
@@ -377,22 +377,22 @@ module _ (p : Values) (switches : Switches) (at i : ℕ) (sane : IsSane p) (star
   unfolding begins_at
   begins-on t j on = rw on refl
 
-  begins-none : (t j : ℕ) (s : ColdState) → switches t j ≡ None → states_at p switches t j ≡ s → begins_at p switches t j ≡ is_resolved (cycle_of p) t s
+  begins-none : (t j : ℕ) (s : ColdState) → switches t j ≡ None → states_at p switches t j ≡ s → begins_at p switches t j ≡ is_resolved (macroticks_of_cycle p) t s
   unfolding begins_at
   begins-none t j s none e = rw (none, e) refl
 
-  low-begins : (low t : ℕ) (s : ColdState) → IsLow low s → is_resolved (cycle_of p) t s ≡ false
+  low-begins : (low t : ℕ) (s : ColdState) → IsLow low s → is_resolved (macroticks_of_cycle p) t s ≡ false
   unfolding IsLow
   low-begins low t state.Off is = refl
   low-begins low t (state.Listening since) is = refl
   low-begins low t (state.Resolving begun) is = absurd is
   low-begins low t (state.Leading begun) is = refl
 
-  contends-begins : (own action low t : ℕ) (s : ColdState) → t ≤ low + 1 + own → own < cycle_of p → Contends own action low s → is_resolved (cycle_of p) t s ≡ false
+  contends-begins : (own action low t : ℕ) (s : ColdState) → t ≤ low + 1 + own → own < macroticks_of_cycle p → Contends own action low s → is_resolved (macroticks_of_cycle p) t s ≡ false
   unfolding Contends
   contends-begins own action low t state.Off near less is = refl
   contends-begins own action low t (state.Listening since) near less is = refl
-  contends-begins own action low t (state.Resolving begun) near less is = let now = is.0 in not-equal t (begun + 1 + 4 * cycle_of p) (λ same. absurd (omega arith))
+  contends-begins own action low t (state.Resolving begun) near less is = let now = is.0 in not-equal t (begun + 1 + 4 * macroticks_of_cycle p) (λ same. absurd (omega arith))
   contends-begins own action low t (state.Leading begun) near less is = refl
 
   others-begin : (t j : ℕ) → IsNumber j → j ≢ i → Phase t → switches t j ≡ None → begins_at p switches t j ≡ false
@@ -411,14 +411,14 @@ module _ (p : Values) (switches : Switches) (at i : ℕ) (sane : IsSane p) (star
   first-begins t (Waiting is) none = let to = is.to in begins-none t i (state.Listening at) none is.first_is ∙ sym (not-equal t begin (λ same. absurd (omega arith)))
   first-begins t (Contending is) none = begins-none t i (state.Resolving symbol) none is.first_is ∙ ap (λ (x : ℕ). t == x) same
     where
-      same : symbol + 1 + 4 * cycle_of p ≡ begin
+      same : symbol + 1 + 4 * macroticks_of_cycle p ≡ begin
       same = omega arith
-  first-begins t (Won n is) none = begins-none t i (winner t) none is.first_is ∙ by (nat_lt (symbol + 1 + 4 * cycle_of p) t) refl
+  first-begins t (Won n is) none = begins-none t i (winner t) none is.first_is ∙ by (nat_lt (symbol + 1 + 4 * macroticks_of_cycle p) t) refl
     where
-      same : symbol + 1 + 4 * cycle_of p ≡ begin
+      same : symbol + 1 + 4 * macroticks_of_cycle p ≡ begin
       same = omega arith
 
-      by : (old : Bool) → nat_lt (symbol + 1 + 4 * cycle_of p) t ≡ old → is_resolved (cycle_of p) t (winner t) ≡ (t == begin)
+      by : (old : Bool) → nat_lt (symbol + 1 + 4 * macroticks_of_cycle p) t ≡ old → is_resolved (macroticks_of_cycle p) t (winner t) ≡ (t == begin)
       by true o = let past : (t == begin) ≡ false = grind (arith, nat_tests) in rw o (sym past)
       by false o = rw o (ap (λ (x : ℕ). t == x) same)
 
@@ -442,7 +442,7 @@ module _ (p : Values) (switches : Switches) (at i : ℕ) (sane : IsSane p) (star
       by (inr other) (inl on) = begins-on t j on ∙ sym (rw (not-equal j i other) (and-false (t == begin)))
       by (inr other) (inr none) = others-begin t j number other (phase t) none ∙ sym (rw (not-equal j i other) (and-false (t == begin)))
 
-  pub leads-alone : LeadsAlone p switches i (at + 6 * cycle_of p + 1)
+  pub leads-alone : LeadsAlone p switches i (at + 6 * macroticks_of_cycle p + 1)
   leads-alone = record {
     leads = λ t. first-leads t (phase t);
     others = λ t other number apart. others-not t other number apart (phase t);

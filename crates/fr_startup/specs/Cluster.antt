@@ -25,8 +25,8 @@ abbrev pub is_starter : Values → ℕ → Bool
 is_starter p node = option_map_or (λ spec. spec.coldstart) (node_of p node) false
 
 -- the macroticks of a cycle
-abbrev pub cycle_of : Values → ℕ
-cycle_of p = amount p name.gMacroPerCycle
+abbrev pub macroticks_of_cycle : Values → ℕ
+macroticks_of_cycle p = amount p name.gMacroPerCycle
 
 -- the macrotick of its cycle at which a node sends its startup frames, that of the action point of its key slot; a
 -- coldstart node has a key slot
@@ -35,11 +35,11 @@ action_of p node = option_map_or (λ slot. action_point_of p slot) (own_key p no
 
 -- the states after the first two parts of a macrotick
 unfoldable pub ready_states : Values → Switches → ℕ → States → States
-ready_states p switches t states node = resolved (cycle_of p) t (switched (switches t node) t (states node))
+ready_states p switches t states node = resolved (macroticks_of_cycle p) t (switched (switches t node) t (states node))
 
 -- whether a node sends, the states being those after the first two parts
 unfoldable pub is_sending : Values → ℕ → States → ℕ → Bool
-is_sending p t states node = sends (cycle_of p) (action_of p node) t (states node)
+is_sending p t states node = sends (macroticks_of_cycle p) (action_of p node) t (states node)
 
 -- whether one of the nodes 1 to n sends on a channel
 unfoldable pub is_busy : Values → ℕ → States → Channel → ℕ → Bool
@@ -55,20 +55,20 @@ is_hearing p t states node =
 
 -- the states after the last two parts, of those after the first two
 unfoldable pub moved_states : Values → ℕ → States → States
-moved_states p t states node = heard (is_hearing p t states node) t (sent (cycle_of p) t (states node))
+moved_states p t states node = heard (is_hearing p t states node) t (sent (macroticks_of_cycle p) t (states node))
 
 -- one macrotick
-unfoldable pub stepped : Values → Switches → ℕ → States → States
-stepped p switches t states = moved_states p t (ready_states p switches t states)
+unfoldable pub after_macrotick : Values → Switches → ℕ → States → States
+after_macrotick p switches t states = moved_states p t (ready_states p switches t states)
 
 -- the states after the macroticks below a number of them: at the begin all nodes are off
 unfoldable pub states_at : Values → Switches → ℕ → States
 states_at p switches zero = λ node. state.Off
-states_at p switches (suc t) = stepped p switches t (states_at p switches t)
+states_at p switches (suc t) = after_macrotick p switches t (states_at p switches t)
 
 -- whether a node begins to lead at a macrotick
 unfoldable pub begins_at : Values → Switches → ℕ → ℕ → Bool
-begins_at p switches t node = is_resolved (cycle_of p) t (switched (switches t node) t (states_at p switches t node))
+begins_at p switches t node = is_resolved (macroticks_of_cycle p) t (switched (switches t node) t (states_at p switches t node))
 
 -- whether two nodes share a channel
 abbrev pub is_sharing : Values → ℕ → ℕ → Bool

@@ -4,7 +4,7 @@ use Rattle.fr_cluster.specs.Values.{Values}
 use Rattle.fr_cluster.specs.Sane.{IsSane}
 use Rattle.fr_cluster.specs.Questions.{own_key}
 use Rattle.fr_startup.specs.Node.{is_leading}
-use Rattle.fr_startup.specs.Cluster.{Switches, begins_at, cycle_of, is_sharing, is_starter, ready_states, states_at}
+use Rattle.fr_startup.specs.Cluster.{Switches, begins_at, is_sharing, is_starter, macroticks_of_cycle, ready_states, states_at}
 use Rattle.fr_startup.specs.declared.state.Switch.TheVariants as switch
 
 -- a node's number
@@ -53,4 +53,4 @@ AtMostOneEverLeads = (p : Values) (switches : Switches) → IsSane p → Switche
 -- where besides none is switched off, the first one leads, and no other
 abbrev pub TheFirstLeads : Type 0
 TheFirstLeads = (p : Values) (switches : Switches) (at node : ℕ) → IsSane p → SwitchesStarters p switches → AreConnected p → StaysOn switches
-    → IsFirstOn p switches at node → LeadsAlone p switches node (at + 6 * cycle_of p + 1)
+    → IsFirstOn p switches at node → LeadsAlone p switches node (at + 6 * macroticks_of_cycle p + 1)

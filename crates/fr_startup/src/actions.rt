@@ -3,7 +3,7 @@ ghost use Rattle.fr_cluster.specs.Values.{amount};
 ghost use Rattle.fr_cluster.specs.Questions.{own_key};
 ghost use Rattle.fr_cluster.specs.declared.names.ParamName.TheVariants as name;
 ghost use Rattle.fr_time.specs.Slots.{action_point_of};
-ghost use Rattle.fr_startup.specs.Cluster.{action_of, cycle_of};
+ghost use Rattle.fr_startup.specs.Cluster.{action_of, macroticks_of_cycle};
 
 use fr_base::{NodeId, Slot};
 use fr_cluster::{ParamName, Params};
@@ -13,7 +13,7 @@ use fr_time::action_point;
 /// for a node without key slot, which is no coldstart node.
 pub fn action(params: &Params, node: NodeId) -> u32
     ensures value { result ≡ action_of params.now node }
-    ensures within { result < cycle_of params.now }
+    ensures within { result < macroticks_of_cycle params.now }
 {
     let _cycle = params.value(ParamName::gMacroPerCycle);
     match key_slot(params, node) {

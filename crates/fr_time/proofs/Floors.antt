@@ -1,5 +1,5 @@
 -- Quotients rounded down.
-use Rattle.std.proofs.Common.{◌≡◌, ℕ, ℤ, pos, negsuc, ◌+◌, ◌-◌, ◌*◌, ◌/◌, ◌<◌, ◌≤◌, refl, ap, sym, subst, arith}
+use Rattle.std.proofs.Common.{◌≡◌, FitsSigned, ℕ, ℤ, pos, negsuc, w64, ◌+◌, ◌-◌, ◌*◌, ◌/◌, ◌<◌, ◌≤◌, refl, ap, sym, subst, arith}
 use Rattle.std.specs.Prelude.{◌≤ℤ◌, ◌<ℤ◌, ◌+ℤ◌, ◌*ℤ◌, nat_abs}
 use Rattle.std.proofs.lemmas.Int.{ints}
 use Rattle.std.proofs.Math.Nat.{add-mul-div_left, div-le_of_le-mul, mul-add, mul_comm, mul-div_cancel_left, mul-le-mul_right}
@@ -56,3 +56,12 @@ share_leaves (negsuc count) length parts spare count_from within from spare_from
 share_leaves (pos count) (negsuc length) parts spare count_from within from spare_from leaves = absurd (omega (arith, ints))
 share_leaves (pos count) (pos length) (negsuc parts) spare count_from within from spare_from leaves = absurd (omega (arith, ints))
 share_leaves (pos count) (pos length) (pos parts) (negsuc spare) count_from within from spare_from leaves = absurd (omega (arith, ints))
+
+-- so many parts of a cycle times its length are a number of the machine
+pub product_fits : (count length : ℤ) → pos 0 ≤ℤ count → count ≤ℤ pos 16_000 → pos 0 ≤ℤ length → length ≤ℤ pos 660_000 → FitsSigned w64 (count *ℤ length)
+product_fits (pos count) (pos length) count_from count_to from to =
+    let few : count ≤ 16_000 = omega (arith, ints) in
+    let within : count * length ≤ 16_000 * length = mul-le-mul_right length few in
+    omega (arith, ints, within)
+product_fits (negsuc count) length count_from count_to from to = absurd (omega (arith, ints))
+product_fits (pos count) (negsuc length) count_from count_to from to = absurd (omega (arith, ints))

@@ -7,3 +7,4 @@ pub mod Counting
 pub mod Walking
 pub mod Unused
 pub mod SoleSenders
+pub mod Lines

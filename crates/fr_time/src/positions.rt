@@ -45,7 +45,8 @@ fn share(count: i64, length: i64, parts: i64) -> i64
     ensures low { pos 0 ≤ℤ result }
     ensures high { result ≤ℤ pos 660_000 }
 {
-    (count * length).div_euclid(parts)
+    let whole = count * length;
+    whole.div_euclid(parts)
 }
 
 // The position by the rule of even cycles.

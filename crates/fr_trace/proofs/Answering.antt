@@ -11,7 +11,7 @@ use Rattle.fr_trace.specs.Draft.{AnswersFor}
 use Rattle.fr_trace.specs.Fits.{TraceFits}
 use Rattle.fr_trace.specs.Files.{TraceStandsFor, is_whole, is_whole_by, trace_file}
 use Rattle.fr_trace.specs.Reasons.{trace_reason_after}
-use Rattle.fr_trace.specs.Said.{doubles_at, history_said, joins_at, named_at}
+use Rattle.fr_trace.specs.Said.{history_said, joins_at, named_at, traced_doubles_at}
 use Rattle.fr_trace.specs.Trace.{TraceView}
 use Rattle.fr_trace.specs.declared.fault.TraceFault.{TraceFault}
 use Rattle.fr_trace.specs.declared.fault.TraceFault.TheVariants as fault
@@ -52,7 +52,7 @@ reads-same p bytes (Err fault.NoMemory) b na nb f g = absurd (na refl)
 pub reads-some : (p : Values) → HasSomeAnswer (trace_file p)
 reads-some p bytes = by (none-or-first-refused (trace_reason_after p) (records_of bytes))
   where
-    told : NoneRefused (trace_reason_after p) (records_of bytes) → (b : Bool) → is_whole p (records_of bytes) ≡ b → (o : Option ℕ) → doubles_at (records_of bytes) ≡ o
+    told : NoneRefused (trace_reason_after p) (records_of bytes) → (b : Bool) → is_whole p (records_of bytes) ≡ b → (o : Option ℕ) → traced_doubles_at (records_of bytes) ≡ o
         → (answer : Result TraceView TraceFault) × (answer ≢ Err fault.NoMemory) × Reads (trace_file p) bytes answer
     told none false e o is = (Err (fault.Incomplete (length (records_of bytes))), λ same. cc same, record { none_refused = none; missing = e; counted = refl })
     told none true e None is = absurd (let no = sym e ∙ ap (is_whole_by p (records_of bytes)) is in cc no)
@@ -62,7 +62,7 @@ reads-some p bytes = by (none-or-first-refused (trace_reason_after p) (records_o
 
     by : NoneRefused (trace_reason_after p) (records_of bytes) ⊎ ((n : ℕ) × ((why : Reason) × FirstRefused (trace_reason_after p) (records_of bytes) n why))
         → (answer : Result TraceView TraceFault) × (answer ≢ Err fault.NoMemory) × Reads (trace_file p) bytes answer
-    by (inl none) = told none (is_whole p (records_of bytes)) refl (doubles_at (records_of bytes)) refl
+    by (inl none) = told none (is_whole p (records_of bytes)) refl (traced_doubles_at (records_of bytes)) refl
     by (inr first) = (Err (fault.Row first.0 first.1.0), λ same. cc same, first.1.1)
 
 -- an answer to the records of a file is one to the file

@@ -10,13 +10,13 @@ use Rattle.fr_cluster.specs.Values.{Values}
 use Rattle.fr_cluster.specs.declared.nodes.NodeSpec.{NodeSpec}
 use Rattle.fr_history.specs.History.{History, Record}
 use Rattle.fr_records.specs.Records.{FileRecord}
-use Rattle.fr_trace.specs.Draft.{AreOver, AreSaid, CanEnd, HasEnded, HasFilled, IsAtLast, IsAtTurn, IsBeforeCycles, IsNumber, IsOver, IsProperHead, IsTraceDraft, IsWholeDraft, over_of, part_of}
+use Rattle.fr_trace.specs.Draft.{AreOver, AreSaid, CanEnd, HasEnded, HasFilled, IsAtLast, IsAtTurn, IsBeforeCycles, IsNodeNumber, IsOver, IsProperHead, IsTraceDraft, IsWholeDraft, over_of, part_of}
 use Rattle.fr_trace.specs.Files.{is_whole, is_whole_by}
 use Rattle.fr_trace.specs.Fits.{HistoryFits, TraceFits}
-use Rattle.fr_trace.specs.Joins.{has_row_by, latest_rows}
+use Rattle.fr_trace.specs.Joins.{has_traced_row, latest_rows}
 use Rattle.fr_trace.specs.Lasting.{IsTrace, IsTracedRecord}
 use Rattle.fr_trace.specs.Order.{clock_turn, ends_at, ends_with, heard_turn, next_due}
-use Rattle.fr_trace.specs.Rows.{IsProperCount}
+use Rattle.fr_trace.specs.Rows.{IsProperTracedCount}
 use Rattle.fr_trace.specs.Said.{history_said, no_record}
 use Rattle.fr_trace.specs.Trace.{TraceView}
 use Rattle.fr_trace.specs.declared.draft.Draft.{Draft}
@@ -29,7 +29,7 @@ use Rattle.fr_trace.proofs.Standing.{AreNodes, all-named, over-at, over-blank}
 use Rattle.fr_trace.proofs.Taking.{before-is, sane-nodes}
 
 -- there are no more cycles over than may be, and one is left
-few-at : (p : Values) (n : ℕ) (named : List ℕ) (joins : List TracedJoin) (last : Option Row) (h : History) (r : Record) → IsProperCount n → IsAtLast p (Some n) named joins last h r → length h + 1 ≤ 2 * n
+few-at : (p : Values) (n : ℕ) (named : List ℕ) (joins : List TracedJoin) (last : Option Row) (h : History) (r : Record) → IsProperTracedCount n → IsAtLast p (Some n) named joins last h r → length h + 1 ≤ 2 * n
 few-at p n named joins None h r proper at = absurd (let none = at.none in cc none)
 few-at p n named joins (Some (row.Run m)) h r proper at = let none = ap (λ (g : History). length g) at.before.none in let low = proper.from in omega (arith, none, low)
 few-at p n named joins (Some (row.Arbitrary node)) h r proper at = let none = ap (λ (g : History). length g) at.before.none in let low = proper.from in omega (arith, none, low)
@@ -150,9 +150,9 @@ count-le q (node ∷ nodes) = by (q node) refl (count-le q nodes)
 traced : (p : Values) (named : List ℕ) (joins : List TracedJoin) (h : History) (r : Record) → IsSane p → IsOver p named joins h r → IsTracedRecord r
 traced p named joins h r sane over =
     let rows = length-map r.rows (λ (row : NodeRow). row.node) in
-    let ids = length-map (filter (λ node. has_row_by named joins h r node.id) p.nodes) (λ (node : NodeSpec). node.id) in
+    let ids = length-map (filter (λ node. has_traced_row named joins h r node.id) p.nodes) (λ (node : NodeSpec). node.id) in
     let same = ap (λ (l : List ℕ). length l) over.nodes in
-    let le = count-le (λ node. has_row_by named joins h r node.id) p.nodes in
+    let le = count-le (λ node. has_traced_row named joins h r node.id) p.nodes in
     let few = sane.lists.few_nodes in
     record {
       few = omega (arith, rows, ids, same, le, few);
@@ -170,14 +170,14 @@ all-traced p named joins [] sane over = All-nil IsTracedRecord
 all-traced p named joins (r ∷ h) sane over = All-cons IsTracedRecord r h (traced p named joins h r sane over.0) (all-traced p named joins h sane over.1)
 
 -- ascending numbers from 1 to 64 are no more than 64
-ascending-at : {X : Type 0} (key : X → ℕ) (xs : List X) (k : ℕ) (d : X) → AllPairs (λ a b. key a < key b) xs → All (λ x. IsNumber (key x)) xs → k < length xs → k + 1 ≤ key (get_or xs k d)
+ascending-at : {X : Type 0} (key : X → ℕ) (xs : List X) (k : ℕ) (d : X) → AllPairs (λ a b. key a < key b) xs → All (λ x. IsNodeNumber (key x)) xs → k < length xs → k + 1 ≤ key (get_or xs k d)
 ascending-at key xs zero d asc numbers lt = let one = (numbers 0 d lt).0 in omega (arith, one)
 ascending-at key xs (suc k) d asc numbers lt =
     let before = ascending-at key xs k d asc numbers (omega (arith, lt)) in
     let next = asc k (suc k) d (omega arith) lt in
     omega (arith, before, next)
 
-few-numbers : {X : Type 0} (key : X → ℕ) (xs : List X) → AllPairs (λ a b. key a < key b) xs → All (λ x. IsNumber (key x)) xs → length xs ≤ 64
+few-numbers : {X : Type 0} (key : X → ℕ) (xs : List X) → AllPairs (λ a b. key a < key b) xs → All (λ x. IsNodeNumber (key x)) xs → length xs ≤ 64
 few-numbers key [] asc numbers = omega arith
 few-numbers key (x ∷ xs) asc numbers = elim (cases_lt 64 (length (x ∷ xs))) [
   | inl lt ↦ let low = ascending-at key (x ∷ xs) 64 x asc numbers lt in let high = (numbers 64 x lt).1 in absurd (omega (arith, low, high))

@@ -7,12 +7,12 @@ use Rattle.std.proofs.lemmas.Bool.Decides.{nat_tests}
 use Rattle.std.proofs.lemmas.List.Elements.{All-cons, All-head, All-nil, All-push, All-tail}
 use Rattle.fr_base.specs.declared.channel.Channel.{Channel}
 use Rattle.fr_base.specs.declared.channel.Channel.TheVariants as channel
-use Rattle.fr_cluster.specs.Questions.{is_common, own_key}
+use Rattle.fr_cluster.specs.Questions.{is_common, is_known, own_key}
 use Rattle.fr_cluster.specs.Values.{Values}
 use Rattle.fr_cluster.specs.declared.join.Join.{Join}
-use Rattle.fr_trace.specs.Fits.{JoinsProperly}
+use Rattle.fr_trace.specs.Fits.{TracedJoinIsProper}
 use Rattle.fr_trace.specs.Joins.{is_among, join_among}
-use Rattle.fr_trace.specs.Reasons.{have_common, is_known, joins_wrongly, knows_both}
+use Rattle.fr_trace.specs.Reasons.{have_common, joins_wrongly, knows_node_and_reference}
 use Rattle.fr_trace.specs.Rows.{IsProperJoinRow}
 use Rattle.fr_trace.specs.declared.trace.TracedJoin.{TracedJoin}
 use Rattle.fr_trace.proofs.Nodes.{found-last}
@@ -49,7 +49,7 @@ no-reference n (k ∷ joins) e =
 
 module _ (p : Values) (named : List ℕ) (joins : List TracedJoin) (j : TracedJoin) where
   -- one that joins properly still does
-  still-proper : (k : TracedJoin) → JoinsProperly p named joins k → j.node ≢ k.join.reference → JoinsProperly p named (joins ++ j ∷ []) k
+  still-proper : (k : TracedJoin) → TracedJoinIsProper p named joins k → j.node ≢ k.join.reference → TracedJoinIsProper p named (joins ++ j ∷ []) k
   still-proper k proper other = record {
     known = proper.known;
     correct = proper.correct;
@@ -63,15 +63,15 @@ module _ (p : Values) (named : List ℕ) (joins : List TracedJoin) (j : TracedJo
     double = proper.double;
   }
 
-  all-still : (some : List TracedJoin) → All (JoinsProperly p named joins) some → All (λ k. j.node ≢ k.join.reference) some → All (JoinsProperly p named (joins ++ j ∷ [])) some
-  all-still [] proper other = All-nil (JoinsProperly p named (joins ++ j ∷ []))
+  all-still : (some : List TracedJoin) → All (TracedJoinIsProper p named joins) some → All (λ k. j.node ≢ k.join.reference) some → All (TracedJoinIsProper p named (joins ++ j ∷ [])) some
+  all-still [] proper other = All-nil (TracedJoinIsProper p named (joins ++ j ∷ []))
   all-still (k ∷ some) proper other =
-      All-cons (JoinsProperly p named (joins ++ j ∷ [])) k some
-      (still-proper k (All-head (JoinsProperly p named joins) k some proper) (All-head (λ (k : TracedJoin). j.node ≢ k.join.reference) k some other))
-      (all-still some (All-tail (JoinsProperly p named joins) k some proper) (All-tail (λ (k : TracedJoin). j.node ≢ k.join.reference) k some other))
+      All-cons (TracedJoinIsProper p named (joins ++ j ∷ [])) k some
+      (still-proper k (All-head (TracedJoinIsProper p named joins) k some proper) (All-head (λ (k : TracedJoin). j.node ≢ k.join.reference) k some other))
+      (all-still some (All-tail (TracedJoinIsProper p named joins) k some proper) (All-tail (λ (k : TracedJoin). j.node ≢ k.join.reference) k some other))
 
-  pub join-pushed : All (JoinsProperly p named joins) joins → knows_both p j ≡ true → joins_wrongly p named joins j ≡ false → have_common p j ≡ true → IsProperJoinRow j
-      → All (JoinsProperly p named (joins ++ j ∷ [])) (joins ++ j ∷ [])
+  pub join-pushed : All (TracedJoinIsProper p named joins) joins → knows_node_and_reference p j ≡ true → joins_wrongly p named joins j ≡ false → have_common p j ≡ true → IsProperJoinRow j
+      → All (TracedJoinIsProper p named (joins ++ j ∷ [])) (joins ++ j ∷ [])
   join-pushed all known right common proper =
       let a : Bool = j.join.reference == j.node in
       let b : Bool = is_among named j.node in
@@ -89,7 +89,7 @@ module _ (p : Values) (named : List ℕ) (joins : List TracedJoin) (j : TracedJo
       let stays = still-none joins j j.join.reference (no-join-of (join_among joins j.join.reference) four.1) (λ same. other (sym same)) in
       let channels = common-one common in
       let low = proper.double_to in
-      All-push (JoinsProperly p named (joins ++ j ∷ [])) joins j (all-still joins all (no-reference j.node joins five.1)) (record {
+      All-push (TracedJoinIsProper p named (joins ++ j ∷ [])) joins j (all-still joins all (no-reference j.node joins five.1)) (record {
         known = both.0;
         correct = one.1;
         known_reference = both.1;

@@ -16,15 +16,16 @@ use Rattle.fr_records.specs.Forms.{number_field, lies_outside, misses_form, has_
 use Rattle.fr_records.specs.Least.{GivesLeast, IsLeastReason, row_passes}
 use Rattle.fr_records.proofs.LeastReasons.{least-first}
 use Rattle.fr_records.proofs.FormFacts.{IsFault, IsFormed, IsFormedBy, IsRead, formed-if, formed-read, formed-sized, formed-two, is_overfull, least-formed, natural-read, never, read-both, within-read}
-use Rattle.fr_cluster.specs.Questions.{own_key}
+use Rattle.fr_cluster.specs.Questions.{is_known, own_key}
 use Rattle.fr_cluster.specs.Values.{Values}
 use Rattle.fr_cluster.specs.Sane.{IsSane}
 use Rattle.fr_cluster.specs.declared.names.ParamName.TheVariants as name
-use Rattle.fr_trace.specs.Rows.{arbitrary_row, are_blank, clock_in, clock_named, clock_with, heard_on, heard_row, join_row, join_with, offset_in, rate_in, run_row, short_row, span_in, state_of, terms_in, trace_file_row, trace_row_of, value_in}
+use Rattle.fr_trace.specs.Rows.{are_blank, clock_in, clock_named, clock_with, dev_row, heard_row, join_with, offset_in, run_row, span_in, state_of, terms_in, trace_file_row, trace_row_of, traced_arbitrary_row, traced_join_row, traced_rate_in, traced_short_row, value_in}
 use Rattle.fr_trace.specs.Order.{may_come}
 use Rattle.fr_trace.specs.Said.{joins_at, named_at}
-use Rattle.fr_trace.specs.Reasons.{have_common, heard_reason, is_beyond, is_known, is_linked, is_of_other, is_within, joins_wrongly, knows_both, trace_reason_after, trace_row_reason}
-use Rattle.fr_trace.specs.Holding.{arbitrary_form, clock_form, heard_form, is_apart, is_out_of_place, join_form, names_stranger, run_form, term_field, trace_form, trace_holds}
+use Rattle.fr_trace.specs.Reasons.{have_common, heard_reason, is_beyond, is_linked, is_of_other, joins_wrongly, knows_node_and_reference, trace_reason_after, trace_row_reason}
+use Rattle.fr_base.specs.Within.{lies_within}
+use Rattle.fr_trace.specs.Holding.{clock_form, heard_form, is_out_of_place, lacks_common_channel, run_form, term_field, trace_form, trace_holds, trace_names_stranger, traced_arbitrary_form, traced_join_form}
 use Rattle.fr_trace.specs.declared.rows.HeardRow.{HeardRow}
 use Rattle.fr_trace.specs.declared.rows.Row.{Row}
 use Rattle.fr_trace.specs.declared.rows.Row.TheVariants as row
@@ -66,21 +67,21 @@ formed-four out bad false b c d name digits range channel x h = refl
 
 module _ (p : Values) where
   run-formed : (r : FileRecord) → IsFormedBy (far p) astray (Some (run_form r))
-      (short_row (field_of r 2) (field_of r 3) (field_of r 4) (field_of r 5) (field_of r 6) (field_of r 7) (run_row (field_of r 1)))
+      (traced_short_row (field_of r 2) (field_of r 3) (field_of r 4) (field_of r 5) (field_of r 6) (field_of r 7) (run_row (field_of r 1)))
   unfolding far astray
   run-formed r =
       formed-six (far p) astray (is_blank (field_of r 2)) (is_blank (field_of r 3)) (is_blank (field_of r 4)) (is_blank (field_of r 5)) (is_blank (field_of r 6)) (is_blank (field_of r 7)) _ _ _ _ (run_row (field_of r 1))
       (formed-read (far p) astray never _ _ _ (λ n. Ok (row.Run n)) (natural_of 1 100_000 (field_of r 1)) (natural-read 1 100_000 (field_of r 1)) (λ n d o e f. (refl, refl, e, f, refl)))
 
-  arbitrary-formed : (r : FileRecord) → IsFormedBy (far p) astray (Some (arbitrary_form r))
-      (short_row (field_of r 2) (field_of r 3) (field_of r 4) (field_of r 5) (field_of r 6) (field_of r 7) (arbitrary_row (field_of r 1)))
+  arbitrary-formed : (r : FileRecord) → IsFormedBy (far p) astray (Some (traced_arbitrary_form r))
+      (traced_short_row (field_of r 2) (field_of r 3) (field_of r 4) (field_of r 5) (field_of r 6) (field_of r 7) (traced_arbitrary_row (field_of r 1)))
   unfolding far astray
   arbitrary-formed r =
-      formed-six (far p) astray (is_blank (field_of r 2)) (is_blank (field_of r 3)) (is_blank (field_of r 4)) (is_blank (field_of r 5)) (is_blank (field_of r 6)) (is_blank (field_of r 7)) _ _ _ _ (arbitrary_row (field_of r 1))
+      formed-six (far p) astray (is_blank (field_of r 2)) (is_blank (field_of r 3)) (is_blank (field_of r 4)) (is_blank (field_of r 5)) (is_blank (field_of r 6)) (is_blank (field_of r 7)) _ _ _ _ (traced_arbitrary_row (field_of r 1))
       (formed-read (far p) astray never _ _ _ (λ n. Ok (row.Arbitrary n)) (natural_of 1 64 (field_of r 1)) (natural-read 1 64 (field_of r 1)) (λ n d o e f. (refl, refl, e, f, refl)))
 
-  join-read : (r : FileRecord) → IsFormed (far p) astray false false (has_no_number (Some (join_form r))) (is_out_of_range (Some (join_form r))) false
-      (join_row (field_of r 1) (field_of r 2) (field_of r 3))
+  join-read : (r : FileRecord) → IsFormed (far p) astray false false (has_no_number (Some (traced_join_form r))) (is_out_of_range (Some (traced_join_form r))) false
+      (traced_join_row (field_of r 1) (field_of r 2) (field_of r 3))
   unfolding far astray
   join-read r =
       let both =
@@ -94,11 +95,11 @@ module _ (p : Values) where
       formed-read (far p) astray never _ _ _ join_with (both_of (both_of (natural_of 1 64 (field_of r 1)) (natural_of 1 64 (field_of r 2))) (natural_of 0 99_999 (field_of r 3))) all
       (λ a d o e f. (refl, refl, e, f, refl))
 
-  join-formed : (r : FileRecord) → IsFormedBy (far p) astray (Some (join_form r))
-      (if are_blank (field_of r 4) (field_of r 5) (field_of r 6) && is_blank (field_of r 7) then join_row (field_of r 1) (field_of r 2) (field_of r 3) else Err reason.Shape)
+  join-formed : (r : FileRecord) → IsFormedBy (far p) astray (Some (traced_join_form r))
+      (if are_blank (field_of r 4) (field_of r 5) (field_of r 6) && is_blank (field_of r 7) then traced_join_row (field_of r 1) (field_of r 2) (field_of r 3) else Err reason.Shape)
   join-formed r =
-      formed-four (far p) astray (is_blank (field_of r 4)) (is_blank (field_of r 5)) (is_blank (field_of r 6)) (is_blank (field_of r 7)) false (has_no_number (Some (join_form r)))
-      (is_out_of_range (Some (join_form r))) false (join_row (field_of r 1) (field_of r 2) (field_of r 3)) (join-read r)
+      formed-four (far p) astray (is_blank (field_of r 4)) (is_blank (field_of r 5)) (is_blank (field_of r 6)) (is_blank (field_of r 7)) false (has_no_number (Some (traced_join_form r)))
+      (is_out_of_range (Some (traced_join_form r))) false (traced_join_row (field_of r 1) (field_of r 2) (field_of r 3)) (join-read r)
 
 -- a term outside the widest limit is outside this one
 wide : (limit lo hi z : ℤ) → lo ≤ℤ neg_ℤ limit → limit ≤ℤ hi → (int_lt z lo || int_lt hi z) ≡ true → (int_lt z (neg_ℤ limit) || int_lt limit z) ≡ true
@@ -109,20 +110,20 @@ twice true = refl
 twice false = refl
 
 term-if : (limit lo hi z : ℤ) (b : Bool) → lo ≤ℤ neg_ℤ limit → limit ≤ℤ hi → (int_lt z lo || int_lt hi z) ≡ b
-    → IsFault (λ term. not (is_within limit term)) false ((lies_outside (neg_ℤ limit) limit (Some z) || false) || false) (if b then Err fault.OutOfRange else Ok z)
+    → IsFault (λ term. not (lies_within limit term)) false ((lies_outside (neg_ℤ limit) limit (Some z) || false) || false) (if b then Err fault.OutOfRange else Ok z)
 term-if limit lo hi z true l h e = (refl, rw (wide limit lo hi z l h e) refl)
 term-if limit lo hi z false l h e = (refl, twice (int_lt z (neg_ℤ limit) || int_lt limit z))
 
 term-of : (limit lo hi : ℤ) (o : Option ℤ) (text : List ℕ) → lo ≤ℤ neg_ℤ limit → limit ≤ℤ hi → number_of text ≡ o
-    → IsRead (λ term. not (is_within limit term)) (term_field text limit ∷ []) true (within lo hi o)
+    → IsRead (λ term. not (lies_within limit term)) (term_field text limit ∷ []) true (within lo hi o)
 term-of limit lo hi None text l h e = rw e refl
 term-of limit lo hi (Some z) text l h e = rw e (term-if limit lo hi z (int_lt z lo || int_lt hi z) l h refl)
 
-rate-read : (limit : ℤ) (text : List ℕ) → negsuc 1999 ≤ℤ neg_ℤ limit → limit ≤ℤ pos 2000 → IsRead (λ term. not (is_within limit term)) (term_field text limit ∷ []) true (rate_in text)
-unfolding rate_in
+rate-read : (limit : ℤ) (text : List ℕ) → negsuc 1999 ≤ℤ neg_ℤ limit → limit ≤ℤ pos 2000 → IsRead (λ term. not (lies_within limit term)) (term_field text limit ∷ []) true (traced_rate_in text)
+unfolding traced_rate_in
 rate-read limit text l h = term-of limit (negsuc 1999) (pos 2000) (number_of text) text l h refl
 
-offset-read : (limit : ℤ) (text : List ℕ) → negsuc 15_999 ≤ℤ neg_ℤ limit → limit ≤ℤ pos 16_000 → IsRead (λ term. not (is_within limit term)) (term_field text limit ∷ []) true (offset_in text)
+offset-read : (limit : ℤ) (text : List ℕ) → negsuc 15_999 ≤ℤ neg_ℤ limit → limit ≤ℤ pos 16_000 → IsRead (λ term. not (lies_within limit term)) (term_field text limit ∷ []) true (offset_in text)
 unfolding offset_in
 offset-read limit text l h = term-of limit (negsuc 15_999) (pos 16_000) (number_of text) text l h refl
 
@@ -147,23 +148,23 @@ module _ (p : Values) (rate_from : negsuc 1999 ≤ℤ neg_ℤ p.rate_limit) (rat
         (within-read (pos 0) (pos 900_000_000_000_000_000) (field_of r 3)) (within-read (pos 500_000) (pos 1_500_000) (field_of r 4))
         in
         let terms =
-        read-both (λ (z : ℤ). not (is_within p.rate_limit z)) (λ (z : ℤ). not (is_within p.offset_limit z)) (term_field (field_of r 5) p.rate_limit ∷ []) (term_field (field_of r 6) p.offset_limit ∷ []) true true
-        (rate_in (field_of r 5)) (offset_in (field_of r 6)) (rate-read p.rate_limit (field_of r 5) rate_from rate_to) (offset-read p.offset_limit (field_of r 6) offset_from offset_to)
+        read-both (λ (z : ℤ). not (lies_within p.rate_limit z)) (λ (z : ℤ). not (lies_within p.offset_limit z)) (term_field (field_of r 5) p.rate_limit ∷ []) (term_field (field_of r 6) p.offset_limit ∷ []) true true
+        (traced_rate_in (field_of r 5)) (offset_in (field_of r 6)) (rate-read p.rate_limit (field_of r 5) rate_from rate_to) (offset-read p.offset_limit (field_of r 6) offset_from offset_to)
         in
         let rest =
-        read-both (λ (q : ℤ × ℤ). never q.0 || never q.1) (λ (q : ℤ × ℤ). not (is_within p.rate_limit q.0) || not (is_within p.offset_limit q.1))
+        read-both (λ (q : ℤ × ℤ). never q.0 || never q.1) (λ (q : ℤ × ℤ). not (lies_within p.rate_limit q.0) || not (lies_within p.offset_limit q.1))
         (number_field (field_of r 3) 0 900_000_000_000_000_000 ∷ number_field (field_of r 4) 500_000 1_500_000 ∷ []) (term_field (field_of r 5) p.rate_limit ∷ term_field (field_of r 6) p.offset_limit ∷ []) true true
         (span_in (field_of r 3) (field_of r 4)) (terms_in (field_of r 5) (field_of r 6)) span terms
         in
         let all =
         read-both (λ (q : ℕ × ℕ). never q.0 || never q.1)
-        (λ (q : (ℤ × ℤ) × (ℤ × ℤ)). (never q.0.0 || never q.0.1) || (not (is_within p.rate_limit q.1.0) || not (is_within p.offset_limit q.1.1)))
+        (λ (q : (ℤ × ℤ) × (ℤ × ℤ)). (never q.0.0 || never q.0.1) || (not (lies_within p.rate_limit q.1.0) || not (lies_within p.offset_limit q.1.1)))
         (number_field (field_of r 1) 0 199_999 ∷ number_field (field_of r 2) 1 64 ∷ [])
         (number_field (field_of r 3) 0 900_000_000_000_000_000 ∷ number_field (field_of r 4) 500_000 1_500_000 ∷ term_field (field_of r 5) p.rate_limit ∷ term_field (field_of r 6) p.offset_limit ∷ []) true true
         (both_of (natural_of 0 199_999 (field_of r 1)) (natural_of 1 64 (field_of r 2))) (both_of (span_in (field_of r 3) (field_of r 4)) (terms_in (field_of r 5) (field_of r 6))) nodes rest
         in
         formed-read (far p) astray
-        (λ (q : (ℕ × ℕ) × ((ℤ × ℤ) × (ℤ × ℤ))). (never q.0.0 || never q.0.1) || ((never q.1.0.0 || never q.1.0.1) || (not (is_within p.rate_limit q.1.1.0) || not (is_within p.offset_limit q.1.1.1))))
+        (λ (q : (ℕ × ℕ) × ((ℤ × ℤ) × (ℤ × ℤ))). (never q.0.0 || never q.0.1) || ((never q.1.0.0 || never q.1.0.1) || (not (lies_within p.rate_limit q.1.1.0) || not (lies_within p.offset_limit q.1.1.1))))
         _ _ _ (clock_with state)
         (both_of (both_of (natural_of 0 199_999 (field_of r 1)) (natural_of 1 64 (field_of r 2))) (both_of (span_in (field_of r 3) (field_of r 4)) (terms_in (field_of r 5) (field_of r 6)))) all
         (λ a d o e f. (refl, refl, e, f, refl))
@@ -196,7 +197,7 @@ heard-formed p r =
     (number_field (field_of r 3) 1 1023 ∷ term_field (field_of r 5) (pos 1_000_000) ∷ []) true true (both_of (natural_of 0 199_999 (field_of r 1)) (natural_of 1 64 (field_of r 2)))
     (both_of (natural_of 1 1023 (field_of r 3)) (value_in (field_of r 5))) nodes rest
     in
-    formed-read (far p) astray never _ _ _ (heard_on (channel_of (field_of r 4)))
+    formed-read (far p) astray never _ _ _ (dev_row (channel_of (field_of r 4)))
     (both_of (both_of (natural_of 0 199_999 (field_of r 1)) (natural_of 1 64 (field_of r 2))) (both_of (natural_of 1 1023 (field_of r 3)) (value_in (field_of r 5)))) all
     (λ a d o e f. (refl, refl, e, f, spelt (channel_of (field_of r 4))))
 
@@ -208,8 +209,8 @@ formed p r a b c d =
     formed-sized (far p) astray (length r == 8) (is_overfull (trace_form p r)) (has_unknown_name (trace_form p r)) (has_no_number (trace_form p r)) (is_out_of_range (trace_form p r)) (has_bad_channels (trace_form p r))
     (trace_file_row (field_of r 0) (field_of r 1) (field_of r 2) (field_of r 3) (field_of r 4) (field_of r 5) (field_of r 6) (field_of r 7))
     (formed-if (far p) astray (bytes_eq (field_of r 0) (codes "run")) (Some (run_form r)) _ _ _ (run-formed p r)
-    (formed-if (far p) astray (bytes_eq (field_of r 0) (codes "arbitrary")) (Some (arbitrary_form r)) _ _ _ (arbitrary-formed p r)
-    (formed-if (far p) astray (bytes_eq (field_of r 0) (codes "join")) (Some (join_form r)) _ _ _ (join-formed p r)
+    (formed-if (far p) astray (bytes_eq (field_of r 0) (codes "arbitrary")) (Some (traced_arbitrary_form r)) _ _ _ (arbitrary-formed p r)
+    (formed-if (far p) astray (bytes_eq (field_of r 0) (codes "join")) (Some (traced_join_form r)) _ _ _ (join-formed p r)
     (formed-if (far p) astray (bytes_eq (field_of r 0) (codes "cycle")) (Some (clock_form p r)) _ _ _ (clock-by p a b c d r (state_of (field_of r 7)))
     (formed-if (far p) astray (bytes_eq (field_of r 0) (codes "dev")) (Some (heard_form r)) None _ (Err reason.UnknownName)
     (formed-two (far p) astray (is_blank (field_of r 6)) (is_blank (field_of r 7)) false (has_no_number (Some (heard_form r))) (is_out_of_range (Some (heard_form r))) (has_bad_channels (Some (heard_form r)))
@@ -220,7 +221,7 @@ formed p r a b c d =
 least-heard : (p : Values) (test : Reason → Bool) (comes : Bool) (cycle receiver slot : ℕ) (value : ℤ) (o : Option Channel)
     → let heard : HeardRow = record { cycle = cycle; receiver = receiver; slot = slot; channel = o; value = value } in
     test reason.Shape ≡ false → test reason.UnknownName ≡ false → test reason.NotNumber ≡ false → test reason.OutOfRange ≡ false → test reason.UnknownNode ≡ not (is_known p receiver)
-    → test reason.BadChannel ≡ is_none o → test reason.Role ≡ (not (is_of_other p heard) || not comes) → test reason.Link ≡ is_apart p (row.Heard heard) → test reason.NotHex ≡ false
+    → test reason.BadChannel ≡ is_none o → test reason.Role ≡ (not (is_of_other p heard) || not comes) → test reason.Link ≡ lacks_common_channel p (row.Heard heard) → test reason.NotHex ≡ false
     → test reason.Repeated ≡ false → IsLeastReason test (heard_reason p heard comes)
 least-heard p test comes cycle receiver slot value None e1 e2 e3 e4 e5 e6 e7 e8 e9 e10 =
     least-first test false false false false (not (is_known p receiver)) true _ _ _ _ e1 e2 e3 e4 e5 e6 refl refl refl refl
@@ -231,7 +232,7 @@ least-heard p test comes cycle receiver slot value (Some ch) e1 e2 e3 e4 e5 e6 e
 -- by what it says
 least-row : (p : Values) (test : Reason → Bool) (before : List FileRecord) (x : Result Row Reason)
     → IsFormed (far p) astray (test reason.Shape) (test reason.UnknownName) (test reason.NotNumber) (test reason.OutOfRange) (test reason.BadChannel) x
-    → test reason.UnknownNode ≡ row_passes (names_stranger p) x → test reason.Role ≡ row_passes (is_out_of_place p before) x → test reason.Link ≡ row_passes (is_apart p) x → test reason.NotHex ≡ false
+    → test reason.UnknownNode ≡ row_passes (trace_names_stranger p) x → test reason.Role ≡ row_passes (is_out_of_place p before) x → test reason.Link ≡ row_passes (lacks_common_channel p) x → test reason.NotHex ≡ false
     → test reason.Repeated ≡ false → IsLeastReason test (trace_row_reason p before x)
 unfolding far astray
 least-row p test before (Err why) f node role link hex again = least-formed (far p) astray test why f node
@@ -240,7 +241,7 @@ least-row p test before (Ok (row.Run n)) f node role link hex again =
 least-row p test before (Ok (row.Arbitrary n)) f node role link hex again =
     least-first test false false false false (not (is_known p n)) false (is_none (own_key p n) || not (may_come p before (row.Arbitrary n))) false false false f.0 f.1 f.2 f.3 node f.4 role link hex again
 least-row p test before (Ok (row.Join j)) f node role link hex again =
-    least-first test false false false false (not (knows_both p j)) false (joins_wrongly p (named_at before) (joins_at before) j || not (may_come p before (row.Join j))) (not (have_common p j)) false false
+    least-first test false false false false (not (knows_node_and_reference p j)) false (joins_wrongly p (named_at before) (joins_at before) j || not (may_come p before (row.Join j))) (not (have_common p j)) false false
     f.0 f.1 f.2 f.3 node f.4 role link hex again
 least-row p test before (Ok (row.Clock cycle clock)) f node role link hex again =
     least-first test false false false (is_beyond p clock) (not (is_known p clock.node)) false (not (may_come p before (row.Clock cycle clock))) false false false f.0 f.1 f.2 f.3 node f.4 role link hex again

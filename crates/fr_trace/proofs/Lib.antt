@@ -12,3 +12,7 @@ pub mod Sounding
 pub mod Taking
 pub mod Ending
 pub mod Answering
+pub mod Counts
+pub mod Behind
+pub mod InOrder
+pub mod Places

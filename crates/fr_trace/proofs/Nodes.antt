@@ -12,7 +12,7 @@ use Rattle.fr_base.specs.declared.node_row.NodeRow.{NodeRow}
 use Rattle.fr_cluster.specs.Searches.{node_in}
 use Rattle.fr_cluster.specs.declared.nodes.NodeSpec.{NodeSpec}
 use Rattle.fr_history.specs.History.{row_of}
-use Rattle.fr_trace.specs.Order.{is_due_behind, next_due_in}
+use Rattle.fr_trace.specs.Order.{is_due_after, next_due_in}
 use Rattle.fr_trace.specs.declared.trace.TracedJoin.{TracedJoin}
 
 filter-yes : {X : Type 0} (p : X → Bool) (x : X) (xs : List X) → p x ≡ true → filter p (x ∷ xs) ≡ x ∷ filter p xs
@@ -50,17 +50,17 @@ cut-at nodes place spec lt is =
 
 module _ (named : List ℕ) (joins : List TracedJoin) (cycle : ℕ) (before : List NodeRow) where
   pub next-here : (nodes : List NodeSpec) (node place : ℕ) (spec : NodeSpec) → place < length nodes → slice_get nodes place ≡ Some spec
-      → is_due_behind named joins cycle before node spec ≡ true → Some spec.id ≡ next_due_in (drop place nodes) named joins cycle before node
+      → is_due_after named joins cycle before node spec ≡ true → Some spec.id ≡ next_due_in (drop place nodes) named joins cycle before node
   next-here nodes node place spec lt is e =
       sym (ap (λ (l : List NodeSpec). next_due_in l named joins cycle before node) (cut-at nodes place spec lt is)
-      ∙ ap (λ (o : Option NodeSpec). option_map (λ s. s.id) o) (find-yes (is_due_behind named joins cycle before node) spec (drop (place + 1) nodes) e))
+      ∙ ap (λ (o : Option NodeSpec). option_map (λ s. s.id) o) (find-yes (is_due_after named joins cycle before node) spec (drop (place + 1) nodes) e))
 
   pub next-there : (nodes : List NodeSpec) (node place : ℕ) (spec : NodeSpec) → place < length nodes → slice_get nodes place ≡ Some spec
-      → is_due_behind named joins cycle before node spec ≡ false
+      → is_due_after named joins cycle before node spec ≡ false
       → next_due_in (drop (place + 1) nodes) named joins cycle before node ≡ next_due_in (drop place nodes) named joins cycle before node
   next-there nodes node place spec lt is e =
       sym (ap (λ (l : List NodeSpec). next_due_in l named joins cycle before node) (cut-at nodes place spec lt is)
-      ∙ ap (λ (o : Option NodeSpec). option_map (λ s. s.id) o) (find-no (is_due_behind named joins cycle before node) spec (drop (place + 1) nodes) e))
+      ∙ ap (λ (o : Option NodeSpec). option_map (λ s. s.id) o) (find-no (is_due_after named joins cycle before node) spec (drop (place + 1) nodes) e))
 
   pub next-none : (nodes : List NodeSpec) (node place : ℕ) → length nodes ≤ place → None ≡ next_due_in (drop place nodes) named joins cycle before node
   next-none nodes node place past = sym (ap (λ (l : List NodeSpec). next_due_in l named joins cycle before node) (drop_all place nodes past))

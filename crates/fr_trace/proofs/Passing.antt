@@ -5,7 +5,7 @@ use Rattle.std.specs.Option.{option_map, option_map_or}
 use Rattle.std.proofs.lemmas.Bool.Decides.{nat_tests}
 use Rattle.std.proofs.lemmas.Int.{ints}
 use Rattle.fr_base.specs.Rows.{dev_with}
-use Rattle.fr_base.specs.Within.{IsWithin}
+use Rattle.fr_base.specs.Within.{IsWithin, lies_within}
 use Rattle.fr_base.specs.declared.channel.Channel.{Channel}
 use Rattle.fr_base.specs.declared.node_row.NodeRow.{NodeRow}
 use Rattle.fr_base.specs.declared.reason.Reason.TheVariants as reason
@@ -14,7 +14,7 @@ use Rattle.fr_cluster.specs.Searches.{key_node_in}
 use Rattle.fr_cluster.specs.Values.{Values}
 use Rattle.fr_cluster.specs.declared.nodes.NodeSpec.{NodeSpec}
 use Rattle.fr_trace.specs.Fits.{IsAboutOther}
-use Rattle.fr_trace.specs.Reasons.{heard_reason, is_beyond, is_linked, is_of_other, is_within}
+use Rattle.fr_trace.specs.Reasons.{heard_reason, is_beyond, is_linked, is_of_other}
 use Rattle.fr_trace.specs.declared.rows.HeardRow.{HeardRow}
 
 -- ---- tests
@@ -48,7 +48,7 @@ eq-not a b e = λ same. absurd (grind (arith, nat_tests, same))
 pub lt-is : (a b : ℕ) → nat_lt a b ≡ true → a < b
 lt-is a b e = grind (arith, nat_tests)
 
-pub within-is : (limit term : ℤ) → is_within limit term ≡ true → IsWithin limit term
+pub within-is : (limit term : ℤ) → lies_within limit term ≡ true → IsWithin limit term
 within-is limit term e = record { low = grind (arith, ints, e); high = grind (arith, ints, e) }
 
 -- ---- what a row passes that is taken
@@ -122,5 +122,5 @@ about-other p heard ch (Some sender) e other linked = record {
 -- the terms of a row within their limits
 pub terms-within : (p : Values) (clock : NodeRow) → is_beyond p clock ≡ false → IsWithin p.rate_limit clock.rate × IsWithin p.offset_limit clock.offset
 terms-within p clock e =
-    let both = both-false (not (is_within p.rate_limit clock.rate)) (not (is_within p.offset_limit clock.offset)) e in
+    let both = both-false (not (lies_within p.rate_limit clock.rate)) (not (lies_within p.offset_limit clock.offset)) e in
     (within-is p.rate_limit clock.rate (not-true _ both.0), within-is p.offset_limit clock.offset (not-true _ both.1))

@@ -13,7 +13,7 @@ use Rattle.fr_records.specs.Records.{FileRecord}
 use Rattle.fr_records.proofs.Lookups.{looked_up-more}
 use Rattle.fr_base.specs.declared.node_row.NodeRow.{NodeRow}
 use Rattle.fr_trace.specs.Draft.{AreSaid, over_with, part_with}
-use Rattle.fr_trace.specs.Said.{clocks_in, dev_on, devs_in, doubles_at, doubles_in, history_said, joins_at, joins_in, last_at, named_at, named_in, no_record, record_said, said_in}
+use Rattle.fr_trace.specs.Said.{clocks_in, dev_on, devs_in, history_said, joins_at, last_row_at, named_at, named_in, no_record, record_said, said_trace_row, traced_doubles_at, traced_doubles_in, traced_joins_in}
 use Rattle.fr_trace.specs.Rows.{trace_row_of}
 use Rattle.fr_trace.specs.declared.rows.HeardRow.{HeardRow}
 use Rattle.fr_trace.specs.declared.rows.Row.{Row}
@@ -25,24 +25,24 @@ flat-last f xs x = flat_map-append f xs (x ∷ []) ∙ ap (λ (l : List _). flat
 
 -- ---- the head
 
-pub doubles-more : (done : List FileRecord) (r : FileRecord) (x : Result Row Reason) → trace_row_of r ≡ x → doubles_at (done ++ r ∷ []) ≡ or_else (doubles_at done) (doubles_in x)
-doubles-more done r x e = looked_up-more doubles_in trace_row_of done r x e
+pub doubles-more : (done : List FileRecord) (r : FileRecord) (x : Result Row Reason) → trace_row_of r ≡ x → traced_doubles_at (done ++ r ∷ []) ≡ or_else (traced_doubles_at done) (traced_doubles_in x)
+doubles-more done r x e = looked_up-more traced_doubles_in trace_row_of done r x e
 
 pub named-more : (done : List FileRecord) (r : FileRecord) (x : Result Row Reason) → trace_row_of r ≡ x → named_at (done ++ r ∷ []) ≡ named_at done ++ named_in x
 unfolding named_at
 named-more done r x e = flat-last (λ q. named_in (trace_row_of q)) done r ∙ ap (λ (y : Result Row Reason). flat_map (λ q. named_in (trace_row_of q)) done ++ named_in y) e
 
-pub joins-more : (done : List FileRecord) (r : FileRecord) (x : Result Row Reason) → trace_row_of r ≡ x → joins_at (done ++ r ∷ []) ≡ joins_at done ++ joins_in x
+pub joins-more : (done : List FileRecord) (r : FileRecord) (x : Result Row Reason) → trace_row_of r ≡ x → joins_at (done ++ r ∷ []) ≡ joins_at done ++ traced_joins_in x
 unfolding joins_at
-joins-more done r x e = flat-last (λ q. joins_in (trace_row_of q)) done r ∙ ap (λ (y : Result Row Reason). flat_map (λ q. joins_in (trace_row_of q)) done ++ joins_in y) e
+joins-more done r x e = flat-last (λ q. traced_joins_in (trace_row_of q)) done r ∙ ap (λ (y : Result Row Reason). flat_map (λ q. traced_joins_in (trace_row_of q)) done ++ traced_joins_in y) e
 
 or_else-some : {A : Type 0} (a : A) (o : Option A) → or_else (or_else (Some a) None) o ≡ Some a
 or_else-some a o = refl
 
-pub last-more : (done : List FileRecord) (r : FileRecord) (said : Row) → trace_row_of r ≡ Ok said → last_at (done ++ r ∷ []) ≡ Some said
-unfolding last_at
-last-more [] r said e = ap (λ (y : Result Row Reason). or_else None (said_in y)) e
-last-more (q ∷ qs) r said e = ap (λ (o : Option Row). or_else o (said_in (trace_row_of q))) (last-more qs r said e)
+pub last-more : (done : List FileRecord) (r : FileRecord) (said : Row) → trace_row_of r ≡ Ok said → last_row_at (done ++ r ∷ []) ≡ Some said
+unfolding last_row_at
+last-more [] r said e = ap (λ (y : Result Row Reason). or_else None (said_trace_row y)) e
+last-more (q ∷ qs) r said e = ap (λ (o : Option Row). or_else o (said_trace_row (trace_row_of q))) (last-more qs r said e)
 
 -- ---- the cycles
 

@@ -16,12 +16,12 @@ use Rattle.fr_cluster.specs.Values.{Values}
 use Rattle.fr_cluster.specs.declared.join.Join.{Join}
 use Rattle.fr_cluster.specs.declared.nodes.NodeSpec.{NodeSpec}
 use Rattle.fr_history.specs.History.{History, Record, row_of}
-use Rattle.fr_trace.specs.Draft.{AreAllNamed, AreKept, IsBegun, IsOver, IsUnderWay, IsUpTo}
-use Rattle.fr_trace.specs.Fits.{IsAboutOther, JoinsProperly}
-use Rattle.fr_trace.specs.Joins.{first_cycle, has_row_by, is_among, join_among, latest_rows, stands_in}
+use Rattle.fr_trace.specs.Draft.{AreAllNamed, AreHeld, IsBegun, IsCycleUnderWay, IsOver, IsUpTo}
+use Rattle.fr_trace.specs.Fits.{IsAboutOther, TracedJoinIsProper}
+use Rattle.fr_trace.specs.Joins.{first_cycle, has_traced_row, is_among, join_among, latest_rows, stands_in}
 use Rattle.fr_trace.specs.Lasting.{IsTracedRow}
-use Rattle.fr_trace.specs.Order.{begins_by, clock_turn, heard_turn, is_behind, is_due_behind, is_up_to, may_stand, may_stand_behind, must_stand, next_due, rank_of, stays_by}
-use Rattle.fr_trace.specs.Reasons.{is_known}
+use Rattle.fr_trace.specs.Order.{begins_by, clock_turn, heard_turn, is_due_after, is_up_to, may_stand, may_stand_after, must_stand, next_due, rank_of, stands_after, stays_by}
+use Rattle.fr_cluster.specs.Questions.{is_known}
 use Rattle.fr_trace.specs.Rows.{IsProperHeard}
 use Rattle.fr_trace.specs.Said.{dev_on, no_record}
 use Rattle.fr_trace.specs.declared.order.Turn.{Turn}
@@ -60,7 +60,7 @@ clash a e f = absurd (cc (e, f))
 -- ---- rows and deviations of a cycle
 
 module _ (p : Values) where
-  pub blank-kept : AreKept p no_record
+  pub blank-kept : AreHeld p no_record
   blank-kept = record {
     rows_ascend = λ i j d lt le. absurd (omega (arith, le));
     rows_proper = All-nil IsTracedRow;
@@ -93,9 +93,9 @@ module _ (p : Values) (nodes : AreNodes p) (named : List ℕ) (joins : List Trac
   -- no node between one that is found and another must have a row
   between : (n other k : ℕ) → n < k → k < other → is_known p k ≡ true → must_stand named joins (length h) (latest_rows h) k ≡ true
       → is_up_to other (next_due p named joins (length h) (latest_rows h) n) ≡ true → ⊥
-  between n other k above below known must upto = by (find (is_due_behind named joins (length h) (latest_rows h) n) p.nodes) first upto
+  between n other k above below known must upto = by (find (is_due_after named joins (length h) (latest_rows h) n) p.nodes) first upto
     where
-      first : IsFoundUpTo k (find (is_due_behind named joins (length h) (latest_rows h) n) p.nodes)
+      first : IsFoundUpTo k (find (is_due_after named joins (length h) (latest_rows h) n) p.nodes)
       first =
           found-up-to (λ m. nat_lt n m && must_stand named joins (length h) (latest_rows h) m) p.nodes k nodes.ascend known
           (and-yes (nat_lt n k) (must_stand named joins (length h) (latest_rows h) k) (lt-yes n k above) must)
@@ -105,7 +105,7 @@ module _ (p : Values) (nodes : AreNodes p) (named : List ℕ) (joins : List Trac
       by (Some s) found le = let up = le-is other s.id le in omega (arith, up, found, below)
 
   -- the row of a node is put behind that of another
-  module _ (n : ℕ) (r : Record) (clock : NodeRow) (begun : IsBegun p named joins h n r) (comes : may_stand_behind p named joins (length h) (latest_rows h) n clock.node ≡ true)
+  module _ (n : ℕ) (r : Record) (clock : NodeRow) (begun : IsBegun p named joins h n r) (comes : may_stand_after p named joins (length h) (latest_rows h) n clock.node ≡ true)
       (known : is_known p clock.node ≡ true) where
     parts : ((nat_lt n clock.node && may_stand named joins (length h) (latest_rows h) clock.node) ≡ true) × (is_up_to clock.node (next_due p named joins (length h) (latest_rows h) n) ≡ true)
     parts =
@@ -136,7 +136,7 @@ module _ (p : Values) (nodes : AreNodes p) (named : List ℕ) (joins : List Trac
         by (inl above) (inr ge) = or-right (is_some (row_of r.rows k)) (clock.node == k) (eq-yes clock.node k (omega (arith, le, ge)))
 
     pub row-put : All (λ dev. dev.receiver ≤ n) r.devs → IsTracedRow clock → IsWithin p.rate_limit clock.rate → IsWithin p.offset_limit clock.offset
-        → IsUnderWay p named joins h (clock_turn clock) (record r { rows = r.rows ++ clock ∷ [] })
+        → IsCycleUnderWay p named joins h (clock_turn clock) (record r { rows = r.rows ++ clock ∷ [] })
     row-put devs_to proper rate offset =
         let above = comes-above in
         let split : map (λ row. row.node) (r.rows ++ clock ∷ []) ≡ map (λ row. row.node) r.rows ++ clock.node ∷ [] = map-append (λ (row : NodeRow). row.node) r.rows (clock ∷ []) in
@@ -163,11 +163,11 @@ module _ (p : Values) (nodes : AreNodes p) (named : List ℕ) (joins : List Trac
           devs_to = All-weaker (λ dev. dev.receiver ≤ n) (IsUpTo (clock_turn clock)) (λ dev le. inl (omega (arith, le, above))) r.devs devs_to;
         }
 
-  pub way-low : (turn : Turn) (r : Record) → IsUnderWay p named joins h turn r → All (λ dev. dev.receiver ≤ turn.node) r.devs
+  pub way-low : (turn : Turn) (r : Record) → IsCycleUnderWay p named joins h turn r → All (λ dev. dev.receiver ≤ turn.node) r.devs
   way-low turn r way = All-weaker (IsUpTo turn) (λ dev. dev.receiver ≤ turn.node) (low p turn) r.devs way.devs_to
 
   -- a deviation behind a place comes after each one up to there
-  module _ (turn : Turn) (heard : HeardRow) (ch : Channel) (is : heard.channel ≡ Some ch) (same : heard.receiver ≡ turn.node) (behind : is_behind turn heard ≡ true) where
+  module _ (turn : Turn) (heard : HeardRow) (ch : Channel) (is : heard.channel ≡ Some ch) (same : heard.receiver ≡ turn.node) (behind : stands_after turn heard ≡ true) where
     rank : rank_of heard.channel ≡ channel_rank ch
     rank = ap rank_of is
 
@@ -202,12 +202,12 @@ module _ (p : Values) (nodes : AreNodes p) (named : List ℕ) (joins : List Trac
     itself : IsUpTo (heard_turn heard) (dev_with heard.receiver heard.slot ch heard.value)
     itself = let r = rank in inr (refl, inr (refl, omega (arith, r)))
 
-    pub dev-put : (r : Record) → IsUnderWay p named joins h turn r → IsAboutOther p (dev_with heard.receiver heard.slot ch heard.value) → IsProperHeard heard
-        → IsUnderWay p named joins h (heard_turn heard) (record r { devs = r.devs ++ dev_on heard heard.channel })
+    pub dev-put : (r : Record) → IsCycleUnderWay p named joins h turn r → IsAboutOther p (dev_with heard.receiver heard.slot ch heard.value) → IsProperHeard heard
+        → IsCycleUnderWay p named joins h (heard_turn heard) (record r { devs = r.devs ++ dev_on heard heard.channel })
     dev-put r way about proper =
         let dev = dev_with heard.receiver heard.slot ch heard.value in
         let one : dev_on heard heard.channel ≡ dev ∷ [] = ap (dev_on heard) is in
-        let P : List Dev → Type 0 = λ l. IsUnderWay p named joins h (heard_turn heard) (record r { devs = r.devs ++ l }) in
+        let P : List Dev → Type 0 = λ l. IsCycleUnderWay p named joins h (heard_turn heard) (record r { devs = r.devs ++ l }) in
         let begun = way.begun in
         subst P (sym one) (record {
           begun = record {
@@ -261,7 +261,7 @@ must-of-has (Some join) h r k none has = by (length h == first_cycle join) refl
 
 module _ (p : Values) (nodes : AreNodes p) (named : List ℕ) (joins : List TracedJoin) (h : History) (r : Record) where
   abbrev Has : ℕ → Bool
-  Has k = has_row_by named joins h r k
+  Has k = has_traced_row named joins h r k
 
   -- where no node must have a row any more, each that is to have one has it
   pub over-at : (n : ℕ) → IsBegun p named joins h n r → is_none (next_due p named joins (length h) (latest_rows h) n) ≡ true → IsOver p named joins h r
@@ -274,7 +274,7 @@ module _ (p : Values) (nodes : AreNodes p) (named : List ℕ) (joins : List Trac
           and-yes (not (is_among named k)) (stays_by (join_among joins k) (length h) (latest_rows h) k) both.0 (must-of-has (join_among joins k) h r k row both.1)
           in
           elim (cases_lt n k) [
-            | inl above ↦ nowhere (find (is_due_behind named joins (length h) (latest_rows h) n) p.nodes)
+            | inl above ↦ nowhere (find (is_due_after named joins (length h) (latest_rows h) n) p.nodes)
                 (found-up-to (λ m. nat_lt n m && must_stand named joins (length h) (latest_rows h) m) p.nodes k nodes.ascend known
                 (and-yes (nat_lt n k) (must_stand named joins (length h) (latest_rows h) k) (lt-yes n k above) must)) none
             | inr le ↦ clash (is_some (row_of r.rows k)) (begun.must k le known must) row
@@ -300,12 +300,12 @@ module _ (p : Values) (nodes : AreNodes p) (named : List ℕ) where
   -- where each node is arbitrary, no cycle has a row
   pub over-blank : (joins : List TracedJoin) (h : History) → AreAllNamed p named → IsOver p named joins h no_record
   over-blank joins h all = record {
-    nodes = rows-are (λ k. has_row_by named joins h no_record k) p.nodes [] nodes.ascend (λ i j d lt le. absurd (omega (arith, le))) (λ k. by k (is_known p k) refl);
+    nodes = rows-are (λ k. has_traced_row named joins h no_record k) p.nodes [] nodes.ascend (λ i j d lt le. absurd (omega (arith, le))) (λ k. by k (is_known p k) refl);
     kept = blank-kept p;
   }
     where
       Has : ℕ → Bool
-      Has k = has_row_by named joins h no_record k
+      Has k = has_traced_row named joins h no_record k
 
       by : (k : ℕ) (b : Bool) → is_known p k ≡ b → false ≡ (Has k && is_known p k)
       by k true known =
@@ -331,14 +331,14 @@ module _ (p : Values) (nodes : AreNodes p) (named : List ℕ) where
       by false is more = more (sym (ap (λ (b : Bool). option_map (λ j. j.join) (if b then Some x else find (λ j. j.node == k) xs)) is) ∙ e)
 
   -- where no node must have a row in the first cycle, each is arbitrary: one that joins has a reference that must have one
-  pub all-named : (joins : List TracedJoin) → All (JoinsProperly p named joins) joins → is_none (next_due p named joins 0 [] 0) ≡ true → AreAllNamed p named
+  pub all-named : (joins : List TracedJoin) → All (TracedJoinIsProper p named joins) joins → is_none (next_due p named joins 0 [] 0) ≡ true → AreAllNamed p named
   all-named joins proper none k known = by (is_among named k) refl (join_among joins k) refl
     where
       due : (m : ℕ) → is_known p m ≡ true → is_among named m ≡ false → join_among joins m ≡ None → ⊥
       due m known_m unnamed stays =
           let low = known-low p nodes m known_m in
           let must : must_stand named joins 0 [] m ≡ true = (λ i. not (unnamed i) && stays_by (stays i) 0 [] m) in
-          nowhere (find (is_due_behind named joins 0 [] 0) p.nodes)
+          nowhere (find (is_due_after named joins 0 [] 0) p.nodes)
           (found-up-to (λ n. nat_lt 0 n && must_stand named joins 0 [] n) p.nodes m nodes.ascend known_m (and-yes (nat_lt 0 m) (must_stand named joins 0 [] m) (lt-yes 0 m (omega (arith, low))) must)) none
         where
           nowhere : (o : Option NodeSpec) → IsFoundUpTo m o → is_none (option_map (λ s. s.id) o) ≡ true → ⊥
@@ -349,5 +349,5 @@ module _ (p : Values) (nodes : AreNodes p) (named : List ℕ) where
       by true e o is = e
       by false e None is = absurd (due k known e is)
       by false e (Some join) is =
-          let found = of-found (JoinsProperly p named joins) k joins join proper is in
+          let found = of-found (TracedJoinIsProper p named joins) k joins join proper is in
           absurd (due found.0.join.reference found.1.known_reference found.1.correct_reference found.1.stays)

@@ -6,7 +6,7 @@ use Rattle.fr_history.specs.History.{History}
 use Rattle.fr_records.proofs.Lookups.{looked_up-nil}
 use Rattle.fr_trace.specs.Cycles.{history_by}
 use Rattle.fr_trace.specs.Draft.{AreOver, IsTraceDraft, over_of, part_of}
-use Rattle.fr_trace.specs.Said.{doubles_in, history_said, joins_at, last_at, named_at, no_record, record_said}
+use Rattle.fr_trace.specs.Said.{history_said, joins_at, last_row_at, named_at, no_record, record_said, traced_doubles_in}
 use Rattle.fr_trace.specs.Rows.{trace_row_of}
 use Rattle.fr_trace.specs.declared.draft.Draft.{Draft}
 use Rattle.fr_trace.specs.declared.trace.TracedCycle.{TracedCycle}
@@ -18,12 +18,12 @@ none-by cycles e = ap history_by e
 
 pub none-said : (p : Values) (d : Draft) → d.arbitrary.items ≡ [] → d.joins.items ≡ [] → d.cycles.items ≡ [] → d.rows.items ≡ [] → d.devs.items ≡ [] → d.doubles ≡ None → d.last ≡ None → d.count ≡ 0
     → IsTraceDraft p d []
-unfolding named_at joins_at last_at history_said record_said AreOver
+unfolding named_at joins_at last_row_at history_said record_said AreOver
 none-said p d arbitrary joins cycles rows devs doubles last count =
     let over : over_of d ≡ [] = none-by d.cycles.items cycles in
     let part : part_of d ≡ no_record = λ i. record { rows = rows i; devs = devs i; counts = no_counts } in
     record {
-      doubles = doubles ∙ sym (looked_up-nil (λ r. doubles_in (trace_row_of r)));
+      doubles = doubles ∙ sym (looked_up-nil (λ r. traced_doubles_in (trace_row_of r)));
       named = arbitrary;
       joins = joins;
       last = last;

@@ -8,12 +8,12 @@ use Rattle.fr_cluster.specs.Values.{Values}
 use Rattle.fr_history.specs.History.{History, Record}
 use Rattle.fr_records.specs.Fields.{or_else}
 use Rattle.fr_records.specs.Records.{FileRecord}
-use Rattle.fr_trace.specs.Draft.{AreSaid, HasPut, IsAtLast, IsSound, IsTraceDraft, over_of, over_with, part_of}
+use Rattle.fr_trace.specs.Draft.{AreSaid, HasPut, IsAtLast, IsDraftSound, IsTraceDraft, over_of, over_with, part_of}
 use Rattle.fr_trace.specs.Joins.{latest_rows}
-use Rattle.fr_trace.specs.Order.{before_at, count_of, cycle_of, here_at, may_come, may_follow}
+use Rattle.fr_trace.specs.Order.{before_at, cycle_of, doubles_or_0, here_at, may_come, may_come_next}
 use Rattle.fr_trace.specs.Reasons.{row_reason, trace_reason_after, trace_row_reason}
 use Rattle.fr_trace.specs.Rows.{IsProperTraceRow, trace_row_of}
-use Rattle.fr_trace.specs.Said.{doubles_in, history_said, joins_in, last_at, named_in, record_said}
+use Rattle.fr_trace.specs.Said.{history_said, last_row_at, named_in, record_said, traced_doubles_in, traced_joins_in}
 use Rattle.fr_trace.specs.declared.draft.Draft.{Draft}
 use Rattle.fr_trace.specs.declared.rows.Row.{Row}
 use Rattle.fr_trace.specs.declared.rows.Row.TheVariants as row
@@ -39,7 +39,7 @@ cycle-is p doubles named joins (Some (row.Heard heard)) h r at = at.numbered
 
 -- the rows of the cycle before, and of this one, are those that are held
 module _ (p : Values) (d : Draft) (done : List FileRecord) (h : IsTraceDraft p d done) where
-  cycle-at : length (over_of d) ≡ cycle_of (last_at done)
+  cycle-at : length (over_of d) ≡ cycle_of (last_row_at done)
   cycle-at = sym (cycle-is p d.doubles d.arbitrary.items d.joins.items d.last (over_of d) (part_of d) h.sound.at) ∙ ap cycle_of h.last
 
   pub before-is : latest_rows (over_of d) ≡ before_at done
@@ -50,10 +50,10 @@ module _ (p : Values) (d : Draft) (done : List FileRecord) (h : IsTraceDraft p d
 
 -- whether a row may come next, by what is held
 abbrev pub may_next : Values → Draft → Row → Bool
-may_next p d said = may_follow p (count_of d.doubles) d.arbitrary.items d.joins.items (latest_rows (over_of d)) d.rows.items d.last said
+may_next p d said = may_come_next p (doubles_or_0 d.doubles) d.arbitrary.items d.joins.items (latest_rows (over_of d)) d.rows.items d.last said
 
 pub comes-same : (p : Values) (d : Draft) (done : List FileRecord) (said : Row) → IsTraceDraft p d done → may_next p d said ≡ may_come p done said
-comes-same p d done said h = λ i. may_follow p (count_of (h.doubles i)) (h.named i) (h.joins i) (before-is p d done h i) (here-is p d done h i) (h.last i) said
+comes-same p d done said h = λ i. may_come_next p (doubles_or_0 (h.doubles i)) (h.named i) (h.joins i) (before-is p d done h i) (here-is p d done h i) (h.last i) said
 
 -- why it is refused, if it is
 abbrev pub why_next : Values → Draft → Row → Option Reason
@@ -63,12 +63,12 @@ pub why-same : (p : Values) (d : Draft) (done : List FileRecord) (said : Row) �
 why-same p d done said h = λ i. row_reason p (h.named i) (h.joins i) said (comes-same p d done said h i)
 
 sound-along : (p : Values) (a b : Option ℕ) (n m : List ℕ) (s t : List TracedJoin) (l k : Option Row) (h g : History) (r q : Record) → a ≡ b → n ≡ m → s ≡ t → l ≡ k → h ≡ g → r ≡ q
-    → IsSound p a n s l h r → IsSound p b m t k g q
+    → IsDraftSound p a n s l h r → IsDraftSound p b m t k g q
 sound-along p a b n m s t l k h g r q e1 e2 e3 e4 e5 e6 sound =
-    subst (λ (x : Option ℕ). IsSound p x m t k g q) e1
-    (subst (λ (x : List ℕ). IsSound p a x t k g q) e2
-    (subst (λ (x : List TracedJoin). IsSound p a n x k g q) e3
-    (subst (λ (x : Option Row). IsSound p a n s x g q) e4 (subst (λ (x : History). IsSound p a n s l x q) e5 (subst (λ (x : Record). IsSound p a n s l h x) e6 sound)))))
+    subst (λ (x : Option ℕ). IsDraftSound p x m t k g q) e1
+    (subst (λ (x : List ℕ). IsDraftSound p a x t k g q) e2
+    (subst (λ (x : List TracedJoin). IsDraftSound p a n x k g q) e3
+    (subst (λ (x : Option Row). IsDraftSound p a n s x g q) e4 (subst (λ (x : History). IsDraftSound p a n s l x q) e5 (subst (λ (x : Record). IsDraftSound p a n s l h x) e6 sound)))))
 
 more-counted : (count n m : ℕ) → count ≡ min n (2 ^ 64 - 1) → m ≡ n + 1 → min (count + 1) (2 ^ 64 - 1) ≡ min m (2 ^ 64 - 1)
 more-counted count n m e f = omega (arith, e, f)
@@ -85,9 +85,9 @@ row-taken p d e done r said sane h says fine proper put =
     (subst (λ (x : Record). AreSaid (over_with (over_of d) (part_of d) said) x (done ++ r ∷ [])) (sym put.part) next)
     in
     record {
-      doubles = put.doubles ∙ sym after.told ∙ ap (λ (o : Option ℕ). or_else o (doubles_in (Ok said))) h.doubles ∙ sym (doubles-more done r (Ok said) says);
+      doubles = put.doubles ∙ sym after.told ∙ ap (λ (o : Option ℕ). or_else o (traced_doubles_in (Ok said))) h.doubles ∙ sym (doubles-more done r (Ok said) says);
       named = put.named ∙ ap (λ (l : List ℕ). l ++ named_in (Ok said)) h.named ∙ sym (named-more done r (Ok said) says);
-      joins = put.joins ∙ ap (λ (l : List TracedJoin). l ++ joins_in (Ok said)) h.joins ∙ sym (joins-more done r (Ok said) says);
+      joins = put.joins ∙ ap (λ (l : List TracedJoin). l ++ traced_joins_in (Ok said)) h.joins ∙ sym (joins-more done r (Ok said) says);
       last = put.last ∙ sym (last-more done r said says);
       count = put.count ∙ more-counted d.count (length done) (length (done ++ r ∷ [])) h.count (length-append done (r ∷ []));
       over = kept.over;

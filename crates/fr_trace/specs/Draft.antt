@@ -6,22 +6,22 @@ use Rattle.fr_base.specs.Within.{IsWithin}
 use Rattle.fr_base.specs.declared.dev.Dev.{Dev}
 use Rattle.fr_base.specs.declared.node_row.NodeRow.{NodeRow}
 use Rattle.fr_base.specs.declared.reason.Reason.{Reason}
-use Rattle.fr_cluster.specs.Questions.{own_key}
+use Rattle.fr_cluster.specs.Questions.{is_known, own_key}
 use Rattle.fr_cluster.specs.Sane.{IsSane}
 use Rattle.fr_cluster.specs.Values.{Values}
 use Rattle.fr_history.specs.History.{History, Record, row_of}
 use Rattle.fr_records.specs.Records.{FileRecord}
 use Rattle.fr_records.specs.Refusal.{Refusing}
-use Rattle.fr_records.specs.Takes.{Takes}
+use Rattle.fr_records.specs.Takes.{TakesRow}
 use Rattle.fr_trace.specs.Cycles.{history_by}
 use Rattle.fr_trace.specs.Files.{TraceStandsFor, is_whole}
-use Rattle.fr_trace.specs.Fits.{IsAboutOther, JoinsProperly, TraceFits}
-use Rattle.fr_trace.specs.Joins.{has_row_by, is_among, latest_rows}
+use Rattle.fr_trace.specs.Fits.{IsAboutOther, TraceFits, TracedJoinIsProper}
+use Rattle.fr_trace.specs.Joins.{has_traced_row, is_among, latest_rows}
 use Rattle.fr_trace.specs.Lasting.{IsTracedRow}
-use Rattle.fr_trace.specs.Order.{clock_turn, count_of, heard_turn, may_stand, must_stand}
-use Rattle.fr_trace.specs.Reasons.{is_known, trace_reason_after, trace_row_reason}
-use Rattle.fr_trace.specs.Rows.{IsProperCount, trace_row_of}
-use Rattle.fr_trace.specs.Said.{dev_on, doubles_at, history_said, joins_at, joins_in, last_at, named_at, named_in, no_record, record_said}
+use Rattle.fr_trace.specs.Order.{clock_turn, doubles_or_0, heard_turn, may_stand, must_stand}
+use Rattle.fr_trace.specs.Reasons.{trace_reason_after, trace_row_reason}
+use Rattle.fr_trace.specs.Rows.{IsProperTracedCount, trace_row_of}
+use Rattle.fr_trace.specs.Said.{dev_on, history_said, joins_at, last_row_at, named_at, named_in, no_record, record_said, traced_doubles_at, traced_joins_in}
 use Rattle.fr_trace.specs.Trace.{TraceView}
 use Rattle.fr_trace.specs.declared.draft.Draft.{Draft}
 use Rattle.fr_trace.specs.declared.fault.TraceFault.{TraceFault}
@@ -41,7 +41,7 @@ IsUpTo turn dev =
     ⊎ ((dev.receiver ≡ turn.node) × ((dev.slot < turn.slot) ⊎ ((dev.slot ≡ turn.slot) × (channel_rank dev.channel ≤ turn.rank))))
 
 -- rows and deviations of a cycle, whose numbers lie in their ranges and fit the parameters
-pub record AreKept (p : Values) (r : Record) : Type 0 where
+pub record AreHeld (p : Values) (r : Record) : Type 0 where
   pub rows_ascend : AreAscendingRows r.rows
   pub rows_proper : All IsTracedRow r.rows
   pub rates : All (λ row. IsWithin p.rate_limit row.rate) r.rows
@@ -58,19 +58,19 @@ pub record IsBegun (p : Values) (named : List ℕ) (joins : List TracedJoin) (h 
   pub known : (n : ℕ) → is_some (row_of r.rows n) ≡ true → is_known p n ≡ true
   pub may : (n : ℕ) → is_some (row_of r.rows n) ≡ true → may_stand named joins (length h) (latest_rows h) n ≡ true
   pub must : (n : ℕ) → n ≤ node → is_known p n ≡ true → must_stand named joins (length h) (latest_rows h) n ≡ true → is_some (row_of r.rows n) ≡ true
-  pub kept : AreKept p r
+  pub kept : AreHeld p r
   pub rows_to : All (λ row. row.node ≤ node) r.rows
 
 -- the same up to a place, behind which no deviation stands
-pub record IsUnderWay (p : Values) (named : List ℕ) (joins : List TracedJoin) (h : History) (turn : Turn) (r : Record) : Type 0 where
+pub record IsCycleUnderWay (p : Values) (named : List ℕ) (joins : List TracedJoin) (h : History) (turn : Turn) (r : Record) : Type 0 where
   pub begun : IsBegun p named joins h turn.node r
   pub here : Contains (map (λ row. row.node) r.rows) turn.node
   pub devs_to : All (IsUpTo turn) r.devs
 
 -- a whole cycle behind a history: a row for each node that is to have one
 pub record IsOver (p : Values) (named : List ℕ) (joins : List TracedJoin) (h : History) (r : Record) : Type 0 where
-  pub nodes : map (λ row. row.node) r.rows ≡ map (λ node. node.id) (filter (λ node. has_row_by named joins h r node.id) p.nodes)
-  pub kept : AreKept p r
+  pub nodes : map (λ row. row.node) r.rows ≡ map (λ node. node.id) (filter (λ node. has_traced_row named joins h r node.id) p.nodes)
+  pub kept : AreHeld p r
 
 unfoldable pub AreOver : Values → List ℕ → List TracedJoin → History → Type 0
 AreOver p named joins [] = Unit {0}
@@ -79,8 +79,8 @@ AreOver p named joins (r ∷ h) = IsOver p named joins h r × AreOver p named jo
 -- a cycle is under way at a place, and is one of the trace
 pub record IsAtTurn (p : Values) (doubles : Option ℕ) (named : List ℕ) (joins : List TracedJoin) (cycle : ℕ) (turn : Turn) (h : History) (part : Record) : Type 0 where
   pub numbered : cycle ≡ length h
-  pub inside : cycle < 2 * count_of doubles
-  pub under_way : IsUnderWay p named joins h turn part
+  pub inside : cycle < 2 * doubles_or_0 doubles
+  pub under_way : IsCycleUnderWay p named joins h turn part
 
 -- no cycle is begun
 pub record IsBeforeCycles (h : History) (part : Record) : Type 0 where
@@ -116,22 +116,22 @@ IsAtLast p doubles named joins (Some (row.Clock cycle clock)) h part = IsAtTurn 
 IsAtLast p doubles named joins (Some (row.Heard heard)) h part = IsAtTurn p doubles named joins heard.cycle (heard_turn heard) h part
 
 -- a number that a node may have
-abbrev pub IsNumber : ℕ → Type 0
-IsNumber node = (1 ≤ node) × (node ≤ 64)
+abbrev pub IsNodeNumber : ℕ → Type 0
+IsNodeNumber node = (1 ≤ node) × (node ≤ 64)
 
 -- what is said before the cycles: the number of double cycles lies in its range, arbitrary nodes ascend and have key slots,
 -- and nodes that join ascend and do so properly
 pub record IsProperHead (p : Values) (doubles : Option ℕ) (named : List ℕ) (joins : List TracedJoin) : Type 0 where
-  pub count : (n : ℕ) → doubles ≡ Some n → IsProperCount n
+  pub count : (n : ℕ) → doubles ≡ Some n → IsProperTracedCount n
   pub keyed : All (λ node. IsSome (own_key p node)) named
   pub ascend : AllPairs (λ a b. a < b) named
-  pub numbers : All IsNumber named
+  pub numbers : All IsNodeNumber named
   pub joins_ascend : AllPairs (λ a b. a.node < b.node) joins
-  pub joins_numbers : All (λ j. IsNumber j.node) joins
-  pub joins_proper : All (JoinsProperly p named joins) joins
+  pub joins_numbers : All (λ j. IsNodeNumber j.node) joins
+  pub joins_proper : All (TracedJoinIsProper p named joins) joins
 
 -- and all cycles but the last are over
-pub record IsSound (p : Values) (doubles : Option ℕ) (named : List ℕ) (joins : List TracedJoin) (last : Option Row) (h : History) (part : Record) : Type 0 where
+pub record IsDraftSound (p : Values) (doubles : Option ℕ) (named : List ℕ) (joins : List TracedJoin) (last : Option Row) (h : History) (part : Record) : Type 0 where
   pub head : IsProperHead p doubles named joins
   pub over : AreOver p named joins h
   pub at : IsAtLast p doubles named joins last h part
@@ -148,15 +148,15 @@ over_of d = history_by d.cycles.items
 
 -- it holds what the records say
 pub record IsTraceDraft (p : Values) (d : Draft) (records : List FileRecord) : Type 0 where
-  pub doubles : d.doubles ≡ doubles_at records
+  pub doubles : d.doubles ≡ traced_doubles_at records
   pub named : d.arbitrary.items ≡ named_at records
   pub joins : d.joins.items ≡ joins_at records
-  pub last : d.last ≡ last_at records
+  pub last : d.last ≡ last_row_at records
   pub count : d.count ≡ min (length records) (2 ^ 64 - 1)
   pub over : over_of d ≡ history_said records (length (over_of d))
   pub part : part_of d ≡ record_said records (length (over_of d))
   pub none_later : (cycle : ℕ) → length (over_of d) < cycle → record_said records cycle ≡ no_record
-  pub sound : IsSound p d.doubles d.arbitrary.items d.joins.items d.last (over_of d) (part_of d)
+  pub sound : IsDraftSound p d.doubles d.arbitrary.items d.joins.items d.last (over_of d) (part_of d)
 
 -- ---- one row more
 
@@ -198,7 +198,7 @@ pub record HasClock (before after : Draft) (clock : NodeRow) : Type 0 where
   pub part : part_of after ≡ record (part_of before) { rows = before.rows.items ++ clock ∷ [] }
 
 -- a deviation
-pub record HasHeard (before after : Draft) (heard : HeardRow) : Type 0 where
+pub record HasDeviation (before after : Draft) (heard : HeardRow) : Type 0 where
   pub head : IsHead before after
   pub over : over_of after ≡ over_of before
   pub part : part_of after ≡ record (part_of before) { devs = before.devs.items ++ dev_on heard heard.channel }
@@ -213,7 +213,7 @@ pub record HasEnded (before after : Draft) : Type 0 where
 pub record HasKept (before after : Draft) (said : Row) : Type 0 where
   pub doubles : after.doubles ≡ doubles_with before.doubles said
   pub named : after.arbitrary.items ≡ before.arbitrary.items ++ named_in (Ok said)
-  pub joins : after.joins.items ≡ before.joins.items ++ joins_in (Ok said)
+  pub joins : after.joins.items ≡ before.joins.items ++ traced_joins_in (Ok said)
   pub last : after.last ≡ before.last
   pub count : after.count ≡ before.count
   pub over : over_of after ≡ over_with (over_of before) (part_of before) said
@@ -223,7 +223,7 @@ pub record HasKept (before after : Draft) (said : Row) : Type 0 where
 pub record HasPut (before after : Draft) (said : Row) : Type 0 where
   pub doubles : after.doubles ≡ doubles_with before.doubles said
   pub named : after.arbitrary.items ≡ before.arbitrary.items ++ named_in (Ok said)
-  pub joins : after.joins.items ≡ before.joins.items ++ joins_in (Ok said)
+  pub joins : after.joins.items ≡ before.joins.items ++ traced_joins_in (Ok said)
   pub last : after.last ≡ Some said
   pub count : after.count ≡ min (before.count + 1) (2 ^ 64 - 1)
   pub over : over_of after ≡ over_with (over_of before) (part_of before) said
@@ -235,7 +235,7 @@ HoldsTrace reason d records = (q : Values) → IsSane q → trace_reason_after q
 
 -- a row is refused against these parameters for its reason, or held after the records so far
 abbrev pub TakesTraceRow : {Error : Type 0} → Values → Draft → Draft → Row → Result (Option Reason) Error → Type 0
-TakesTraceRow p before after row result = Takes (HoldsTrace (trace_reason_after p)) trace_row_of (trace_row_reason p) before after row result
+TakesTraceRow p before after row result = TakesRow (HoldsTrace (trace_reason_after p)) trace_row_of (trace_row_reason p) before after row result
 
 -- ---- at the end of the file
 

@@ -7,7 +7,7 @@ use Rattle.fr_records.specs.Refusal.{FirstRefused, NoneRefused}
 use Rattle.fr_trace.specs.Fits.{TraceFits}
 use Rattle.fr_trace.specs.Order.{before_at, ends_with}
 use Rattle.fr_trace.specs.Reasons.{trace_reason_after}
-use Rattle.fr_trace.specs.Said.{doubles_at, history_said, joins_at, last_at, named_at}
+use Rattle.fr_trace.specs.Said.{history_said, joins_at, last_row_at, named_at, traced_doubles_at}
 use Rattle.fr_trace.specs.Trace.{TraceView}
 use Rattle.fr_trace.specs.declared.fault.TraceFault.{TraceFault}
 use Rattle.fr_trace.specs.declared.fault.TraceFault.TheVariants as fault
@@ -17,7 +17,7 @@ use Rattle.fr_trace.specs.declared.fault.TraceFault.TheVariants as fault
 -- the trace is what the records say: its number of double cycles, its arbitrary nodes, those that join, and what it records
 -- of each of its cycles
 pub record TraceStandsFor (t : TraceView) (records : List FileRecord) : Type 0 where
-  pub doubles : doubles_at records ≡ Some t.doubles
+  pub doubles : traced_doubles_at records ≡ Some t.doubles
   pub arbitrary : t.arbitrary ≡ named_at records
   pub joins : t.joins ≡ joins_at records
   pub history : t.history ≡ history_said records (2 * t.doubles)
@@ -25,10 +25,10 @@ pub record TraceStandsFor (t : TraceView) (records : List FileRecord) : Type 0 w
 -- whether the records are those of a whole trace: each node that must have a row in the last cycle has one
 abbrev pub is_whole_by : Values → List FileRecord → Option ℕ → Bool
 is_whole_by p records None = false
-is_whole_by p records (Some doubles) = ends_with p doubles (named_at records) (joins_at records) (before_at records) (last_at records)
+is_whole_by p records (Some doubles) = ends_with p doubles (named_at records) (joins_at records) (before_at records) (last_row_at records)
 
 abbrev pub is_whole : Values → List FileRecord → Bool
-is_whole p records = is_whole_by p records (doubles_at records)
+is_whole p records = is_whole_by p records (traced_doubles_at records)
 
 -- the file is accepted against these parameters, and this is the trace that it stands for
 pub record IsTraceFile (p : Values) (t : TraceView) (bytes : List ℕ) : Type 0 where

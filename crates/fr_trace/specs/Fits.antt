@@ -34,7 +34,7 @@ HistoryFits p t (r ∷ h) = FitsRecord p t h r × HistoryFits p t h
 
 -- a node that joins is a correct one of the cluster, and so is its reference: another one, with a key slot and a channel in
 -- common, that takes part from the first cycle on
-pub record JoinsProperly (p : Values) (named : List ℕ) (joins : List TracedJoin) (j : TracedJoin) : Type 0 where
+pub record TracedJoinIsProper (p : Values) (named : List ℕ) (joins : List TracedJoin) (j : TracedJoin) : Type 0 where
   pub known : IsSome (node_of p j.node)
   pub correct : is_among named j.node ≡ false
   pub known_reference : IsSome (node_of p j.join.reference)
@@ -47,7 +47,7 @@ pub record JoinsProperly (p : Values) (named : List ℕ) (joins : List TracedJoi
   pub double : j.join.double < 100_000
 
 abbrev pub IsProperJoin : Values → TraceView → TracedJoin → Type 0
-IsProperJoin p t j = JoinsProperly p t.arbitrary t.joins j
+IsProperJoin p t j = TracedJoinIsProper p t.arbitrary t.joins j
 
 -- a trace fits the parameters of its cluster: each arbitrary node has a key slot, each node that joins does so properly, and
 -- each record fits

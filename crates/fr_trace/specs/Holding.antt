@@ -6,14 +6,14 @@ use Rattle.std.specs.Str.{bytes_eq}
 use Rattle.fr_base.specs.Channels.{channel_of}
 use Rattle.fr_base.specs.declared.reason.Reason.{Reason}
 use Rattle.fr_base.specs.declared.reason.Reason.TheVariants as reason
-use Rattle.fr_cluster.specs.Questions.{own_key}
+use Rattle.fr_cluster.specs.Questions.{is_known, own_key}
 use Rattle.fr_cluster.specs.Values.{Values}
 use Rattle.fr_records.specs.Fields.{field_of}
 use Rattle.fr_records.specs.Forms.{Form, NumberField, number_field, misses_form, has_unknown_name, has_no_number, is_out_of_range, has_bad_channels}
 use Rattle.fr_records.specs.Least.{row_passes}
 use Rattle.fr_records.specs.Records.{FileRecord}
 use Rattle.fr_trace.specs.Order.{may_come}
-use Rattle.fr_trace.specs.Reasons.{have_common, is_known, is_linked, is_of_other, joins_wrongly, knows_both}
+use Rattle.fr_trace.specs.Reasons.{have_common, is_linked, is_of_other, joins_wrongly, knows_node_and_reference}
 use Rattle.fr_trace.specs.Rows.{state_of, trace_row_of}
 use Rattle.fr_trace.specs.Said.{joins_at, named_at}
 use Rattle.fr_trace.specs.declared.rows.Row.{Row}
@@ -28,12 +28,12 @@ abbrev pub run_form : FileRecord → Form
 run_form r = record { empty = later_fields r; known = true; numbers = number_field (field_of r 1) 1 100_000 ∷ []; short = true; spelt = true }
 
 -- `arbitrary,NODE,,,,,,`
-abbrev pub arbitrary_form : FileRecord → Form
-arbitrary_form r = record { empty = later_fields r; known = true; numbers = number_field (field_of r 1) 1 64 ∷ []; short = true; spelt = true }
+abbrev pub traced_arbitrary_form : FileRecord → Form
+traced_arbitrary_form r = record { empty = later_fields r; known = true; numbers = number_field (field_of r 1) 1 64 ∷ []; short = true; spelt = true }
 
 -- `join,NODE,REFERENCE,DOUBLE,,,,`
-abbrev pub join_form : FileRecord → Form
-join_form r = record {
+abbrev pub traced_join_form : FileRecord → Form
+traced_join_form r = record {
   empty = field_of r 4 ∷ field_of r 5 ∷ field_of r 6 ∷ field_of r 7 ∷ [];
   known = true;
   numbers = number_field (field_of r 1) 1 64 ∷ number_field (field_of r 2) 1 64 ∷ number_field (field_of r 3) 0 99_999 ∷ [];
@@ -78,19 +78,19 @@ heard_form r = record {
 abbrev pub trace_form : Values → FileRecord → Option Form
 trace_form p r =
     if bytes_eq (field_of r 0) (codes "run") then Some (run_form r)
-    else if bytes_eq (field_of r 0) (codes "arbitrary") then Some (arbitrary_form r)
-    else if bytes_eq (field_of r 0) (codes "join") then Some (join_form r)
+    else if bytes_eq (field_of r 0) (codes "arbitrary") then Some (traced_arbitrary_form r)
+    else if bytes_eq (field_of r 0) (codes "join") then Some (traced_join_form r)
     else if bytes_eq (field_of r 0) (codes "cycle") then Some (clock_form p r)
     else if bytes_eq (field_of r 0) (codes "dev") then Some (heard_form r)
     else None
 
 -- a node that is none of the parameters
-abbrev pub names_stranger : Values → Row → Bool
-names_stranger p (row.Run n) = false
-names_stranger p (row.Arbitrary node) = not (is_known p node)
-names_stranger p (row.Join j) = not (knows_both p j)
-names_stranger p (row.Clock cycle clock) = not (is_known p clock.node)
-names_stranger p (row.Heard heard) = not (is_known p heard.receiver)
+abbrev pub trace_names_stranger : Values → Row → Bool
+trace_names_stranger p (row.Run n) = false
+trace_names_stranger p (row.Arbitrary node) = not (is_known p node)
+trace_names_stranger p (row.Join j) = not (knows_node_and_reference p j)
+trace_names_stranger p (row.Clock cycle clock) = not (is_known p clock.node)
+trace_names_stranger p (row.Heard heard) = not (is_known p heard.receiver)
 
 -- an arbitrary node without key slot, a node that cannot join so, or a deviation about a slot that is no key slot of another
 -- node
@@ -106,12 +106,12 @@ abbrev pub is_out_of_place : Values → List FileRecord → Row → Bool
 is_out_of_place p before said = has_no_part p before said || not (may_come p before said)
 
 -- a node that joins and its reference have no channel in common, or a deviation is on one that is not common to both nodes
-abbrev pub is_apart : Values → Row → Bool
-is_apart p (row.Run n) = false
-is_apart p (row.Arbitrary node) = false
-is_apart p (row.Join j) = not (have_common p j)
-is_apart p (row.Clock cycle clock) = false
-is_apart p (row.Heard heard) = option_map_or (λ ch. not (is_linked p heard ch)) heard.channel false
+abbrev pub lacks_common_channel : Values → Row → Bool
+lacks_common_channel p (row.Run n) = false
+lacks_common_channel p (row.Arbitrary node) = false
+lacks_common_channel p (row.Join j) = not (have_common p j)
+lacks_common_channel p (row.Clock cycle clock) = false
+lacks_common_channel p (row.Heard heard) = option_map_or (λ ch. not (is_linked p heard ch)) heard.channel false
 
 -- whether a reason holds of a record after the records before it
 abbrev pub trace_holds : Values → List FileRecord → FileRecord → Reason → Bool
@@ -119,9 +119,9 @@ trace_holds p before r reason.Shape = misses_form 8 r (trace_form p r)
 trace_holds p before r reason.UnknownName = has_unknown_name (trace_form p r)
 trace_holds p before r reason.NotNumber = has_no_number (trace_form p r)
 trace_holds p before r reason.OutOfRange = is_out_of_range (trace_form p r)
-trace_holds p before r reason.UnknownNode = row_passes (names_stranger p) (trace_row_of r)
+trace_holds p before r reason.UnknownNode = row_passes (trace_names_stranger p) (trace_row_of r)
 trace_holds p before r reason.BadChannel = has_bad_channels (trace_form p r)
 trace_holds p before r reason.Role = row_passes (is_out_of_place p before) (trace_row_of r)
-trace_holds p before r reason.Link = row_passes (is_apart p) (trace_row_of r)
+trace_holds p before r reason.Link = row_passes (lacks_common_channel p) (trace_row_of r)
 trace_holds p before r reason.NotHex = false
 trace_holds p before r reason.Repeated = false

@@ -33,5 +33,5 @@ stands_in (Some join) h r node =
     else nat_lt (first_cycle join) (length h) && is_some (row_of (latest_rows h) node)
 
 -- the same of any node, by those that are named arbitrary and those that join
-abbrev pub has_row_by : List ℕ → List TracedJoin → History → Record → ℕ → Bool
-has_row_by named joins h r node = not (is_among named node) && stands_in (join_among joins node) h r node
+abbrev pub has_traced_row : List ℕ → List TracedJoin → History → Record → ℕ → Bool
+has_traced_row named joins h r node = not (is_among named node) && stands_in (join_among joins node) h r node

@@ -13,3 +13,6 @@ pub mod Holding
 pub mod Text
 pub mod Files
 pub mod Draft
+pub mod Told
+-- what the laws cite
+pub mod Numbered

@@ -1,5 +1,5 @@
 -- Why a record of a trace is refused after the records before it.
-use Rattle.std.specs.Prelude.{ℕ, ℤ, neg_ℤ, int_lt, Bool, false, not, ◌==◌, ◌&&◌, ◌||◌, List, Option, Some, None, is_none, is_some, Result, Ok, Err, if◌then◌else◌}
+use Rattle.std.specs.Prelude.{ℕ, Bool, false, not, ◌==◌, ◌&&◌, ◌||◌, List, Option, Some, None, is_none, is_some, Result, Ok, Err, if◌then◌else◌}
 use Rattle.std.specs.List.{list_any}
 use Rattle.std.specs.Option.{option_map, option_map_or}
 use Rattle.fr_base.specs.declared.channel.Channel.{Channel}
@@ -7,7 +7,8 @@ use Rattle.fr_base.specs.declared.channel.Channel.TheVariants as channel
 use Rattle.fr_base.specs.declared.node_row.NodeRow.{NodeRow}
 use Rattle.fr_base.specs.declared.reason.Reason.{Reason}
 use Rattle.fr_base.specs.declared.reason.Reason.TheVariants as reason
-use Rattle.fr_cluster.specs.Questions.{is_common, node_of, own_key}
+use Rattle.fr_base.specs.Within.{lies_within}
+use Rattle.fr_cluster.specs.Questions.{is_common, is_known, own_key}
 use Rattle.fr_cluster.specs.Searches.{key_node_in}
 use Rattle.fr_cluster.specs.Values.{Values}
 use Rattle.fr_records.specs.Records.{FileRecord}
@@ -20,29 +21,21 @@ use Rattle.fr_trace.specs.declared.rows.Row.{Row}
 use Rattle.fr_trace.specs.declared.rows.Row.TheVariants as row
 use Rattle.fr_trace.specs.declared.trace.TracedJoin.{TracedJoin}
 
--- whether the cluster has a node of this number
-abbrev pub is_known : Values → ℕ → Bool
-is_known p node = is_some (node_of p node)
-
--- whether a term lies within a limit of 0
-abbrev pub is_within : ℤ → ℤ → Bool
-is_within limit term = not (int_lt term (neg_ℤ limit) || int_lt limit term)
-
 -- whether a term of a node's cycle lies outside its limit
 abbrev pub is_beyond : Values → NodeRow → Bool
-is_beyond p clock = not (is_within p.rate_limit clock.rate) || not (is_within p.offset_limit clock.offset)
+is_beyond p clock = not (lies_within p.rate_limit clock.rate) || not (lies_within p.offset_limit clock.offset)
 
 -- the node whose key slot a slot is
-abbrev pub sender_of : Values → ℕ → Option ℕ
-sender_of p slot = option_map (λ spec. spec.id) (key_node_in p.nodes slot)
+abbrev pub key_sender_of : Values → ℕ → Option ℕ
+key_sender_of p slot = option_map (λ spec. spec.id) (key_node_in p.nodes slot)
 
 -- whether a slot is the key slot of another node
 abbrev pub is_of_other : Values → HeardRow → Bool
-is_of_other p heard = option_map_or (λ sender. not (sender == heard.receiver)) (sender_of p heard.slot) false
+is_of_other p heard = option_map_or (λ sender. not (sender == heard.receiver)) (key_sender_of p heard.slot) false
 
 -- whether its node and the receiver have a channel in common
 abbrev pub is_linked : Values → HeardRow → Channel → Bool
-is_linked p heard ch = option_map_or (λ sender. is_common p sender heard.receiver ch) (sender_of p heard.slot) false
+is_linked p heard ch = option_map_or (λ sender. is_common p sender heard.receiver ch) (key_sender_of p heard.slot) false
 
 -- the least reason for which a row that may come next, or not, is not taken
 abbrev pub arbitrary_reason : Values → ℕ → Bool → Option Reason
@@ -63,15 +56,15 @@ joins_wrongly p named joins j =
     || list_any (λ other. other.join.reference == j.node) joins
 
 -- whether the cluster has the node and its reference, and whether they have a channel in common
-abbrev pub knows_both : Values → TracedJoin → Bool
-knows_both p j = is_known p j.node && is_known p j.join.reference
+abbrev pub knows_node_and_reference : Values → TracedJoin → Bool
+knows_node_and_reference p j = is_known p j.node && is_known p j.join.reference
 
 abbrev pub have_common : Values → TracedJoin → Bool
 have_common p j = is_common p j.node j.join.reference channel.A || is_common p j.node j.join.reference channel.B
 
-abbrev pub join_reason : Values → List ℕ → List TracedJoin → TracedJoin → Bool → Option Reason
-join_reason p named joins j comes =
-    if not (knows_both p j) then Some reason.UnknownNode
+abbrev pub traced_join_reason : Values → List ℕ → List TracedJoin → TracedJoin → Bool → Option Reason
+traced_join_reason p named joins j comes =
+    if not (knows_node_and_reference p j) then Some reason.UnknownNode
     else if joins_wrongly p named joins j || not comes then Some reason.Role
     else if not (have_common p j) then Some reason.Link
     else None
@@ -84,20 +77,20 @@ clock_reason p clock comes =
     else None
 
 -- that of a deviation of a known receiver, by its channel
-abbrev pub channel_reason : Values → HeardRow → Bool → Option Channel → Option Reason
-channel_reason p heard comes None = Some reason.BadChannel
-channel_reason p heard comes (Some ch) =
+abbrev pub traced_channel_reason : Values → HeardRow → Bool → Option Channel → Option Reason
+traced_channel_reason p heard comes None = Some reason.BadChannel
+traced_channel_reason p heard comes (Some ch) =
     if not (is_of_other p heard) || not comes then Some reason.Role
     else if not (is_linked p heard ch) then Some reason.Link
     else None
 
 abbrev pub heard_reason : Values → HeardRow → Bool → Option Reason
-heard_reason p heard comes = if not (is_known p heard.receiver) then Some reason.UnknownNode else channel_reason p heard comes heard.channel
+heard_reason p heard comes = if not (is_known p heard.receiver) then Some reason.UnknownNode else traced_channel_reason p heard comes heard.channel
 
 abbrev pub row_reason : Values → List ℕ → List TracedJoin → Row → Bool → Option Reason
 row_reason p named joins (row.Run n) comes = if not comes then Some reason.Role else None
 row_reason p named joins (row.Arbitrary node) comes = arbitrary_reason p node comes
-row_reason p named joins (row.Join j) comes = join_reason p named joins j comes
+row_reason p named joins (row.Join j) comes = traced_join_reason p named joins j comes
 row_reason p named joins (row.Clock cycle clock) comes = clock_reason p clock comes
 row_reason p named joins (row.Heard heard) comes = heard_reason p heard comes
 

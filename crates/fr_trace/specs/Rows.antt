@@ -23,15 +23,15 @@ abbrev pub run_row : List ℕ → Result Row Reason
 run_row doubles = or_reason (λ n. Ok (row.Run n)) (natural_of 1 100_000 doubles)
 
 -- a node that is arbitrary
-abbrev pub arbitrary_row : List ℕ → Result Row Reason
-arbitrary_row node = or_reason (λ n. Ok (row.Arbitrary n)) (natural_of 1 64 node)
+abbrev pub traced_arbitrary_row : List ℕ → Result Row Reason
+traced_arbitrary_row node = or_reason (λ n. Ok (row.Arbitrary n)) (natural_of 1 64 node)
 
 -- that a node joins, of these numbers: the node and its reference, and the double cycle in which it listens
 abbrev pub join_with : (ℕ × ℕ) × ℕ → Result Row Reason
 join_with numbers = Ok (row.Join (record { node = numbers.0.0; join = record { double = numbers.1; reference = numbers.0.1 } }))
 
-abbrev pub join_row : List ℕ → List ℕ → List ℕ → Result Row Reason
-join_row node reference double = or_reason join_with (both_of (both_of (natural_of 1 64 node) (natural_of 1 64 reference)) (natural_of 0 99_999 double))
+abbrev pub traced_join_row : List ℕ → List ℕ → List ℕ → Result Row Reason
+traced_join_row node reference double = or_reason join_with (both_of (both_of (natural_of 1 64 node) (natural_of 1 64 reference)) (natural_of 0 99_999 double))
 
 -- the state that a field names
 abbrev pub state_of : List ℕ → Option State
@@ -42,8 +42,8 @@ state_of text =
     else None
 
 -- a rate term that a field writes, within 2000 of 0, an offset term within 16,000, and a deviation within a million
-unfoldable pub rate_in : List ℕ → Result ℤ NumberFault
-rate_in text = within (negsuc 1999) (pos 2000) (number_of text)
+unfoldable pub traced_rate_in : List ℕ → Result ℤ NumberFault
+traced_rate_in text = within (negsuc 1999) (pos 2000) (number_of text)
 
 unfoldable pub offset_in : List ℕ → Result ℤ NumberFault
 offset_in text = within (negsuc 15_999) (pos 16_000) (number_of text)
@@ -56,7 +56,7 @@ abbrev pub span_in : List ℕ → List ℕ → Result (ℤ × ℤ) NumberFault
 span_in start length = both_of (within (pos 0) (pos 900_000_000_000_000_000) (number_of start)) (within (pos 500_000) (pos 1_500_000) (number_of length))
 
 abbrev pub terms_in : List ℕ → List ℕ → Result (ℤ × ℤ) NumberFault
-terms_in rate offset = both_of (rate_in rate) (offset_in offset)
+terms_in rate offset = both_of (traced_rate_in rate) (offset_in offset)
 
 -- a node's cycle of these numbers: the cycle and the node, the start and the length of a microtick, both terms
 abbrev pub clock_with : State → (ℕ × ℕ) × ((ℤ × ℤ) × (ℤ × ℤ)) → Result Row Reason
@@ -84,13 +84,13 @@ abbrev pub clock_row : List ℕ → List ℕ → List ℕ → List ℕ → List 
 clock_row cycle node start length rate offset state = clock_named cycle node start length rate offset (state_of state)
 
 -- a deviation on a channel of these numbers: the cycle and the receiver, the slot and the value
-abbrev pub heard_on : Option Channel → (ℕ × ℕ) × (ℕ × ℤ) → Result Row Reason
-heard_on channel numbers =
+abbrev pub dev_row : Option Channel → (ℕ × ℕ) × (ℕ × ℤ) → Result Row Reason
+dev_row channel numbers =
     Ok (row.Heard (record { cycle = numbers.0.0; receiver = numbers.0.1; slot = numbers.1.0; channel = channel; value = numbers.1.1 }))
 
 abbrev pub heard_row : List ℕ → List ℕ → List ℕ → List ℕ → List ℕ → Result Row Reason
 heard_row cycle receiver slot channel value =
-    or_reason (heard_on (channel_of channel))
+    or_reason (dev_row (channel_of channel))
     (both_of (both_of (natural_of 0 199_999 cycle) (natural_of 1 64 receiver)) (both_of (natural_of 1 1023 slot) (value_in value)))
 
 -- whether three fields are empty
@@ -98,15 +98,15 @@ abbrev pub are_blank : List ℕ → List ℕ → List ℕ → Bool
 are_blank first second third = is_blank first && is_blank second && is_blank third
 
 -- a row of a form of two fields: the other six are empty
-abbrev pub short_row : List ℕ → List ℕ → List ℕ → List ℕ → List ℕ → List ℕ → Result Row Reason → Result Row Reason
-short_row second third fourth fifth sixth seventh said = if are_blank second third fourth && are_blank fifth sixth seventh then said else Err reason.Shape
+abbrev pub traced_short_row : List ℕ → List ℕ → List ℕ → List ℕ → List ℕ → List ℕ → Result Row Reason → Result Row Reason
+traced_short_row second third fourth fifth sixth seventh said = if are_blank second third fourth && are_blank fifth sixth seventh then said else Err reason.Shape
 
 -- what a record of eight fields says, by its kind
 abbrev pub trace_file_row : List ℕ → List ℕ → List ℕ → List ℕ → List ℕ → List ℕ → List ℕ → List ℕ → Result Row Reason
 trace_file_row kind first second third fourth fifth sixth seventh =
-    if bytes_eq kind (codes "run") then short_row second third fourth fifth sixth seventh (run_row first)
-    else if bytes_eq kind (codes "arbitrary") then short_row second third fourth fifth sixth seventh (arbitrary_row first)
-    else if bytes_eq kind (codes "join") then (if are_blank fourth fifth sixth && is_blank seventh then join_row first second third else Err reason.Shape)
+    if bytes_eq kind (codes "run") then traced_short_row second third fourth fifth sixth seventh (run_row first)
+    else if bytes_eq kind (codes "arbitrary") then traced_short_row second third fourth fifth sixth seventh (traced_arbitrary_row first)
+    else if bytes_eq kind (codes "join") then (if are_blank fourth fifth sixth && is_blank seventh then traced_join_row first second third else Err reason.Shape)
     else if bytes_eq kind (codes "cycle") then clock_row first second third fourth fifth sixth seventh
     else if bytes_eq kind (codes "dev") then (if is_blank sixth && is_blank seventh then heard_row first second third fourth fifth else Err reason.Shape)
     else Err reason.UnknownName
@@ -118,7 +118,7 @@ trace_row_of fields =
     else Err reason.Shape
 
 -- a trace has 1 to 100,000 double cycles
-pub record IsProperCount (doubles : ℕ) : Type 0 where
+pub record IsProperTracedCount (doubles : ℕ) : Type 0 where
   pub from : 1 ≤ doubles
   pub to : doubles ≤ 100_000
 
@@ -156,7 +156,7 @@ pub record IsProperHeard (heard : HeardRow) : Type 0 where
 
 -- those of a row
 abbrev pub IsProperTraceRow : Row → Type 0
-IsProperTraceRow (row.Run n) = IsProperCount n
+IsProperTraceRow (row.Run n) = IsProperTracedCount n
 IsProperTraceRow (row.Arbitrary node) = node ≤ 64
 IsProperTraceRow (row.Join j) = IsProperJoinRow j
 IsProperTraceRow (row.Clock cycle clock) = IsProperClock cycle clock

@@ -20,13 +20,13 @@ use Rattle.fr_trace.specs.declared.trace.TracedJoin.{TracedJoin}
 -- ---- before the cycles
 
 -- the number of double cycles that a row says
-abbrev pub doubles_in : Result Row Reason → Option ℕ
-doubles_in (Ok (row.Run n)) = Some n
-doubles_in (Ok (row.Arbitrary node)) = None
-doubles_in (Ok (row.Join j)) = None
-doubles_in (Ok (row.Clock cycle clock)) = None
-doubles_in (Ok (row.Heard heard)) = None
-doubles_in (Err why) = None
+abbrev pub traced_doubles_in : Result Row Reason → Option ℕ
+traced_doubles_in (Ok (row.Run n)) = Some n
+traced_doubles_in (Ok (row.Arbitrary node)) = None
+traced_doubles_in (Ok (row.Join j)) = None
+traced_doubles_in (Ok (row.Clock cycle clock)) = None
+traced_doubles_in (Ok (row.Heard heard)) = None
+traced_doubles_in (Err why) = None
 
 -- the node that it names arbitrary
 abbrev pub named_in : Result Row Reason → List ℕ
@@ -38,32 +38,32 @@ named_in (Ok (row.Heard heard)) = []
 named_in (Err why) = []
 
 -- that a node joins, if it says so
-abbrev pub joins_in : Result Row Reason → List TracedJoin
-joins_in (Ok (row.Run n)) = []
-joins_in (Ok (row.Arbitrary node)) = []
-joins_in (Ok (row.Join j)) = j ∷ []
-joins_in (Ok (row.Clock cycle clock)) = []
-joins_in (Ok (row.Heard heard)) = []
-joins_in (Err why) = []
+abbrev pub traced_joins_in : Result Row Reason → List TracedJoin
+traced_joins_in (Ok (row.Run n)) = []
+traced_joins_in (Ok (row.Arbitrary node)) = []
+traced_joins_in (Ok (row.Join j)) = j ∷ []
+traced_joins_in (Ok (row.Clock cycle clock)) = []
+traced_joins_in (Ok (row.Heard heard)) = []
+traced_joins_in (Err why) = []
 
 -- the row, where a record says one
-abbrev pub said_in : Result Row Reason → Option Row
-said_in (Ok said) = Some said
-said_in (Err why) = None
+abbrev pub said_trace_row : Result Row Reason → Option Row
+said_trace_row (Ok said) = Some said
+said_trace_row (Err why) = None
 
 -- what the records say: the number of double cycles, the arbitrary nodes and those that join, in their order, and the last row
-abbrev pub doubles_at : List FileRecord → Option ℕ
-doubles_at records = looked_up (λ r. doubles_in (trace_row_of r)) records
+abbrev pub traced_doubles_at : List FileRecord → Option ℕ
+traced_doubles_at records = looked_up (λ r. traced_doubles_in (trace_row_of r)) records
 
 unfoldable pub named_at : List FileRecord → List ℕ
 named_at records = flat_map (λ r. named_in (trace_row_of r)) records
 
 unfoldable pub joins_at : List FileRecord → List TracedJoin
-joins_at records = flat_map (λ r. joins_in (trace_row_of r)) records
+joins_at records = flat_map (λ r. traced_joins_in (trace_row_of r)) records
 
-unfoldable pub last_at : List FileRecord → Option Row
-last_at [] = None
-last_at (r ∷ rest) = or_else (last_at rest) (said_in (trace_row_of r))
+unfoldable pub last_row_at : List FileRecord → Option Row
+last_row_at [] = None
+last_row_at (r ∷ rest) = or_else (last_row_at rest) (said_trace_row (trace_row_of r))
 
 -- ---- of a cycle
 

@@ -1,12 +1,13 @@
 ghost use Rattle.std.specs.Prelude.{◌≡◌, ◌==◌, ◌≤◌, ◌≤ℤ◌, [], is_none, length, pos, negsuc, OnOk};
-ghost use Rattle.fr_cluster.specs.Questions.{own_key};
+ghost use Rattle.fr_cluster.specs.Questions.{is_known, own_key};
 ghost use Rattle.std.specs.List.{list_any};
 ghost use Rattle.fr_cluster.specs.Values.{Values};
 ghost use Rattle.fr_trace.specs.Cycles.{history_by};
-ghost use Rattle.fr_trace.specs.Draft.{HasClock, HasEnded, HasFilled, HasHeard, HasKept, HasPut, IsTraceDraft, TakesTraceRow, over_of};
+ghost use Rattle.fr_trace.specs.Draft.{HasClock, HasDeviation, HasEnded, HasFilled, HasKept, HasPut, IsTraceDraft, TakesTraceRow, over_of};
 ghost use Rattle.fr_trace.specs.Joins.{latest_rows};
-ghost use Rattle.fr_trace.specs.Order.{count_of, may_follow};
-ghost use Rattle.fr_trace.specs.Reasons.{arbitrary_reason, clock_reason, have_common, heard_reason, is_beyond, is_known, is_linked, is_of_other, is_within, join_reason, joins_wrongly, knows_both, row_reason};
+ghost use Rattle.fr_trace.specs.Order.{doubles_or_0, may_come_next};
+ghost use Rattle.fr_trace.specs.Reasons.{arbitrary_reason, clock_reason, have_common, heard_reason, is_beyond, is_linked, is_of_other, joins_wrongly, knows_node_and_reference, row_reason, traced_join_reason};
+ghost use Rattle.fr_base.specs.Within.{lies_within};
 ghost use Rattle.fr_trace.specs.Rows.{IsProperTraceRow};
 ghost use Rattle.fr_trace.specs.declared.rows.Row.TheVariants as said;
 
@@ -67,7 +68,7 @@ impl Draft {
 
     fn reason(&self, params: &Params, row: &Row) -> Option<Reason>
         ensures { result ≡ row_reason params.now self.now.arbitrary.items self.now.joins.items row.now
-            (may_follow params.now (count_of self.now.doubles) self.now.arbitrary.items self.now.joins.items
+            (may_come_next params.now (doubles_or_0 self.now.doubles) self.now.arbitrary.items self.now.joins.items
             (latest_rows (over_of self.now)) self.now.rows.items self.now.last row.now) }
     {
         let so_far = self.so_far();
@@ -77,7 +78,7 @@ impl Draft {
 
     // What it holds that decides which row may come next.
     pub(crate) fn so_far(&self) -> SoFar<'_>
-        ensures doubles { result.doubles ≡ count_of self.now.doubles }
+        ensures doubles { result.doubles ≡ doubles_or_0 self.now.doubles }
         ensures named { result.named.now ≡ self.now.arbitrary.items }
         ensures joins { result.joins.now ≡ self.now.joins.items }
         ensures before { result.before.now ≡ latest_rows (over_of self.now) }
@@ -142,7 +143,7 @@ impl Draft {
     }
 
     fn keep_heard(&mut self, heard: &HeardRow) -> Result<(), AllocError>
-        ensures { OnOk result (HasHeard self.old self.new heard.now) }
+        ensures { OnOk result (HasDeviation self.old self.new heard.now) }
     {
         let Some(channel) = heard.channel else {
             return Ok(());
@@ -230,7 +231,7 @@ fn join_reason(
     join: &TracedJoin,
     comes: bool,
 ) -> Option<Reason>
-    ensures { result ≡ join_reason params.now named.now joins.now join.now comes }
+    ensures { result ≡ traced_join_reason params.now named.now joins.now join.now comes }
 {
     if !knows_both(params, join) {
         Some(Reason::UnknownNode)
@@ -244,7 +245,7 @@ fn join_reason(
 }
 
 fn knows_both(params: &Params, join: &TracedJoin) -> bool
-    ensures { result ≡ knows_both params.now join.now }
+    ensures { result ≡ knows_node_and_reference params.now join.now }
 {
     is_known(params, join.node) && is_known(params, join.join.reference)
 }
@@ -333,7 +334,7 @@ fn is_beyond(params: &Params, clock: &NodeRow) -> bool
 fn is_within(limit: i64, term: i32) -> bool
     requires from { negsuc 16_000 ≤ℤ limit }
     requires to { limit ≤ℤ pos 16_000 }
-    ensures { result ≡ is_within limit term }
+    ensures { result ≡ lies_within limit term }
 {
     let term = i64::from(term);
     !(term < -limit || limit < term)

@@ -1,20 +1,24 @@
-//! A recorded trace: what each correct node of a cluster that takes part did, cycle by cycle, and what it measured, and
-//! which nodes join; its text, and what it takes for a file to be accepted.
+//! A recorded trace: what each correct node of a cluster that takes part did, cycle by cycle, and what it measured,
+//! and which nodes join; its text, what it takes for a file to be accepted, and which record of the file is which
+//! item of the trace.
 #![tactic(auto)]
 
 mod draft;
 mod fault;
 mod kind;
 mod laws;
+mod numbered;
 mod order;
 mod reading;
 mod rows;
+mod told;
 mod trace;
 mod writing;
 
 pub use fault::TraceFault;
 pub use kind::TraceFile;
 pub use laws::{one_answer, refused_for_the_least_reason, some_answer};
+pub use numbered::records_in_order;
 pub use reading::read;
 pub use trace::{Trace, TracedCycle, TracedJoin};
 pub use writing::{write_cycle, write_head};

@@ -2,7 +2,7 @@ ghost use Rattle.std.specs.Prelude.{◌≡◌, ◌<◌, Some, [], drop, is_none,
 ghost use Rattle.std.specs.Option.{option_copied};
 ghost use Rattle.fr_history.specs.History.{row_of};
 ghost use Rattle.fr_trace.specs.Joins.{first_cycle, is_among, join_among};
-ghost use Rattle.fr_trace.specs.Order.{begins_by, ends_at, ends_with, is_behind, is_due_behind, is_up_to, may_begin, may_follow, may_go_on, may_join, may_open, may_stand, may_stand_behind, may_turn, must_stand, next_due, next_due_in, rank_of, stays_by};
+ghost use Rattle.fr_trace.specs.Order.{begins_by, ends_at, ends_with, is_due_after, is_up_to, may_begin, may_come_next, may_go_on, may_join, may_open, may_stand, may_stand_after, may_turn, must_stand, next_due, next_due_in, rank_of, stands_after, stays_by};
 
 use crate::rows::{HeardRow, Row};
 use crate::trace::TracedJoin;
@@ -45,7 +45,7 @@ pub(crate) fn may_follow(
     last: &Option<Row>,
     next: &Row,
 ) -> bool
-    ensures { result ≡ may_follow params.now so_far.now.doubles so_far.now.named.now so_far.now.joins.now
+    ensures { result ≡ may_come_next params.now so_far.now.doubles so_far.now.named.now so_far.now.joins.now
         so_far.now.before.now so_far.now.here.now last.now next.now }
 {
     match last {
@@ -205,7 +205,7 @@ fn ends_at(params: &Params, so_far: &SoFar<'_>, cycle: u32, node: NodeId) -> boo
 }
 
 fn is_behind(turn: Turn, heard: &HeardRow) -> bool
-    ensures { result ≡ is_behind turn heard.now }
+    ensures { result ≡ stands_after turn heard.now }
 {
     turn.slot < heard.slot.0 || (turn.slot == heard.slot.0 && turn.rank < rank_of(&heard.channel))
 }
@@ -220,7 +220,7 @@ fn rank_of(channel: &Option<Channel>) -> u8
 }
 
 fn may_stand_behind(params: &Params, standing: &Standing<'_>, other: u8, node: NodeId) -> bool
-    ensures { result ≡ may_stand_behind params.now standing.now.named.now standing.now.joins.now
+    ensures { result ≡ may_stand_after params.now standing.now.named.now standing.now.joins.now
         standing.now.cycle standing.now.before.now other node }
 {
     other < node.0 && may_stand(standing, node) && is_up_to(node, next_due(params, standing, other))
@@ -259,7 +259,7 @@ fn next_from(nodes: &NodeList, standing: &Standing<'_>, node: u8, place: usize) 
 }
 
 fn is_due_behind(standing: &Standing<'_>, node: u8, spec: &NodeSpec) -> bool
-    ensures { result ≡ is_due_behind standing.now.named.now standing.now.joins.now standing.now.cycle
+    ensures { result ≡ is_due_after standing.now.named.now standing.now.joins.now standing.now.cycle
         standing.now.before.now node spec.now }
 {
     node < spec.id.0 && must_stand(standing, spec.id)

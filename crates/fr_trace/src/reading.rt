@@ -67,7 +67,8 @@ pub fn read(alloc: Global, params: &Params, bytes: &[u8]) -> Result<Trace, Trace
 // The trace that the records stand for, where they are those of a whole one.
 fn trace_of(params: &Params, draft: Draft) -> Result<Trace, TraceFault>
     requires { (records : List FileRecord) × IsTraceDraft params.now draft records }
-    ensures { (records : List FileRecord) → IsTraceDraft params.now draft records → AnswersFor params.now records result }
+    ensures { (records : List FileRecord) → IsTraceDraft params.now draft records →
+        AnswersFor params.now records result }
 {
     let _nodes = &params.nodes;
     let rows = draft.count;
@@ -83,7 +84,8 @@ fn trace_of(params: &Params, draft: Draft) -> Result<Trace, TraceFault>
 // Whether the records are those of a whole trace: each node that must have a row in the last cycle has one.
 fn is_whole(params: &Params, draft: &Draft, doubles: u32) -> bool
     requires { draft.now.doubles ≡ Some doubles }
-    ensures { (records : List FileRecord) → IsTraceDraft params.now draft.now records → result ≡ is_whole params.now records }
+    ensures { (records : List FileRecord) → IsTraceDraft params.now draft.now records →
+        result ≡ is_whole params.now records }
 {
     ends_with(params, &draft.so_far(), &draft.last)
 }
@@ -91,7 +93,8 @@ fn is_whole(params: &Params, draft: &Draft, doubles: u32) -> bool
 // The trace of records that are those of a whole one.
 fn whole_trace(params: &Params, draft: Draft, doubles: u32) -> Result<Trace, TraceFault>
     requires { (records : List FileRecord) × IsWholeDraft params.now draft doubles records }
-    ensures { (records : List FileRecord) → IsWholeDraft params.now draft doubles records → AnswersFor params.now records result }
+    ensures { (records : List FileRecord) → IsWholeDraft params.now draft doubles records →
+        AnswersFor params.now records result }
 {
     let _nodes = &params.nodes;
     let mut draft = draft;

@@ -1,7 +1,7 @@
 ghost use Rattle.std.specs.Prelude.{◌≡◌, ◌≤ℤ◌, ◌&&◌, pos, negsuc, IfOk, IfSome};
 ghost use Rattle.csv.specs.Records.{fields_of};
 ghost use Rattle.fr_records.specs.Fields.{is_blank};
-ghost use Rattle.fr_trace.specs.Rows.{IsProperTraceRow, arbitrary_row, are_blank, join_row, AreProperTerms, IsProperSpan, clock_in, clock_row, heard_row, offset_in, rate_in, run_row, span_in, state_of, terms_in, trace_file_row, trace_row_of, value_in};
+ghost use Rattle.fr_trace.specs.Rows.{IsProperTraceRow, traced_arbitrary_row, are_blank, traced_join_row, AreProperTerms, IsProperSpan, clock_in, clock_row, heard_row, offset_in, traced_rate_in, run_row, span_in, state_of, terms_in, trace_file_row, trace_row_of, value_in};
 
 use crate::trace::TracedJoin;
 use csv::ByteRecord;
@@ -71,7 +71,8 @@ fn read_kind(
     sixth: &[u8],
     seventh: &[u8],
 ) -> Result<Row, Reason>
-    ensures said { result ≡ trace_file_row kind.now first.now second.now third.now fourth.now fifth.now sixth.now seventh.now }
+    ensures said { result ≡
+        trace_file_row kind.now first.now second.now third.now fourth.now fifth.now sixth.now seventh.now }
     ensures proper { IfOk result (λ said. IsProperTraceRow said) }
 {
     if kind == b"run".as_slice() {
@@ -118,7 +119,7 @@ fn read_run(doubles: &[u8]) -> Result<Row, Reason>
 }
 
 fn read_arbitrary(node: &[u8]) -> Result<Row, Reason>
-    ensures said { result ≡ arbitrary_row node.now }
+    ensures said { result ≡ traced_arbitrary_row node.now }
     ensures proper { IfOk result (λ said. IsProperTraceRow said) }
 {
     match natural(node, 1, 64) {
@@ -128,7 +129,7 @@ fn read_arbitrary(node: &[u8]) -> Result<Row, Reason>
 }
 
 fn read_join(node: &[u8], reference: &[u8], double: &[u8]) -> Result<Row, Reason>
-    ensures said { result ≡ join_row node.now reference.now double.now }
+    ensures said { result ≡ traced_join_row node.now reference.now double.now }
     ensures proper { IfOk result (λ said. IsProperTraceRow said) }
 {
     match both(
@@ -229,9 +230,9 @@ fn read_state(text: &[u8]) -> Option<State>
     }
 }
 
-#[tactic(auto, unfolding(crate::specs::Rows::rate_in))]
+#[tactic(auto, unfolding(crate::specs::Rows::traced_rate_in))]
 fn read_rate(text: &[u8]) -> Result<i32, NumberFault>
-    ensures said { result ≡ rate_in text.now }
+    ensures said { result ≡ traced_rate_in text.now }
     ensures range { IfOk result (λ rate. (negsuc 1999 ≤ℤ rate) × (rate ≤ℤ pos 2000)) }
 {
     let rate = number(text, -2000, 2000)?;

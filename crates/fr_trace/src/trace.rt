@@ -27,7 +27,7 @@ pub struct TracedJoin {
 
 /// A recorded trace: contracts see how many double cycles it has, its arbitrary nodes and those that join the running
 /// cluster, each in ascending order, and the history that it records, in which nothing is counted.
-#[derive(Debug, Drop)]
+#[derive(Debug)]
 pub struct Trace {
     doubles: u32,
     arbitrary: Vec<NodeId>,
@@ -47,6 +47,18 @@ impl Model for Trace {
 
     ghost invariant = { λ t.
         IsTrace (record { doubles = t.doubles; arbitrary = t.arbitrary.items; joins = t.joins.items; history = history_by t.cycles.items }) };
+}
+
+// One call: a derived drop is opened in each function that drops a value, and proved there.
+impl Drop for Trace {
+    fn drop(self) {
+        let Trace {
+            doubles: _,
+            arbitrary: _,
+            joins: _,
+            cycles: _,
+        } = self;
+    }
 }
 
 impl Trace {

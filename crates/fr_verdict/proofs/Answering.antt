@@ -11,7 +11,7 @@ use Rattle.fr_history.specs.Skew.{greatest_skew_of}
 use Rattle.fr_history.proofs.Greatest.{greatest_is_found, greatest_is_one, greatest_is_there}
 use Rattle.fr_trace.specs.Lasting.{IsTrace}
 use Rattle.fr_trace.specs.Trace.{TraceView}
-use Rattle.fr_verdict.specs.Answer.{IsAnswer, IsSyncedFrom, IsUncovered, IsVerdict, OneAnswer, SomeAnswer}
+use Rattle.fr_verdict.specs.Answer.{IsJudgement, IsSyncedFrom, IsUncovered, IsVerdict, OneAnswer, SomeAnswer}
 use Rattle.fr_verdict.specs.Breach.{IsFirstBreach}
 use Rattle.fr_verdict.specs.FirstGap.{first_gap_of}
 use Rattle.fr_verdict.specs.Search.{first_breach_of}
@@ -105,15 +105,15 @@ some_answer p t sane trace = by_breach (first_breach_of p t) refl
         some_of : (n : ℤ) → pos 10 ≤ℤ n → 0 < nat_abs n
         some_of n from = grind (arith, ints)
 
-    by_peak : (o : Option Peak) → first_breach_of p t ≡ None → first_gap_of p t ≡ None → greatest_skew_of p t.history ≡ o → (a : Result Verdict Unlawful) × IsAnswer p t a
+    by_peak : (o : Option Peak) → first_breach_of p t ≡ None → first_gap_of p t ≡ None → greatest_skew_of p t.history ≡ o → (a : Result Verdict Unlawful) × IsJudgement p t a
     by_peak None no_breach no_gap e = absurd (has_cycles p t macros trace e)
     by_peak (Some peak) no_breach no_gap e =
         (Ok (record { synced = first_synced_of p t; skew = peak.skew; cycle = peak.cycle; macrotick = pos peak.macrotick }), found_verdict p t peak sane no_breach no_gap e)
 
-    by_gap : (o : Option Gap) → first_breach_of p t ≡ None → first_gap_of p t ≡ o → (a : Result Verdict Unlawful) × IsAnswer p t a
+    by_gap : (o : Option Gap) → first_breach_of p t ≡ None → first_gap_of p t ≡ o → (a : Result Verdict Unlawful) × IsJudgement p t a
     by_gap (Some g) no_breach e = (Err (unlawful.Uncovered g), inr (found_uncovered p t g sane no_breach e))
     by_gap None no_breach e = by_peak (greatest_skew_of p t.history) no_breach e refl
 
-    by_breach : (o : Option Unlawful) → first_breach_of p t ≡ o → (a : Result Verdict Unlawful) × IsAnswer p t a
+    by_breach : (o : Option Unlawful) → first_breach_of p t ≡ o → (a : Result Verdict Unlawful) × IsJudgement p t a
     by_breach (Some u) e = (Err u, inl (found_breach_is_first p t u e))
     by_breach None e = by_gap (first_gap_of p t) e refl

@@ -5,7 +5,6 @@ use Rattle.std.specs.Option.{option_map_or}
 use Rattle.std.proofs.lemmas.Bool.{and_parts, eqb-true, or_cases}
 use Rattle.std.proofs.lemmas.Int.{ints}
 use Rattle.std.proofs.lemmas.List.Kept.{AllPairs-filter}
-use Rattle.fr_base.specs.Counts.{no_counts}
 use Rattle.fr_base.specs.Within.{IsWithin}
 use Rattle.fr_base.specs.declared.node_row.NodeRow.{NodeRow}
 use Rattle.fr_base.specs.declared.state.Outcome.{Outcome}
@@ -15,39 +14,37 @@ use Rattle.fr_bound.specs.Bounds.{precision_of}
 use Rattle.fr_bound.specs.Checks.{holds_of, left_of, right_of}
 use Rattle.fr_bound.specs.Sync.{IsInSync}
 use Rattle.fr_cluster.specs.Sane.{IsSane}
-use Rattle.fr_cluster.specs.Setting.{Setting, is_correct}
+use Rattle.fr_cluster.specs.Setting.{is_correct}
 use Rattle.fr_cluster.specs.Values.{Values, amount}
 use Rattle.fr_cluster.specs.declared.names.ParamName.TheVariants as name
 use Rattle.fr_cluster.specs.declared.nodes.NodeSpec.{NodeSpec}
-use Rattle.fr_clocks.specs.Clocks.{row_for}
-use Rattle.fr_clocks.proofs.Doubles.{even_length, odd_is_corrected, odd_length, status_even}
-use Rattle.fr_clocks.proofs.Histories.{Part, each_record}
-use Rattle.fr_clocks.proofs.Receivers.{no_less, same_mapped}
-use Rattle.fr_clocks.proofs.Rows.{Ascend, HasRow, all_rows, contains_map, each_row, has_row as row_there, map_contains, rows_are}
-use Rattle.fr_clocks.proofs.Spread.{RowsLie, macrotick_within, spread_within}
+use Rattle.fr_history.specs.History.{AreRowsOf, History, Record, record_at, row_for, row_of}
+use Rattle.fr_runs.proofs.Doubles.{even_length, odd_is_corrected, odd_length, status_even}
+use Rattle.fr_runs.proofs.Receivers.{no_less, same_mapped}
+use Rattle.fr_runs.proofs.Rows.{Ascend, HasRow, all_rows, contains_map, each_row, has_row as row_there, map_contains, rows_are}
+use Rattle.fr_runs.proofs.Spread.{RowsLie, macrotick_within, spread_within}
 use Rattle.fr_correct.specs.declared.term.Term.{Term}
 use Rattle.fr_coverage.specs.Coverage.{outweighs}
 use Rattle.fr_coverage.specs.declared.gap.Gap.TheVariants as gap
-use Rattle.fr_gathered.specs.Hearers.{FollowsIn, Hearers, IsOneOf, IsRoundSynced, IsSupplied, group_of, member_from}
-use Rattle.fr_gathered.proofs.Rounds.{rounds_are_kept_lem}
-use Rattle.fr_history.specs.History.{AreRowsOf, History, Record, record_at, row_of}
+use Rattle.fr_runs.specs.Hearers.{FollowsIn, Hearers, IsOneOf, IsRoundSynced, IsSupplied, group_of, member_from}
+use Rattle.fr_runs.proofs.Rounds.{rounds_are_kept_lem}
 use Rattle.fr_history.specs.Sync.{IsInSyncAt, is_sync_at}
 use Rattle.fr_history.specs.Terms.{offset_term_in, rate_term_in, status_in}
 use Rattle.fr_history.proofs.Lists.{map-map}
 use Rattle.fr_history.proofs.Synced.{record_at-lt, record_at-some}
-use Rattle.fr_joining.specs.Group.{IsGroupKept, WillHaveRow}
+use Rattle.fr_runs.specs.Group.{IsGroupKept, WillHaveRow}
 use Rattle.fr_midpoint.specs.Receivers.{AreFew}
 use Rattle.fr_precision.specs.Instants.{gap_of}
 use Rattle.fr_precision.specs.Step.{IsFollowed, Member}
 use Rattle.fr_precision.proofs.OffsetLaws.{third_check_suffices}
-use Rattle.fr_round.specs.Round.{Hearer, senders_of, sync_count}
-use Rattle.fr_round.proofs.Counting.{count_cons, one_if}
-use Rattle.fr_round.proofs.Lists.{Contains-here, Contains-none, Contains-there, kept_filtered}
+use Rattle.fr_precision.specs.Round.{Hearer, senders_of, sync_count}
+use Rattle.fr_precision.proofs.Counting.{count_cons, one_if}
+use Rattle.fr_precision.proofs.Lists.{Contains-here, Contains-none, Contains-there, kept_filtered}
 use Rattle.fr_skew.specs.Spreads.{spread_at}
 use Rattle.fr_time.specs.Cycles.{odd_cycle}
 use Rattle.fr_time.specs.Position.{grid_for}
 use Rattle.fr_trace.specs.Items.Item.{Clock}
-use Rattle.fr_trace.specs.Trace.{TraceView, is_named, join_in}
+use Rattle.fr_trace.specs.Trace.{TraceView, is_named, traced_join_in}
 use Rattle.fr_verdict.specs.Answer.{IsSyncedFrom}
 use Rattle.fr_verdict.specs.Breach.{is_first_row}
 use Rattle.fr_verdict.specs.Gaps.{IsCoveredTrace, is_lasting, is_unnamed}
@@ -57,6 +54,7 @@ use Rattle.fr_verdict.specs.Sync.{IsFirstSynced, first_synced_of, is_early}
 use Rattle.fr_verdict.specs.declared.unlawful.Unlawful.TheVariants as unlawful
 use Rattle.fr_verdict.proofs.Heard.{heard_in, hearer_in, round_in, sends_in}
 use Rattle.fr_verdict.proofs.Items.{Unbroken, row_there as row_item, unbroken}
+use Rattle.fr_verdict.proofs.Doubles.{Part, each_record}
 use Rattle.fr_verdict.proofs.Recorded.{IsDouble, Passes, Rows, even_at, even_parted, node_two, odd_at, rate_follows, rate_term_is, regular_in, rows_in, start_follows, state_is, stays_active, steady, window}
 use Rattle.fr_verdict.proofs.Standing.{AreTwo, Comes, comes_or_stays, has_row, lasting_has, nodes_in, nodes_stay}
 use Rattle.fr_verdict.proofs.Syncing.{early_not, is_in_sync_at}
@@ -125,9 +123,9 @@ few_rows p t h even odd k w d =
     counts : (node : NodeSpec) → Contains p.nodes node → (is_some node.key && is_lasting t node.id) ≡ true → (is_some node.key && is_correct (window p t even) node.id) ≡ true
     counts node there is =
         let parts : (is_some node.key ≡ true) × (is_lasting t node.id ≡ true) = and_parts (is_some node.key) (is_lasting t node.id) is in
-        let lasts : (is_unnamed t node.id ≡ true) × (not (is_some (join_in t node.id)) ≡ true) = and_parts (is_unnamed t node.id) (not (is_some (join_in t node.id))) parts.1 in
+        let lasts : (is_unnamed t node.id ≡ true) × (not (is_some (traced_join_in t node.id)) ≡ true) = and_parts (is_unnamed t node.id) (not (is_some (traced_join_in t node.id))) parts.1 in
         let has : has_row even node.id ≡ true =
-        lasting_has p t h even node (rows_in p t h even odd k w d).two.early there (by_not (is_named t node.id) lasts.0) (by_not (is_some (join_in t node.id)) lasts.1) in
+        lasting_has p t h even node (rows_in p t h even odd k w d).two.early there (by_not (is_named t node.id) lasts.0) (by_not (is_some (traced_join_in t node.id)) lasts.1) in
         rw (parts.0, has) refl
 
 -- ---- the round of a double cycle in sync is kept
@@ -496,10 +494,6 @@ synced_from p t double k h even odd w first d from = record { passes = w; first 
 
 -- ---- and the whole trace keeps its precision
 
--- a setting that tells how many double cycles there are
-abbrev counting : Values → TraceView → Setting
-counting p t = window p t (record { rows = []; devs = []; counts = no_counts })
-
 abbrev SkewsIn : Values → ℕ → Record → Type 0
 SkewsIn p n r = (macrotick : ℕ) → macrotick < amount p name.gMacroPerCycle → spread_at (grid_for p) n r.rows macrotick ≤ℤ pos (precision_of p)
 
@@ -552,11 +546,11 @@ keeps p t double w first = record {
   skew =
       λ cycle macrotick from less lt.
       let r = there_is (record_at t.history cycle) (record_at-some t.history cycle less) in
-      let spread = each_record (counting p t) t.history double (SkewsIn p) w.trace.whole (λ k part from within. skews p t double w first k part from) cycle r.0 from r.1 macrotick lt in
+      let spread = each_record t.doubles t.history double (SkewsIn p) w.trace.whole (λ k part from within. skews p t double w first k part from) cycle r.0 from r.1 macrotick lt in
       let Most : Option Record → Type 0 = λ o. option_map_or (λ s. spread_at (grid_for p) cycle s.rows macrotick) o (pos 0) ≤ℤ pos (precision_of p) in
       subst Most (sym r.1) spread;
   active =
-      each_record (counting p t) t.history double ActiveIn w.trace.whole
+      each_record t.doubles t.history double ActiveIn w.trace.whole
       (λ k part from within.
       let is = in_sync_from p t double w first k part.earlier part.even part.odd (of_part t k part) from in
       (is.active_even, is.active_odd));

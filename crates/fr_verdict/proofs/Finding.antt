@@ -11,15 +11,15 @@ use Rattle.fr_base.specs.declared.state.State.TheVariants.{Active, Halt, Passive
 use Rattle.fr_cluster.specs.Values.{Values}
 use Rattle.fr_time.specs.Cycles.{is_odd}
 use Rattle.fr_history.specs.History.{History, Record, row_of}
-use Rattle.fr_history.specs.Lawful.{offset_after}
+use Rattle.fr_history.specs.Rows.{offset_after}
 use Rattle.fr_history.specs.Sync.{is_sync_at}
 use Rattle.fr_history.specs.Terms.{status_in}
 use Rattle.fr_coverage.specs.First.{first_below}
 use Rattle.fr_trace.specs.Items.{Item, first_number, item_in, items_in}
 use Rattle.fr_trace.specs.Items.Item.{Clock, Heard}
 use Rattle.fr_trace.specs.Trace.{TraceView}
-use Rattle.fr_verdict.specs.Breach.{Breaks, ComesBefore, IsApartDev, IsApartRow, IsBreach, IsOutside, IsWrongOffset, IsWrongRate, IsWrongStart, IsWrongTurn, OneFirstBreach, high_of, is_first_row, low_of, number_of, rank_in, rate_behind, sender_is_away, sender_row, silent_in, start_behind}
-use Rattle.fr_verdict.specs.Search.{FirstBreachIsFound, FoundBreachIsFirst, NoneFoundIsLawful, apart_dev, apart_row, breach_at, breach_by, first_breach_of, first_from, is_apart, is_same, outside_by, state_number, unless, whenever}
+use Rattle.fr_verdict.specs.Breach.{Breaks, ComesBefore, IsApartDev, IsApartRow, IsBreach, IsDeviationOutside, IsWrongOffset, IsWrongRate, IsWrongStart, IsWrongTurn, OneFirstBreach, high_of, is_first_row, low_of, rank_in, record_of_breach, sender_is_away, sender_row, silent_in, traced_rate, traced_start}
+use Rattle.fr_verdict.specs.Search.{FirstBreachIsFound, FoundBreachIsFirst, NoneFoundIsLawful, apart_dev, apart_row, breach_at, breach_by, first_breach_of, first_from, is_apart, is_same_number, outside_by, state_number, unless, whenever}
 use Rattle.fr_verdict.specs.Sync.{first_synced_of, is_early}
 use Rattle.fr_verdict.specs.declared.unlawful.Unlawful.{Unlawful}
 use Rattle.fr_verdict.specs.declared.unlawful.Unlawful.TheVariants as unlawful
@@ -27,10 +27,10 @@ use Rattle.fr_verdict.proofs.Syncing.{behind_early, early_not, not_in_sync, not_
 
 -- ---- tests
 
-not_same : (a b : ℤ) → is_same a b ≡ false → a ≢ b
+not_same : (a b : ℤ) → is_same_number a b ≡ false → a ≢ b
 not_same a b e same = grind (arith, ints)
 
-differs_by : (a b : ℤ) → a ≢ b → is_same a b ≡ false
+differs_by : (a b : ℤ) → a ≢ b → is_same_number a b ≡ false
 differs_by a b ne = grind (arith, ints)
 
 other_states : (a b : State) → (state_number a == state_number b) ≡ false → a ≢ b
@@ -82,25 +82,25 @@ unless_told test u e = rw e refl
 -- ---- what the relation says of one item, the function finds at the rank
 
 start_found : (p : Values) (n : ℕ) (h : History) (row : NodeRow) (kept wanted : ℤ) → IsWrongStart p h row kept wanted
-    → unless (is_same row.start (start_behind p h row)) (unlawful.Start n row.start (start_behind p h row)) ≡ Some (unlawful.Start n kept wanted)
+    → unless (is_same_number row.start (traced_start p h row)) (unlawful.Start n row.start (traced_start p h row)) ≡ Some (unlawful.Start n kept wanted)
 start_found p n h row kept wanted w =
     let a = w.is_kept in
     let b = w.is_wanted in
-    let differ : row.start ≢ start_behind p h row = λ same. w.differs (a ∙ same ∙ sym b) in
-    unless_told (is_same row.start (start_behind p h row)) (unlawful.Start n row.start (start_behind p h row)) (differs_by row.start (start_behind p h row) differ)
-    ∙ told row.start (start_behind p h row) a b
+    let differ : row.start ≢ traced_start p h row = λ same. w.differs (a ∙ same ∙ sym b) in
+    unless_told (is_same_number row.start (traced_start p h row)) (unlawful.Start n row.start (traced_start p h row)) (differs_by row.start (traced_start p h row) differ)
+    ∙ told row.start (traced_start p h row) a b
   where
     told : (x y : ℤ) → kept ≡ x → wanted ≡ y → ◌≡◌ {A = Option Unlawful} (Some (unlawful.Start n x y)) (Some (unlawful.Start n kept wanted))
     told x y a b = cc
 
 rate_found : (p : Values) (n : ℕ) (h : History) (row : NodeRow) (kept wanted : ℤ) → IsWrongRate p h row kept wanted
-    → unless (is_same row.rate (rate_behind p h row)) (unlawful.Rate n row.rate (rate_behind p h row)) ≡ Some (unlawful.Rate n kept wanted)
+    → unless (is_same_number row.rate (traced_rate p h row)) (unlawful.Rate n row.rate (traced_rate p h row)) ≡ Some (unlawful.Rate n kept wanted)
 rate_found p n h row kept wanted w =
     let a = w.is_kept in
     let b = w.is_wanted in
-    let differ : row.rate ≢ rate_behind p h row = λ same. w.differs (a ∙ same ∙ sym b) in
-    unless_told (is_same row.rate (rate_behind p h row)) (unlawful.Rate n row.rate (rate_behind p h row)) (differs_by row.rate (rate_behind p h row) differ)
-    ∙ told row.rate (rate_behind p h row) a b
+    let differ : row.rate ≢ traced_rate p h row = λ same. w.differs (a ∙ same ∙ sym b) in
+    unless_told (is_same_number row.rate (traced_rate p h row)) (unlawful.Rate n row.rate (traced_rate p h row)) (differs_by row.rate (traced_rate p h row) differ)
+    ∙ told row.rate (traced_rate p h row) a b
   where
     told : (x y : ℤ) → kept ≡ x → wanted ≡ y → ◌≡◌ {A = Option Unlawful} (Some (unlawful.Rate n x y)) (Some (unlawful.Rate n kept wanted))
     told x y a b = cc
@@ -118,18 +118,18 @@ turn_found p n h row kept wanted w =
     told x y a b = cc
 
 offset_found : (p : Values) (n : ℕ) (h : History) (r : Record) (row : NodeRow) (kept wanted : ℤ) → IsWrongOffset p h r row kept wanted
-    → unless (is_same row.offset (offset_after p h r row)) (unlawful.Offset n row.offset (offset_after p h r row)) ≡ Some (unlawful.Offset n kept wanted)
+    → unless (is_same_number row.offset (offset_after p h r row)) (unlawful.Offset n row.offset (offset_after p h r row)) ≡ Some (unlawful.Offset n kept wanted)
 offset_found p n h r row kept wanted w =
     let a = w.is_kept in
     let b = w.is_wanted in
     let differ : row.offset ≢ offset_after p h r row = λ same. w.differs (a ∙ same ∙ sym b) in
-    unless_told (is_same row.offset (offset_after p h r row)) (unlawful.Offset n row.offset (offset_after p h r row)) (differs_by row.offset (offset_after p h r row) differ)
+    unless_told (is_same_number row.offset (offset_after p h r row)) (unlawful.Offset n row.offset (offset_after p h r row)) (differs_by row.offset (offset_after p h r row) differ)
     ∙ told row.offset (offset_after p h r row) a b
   where
     told : (x y : ℤ) → kept ≡ x → wanted ≡ y → ◌≡◌ {A = Option Unlawful} (Some (unlawful.Offset n x y)) (Some (unlawful.Offset n kept wanted))
     told x y a b = cc
 
-outside_found : (p : Values) (n : ℕ) (h : History) (r : Record) (dev : Dev) (kept low high : ℤ) → IsOutside p h r dev kept low high
+outside_found : (p : Values) (n : ℕ) (h : History) (r : Record) (dev : Dev) (kept low high : ℤ) → IsDeviationOutside p h r dev kept low high
     → outside_by p n (is_odd (length h)) dev (sender_row p r dev.slot) (row_of r.rows dev.receiver) ≡ Some (unlawful.Deviation n kept low high)
 outside_found p n h r dev kept low high w =
     rw (w.sends, w.hears) (by_test kept low high w.is_kept w.is_low w.is_high w.outside)
@@ -176,7 +176,7 @@ apart_dev_found p t n h r dev double w =
     subst (λ (k : ℕ). whenever (sender_is_away p t r dev.slot) (unlawful.Apart n k) ≡ Some (unlawful.Apart n double)) w.told
     (whenever_told (sender_is_away p t r dev.slot) (unlawful.Apart n double) w.away)
 
-breaks_found : (p : Values) (t : TraceView) (item : Item) (u : Unlawful) → Breaks p t item u → breach_by p t (number_of u) item (rank_in u) ≡ Some u
+breaks_found : (p : Values) (t : TraceView) (item : Item) (u : Unlawful) → Breaks p t item u → breach_by p t (record_of_breach u) item (rank_in u) ≡ Some u
 unfolding breach_by
 breaks_found p t (Clock h r row) (unlawful.Start number kept wanted) w = start_found p number h row kept wanted w
 breaks_found p t (Heard h r dev) (unlawful.Start number kept wanted) w = absurd w
@@ -197,23 +197,23 @@ breaks_found p t item (unlawful.Uncovered gap) w = absurd w
 -- ---- what the function finds at a rank, the relation says
 
 abbrev IsFound : Values → TraceView → ℕ → Item → ℕ → Unlawful → Type 0
-IsFound p t n item rank u = Breaks p t item u × (number_of u ≡ n) × (rank_in u ≡ rank)
+IsFound p t n item rank u = Breaks p t item u × (record_of_breach u ≡ n) × (rank_in u ≡ rank)
 
 start_breaks : (p : Values) (t : TraceView) (n : ℕ) (h : History) (r : Record) (row : NodeRow) (u : Unlawful)
-    → unless (is_same row.start (start_behind p h row)) (unlawful.Start n row.start (start_behind p h row)) ≡ Some u → IsFound p t n (Clock h r row) 0 u
+    → unless (is_same_number row.start (traced_start p h row)) (unlawful.Start n row.start (traced_start p h row)) ≡ Some u → IsFound p t n (Clock h r row) 0 u
 start_breaks p t n h r row u e =
-    let told : (is_same row.start (start_behind p h row) ≡ false) × (unlawful.Start n row.start (start_behind p h row) ≡ u) =
-    told_unless (is_same row.start (start_behind p h row)) (unlawful.Start n row.start (start_behind p h row)) u e in
+    let told : (is_same_number row.start (traced_start p h row) ≡ false) × (unlawful.Start n row.start (traced_start p h row) ≡ u) =
+    told_unless (is_same_number row.start (traced_start p h row)) (unlawful.Start n row.start (traced_start p h row)) u e in
     subst (λ (v : Unlawful). IsFound p t n (Clock h r row) 0 v) told.1
-    (record { is_kept = refl; is_wanted = refl; differs = not_same row.start (start_behind p h row) told.0 }, refl, refl)
+    (record { is_kept = refl; is_wanted = refl; differs = not_same row.start (traced_start p h row) told.0 }, refl, refl)
 
 rate_breaks : (p : Values) (t : TraceView) (n : ℕ) (h : History) (r : Record) (row : NodeRow) (u : Unlawful)
-    → unless (is_same row.rate (rate_behind p h row)) (unlawful.Rate n row.rate (rate_behind p h row)) ≡ Some u → IsFound p t n (Clock h r row) 1 u
+    → unless (is_same_number row.rate (traced_rate p h row)) (unlawful.Rate n row.rate (traced_rate p h row)) ≡ Some u → IsFound p t n (Clock h r row) 1 u
 rate_breaks p t n h r row u e =
-    let told : (is_same row.rate (rate_behind p h row) ≡ false) × (unlawful.Rate n row.rate (rate_behind p h row) ≡ u) =
-    told_unless (is_same row.rate (rate_behind p h row)) (unlawful.Rate n row.rate (rate_behind p h row)) u e in
+    let told : (is_same_number row.rate (traced_rate p h row) ≡ false) × (unlawful.Rate n row.rate (traced_rate p h row) ≡ u) =
+    told_unless (is_same_number row.rate (traced_rate p h row)) (unlawful.Rate n row.rate (traced_rate p h row)) u e in
     subst (λ (v : Unlawful). IsFound p t n (Clock h r row) 1 v) told.1
-    (record { is_kept = refl; is_wanted = refl; differs = not_same row.rate (rate_behind p h row) told.0 }, refl, refl)
+    (record { is_kept = refl; is_wanted = refl; differs = not_same row.rate (traced_rate p h row) told.0 }, refl, refl)
 
 turn_breaks : (p : Values) (t : TraceView) (n : ℕ) (h : History) (r : Record) (row : NodeRow) (u : Unlawful)
     → unless (state_number row.state == state_number (status_in p h row.node).state) (unlawful.Turn n row.state (status_in p h row.node).state) ≡ Some u → IsFound p t n (Clock h r row) 2 u
@@ -224,10 +224,10 @@ turn_breaks p t n h r row u e =
     (record { is_kept = refl; is_wanted = refl; differs = other_states row.state (status_in p h row.node).state told.0 }, refl, refl)
 
 offset_breaks : (p : Values) (t : TraceView) (n : ℕ) (h : History) (r : Record) (row : NodeRow) (u : Unlawful)
-    → unless (is_same row.offset (offset_after p h r row)) (unlawful.Offset n row.offset (offset_after p h r row)) ≡ Some u → IsFound p t n (Clock h r row) 3 u
+    → unless (is_same_number row.offset (offset_after p h r row)) (unlawful.Offset n row.offset (offset_after p h r row)) ≡ Some u → IsFound p t n (Clock h r row) 3 u
 offset_breaks p t n h r row u e =
-    let told : (is_same row.offset (offset_after p h r row) ≡ false) × (unlawful.Offset n row.offset (offset_after p h r row) ≡ u) =
-    told_unless (is_same row.offset (offset_after p h r row)) (unlawful.Offset n row.offset (offset_after p h r row)) u e in
+    let told : (is_same_number row.offset (offset_after p h r row) ≡ false) × (unlawful.Offset n row.offset (offset_after p h r row) ≡ u) =
+    told_unless (is_same_number row.offset (offset_after p h r row)) (unlawful.Offset n row.offset (offset_after p h r row)) u e in
     subst (λ (v : Unlawful). IsFound p t n (Clock h r row) 3 v) told.1
     (record { is_kept = refl; is_wanted = refl; differs = not_same row.offset (offset_after p h r row) told.0 }, refl, refl)
 
@@ -446,7 +446,7 @@ found_breach_is_first p t u e =
     }
   where
     earlier : (w : FoundAlong p t (first_number t) (items_in t.history) u) (at : FoundBelow (breach_by p t (first_number t + w.place) w.item) 7 u)
-        → number_of u ≡ first_number t + w.place → rank_in u ≡ at.rank → (v : Unlawful) → IsBreach p t v → ComesBefore v u → ⊥
+        → record_of_breach u ≡ first_number t + w.place → rank_in u ≡ at.rank → (v : Unlawful) → IsBreach p t v → ComesBefore v u → ⊥
     earlier w at number rank v b (inl less) =
         let count = b.at.counted in
         let none : breach_at p t (first_number t + b.at.place) b.item ≡ None = w.none b.at.place b.item (omega arith) b.at.found in
@@ -464,22 +464,22 @@ found_breach_is_first p t u e =
 
 pub one_first_breach : OneFirstBreach
 one_first_breach p t u v a b =
-    let number : number_of u ≡ number_of v = by_number (cases_eq (number_of u) (number_of v)) in
+    let number : record_of_breach u ≡ record_of_breach v = by_number (cases_eq (record_of_breach u) (record_of_breach v)) in
     let rank : rank_in u ≡ rank_in v = by_rank number (cases_eq (rank_in u) (rank_in v)) in
     same number rank
   where
-    by_number : (number_of u ≡ number_of v) ⊎ (number_of u ≡ number_of v → ⊥) → number_of u ≡ number_of v
+    by_number : (record_of_breach u ≡ record_of_breach v) ⊎ (record_of_breach u ≡ record_of_breach v → ⊥) → record_of_breach u ≡ record_of_breach v
     by_number (inl e) = e
-    by_number (inr other) = absurd (apart (less (number_of u) (number_of v) other))
+    by_number (inr other) = absurd (apart (less (record_of_breach u) (record_of_breach v) other))
       where
         less : (m n : ℕ) → (m ≡ n → ⊥) → (m < n) ⊎ (n < m)
         less m n ne = grind arith
 
-        apart : (number_of u < number_of v) ⊎ (number_of v < number_of u) → ⊥
+        apart : (record_of_breach u < record_of_breach v) ⊎ (record_of_breach v < record_of_breach u) → ⊥
         apart (inl lt) = b.first u a.is_breach (inl lt)
         apart (inr lt) = a.first v b.is_breach (inl lt)
 
-    by_rank : number_of u ≡ number_of v → (rank_in u ≡ rank_in v) ⊎ (rank_in u ≡ rank_in v → ⊥) → rank_in u ≡ rank_in v
+    by_rank : record_of_breach u ≡ record_of_breach v → (rank_in u ≡ rank_in v) ⊎ (rank_in u ≡ rank_in v → ⊥) → rank_in u ≡ rank_in v
     by_rank number (inl e) = e
     by_rank number (inr other) = absurd (apart (less (rank_in u) (rank_in v) other))
       where
@@ -490,7 +490,7 @@ one_first_breach p t u v a b =
         apart (inl lt) = b.first u a.is_breach (inr (number, lt))
         apart (inr lt) = a.first v b.is_breach (inr (sym number, lt))
 
-    same : number_of u ≡ number_of v → rank_in u ≡ rank_in v → u ≡ v
+    same : record_of_breach u ≡ record_of_breach v → rank_in u ≡ rank_in v → u ≡ v
     same number rank =
         let c = a.is_breach.at.counted in
         let d = b.is_breach.at.counted in

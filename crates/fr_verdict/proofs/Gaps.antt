@@ -6,8 +6,8 @@ use Rattle.fr_base.specs.declared.node_row.NodeRow.{NodeRow}
 use Rattle.fr_cluster.specs.Values.{Values}
 use Rattle.fr_cluster.specs.declared.nodes.NodeSpec.{NodeSpec}
 use Rattle.fr_bound.specs.Checks.{holds_of, left_of, right_of}
-use Rattle.fr_round.specs.Round.{sync_count}
-use Rattle.fr_coverage.specs.Coverage.{has_jumped, is_off, outweighs}
+use Rattle.fr_precision.specs.Round.{sync_count}
+use Rattle.fr_coverage.specs.Coverage.{check_gap, checks_gap, has_jumped, is_off, outweighs}
 use Rattle.fr_coverage.specs.First.{first_in}
 use Rattle.fr_coverage.specs.Order.{IsEarlierGap, place_of_gap}
 use Rattle.fr_coverage.specs.declared.gap.Gap.{Gap}
@@ -17,8 +17,8 @@ use Rattle.fr_coverage.proofs.Least.{Among, AreApart, Below, IsLeast, at-places,
 use Rattle.fr_history.specs.History.{History, Record, record_at, row_of}
 use Rattle.fr_history.proofs.Synced.{record_at-lt}
 use Rattle.fr_trace.specs.Trace.{TraceView, is_named, row_at}
-use Rattle.fr_verdict.specs.FirstGap.{FoundGapIsFirst, NoGapFoundIsCovered, change_by, change_gap, changes_gap, check_gap, checks_gap, count_gap, first_gap_of, is_asked, length_by, length_gap, lengths_gap, link_gap, links_gap, pairs_gap}
-use Rattle.fr_verdict.specs.Gaps.{IsChangeGap, IsCheckGap, IsCountGap, IsLengthGap, IsLinkGap, IsTraceGap, has_rows, is_heard, is_lasting, is_pair}
+use Rattle.fr_verdict.specs.FirstGap.{FoundGapIsFirst, NoGapFoundIsCovered, change_by, first_gap_of, is_asked, length_by, traced_change_gap, traced_changes_gap, traced_count_gap, traced_length_gap, traced_lengths_gap, traced_link_gap, traced_links_gap, traced_pairs_gap}
+use Rattle.fr_verdict.specs.Gaps.{IsTraceGap, IsTracedChangeGap, IsTracedCheckGap, IsTracedCountGap, IsTracedLengthGap, IsTracedLinkGap, has_rows, is_heard, is_lasting, is_pair}
 use Rattle.fr_verdict.specs.Sync.{IsFirstSynced, first_synced_of, is_early}
 use Rattle.fr_verdict.proofs.Syncing.{behind_early, early_not}
 
@@ -47,17 +47,17 @@ check_back : (p : Values) (g : Gap) (number : ℕ) → 1 ≤ number → number �
 check_back p g zero from to fails told = absurd (omega arith)
 check_back p g (suc k) from to fails told = (k, omega arith, (fails, told))
 
-checks_least : (p : Values) → IsLeast (IsCheckGap p) (checks_gap p)
+checks_least : (p : Values) → IsLeast (IsTracedCheckGap p) (checks_gap p)
 checks_least p =
-    least-same (Below (AtCheck p) 5) (IsCheckGap p) (checks_gap p)
+    least-same (Below (AtCheck p) 5) (IsTracedCheckGap p) (checks_gap p)
     (least-below (AtCheck p) (check_gap p) 5 (λ k. least-unless (holds_of (suc k) p) (gap.Check (suc k) (pos (left_of (suc k) p)) (pos (right_of (suc k) p)))) (checks_apart p))
     (λ g w. record { number = suc w.0; from = omega arith; to = (let lt = w.1 in omega arith); fails = w.2.0; told = w.2.1 })
     (λ g r. check_back p g r.number r.from r.to r.fails r.told)
 
 -- 2
-count_least : (p : Values) (t : TraceView) → IsLeast (IsCountGap p t) (count_gap p t)
+count_least : (p : Values) (t : TraceView) → IsLeast (IsTracedCountGap p t) (traced_count_gap p t)
 count_least p t =
-    least-same _ (IsCountGap p t) (count_gap p t)
+    least-same _ (IsTracedCountGap p t) (traced_count_gap p t)
     (least-unless (outweighs (sync_count p (is_lasting t)) (sync_count p (is_named t))) (gap.Count (sync_count p (is_lasting t)) (sync_count p (is_named t))))
     (λ g w. record { few = w.0; told = w.1 }) (λ g r. (r.few, r.told))
 
@@ -79,10 +79,10 @@ AtLength p h node cycle g = (row : NodeRow) × (row_at h cycle node ≡ Some row
 abbrev OfLengths : Values → TraceView → NodeSpec → Gap → Type 0
 OfLengths p t node g = Below (AtLength p t.history node.id) (length t.history) g
 
-lengths_least : (p : Values) (t : TraceView) → Ascend p.nodes → IsLeast (IsLengthGap p t) (first_in (lengths_gap p t) p.nodes)
+lengths_least : (p : Values) (t : TraceView) → Ascend p.nodes → IsLeast (IsTracedLengthGap p t) (first_in (traced_lengths_gap p t) p.nodes)
 lengths_least p t ascend =
-    least-same (Among (OfLengths p t) p.nodes) (IsLengthGap p t) _
-    (least-in (OfLengths p t) (lengths_gap p t) p.nodes (λ n. of n) (in-order (OfLengths p t) p.nodes ascend (λ a b lt g h w x before. apart a b lt g h w x before)))
+    least-same (Among (OfLengths p t) p.nodes) (IsTracedLengthGap p t) _
+    (least-in (OfLengths p t) (traced_lengths_gap p t) p.nodes (λ n. of n) (in-order (OfLengths p t) p.nodes ascend (λ a b lt g h w x before. apart a b lt g h w x before)))
     (λ g w. record { node = w.0; known = w.1; cycle = w.2.0; row = w.2.2.0; there = w.2.2.1; off = w.2.2.2.0; told = w.2.2.2.1 })
     (λ g r. (r.node, r.known, (r.cycle, row_within t.history r.cycle r.node.id r.row r.there, (r.row, r.there, (r.off, r.told)))))
   where
@@ -91,9 +91,9 @@ lengths_least p t ascend =
         at-places g h (3 ∷ n ∷ j ∷ []) (3 ∷ n ∷ k ∷ []) (ap place_of_gap w.2.1) (ap place_of_gap x.2.1)
         (under 3 (n ∷ k ∷ []) (n ∷ j ∷ []) (under n (k ∷ []) (j ∷ []) (later j k [] [] lt))) before
 
-    of : (n : NodeSpec) → IsLeast (OfLengths p t n) (lengths_gap p t n)
+    of : (n : NodeSpec) → IsLeast (OfLengths p t n) (traced_lengths_gap p t n)
     of n =
-        least-below (AtLength p t.history n.id) (length_gap p t.history n.id) (length t.history)
+        least-below (AtLength p t.history n.id) (traced_length_gap p t.history n.id) (length t.history)
         (λ c. least_maybe (OfLength p n.id c) (length_by p n.id c) (row_at t.history c n.id) (λ row. least-if (is_off p row.length) (gap.Length n.id c row.length))) (along n.id)
 
     apart : (a b : NodeSpec) → a.id < b.id → AreApart (OfLengths p t a) (OfLengths p t b)
@@ -115,10 +115,10 @@ AtChange p h node cycle g = (before : NodeRow) × (row_at h cycle node ≡ Some 
 abbrev OfChanges : Values → TraceView → NodeSpec → Gap → Type 0
 OfChanges p t node g = Below (AtChange p t.history node.id) (length t.history) g
 
-changes_least : (p : Values) (t : TraceView) → Ascend p.nodes → IsLeast (IsChangeGap p t) (first_in (changes_gap p t) p.nodes)
+changes_least : (p : Values) (t : TraceView) → Ascend p.nodes → IsLeast (IsTracedChangeGap p t) (first_in (traced_changes_gap p t) p.nodes)
 changes_least p t ascend =
-    least-same (Among (OfChanges p t) p.nodes) (IsChangeGap p t) _
-    (least-in (OfChanges p t) (changes_gap p t) p.nodes (λ n. of n) (in-order (OfChanges p t) p.nodes ascend (λ a b lt g h w x before. apart a b lt g h w x before)))
+    least-same (Among (OfChanges p t) p.nodes) (IsTracedChangeGap p t) _
+    (least-in (OfChanges p t) (traced_changes_gap p t) p.nodes (λ n. of n) (in-order (OfChanges p t) p.nodes ascend (λ a b lt g h w x before. apart a b lt g h w x before)))
     (λ g w. record { node = w.0; known = w.1; cycle = w.2.0; before = w.2.2.0; row = w.2.2.2.0; earlier = w.2.2.1; there = w.2.2.2.1; jumped = w.2.2.2.2.0; told = w.2.2.2.2.1 })
     (λ g r. (r.node, r.known, (r.cycle, row_within t.history r.cycle r.node.id r.before r.earlier, (r.before, r.earlier, (r.row, r.there, (r.jumped, r.told))))))
   where
@@ -127,9 +127,9 @@ changes_least p t ascend =
         at-places g h (4 ∷ n ∷ suc j ∷ []) (4 ∷ n ∷ suc k ∷ []) (ap place_of_gap w.2.2.1) (ap place_of_gap x.2.2.1)
         (under 4 (n ∷ suc k ∷ []) (n ∷ suc j ∷ []) (under n (suc k ∷ []) (suc j ∷ []) (later (suc j) (suc k) [] [] (omega arith)))) before
 
-    of : (n : NodeSpec) → IsLeast (OfChanges p t n) (changes_gap p t n)
+    of : (n : NodeSpec) → IsLeast (OfChanges p t n) (traced_changes_gap p t n)
     of n =
-        least-below (AtChange p t.history n.id) (change_gap p t.history n.id) (length t.history)
+        least-below (AtChange p t.history n.id) (traced_change_gap p t.history n.id) (length t.history)
         (λ c. least_maybe (AfterRow p t.history n.id c) (λ before. option_and_then (change_by p n.id c before) (row_at t.history (suc c) n.id)) (row_at t.history c n.id)
         (λ before. least_maybe (OfChange p n.id c before) (change_by p n.id c before) (row_at t.history (suc c) n.id)
         (λ row. least-if (has_jumped p before.length row.length) (gap.Change n.id (suc c) (row.length -ℤ before.length))))) (along n.id)
@@ -192,10 +192,10 @@ is_asked_by : (p : Values) (t : TraceView) (a b : NodeSpec) (double synced : ℕ
     → is_asked t (first_synced_of p t) a b double ≡ true
 is_asked_by p t a b double synced first from sends hears = rw (early_not p t double synced first from, sends, hears) refl
 
-links_least : (p : Values) (t : TraceView) → Ascend p.nodes → IsLeast (IsLinkGap p t) (pairs_gap p t (first_synced_of p t))
+links_least : (p : Values) (t : TraceView) → Ascend p.nodes → IsLeast (IsTracedLinkGap p t) (traced_pairs_gap p t (first_synced_of p t))
 links_least p t ascend =
-    least-same (Among (λ a. Among (OfLinks t synced a) p.nodes) p.nodes) (IsLinkGap p t) _
-    (least-in (λ a. Among (OfLinks t synced a) p.nodes) (λ a. first_in (links_gap t synced a) p.nodes) p.nodes (λ a. from_sender a)
+    least-same (Among (λ a. Among (OfLinks t synced a) p.nodes) p.nodes) (IsTracedLinkGap p t) _
+    (least-in (λ a. Among (OfLinks t synced a) p.nodes) (λ a. first_in (traced_links_gap t synced a) p.nodes) p.nodes (λ a. from_sender a)
     (in-order (λ a. Among (OfLinks t synced a) p.nodes) p.nodes ascend (λ a b lt g h w x before. links_apart p t synced a b lt g h w x before)))
     (λ g w. to g w.0 w.1 w.2.0 w.2.1 w.2.2.0 w.2.2.1.0 w.2.2.1.1 w.2.2.1.2.0 w.2.2.1.2.1)
     (λ g r. (r.sender, r.sender_there, (r.receiver, r.receiver_there, (r.pair, (r.double, r.within, (back g r, r.told))))))
@@ -204,7 +204,7 @@ links_least p t ascend =
     synced = first_synced_of p t
 
     to : (g : Gap) (a : NodeSpec) → Contains p.nodes a → (b : NodeSpec) → Contains p.nodes b → is_pair t a b ≡ true → (double : ℕ) → double < t.doubles
-        → (not (is_asked t (first_synced_of p t) a b double) || is_heard t a b double) ≡ false → g ≡ gap.Link a.id b.id double → IsLinkGap p t g
+        → (not (is_asked t (first_synced_of p t) a b double) || is_heard t a b double) ≡ false → g ≡ gap.Link a.id b.id double → IsTracedLinkGap p t g
     to g a a_there b b_there pair double within e told =
         let parts : (not (is_asked t (first_synced_of p t) a b double) ≡ false) × (is_heard t a b double ≡ false) = or_parts (not (is_asked t (first_synced_of p t) a b double)) (is_heard t a b double) e in
         let w : IsAsked p t a b double = asked p t a b double (by_not (is_asked t (first_synced_of p t) a b double) parts.0) in
@@ -225,17 +225,17 @@ links_least p t ascend =
           told = told;
         }
 
-    back : (g : Gap) (r : IsLinkGap p t g) → (not (is_asked t (first_synced_of p t) r.sender r.receiver r.double) || is_heard t r.sender r.receiver r.double) ≡ false
+    back : (g : Gap) (r : IsTracedLinkGap p t g) → (not (is_asked t (first_synced_of p t) r.sender r.receiver r.double) || is_heard t r.sender r.receiver r.double) ≡ false
     back g r = rw (is_asked_by p t r.sender r.receiver r.double r.synced r.first r.from r.sends r.hears, r.broken) refl
 
-    of : (a b : NodeSpec) → IsLeast (OfLinks t synced a b) (links_gap t synced a b)
+    of : (a b : NodeSpec) → IsLeast (OfLinks t synced a b) (traced_links_gap t synced a b)
     of a b =
         least-where (Below (AtDouble t synced a b) t.doubles) (is_pair t a b) _
-        (least-below (AtDouble t synced a b) (link_gap t synced a b) t.doubles (λ k. least-unless (not (is_asked t synced a b k) || is_heard t a b k) (gap.Link a.id b.id k)) (doubles_apart t synced a b))
+        (least-below (AtDouble t synced a b) (traced_link_gap t synced a b) t.doubles (λ k. least-unless (not (is_asked t synced a b k) || is_heard t a b k) (gap.Link a.id b.id k)) (doubles_apart t synced a b))
 
-    from_sender : (a : NodeSpec) → IsLeast (Among (OfLinks t synced a) p.nodes) (first_in (links_gap t synced a) p.nodes)
+    from_sender : (a : NodeSpec) → IsLeast (Among (OfLinks t synced a) p.nodes) (first_in (traced_links_gap t synced a) p.nodes)
     from_sender a =
-        least-in (OfLinks t synced a) (links_gap t synced a) p.nodes (λ b. of a b)
+        least-in (OfLinks t synced a) (traced_links_gap t synced a) p.nodes (λ b. of a b)
         (in-order (OfLinks t synced a) p.nodes ascend (λ b c lt g h w x before. receivers_apart t synced a b c lt g h w x before))
 
 -- ---- all of them
@@ -247,13 +247,13 @@ kinds_apart g h lt before =
 
 -- the kinds from each on
 abbrev pub FromChange : Values → TraceView → Gap → Type 0
-FromChange p t g = IsChangeGap p t g ⊎ IsLinkGap p t g
+FromChange p t g = IsTracedChangeGap p t g ⊎ IsTracedLinkGap p t g
 
 abbrev pub FromLength : Values → TraceView → Gap → Type 0
-FromLength p t g = IsLengthGap p t g ⊎ FromChange p t g
+FromLength p t g = IsTracedLengthGap p t g ⊎ FromChange p t g
 
 abbrev pub FromCount : Values → TraceView → Gap → Type 0
-FromCount p t g = IsCountGap p t g ⊎ FromLength p t g
+FromCount p t g = IsTracedCountGap p t g ⊎ FromLength p t g
 
 pub from_change : (p : Values) (t : TraceView) (g : Gap) → FromChange p t g → 3 < kind_of g
 from_change p t g (inl r) = let kind = ap kind_of r.told in omega arith
@@ -270,10 +270,10 @@ from_count p t g (inr r) = let kind = from_length p t g r in omega arith
 pub gaps_least : (p : Values) (t : TraceView) → Ascend p.nodes → IsLeast (IsTraceGap p t) (first_gap_of p t)
 unfolding first_gap_of
 gaps_least p t ascend =
-    least-or (IsCheckGap p) (FromCount p t) _ _ (checks_least p)
-    (least-or (IsCountGap p t) (FromLength p t) _ _ (count_least p t)
-    (least-or (IsLengthGap p t) (FromChange p t) _ _ (lengths_least p t ascend)
-    (least-or (IsChangeGap p t) (IsLinkGap p t) _ _ (changes_least p t ascend) (links_least p t ascend)
+    least-or (IsTracedCheckGap p) (FromCount p t) _ _ (checks_least p)
+    (least-or (IsTracedCountGap p t) (FromLength p t) _ _ (count_least p t)
+    (least-or (IsTracedLengthGap p t) (FromChange p t) _ _ (lengths_least p t ascend)
+    (least-or (IsTracedChangeGap p t) (IsTracedLinkGap p t) _ _ (changes_least p t ascend) (links_least p t ascend)
     (λ g h w x before. kinds_apart g h (let a = ap kind_of w.told in let b = ap kind_of x.told in omega arith) before))
     (λ g h w x before. kinds_apart g h (let a = ap kind_of w.told in let b = from_change p t h x in omega arith) before))
     (λ g h w x before. kinds_apart g h (let a = ap kind_of w.told in let b = from_length p t h x in omega arith) before))

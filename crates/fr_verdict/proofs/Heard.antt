@@ -15,30 +15,30 @@ use Rattle.fr_cluster.specs.Setting.{correct_nodes, is_correct}
 use Rattle.fr_cluster.specs.Values.{Values}
 use Rattle.fr_cluster.specs.declared.nodes.NodeSpec.{NodeSpec}
 use Rattle.fr_cluster.proofs.KeyNodes.{found_key}
-use Rattle.fr_clocks.specs.Clocks.{hearer_of, round_of, row_for}
-use Rattle.fr_clocks.specs.Heard.{IsHeardBy, IsLinked, record_in}
-use Rattle.fr_clocks.proofs.Doubles.{even_length, odd_length}
-use Rattle.fr_clocks.proofs.Hearing.{heard_suffices}
-use Rattle.fr_clocks.proofs.Rows.{HasRow, has_row as row_there}
+use Rattle.fr_history.specs.History.{History, Record, record_at, row_for, row_of}
+use Rattle.fr_runs.specs.Links.{IsLinked, record_in}
+use Rattle.fr_runs.proofs.Doubles.{even_length, odd_length}
+use Rattle.fr_runs.proofs.Rows.{HasRow, has_row as row_there}
 use Rattle.fr_coverage.specs.Links.{shares}
 use Rattle.fr_coverage.specs.declared.gap.Gap.TheVariants as gap
-use Rattle.fr_history.specs.History.{History, Record, record_at, row_of}
 use Rattle.fr_history.proofs.Synced.{record_at-lt}
 use Rattle.fr_precision.specs.Offsets.{IsDeviation}
 use Rattle.fr_precision.proofs.DeviationLaws.{recorded_is_deviation}
 use Rattle.fr_precision.proofs.OffsetLaws.{micro_lasts}
 use Rattle.fr_cluster.specs.Questions.{key_slot_of}
-use Rattle.fr_round.specs.Round.{Hearer, IsHeardAt, Round}
-use Rattle.fr_round.proofs.Lists.{filtered, found, kept_filtered}
+use Rattle.fr_precision.specs.Round.{Hearer, IsHeardAt, Round}
+use Rattle.fr_precision.proofs.Lists.{filtered, found, kept_filtered}
 use Rattle.fr_time.specs.Cycles.{is_odd}
 use Rattle.fr_time.specs.Slots.{action_point_of}
 use Rattle.fr_trace.specs.Items.Item.{Heard}
 use Rattle.fr_trace.specs.Trace.{TraceView, is_named}
 use Rattle.fr_verdict.specs.Breach.{IsLawfulTrace, high_of, is_away, low_of, sender_is_away, sender_row}
 use Rattle.fr_verdict.specs.Gaps.{has_dev, has_rows, is_heard, is_heard_on, is_pair}
+use Rattle.fr_verdict.specs.Heard.{IsHeardBy, hearer_of, traced_round}
 use Rattle.fr_verdict.specs.Search.{breach_by, outside_by, whenever}
 use Rattle.fr_verdict.specs.Sync.{IsFirstSynced}
 use Rattle.fr_verdict.specs.declared.unlawful.Unlawful.TheVariants as unlawful
+use Rattle.fr_verdict.proofs.Hearing.{heard_suffices}
 use Rattle.fr_verdict.proofs.Items.{Unbroken, dev_there, unbroken}
 use Rattle.fr_verdict.proofs.Recorded.{IsDouble, NodeTwo, Passes, even_at, even_parted, known, node_two, odd_at, row_is_at, rows_in, window}
 use Rattle.fr_verdict.proofs.Standing.{has_row, nodes_in, stays_within, unnamed_with_row}
@@ -309,7 +309,7 @@ pub heard_in : (p : Values) (t : TraceView) (h : History) (even odd : Record) (d
     → Contains (nodes_in p even) node → IsHeardAt (round_in p t even odd) (hearer_in p t even odd node)
 heard_in p t h even odd double k node w first d from among =
     let x = window p t even in
-    let heard : IsHeardAt (round_of x even odd) (hearer_of x even odd node.id) =
+    let heard : IsHeardAt (traced_round x even odd) (hearer_of x even odd node.id) =
     heard_suffices x even odd w.sane (λ sender receiver slot link. heard_by p t h even odd double k sender receiver slot w first d from link) node (to_window p t even node among) in
     record {
       itself =

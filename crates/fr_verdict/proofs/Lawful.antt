@@ -9,19 +9,18 @@ use Rattle.fr_base.specs.declared.state.State.{State}
 use Rattle.fr_base.specs.declared.state.State.TheVariants.{Active, Halt, Passive}
 use Rattle.fr_cluster.specs.Values.{Values}
 use Rattle.fr_cluster.proofs.KeyNodes.{AllPairs-first, AllPairs-rest, Contains-cons_cases}
-use Rattle.fr_round.proofs.Lists.{Contains-none, sole_found}
-use Rattle.fr_clocks.specs.Clocks.{blank_row, row_for}
-use Rattle.fr_history.specs.History.{History, Record, record_at}
-use Rattle.fr_history.specs.Lawful.{offset_after}
+use Rattle.fr_precision.proofs.Lists.{Contains-none, sole_found}
+use Rattle.fr_history.specs.History.{History, Record, blank_row, record_at, row_for}
+use Rattle.fr_history.specs.Rows.{offset_after}
 use Rattle.fr_history.specs.Terms.{status_in}
 use Rattle.fr_history.proofs.Synced.{record_of_cut}
 use Rattle.fr_trace.specs.Fits.{FitsRecord, HistoryFits, TraceFits}
 use Rattle.fr_trace.specs.Items.Item.{Clock}
 use Rattle.fr_trace.specs.Lasting.{IsTracedRecord}
 use Rattle.fr_trace.specs.Trace.{TraceView, rows_at}
-use Rattle.fr_verdict.specs.Breach.{IsLawfulTrace, rate_behind, start_behind}
+use Rattle.fr_verdict.specs.Breach.{IsLawfulTrace, traced_rate, traced_start}
 use Rattle.fr_verdict.specs.Precision.{LawfulTracesRun, recorded_row}
-use Rattle.fr_verdict.specs.Search.{breach_by, is_same, state_number, unless}
+use Rattle.fr_verdict.specs.Search.{breach_by, is_same_number, state_number, unless}
 use Rattle.fr_verdict.specs.declared.unlawful.Unlawful.{Unlawful}
 use Rattle.fr_verdict.specs.declared.unlawful.Unlawful.TheVariants as unlawful
 use Rattle.fr_verdict.proofs.Items.{Unbroken, row_there, unbroken}
@@ -32,7 +31,7 @@ passed_by : (test : Bool) (u : Unlawful) → unless test u ≡ None → test ≡
 passed_by true u e = refl
 passed_by false u e = cc e
 
-same_by : (a b : ℤ) → is_same a b ≡ true → a ≡ b
+same_by : (a b : ℤ) → is_same_number a b ≡ true → a ≡ b
 same_by a b e = grind (arith, ints)
 
 same_states : (a b : State) → (state_number a == state_number b) ≡ true → a ≡ b
@@ -48,20 +47,20 @@ same_states Halt Halt e = refl
 
 -- a row that breaks no law
 pub record IsRow (p : Values) (h : History) (r : Record) (row : NodeRow) : Type 0 where
-  pub start : row.start ≡ start_behind p h row
-  pub rate : row.rate ≡ rate_behind p h row
+  pub start : row.start ≡ traced_start p h row
+  pub rate : row.rate ≡ traced_rate p h row
   pub state : row.state ≡ (status_in p h row.node).state
   pub offset : row.offset ≡ offset_after p h r row
 
 is_row : (p : Values) (t : TraceView) (h : History) (r : Record) (row : NodeRow) → Unbroken p t (Clock h r row) → IsRow p h r row
 unfolding breach_by
 is_row p t h r row w = record {
-  start = same_by row.start (start_behind p h row) (passed_by (is_same row.start (start_behind p h row)) (unlawful.Start w.number row.start (start_behind p h row)) (w.none 0 (omega arith)));
-  rate = same_by row.rate (rate_behind p h row) (passed_by (is_same row.rate (rate_behind p h row)) (unlawful.Rate w.number row.rate (rate_behind p h row)) (w.none 1 (omega arith)));
+  start = same_by row.start (traced_start p h row) (passed_by (is_same_number row.start (traced_start p h row)) (unlawful.Start w.number row.start (traced_start p h row)) (w.none 0 (omega arith)));
+  rate = same_by row.rate (traced_rate p h row) (passed_by (is_same_number row.rate (traced_rate p h row)) (unlawful.Rate w.number row.rate (traced_rate p h row)) (w.none 1 (omega arith)));
   state =
       same_states row.state (status_in p h row.node).state
       (passed_by (state_number row.state == state_number (status_in p h row.node).state) (unlawful.Turn w.number row.state (status_in p h row.node).state) (w.none 2 (omega arith)));
-  offset = same_by row.offset (offset_after p h r row) (passed_by (is_same row.offset (offset_after p h r row)) (unlawful.Offset w.number row.offset (offset_after p h r row)) (w.none 3 (omega arith)));
+  offset = same_by row.offset (offset_after p h r row) (passed_by (is_same_number row.offset (offset_after p h r row)) (unlawful.Offset w.number row.offset (offset_after p h r row)) (w.none 3 (omega arith)));
 }
 
 -- ---- a row is that of its number
@@ -136,9 +135,9 @@ lawful_row p t later h r row lawful parted among = is_row p t h r row (unbroken 
 pub lawful_traces_run : LawfulTracesRun
 lawful_traces_run p t trace fits lawful later h r parted = record {
   nodes = (record_fits p t later h r fits parted).nodes;
-  starts = each_of (λ row. row.start ≡ start_behind p h (recorded_row t h row.node)) r.rows (λ row among. (own row among).start ∙ ap (start_behind p h) (sym (kept row among)));
+  starts = each_of (λ row. row.start ≡ traced_start p h (recorded_row t h row.node)) r.rows (λ row among. (own row among).start ∙ ap (traced_start p h) (sym (kept row among)));
   lengths = each_of (λ row. row.length ≡ (recorded_row t h row.node).length) r.rows (λ row among. sym (ap (λ (x : NodeRow). x.length) (kept row among)));
-  rates = each_of (λ row. row.rate ≡ rate_behind p h (recorded_row t h row.node)) r.rows (λ row among. (own row among).rate ∙ ap (rate_behind p h) (sym (kept row among)));
+  rates = each_of (λ row. row.rate ≡ traced_rate p h (recorded_row t h row.node)) r.rows (λ row among. (own row among).rate ∙ ap (traced_rate p h) (sym (kept row among)));
   states = each_of (λ row. row.state ≡ (status_in p h row.node).state) r.rows (λ row among. (own row among).state);
   offsets = each_of (λ row. row.offset ≡ offset_after p h r row) r.rows (λ row among. (own row among).offset);
 }

@@ -9,5 +9,13 @@ pub mod Items
 pub mod Lawful
 pub mod Standing
 pub mod Recorded
+pub mod Doubles
+pub mod Hearing
 pub mod Heard
 pub mod Checked
+mod Checks
+pub mod Parts
+pub mod Records
+pub mod Stepping
+pub mod Receivers
+mod Whole

@@ -13,23 +13,23 @@ use Rattle.fr_coverage.proofs.GapParts.{kind_of, place-split}
 use Rattle.fr_coverage.proofs.Least.{IsLeast}
 use Rattle.fr_trace.specs.Trace.{TraceView}
 use Rattle.fr_verdict.specs.FirstGap.{FirstGapIsFound, first_gap_of}
-use Rattle.fr_verdict.specs.Gaps.{IsChangeGap, IsCheckGap, IsFirstTraceGap, IsLengthGap, IsLinkGap, IsTraceGap}
+use Rattle.fr_verdict.specs.Gaps.{IsFirstTraceGap, IsTraceGap, IsTracedChangeGap, IsTracedCheckGap, IsTracedLengthGap, IsTracedLinkGap}
 use Rattle.fr_verdict.proofs.Gaps.{FromChange, FromCount, FromLength, from_change, from_count, from_length, gaps_least}
 
-one_check : (p : Values) (g h : Gap) → place_of_gap g ≡ place_of_gap h → IsCheckGap p g → IsCheckGap p h → g ≡ h
+one_check : (p : Values) (g h : Gap) → place_of_gap g ≡ place_of_gap h → IsTracedCheckGap p g → IsTracedCheckGap p h → g ≡ h
 one_check p g h same r q = let places = sym (ap place_of_gap r.told) ∙ same ∙ ap place_of_gap q.told in let a = r.told in let b = q.told in cc
 
-one_length : (p : Values) (t : TraceView) (g h : Gap) → place_of_gap g ≡ place_of_gap h → IsLengthGap p t g → IsLengthGap p t h → g ≡ h
+one_length : (p : Values) (t : TraceView) (g h : Gap) → place_of_gap g ≡ place_of_gap h → IsTracedLengthGap p t g → IsTracedLengthGap p t h → g ≡ h
 one_length p t g h same r q =
     let places = sym (ap place_of_gap r.told) ∙ same ∙ ap place_of_gap q.told in
     let a = r.told in let b = q.told in let c = r.there in let d = q.there in cc
 
-one_change : (p : Values) (t : TraceView) (g h : Gap) → place_of_gap g ≡ place_of_gap h → IsChangeGap p t g → IsChangeGap p t h → g ≡ h
+one_change : (p : Values) (t : TraceView) (g h : Gap) → place_of_gap g ≡ place_of_gap h → IsTracedChangeGap p t g → IsTracedChangeGap p t h → g ≡ h
 one_change p t g h same r q =
     let places = sym (ap place_of_gap r.told) ∙ same ∙ ap place_of_gap q.told in
     let a = r.told in let b = q.told in let c = r.there in let d = q.there in let e = r.earlier in let f = q.earlier in cc
 
-one_link : (p : Values) (t : TraceView) (g h : Gap) → place_of_gap g ≡ place_of_gap h → IsLinkGap p t g → IsLinkGap p t h → g ≡ h
+one_link : (p : Values) (t : TraceView) (g h : Gap) → place_of_gap g ≡ place_of_gap h → IsTracedLinkGap p t g → IsTracedLinkGap p t h → g ≡ h
 one_link p t g h same r q = let places = sym (ap place_of_gap r.told) ∙ same ∙ ap place_of_gap q.told in let a = r.told in let b = q.told in cc
 
 one_kind : (g h : Gap) → place_of_gap g ≡ place_of_gap h → kind_of g ≡ kind_of h

@@ -16,20 +16,19 @@ use Rattle.fr_cluster.specs.Setting.{Setting}
 use Rattle.fr_cluster.specs.Values.{Values, amount}
 use Rattle.fr_cluster.specs.declared.names.ParamName.TheVariants as name
 use Rattle.fr_cluster.specs.declared.nodes.NodeSpec.{NodeSpec}
-use Rattle.fr_clocks.specs.Clocks.{row_for}
-use Rattle.fr_clocks.proofs.Doubles.{even_length, even_stands, odd_length, outcomes_even, stays}
-use Rattle.fr_clocks.proofs.Rows.{HasRow, each_row, has_row as row_there}
+use Rattle.fr_history.specs.History.{AreRowsOf, History, Record, record_at, row_for, row_of}
+use Rattle.fr_runs.proofs.Doubles.{even_length, even_stands, odd_length, outcomes_even, stays}
+use Rattle.fr_runs.proofs.Rows.{HasRow, each_row, has_row as row_there}
 use Rattle.fr_coverage.specs.Coverage.{has_jumped, is_off}
 use Rattle.fr_coverage.specs.declared.gap.Gap.TheVariants as gap
-use Rattle.fr_history.specs.History.{AreRowsOf, History, Record, record_at, row_of}
-use Rattle.fr_history.specs.Lawful.{is_corrected}
+use Rattle.fr_history.specs.Rows.{is_corrected}
 use Rattle.fr_history.specs.Terms.{offset_term_in, outcomes_by, outcomes_in, rate_term_in, status_in}
 use Rattle.fr_history.proofs.Synced.{record_of_cut}
 use Rattle.fr_poc.specs.Control.{Status, control_of, first_status, step_of}
 use Rattle.fr_poc.specs.Limits.{limits_of}
 use Rattle.fr_precision.specs.Placement.{IsRegular}
 use Rattle.fr_precision.specs.Rows.{HasProperMicro, IsDoubleCycle, IsSteady, corrected_end_of}
-use Rattle.fr_round.proofs.Lists.{filtered}
+use Rattle.fr_precision.proofs.Lists.{filtered}
 use Rattle.fr_trace.specs.Fits.{TraceFits}
 use Rattle.fr_trace.specs.Lasting.{IsTrace}
 use Rattle.fr_trace.specs.Trace.{TraceView, row_at}

@@ -8,14 +8,14 @@ use Rattle.fr_cluster.specs.Values.{Values}
 use Rattle.fr_cluster.specs.declared.join.Join.{Join}
 use Rattle.fr_cluster.specs.declared.nodes.NodeSpec.{NodeSpec}
 use Rattle.fr_history.specs.History.{AreRowsOf, History, Record, row_of}
-use Rattle.fr_joined.proofs.Standing.{keeps, passes_by_row, row_by_passing}
-use Rattle.fr_round.proofs.Lists.{Contains-here, Contains-none, Contains-there}
+use Rattle.fr_history.proofs.Standing.{keeps, passes_by_row, row_by_passing}
+use Rattle.fr_precision.proofs.Lists.{Contains-here, Contains-none, Contains-there}
 use Rattle.fr_cluster.proofs.KeyNodes.{Contains-cons_cases}
-use Rattle.fr_gathered.proofs.Standing.{filter_same}
+use Rattle.fr_runs.proofs.Standing.{filter_same}
 use Rattle.fr_trace.specs.Fits.{FitsRecord}
 use Rattle.fr_trace.specs.Joins.{first_cycle, latest_rows, stands_in}
-use Rattle.fr_trace.specs.Trace.{TraceView, has_row_in, is_named, join_in}
-use Rattle.fr_verdict.specs.Precision.{row_nodes}
+use Rattle.fr_trace.specs.Trace.{TraceView, has_row_in, is_named, traced_join_in}
+use Rattle.fr_verdict.specs.Precision.{traced_nodes}
 
 -- ---- tests
 
@@ -57,7 +57,7 @@ pub told_has : (p : Values) (t : TraceView) (h : History) (r : Record) (node : N
 unfolding has_row
 told_has p t h r node fits there = row_tells (has_row_in t h r) p.nodes r.rows node fits.nodes there
 
-pub nodes_are : (p : Values) (t : TraceView) (h : History) (r : Record) → FitsRecord p t h r → row_nodes p t h r ≡ nodes_in p r
+pub nodes_are : (p : Values) (t : TraceView) (h : History) (r : Record) → FitsRecord p t h r → traced_nodes p t h r ≡ nodes_in p r
 nodes_are p t h r fits = filter_same (λ (n : NodeSpec). has_row_in t h r n.id) (λ (n : NodeSpec). has_row r n.id) p.nodes (λ node there. sym (told_has p t h r node fits there))
 
 pub rows_of_nodes : (p : Values) (t : TraceView) (h : History) (r : Record) → FitsRecord p t h r → AreRowsOf (nodes_in p r) r.rows
@@ -66,16 +66,16 @@ rows_of_nodes p t h r fits = fits.nodes ∙ ap (map (λ (node : NodeSpec). node.
 -- it is correct
 pub unnamed_with_row : (p : Values) (t : TraceView) (h : History) (r : Record) (node : NodeSpec) → FitsRecord p t h r → Contains p.nodes node → has_row r node.id ≡ true → is_named t node.id ≡ false
 unnamed_with_row p t h r node fits there has =
-    by_not (is_named t node.id) (and_parts (not (is_named t node.id)) (stands_in (join_in t node.id) h r node.id) (sym (told_has p t h r node fits there) ∙ has)).0
+    by_not (is_named t node.id) (and_parts (not (is_named t node.id)) (stands_in (traced_join_in t node.id) h r node.id) (sym (told_has p t h r node fits there) ∙ has)).0
   where
     by_not : (b : Bool) → not b ≡ true → b ≡ false
     by_not true e = cc e
     by_not false e = refl
 
 -- and a correct node that does not join has one in every record
-pub lasting_has : (p : Values) (t : TraceView) (h : History) (r : Record) (node : NodeSpec) → FitsRecord p t h r → Contains p.nodes node → is_named t node.id ≡ false → is_some (join_in t node.id) ≡ false
+pub lasting_has : (p : Values) (t : TraceView) (h : History) (r : Record) (node : NodeSpec) → FitsRecord p t h r → Contains p.nodes node → is_named t node.id ≡ false → is_some (traced_join_in t node.id) ≡ false
     → has_row r node.id ≡ true
-lasting_has p t h r node fits there unnamed none = told_has p t h r node fits there ∙ by_join (join_in t node.id) none ∙ ap (λ b. not b) unnamed
+lasting_has p t h r node fits there unnamed none = told_has p t h r node fits there ∙ by_join (traced_join_in t node.id) none ∙ ap (λ b. not b) unnamed
   where
     with_true : (a : Bool) → (a && true) ≡ a
     with_true true = refl
@@ -120,7 +120,7 @@ pub record AreTwo (p : Values) (t : TraceView) (h : History) (s r : Record) : Ty
 
 -- where a node cannot begin in the later one, it has a row there where it had one in the earlier one
 stays_where : (p : Values) (t : TraceView) (h : History) (s r : Record) (node : NodeSpec) → AreTwo p t h s r → Contains p.nodes node
-    → ((j : Join) → join_in t node.id ≡ Some j → suc (length h) ≡ first_cycle j → ⊥) → has_row r node.id ≡ has_row s node.id
+    → ((j : Join) → traced_join_in t node.id ≡ Some j → suc (length h) ≡ first_cycle j → ⊥) → has_row r node.id ≡ has_row s node.id
 unfolding has_row
 stays_where p t h s r node two there never = by_name (is_named t node.id) refl
   where
@@ -132,11 +132,11 @@ stays_where p t h s r node two there never = by_name (is_named t node.id) refl
 
     by_name : (b : Bool) → is_named t node.id ≡ b → is_some (row_of r.rows node.id) ≡ is_some (row_of s.rows node.id)
     by_name true e =
-        late ∙ ap (λ a. not a && stands_in (join_in t node.id) (s ∷ h) r node.id) e
-        ∙ sym (early ∙ ap (λ a. not a && stands_in (join_in t node.id) h s node.id) e)
+        late ∙ ap (λ a. not a && stands_in (traced_join_in t node.id) (s ∷ h) r node.id) e
+        ∙ sym (early ∙ ap (λ a. not a && stands_in (traced_join_in t node.id) h s node.id) e)
     by_name false e =
-        late ∙ ap (λ a. not a && stands_in (join_in t node.id) (s ∷ h) r node.id) e
-        ∙ later_by (join_in t node.id) h s r node.id never (sym (early ∙ ap (λ a. not a && stands_in (join_in t node.id) h s node.id) e))
+        late ∙ ap (λ a. not a && stands_in (traced_join_in t node.id) (s ∷ h) r node.id) e
+        ∙ later_by (traced_join_in t node.id) h s r node.id never (sym (early ∙ ap (λ a. not a && stands_in (traced_join_in t node.id) h s node.id) e))
 
 -- within a double cycle all stays
 pub stays_within : (p : Values) (t : TraceView) (h : History) (s r : Record) (double : ℕ) (node : NodeSpec) → AreTwo p t h s r → length h ≡ 2 * double → Contains p.nodes node
@@ -157,10 +157,10 @@ keeps_row p t h s r node two there has = stays_where p t h s r node two there ne
     early : has_row_in t h s node.id ≡ true
     early = sym (told_has p t h s node two.early there) ∙ has
 
-    stands : stands_in (join_in t node.id) h s node.id ≡ true
-    stands = (and_parts (not (is_named t node.id)) (stands_in (join_in t node.id) h s node.id) early).1
+    stands : stands_in (traced_join_in t node.id) h s node.id ≡ true
+    stands = (and_parts (not (is_named t node.id)) (stands_in (traced_join_in t node.id) h s node.id) early).1
 
-    never : (j : Join) → join_in t node.id ≡ Some j → suc (length h) ≡ first_cycle j → ⊥
+    never : (j : Join) → traced_join_in t node.id ≡ Some j → suc (length h) ≡ first_cycle j → ⊥
     never j at begins =
         let less : first_cycle j < suc (length h) = since_first j h s node.id (sym (ap (λ (o : Option Join). stands_in o h s node.id) at) ∙ stands) in
         omega arith

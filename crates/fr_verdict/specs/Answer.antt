@@ -35,13 +35,13 @@ pub record IsUncovered (p : Values) (t : TraceView) (u : Unlawful) : Type 0 wher
   pub told : u ≡ unlawful.Uncovered gap
 
 -- the answer: a verdict, the first breach, or the first gap
-abbrev pub IsAnswer : Values → TraceView → Result Verdict Unlawful → Type 0
-IsAnswer p t (Ok v) = IsVerdict p t v
-IsAnswer p t (Err u) = IsFirstBreach p t u ⊎ IsUncovered p t u
+abbrev pub IsJudgement : Values → TraceView → Result Verdict Unlawful → Type 0
+IsJudgement p t (Ok v) = IsVerdict p t v
+IsJudgement p t (Err u) = IsFirstBreach p t u ⊎ IsUncovered p t u
 
 -- a trace has one answer at most, and one at least
 abbrev pub OneAnswer : Type 0
-OneAnswer = (p : Values) (t : TraceView) (a b : Result Verdict Unlawful) → IsAnswer p t a → IsAnswer p t b → a ≡ b
+OneAnswer = (p : Values) (t : TraceView) (a b : Result Verdict Unlawful) → IsJudgement p t a → IsJudgement p t b → a ≡ b
 
 abbrev pub SomeAnswer : Type 0
-SomeAnswer = (p : Values) (t : TraceView) → IsSane p → IsTrace t → (a : Result Verdict Unlawful) × IsAnswer p t a
+SomeAnswer = (p : Values) (t : TraceView) → IsSane p → IsTrace t → (a : Result Verdict Unlawful) × IsJudgement p t a

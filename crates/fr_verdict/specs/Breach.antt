@@ -10,12 +10,13 @@ use Rattle.fr_cluster.specs.Searches.{key_node_in}
 use Rattle.fr_cluster.specs.Values.{Values}
 use Rattle.fr_cluster.specs.declared.nodes.NodeSpec.{NodeSpec}
 use Rattle.fr_time.specs.Cycles.{is_odd}
-use Rattle.fr_time.specs.Position.{floor_of}
+use Rattle.fr_time.specs.Instant.{next_start_of}
+use Rattle.fr_time.specs.Position.{floor_of, grid_for}
 use Rattle.fr_time.specs.Slots.{action_point_of}
 use Rattle.fr_bound.specs.Bounds.{arrival_error}
 use Rattle.fr_precision.specs.Instants.{gap_of}
-use Rattle.fr_history.specs.History.{History, Record, clock_of, row_of}
-use Rattle.fr_history.specs.Lawful.{offset_after, rate_by, start_by}
+use Rattle.fr_history.specs.History.{History, Record, row_of}
+use Rattle.fr_history.specs.Rows.{offset_after, rate_by}
 use Rattle.fr_history.specs.Sync.{IsInSyncAt}
 use Rattle.fr_history.specs.Terms.{status_in}
 use Rattle.fr_trace.specs.Items.{IsAt, Item}
@@ -30,12 +31,12 @@ use Rattle.fr_verdict.specs.declared.unlawful.Unlawful.TheVariants as unlawful
 -- the start of a node's cycle by its row in the cycle before: without one it is free, else it is where that cycle ends
 abbrev pub start_from : Values → NodeRow → Option NodeRow → ℤ
 start_from p row None = row.start
-start_from p row (Some before) = start_by p (Some before)
+start_from p row (Some before) = next_start_of (grid_for p) before
 
 -- by the records before it: in cycle 0 it is free, and in the first cycle of a node that joins
-abbrev pub start_behind : Values → History → NodeRow → ℤ
-start_behind p [] row = row.start
-start_behind p (r ∷ h) row = start_from p row (clock_of r row.node)
+abbrev pub traced_start : Values → History → NodeRow → ℤ
+traced_start p [] row = row.start
+traced_start p (r ∷ h) row = start_from p row (row_of r.rows row.node)
 
 -- its rate: where its start is free this is too, within a double cycle it stays, and after one it is the rate term of its
 -- deviations
@@ -43,20 +44,20 @@ abbrev pub rate_from : Values → History → Record → NodeRow → Option Node
 rate_from p h r row None = row.rate
 rate_from p h r row (Some before) = rate_by p h r (Some before)
 
-abbrev pub rate_behind : Values → History → NodeRow → ℤ
-rate_behind p [] row = row.rate
-rate_behind p (r ∷ h) row = rate_from p h r row (clock_of r row.node)
+abbrev pub traced_rate : Values → History → NodeRow → ℤ
+traced_rate p [] row = row.rate
+traced_rate p (r ∷ h) row = rate_from p h r row (row_of r.rows row.node)
 
 -- a start is not the end of the cycle before
 pub record IsWrongStart (p : Values) (h : History) (row : NodeRow) (kept wanted : ℤ) : Type 0 where
   pub is_kept : kept ≡ row.start
-  pub is_wanted : wanted ≡ start_behind p h row
+  pub is_wanted : wanted ≡ traced_start p h row
   pub differs : kept ≢ wanted
 
 -- a rate is not that of the rows and deviations before
 pub record IsWrongRate (p : Values) (h : History) (row : NodeRow) (kept wanted : ℤ) : Type 0 where
   pub is_kept : kept ≡ row.rate
-  pub is_wanted : wanted ≡ rate_behind p h row
+  pub is_wanted : wanted ≡ traced_rate p h row
   pub differs : kept ≢ wanted
 
 -- a state is not that of operation control after the records before
@@ -111,7 +112,7 @@ abbrev pub high_of : Values → Bool → ℕ → NodeRow → NodeRow → ℤ
 high_of p odd slot sender receiver = floor_of (gap_of p odd (pos (action_point_of p slot)) sender receiver +ℤ pos (arrival_error p)) receiver.length
 
 -- a deviation of a correct sender lies outside of them
-pub record IsOutside (p : Values) (h : History) (r : Record) (dev : Dev) (kept low high : ℤ) : Type 0 where
+pub record IsDeviationOutside (p : Values) (h : History) (r : Record) (dev : Dev) (kept low high : ℤ) : Type 0 where
   pub sender : NodeRow
   pub receiver : NodeRow
   pub sends : sender_row p r dev.slot ≡ Some sender
@@ -126,7 +127,7 @@ pub record IsOutside (p : Values) (h : History) (r : Record) (dev : Dev) (kept l
 -- whether a row is the first of a node that joins: its node has none in the record before
 abbrev pub is_first_row : History → NodeRow → Bool
 is_first_row [] row = false
-is_first_row (r ∷ h) row = not (is_some (clock_of r row.node))
+is_first_row (r ∷ h) row = not (is_some (row_of r.rows row.node))
 
 -- a node has its first row in a double cycle that is not in sync, and that is not before the first one in sync
 pub record IsApartRow (p : Values) (t : TraceView) (h : History) (row : NodeRow) (double : ℕ) : Type 0 where
@@ -164,21 +165,21 @@ Breaks p t item (unlawful.Rate number kept wanted) = OfRow item (λ h r row. IsW
 Breaks p t item (unlawful.Turn number kept wanted) = OfRow item (λ h r row. IsWrongTurn p h row kept wanted)
 Breaks p t item (unlawful.Offset number kept wanted) = OfRow item (λ h r row. IsWrongOffset p h r row kept wanted)
 Breaks p t item (unlawful.Silent number state) = OfDev item (λ h r dev. IsSilent p t r dev state)
-Breaks p t item (unlawful.Deviation number kept low high) = OfDev item (λ h r dev. IsOutside p h r dev kept low high)
+Breaks p t item (unlawful.Deviation number kept low high) = OfDev item (λ h r dev. IsDeviationOutside p h r dev kept low high)
 Breaks p t item (unlawful.Apart number double) =
     OfEither item (λ h r row. IsApartRow p t h row double) (λ h r dev. IsApartDev p t h r dev double)
 Breaks p t item (unlawful.Uncovered gap) = ⊥
 
 -- the number of the record that is told, and the rank of the law among the laws
-abbrev pub number_of : Unlawful → ℕ
-number_of (unlawful.Start number kept wanted) = number
-number_of (unlawful.Rate number kept wanted) = number
-number_of (unlawful.Turn number kept wanted) = number
-number_of (unlawful.Offset number kept wanted) = number
-number_of (unlawful.Silent number state) = number
-number_of (unlawful.Deviation number kept low high) = number
-number_of (unlawful.Apart number double) = number
-number_of (unlawful.Uncovered gap) = 0
+abbrev pub record_of_breach : Unlawful → ℕ
+record_of_breach (unlawful.Start number kept wanted) = number
+record_of_breach (unlawful.Rate number kept wanted) = number
+record_of_breach (unlawful.Turn number kept wanted) = number
+record_of_breach (unlawful.Offset number kept wanted) = number
+record_of_breach (unlawful.Silent number state) = number
+record_of_breach (unlawful.Deviation number kept low high) = number
+record_of_breach (unlawful.Apart number double) = number
+record_of_breach (unlawful.Uncovered gap) = 0
 
 abbrev pub rank_in : Unlawful → ℕ
 rank_in (unlawful.Start number kept wanted) = 0
@@ -193,12 +194,12 @@ rank_in (unlawful.Uncovered gap) = 7
 -- a breach of a trace: the item of the record that is told breaks the law
 pub record IsBreach (p : Values) (t : TraceView) (u : Unlawful) : Type 0 where
   pub item : Item
-  pub at : IsAt t (number_of u) item
+  pub at : IsAt t (record_of_breach u) item
   pub breaks : Breaks p t item u
 
 -- a breach comes before another: by record number, and then by law
 abbrev pub ComesBefore : Unlawful → Unlawful → Type 0
-ComesBefore u v = (number_of u < number_of v) ⊎ ((number_of u ≡ number_of v) × (rank_in u < rank_in v))
+ComesBefore u v = (record_of_breach u < record_of_breach v) ⊎ ((record_of_breach u ≡ record_of_breach v) × (rank_in u < rank_in v))
 
 -- it is one, and there is none before it
 pub record IsFirstBreach (p : Values) (t : TraceView) (u : Unlawful) : Type 0 where

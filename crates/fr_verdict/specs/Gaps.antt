@@ -7,18 +7,18 @@ use Rattle.fr_base.specs.declared.node_row.NodeRow.{NodeRow}
 use Rattle.fr_cluster.specs.Values.{Values}
 use Rattle.fr_cluster.specs.declared.nodes.NodeSpec.{NodeSpec}
 use Rattle.fr_bound.specs.Checks.{holds_of, left_of, right_of}
-use Rattle.fr_round.specs.Round.{sync_count}
+use Rattle.fr_precision.specs.Round.{sync_count}
 use Rattle.fr_coverage.specs.Coverage.{has_jumped, is_off, outweighs}
 use Rattle.fr_coverage.specs.Links.{shares}
 use Rattle.fr_coverage.specs.Order.{IsEarlierGap}
 use Rattle.fr_coverage.specs.declared.gap.Gap.{Gap}
 use Rattle.fr_coverage.specs.declared.gap.Gap.TheVariants as gap
 use Rattle.fr_history.specs.History.{History, record_at}
-use Rattle.fr_trace.specs.Trace.{TraceView, is_named, join_in, row_at}
+use Rattle.fr_trace.specs.Trace.{TraceView, is_named, row_at, traced_join_in}
 use Rattle.fr_verdict.specs.Sync.{IsFirstSynced}
 
 -- one of the first five checks fails: the others are of a node that listens and follows, of which a trace tells nothing
-pub record IsCheckGap (p : Values) (g : Gap) : Type 0 where
+pub record IsTracedCheckGap (p : Values) (g : Gap) : Type 0 where
   pub number : ℕ
   pub from : 1 ≤ number
   pub to : number ≤ 5
@@ -31,15 +31,15 @@ is_unnamed t node = not (is_named t node)
 
 -- such a node that does not join, but takes part from the first cycle on
 abbrev pub is_lasting : TraceView → ℕ → Bool
-is_lasting t node = is_unnamed t node && not (is_some (join_in t node))
+is_lasting t node = is_unnamed t node && not (is_some (traced_join_in t node))
 
 -- those of them that have a key slot do not outweigh the arbitrary nodes
-pub record IsCountGap (p : Values) (t : TraceView) (g : Gap) : Type 0 where
+pub record IsTracedCountGap (p : Values) (t : TraceView) (g : Gap) : Type 0 where
   pub few : outweighs (sync_count p (is_lasting t)) (sync_count p (is_named t)) ≡ false
   pub told : g ≡ gap.Count (sync_count p (is_lasting t)) (sync_count p (is_named t))
 
 -- a recorded microtick is too short or too long
-pub record IsLengthGap (p : Values) (t : TraceView) (g : Gap) : Type 0 where
+pub record IsTracedLengthGap (p : Values) (t : TraceView) (g : Gap) : Type 0 where
   pub node : NodeSpec
   pub known : Contains p.nodes node
   pub cycle : ℕ
@@ -49,7 +49,7 @@ pub record IsLengthGap (p : Values) (t : TraceView) (g : Gap) : Type 0 where
   pub told : g ≡ gap.Length node.id cycle row.length
 
 -- it has changed by too much since the cycle before
-pub record IsChangeGap (p : Values) (t : TraceView) (g : Gap) : Type 0 where
+pub record IsTracedChangeGap (p : Values) (t : TraceView) (g : Gap) : Type 0 where
   pub node : NodeSpec
   pub known : Contains p.nodes node
   pub cycle : ℕ
@@ -83,7 +83,7 @@ has_rows h double node = is_some (row_at h (2 * double) node.id) && is_some (row
 
 -- from the first double cycle in sync on, no channel has a deviation of a correct sender in both cycles of a double cycle in
 -- which it and the receiver have rows
-pub record IsLinkGap (p : Values) (t : TraceView) (g : Gap) : Type 0 where
+pub record IsTracedLinkGap (p : Values) (t : TraceView) (g : Gap) : Type 0 where
   pub sender : NodeSpec
   pub receiver : NodeSpec
   pub sender_there : Contains p.nodes sender
@@ -101,7 +101,7 @@ pub record IsLinkGap (p : Values) (t : TraceView) (g : Gap) : Type 0 where
 
 -- a gap of a trace
 abbrev pub IsTraceGap : Values → TraceView → Gap → Type 0
-IsTraceGap p t g = IsCheckGap p g ⊎ (IsCountGap p t g ⊎ (IsLengthGap p t g ⊎ (IsChangeGap p t g ⊎ IsLinkGap p t g)))
+IsTraceGap p t g = IsTracedCheckGap p g ⊎ (IsTracedCountGap p t g ⊎ (IsTracedLengthGap p t g ⊎ (IsTracedChangeGap p t g ⊎ IsTracedLinkGap p t g)))
 
 -- it is one, and none is looked for before it
 pub record IsFirstTraceGap (p : Values) (t : TraceView) (g : Gap) : Type 0 where

@@ -4,8 +4,13 @@ pub mod Breach
 pub mod Gaps
 pub mod Answer
 pub mod Precision
+pub mod Heard
 -- the same as functions
 pub mod Search
 pub mod FirstGap
 -- worked rows
 pub mod Worked
+-- what only functions inside and above cite
+pub mod Sound
+pub mod Counted
+pub mod Doubles

@@ -9,16 +9,15 @@ use Rattle.fr_cluster.specs.Values.{Values, amount}
 use Rattle.fr_cluster.specs.declared.names.ParamName.TheVariants as name
 use Rattle.fr_cluster.specs.declared.nodes.NodeSpec.{NodeSpec}
 use Rattle.fr_bound.specs.Bounds.{precision_of}
-use Rattle.fr_history.specs.History.{History, Record, record_at}
-use Rattle.fr_history.specs.Lawful.{ClockLaws, RowsRun, offset_after}
+use Rattle.fr_history.specs.History.{History, Record, record_at, row_for}
+use Rattle.fr_history.specs.Rows.{ClockLaws, RowsRun, offset_after}
 use Rattle.fr_history.specs.Skew.{skew_at}
 use Rattle.fr_history.specs.Terms.{offset_term_in, rate_term_in, status_in}
-use Rattle.fr_clocks.specs.Clocks.{row_for}
 use Rattle.fr_trace.specs.Fits.{TraceFits}
 use Rattle.fr_trace.specs.Lasting.{IsTrace}
 use Rattle.fr_trace.specs.Trace.{TraceView, has_row_in, rows_at}
 use Rattle.fr_verdict.specs.Answer.{IsVerdict}
-use Rattle.fr_verdict.specs.Breach.{IsLawfulTrace, rate_behind, start_behind}
+use Rattle.fr_verdict.specs.Breach.{IsLawfulTrace, traced_rate, traced_start}
 use Rattle.fr_verdict.specs.declared.unlawful.Verdict.{Verdict}
 
 -- the recorded row of a node in the cycle behind some records
@@ -29,21 +28,21 @@ recorded_row t h node = row_for (rows_at t.history (length h)) node
 -- free, in cycle 0 and in a node's first cycle
 abbrev pub recorded_laws : Values → TraceView → History → ClockLaws
 recorded_laws p t h = record {
-  start = λ node. start_behind p h (recorded_row t h node);
+  start = λ node. traced_start p h (recorded_row t h node);
   microtick = λ node. (recorded_row t h node).length;
-  rate = λ node. rate_behind p h (recorded_row t h node);
+  rate = λ node. traced_rate p h (recorded_row t h node);
   state = λ node. (status_in p h node).state;
 }
 
 -- the nodes that have a row in a record behind others
-abbrev pub row_nodes : Values → TraceView → History → Record → List NodeSpec
-row_nodes p t h r = filter (λ node. has_row_in t h r node.id) p.nodes
+abbrev pub traced_nodes : Values → TraceView → History → Record → List NodeSpec
+traced_nodes p t h r = filter (λ node. has_row_in t h r node.id) p.nodes
 
 -- the clocks of a lawful trace run by their laws, cycle by cycle
 abbrev pub LawfulTracesRun : Type 0
 LawfulTracesRun =
     (p : Values) (t : TraceView) → IsTrace t → TraceFits p t → IsLawfulTrace p t → (later h : History) (r : Record)
-    → t.history ≡ later ++ r ∷ h → RowsRun (recorded_laws p t h) (offset_after p h r) (row_nodes p t h r) r.rows
+    → t.history ≡ later ++ r ∷ h → RowsRun (recorded_laws p t h) (offset_after p h r) (traced_nodes p t h r) r.rows
 
 -- both terms of a row's node at the end of an odd cycle, by the recorded deviations of its double cycle, lie within their limits
 pub record AreTermsWithin (p : Values) (h : History) (r : Record) (row : NodeRow) : Type 0 where

@@ -8,20 +8,20 @@ use Rattle.fr_base.specs.declared.state.State.TheVariants.{Active, Passive, Halt
 use Rattle.fr_cluster.specs.Values.{Values}
 use Rattle.fr_time.specs.Cycles.{is_odd}
 use Rattle.fr_history.specs.History.{History, Record, row_of}
-use Rattle.fr_history.specs.Lawful.{offset_after}
+use Rattle.fr_history.specs.Rows.{offset_after}
 use Rattle.fr_history.specs.Sync.{is_sync_at}
 use Rattle.fr_history.specs.Terms.{status_in}
 use Rattle.fr_coverage.specs.First.{first_below}
 use Rattle.fr_trace.specs.Items.{Item, first_number, items_in}
 use Rattle.fr_trace.specs.Items.Item.{Clock, Heard}
 use Rattle.fr_trace.specs.Trace.{TraceView}
-use Rattle.fr_verdict.specs.Breach.{IsFirstBreach, IsLawfulTrace, high_of, is_first_row, low_of, rate_behind, sender_is_away, sender_row, silent_in, start_behind}
+use Rattle.fr_verdict.specs.Breach.{IsFirstBreach, IsLawfulTrace, high_of, is_first_row, low_of, sender_is_away, sender_row, silent_in, traced_rate, traced_start}
 use Rattle.fr_verdict.specs.Sync.{first_synced_of, is_early}
 use Rattle.fr_verdict.specs.declared.unlawful.Unlawful.{Unlawful}
 use Rattle.fr_verdict.specs.declared.unlawful.Unlawful.TheVariants as unlawful
 
-abbrev pub is_same : ℤ → ℤ → Bool
-is_same a b = int_le a b && int_le b a
+abbrev pub is_same_number : ℤ → ℤ → Bool
+is_same_number a b = int_le a b && int_le b a
 
 -- a number for each state
 abbrev pub state_number : State → ℕ
@@ -36,10 +36,10 @@ unless test u = if test then None else Some u
 -- ---- each law at an item with a record number
 
 abbrev pub wrong_start : Values → ℕ → History → NodeRow → Option Unlawful
-wrong_start p n h row = unless (is_same row.start (start_behind p h row)) (unlawful.Start n row.start (start_behind p h row))
+wrong_start p n h row = unless (is_same_number row.start (traced_start p h row)) (unlawful.Start n row.start (traced_start p h row))
 
 abbrev pub wrong_rate : Values → ℕ → History → NodeRow → Option Unlawful
-wrong_rate p n h row = unless (is_same row.rate (rate_behind p h row)) (unlawful.Rate n row.rate (rate_behind p h row))
+wrong_rate p n h row = unless (is_same_number row.rate (traced_rate p h row)) (unlawful.Rate n row.rate (traced_rate p h row))
 
 abbrev pub turned : ℕ → State → State → Option Unlawful
 turned n kept wanted = unless (state_number kept == state_number wanted) (unlawful.Turn n kept wanted)
@@ -48,7 +48,7 @@ abbrev pub wrong_turn : Values → ℕ → History → NodeRow → Option Unlawf
 wrong_turn p n h row = turned n row.state (status_in p h row.node).state
 
 abbrev pub wrong_offset : Values → ℕ → History → Record → NodeRow → Option Unlawful
-wrong_offset p n h r row = unless (is_same row.offset (offset_after p h r row)) (unlawful.Offset n row.offset (offset_after p h r row))
+wrong_offset p n h r row = unless (is_same_number row.offset (offset_after p h r row)) (unlawful.Offset n row.offset (offset_after p h r row))
 
 abbrev pub silent : Values → TraceView → ℕ → Record → Dev → Option Unlawful
 silent p t n r dev = option_map (unlawful.Silent n) (silent_in p t r dev)

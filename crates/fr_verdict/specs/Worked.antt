@@ -53,11 +53,11 @@ cluster_with limit = record {
 abbrev pub cluster : Values
 cluster = cluster_with (pos 254)
 
-abbrev pub row_with : ℕ → ℤ → ℤ → ℤ → State → NodeRow
-row_with node start rate offset state = record { node = node; start = start; length = pos 1_000_000; rate = rate; offset = offset; state = state; cut = 0 }
+abbrev pub traced_row_with : ℕ → ℤ → ℤ → ℤ → State → NodeRow
+traced_row_with node start rate offset state = record { node = node; start = start; length = pos 1_000_000; rate = rate; offset = offset; state = state; cut = 0 }
 
 abbrev pub active_row : ℕ → ℤ → ℤ → NodeRow
-active_row node start offset = row_with node start (pos 0) offset Active
+active_row node start offset = traced_row_with node start (pos 0) offset Active
 
 abbrev pub record_with : List NodeRow → List Dev → Record
 record_with rows devs = record { rows = rows; devs = devs; counts = no_counts }
@@ -110,8 +110,8 @@ WorkedIsLawful =
 abbrev pub RowsAreBroken : Type 0
 RowsAreBroken =
     (first_breach_of cluster (worked_with (active_row 1 (pos 200_000_000_001) (pos 1))) ≡ Some (unlawful.Start 6 (pos 200_000_000_001) (pos 200_000_000_000)))
-    × (first_breach_of cluster (worked_with (row_with 1 (pos 200_000_000_000) (pos 1) (pos 1) Active)) ≡ Some (unlawful.Rate 6 (pos 1) (pos 0)))
-    × (first_breach_of cluster (worked_with (row_with 1 (pos 200_000_000_000) (pos 0) (pos 1) Passive)) ≡ Some (unlawful.Turn 6 Passive Active))
+    × (first_breach_of cluster (worked_with (traced_row_with 1 (pos 200_000_000_000) (pos 1) (pos 1) Active)) ≡ Some (unlawful.Rate 6 (pos 1) (pos 0)))
+    × (first_breach_of cluster (worked_with (traced_row_with 1 (pos 200_000_000_000) (pos 0) (pos 1) Passive)) ≡ Some (unlawful.Turn 6 Passive Active))
 
 -- node 2 begins 5,000,000 ticks after node 1, and an offset limit of 1 cuts both terms, after which neither node may be active
 abbrev pub apart : List Dev
@@ -139,7 +139,7 @@ TermsAreBroken =
 -- a deviation about a node that is not active, and one above what both rows allow
 abbrev pub DevsAreBroken : Type 0
 DevsAreBroken =
-    (first_breach_of cluster (trace_with (record_with (active_row 1 (pos 0) (pos 0) ∷ row_with 2 (pos 2_500_000) (pos 0) (pos 0) Passive ∷ []) both) (record_with (odd_rows odd_row) both)) ≡ Some (unlawful.Silent 3 Passive))
+    (first_breach_of cluster (trace_with (record_with (active_row 1 (pos 0) (pos 0) ∷ traced_row_with 2 (pos 2_500_000) (pos 0) (pos 0) Passive ∷ []) both) (record_with (odd_rows odd_row) both)) ≡ Some (unlawful.Silent 3 Passive))
     × (first_breach_of cluster (trace_with (record_with even_rows (dev_with 1 2 A (pos 2) ∷ dev_with 2 1 A (negsuc 8) ∷ [])) (record_with (odd_rows odd_row) both)) ≡ Some (unlawful.Deviation 5 (negsuc 8) (negsuc 2) (negsuc 1)))
 
 -- where nothing is measured, so that no offset is corrected
@@ -156,8 +156,8 @@ GapsAreFound =
 -- ---- a node that joins
 
 -- node 1 alone in a cycle
-abbrev pub alone : ℤ → List Dev → Record
-alone start devs = record_with (active_row 1 start (pos 0) ∷ []) devs
+abbrev pub node_1_alone : ℤ → List Dev → Record
+node_1_alone start devs = record_with (active_row 1 start (pos 0) ∷ []) devs
 
 -- deviations of both where they begin at once
 abbrev pub together : List Dev
@@ -173,23 +173,23 @@ joined_with row devs early = record {
   history =
       record_with (active_row 1 (pos 1_400_000_000_000) (pos 0) ∷ active_row 2 (pos 1_400_000_000_000) (pos 0) ∷ []) together
       ∷ record_with (active_row 1 (pos 1_200_000_000_000) (pos 0) ∷ row ∷ []) devs
-      ∷ alone (pos 1_000_000_000_000) early
-      ∷ alone (pos 800_000_000_000) []
-      ∷ alone (pos 600_000_000_000) []
-      ∷ alone (pos 400_000_000_000) []
-      ∷ alone (pos 200_000_000_000) []
-      ∷ alone (pos 0) []
+      ∷ node_1_alone (pos 1_000_000_000_000) early
+      ∷ node_1_alone (pos 800_000_000_000) []
+      ∷ node_1_alone (pos 600_000_000_000) []
+      ∷ node_1_alone (pos 400_000_000_000) []
+      ∷ node_1_alone (pos 200_000_000_000) []
+      ∷ node_1_alone (pos 0) []
       ∷ [];
 }
 
 -- it begins as node 1 does
-abbrev pub joined : TraceView
-joined = joined_with (active_row 2 (pos 1_200_000_000_000) (pos 0)) together []
+abbrev pub joined_trace : TraceView
+joined_trace = joined_with (active_row 2 (pos 1_200_000_000_000) (pos 0)) together []
 
 -- no law is broken: the first row of node 2 has no start law and no rate law. It is in sync from the first double cycle on, and
 -- covered, though node 2 is not heard before it joins
 abbrev pub JoinedIsLawful : Type 0
-JoinedIsLawful = (first_breach_of cluster joined ≡ None) × (first_synced_of cluster joined ≡ Some 0) × (first_gap_of cluster joined ≡ None)
+JoinedIsLawful = (first_breach_of cluster joined_trace ≡ None) × (first_synced_of cluster joined_trace ≡ Some 0) × (first_gap_of cluster joined_trace ≡ None)
 
 -- it begins 400,000,000 ticks after node 1, too far apart for a double cycle in sync; or a deviation is about it before it has a row
 abbrev pub NodesAreApart : Type 0

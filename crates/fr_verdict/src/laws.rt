@@ -1,6 +1,7 @@
 ghost use Rattle.fr_verdict.specs.Answer.{OneAnswer, SomeAnswer};
 ghost use Rattle.fr_verdict.specs.Breach.{OneFirstBreach};
 ghost use Rattle.fr_verdict.specs.FirstGap.{FirstGapIsFound, FoundGapIsFirst, NoGapFoundIsCovered};
+ghost use Rattle.fr_verdict.specs.Heard.{HeardSuffices};
 ghost use Rattle.fr_verdict.specs.Precision.{CheckedTracesKeepPrecision, LawfulTracesRun};
 ghost use Rattle.fr_verdict.specs.Search.{FirstBreachIsFound, FoundBreachIsFirst, NoneFoundIsLawful, PassesInParts};
 ghost use Rattle.fr_verdict.specs.Worked.{ItemsAreNumbered, RowsAreBroken, DevsAreBroken, TermsAreBroken, WorkedIsLawful, GapsAreFound, JoinedIsLawful, NodesAreApart};
@@ -39,6 +40,12 @@ pub fn found_gap_is_first()
 pub fn one_answer()
     ensures one { OneAnswer }
     ensures some { SomeAnswer }
+{}
+
+/// A law: it suffices that of each correct sender and each other correct node every deviation is one of both rows, and
+/// that on some channel there is one in both cycles (section 8.5), for each node to hear each other one.
+pub fn hearing_suffices()
+    ensures { HeardSuffices }
 {}
 
 /// A law: the clocks of a lawful trace run by their laws, and those of a trace that passes keep together within the

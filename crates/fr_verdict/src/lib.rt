@@ -2,11 +2,18 @@
 //! breaks a law, or the first gap, or else from when on the clocks were in sync and how far they lay apart.
 #![tactic(auto)]
 
+mod covering;
+mod found;
 mod laws;
+mod ordered;
+mod searching;
 mod unlawful;
 
+pub use covering::{first_gap, timed_cycles};
+pub use found::{is_named, row_of};
 pub use laws::{
-    a_passing_trace_keeps_its_precision, found_breach_is_first, found_gap_is_first, one_answer,
-    worked_trace,
+    a_passing_trace_keeps_its_precision, found_breach_is_first, found_gap_is_first,
+    hearing_suffices, one_answer, worked_trace,
 };
+pub use ordered::devs_of;
 pub use unlawful::{Unlawful, Verdict};

@@ -14,12 +14,12 @@ use Rattle.fr_node.specs.Listening.{ListenerView, listening}
 use Rattle.fr_node.specs.View.{NodeView}
 use Rattle.fr_script.specs.Promises.{JoinsProperly, NodesJoinProperly}
 use Rattle.fr_script.specs.View.{is_arbitrary, join_of}
-use Rattle.fr_standing.specs.Placing.{put_all}
+use Rattle.fr_air.specs.Placing.{put_all}
 use Rattle.fr_world.proofs.Passed.{length-put, length-put_all, nothing-behind}
-use Rattle.fr_world.specs.Files.{setting_in}
-use Rattle.fr_world.specs.Listening.{IsListener}
+use Rattle.fr_air.specs.Files.{setting_in}
+use Rattle.fr_air.specs.Listening.{IsListener}
 use Rattle.fr_world.specs.Succeeding.{listener_by, listener_now, listeners_now, put_some}
-use Rattle.fr_world.specs.declared.files.Files.{Files}
+use Rattle.fr_air.specs.declared.files.RunInputs.{RunInputs}
 
 -- ---- listeners begin to follow
 
@@ -95,7 +95,7 @@ given-filtered {X = X} {Y = Y} test h (x ∷ xs) none = by (test x) refl (given-
     by false fails rest = rest ∙ sym (ap (λ (o : Option Y). cons_option o (filter_map h xs)) (none x fails))
 
 -- an arbitrary node does not join
-arbitrary-none : (f : Files) (double : ℕ) (node : NodeSpec) → NodesJoinProperly f.params f.script → is_correct (setting_in f) node.id ≡ false → listener_now f double node ≡ None
+arbitrary-none : (f : RunInputs) (double : ℕ) (node : NodeSpec) → NodesJoinProperly f.params f.script → is_correct (setting_in f) node.id ≡ false → listener_now f double node ≡ None
 arbitrary-none f double node proper arbitrary = by (join_of f.script node.id) refl
   where
     by : (o : Option Join) → join_of f.script node.id ≡ o → listener_by f.params double node.id o ≡ None
@@ -106,12 +106,12 @@ arbitrary-none f double node proper arbitrary = by (join_of f.script node.id) re
         absurd (cc)
 
 -- so the listeners are given by all nodes
-pub listeners-given : (f : Files) (double : ℕ) → NodesJoinProperly f.params f.script → listeners_now f double ≡ filter_map (listener_now f double) f.params.nodes
+pub listeners-given : (f : RunInputs) (double : ℕ) → NodesJoinProperly f.params f.script → listeners_now f double ≡ filter_map (listener_now f double) f.params.nodes
 listeners-given f double proper =
     given-filtered (λ (node : NodeSpec). is_correct (setting_in f) node.id) (listener_now f double) f.params.nodes (λ node arbitrary. arbitrary-none f double node proper arbitrary)
 
 -- and each is a listener
-is-listener : (f : Files) (double : ℕ) (node : NodeSpec) (l : ListenerView) → NodesJoinProperly f.params f.script → listener_now f double node ≡ Some l → IsListener f l
+is-listener : (f : RunInputs) (double : ℕ) (node : NodeSpec) (l : ListenerView) → NodesJoinProperly f.params f.script → listener_now f double node ≡ Some l → IsListener f l
 is-listener f double node l proper is = by (join_of f.script node.id) refl is
   where
     listens : (join : Join) → JoinsProperly f.params f.script node.id join → (key : Option ℕ) → own_key f.params join.reference ≡ key → option_map (listening node.id) key ≡ Some l → IsListener f l
@@ -136,7 +136,7 @@ is-listener f double node l proper is = by (join_of f.script node.id) refl is
         (λ other nothing. absurd (cc))
         same
 
-pub all-listen : (f : Files) (double : ℕ) (nodes : List NodeSpec) → NodesJoinProperly f.params f.script → All (IsListener f) (filter_map (listener_now f double) nodes)
+pub all-listen : (f : RunInputs) (double : ℕ) (nodes : List NodeSpec) → NodesJoinProperly f.params f.script → All (IsListener f) (filter_map (listener_now f double) nodes)
 all-listen f double [] proper = All-nil (IsListener f)
 all-listen f double (node ∷ nodes) proper = by (listener_now f double node) refl (all-listen f double nodes proper)
   where

@@ -17,22 +17,22 @@ use Rattle.fr_reception.specs.Offers.{Offer}
 use Rattle.fr_reception.specs.declared.heard.Heard.{Heard}
 use Rattle.fr_reception.specs.declared.heard.Heard.TheVariants.{Stored, Ignored}
 use Rattle.fr_node.specs.Cycle.{after_hearing, with_deviation}
-use Rattle.fr_world.proofs.Loops.{at_most-frame, at_most-more, at_most-offers}
+use Rattle.fr_air.proofs.Loops.{at_most-frame, at_most-more, at_most-offers}
 use Rattle.fr_reception.specs.Regular.{is_sync_frame, regular_frame}
 use Rattle.fr_script.specs.View.{is_arbitrary}
 use Rattle.fr_node.specs.View.{NodeView, node_row_of}
 use Rattle.fr_cluster.specs.Setting.{Setting}
 use Rattle.fr_history.specs.History.{row_of as row_in}
 use Rattle.fr_history.specs.Offers.{active_frame, active_offer, frame_in, is_on, offer_in, said_offer, sender_offer, sent_offer, sender_frame}
-use Rattle.fr_world.specs.Counting.{counted_frame, counted_offer, counted_offers, counts_on}
-use Rattle.fr_world.specs.Hearing.{after_channel, after_offer, after_slots}
+use Rattle.fr_air.specs.Counting.{counted_frame, counted_offer, counted_offers, counts_on}
+use Rattle.fr_air.specs.Hearing.{after_channel, after_offer, after_slots}
 use Rattle.fr_base.specs.Counts.{AreAtMost}
-use Rattle.fr_world.specs.Cycling.{IsReady}
-use Rattle.fr_world.specs.Files.{setting_in}
-use Rattle.fr_world.specs.Sending.{hears, offer_heard, sending_row_by, sending_row_in}
-use Rattle.fr_world.specs.declared.files.Files.{Files}
-use Rattle.fr_world.specs.declared.turn.Turn.{Turn}
-use Rattle.fr_world.specs.Walk.{walked}
+use Rattle.fr_air.specs.Cycling.{IsReady}
+use Rattle.fr_air.specs.Files.{setting_in}
+use Rattle.fr_air.specs.Sending.{hears, offer_heard, sending_row_by, sending_row_in}
+use Rattle.fr_air.specs.declared.files.RunInputs.{RunInputs}
+use Rattle.fr_air.specs.declared.turn.Turn.{Turn}
+use Rattle.fr_air.specs.Walk.{over_slots}
 
 -- ---- offers
 
@@ -146,7 +146,7 @@ sender-frame x turn rows sending sends =
     ∙ framed x turn sending (row_in rows sending.node)
 
 -- an arbitrary node is not among the correct ones
-pub arbitrary-row : (f : Files) (cycle : ℕ) (nodes : List NodeView) (node : ℕ) → All (IsReady f cycle) nodes → is_arbitrary f.script node ≡ true → row_in (map node_row_of nodes) node ≡ None
+pub arbitrary-row : (f : RunInputs) (cycle : ℕ) (nodes : List NodeView) (node : ℕ) → All (IsReady f cycle) nodes → is_arbitrary f.script node ≡ true → row_in (map node_row_of nodes) node ≡ None
 arbitrary-row f cycle [] node ready arbitrary = refl
 arbitrary-row f cycle (n ∷ ns) node ready arbitrary =
     cond_both (n.id == node) (Some (node_row_of n)) (row_in (map node_row_of ns) node) (λ o. o ≡ None)
@@ -226,7 +226,7 @@ at_most-on x cycle rows slot channel n c few most =
     (at_most-offers x cycle o rows (n + 1) (counted_frame channel frame c) (at_most-frame channel frame n c most))
 
 -- an arbitrary node's frame is not one of a correct node
-pub arbitrary-frame : (f : Files) (turn : Turn) (nodes : List NodeView) (sending : Sending) → sender_of f.params turn.slot turn.cycle ≡ Some sending → All (IsReady f turn.cycle) nodes → is_arbitrary f.script sending.node ≡ true →
+pub arbitrary-frame : (f : RunInputs) (turn : Turn) (nodes : List NodeView) (sending : Sending) → sender_of f.params turn.slot turn.cycle ≡ Some sending → All (IsReady f turn.cycle) nodes → is_arbitrary f.script sending.node ≡ true →
     frame_in (setting_in f) turn.cycle (map node_row_of nodes) turn.slot turn.channel ≡ None
 arbitrary-frame f turn nodes sending sends ready arbitrary =
     sender-frame (setting_in f) turn (map node_row_of nodes) sending sends
@@ -235,6 +235,6 @@ arbitrary-frame f turn nodes sending sends ready arbitrary =
 
 -- before the first slot
 pub slots-none : (x : Setting) (cycle : ℕ) (rows : List NodeRow) (nodes : List NodeView) → nodes ≡ map (after_slots x cycle rows 0) nodes
-unfolding walked
+unfolding over_slots
 slots-none x cycle rows [] = refl
 slots-none x cycle rows (n ∷ ns) = ap (λ (ms : List NodeView). n ∷ ms) (slots-none x cycle rows ns)

@@ -9,7 +9,7 @@ use Rattle.fr_base.proofs.Products.{below_longest}
 use Rattle.fr_cluster.specs.Setting.{Setting, correct_nodes}
 use Rattle.fr_cluster.specs.Values.{Values}
 use Rattle.fr_cluster.specs.declared.nodes.NodeSpec.{NodeSpec}
-use Rattle.fr_round.proofs.Lists.{kept_filtered}
+use Rattle.fr_precision.proofs.Lists.{kept_filtered}
 use Rattle.fr_time.specs.Instant.{next_start_of}
 use Rattle.fr_time.specs.Placed.{IsPlacedRow}
 use Rattle.fr_time.specs.Position.{grid_for}
@@ -17,20 +17,20 @@ use Rattle.fr_time.proofs.Shortest.{cycle_from}
 use Rattle.fr_node.specs.Cycle.{corrected_row, corrects, ended, ended_row_of_node}
 use Rattle.fr_node.specs.View.{NodeView, node_row_of}
 use Rattle.fr_history.proofs.Lists.{All-both}
-use Rattle.fr_joined.specs.Cycles.{Cycles}
-use Rattle.fr_joined.specs.Standing.{has_row, has_row_by, row_nodes}
-use Rattle.fr_standing.specs.Views.{node_behind}
-use Rattle.fr_world.specs.Cycling.{HaveEnded}
-use Rattle.fr_world.specs.Files.{setting_in}
-use Rattle.fr_world.specs.Listening.{StartsEarly}
+use Rattle.fr_history.specs.Cycles.{Cycles}
+use Rattle.fr_history.specs.Standing.{has_row, has_row_by, row_nodes}
+use Rattle.fr_air.specs.Views.{node_of_next}
+use Rattle.fr_air.specs.Cycling.{HaveEnded}
+use Rattle.fr_air.specs.Files.{setting_in}
+use Rattle.fr_air.specs.Listening.{StartsEarly}
 use Rattle.fr_world.specs.Standing.{kept_row_nodes, nodes_kept}
-use Rattle.fr_world.specs.declared.files.Files.{Files}
-use Rattle.fr_world.proofs.Members.{has_it}
-use Rattle.fr_world.proofs.Step.{begun_node, heard_node}
-use Rattle.fr_world.proofs.OneCycle.{All-map, all_behind, all_begun, all_heard}
+use Rattle.fr_air.specs.declared.files.RunInputs.{RunInputs}
+use Rattle.fr_air.proofs.Members.{has_it}
+use Rattle.fr_air.proofs.Step.{begun_node, heard_node}
+use Rattle.fr_air.proofs.OneCycle.{All-map, all_behind, all_begun, all_heard}
 
 -- a node starts early where its row does
-abbrev pub IsEarly : Files → ℕ → NodeView → Type 0
+abbrev pub IsEarly : RunInputs → ℕ → NodeView → Type 0
 IsEarly f cycle node = StartsEarly f cycle (node_row_of node)
 
 -- ---- one cycle takes less than that
@@ -65,7 +65,7 @@ kept_start false r s is = refl
 ended_start : (p : Values) (node : NodeView) → (ended_row_of_node p node).start ≡ node.start
 ended_start p node = kept_start (corrects node) (corrected_row p node) (node_row_of node) refl
 
-one_ended : (f : Files) (cycle : ℕ) (node : NodeView) → IsEarly f cycle node → IsPlacedRow (grid_for f.params) (ended_row_of_node f.params node) → IsEarly f (cycle + 1) (ended f.params node)
+one_ended : (f : RunInputs) (cycle : ℕ) (node : NodeView) → IsEarly f cycle node → IsPlacedRow (grid_for f.params) (ended_row_of_node f.params node) → IsEarly f (cycle + 1) (ended f.params node)
 one_ended f cycle node early placed none =
     let P : ℤ → Type 0 = λ start. IsBetween (pos 0) (pos (1_000_000_000_000 * (cycle + 1))) start in
     next-early f.params (ended_row_of_node f.params node) cycle placed (subst P (sym (ended_start f.params node)) (early none))
@@ -78,7 +78,7 @@ All-onto : {X Y : Type 0} (P : Y → Type 0) (g : X → Y) (xs : List X) → All
 All-onto P g [] all = All-nil P
 All-onto P g (x ∷ xs) all = All-cons P (g x) (map g xs) (All-head (λ y. P (g y)) x xs all) (All-onto P g xs (All-tail (λ y. P (g y)) x xs all))
 
-pub all-ended : (f : Files) (cycle : ℕ) (before after : List NodeView) (rows : List NodeRow) → HaveEnded f before after rows → All (IsEarly f cycle) before → All (IsEarly f (cycle + 1)) after
+pub all-ended : (f : RunInputs) (cycle : ℕ) (before after : List NodeView) (rows : List NodeRow) → HaveEnded f before after rows → All (IsEarly f cycle) before → All (IsEarly f (cycle + 1)) after
 all-ended f cycle before after rows ended_all early =
     let Placed : NodeRow → Type 0 = IsPlacedRow (grid_for f.params) in
     let row : NodeView → NodeRow = ended_row_of_node f.params in
@@ -96,10 +96,10 @@ had_one : (x : Setting) (h : Cycles) (node : NodeSpec) → Contains (correct_nod
 had_one x [] node there none = kept_filtered (λ (n : NodeSpec). has_row x [] n.id) (correct_nodes x) node there (ap (has_row_by x [] node.id) none)
 had_one x (c ∷ h) node there none = kept_filtered (λ (n : NodeSpec). has_row x h n.id) (correct_nodes x) node there (ap (has_row_by x h node.id) none)
 
-pub early-behind : (f : Files) (h : Cycles) (cycle : ℕ) (kept : List NodeView) → kept ≡ nodes_kept (setting_in f) h → All (IsEarly f cycle) kept → All (IsEarly f cycle) (all_behind (setting_in f) h false)
+pub early-behind : (f : RunInputs) (h : Cycles) (cycle : ℕ) (kept : List NodeView) → kept ≡ nodes_kept (setting_in f) h → All (IsEarly f cycle) kept → All (IsEarly f cycle) (all_behind (setting_in f) h false)
 early-behind f h cycle kept are early =
     let x : Setting = setting_in f in
-    let node_at : NodeSpec → NodeView = λ node. node_behind x h false node.id in
+    let node_at : NodeSpec → NodeView = λ node. node_of_next x h false node.id in
     let P : List NodeView → Type 0 = λ ns. All (IsEarly f cycle) ns in
     let each : All (λ (node : NodeSpec). IsEarly f cycle (node_at node)) (kept_row_nodes x h) = All-along (IsEarly f cycle) node_at (kept_row_nodes x h) (subst P are early) in
     All-map (IsEarly f cycle) node_at (row_nodes x h)
@@ -107,19 +107,19 @@ early-behind f h cycle kept are early =
     All-contains (λ (n : NodeSpec). IsEarly f cycle (node_at n)) (kept_row_nodes x h) node each (had_one x h node (has_it x h node is).0 none) none)
 
 -- nodes whose cycle is under way start where they did before it
-pub early-begun : (f : Files) (h : Cycles) (cycle : ℕ) (nodes : List NodeView) → nodes ≡ all_begun (setting_in f) h false → All (IsEarly f cycle) (all_behind (setting_in f) h false) → All (StartsEarly f cycle) (map node_row_of nodes)
+pub early-begun : (f : RunInputs) (h : Cycles) (cycle : ℕ) (nodes : List NodeView) → nodes ≡ all_begun (setting_in f) h false → All (IsEarly f cycle) (all_behind (setting_in f) h false) → All (StartsEarly f cycle) (map node_row_of nodes)
 early-begun f h cycle nodes are early =
     let x : Setting = setting_in f in
     let P : List NodeView → Type 0 = λ ns. All (StartsEarly f cycle) (map node_row_of ns) in
     subst P (sym are)
     (All-onto (StartsEarly f cycle) node_row_of (all_begun x h false)
     (All-onto (IsEarly f cycle) (λ (node : NodeSpec). begun_node x h false node.id) (row_nodes x h)
-    (All-along (IsEarly f cycle) (λ (node : NodeSpec). node_behind x h false node.id) (row_nodes x h) early)))
+    (All-along (IsEarly f cycle) (λ (node : NodeSpec). node_of_next x h false node.id) (row_nodes x h) early)))
 
-pub early-heard : (f : Files) (h : Cycles) (cycle : ℕ) (nodes : List NodeView) → nodes ≡ all_heard (setting_in f) h false → All (IsEarly f cycle) (all_behind (setting_in f) h false) → All (IsEarly f cycle) nodes
+pub early-heard : (f : RunInputs) (h : Cycles) (cycle : ℕ) (nodes : List NodeView) → nodes ≡ all_heard (setting_in f) h false → All (IsEarly f cycle) (all_behind (setting_in f) h false) → All (IsEarly f cycle) nodes
 early-heard f h cycle nodes are early =
     let x : Setting = setting_in f in
     let P : List NodeView → Type 0 = λ ns. All (IsEarly f cycle) ns in
     subst P (sym are)
     (All-onto (IsEarly f cycle) (λ (node : NodeSpec). heard_node x h false node.id) (row_nodes x h)
-    (All-along (IsEarly f cycle) (λ (node : NodeSpec). node_behind x h false node.id) (row_nodes x h) early))
+    (All-along (IsEarly f cycle) (λ (node : NodeSpec). node_of_next x h false node.id) (row_nodes x h) early))

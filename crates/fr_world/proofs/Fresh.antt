@@ -9,11 +9,11 @@ use Rattle.std.proofs.lemmas.List.FromFn.{map-range_with_len_more}
 use Rattle.fr_cluster.specs.declared.nodes.NodeSpec.{NodeSpec}
 use Rattle.fr_node.specs.Fits.{NodeFits}
 use Rattle.fr_node.specs.View.{NodeView, node_row_of}
-use Rattle.fr_world.specs.Listening.{StartsEarly}
-use Rattle.fr_world.specs.declared.files.Files.{Files}
+use Rattle.fr_air.specs.Listening.{StartsEarly}
+use Rattle.fr_air.specs.declared.files.RunInputs.{RunInputs}
 
 -- nodes that are gathered before a run, with room for all nodes of a cluster
-pub record AreGathered (f : Files) (fresh nodes : List NodeView) (capacity : ℕ) : Type 0 where
+pub record AreGathered (f : RunInputs) (fresh nodes : List NodeView) (capacity : ℕ) : Type 0 where
   pub nodes_are : nodes ≡ fresh
   pub fit : All (NodeFits f.params) nodes
   pub early : All (λ node. StartsEarly f 0 (node_row_of node)) nodes

@@ -1,26 +1,8 @@
-pub mod Store
-pub mod Table
-pub mod Columns
-pub mod Step
-pub mod Listed
-pub mod Sums
-pub mod Counts
-pub mod Listening
-pub mod HeldDelays
-pub mod Loops
 pub mod Channels
 pub mod Sweeps
-pub mod OneCycle
 pub mod Fresh
 pub mod NodeIn
-pub mod Deciding
-pub mod Staying
-pub mod Claiming
-pub mod Messages
-pub mod Remembered
 pub mod Stages
-pub mod Caught
-pub mod Members
 pub mod Succeeding
 pub mod Succeeded
 pub mod Listened
@@ -29,3 +11,7 @@ pub mod Asked
 pub mod Stepping
 pub mod Passed
 pub mod Beginners
+mod CycleHeld
+mod Sent
+mod SentCells
+mod Both

@@ -15,15 +15,15 @@ use Rattle.fr_node.specs.Listening.{ListenerView}
 use Rattle.fr_reception.specs.Listening.{good_arrival}
 use Rattle.fr_reception.specs.Offers.{Offer}
 use Rattle.fr_history.specs.History.{row_of}
-use Rattle.fr_history.specs.Next.{ended_row}
+use Rattle.fr_history.specs.Records.{ended_row}
 use Rattle.fr_history.specs.Offers.{active_offer, is_on}
-use Rattle.fr_joined.specs.Catching.{caught_arrival, listening_row, sender_offers}
-use Rattle.fr_joined.specs.Cycles.{Cycle, Cycles, told_of}
-use Rattle.fr_joined.specs.Next.{cycles_of, early_rows, early_told, next_cycle}
-use Rattle.fr_joined.proofs.Exists.{length-cycles_of}
-use Rattle.fr_standing.specs.Listening.{Catches, catches_behind, catches_of, listening_nodes, listens_in, no_catches}
-use Rattle.fr_standing.specs.Views.{listener_behind, listener_with, listeners_behind, reference_slot}
-use Rattle.fr_world.specs.Listening.{after_listening, with_caught}
+use Rattle.fr_history.specs.Catching.{caught_arrival, listening_row, sender_offers}
+use Rattle.fr_history.specs.Cycles.{Cycle, Cycles, told_of}
+use Rattle.fr_history.specs.Next.{cycles_of, early_rows, early_told, next_cycle}
+use Rattle.fr_history.proofs.RunsExist.{length-cycles_of}
+use Rattle.fr_air.specs.Listeners.{Caughts, catches_after, catches_of, listening_nodes, listens_in, no_catches}
+use Rattle.fr_air.specs.Views.{listener_of_next, listener_with, listeners_of_next, reference_slot}
+use Rattle.fr_air.specs.Listening.{after_listening, with_caught}
 use Rattle.fr_world.specs.Standing.{listener_kept, listeners_kept}
 use Rattle.fr_world.proofs.Succeeded.{listeners-kept}
 use Rattle.fr_world.proofs.Succeeding.{filter_map_same}
@@ -128,12 +128,12 @@ still_listening x h c even =
 odd_less : (n : ℕ) → is_odd (suc n) ≡ false → is_odd n ≡ true
 odd_less n even = grind arith
 
-none_yet : (x : Setting) (h : Cycles) (node slot : ℕ) → is_odd (length h) ≡ false → catches_behind x h node slot ≡ no_catches
+none_yet : (x : Setting) (h : Cycles) (node slot : ℕ) → is_odd (length h) ≡ false → catches_after x h node slot ≡ no_catches
 none_yet x [] node slot even = refl
 none_yet x (c ∷ h) node slot even = let odd : is_odd (length h) ≡ true = odd_less (length h) even in rw odd refl
 
 -- what a listener has of an even cycle
-abbrev caught_early : Setting → Cycles → List NodeRow → ℕ → ℕ → Catches
+abbrev caught_early : Setting → Cycles → List NodeRow → ℕ → ℕ → Caughts
 caught_early x h rows node slot = record {
   even_a = caught_arrival x (length h) rows node slot A;
   even_b = caught_arrival x (length h) rows node slot B;
@@ -141,44 +141,44 @@ caught_early x h rows node slot = record {
   odd_b = None;
 }
 
-caught_even : (x : Setting) (h : Cycles) (c : Cycle) (node slot : ℕ) → is_odd (length h) ≡ false → catches_behind x (c ∷ h) node slot ≡ caught_early x h c.told.rows node slot
+caught_even : (x : Setting) (h : Cycles) (c : Cycle) (node slot : ℕ) → is_odd (length h) ≡ false → catches_after x (c ∷ h) node slot ≡ caught_early x h c.told.rows node slot
 caught_even x h c node slot even = rw even refl
 
 early_same : (x : Setting) (h : Cycles) (node slot : ℕ) → caught_early x h (early_rows x h) node slot ≡ caught_early x h (next_cycle x h).told.rows node slot
 early_same x h node slot =
-    ap₂ (λ a b. let c : Catches = record { even_a = a; even_b = b; odd_a = None; odd_b = None } in c) (caught-told x h (length h) node slot A) (caught-told x h (length h) node slot B)
+    ap₂ (λ a b. let c : Caughts = record { even_a = a; even_b = b; odd_a = None; odd_b = None } in c) (caught-told x h (length h) node slot A) (caught-told x h (length h) node slot B)
 
 one_even : (x : Setting) (h : Cycles) (node slot : ℕ) → is_odd (length h) ≡ false
-    → after_listening x (length h) (early_rows x h) (listener_with node slot (catches_behind x h node slot)) ≡ listener_with node slot (catches_behind x (next_cycle x h ∷ h) node slot)
+    → after_listening x (length h) (early_rows x h) (listener_with node slot (catches_after x h node slot)) ≡ listener_with node slot (catches_after x (next_cycle x h ∷ h) node slot)
 one_even x h node slot even =
-    ap (λ (c : Catches). after_listening x (length h) (early_rows x h) (listener_with node slot c)) (none_yet x h node slot even)
+    ap (λ (c : Caughts). after_listening x (length h) (early_rows x h) (listener_with node slot c)) (none_yet x h node slot even)
     ∙ after_by x (length h) (early_rows x h) (listener_with node slot no_catches) false even
     ∙ in_even node slot (caught_arrival x (length h) (early_rows x h) node slot A) (caught_arrival x (length h) (early_rows x h) node slot B)
     ∙ ap (listener_with node slot) (early_same x h node slot ∙ sym (caught_even x h (next_cycle x h) node slot even))
 
 each_even : (x : Setting) (h : Cycles) (node : NodeSpec) → is_odd (length h) ≡ false
-    → option_map (after_listening x (length h) (early_rows x h)) (listener_behind x h node) ≡ listener_behind x (next_cycle x h ∷ h) node
+    → option_map (after_listening x (length h) (early_rows x h)) (listener_of_next x h node) ≡ listener_of_next x (next_cycle x h ∷ h) node
 each_even x h node even = by (reference_slot x (x.join node.id))
   where
-    by : (o : Option ℕ) → option_map (after_listening x (length h) (early_rows x h)) (option_map (λ slot. listener_with node.id slot (catches_behind x h node.id slot)) o)
-        ≡ option_map (λ slot. listener_with node.id slot (catches_behind x (next_cycle x h ∷ h) node.id slot)) o
+    by : (o : Option ℕ) → option_map (after_listening x (length h) (early_rows x h)) (option_map (λ slot. listener_with node.id slot (catches_after x h node.id slot)) o)
+        ≡ option_map (λ slot. listener_with node.id slot (catches_after x (next_cycle x h ∷ h) node.id slot)) o
     by None = refl
     by (Some slot) = ap (λ (l : ListenerView). let o : Option ListenerView = Some l in o) (one_even x h node.id slot even)
 
 all_even : (x : Setting) (h : Cycles) → is_odd (length h) ≡ false
-    → map (after_listening x (length h) (early_rows x h)) (listeners_behind x h) ≡ listeners_kept x (next_cycle x h ∷ h)
+    → map (after_listening x (length h) (early_rows x h)) (listeners_of_next x h) ≡ listeners_kept x (next_cycle x h ∷ h)
 all_even x h even =
     let c : Cycle = next_cycle x h in
-    map-filter_map (after_listening x (length h) (early_rows x h)) (listener_behind x h) (listening_nodes x h)
-    ∙ filter_map_same (λ (node : NodeSpec). option_map (after_listening x (length h) (early_rows x h)) (listener_behind x h node)) (listener_behind x (c ∷ h)) (listening_nodes x h)
+    map-filter_map (after_listening x (length h) (early_rows x h)) (listener_of_next x h) (listening_nodes x h)
+    ∙ filter_map_same (λ (node : NodeSpec). option_map (after_listening x (length h) (early_rows x h)) (listener_of_next x h node)) (listener_of_next x (c ∷ h)) (listening_nodes x h)
     (λ node there. each_even x h node even)
-    ∙ ap (filter_map (listener_behind x (c ∷ h))) (still_listening x h c even)
+    ∙ ap (filter_map (listener_of_next x (c ∷ h))) (still_listening x h c even)
     ∙ sym (listeners-kept x h c even)
 
 -- ---- behind an odd cycle
 
 one_odd : (x : Setting) (h : Cycles) (even : Cycle) (node slot : ℕ) → is_odd (length h) ≡ false
-    → after_listening x (suc (length h)) (early_rows x (even ∷ h)) (listener_with node slot (catches_behind x (even ∷ h) node slot))
+    → after_listening x (suc (length h)) (early_rows x (even ∷ h)) (listener_with node slot (catches_after x (even ∷ h) node slot))
     ≡ listener_with node slot (catches_of x h even (next_cycle x (even ∷ h)) node slot)
 one_odd x h even node slot twice =
     let n : ℕ = suc (length h) in
@@ -186,7 +186,7 @@ one_odd x h even node slot twice =
     let late : is_odd n ≡ true = odd_more (length h) twice in
     let ea : Option ℤ = caught_arrival x (length h) even.told.rows node slot A in
     let eb : Option ℤ = caught_arrival x (length h) even.told.rows node slot B in
-    ap (λ (c : Catches). after_listening x n rows (listener_with node slot c)) (caught_even x h even node slot twice)
+    ap (λ (c : Caughts). after_listening x n rows (listener_with node slot c)) (caught_even x h even node slot twice)
     ∙ after_by x n rows (listener_with node slot (caught_early x h even.told.rows node slot)) true late
     ∙ in_odd node slot ea eb (caught_arrival x n rows node slot A) (caught_arrival x n rows node slot B)
     ∙ ap₂ (λ a b. listener_with node slot (record { even_a = ea; even_b = eb; odd_a = a; odd_b = b })) (caught-told x (even ∷ h) n node slot A) (caught-told x (even ∷ h) n node slot B)
@@ -195,29 +195,29 @@ one_odd x h even node slot twice =
     odd_more m e = grind arith
 
 each_odd : (x : Setting) (h : Cycles) (even : Cycle) (node : NodeSpec) → is_odd (length h) ≡ false
-    → option_map (after_listening x (suc (length h)) (early_rows x (even ∷ h))) (listener_behind x (even ∷ h) node) ≡ listener_kept x h even (next_cycle x (even ∷ h)) node
+    → option_map (after_listening x (suc (length h)) (early_rows x (even ∷ h))) (listener_of_next x (even ∷ h) node) ≡ listener_kept x h even (next_cycle x (even ∷ h)) node
 each_odd x h even node twice = by (reference_slot x (x.join node.id))
   where
     by : (o : Option ℕ)
-        → option_map (after_listening x (suc (length h)) (early_rows x (even ∷ h))) (option_map (λ slot. listener_with node.id slot (catches_behind x (even ∷ h) node.id slot)) o)
+        → option_map (after_listening x (suc (length h)) (early_rows x (even ∷ h))) (option_map (λ slot. listener_with node.id slot (catches_after x (even ∷ h) node.id slot)) o)
         ≡ option_map (λ slot. listener_with node.id slot (catches_of x h even (next_cycle x (even ∷ h)) node.id slot)) o
     by None = refl
     by (Some slot) = ap (λ (l : ListenerView). let o : Option ListenerView = Some l in o) (one_odd x h even node.id slot twice)
 
 all_odd : (x : Setting) (h : Cycles) (even : Cycle) → is_odd (length h) ≡ false
-    → map (after_listening x (suc (length h)) (early_rows x (even ∷ h))) (listeners_behind x (even ∷ h)) ≡ listeners_kept x (next_cycle x (even ∷ h) ∷ even ∷ h)
+    → map (after_listening x (suc (length h)) (early_rows x (even ∷ h))) (listeners_of_next x (even ∷ h)) ≡ listeners_kept x (next_cycle x (even ∷ h) ∷ even ∷ h)
 all_odd x h even twice =
     let c : Cycle = next_cycle x (even ∷ h) in
     let kept : listeners_kept x (c ∷ even ∷ h) ≡ filter_map (listener_kept x h even c) (listening_nodes x h) = rw twice refl in
-    map-filter_map (after_listening x (suc (length h)) (early_rows x (even ∷ h))) (listener_behind x (even ∷ h)) (listening_nodes x (even ∷ h))
-    ∙ ap (filter_map (λ (node : NodeSpec). option_map (after_listening x (suc (length h)) (early_rows x (even ∷ h))) (listener_behind x (even ∷ h) node))) (sym (still_listening x h even twice))
-    ∙ filter_map_same (λ (node : NodeSpec). option_map (after_listening x (suc (length h)) (early_rows x (even ∷ h))) (listener_behind x (even ∷ h) node)) (listener_kept x h even c) (listening_nodes x h)
+    map-filter_map (after_listening x (suc (length h)) (early_rows x (even ∷ h))) (listener_of_next x (even ∷ h)) (listening_nodes x (even ∷ h))
+    ∙ ap (filter_map (λ (node : NodeSpec). option_map (after_listening x (suc (length h)) (early_rows x (even ∷ h))) (listener_of_next x (even ∷ h) node))) (sym (still_listening x h even twice))
+    ∙ filter_map_same (λ (node : NodeSpec). option_map (after_listening x (suc (length h)) (early_rows x (even ∷ h))) (listener_of_next x (even ∷ h) node)) (listener_kept x h even c) (listening_nodes x h)
     (λ node there. each_odd x h even node twice)
     ∙ sym kept
 
 -- ---- in each cycle
 
-by_length : (x : Setting) (h : Cycles) (b : Bool) → is_odd (length h) ≡ b → map (after_listening x (length h) (early_rows x h)) (listeners_behind x h) ≡ listeners_kept x (next_cycle x h ∷ h)
+by_length : (x : Setting) (h : Cycles) (b : Bool) → is_odd (length h) ≡ b → map (after_listening x (length h) (early_rows x h)) (listeners_of_next x h) ≡ listeners_kept x (next_cycle x h ∷ h)
 by_length x h false is = all_even x h is
 by_length x [] true is = absurd (cc)
 by_length x (even ∷ h) true is = all_odd x h even (even_less (length h) is)
@@ -225,12 +225,12 @@ by_length x (even ∷ h) true is = all_odd x h even (even_less (length h) is)
     even_less : (n : ℕ) → is_odd (suc n) ≡ true → is_odd n ≡ false
     even_less n odd = grind arith
 
-pub listeners-caught : (x : Setting) (cycle : ℕ) (rows : List NodeRow) (before after : List ListenerView) → rows ≡ early_rows x (cycles_of x cycle) → before ≡ listeners_behind x (cycles_of x cycle)
+pub listeners-caught : (x : Setting) (cycle : ℕ) (rows : List NodeRow) (before after : List ListenerView) → rows ≡ early_rows x (cycles_of x cycle) → before ≡ listeners_of_next x (cycles_of x cycle)
     → after ≡ map (after_listening x cycle rows) before → after ≡ listeners_kept x (next_cycle x (cycles_of x cycle) ∷ cycles_of x cycle)
 listeners-caught x cycle rows before after listed are now =
     let h : Cycles = cycles_of x cycle in
     now
     ∙ ap (λ (rs : List NodeRow). map (after_listening x cycle rs) before) listed
     ∙ ap (map (after_listening x cycle (early_rows x h))) are
-    ∙ ap (λ (c : ℕ). map (after_listening x c (early_rows x h)) (listeners_behind x h)) (sym (length-cycles_of x cycle))
+    ∙ ap (λ (c : ℕ). map (after_listening x c (early_rows x h)) (listeners_of_next x h)) (sym (length-cycles_of x cycle))
     ∙ by_length x h (is_odd (length h)) refl

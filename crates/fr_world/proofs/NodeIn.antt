@@ -9,20 +9,20 @@ use Rattle.fr_base.specs.declared.node_row.NodeRow.{NodeRow}
 use Rattle.fr_cluster.specs.Questions.{node_of}
 use Rattle.fr_cluster.specs.declared.join.Join.{Join}
 use Rattle.fr_cluster.specs.declared.nodes.NodeSpec.{NodeSpec}
-use Rattle.fr_round.proofs.Lists.{found, kept_filtered}
+use Rattle.fr_precision.proofs.Lists.{found, kept_filtered}
 use Rattle.fr_script.specs.View.{is_arbitrary}
 use Rattle.fr_node.specs.View.{NodeView}
 use Rattle.fr_cluster.specs.Setting.{Setting, correct_nodes, is_correct}
-use Rattle.fr_joined.specs.Cycles.{Cycle, Cycles}
-use Rattle.fr_joined.specs.Lawful.{IsLawful}
-use Rattle.fr_joined.specs.Standing.{following_nodes, has_row, has_row_by}
-use Rattle.fr_joined.specs.Sync.{is_none}
-use Rattle.fr_standing.specs.Views.{node_behind}
-use Rattle.fr_standing.proofs.Placing.{filter_both}
-use Rattle.fr_standing.proofs.Succeeding.{told_has}
+use Rattle.fr_history.specs.Cycles.{Cycle, Cycles}
+use Rattle.fr_history.specs.Lawful.{IsLawful}
+use Rattle.fr_history.specs.Standing.{following_nodes, has_row, has_row_by}
+use Rattle.fr_history.specs.Unfollowed.{is_none}
+use Rattle.fr_air.specs.Views.{node_of_next}
+use Rattle.fr_air.proofs.Placing.{filter_both}
+use Rattle.fr_air.proofs.NextStanding.{told_has}
 use Rattle.fr_world.specs.Standing.{followers_kept, nodes_kept}
-use Rattle.fr_world.specs.World.{followed_last, is_told, node_seen, setting_after, told_by, world_cycles, WorldView}
-use Rattle.fr_world.proofs.Members.{IsNext, next_followers}
+use Rattle.fr_world.specs.World.{followed_last, is_told, node_seen, setting_after, is_told_after, world_cycles, WorldView}
+use Rattle.fr_air.proofs.Members.{IsNext, next_followers}
 
 -- ---- a search among numbered nodes
 
@@ -75,36 +75,36 @@ same_told : (x : Setting) (h : Cycles) (node : NodeSpec) → IsLawful x h → Co
 unfolding kept_row
 same_told x [] node lawful there = by (x.join node.id)
   where
-    by : (join : Option Join) → has_row_by x [] node.id join ≡ told_by join [] node.id
+    by : (join : Option Join) → has_row_by x [] node.id join ≡ is_told_after join [] node.id
     by None = refl
     by (Some join) = refl
 same_told x (c ∷ h) node lawful there = by (x.join node.id) refl
   where
-    by : (join : Option Join) → x.join node.id ≡ join → has_row x h node.id ≡ told_by join (c ∷ h) node.id
+    by : (join : Option Join) → x.join node.id ≡ join → has_row x h node.id ≡ is_told_after join (c ∷ h) node.id
     by None at = ap (has_row_by x h node.id) at
     by (Some join) at = sym (told_has x h c node lawful.0 there)
 
 kept-find : (x : Setting) (h : Cycles) (id : ℕ)
-    → find (λ node. node.id == id) (nodes_kept x h) ≡ cond (is_correct x id && kept_row x h id) (option_map (λ (spec : NodeSpec). node_behind x h false id) (node_of x.params id)) None
+    → find (λ node. node.id == id) (nodes_kept x h) ≡ cond (is_correct x id && kept_row x h id) (option_map (λ (spec : NodeSpec). node_of_next x h false id) (node_of x.params id)) None
 unfolding kept_row
 kept-find x [] id =
-    let f : NodeSpec → NodeView = λ spec. node_behind x [] false spec.id in
+    let f : NodeSpec → NodeView = λ spec. node_of_next x [] false spec.id in
     ap (λ (specs : List NodeSpec). find (λ node. node.id == id) (map f specs))
     (sym (filter_both (λ (spec : NodeSpec). is_correct x spec.id) (λ (spec : NodeSpec). has_row x [] spec.id) x.params.nodes))
-    ∙ found-by (node_behind x [] false) (λ n. refl) (λ n. is_correct x n && has_row x [] n) id x.params.nodes
+    ∙ found-by (node_of_next x [] false) (λ n. refl) (λ n. is_correct x n && has_row x [] n) id x.params.nodes
 kept-find x (c ∷ h) id =
-    let f : NodeSpec → NodeView = λ spec. node_behind x (c ∷ h) false spec.id in
+    let f : NodeSpec → NodeView = λ spec. node_of_next x (c ∷ h) false spec.id in
     ap (λ (specs : List NodeSpec). find (λ node. node.id == id) (map f specs))
     (sym (filter_both (λ (spec : NodeSpec). is_correct x spec.id) (λ (spec : NodeSpec). has_row x h spec.id) x.params.nodes))
-    ∙ found-by (node_behind x (c ∷ h) false) (λ n. refl) (λ n. is_correct x n && has_row x h n) id x.params.nodes
+    ∙ found-by (node_of_next x (c ∷ h) false) (λ n. refl) (λ n. is_correct x n && has_row x h n) id x.params.nodes
 
 -- a node is found among those that are kept where it is correct and known, and told of
 pub node-found : (x : Setting) (h : Cycles) (id : ℕ) → IsLawful x h
-    → find (λ node. node.id == id) (nodes_kept x h) ≡ cond (x.is_arbitrary id || not (is_told x h id)) None (option_map (λ (spec : NodeSpec). node_behind x h false id) (node_of x.params id))
+    → find (λ node. node.id == id) (nodes_kept x h) ≡ cond (x.is_arbitrary id || not (is_told x h id)) None (option_map (λ (spec : NodeSpec). node_of_next x h false id) (node_of x.params id))
 node-found x h id lawful = kept-find x h id ∙ by (x.is_arbitrary id) refl (node_of x.params id) refl
   where
     seen : Option NodeSpec → Option NodeView
-    seen o = option_map (λ (spec : NodeSpec). node_behind x h false id) o
+    seen o = option_map (λ (spec : NodeSpec). node_of_next x h false id) o
 
     neither : (b c : Bool) → cond b (seen None) (seen None) ≡ cond c (seen None) (seen None)
     neither true true = refl
@@ -133,7 +133,7 @@ pub node-between : (w : WorldView) (id : ℕ) → IfSome (node_seen w id) (λ no
 node-between w id = by (is_arbitrary w.script id || not (is_told (setting_after w) (world_cycles w) id)) (node_of w.params id)
   where
     by : (untold : Bool) (spec : Option NodeSpec) →
-        IfSome (cond untold None (option_map (λ (s : NodeSpec). node_behind (setting_after w) (world_cycles w) false id) spec)) (λ node. IsNone node.length)
+        IfSome (cond untold None (option_map (λ (s : NodeSpec). node_of_next (setting_after w) (world_cycles w) false id) spec)) (λ node. IsNone node.length)
     by true spec = tt
     by false None = tt
     by false (Some s) = refl
@@ -144,10 +144,10 @@ copied_between None copied is holds = tt
 copied_between (Some node) copied is holds = subst (λ (o : Option NodeView). IfSome o (λ node. IsNone node.length)) (sym is) holds
 
 -- all nodes that are kept stand between cycles
-pub all_between : (x : Setting) (h : Cycles) (specs : List NodeSpec) → All (λ node. IsNone node.length) (map (λ (spec : NodeSpec). node_behind x h false spec.id) specs)
+pub all_between : (x : Setting) (h : Cycles) (specs : List NodeSpec) → All (λ node. IsNone node.length) (map (λ (spec : NodeSpec). node_of_next x h false spec.id) specs)
 all_between x h [] = All-nil (λ (node : NodeView). IsNone node.length)
 all_between x h (spec ∷ specs) =
-    All-cons (λ (node : NodeView). IsNone node.length) (node_behind x h false spec.id) (map (λ (s : NodeSpec). node_behind x h false s.id) specs) refl (all_between x h specs)
+    All-cons (λ (node : NodeView). IsNone node.length) (node_of_next x h false spec.id) (map (λ (s : NodeSpec). node_of_next x h false s.id) specs) refl (all_between x h specs)
 
 -- ---- whether a node followed
 
@@ -162,7 +162,7 @@ pub followed-kept : (x : Setting) (h : Cycles) (nodes : List NodeView) → IsNex
 followed-kept x [] nodes next are true some back = absurd (omega (arith, some refl, ap length are))
 followed-kept x [] nodes next are false some back = refl
 followed-kept x (c ∷ h) nodes next are b some back =
-    let f : NodeSpec → NodeView = λ node. node_behind x (c ∷ h) true node.id in
+    let f : NodeSpec → NodeView = λ node. node_of_next x (c ∷ h) true node.id in
     let long : length c.followers ≡ length nodes =
     ap (λ (d : Cycle). length d.followers) next
     ∙ ap length (next_followers x h)

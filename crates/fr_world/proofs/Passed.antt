@@ -6,12 +6,13 @@ use Rattle.std.proofs.lemmas.Bool.{and_parts, cond_both, eqb-true}
 use Rattle.std.proofs.lemmas.List.{append-nil, append_assoc, drop_at, drop_more, length-drop, length-take-le, take_all, take_at, take_more}
 use Rattle.std.proofs.lemmas.List.Elements.{All-append, All-cons, All-drop, All-head, All-tail, All-take}
 use Rattle.fr_cluster.specs.declared.join.Join.{Join}
-use Rattle.fr_node.specs.Cycle.{are_within, joined}
+use Rattle.fr_node.specs.Cycle.{as_joined}
+use Rattle.fr_correct.specs.Terms.{are_uncut}
 use Rattle.fr_node.specs.View.{NodeView}
 use Rattle.fr_script.specs.View.{join_of}
-use Rattle.fr_standing.specs.Placing.{put, put_all}
+use Rattle.fr_air.specs.Placing.{put, put_all}
 use Rattle.fr_world.specs.Succeeding.{followers_without, goes_in, goes_now, joins_in, joins_now, nodes_with, Passes}
-use Rattle.fr_world.specs.declared.files.Files.{Files}
+use Rattle.fr_air.specs.declared.files.RunInputs.{RunInputs}
 
 -- ---- what is put into a list
 
@@ -70,12 +71,12 @@ only_one a b is = by (a == b + 2) refl
 joins-stops : (double : ℕ) (node : NodeView) (join : Option Join) → joins_in double node join ≡ true → goes_in double node join ≡ false
 joins-stops double node None is = absurd (cc)
 joins-stops double node (Some join) is =
-    ap (λ (b : Bool). b && are_within node.outcomes) (only_one double join.double (and_parts (double == join.double + 3) (are_within node.outcomes) is).0)
+    ap (λ (b : Bool). b && are_uncut node.outcomes) (only_one double join.double (and_parts (double == join.double + 3) (are_uncut node.outcomes) is).0)
 
 -- ---- a follower is passed
 
-pub passed-joins : (f : Files) (double place : ℕ) (followers nodes : List NodeView) (node : NodeView) → place < length followers → node ≡ get_or followers place node → joins_now f double node ≡ true →
-    Passes f double place place followers nodes (take place followers ++ drop (place + 1) followers) (put (λ n. n.id) (joined node) nodes)
+pub passed-joins : (f : RunInputs) (double place : ℕ) (followers nodes : List NodeView) (node : NodeView) → place < length followers → node ≡ get_or followers place node → joins_now f double node ≡ true →
+    Passes f double place place followers nodes (take place followers ++ drop (place + 1) followers) (put (λ n. n.id) (as_joined node) nodes)
 passed-joins f double place followers nodes node lt at joins =
     let rest : List NodeView = drop (place + 1) followers in
     let le : place ≤ length followers = omega (arith, lt) in
@@ -87,8 +88,8 @@ passed-joins f double place followers nodes node lt at joins =
     let long = length-append (take place followers) rest in
     let left = length-drop (place + 1) followers in
     record {
-      nodes_same = ap (λ (ns : List NodeView). put_all (λ n. n.id) (map joined (filter (joins_now f double) ns)) (put (λ n. n.id) (joined node) nodes)) behind
-          ∙ sym (ap (λ (ns : List NodeView). put_all (λ n. n.id) (map joined ns) nodes) (ap (filter (joins_now f double)) stands ∙ passing (joins_now f double) node rest joins));
+      nodes_same = ap (λ (ns : List NodeView). put_all (λ n. n.id) (map as_joined (filter (joins_now f double) ns)) (put (λ n. n.id) (as_joined node) nodes)) behind
+          ∙ sym (ap (λ (ns : List NodeView). put_all (λ n. n.id) (map as_joined ns) nodes) (ap (filter (joins_now f double)) stands ∙ passing (joins_now f double) node rest joins));
       followers_same = ap (λ (ns : List NodeView). ns ++ filter (goes_now f double) (drop place (take place followers ++ rest))) before
           ∙ ap (λ (ns : List NodeView). take place followers ++ filter (goes_now f double) ns) behind
           ∙ sym (ap (λ (ns : List NodeView). take place followers ++ ns) (ap (filter (goes_now f double)) stands ∙ failing (goes_now f double) node rest stops));
@@ -96,14 +97,14 @@ passed-joins f double place followers nodes node lt at joins =
       nearer = omega (arith, long, front, left, lt);
     }
 
-pub passed-goes : (f : Files) (double place : ℕ) (followers nodes : List NodeView) (node : NodeView) → place < length followers → node ≡ get_or followers place node → joins_now f double node ≡ false → goes_now f double node ≡ true →
+pub passed-goes : (f : RunInputs) (double place : ℕ) (followers nodes : List NodeView) (node : NodeView) → place < length followers → node ≡ get_or followers place node → joins_now f double node ≡ false → goes_now f double node ≡ true →
     Passes f double place (place + 1) followers nodes followers nodes
 passed-goes f double place followers nodes node lt at stays goes =
     let rest : List NodeView = drop (place + 1) followers in
     let stands : drop place followers ≡ node ∷ rest = here followers place node lt at in
     let more : take (place + 1) followers ≡ take place followers ++ node ∷ [] = take_more followers place node lt ∙ ap (λ (n : NodeView). take place followers ++ n ∷ []) (sym at) in
     record {
-      nodes_same = sym (ap (λ (ns : List NodeView). put_all (λ n. n.id) (map joined ns) nodes) (ap (filter (joins_now f double)) stands ∙ failing (joins_now f double) node rest stays));
+      nodes_same = sym (ap (λ (ns : List NodeView). put_all (λ n. n.id) (map as_joined ns) nodes) (ap (filter (joins_now f double)) stands ∙ failing (joins_now f double) node rest stays));
       followers_same = ap (λ (ns : List NodeView). ns ++ filter (goes_now f double) rest) more
           ∙ append_assoc (take place followers) (node ∷ []) (filter (goes_now f double) rest)
           ∙ sym (ap (λ (ns : List NodeView). take place followers ++ ns) (ap (filter (goes_now f double)) stands ∙ passing (goes_now f double) node rest goes));
@@ -111,7 +112,7 @@ passed-goes f double place followers nodes node lt at stays goes =
       nearer = omega arith;
     }
 
-pub passed-gone : (f : Files) (double place : ℕ) (followers nodes : List NodeView) (node : NodeView) → place < length followers → node ≡ get_or followers place node → joins_now f double node ≡ false → goes_now f double node ≡ false →
+pub passed-gone : (f : RunInputs) (double place : ℕ) (followers nodes : List NodeView) (node : NodeView) → place < length followers → node ≡ get_or followers place node → joins_now f double node ≡ false → goes_now f double node ≡ false →
     Passes f double place place followers nodes (take place followers ++ drop (place + 1) followers) nodes
 passed-gone f double place followers nodes node lt at stays stops =
     let rest : List NodeView = drop (place + 1) followers in
@@ -123,8 +124,8 @@ passed-gone f double place followers nodes node lt at stays stops =
     let long = length-append (take place followers) rest in
     let left = length-drop (place + 1) followers in
     record {
-      nodes_same = ap (λ (ns : List NodeView). put_all (λ n. n.id) (map joined (filter (joins_now f double) ns)) nodes) behind
-          ∙ sym (ap (λ (ns : List NodeView). put_all (λ n. n.id) (map joined ns) nodes) (ap (filter (joins_now f double)) stands ∙ failing (joins_now f double) node rest stays));
+      nodes_same = ap (λ (ns : List NodeView). put_all (λ n. n.id) (map as_joined (filter (joins_now f double) ns)) nodes) behind
+          ∙ sym (ap (λ (ns : List NodeView). put_all (λ n. n.id) (map as_joined ns) nodes) (ap (filter (joins_now f double)) stands ∙ failing (joins_now f double) node rest stays));
       followers_same = ap (λ (ns : List NodeView). ns ++ filter (goes_now f double) (drop place (take place followers ++ rest))) before
           ∙ ap (λ (ns : List NodeView). take place followers ++ filter (goes_now f double) ns) behind
           ∙ sym (ap (λ (ns : List NodeView). take place followers ++ ns) (ap (filter (goes_now f double)) stands ∙ failing (goes_now f double) node rest stops));
@@ -133,14 +134,14 @@ passed-gone f double place followers nodes node lt at stays stops =
     }
 
 -- there is room for one that joins
-pub joins-fits : (f : Files) (double place : ℕ) (followers nodes : List NodeView) (node : NodeView) → place < length followers → node ≡ get_or followers place node → joins_now f double node ≡ true →
+pub joins-fits : (f : RunInputs) (double place : ℕ) (followers nodes : List NodeView) (node : NodeView) → place < length followers → node ≡ get_or followers place node → joins_now f double node ≡ true →
     length (nodes_with f double place followers nodes) ≤ 64 → length nodes < 64
 joins-fits f double place followers nodes node lt at joins few =
     let rest : List NodeView = drop (place + 1) followers in
-    let put_in : List NodeView = map joined (filter (joins_now f double) (drop place followers)) in
+    let put_in : List NodeView = map as_joined (filter (joins_now f double) (drop place followers)) in
     let whole = length-put_all (λ (n : NodeView). n.id) put_in nodes in
-    let some : length put_in ≡ suc (length (map joined (filter (joins_now f double) rest))) =
-    ap (λ (ns : List NodeView). length (map joined ns)) (ap (filter (joins_now f double)) (here followers place node lt at) ∙ passing (joins_now f double) node rest joins) in
+    let some : length put_in ≡ suc (length (map as_joined (filter (joins_now f double) rest))) =
+    ap (λ (ns : List NodeView). length (map as_joined ns)) (ap (filter (joins_now f double)) (here followers place node lt at) ∙ passing (joins_now f double) node rest joins) in
     omega (arith, whole, some, few)
 
 -- nothing stands behind the last place
@@ -152,12 +153,12 @@ pub nothing-behind : {X : Type 0} (n : ℕ) (xs : List X) → length xs ≤ n �
 nothing-behind n xs le = empty (drop n xs) (let left = length-drop n xs in omega (arith, left, le))
 
 -- so there all followers were passed
-pub passed-nodes : (f : Files) (double place : ℕ) (followers nodes : List NodeView) → length followers ≤ place → nodes ≡ nodes_with f double place followers nodes
+pub passed-nodes : (f : RunInputs) (double place : ℕ) (followers nodes : List NodeView) → length followers ≤ place → nodes ≡ nodes_with f double place followers nodes
 passed-nodes f double place followers nodes done =
     let none : drop place followers ≡ [] = nothing-behind place followers done in
-    sym (ap (λ (ns : List NodeView). put_all (λ n. n.id) (map joined (filter (joins_now f double) ns)) nodes) none)
+    sym (ap (λ (ns : List NodeView). put_all (λ n. n.id) (map as_joined (filter (joins_now f double) ns)) nodes) none)
 
-pub passed-followers : (f : Files) (double place : ℕ) (followers : List NodeView) → length followers ≤ place → followers ≡ followers_without f double place followers
+pub passed-followers : (f : RunInputs) (double place : ℕ) (followers : List NodeView) → length followers ≤ place → followers ≡ followers_without f double place followers
 passed-followers f double place followers done =
     let none : drop place followers ≡ [] = nothing-behind place followers done in
     sym (ap (λ (ns : List NodeView). take place followers ++ filter (goes_now f double) ns) none ∙ append-nil (take place followers) ∙ take_all place followers done)

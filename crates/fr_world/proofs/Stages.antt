@@ -21,18 +21,18 @@ use Rattle.fr_node.specs.View.{NodeView, node_row_of}
 use Rattle.fr_history.specs.History.{row_of as row_in}
 use Rattle.fr_history.specs.Offers.{frame_in, offer_in}
 use Rattle.fr_history.proofs.Lists.{map-map}
-use Rattle.fr_world.specs.Counting.{counted_frame, counted_offers, counts_after, counts_on}
-use Rattle.fr_world.specs.Cycling.{begun_in}
-use Rattle.fr_world.specs.Files.{setting_in}
-use Rattle.fr_world.specs.Hearing.{after_channel, after_offer, after_slots}
-use Rattle.fr_world.specs.Memory.{MemoryView, held_on, held_slots, memory_with, place_of_slot, with_sent}
-use Rattle.fr_world.specs.Sending.{IsEarlyRow}
-use Rattle.fr_world.specs.Stage.{StageView, answered, answered_by_nodes, begun_nodes, begun_stage, heard_after, heard_on, most_before, saying, sent_on, AllReady, CanAnswer, Hears, IsBefore, IsStage}
-use Rattle.fr_world.specs.Walk.{on_both, walked}
-use Rattle.fr_world.specs.declared.files.Files.{Files}
-use Rattle.fr_world.specs.declared.turn.Turn.{Turn}
+use Rattle.fr_air.specs.Counting.{counted_frame, counted_offers, counts_after, counts_on}
+use Rattle.fr_air.specs.Cycling.{begun_in}
+use Rattle.fr_air.specs.Files.{setting_in}
+use Rattle.fr_air.specs.Hearing.{after_channel, after_offer, after_slots}
+use Rattle.fr_air.specs.Memory.{MemoryView, held_on, held_slots, memory_with, place_of_slot, with_sent}
+use Rattle.fr_air.specs.Sending.{IsEarlyRow}
+use Rattle.fr_world.specs.Stage.{StageView, answered, answered_by_nodes, begun_nodes, begun_stage, heard_after, after_turn, most_before, saying, sent_on, AllReady, CanAnswer, HearsTurn, IsBefore, IsStage}
+use Rattle.fr_air.specs.Walk.{after_both_channels, over_slots}
+use Rattle.fr_air.specs.declared.files.RunInputs.{RunInputs}
+use Rattle.fr_air.specs.declared.turn.Turn.{Turn}
 use Rattle.fr_world.proofs.Channels.{at_most-on, channel-rows, heard-counts, heard-nodes, silent-counts, silent-nodes, slots-none}
-use Rattle.fr_world.proofs.Loops.{at_most-frame, at_most-more}
+use Rattle.fr_air.proofs.Loops.{at_most-frame, at_most-more}
 
 abbrev pub made_stage : List NodeRow → List NodeView → List NodeView → List ListenerView → Counts → MemoryView → StageView
 made_stage rows nodes followers listeners counts memory =
@@ -46,14 +46,14 @@ holds memory slot channel frame = record memory { held = with_sent (place_of_slo
 
 -- what all hear is what is offered in the slot on the channel
 pub heard-same : (x : Setting) (cycle slot : ℕ) (channel : Channel) (offer : NodeRow → Option Offer) (frame : Option (List ℕ)) (stage : StageView) → ((r : NodeRow) → offer_in x cycle stage.rows r slot channel ≡ offer r) →
-    frame_in x cycle stage.rows slot channel ≡ frame → answered x cycle offer (sent_on slot channel frame stage) ≡ heard_on x cycle slot channel stage
+    frame_in x cycle stage.rows slot channel ≡ frame → answered x cycle offer (sent_on slot channel frame stage) ≡ after_turn x cycle slot channel stage
 heard-same x cycle slot channel offer frame stage same sent =
     stage_same stage.rows
-    (answered x cycle offer (sent_on slot channel frame stage)).nodes (heard_on x cycle slot channel stage).nodes
-    (answered x cycle offer (sent_on slot channel frame stage)).followers (heard_on x cycle slot channel stage).followers
+    (answered x cycle offer (sent_on slot channel frame stage)).nodes (after_turn x cycle slot channel stage).nodes
+    (answered x cycle offer (sent_on slot channel frame stage)).followers (after_turn x cycle slot channel stage).followers
     stage.listeners
-    (answered x cycle offer (sent_on slot channel frame stage)).counts (heard_on x cycle slot channel stage).counts
-    (holds stage.memory slot channel frame) (heard_on x cycle slot channel stage).memory
+    (answered x cycle offer (sent_on slot channel frame stage)).counts (after_turn x cycle slot channel stage).counts
+    (holds stage.memory slot channel frame) (after_turn x cycle slot channel stage).memory
     (heard-nodes x cycle stage.rows slot channel offer stage.nodes same)
     (heard-nodes x cycle stage.rows slot channel offer stage.followers same)
     (heard-counts x cycle stage.rows slot channel offer frame stage.counts same sent)
@@ -61,10 +61,10 @@ heard-same x cycle slot channel offer frame stage same sent =
 
 -- where nothing is sent and nothing comes, nothing changes
 pub silent-same : (x : Setting) (cycle slot : ℕ) (channel : Channel) (stage : StageView) → ((r : NodeRow) → offer_in x cycle stage.rows r slot channel ≡ None) → frame_in x cycle stage.rows slot channel ≡ None →
-    stage ≡ heard_on x cycle slot channel stage
+    stage ≡ after_turn x cycle slot channel stage
 silent-same x cycle slot channel stage none unsent =
-    stage_same stage.rows stage.nodes (heard_on x cycle slot channel stage).nodes stage.followers (heard_on x cycle slot channel stage).followers stage.listeners
-    stage.counts (heard_on x cycle slot channel stage).counts stage.memory (heard_on x cycle slot channel stage).memory
+    stage_same stage.rows stage.nodes (after_turn x cycle slot channel stage).nodes stage.followers (after_turn x cycle slot channel stage).followers stage.listeners
+    stage.counts (after_turn x cycle slot channel stage).counts stage.memory (after_turn x cycle slot channel stage).memory
     (silent-nodes x cycle stage.rows slot channel stage.nodes none)
     (silent-nodes x cycle stage.rows slot channel stage.followers none)
     (silent-counts x cycle stage.rows slot channel stage.counts none unsent)
@@ -72,7 +72,7 @@ silent-same x cycle slot channel stage none unsent =
 
 -- ---- what holds of it
 
-pub stage-more : (f : Files) (cycle n m : ℕ) (stage : StageView) → n ≤ m → IsStage f cycle n stage → IsStage f cycle m stage
+pub stage-more : (f : RunInputs) (cycle n m : ℕ) (stage : StageView) → n ≤ m → IsStage f cycle n stage → IsStage f cycle m stage
 stage-more f cycle n m stage le is = record {
   rows_are = is.rows_are;
   ready = is.ready;
@@ -84,7 +84,7 @@ stage-more f cycle n m stage le is = record {
   memory_is = is.memory_is;
 }
 
-pub stage-heard : (f : Files) (turn : Turn) (n : ℕ) (stage after : StageView) → IsStage f turn.cycle n stage → after ≡ heard_on (setting_in f) turn.cycle turn.slot turn.channel stage → AllReady f turn.cycle after →
+pub stage-heard : (f : RunInputs) (turn : Turn) (n : ℕ) (stage after : StageView) → IsStage f turn.cycle n stage → after ≡ after_turn (setting_in f) turn.cycle turn.slot turn.channel stage → AllReady f turn.cycle after →
     IsStage f turn.cycle (n + 65) after
 stage-heard f turn n stage after is heard ready =
     let x : Setting = setting_in f in
@@ -106,10 +106,10 @@ stage-heard f turn n stage after is heard ready =
           ∙ ap (λ (s : StageView). memory_with f.params s.memory.held) (sym heard);
     }
 
-pub hears : (f : Files) (turn : Turn) (before after : StageView) → IsBefore f turn before → after ≡ heard_on (setting_in f) turn.cycle turn.slot turn.channel before → AllReady f turn.cycle after → Hears f turn before after
+pub hears : (f : RunInputs) (turn : Turn) (before after : StageView) → IsBefore f turn before → after ≡ after_turn (setting_in f) turn.cycle turn.slot turn.channel before → AllReady f turn.cycle after → HearsTurn f turn before after
 hears f turn before after is heard ready = record { heard = heard; is_stage = stage-heard f turn (most_before turn) before after is.is_stage heard ready }
 
-pub still-ready : (f : Files) (cycle most : ℕ) (stage : StageView) → IsStage f cycle most stage → AllReady f cycle stage
+pub still-ready : (f : RunInputs) (cycle most : ℕ) (stage : StageView) → IsStage f cycle most stage → AllReady f cycle stage
 still-ready f cycle most stage is = record { nodes = is.ready; followers = is.followers_ready }
 
 -- ---- the walk
@@ -119,7 +119,7 @@ pub walk-apart : (x : Setting) (cycle count : ℕ) (stage : StageView) →
     heard_after x cycle count stage
     ≡ made_stage stage.rows (map (after_slots x cycle stage.rows count) stage.nodes) (map (after_slots x cycle stage.rows count) stage.followers) stage.listeners (counts_after x cycle stage.rows count stage.counts)
     (let now : MemoryView = record stage.memory { held = held_slots x cycle stage.rows count stage.memory.held } in now)
-unfolding walked
+unfolding over_slots
 walk-apart x cycle zero stage =
     ap₂ (λ (nodes followers : List NodeView). made_stage stage.rows nodes followers stage.listeners stage.counts stage.memory)
     (slots-none x cycle stage.rows stage.nodes) (slots-none x cycle stage.rows stage.followers)
@@ -132,26 +132,26 @@ walk-apart x cycle (suc earlier) stage =
     let memory : MemoryView = record stage.memory { held = held_on x cycle rows slot B (held_on x cycle rows slot A (held_slots x cycle rows earlier stage.memory.held)) } in
     let both : (nodes : List NodeView) → map on_b (map on_a (map (after_slots x cycle rows earlier) nodes)) ≡ map (λ (node : NodeView). on_b (on_a (after_slots x cycle rows earlier node))) nodes = λ nodes.
     map-map on_b on_a (map (after_slots x cycle rows earlier) nodes) ∙ map-map (λ (node : NodeView). on_b (on_a node)) (after_slots x cycle rows earlier) nodes in
-    ap (on_both (heard_on x cycle) slot) (walk-apart x cycle earlier stage)
+    ap (after_both_channels (after_turn x cycle) slot) (walk-apart x cycle earlier stage)
     ∙ ap₂ (λ (nodes followers : List NodeView). made_stage rows nodes followers stage.listeners counts memory) (both stage.nodes) (both stage.followers)
 
-pub walk-more : (x : Setting) (cycle count : ℕ) (stage before after : StageView) → before ≡ heard_after x cycle count stage → after ≡ on_both (heard_on x cycle) (count + 1) before → after ≡ heard_after x cycle (count + 1) stage
-unfolding walked
+pub walk-more : (x : Setting) (cycle count : ℕ) (stage before after : StageView) → before ≡ heard_after x cycle count stage → after ≡ after_both_channels (after_turn x cycle) (count + 1) before → after ≡ heard_after x cycle (count + 1) stage
+unfolding over_slots
 walk-more x cycle count stage before after so_far now =
-    let P : ℕ → Type 0 = λ k. after ≡ walked (heard_on x cycle) k stage in
-    subst P (sym (add-one count)) (rw (add-one count) at (now ∙ ap (on_both (heard_on x cycle) (count + 1)) so_far))
+    let P : ℕ → Type 0 = λ k. after ≡ over_slots (after_turn x cycle) k stage in
+    subst P (sym (add-one count)) (rw (add-one count) at (now ∙ ap (after_both_channels (after_turn x cycle) (count + 1)) so_far))
 
 -- ---- before a turn
 
 -- no count is above a million
-few-before : (f : Files) (turn : Turn) → IsSane f.params → turn.slot ≤ amount f.params name.gNumberOfStaticSlots → most_before turn + 65 ≤ 1_000_000
+few-before : (f : RunInputs) (turn : Turn) → IsSane f.params → turn.slot ≤ amount f.params name.gNumberOfStaticSlots → most_before turn + 65 ≤ 1_000_000
 few-before f turn sane slot = by turn.channel
   where
     by : (channel : Channel) → 130 * (turn.slot - 1) + 65 * channel_rank channel + 65 ≤ 1_000_000
     by A = let slots = sane.ranges name.gNumberOfStaticSlots in omega (arith, ints, slot, slots)
     by B = let slots = sane.ranges name.gNumberOfStaticSlots in omega (arith, ints, slot, slots)
 
-pub before-ready : (f : Files) (turn : Turn) (stage : StageView) → IsSane f.params → IsBefore f turn stage → CanAnswer f turn.cycle stage
+pub before-ready : (f : RunInputs) (turn : Turn) (stage : StageView) → IsSane f.params → IsBefore f turn stage → CanAnswer f turn.cycle stage
 before-ready f turn stage sane is = record {
   rows_are = is.is_stage.rows_are;
   ready = record {
@@ -163,7 +163,7 @@ before-ready f turn stage sane is = record {
   few_followers = is.is_stage.few_followers;
 }
 
-pub sent-ready : (f : Files) (turn : Turn) (stage sent : StageView) (frame : Option (List ℕ)) → IsSane f.params → IsBefore f turn stage → sent ≡ sent_on turn.slot turn.channel frame stage → CanAnswer f turn.cycle sent
+pub sent-ready : (f : RunInputs) (turn : Turn) (stage sent : StageView) (frame : Option (List ℕ)) → IsSane f.params → IsBefore f turn stage → sent ≡ sent_on turn.slot turn.channel frame stage → CanAnswer f turn.cycle sent
 sent-ready f turn stage sent frame sane is now =
     let P : StageView → Type 0 = λ s. CanAnswer f turn.cycle s in
     subst P (sym now) (record {
@@ -179,7 +179,7 @@ sent-ready f turn stage sent frame sane is now =
     })
 
 -- it does not matter what is being said
-pub saying-ready : (f : Files) (cycle : ℕ) (frame : Option (List ℕ)) (stage : StageView) → CanAnswer f cycle stage → CanAnswer f cycle (saying frame stage)
+pub saying-ready : (f : RunInputs) (cycle : ℕ) (frame : Option (List ℕ)) (stage : StageView) → CanAnswer f cycle stage → CanAnswer f cycle (saying frame stage)
 saying-ready f cycle frame stage is = record { rows_are = is.rows_are; ready = is.ready; followers_ready = is.followers_ready; few_followers = is.few_followers }
 
 -- after a frame was offered to all nodes
@@ -191,7 +191,7 @@ offered x cycle offer rows nodes after followers listeners counts counted memory
     (now ∙ ap (λ (rs : List NodeRow). counted_offers x cycle offer rs counts) (sym are)) same
 
 -- with its cycle begun
-pub begun-same : (f : Files) (cycle : ℕ) (rows listed : List NodeRow) (nodes begun followers : List NodeView) (listeners : List ListenerView) (counts none : Counts) (memory : MemoryView) → begun ≡ map (begun_in f cycle) nodes → listed ≡ map node_row_of begun → none ≡ no_counts →
+pub begun-same : (f : RunInputs) (cycle : ℕ) (rows listed : List NodeRow) (nodes begun followers : List NodeView) (listeners : List ListenerView) (counts none : Counts) (memory : MemoryView) → begun ≡ map (begun_in f cycle) nodes → listed ≡ map node_row_of begun → none ≡ no_counts →
     made_stage listed begun followers listeners none memory ≡ begun_nodes f cycle (made_stage rows nodes followers listeners counts memory)
 begun-same f cycle rows listed nodes begun followers listeners counts none memory are list fresh =
     ap (λ (rs : List NodeRow). made_stage rs begun followers listeners none memory) (list ∙ ap (map node_row_of) are)
@@ -205,7 +205,7 @@ quiet-again x cycle offer stage frame quiet =
 -- ---- a cycle
 
 -- when a cycle has begun
-pub begun-stage : (f : Files) (cycle : ℕ) (before begun : StageView) → length before.nodes ≤ 64 → length before.followers ≤ 64 → before.memory ≡ memory_with f.params before.memory.held → begun ≡ begun_stage f cycle before →
+pub begun-stage : (f : RunInputs) (cycle : ℕ) (before begun : StageView) → length before.nodes ≤ 64 → length before.followers ≤ 64 → before.memory ≡ memory_with f.params before.memory.held → begun ≡ begun_stage f cycle before →
     AllReady f cycle begun → All (IsEarlyRow f.params) begun.rows → IsStage f cycle 0 begun
 begun-stage f cycle before begun few few_too holds is ready early =
     let nodes : begun.nodes ≡ map (begun_in f cycle) before.nodes = ap (λ (s : StageView). s.nodes) is in
@@ -224,35 +224,35 @@ begun-stage f cycle before begun few few_too holds is ready early =
     none_counted = record { sent_a = omega arith; sent_b = omega arith; stored = omega arith; outside = omega arith; damaged = omega arith; wrong_id = omega arith; wrong_cycle = omega arith; wrong_length = omega arith; plain = omega arith }
 
 -- the rows with which it began are those of its nodes
-begun-rows : (f : Files) (cycle : ℕ) (before begun : StageView) → begun ≡ begun_stage f cycle before → begun.rows ≡ map node_row_of begun.nodes
+begun-rows : (f : RunInputs) (cycle : ℕ) (before begun : StageView) → begun ≡ begun_stage f cycle before → begun.rows ≡ map node_row_of begun.nodes
 begun-rows f cycle before begun is = ap (λ (s : StageView). s.rows) is ∙ sym (ap (λ (s : StageView). map node_row_of s.nodes) is)
 
 -- what its slots make of the nodes, the followers, the counts and the memory; the rows and the listeners stay
-pub nodes-walked : (f : Files) (cycle : ℕ) (before begun after : StageView) → begun ≡ begun_stage f cycle before → after ≡ heard_after (setting_in f) cycle (amount f.params name.gNumberOfStaticSlots) begun →
+pub nodes-walked : (f : RunInputs) (cycle : ℕ) (before begun after : StageView) → begun ≡ begun_stage f cycle before → after ≡ heard_after (setting_in f) cycle (amount f.params name.gNumberOfStaticSlots) begun →
     after.nodes ≡ map (after_slots (setting_in f) cycle (map node_row_of begun.nodes) (amount f.params name.gNumberOfStaticSlots)) begun.nodes
 nodes-walked f cycle before begun after is now =
     let n : ℕ = amount f.params name.gNumberOfStaticSlots in
     ap (λ (s : StageView). s.nodes) (now ∙ walk-apart (setting_in f) cycle n begun)
     ∙ ap (λ (rows : List NodeRow). map (after_slots (setting_in f) cycle rows n) begun.nodes) (begun-rows f cycle before begun is)
 
-pub followers-walked : (f : Files) (cycle : ℕ) (before begun after : StageView) → begun ≡ begun_stage f cycle before → after ≡ heard_after (setting_in f) cycle (amount f.params name.gNumberOfStaticSlots) begun →
+pub followers-walked : (f : RunInputs) (cycle : ℕ) (before begun after : StageView) → begun ≡ begun_stage f cycle before → after ≡ heard_after (setting_in f) cycle (amount f.params name.gNumberOfStaticSlots) begun →
     after.followers ≡ map (after_slots (setting_in f) cycle (map node_row_of begun.nodes) (amount f.params name.gNumberOfStaticSlots)) begun.followers
 followers-walked f cycle before begun after is now =
     let n : ℕ = amount f.params name.gNumberOfStaticSlots in
     ap (λ (s : StageView). s.followers) (now ∙ walk-apart (setting_in f) cycle n begun)
     ∙ ap (λ (rows : List NodeRow). map (after_slots (setting_in f) cycle rows n) begun.followers) (begun-rows f cycle before begun is)
 
-pub rows-walked : (f : Files) (cycle : ℕ) (before begun after : StageView) → begun ≡ begun_stage f cycle before → after ≡ heard_after (setting_in f) cycle (amount f.params name.gNumberOfStaticSlots) begun →
+pub rows-walked : (f : RunInputs) (cycle : ℕ) (before begun after : StageView) → begun ≡ begun_stage f cycle before → after ≡ heard_after (setting_in f) cycle (amount f.params name.gNumberOfStaticSlots) begun →
     after.rows ≡ map node_row_of begun.nodes
 rows-walked f cycle before begun after is now =
     ap (λ (s : StageView). s.rows) (now ∙ walk-apart (setting_in f) cycle (amount f.params name.gNumberOfStaticSlots) begun) ∙ begun-rows f cycle before begun is
 
-pub listeners-walked : (f : Files) (cycle : ℕ) (before begun after : StageView) → begun ≡ begun_stage f cycle before → after ≡ heard_after (setting_in f) cycle (amount f.params name.gNumberOfStaticSlots) begun →
+pub listeners-walked : (f : RunInputs) (cycle : ℕ) (before begun after : StageView) → begun ≡ begun_stage f cycle before → after ≡ heard_after (setting_in f) cycle (amount f.params name.gNumberOfStaticSlots) begun →
     after.listeners ≡ before.listeners
 listeners-walked f cycle before begun after is now =
     ap (λ (s : StageView). s.listeners) (now ∙ walk-apart (setting_in f) cycle (amount f.params name.gNumberOfStaticSlots) begun ∙ refl) ∙ ap (λ (s : StageView). s.listeners) is
 
-pub counts-walked : (f : Files) (cycle : ℕ) (before begun after : StageView) → begun ≡ begun_stage f cycle before → after ≡ heard_after (setting_in f) cycle (amount f.params name.gNumberOfStaticSlots) begun →
+pub counts-walked : (f : RunInputs) (cycle : ℕ) (before begun after : StageView) → begun ≡ begun_stage f cycle before → after ≡ heard_after (setting_in f) cycle (amount f.params name.gNumberOfStaticSlots) begun →
     after.counts ≡ counts_after (setting_in f) cycle (map node_row_of begun.nodes) (amount f.params name.gNumberOfStaticSlots) no_counts
 counts-walked f cycle before begun after is now =
     let n : ℕ = amount f.params name.gNumberOfStaticSlots in
@@ -260,19 +260,10 @@ counts-walked f cycle before begun after is now =
     ∙ ap (λ (rows : List NodeRow). counts_after (setting_in f) cycle rows n begun.counts) (begun-rows f cycle before begun is)
     ∙ ap (counts_after (setting_in f) cycle (map node_row_of begun.nodes) n) (ap (λ (s : StageView). s.counts) is)
 
-pub memory-walked : (f : Files) (cycle : ℕ) (before begun after : StageView) → begun ≡ begun_stage f cycle before → after ≡ heard_after (setting_in f) cycle (amount f.params name.gNumberOfStaticSlots) begun →
+pub memory-walked : (f : RunInputs) (cycle : ℕ) (before begun after : StageView) → begun ≡ begun_stage f cycle before → after ≡ heard_after (setting_in f) cycle (amount f.params name.gNumberOfStaticSlots) begun →
     after.memory ≡ record before.memory { held = held_slots (setting_in f) cycle (map node_row_of begun.nodes) (amount f.params name.gNumberOfStaticSlots) before.memory.held }
 memory-walked f cycle before begun after is now =
     let n : ℕ = amount f.params name.gNumberOfStaticSlots in
     ap (λ (s : StageView). s.memory) (now ∙ walk-apart (setting_in f) cycle n begun)
     ∙ ap (λ (rows : List NodeRow). let held : MemoryView = record begun.memory { held = held_slots (setting_in f) cycle rows n begun.memory.held } in held) (begun-rows f cycle before begun is)
     ∙ ap (λ (m : MemoryView). let held : MemoryView = record m { held = held_slots (setting_in f) cycle (map node_row_of begun.nodes) n m.held } in held) (ap (λ (s : StageView). s.memory) is)
-
--- what holds of all rows holds of one that is found by its number
-pub found-among : (P : NodeRow → Type 0) (rows : List NodeRow) (id : ℕ) (row : NodeRow) → All P rows → row_in rows id ≡ Some row → P row × (row.node ≡ id)
-found-among P [] id row all is = absurd (cc)
-found-among P (r ∷ rs) id row all is =
-    cond_both (r.node == id) (Some r) (row_in rs id) (λ o. o ≡ Some row → P row × (row.node ≡ id))
-    (λ here same. let e : r ≡ row = cc in (subst P e (All-head P r rs all), ap (λ (n : NodeRow). n.node) (sym e) ∙ eqb-true r.node id here))
-    (λ there later. found-among P rs id row (All-tail P r rs all) later)
-    is

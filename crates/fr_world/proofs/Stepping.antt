@@ -9,33 +9,33 @@ use Rattle.fr_cluster.specs.Values.{amount}
 use Rattle.fr_cluster.specs.declared.names.ParamName.TheVariants as name
 use Rattle.fr_time.specs.Cycles.{is_odd}
 use Rattle.fr_node.specs.View.{node_row_of}
-use Rattle.fr_joined.specs.Lawful.{IsLawful}
-use Rattle.fr_joined.specs.Next.{cycles_of, early_rows, next_cycle}
-use Rattle.fr_world.specs.Files.{setting_in}
-use Rattle.fr_world.specs.Memory.{MemoryView, memory_with}
+use Rattle.fr_history.specs.Lawful.{IsLawful}
+use Rattle.fr_history.specs.Next.{cycles_of, early_rows, next_cycle}
+use Rattle.fr_air.specs.Files.{setting_in}
+use Rattle.fr_air.specs.Memory.{MemoryView, memory_with}
 use Rattle.fr_world.specs.Stage.{StageView, begun_stage, ended_stage, heard_after}
 use Rattle.fr_world.specs.Standing.{followers_kept, listeners_kept, nodes_kept}
-use Rattle.fr_world.specs.Listening.{StartsEarly, after_listening}
+use Rattle.fr_air.specs.Listening.{StartsEarly, after_listening}
 use Rattle.fr_world.specs.Succeeding.{HasFew, succeeded}
 use Rattle.fr_world.specs.World.{StandAfter, memory_after}
-use Rattle.fr_world.specs.declared.files.Files.{Files}
+use Rattle.fr_air.specs.declared.files.RunInputs.{RunInputs}
 use Rattle.fr_world.proofs.Asked.{has-few}
 use Rattle.fr_world.proofs.Early.{IsEarly, early-begun, early-behind, early-heard}
 use Rattle.fr_world.proofs.Listened.{listeners-caught}
-use Rattle.fr_world.proofs.Members.{IsRun}
-use Rattle.fr_world.proofs.OneCycle.{all-begun, all-heard, all_behind, all_begun, all_heard, cycles-more, nodes-ended, rows-begun, run-of}
-use Rattle.fr_world.proofs.Remembered.{cycle-held}
+use Rattle.fr_air.proofs.Members.{IsRun}
+use Rattle.fr_air.proofs.OneCycle.{all-begun, all-heard, all_behind, all_begun, all_heard, cycles-more, nodes-ended, rows-begun, run-of}
+use Rattle.fr_world.proofs.CycleHeld.{cycle-held}
 use Rattle.fr_world.proofs.Stages.{followers-walked, listeners-walked, memory-walked, nodes-walked, rows-walked}
 use Rattle.fr_world.proofs.Succeeded.{Keeps, Succeeds, stage-succeeds}
 
 -- the stage before a cycle, in a run
-pub record IsBefore (f : Files) (cycle : ℕ) (before : StageView) : Type 0 where
+pub record IsBefore (f : RunInputs) (cycle : ℕ) (before : StageView) : Type 0 where
   pub run : IsRun (setting_in f) (cycles_of (setting_in f) cycle)
   pub keeps : Keeps (setting_in f) (cycles_of (setting_in f) cycle) before
   pub early : All (IsEarly f cycle) before.nodes
   pub remembers : before.memory ≡ memory_after f cycle
 
-pub before-is : (f : Files) (cycle : ℕ) (keys : List ℕ) (stage : StageView) (devs : Roomy) → IsSane f.params → ((n : ℕ) → IsLawful (setting_in f) (cycles_of (setting_in f) n)) → StandAfter f cycle keys stage devs
+pub before-is : (f : RunInputs) (cycle : ℕ) (keys : List ℕ) (stage : StageView) (devs : Roomy) → IsSane f.params → ((n : ℕ) → IsLawful (setting_in f) (cycles_of (setting_in f) n)) → StandAfter f cycle keys stage devs
     → IsBefore f cycle stage
 before-is f cycle keys stage devs sane lawful stand = record {
   run = run-of (setting_in f) sane lawful cycle;
@@ -46,34 +46,34 @@ before-is f cycle keys stage devs sane lawful stand = record {
 
 -- ---- as it begins
 
-pub first-succeeds : (f : Files) (cycle : ℕ) (before first : StageView) → IsBefore f cycle before → first ≡ succeeded f cycle before → Succeeds (setting_in f) (cycles_of (setting_in f) cycle) first
+pub first-succeeds : (f : RunInputs) (cycle : ℕ) (before first : StageView) → IsBefore f cycle before → first ≡ succeeded f cycle before → Succeeds (setting_in f) (cycles_of (setting_in f) cycle) first
 first-succeeds f cycle before first is now = stage-succeeds f cycle before first is.run.sane is.run.lawful.1 is.keeps now
 
-pub first-few : (f : Files) (cycle : ℕ) (before : StageView) → IsBefore f cycle before → HasFew (succeeded f cycle before)
+pub first-few : (f : RunInputs) (cycle : ℕ) (before : StageView) → IsBefore f cycle before → HasFew (succeeded f cycle before)
 first-few f cycle before is =
     has-few (setting_in f) is.run.sane (cycles_of (setting_in f) cycle) (succeeded f cycle before) (first-succeeds f cycle before (succeeded f cycle before) is refl)
 
-memory_by : (f : Files) (cycle : ℕ) (before : StageView) (b : Bool) → is_odd cycle ≡ b → (succeeded f cycle before).memory ≡ before.memory
+memory_by : (f : RunInputs) (cycle : ℕ) (before : StageView) (b : Bool) → is_odd cycle ≡ b → (succeeded f cycle before).memory ≡ before.memory
 memory_by f cycle before true is = rw is refl
 memory_by f cycle before false is = rw is refl
 
-memory-stays : (f : Files) (cycle : ℕ) (before first : StageView) → IsBefore f cycle before → first ≡ succeeded f cycle before → first.memory ≡ memory_after f cycle
+memory-stays : (f : RunInputs) (cycle : ℕ) (before first : StageView) → IsBefore f cycle before → first ≡ succeeded f cycle before → first.memory ≡ memory_after f cycle
 memory-stays f cycle before first is now = ap (λ (s : StageView). s.memory) now ∙ memory_by f cycle before (is_odd cycle) refl ∙ is.remembers
 
-pub first-memory : (f : Files) (cycle : ℕ) (before first : StageView) → IsBefore f cycle before → first ≡ succeeded f cycle before → first.memory ≡ memory_with f.params first.memory.held
+pub first-memory : (f : RunInputs) (cycle : ℕ) (before first : StageView) → IsBefore f cycle before → first ≡ succeeded f cycle before → first.memory ≡ memory_with f.params first.memory.held
 first-memory f cycle before first is now =
     let same = memory-stays f cycle before first is now in
     same ∙ ap (λ (m : MemoryView). memory_with f.params m.held) (sym same)
 
 -- ---- the stages of a cycle: before it, as it begins, with it begun, and after its slots
 
-pub record AreHeard (f : Files) (cycle : ℕ) (before first begun heard : StageView) : Type 0 where
+pub record AreHeard (f : RunInputs) (cycle : ℕ) (before first begun heard : StageView) : Type 0 where
   pub is_before : IsBefore f cycle before
   pub first_is : first ≡ succeeded f cycle before
   pub begun_is : begun ≡ begun_stage f cycle first
   pub heard_is : heard ≡ heard_after (setting_in f) cycle (amount f.params name.gNumberOfStaticSlots) begun
 
-module _ (f : Files) (cycle : ℕ) (before first begun heard : StageView) (are : AreHeard f cycle before first begun heard) where
+module _ (f : RunInputs) (cycle : ℕ) (before first begun heard : StageView) (are : AreHeard f cycle before first begun heard) where
   pub succeeds : Succeeds (setting_in f) (cycles_of (setting_in f) cycle) first
   succeeds = first-succeeds f cycle before first are.is_before are.first_is
 

@@ -6,24 +6,24 @@ use Rattle.fr_cluster.specs.Setting.{Setting, correct_nodes}
 use Rattle.fr_cluster.specs.declared.join.Join.{Join}
 use Rattle.fr_cluster.specs.declared.nodes.NodeSpec.{NodeSpec}
 use Rattle.fr_time.specs.Cycles.{is_odd}
-use Rattle.fr_node.specs.Cycle.{joined}
+use Rattle.fr_node.specs.Cycle.{as_joined}
 use Rattle.fr_node.specs.Listening.{ListenerView}
 use Rattle.fr_node.specs.View.{NodeView}
-use Rattle.fr_joined.specs.Cycles.{Cycle, Cycles}
-use Rattle.fr_joined.specs.Lawful.{IsLawful}
-use Rattle.fr_joined.specs.Next.{cycles_of}
-use Rattle.fr_joined.specs.Catching.{begins_with}
-use Rattle.fr_joined.specs.Standing.{following_nodes, follows, follows_by}
-use Rattle.fr_joined.proofs.Exists.{length-cycles_of}
-use Rattle.fr_standing.specs.Placing.{put_all}
-use Rattle.fr_standing.specs.Views.{followers_behind, listeners_behind, node_behind, nodes_behind}
-use Rattle.fr_standing.specs.Listening.{listening_nodes}
-use Rattle.fr_standing.proofs.Succeeding.{even_cycles_stay}
-use Rattle.fr_world.specs.Files.{setting_in}
+use Rattle.fr_history.specs.Cycles.{Cycle, Cycles}
+use Rattle.fr_history.specs.Lawful.{IsLawful}
+use Rattle.fr_history.specs.Next.{cycles_of}
+use Rattle.fr_history.specs.Catching.{begins_with}
+use Rattle.fr_history.specs.Standing.{following_nodes, follows, follows_by}
+use Rattle.fr_history.proofs.RunsExist.{length-cycles_of}
+use Rattle.fr_air.specs.Placing.{put_all}
+use Rattle.fr_air.specs.Views.{followers_of_next, listeners_of_next, node_of_next, nodes_of_next}
+use Rattle.fr_air.specs.Listeners.{listening_nodes}
+use Rattle.fr_air.proofs.NextStanding.{even_cycles_stay}
+use Rattle.fr_air.specs.Files.{setting_in}
 use Rattle.fr_world.specs.Stage.{StageView}
 use Rattle.fr_world.specs.Standing.{followers_kept, listener_kept, listeners_kept, nodes_kept}
 use Rattle.fr_world.specs.Succeeding.{first_now, goes_now, joins_now, listeners_now, succeeded}
-use Rattle.fr_world.specs.declared.files.Files.{Files}
+use Rattle.fr_air.specs.declared.files.RunInputs.{RunInputs}
 use Rattle.fr_world.proofs.Succeeding.{followers_succeed_in, listeners_come, nodes_succeed, none_pass}
 
 -- a stage has the nodes, followers and listeners of the last cycle, and those of the next one
@@ -33,9 +33,9 @@ pub record Keeps (x : Setting) (h : Cycles) (stage : StageView) : Type 0 where
   pub listeners : stage.listeners ≡ listeners_kept x h
 
 pub record Succeeds (x : Setting) (h : Cycles) (stage : StageView) : Type 0 where
-  pub nodes : stage.nodes ≡ nodes_behind x h
-  pub followers : stage.followers ≡ followers_behind x h
-  pub listeners : stage.listeners ≡ listeners_behind x h
+  pub nodes : stage.nodes ≡ nodes_of_next x h
+  pub followers : stage.followers ≡ followers_of_next x h
+  pub listeners : stage.listeners ≡ listeners_of_next x h
 
 -- ---- behind an even cycle
 
@@ -46,7 +46,7 @@ even_less : (n : ℕ) → is_odd (suc n) ≡ false → is_odd n ≡ true
 even_less n even = grind arith
 
 -- the listeners are those of the even cycle
-pub listeners-kept : (x : Setting) (h : Cycles) (c : Cycle) → is_odd (length h) ≡ false → listeners_kept x (c ∷ h) ≡ listeners_behind x (c ∷ h)
+pub listeners-kept : (x : Setting) (h : Cycles) (c : Cycle) → is_odd (length h) ≡ false → listeners_kept x (c ∷ h) ≡ listeners_of_next x (c ∷ h)
 listeners-kept x [] c even = refl
 listeners-kept x (e ∷ h) c even = let odd : is_odd (length h) ≡ true = even_less (length h) even in rw odd refl
 
@@ -56,8 +56,8 @@ stay x (c ∷ h) stage lawful odd keeps =
     let even : is_odd (length h) ≡ false = odd_less (length h) odd in
     let same = even_cycles_stay x h c lawful even in
     record {
-      nodes = keeps.nodes ∙ sym (ap (map (λ (node : NodeSpec). node_behind x (c ∷ h) false node.id)) same.0);
-      followers = keeps.followers ∙ sym (ap (map (λ (node : NodeSpec). node_behind x (c ∷ h) true node.id)) same.1);
+      nodes = keeps.nodes ∙ sym (ap (map (λ (node : NodeSpec). node_of_next x (c ∷ h) false node.id)) same.0);
+      followers = keeps.followers ∙ sym (ap (map (λ (node : NodeSpec). node_of_next x (c ∷ h) true node.id)) same.1);
       listeners = keeps.listeners ∙ listeners-kept x h c even;
     }
 
@@ -72,20 +72,20 @@ nobody_follows : (x : Setting) → following_nodes x [] ≡ []
 nobody_follows x = none_pass (λ (node : NodeSpec). follows x [] node.id) (correct_nodes x) (λ node there. none_by x node.id (x.join node.id))
 
 -- what a stage becomes as an even cycle begins, by its parts
-abbrev nodes_then : Files → ℕ → List NodeView → List NodeView → List NodeView
-nodes_then f double followers nodes = put_all (λ n. n.id) (map joined (filter (joins_now f double) followers)) nodes
+abbrev nodes_then : RunInputs → ℕ → List NodeView → List NodeView → List NodeView
+nodes_then f double followers nodes = put_all (λ n. n.id) (map as_joined (filter (joins_now f double) followers)) nodes
 
-abbrev followers_then : Files → ℕ → List NodeView → List ListenerView → List NodeView
+abbrev followers_then : RunInputs → ℕ → List NodeView → List ListenerView → List NodeView
 followers_then f cycle followers listeners = put_all (λ n. n.id) (filter_map (first_now f cycle) listeners) (filter (goes_now f (cycle / 2)) followers)
 
-nodes_as : (f : Files) (h : Cycles) → IsSane f.params → IsLawful (setting_in f) h → is_odd (length h) ≡ false
-    → nodes_then f (length h / 2) (followers_kept (setting_in f) h) (nodes_kept (setting_in f) h) ≡ nodes_behind (setting_in f) h
+nodes_as : (f : RunInputs) (h : Cycles) → IsSane f.params → IsLawful (setting_in f) h → is_odd (length h) ≡ false
+    → nodes_then f (length h / 2) (followers_kept (setting_in f) h) (nodes_kept (setting_in f) h) ≡ nodes_of_next (setting_in f) h
 nodes_as f [] sane lawful even = refl
 nodes_as f (c ∷ h) sane lawful even = nodes_succeed (setting_in f) h c sane lawful even
 
-followers_as : (f : Files) (h : Cycles) → IsSane f.params → IsLawful (setting_in f) h → is_odd (length h) ≡ false
-    → followers_then f (length h) (followers_kept (setting_in f) h) (listeners_kept (setting_in f) h) ≡ followers_behind (setting_in f) h
-followers_as f [] sane lawful even = sym (ap (map (λ (node : NodeSpec). node_behind (setting_in f) [] true node.id)) (nobody_follows (setting_in f)))
+followers_as : (f : RunInputs) (h : Cycles) → IsSane f.params → IsLawful (setting_in f) h → is_odd (length h) ≡ false
+    → followers_then f (length h) (followers_kept (setting_in f) h) (listeners_kept (setting_in f) h) ≡ followers_of_next (setting_in f) h
+followers_as f [] sane lawful even = sym (ap (map (λ (node : NodeSpec). node_of_next (setting_in f) [] true node.id)) (nobody_follows (setting_in f)))
 followers_as f (c ∷ []) sane lawful even = absurd (cc)
 followers_as f (odd ∷ early ∷ h) sane lawful even =
     let x : Setting = setting_in f in
@@ -94,7 +94,7 @@ followers_as f (odd ∷ early ∷ h) sane lawful even =
     ap (followers_then f (suc (suc (length h))) (followers_kept x (odd ∷ early ∷ h))) kept
     ∙ followers_succeed_in x h early odd sane lawful twice
 
-change : (f : Files) (h : Cycles) (stage : StageView) → IsSane f.params → IsLawful (setting_in f) h → is_odd (length h) ≡ false → Keeps (setting_in f) h stage
+change : (f : RunInputs) (h : Cycles) (stage : StageView) → IsSane f.params → IsLawful (setting_in f) h → is_odd (length h) ≡ false → Keeps (setting_in f) h stage
     → Succeeds (setting_in f) h (succeeded f (length h) stage)
 change f h stage sane lawful even keeps =
     let x : Setting = setting_in f in
@@ -110,7 +110,7 @@ change f h stage sane lawful even keeps =
       listeners = listeners_come x h even;
     })
 
-by_length : (f : Files) (h : Cycles) (stage : StageView) (b : Bool) → is_odd (length h) ≡ b → IsSane f.params → IsLawful (setting_in f) h → Keeps (setting_in f) h stage
+by_length : (f : RunInputs) (h : Cycles) (stage : StageView) (b : Bool) → is_odd (length h) ≡ b → IsSane f.params → IsLawful (setting_in f) h → Keeps (setting_in f) h stage
     → Succeeds (setting_in f) h (succeeded f (length h) stage)
 by_length f h stage false is sane lawful keeps = change f h stage sane lawful is keeps
 by_length f h stage true is sane lawful keeps =
@@ -118,7 +118,7 @@ by_length f h stage true is sane lawful keeps =
     let now : succeeded f (length h) stage ≡ stage = rw is refl in
     subst P (sym now) (stay (setting_in f) h stage lawful is keeps)
 
-pub stage-succeeds : (f : Files) (cycle : ℕ) (stage after : StageView) → IsSane f.params → IsLawful (setting_in f) (cycles_of (setting_in f) cycle)
+pub stage-succeeds : (f : RunInputs) (cycle : ℕ) (stage after : StageView) → IsSane f.params → IsLawful (setting_in f) (cycles_of (setting_in f) cycle)
     → Keeps (setting_in f) (cycles_of (setting_in f) cycle) stage → after ≡ succeeded f cycle stage → Succeeds (setting_in f) (cycles_of (setting_in f) cycle) after
 stage-succeeds f cycle stage after sane lawful keeps now =
     let x : Setting = setting_in f in

@@ -4,36 +4,34 @@ use Rattle.std.specs.Prelude.{Contains, is_some, option_and_then}
 use Rattle.std.specs.List.{cons_option, filter_map}
 use Rattle.std.specs.Option.{option_map}
 use Rattle.fr_base.specs.declared.node_row.NodeRow.{NodeRow}
-use Rattle.fr_base.specs.declared.state.Outcome.{Outcome}
-use Rattle.fr_base.specs.declared.state.Outcome.TheVariants.{Exceeded, Missing, Within}
 use Rattle.fr_cluster.specs.Questions.{own_key}
 use Rattle.fr_cluster.specs.Sane.{IsSane}
 use Rattle.fr_cluster.specs.Setting.{Setting, correct_nodes}
 use Rattle.fr_cluster.specs.declared.join.Join.{Join}
 use Rattle.fr_cluster.specs.declared.nodes.NodeSpec.{NodeSpec}
-use Rattle.fr_round.proofs.Lists.{Contains-here, Contains-there, filtered}
+use Rattle.fr_precision.proofs.Lists.{Contains-here, Contains-there, filtered}
 use Rattle.fr_time.specs.Cycles.{is_odd}
-use Rattle.fr_node.specs.Cycle as node_cycle
-use Rattle.fr_node.specs.Cycle.{joined}
+use Rattle.fr_node.specs.Cycle.{as_joined}
 use Rattle.fr_node.specs.Listening.{ListenerView, first_of, follower_by, listening}
 use Rattle.fr_node.specs.View.{NodeView}
 use Rattle.fr_reception.specs.Listening.{Caught}
 use Rattle.fr_history.specs.History.{row_of}
 use Rattle.fr_history.proofs.Lists.{map-map}
-use Rattle.fr_joined.specs.Catching.{begins_with, caught_by_slot}
-use Rattle.fr_joined.specs.Cycles.{Cycle, Cycles}
-use Rattle.fr_joined.specs.Lawful.{IsLawful}
-use Rattle.fr_joined.specs.Standing.{followed_well, following_nodes, follows, has_row, is_within, row_nodes}
-use Rattle.fr_joined.proofs.Standing.{followers_have_no_row}
-use Rattle.fr_standing.specs.Listening.{Catches, catches_behind, catches_of, listening_nodes, listens_in, no_catches}
-use Rattle.fr_standing.specs.Nodes.{are_within, outcomes_behind}
-use Rattle.fr_standing.specs.Placing.{put, put_all}
-use Rattle.fr_standing.specs.Succeeding.{beginning_nodes, begins_by, joining_nodes, joins_by, staying_nodes, stays_by}
-use Rattle.fr_standing.specs.Views.{followers_behind, listener_behind, listener_with, listeners_behind, node_behind, nodes_behind, reference_slot}
-use Rattle.fr_standing.proofs.Nodes.{followers_are_steady, is_none}
-use Rattle.fr_standing.proofs.Placing.{filter_same}
-use Rattle.fr_standing.proofs.Succeeding.{followers_succeed, not_so, rows_succeed, told_follows, told_has}
-use Rattle.fr_standing.proofs.Views.{followers_begin, joining_nodes_are_joined, listeners_come_first}
+use Rattle.fr_history.specs.Catching.{begins_with, caught_by_slot}
+use Rattle.fr_history.specs.Cycles.{Cycle, Cycles}
+use Rattle.fr_history.specs.Lawful.{IsLawful}
+use Rattle.fr_history.specs.Standing.{followed_well, following_nodes, follows, has_row, row_nodes}
+use Rattle.fr_correct.specs.Terms.{are_uncut}
+use Rattle.fr_history.proofs.Standing.{followers_have_no_row}
+use Rattle.fr_air.specs.Listeners.{Caughts, catches_after, catches_of, listening_nodes, listens_in, no_catches}
+use Rattle.fr_air.specs.Nodes.{outcomes_after}
+use Rattle.fr_air.specs.Placing.{put, put_all}
+use Rattle.fr_air.specs.NextStanding.{beginning_nodes, begins_next, joining_nodes, joins_next, staying_nodes, stays_next}
+use Rattle.fr_air.specs.Views.{followers_of_next, listener_of_next, listener_with, listeners_of_next, node_of_next, nodes_of_next, reference_slot}
+use Rattle.fr_air.proofs.Nodes.{followers_are_steady, is_none}
+use Rattle.fr_air.proofs.Placing.{filter_same}
+use Rattle.fr_air.proofs.NextStanding.{followers_succeed, not_so, rows_succeed, told_follows, told_has}
+use Rattle.fr_air.proofs.Views.{followers_begin, joining_nodes_are_joined, listeners_come_first}
 use Rattle.fr_world.specs.Standing.{followers_kept, listener_kept, nodes_kept}
 use Rattle.fr_world.specs.Succeeding.{goes_in, joins_in, listener_by}
 
@@ -141,18 +139,9 @@ second n d even = same_test (n / 2 == d + 2) (n == 2 * d + 4) (λ e. grind arith
 
 -- ---- whoever joins, and whoever goes on
 
-within_same : (o : Outcome) → is_within o ≡ node_cycle.is_within o
-within_same Within = refl
-within_same Missing = refl
-within_same Exceeded = refl
-
-both_within : (o : Option (Outcome × Outcome)) → are_within o ≡ node_cycle.are_within o
-both_within None = refl
-both_within (Some pair) = ap₂ (λ a b. a && b) (within_same pair.0) (within_same pair.1)
-
 -- a follower of an odd cycle followed well where its outcomes tell it
 well_told : (x : Setting) (h : Cycles) (c : Cycle) (node : NodeSpec) → IsLawful x (c ∷ h) → is_odd (length h) ≡ true → Contains (correct_nodes x) node → follows x h node.id ≡ true
-    → followed_well x.params c h (row_of c.followers node.id) ≡ node_cycle.are_within (outcomes_behind x (c ∷ h) node.id)
+    → followed_well x.params c h (row_of c.followers node.id) ≡ are_uncut (outcomes_after x (c ∷ h) node.id)
 well_told x h c node lawful odd there does = by (row_of c.followers node.id) refl
   where
     untold : row_of c.told.rows node.id ≡ None
@@ -160,11 +149,11 @@ well_told x h c node lawful odd there does = by (row_of c.followers node.id) ref
         is_none (row_of c.told.rows node.id)
         (told_has x h c node lawful.0 there ∙ not_so (has_row x h node.id) (λ has. followers_have_no_row x h node.id lawful.1 has does))
 
-    by : (o : Option NodeRow) → row_of c.followers node.id ≡ o → followed_well x.params c h (row_of c.followers node.id) ≡ node_cycle.are_within (outcomes_behind x (c ∷ h) node.id)
+    by : (o : Option NodeRow) → row_of c.followers node.id ≡ o → followed_well x.params c h (row_of c.followers node.id) ≡ are_uncut (outcomes_after x (c ∷ h) node.id)
     by None none =
         let e : false ≡ true = sym (ap (λ (p : Option NodeRow). is_some p) none) ∙ told_follows x h c node lawful.0 there ∙ does in
         absurd (cc)
-    by (Some row) some = followers_are_steady x h c node.id row odd untold some ∙ both_within (outcomes_behind x (c ∷ h) node.id)
+    by (Some row) some = followers_are_steady x h c node.id row odd untold some
 
 not_well : (x : Setting) (h : Cycles) (c : Cycle) (node : NodeSpec) → IsLawful x (c ∷ h) → Contains (correct_nodes x) node → follows x h node.id ≡ false
     → followed_well x.params c h (row_of c.followers node.id) ≡ false
@@ -176,7 +165,7 @@ not_well x h c node lawful there does = by (row_of c.followers node.id) (told_fo
 
 -- a node that joins does so by its outcomes as a follower
 joins_told : (x : Setting) (h : Cycles) (c : Cycle) (node : NodeSpec) → IsLawful x (c ∷ h) → is_odd (suc (length h)) ≡ false → Contains (correct_nodes x) node
-    → (follows x h node.id && joins_in (suc (length h) / 2) (node_behind x (c ∷ h) true node.id) (x.join node.id)) ≡ joins_by x (c ∷ h) node.id (x.join node.id)
+    → (follows x h node.id && joins_in (suc (length h) / 2) (node_of_next x (c ∷ h) true node.id) (x.join node.id)) ≡ joins_next x (c ∷ h) node.id (x.join node.id)
 joins_told x h c node lawful even there = by (follows x h node.id) refl (x.join node.id)
   where
     and_false : (b : Bool) → false ≡ (b && false)
@@ -184,7 +173,7 @@ joins_told x h c node lawful even there = by (follows x h node.id) refl (x.join 
     and_false false = refl
 
     by : (b : Bool) → follows x h node.id ≡ b → (join : Option Join)
-        → (b && joins_in (suc (length h) / 2) (node_behind x (c ∷ h) true node.id) join) ≡ joins_by x (c ∷ h) node.id join
+        → (b && joins_in (suc (length h) / 2) (node_of_next x (c ∷ h) true node.id) join) ≡ joins_next x (c ∷ h) node.id join
     by true does None = refl
     by false does None = refl
     by true does (Some join) =
@@ -195,10 +184,10 @@ joins_told x h c node lawful even there = by (follows x h node.id) refl (x.join 
 
 -- a follower goes on by its outcomes
 goes_told : (x : Setting) (h : Cycles) (c : Cycle) (node : NodeSpec) → IsLawful x (c ∷ h) → is_odd (suc (length h)) ≡ false → Contains (following_nodes x h) node
-    → goes_in (suc (length h) / 2) (node_behind x (c ∷ h) true node.id) (x.join node.id) ≡ stays_by x (c ∷ h) node.id (x.join node.id)
+    → goes_in (suc (length h) / 2) (node_of_next x (c ∷ h) true node.id) (x.join node.id) ≡ stays_next x (c ∷ h) node.id (x.join node.id)
 goes_told x h c node lawful even among = by (x.join node.id)
   where
-    by : (join : Option Join) → goes_in (suc (length h) / 2) (node_behind x (c ∷ h) true node.id) join ≡ stays_by x (c ∷ h) node.id join
+    by : (join : Option Join) → goes_in (suc (length h) / 2) (node_of_next x (c ∷ h) true node.id) join ≡ stays_next x (c ∷ h) node.id join
     by None = refl
     by (Some join) =
         let own = filtered (λ (n : NodeSpec). follows x h n.id) (correct_nodes x) node among in
@@ -212,11 +201,11 @@ goes_told x h c node lawful even among = by (x.join node.id)
 began : (x : Setting) (h : Cycles) (even odd : Cycle) (node : NodeSpec) (join : Join) (slot : ℕ) → IsLawful x (odd ∷ even ∷ h) → Contains (correct_nodes x) node → x.join node.id ≡ Some join
     → length h ≡ 2 * join.double → own_key x.params join.reference ≡ Some slot
     → first_of x.params (listener_with node.id slot (catches_of x h even odd node.id slot)) (suc (suc (length h))) (x.microtick node.id (length h)) (x.microtick node.id (suc (length h)))
-    ≡ (if is_some (begins_with x (odd ∷ even ∷ h) node.id join) then Some (node_behind x (odd ∷ even ∷ h) true node.id) else None)
+    ≡ (if is_some (begins_with x (odd ∷ even ∷ h) node.id join) then Some (node_of_next x (odd ∷ even ∷ h) true node.id) else None)
 began x h even odd node join slot lawful there at twice key = listeners_come_first x h even odd node.id join slot twice key ∙ by (begins_with x (odd ∷ even ∷ h) node.id join) refl
   where
     by : (o : Option Caught) → begins_with x (odd ∷ even ∷ h) node.id join ≡ o
-        → option_map (follower_by x.params node.id (suc (suc (length h)))) o ≡ (if is_some o then Some (node_behind x (odd ∷ even ∷ h) true node.id) else None)
+        → option_map (follower_by x.params node.id (suc (suc (length h)))) o ≡ (if is_some o then Some (node_of_next x (odd ∷ even ∷ h) true node.id) else None)
     by None is = refl
     by (Some c) is = ap (λ (n : NodeView). let o : Option NodeView = Some n in o) (sym (followers_begin x h even odd node join c lawful there at is))
 
@@ -258,11 +247,11 @@ double_other n d is = grind arith
 
 begins_told : (x : Setting) (h : Cycles) (even odd : Cycle) (node : NodeSpec) → IsLawful x (odd ∷ even ∷ h) → is_odd (length h) ≡ false → Contains (correct_nodes x) node
     → (if listens_in (length h / 2) (x.join node.id) then option_and_then (first_in x (suc (suc (length h)))) (listener_kept x h even odd node) else None)
-    ≡ (if begins_by x (odd ∷ even ∷ h) node.id (x.join node.id) then Some (node_behind x (odd ∷ even ∷ h) true node.id) else None)
+    ≡ (if begins_next x (odd ∷ even ∷ h) node.id (x.join node.id) then Some (node_of_next x (odd ∷ even ∷ h) true node.id) else None)
 begins_told x h even odd node lawful twice there = by (x.join node.id) refl
   where
     follower : NodeView
-    follower = node_behind x (odd ∷ even ∷ h) true node.id
+    follower = node_of_next x (odd ∷ even ∷ h) true node.id
 
     first : ListenerView → Option NodeView
     first l = first_in x (suc (suc (length h))) l
@@ -285,7 +274,7 @@ begins_told x h even odd node lawful twice there = by (x.join node.id) refl
 
     by : (join : Option Join) → x.join node.id ≡ join
         → (if listens_in (length h / 2) join then option_and_then first (with_slot (reference_slot x join)) else None)
-        ≡ (if begins_by x (odd ∷ even ∷ h) node.id join then Some follower else None)
+        ≡ (if begins_next x (odd ∷ even ∷ h) node.id join then Some follower else None)
     by None at = refl
     by (Some join) at = by_double join at (join.double == length h / 2) refl
 
@@ -299,52 +288,52 @@ goes_in_run x double node = goes_in double node (x.join node.id)
 
 -- the followers that join
 joiners : (x : Setting) (h : Cycles) (c : Cycle) → IsLawful x (c ∷ h) → is_odd (suc (length h)) ≡ false
-    → map joined (filter (joins_in_run x (suc (length h) / 2)) (followers_kept x (c ∷ h))) ≡ map (λ (node : NodeSpec). node_behind x (c ∷ h) false node.id) (joining_nodes x (c ∷ h))
+    → map as_joined (filter (joins_in_run x (suc (length h) / 2)) (followers_kept x (c ∷ h))) ≡ map (λ (node : NodeSpec). node_of_next x (c ∷ h) false node.id) (joining_nodes x (c ∷ h))
 joiners x h c lawful even =
     let all : Cycles = c ∷ h in
-    let follower : NodeSpec → NodeView = λ node. node_behind x all true node.id in
+    let follower : NodeSpec → NodeView = λ node. node_of_next x all true node.id in
     let test : NodeView → Bool = joins_in_run x (suc (length h) / 2) in
     let joins : NodeSpec → Bool = λ node. test (follower node) in
     let followed : NodeSpec → Bool = λ node. follows x h node.id in
-    let by_run : NodeSpec → Bool = λ node. joins_by x all node.id (x.join node.id) in
+    let by_run : NodeSpec → Bool = λ node. joins_next x all node.id (x.join node.id) in
     let who : filter joins (following_nodes x h) ≡ joining_nodes x all =
     filter-twice joins followed (correct_nodes x)
     ∙ filter_same (λ node. followed node && joins node) by_run (correct_nodes x) (λ node there. joins_told x h c node lawful even there) in
-    ap (map joined) (filter-map test follower (following_nodes x h) ∙ ap (map follower) who)
-    ∙ map-map joined follower (joining_nodes x all)
-    ∙ map_same_in (λ node. joined (follower node)) (λ (node : NodeSpec). node_behind x all false node.id) (joining_nodes x all)
+    ap (map as_joined) (filter-map test follower (following_nodes x h) ∙ ap (map follower) who)
+    ∙ map-map as_joined follower (joining_nodes x all)
+    ∙ map_same_in (λ node. as_joined (follower node)) (λ (node : NodeSpec). node_of_next x all false node.id) (joining_nodes x all)
     (λ node there. sym (joining_nodes_are_joined x all node lawful there))
 
 pub nodes_succeed : (x : Setting) (h : Cycles) (c : Cycle) → IsSane x.params → IsLawful x (c ∷ h) → is_odd (suc (length h)) ≡ false
-    → put_all (λ n. n.id) (map joined (filter (joins_in_run x (suc (length h) / 2)) (followers_kept x (c ∷ h)))) (nodes_kept x (c ∷ h)) ≡ nodes_behind x (c ∷ h)
+    → put_all (λ n. n.id) (map as_joined (filter (joins_in_run x (suc (length h) / 2)) (followers_kept x (c ∷ h)))) (nodes_kept x (c ∷ h)) ≡ nodes_of_next x (c ∷ h)
 nodes_succeed x h c sane lawful even =
-    let node_at : NodeSpec → NodeView = λ node. node_behind x (c ∷ h) false node.id in
+    let node_at : NodeSpec → NodeView = λ node. node_of_next x (c ∷ h) false node.id in
     ap (λ (joiners : List NodeView). put_all (λ n. n.id) joiners (nodes_kept x (c ∷ h))) (joiners x h c lawful even)
     ∙ put_all-map (λ (n : NodeView). n.id) node_at (joining_nodes x (c ∷ h)) (row_nodes x h)
     ∙ sym (ap (map node_at) (rows_succeed x h c sane lawful))
 
 -- the followers that go on
 goers : (x : Setting) (h : Cycles) (c : Cycle) → IsLawful x (c ∷ h) → is_odd (suc (length h)) ≡ false
-    → filter (goes_in_run x (suc (length h) / 2)) (followers_kept x (c ∷ h)) ≡ map (λ (node : NodeSpec). node_behind x (c ∷ h) true node.id) (staying_nodes x (c ∷ h) (following_nodes x h))
+    → filter (goes_in_run x (suc (length h) / 2)) (followers_kept x (c ∷ h)) ≡ map (λ (node : NodeSpec). node_of_next x (c ∷ h) true node.id) (staying_nodes x (c ∷ h) (following_nodes x h))
 goers x h c lawful even =
     let all : Cycles = c ∷ h in
-    let follower : NodeSpec → NodeView = λ node. node_behind x all true node.id in
+    let follower : NodeSpec → NodeView = λ node. node_of_next x all true node.id in
     let test : NodeView → Bool = goes_in_run x (suc (length h) / 2) in
     filter-map test follower (following_nodes x h)
     ∙ ap (map follower)
-    (filter_same (λ (node : NodeSpec). test (follower node)) (λ (node : NodeSpec). stays_by x all node.id (x.join node.id)) (following_nodes x h)
+    (filter_same (λ (node : NodeSpec). test (follower node)) (λ (node : NodeSpec). stays_next x all node.id (x.join node.id)) (following_nodes x h)
     (λ node there. goes_told x h c node lawful even there))
 
 -- the listeners that begin
 beginners : (x : Setting) (h : Cycles) (even odd : Cycle) → IsLawful x (odd ∷ even ∷ h) → is_odd (length h) ≡ false
     → filter_map (first_in x (suc (suc (length h)))) (filter_map (listener_kept x h even odd) (listening_nodes x h))
-    ≡ map (λ (node : NodeSpec). node_behind x (odd ∷ even ∷ h) true node.id) (beginning_nodes x (odd ∷ even ∷ h))
+    ≡ map (λ (node : NodeSpec). node_of_next x (odd ∷ even ∷ h) true node.id) (beginning_nodes x (odd ∷ even ∷ h))
 beginners x h even odd lawful twice =
     let all : Cycles = odd ∷ even ∷ h in
-    let follower : NodeSpec → NodeView = λ node. node_behind x all true node.id in
+    let follower : NodeSpec → NodeView = λ node. node_of_next x all true node.id in
     let first : ListenerView → Option NodeView = first_in x (suc (suc (length h))) in
     let listens : NodeSpec → Bool = λ node. listens_in (length h / 2) (x.join node.id) in
-    let begins : NodeSpec → Bool = λ node. begins_by x all node.id (x.join node.id) in
+    let begins : NodeSpec → Bool = λ node. begins_next x all node.id (x.join node.id) in
     let once : NodeSpec → Option NodeView = λ node. option_and_then first (listener_kept x h even odd node) in
     filter_map-twice first (listener_kept x h even odd) (listening_nodes x h)
     ∙ filter_map-filter once listens (correct_nodes x)
@@ -354,10 +343,10 @@ beginners x h even odd lawful twice =
 
 pub followers_succeed_in : (x : Setting) (h : Cycles) (even odd : Cycle) → IsSane x.params → IsLawful x (odd ∷ even ∷ h) → is_odd (length h) ≡ false
     → put_all (λ n. n.id) (filter_map (first_in x (suc (suc (length h)))) (filter_map (listener_kept x h even odd) (listening_nodes x h)))
-    (filter (goes_in_run x (suc (suc (length h)) / 2)) (followers_kept x (odd ∷ even ∷ h))) ≡ followers_behind x (odd ∷ even ∷ h)
+    (filter (goes_in_run x (suc (suc (length h)) / 2)) (followers_kept x (odd ∷ even ∷ h))) ≡ followers_of_next x (odd ∷ even ∷ h)
 followers_succeed_in x h even odd sane lawful twice =
     let all : Cycles = odd ∷ even ∷ h in
-    let follower : NodeSpec → NodeView = λ node. node_behind x all true node.id in
+    let follower : NodeSpec → NodeView = λ node. node_of_next x all true node.id in
     let again : is_odd (suc (suc (length h))) ≡ false = even_more (length h) twice in
     let gone : List NodeView = filter (goes_in_run x (suc (suc (length h)) / 2)) (followers_kept x all) in
     ap (λ (first : List NodeView). put_all (λ n. n.id) first gone) (beginners x h even odd lawful twice)
@@ -372,22 +361,22 @@ followers_succeed_in x h even odd sane lawful twice =
 abbrev pub listener_in : Setting → ℕ → NodeSpec → Option ListenerView
 listener_in x double node = listener_by x.params double node.id (x.join node.id)
 
-no_catches_yet : (x : Setting) (h : Cycles) (node slot : ℕ) → is_odd (length h) ≡ false → catches_behind x h node slot ≡ no_catches
+no_catches_yet : (x : Setting) (h : Cycles) (node slot : ℕ) → is_odd (length h) ≡ false → catches_after x h node slot ≡ no_catches
 no_catches_yet x [] node slot even = refl
 no_catches_yet x (c ∷ h) node slot even = let odd : is_odd (length h) ≡ true = odd_less (length h) even in rw odd refl
 
-pub listeners_come : (x : Setting) (h : Cycles) → is_odd (length h) ≡ false → filter_map (listener_in x (length h / 2)) (correct_nodes x) ≡ listeners_behind x h
+pub listeners_come : (x : Setting) (h : Cycles) → is_odd (length h) ≡ false → filter_map (listener_in x (length h / 2)) (correct_nodes x) ≡ listeners_of_next x h
 listeners_come x h even =
-    filter_map_same (listener_in x (length h / 2)) (λ (node : NodeSpec). if listens_in (length h / 2) (x.join node.id) then listener_behind x h node else None) (correct_nodes x)
+    filter_map_same (listener_in x (length h / 2)) (λ (node : NodeSpec). if listens_in (length h / 2) (x.join node.id) then listener_of_next x h node else None) (correct_nodes x)
     (λ node there. by node (x.join node.id))
-    ∙ sym (filter_map-filter (listener_behind x h) (λ (node : NodeSpec). listens_in (length h / 2) (x.join node.id)) (correct_nodes x))
+    ∙ sym (filter_map-filter (listener_of_next x h) (λ (node : NodeSpec). listens_in (length h / 2) (x.join node.id)) (correct_nodes x))
   where
-    fresh : (node : NodeSpec) (o : Option ℕ) → option_map (listening node.id) o ≡ option_map (λ slot. listener_with node.id slot (catches_behind x h node.id slot)) o
+    fresh : (node : NodeSpec) (o : Option ℕ) → option_map (listening node.id) o ≡ option_map (λ slot. listener_with node.id slot (catches_after x h node.id slot)) o
     fresh node None = refl
-    fresh node (Some slot) = ap (λ (c : Catches). Some (listener_with node.id slot c)) (sym (no_catches_yet x h node.id slot even))
+    fresh node (Some slot) = ap (λ (c : Caughts). Some (listener_with node.id slot c)) (sym (no_catches_yet x h node.id slot even))
 
     by : (node : NodeSpec) (join : Option Join)
         → listener_by x.params (length h / 2) node.id join
-        ≡ (if listens_in (length h / 2) join then option_map (λ slot. listener_with node.id slot (catches_behind x h node.id slot)) (reference_slot x join) else None)
+        ≡ (if listens_in (length h / 2) join then option_map (λ slot. listener_with node.id slot (catches_after x h node.id slot)) (reference_slot x join) else None)
     by node None = refl
     by node (Some join) = ap (λ (o : Option ListenerView). if join.double == length h / 2 then o else None) (fresh node (own_key x.params join.reference))

@@ -16,9 +16,9 @@ use Rattle.fr_measure.specs.Readings.{reading}
 use Rattle.fr_node.specs.Cycle.{corrected_row, corrects, ended_row_of_node}
 use Rattle.fr_node.specs.View.{NodeView, node_row_of}
 use Rattle.fr_history.specs.Offers.{channels}
-use Rattle.fr_world.specs.Cycling.{NodesAscend}
+use Rattle.fr_air.specs.Cycling.{NodesAscend}
 use Rattle.fr_base.specs.Rows.{dev_with}
-use Rattle.fr_world.specs.Listing.{listed_among, listed_at, listed_of}
+use Rattle.fr_air.specs.Listing.{listed_among, listed_at, listed_of}
 
 -- a fact of the elements so far, and of one more
 pub all-more : {X : Type 0} (P : X → Type 0) (xs : List X) (i : ℕ) (new : X) → i < length xs → P new → All P (take i xs) → All P (take (i + 1) (set xs i new))

@@ -12,5 +12,5 @@ abbrev pub IsCycled : WorldView → Option (Bor CycleRow) → WorldView → Type
 IsCycled old None new = new ≡ old
 IsCycled old (Some row) new = new ≡ record old { cycles = old.cycles + 1 }
 
-abbrev pub Cycles : MutBor WorldView → Option (Bor CycleRow) → Fml
-Cycles w result = follows_so the_row the_row w.ghost_name none (λ _ _. ⊤) (λ v. IsCycled w.now result v)
+abbrev pub LendsItsRow : MutBor WorldView → Option (Bor CycleRow) → Fml
+LendsItsRow w result = follows_so the_row the_row w.ghost_name none (λ _ _. ⊤) (λ v. IsCycled w.now result v)

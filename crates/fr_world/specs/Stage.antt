@@ -14,16 +14,16 @@ use Rattle.fr_node.specs.Cycle.{ended}
 use Rattle.fr_node.specs.Listening.{ListenerView}
 use Rattle.fr_node.specs.View.{NodeView, node_row_of}
 use Rattle.fr_history.specs.Offers.{frame_in, offer_in}
-use Rattle.fr_world.specs.Counting.{counted_frame, counted_offers}
-use Rattle.fr_world.specs.Cycling.{begun_in, IsReady}
-use Rattle.fr_world.specs.Files.{setting_in}
-use Rattle.fr_world.specs.Hearing.{after_offer}
-use Rattle.fr_world.specs.Memory.{MemoryView, memory_with, place_of_slot, with_sent}
-use Rattle.fr_world.specs.Sending.{IsEarlyRow}
-use Rattle.fr_world.specs.Turns.{AreReady}
-use Rattle.fr_world.specs.Walk.{walked}
-use Rattle.fr_world.specs.declared.files.Files.{Files}
-use Rattle.fr_world.specs.declared.turn.Turn.{Turn}
+use Rattle.fr_air.specs.Counting.{counted_frame, counted_offers}
+use Rattle.fr_air.specs.Cycling.{begun_in, IsReady}
+use Rattle.fr_air.specs.Files.{setting_in}
+use Rattle.fr_air.specs.Hearing.{after_offer}
+use Rattle.fr_air.specs.Memory.{MemoryView, memory_with, place_of_slot, with_sent}
+use Rattle.fr_air.specs.Sending.{IsEarlyRow}
+use Rattle.fr_air.specs.Turns.{AreReady}
+use Rattle.fr_air.specs.Walk.{over_slots}
+use Rattle.fr_air.specs.declared.files.RunInputs.{RunInputs}
+use Rattle.fr_air.specs.declared.turn.Turn.{Turn}
 
 -- The rows of the cycle before its corrections, the nodes that have one, those that follow and those that listen, the
 -- counts so far, and what was sent.
@@ -41,7 +41,7 @@ stage_before nodes memory =
     record { rows = []; nodes = nodes; followers = []; listeners = []; counts = no_counts; memory = memory }
 
 -- with the cycle of the nodes that have a row begun: each with its row, and nothing counted
-abbrev pub begun_nodes : Files → ℕ → StageView → StageView
+abbrev pub begun_nodes : RunInputs → ℕ → StageView → StageView
 begun_nodes f cycle stage = record stage {
   rows = map node_row_of (map (begun_in f cycle) stage.nodes);
   nodes = map (begun_in f cycle) stage.nodes;
@@ -49,7 +49,7 @@ begun_nodes f cycle stage = record stage {
 }
 
 -- with the cycle of the followers begun too
-abbrev pub begun_stage : Files → ℕ → StageView → StageView
+abbrev pub begun_stage : RunInputs → ℕ → StageView → StageView
 begun_stage f cycle stage = record stage {
   rows = map node_row_of (map (begun_in f cycle) stage.nodes);
   nodes = map (begun_in f cycle) stage.nodes;
@@ -84,16 +84,16 @@ answered x cycle offer stage = record stage {
 }
 
 -- after a slot on a channel
-abbrev pub heard_on : Setting → ℕ → ℕ → Channel → StageView → StageView
-heard_on x cycle slot channel stage =
+abbrev pub after_turn : Setting → ℕ → ℕ → Channel → StageView → StageView
+after_turn x cycle slot channel stage =
     answered x cycle (λ receiver. offer_in x cycle stage.rows receiver slot channel) (sent_on slot channel (frame_in x cycle stage.rows slot channel) stage)
 
 -- after so many slots of the cycle
 abbrev pub heard_after : Setting → ℕ → ℕ → StageView → StageView
-heard_after x cycle count stage = walked (heard_on x cycle) count stage
+heard_after x cycle count stage = over_slots (after_turn x cycle) count stage
 
 -- with its cycle ended
-abbrev pub ended_stage : Files → StageView → StageView
+abbrev pub ended_stage : RunInputs → StageView → StageView
 ended_stage f stage = record stage {
   nodes = map (ended f.params) stage.nodes;
   followers = map (ended f.params) stage.followers;
@@ -106,12 +106,12 @@ pub record HasSpace (nodes followers listeners : ℕ) : Type 0 where
   pub for_listeners : 64 ≤ listeners
 
 -- all nodes and all followers are ready
-pub record AllReady (f : Files) (cycle : ℕ) (stage : StageView) : Type 0 where
+pub record AllReady (f : RunInputs) (cycle : ℕ) (stage : StageView) : Type 0 where
   pub nodes : All (IsReady f cycle) stage.nodes
   pub followers : All (IsReady f cycle) stage.followers
 
 -- they are before a frame is offered to them, and their answers can be counted
-pub record CanAnswer (f : Files) (cycle : ℕ) (stage : StageView) : Type 0 where
+pub record CanAnswer (f : RunInputs) (cycle : ℕ) (stage : StageView) : Type 0 where
   pub rows_are : stage.rows ≡ map node_row_of stage.nodes
   pub ready : AreReady f cycle 1_000_000 stage.nodes stage.counts
   pub followers_ready : All (IsReady f cycle) stage.followers
@@ -119,7 +119,7 @@ pub record CanAnswer (f : Files) (cycle : ℕ) (stage : StageView) : Type 0 wher
 
 -- The cycle is under way: each node is ready and has its row, each follower is ready, no number that was counted so far
 -- is above this one, and nothing is being said.
-pub record IsStage (f : Files) (cycle most : ℕ) (stage : StageView) : Type 0 where
+pub record IsStage (f : RunInputs) (cycle most : ℕ) (stage : StageView) : Type 0 where
   pub rows_are : stage.rows ≡ map node_row_of stage.nodes
   pub ready : All (IsReady f cycle) stage.nodes
   pub early : All (IsEarlyRow f.params) stage.rows
@@ -134,10 +134,10 @@ abbrev pub most_before : Turn → ℕ
 most_before turn = 130 * (turn.slot - 1) + 65 * channel_rank turn.channel
 
 -- a stage before a turn of a static slot, and what it becomes by it
-pub record IsBefore (f : Files) (turn : Turn) (stage : StageView) : Type 0 where
+pub record IsBefore (f : RunInputs) (turn : Turn) (stage : StageView) : Type 0 where
   pub slot : turn.slot ≤ amount f.params name.gNumberOfStaticSlots
   pub is_stage : IsStage f turn.cycle (most_before turn) stage
 
-pub record Hears (f : Files) (turn : Turn) (before after : StageView) : Type 0 where
-  pub heard : after ≡ heard_on (setting_in f) turn.cycle turn.slot turn.channel before
+pub record HearsTurn (f : RunInputs) (turn : Turn) (before after : StageView) : Type 0 where
+  pub heard : after ≡ after_turn (setting_in f) turn.cycle turn.slot turn.channel before
   pub is_stage : IsStage f turn.cycle (most_before turn + 65) after

@@ -7,10 +7,10 @@ use Rattle.fr_cluster.specs.declared.nodes.NodeSpec.{NodeSpec}
 use Rattle.fr_time.specs.Cycles.{is_odd}
 use Rattle.fr_node.specs.Listening.{ListenerView}
 use Rattle.fr_node.specs.View.{NodeView}
-use Rattle.fr_joined.specs.Cycles.{Cycle, Cycles}
-use Rattle.fr_joined.specs.Standing.{following_nodes, row_nodes}
-use Rattle.fr_standing.specs.Listening.{catches_of, listening_nodes}
-use Rattle.fr_standing.specs.Views.{listener_with, listeners_behind, node_behind, reference_slot}
+use Rattle.fr_history.specs.Cycles.{Cycle, Cycles}
+use Rattle.fr_history.specs.Standing.{following_nodes, row_nodes}
+use Rattle.fr_air.specs.Listeners.{catches_of, listening_nodes}
+use Rattle.fr_air.specs.Views.{listener_with, listeners_of_next, node_of_next, reference_slot}
 
 -- the nodes that had a row in the last cycle, and those that followed in it; before cycle 0 the nodes that join nobody
 abbrev pub kept_row_nodes : Setting → Cycles → List NodeSpec
@@ -22,12 +22,12 @@ kept_following_nodes x [] = []
 kept_following_nodes x (c ∷ h) = following_nodes x h
 
 -- These nodes of the last cycle as they stand before the next one, in ascending order. Those of the next cycle are
--- `nodes_behind` of `fr_standing`.
+-- `nodes_of_next` of `fr_standing`.
 abbrev pub nodes_kept : Setting → Cycles → List NodeView
-nodes_kept x h = map (λ node. node_behind x h false node.id) (kept_row_nodes x h)
+nodes_kept x h = map (λ node. node_of_next x h false node.id) (kept_row_nodes x h)
 
 abbrev pub followers_kept : Setting → Cycles → List NodeView
-followers_kept x h = map (λ node. node_behind x h true node.id) (kept_following_nodes x h)
+followers_kept x h = map (λ node. node_of_next x h true node.id) (kept_following_nodes x h)
 
 -- a listener with what it has caught in both cycles of a double cycle
 abbrev pub listener_kept : Setting → Cycles → Cycle → Cycle → NodeSpec → Option ListenerView
@@ -37,7 +37,7 @@ listener_kept x h even odd node =
 -- the listeners of the double cycle of the last cycle, with what they have caught of it
 abbrev pub listeners_kept : Setting → Cycles → List ListenerView
 listeners_kept x [] = []
-listeners_kept x (c ∷ []) = listeners_behind x (c ∷ [])
+listeners_kept x (c ∷ []) = listeners_of_next x (c ∷ [])
 listeners_kept x (odd ∷ even ∷ h) =
-    if is_odd (length h) then listeners_behind x (odd ∷ even ∷ h)
+    if is_odd (length h) then listeners_of_next x (odd ∷ even ∷ h)
     else filter_map (listener_kept x h even odd) (listening_nodes x h)

@@ -3,20 +3,20 @@ ghost use Rattle.std.specs.Option.{option_to_list};
 ghost use Rattle.fr_cluster.specs.Questions.{own_key};
 ghost use Rattle.fr_node.specs.Fits.{NodeFits};
 ghost use Rattle.fr_script.specs.Promises.{NodesJoinProperly};
-ghost use Rattle.fr_standing.specs.Placing.{put_all};
+ghost use Rattle.fr_air.specs.Placing.{put_all};
 ghost use Rattle.fr_time.specs.Cycles.{is_odd};
-ghost use Rattle.fr_world.specs.Listening.{IsListener};
+ghost use Rattle.fr_air.specs.Listening.{IsListener};
 ghost use Rattle.fr_world.specs.Succeeding.{first_now, listener_by, listener_now, listeners_now, put_some, HasHeardBoth};
 
-use crate::building::{node_count, spec_at};
-use crate::files::{Files, sane};
 use crate::joining::put;
+use fr_air::files::{RunInputs, sane};
+use fr_air::places::{node_count, spec_at};
 use fr_base::{NodeId, Slot};
 use fr_cluster::{Join, NodeSpec, Params};
 use fr_node::{Listener, Node};
 
 // The follower that a listener begins as behind its double cycle, if what it has caught suffices.
-fn first(files: &Files, cycle: u32, listener: &Listener) -> Option<Node>
+fn first(files: &RunInputs, cycle: u32, listener: &Listener) -> Option<Node>
     requires even { is_odd cycle ≡ false }
     requires in_run { cycle < 200_000 }
     requires heard { HasHeardBoth files.now cycle listener.now }
@@ -30,7 +30,7 @@ fn first(files: &Files, cycle: u32, listener: &Listener) -> Option<Node>
 }
 
 // It is put among the followers.
-fn begin_one(files: &Files, cycle: u32, listener: &Listener, followers: &mut Vec<Node>)
+fn begin_one(files: &RunInputs, cycle: u32, listener: &Listener, followers: &mut Vec<Node>)
     requires even { is_odd cycle ≡ false }
     requires in_run { cycle < 200_000 }
     requires heard { HasHeardBoth files.now cycle listener.now }
@@ -48,7 +48,7 @@ fn begin_one(files: &Files, cycle: u32, listener: &Listener, followers: &mut Vec
 
 // All listeners begin to follow for whom what they have caught suffices.
 pub(crate) fn begin_following(
-    files: &Files,
+    files: &RunInputs,
     cycle: u32,
     listeners: &[Listener],
     followers: &mut Vec<Node>,
@@ -81,7 +81,7 @@ fn key_of(params: &Params, id: NodeId) -> Option<Slot>
 }
 
 // A node that joins so, as a listener, if it listens in a double cycle.
-fn listener_by(files: &Files, double: u32, id: NodeId, join: Join) -> Option<Listener>
+fn listener_by(files: &RunInputs, double: u32, id: NodeId, join: Join) -> Option<Listener>
     ensures { result ≡ listener_by files.now.params double id (Some join) }
 {
     if join.double != double {
@@ -94,7 +94,7 @@ fn listener_by(files: &Files, double: u32, id: NodeId, join: Join) -> Option<Lis
 }
 
 // A node as a listener, if it joins and listens in a double cycle.
-fn listener_of(files: &Files, double: u32, spec: &NodeSpec) -> Option<Listener>
+fn listener_of(files: &RunInputs, double: u32, spec: &NodeSpec) -> Option<Listener>
     ensures { result ≡ listener_now files.now double spec.now }
 {
     match files.script.join(spec.id) {
@@ -104,7 +104,7 @@ fn listener_of(files: &Files, double: u32, spec: &NodeSpec) -> Option<Listener>
 }
 
 // It is put behind others.
-fn push_listener(files: &Files, double: u32, spec: &NodeSpec, listeners: &mut Vec<Listener>)
+fn push_listener(files: &RunInputs, double: u32, spec: &NodeSpec, listeners: &mut Vec<Listener>)
     requires room { length listeners.old.items < vec_capacity listeners.old }
     ensures pushed { listeners.new.items
         ≡ listeners.old.items ++ option_to_list (listener_now files.now double spec.now) }
@@ -116,7 +116,7 @@ fn push_listener(files: &Files, double: u32, spec: &NodeSpec, listeners: &mut Ve
 }
 
 // Those begin to listen that do in a double cycle; who listened before is let go.
-pub(crate) fn begin_listening(files: &Files, double: u32, listeners: &mut Vec<Listener>)
+pub(crate) fn begin_listening(files: &RunInputs, double: u32, listeners: &mut Vec<Listener>)
     requires proper { NodesJoinProperly files.now.params files.now.script }
     requires room { 64 ≤ vec_capacity listeners.old }
     ensures begun { listeners.new.items ≡ listeners_now files.now double }

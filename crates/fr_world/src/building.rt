@@ -1,15 +1,16 @@
-ghost use Rattle.std.specs.Prelude.{◌≡◌, ◌<◌, ◌≤◌, false, [], ◌++◌, length, slice_get, vec_capacity, IfOk, OnOk, Some};
+ghost use Rattle.std.specs.Prelude.{◌≡◌, ◌≤◌, false, [], ◌++◌, length, vec_capacity, IfOk, OnOk, Some};
 ghost use Rattle.fr_drift.specs.Files.{DriftFits};
 ghost use Rattle.fr_node.specs.Fits.{NodeFits};
 ghost use Rattle.fr_node.specs.View.{node_row_of};
-ghost use Rattle.fr_standing.specs.Views.{node_behind};
-ghost use Rattle.fr_world.specs.Files.{setting_in};
-ghost use Rattle.fr_world.specs.Listening.{StartsEarly};
-ghost use Rattle.fr_world.specs.Listing.{ordered_keys};
+ghost use Rattle.fr_air.specs.Views.{node_of_next};
+ghost use Rattle.fr_air.specs.Files.{setting_in};
+ghost use Rattle.fr_air.specs.Listening.{StartsEarly};
+ghost use Rattle.fr_air.specs.Listing.{ordered_keys};
 ghost use Rattle.fr_world.specs.World.{fresh_of, is_fresh, AreFresh, CanStart};
 ghost use Rattle.fr_world.specs.Standing.{nodes_kept};
 
-use crate::files::{Files, sane};
+use fr_air::files::{RunInputs, sane};
+use fr_air::places::{node_count, spec_at};
 use fr_base::Slot;
 use fr_cluster::{NodeSpec, ParamName, Params};
 use fr_node::Node;
@@ -32,9 +33,9 @@ pub(crate) fn key_slots_of(alloc: Global, params: &Params) -> Result<Vec<Slot>, 
 }
 
 // A correct node before the run.
-fn fresh_node(files: &Files, spec: &NodeSpec) -> Node
+fn fresh_node(files: &RunInputs, spec: &NodeSpec) -> Node
     requires { CanStart files.now spec.now }
-    ensures node { result ≡ node_behind (setting_in files.now) [] false spec.now.id }
+    ensures node { result ≡ node_of_next (setting_in files.now) [] false spec.now.id }
     ensures fits { NodeFits files.now.params result }
     ensures early { StartsEarly files.now 0 (node_row_of result) }
 {
@@ -44,33 +45,15 @@ fn fresh_node(files: &Files, spec: &NodeSpec) -> Node
     Node::new(&files.params, spec.id, start, rate)
 }
 
-// How many nodes there are.
-pub(crate) fn node_count(params: &Params) -> usize
-    ensures { result ≡ length params.now.nodes }
-{
-    params.nodes.len()
-}
-
-// The node at a place.
-pub(crate) fn spec_at(params: &Params, place: usize) -> &NodeSpec
-    requires { place < length params.now.nodes }
-    ensures { slice_get params.now.nodes place ≡ Some result.now }
-{
-    match params.nodes.get(place) {
-        Some(spec) => spec,
-        None => unreachable!(),
-    }
-}
-
 // Whether a node takes part from cycle 0 on.
-fn is_fresh(files: &Files, spec: &NodeSpec) -> bool
+fn is_fresh(files: &RunInputs, spec: &NodeSpec) -> bool
     ensures { result ≡ is_fresh (setting_in files.now) spec.now.id }
 {
     !files.script.arbitrary(spec.id) && files.script.join(spec.id).is_none()
 }
 
 // Appends a node before the run, if it takes part from cycle 0 on.
-fn push_fresh(files: &Files, spec: &NodeSpec, nodes: &mut Vec<Node>) -> Result<(), AllocError>
+fn push_fresh(files: &RunInputs, spec: &NodeSpec, nodes: &mut Vec<Node>) -> Result<(), AllocError>
     requires start { CanStart files.now spec.now }
     requires fresh { AreFresh files.now nodes.old.items nodes.old.items }
     ensures fresh { OnOk result (AreFresh files.now (nodes.old.items ++ fresh_of files.now spec.now) nodes.new.items) }
@@ -83,7 +66,7 @@ fn push_fresh(files: &Files, spec: &NodeSpec, nodes: &mut Vec<Node>) -> Result<(
 }
 
 // The nodes that take part from cycle 0 on, before the run, in ascending order; with room for all nodes of a cluster.
-pub(crate) fn fresh_nodes(alloc: Global, files: &Files) -> Result<Vec<Node>, AllocError>
+pub(crate) fn fresh_nodes(alloc: Global, files: &RunInputs) -> Result<Vec<Node>, AllocError>
     requires drift { DriftFits files.now.params files.now.drift }
     ensures fresh { IfOk result (λ nodes. AreFresh files.now (nodes_kept (setting_in files.now) []) nodes.items) }
     ensures room { IfOk result (λ nodes. 64 ≤ vec_capacity nodes) }

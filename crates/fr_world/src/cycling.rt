@@ -2,15 +2,15 @@ ghost use Rattle.std.specs.Prelude.{◌≡◌, map, All};
 ghost use Rattle.fr_node.specs.Cycle.{ended};
 ghost use Rattle.fr_node.specs.Fits.{NodeFits};
 ghost use Rattle.fr_node.specs.View.{node_row_of};
-ghost use Rattle.fr_world.specs.Cycling.{AreListable, HasBegun, HaveBegun, HaveEnded, IsReady, IsWaiting};
-ghost use Rattle.fr_world.specs.Sending.{IsEarlyRow};
+ghost use Rattle.fr_air.specs.Cycling.{AreListable, HasBegun, HaveBegun, HaveEnded, IsReady, IsWaiting};
+ghost use Rattle.fr_air.specs.Sending.{IsEarlyRow};
 
-use crate::files::{Files, sane};
+use fr_air::files::{RunInputs, sane};
 use fr_base::RowList;
 use fr_node::Node;
 
 // Begins the cycle of a node.
-fn begin_one(files: &Files, cycle: u32, node: &mut Node)
+fn begin_one(files: &RunInputs, cycle: u32, node: &mut Node)
     requires waiting { IsWaiting files.now cycle node.old }
     ensures { HasBegun files.now cycle node.old node.new }
 {
@@ -19,7 +19,7 @@ fn begin_one(files: &Files, cycle: u32, node: &mut Node)
 }
 
 // Begins the cycle of each node.
-pub(crate) fn begin_all(files: &Files, cycle: u32, nodes: &mut [Node])
+pub(crate) fn begin_all(files: &RunInputs, cycle: u32, nodes: &mut [Node])
     requires waiting { All (IsWaiting files.now cycle) nodes.old }
     ensures { HaveBegun files.now cycle nodes.old nodes.new }
 {
@@ -29,7 +29,7 @@ pub(crate) fn begin_all(files: &Files, cycle: u32, nodes: &mut [Node])
 }
 
 // Lists the rows of nodes whose cycle is under way, before its corrections.
-pub(crate) fn list_rows(files: &Files, cycle: u32, nodes: &[Node], rows: &mut RowList)
+pub(crate) fn list_rows(files: &RunInputs, cycle: u32, nodes: &[Node], rows: &mut RowList)
     requires ready { All (IsReady files.now cycle) nodes.now }
     requires nodes { AreListable nodes.now }
     ensures rows { rows.new ≡ map node_row_of nodes.now }
@@ -42,7 +42,7 @@ pub(crate) fn list_rows(files: &Files, cycle: u32, nodes: &[Node], rows: &mut Ro
 }
 
 // Ends the cycle of each node, and lists their rows.
-pub(crate) fn end_all(files: &Files, cycle: u32, nodes: &mut [Node], rows: &mut RowList)
+pub(crate) fn end_all(files: &RunInputs, cycle: u32, nodes: &mut [Node], rows: &mut RowList)
     requires ready { All (IsReady files.now cycle) nodes.old }
     requires nodes { AreListable nodes.old }
     ensures { HaveEnded files.now nodes.old nodes.new rows.new }
@@ -56,7 +56,7 @@ pub(crate) fn end_all(files: &Files, cycle: u32, nodes: &mut [Node], rows: &mut 
 }
 
 // Ends the cycle of each follower.
-pub(crate) fn end_followers(files: &Files, cycle: u32, followers: &mut [Node])
+pub(crate) fn end_followers(files: &RunInputs, cycle: u32, followers: &mut [Node])
     requires ready { All (IsReady files.now cycle) followers.old }
     ensures ended { followers.new ≡ map (ended files.now.params) followers.old }
     ensures fitting { All (NodeFits files.now.params) followers.new }

@@ -2,10 +2,10 @@ ghost use Rattle.std.specs.Prelude.{◌≡◌, ◌<◌, ◌≤◌, length, vec_c
 ghost use Rattle.std.specs.List.{insert};
 ghost use Rattle.fr_node.specs.View.{NodeView};
 ghost use Rattle.fr_script.specs.Promises.{NodesJoinProperly};
-ghost use Rattle.fr_standing.specs.Placing.{put};
+ghost use Rattle.fr_air.specs.Placing.{put};
 ghost use Rattle.fr_world.specs.Succeeding.{followers_without, goes_now, joins_now, nodes_with, CanPass, HasFollowed, Passes};
 
-use crate::files::Files;
+use fr_air::files::RunInputs;
 use fr_base::NodeId;
 use fr_node::Node;
 
@@ -38,7 +38,7 @@ pub(crate) fn put(nodes: &mut Vec<Node>, node: Node)
 }
 
 // Whether a follower joins as a double cycle begins.
-fn joins(files: &Files, double: u32, node: &Node) -> bool
+fn joins(files: &RunInputs, double: u32, node: &Node) -> bool
     requires proper { NodesJoinProperly files.now.params files.now.script }
     requires followed { HasFollowed node.now }
     ensures { result ≡ joins_now files.now double node.now }
@@ -50,7 +50,7 @@ fn joins(files: &Files, double: u32, node: &Node) -> bool
 }
 
 // Whether it goes on to follow into it.
-fn goes_on(files: &Files, double: u32, node: &Node) -> bool
+fn goes_on(files: &RunInputs, double: u32, node: &Node) -> bool
     requires proper { NodesJoinProperly files.now.params files.now.script }
     requires followed { HasFollowed node.now }
     ensures { result ≡ goes_now files.now double node.now }
@@ -63,7 +63,7 @@ fn goes_on(files: &Files, double: u32, node: &Node) -> bool
 
 // A follower joins as a double cycle begins, goes on to follow into it, or is let go. Answers where the next one stands.
 fn pass(
-    files: &Files,
+    files: &RunInputs,
     double: u32,
     place: usize,
     followers: &mut Vec<Node>,
@@ -94,7 +94,12 @@ fn pass(
 }
 
 // As a double cycle begins, each follower joins, goes on to follow into it, or is let go.
-pub(crate) fn pass_all(files: &Files, double: u32, followers: &mut Vec<Node>, nodes: &mut Vec<Node>)
+pub(crate) fn pass_all(
+    files: &RunInputs,
+    double: u32,
+    followers: &mut Vec<Node>,
+    nodes: &mut Vec<Node>,
+)
     requires proper { NodesJoinProperly files.now.params files.now.script }
     requires nodes { CanPass files.now followers.old.items nodes.old.items }
     requires few { length (nodes_with files.now double 0 followers.old.items nodes.old.items) ≤ 64 }

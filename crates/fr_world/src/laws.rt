@@ -5,11 +5,11 @@ ghost use Rattle.fr_drift.specs.View.{DriftView};
 ghost use Rattle.fr_script.specs.View.{IsScript, ScriptView};
 ghost use Rattle.fr_cluster.specs.Setting.{IsSetting};
 ghost use Rattle.fr_coverage.specs.Decided.{setting_of};
-ghost use Rattle.fr_joined.specs.Cycles.{Cycles};
-ghost use Rattle.fr_joined.specs.Lawful.{IsLawful};
-ghost use Rattle.fr_joined.specs.Next.{cycles_of};
+ghost use Rattle.fr_history.specs.Cycles.{Cycles};
+ghost use Rattle.fr_history.specs.Lawful.{IsLawful};
+ghost use Rattle.fr_history.specs.Next.{cycles_of};
 
-use fr_joined::one_lawful_run;
+use fr_history::one_lawful_run;
 use fr_script::events_are_proper;
 
 /// A law: the parameters of a cluster, a drift and a script decide one lawful run for each number of cycles, of whose

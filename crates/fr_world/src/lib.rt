@@ -1,28 +1,22 @@
-//! The world of a run: every node's clock over every cycle.
+//! The world of a run: every node's clock over every cycle, in a stage that goes from cycle to cycle; and what
+//! stands in its message memory, in words of what is told of its cycles.
 #![tactic(auto)]
 
 mod beginning;
 mod building;
-mod catching;
-mod cells;
 mod cycling;
-mod fault;
-mod files;
-mod flipping;
-mod hearing;
-mod instants;
 mod joining;
-mod kept;
 mod laws;
 mod listing;
-mod memory;
-mod offering;
 mod running;
+mod sent_frames;
 mod stage;
-mod tally;
-mod turn;
 mod world;
 
-pub use fault::BuildFault;
+pub use fr_air::fault::BuildFault;
 pub use laws::files_decide_one_run;
+pub use sent_frames::{
+    a_cell_holds_the_last_frame_sent, a_cell_is_there_where_a_frame_is,
+    each_cell_is_free_or_of_one_slot_and_channel,
+};
 pub use world::World;

@@ -1,8 +1,8 @@
 ghost use Rattle.std.specs.Prelude.{◌*◌, ◌<◌, ◌≤◌, length, All, AllPairs};
 ghost use Rattle.std.specs.List.{flat_map};
 ghost use Rattle.fr_history.specs.Offers.{channels};
-ghost use Rattle.fr_world.specs.Cycling.{AreListable};
-ghost use Rattle.fr_world.specs.Listing.{listed_among, listed_at, listed_of, CanList, HasRoom, IsListed, Lists};
+ghost use Rattle.fr_air.specs.Cycling.{AreListable};
+ghost use Rattle.fr_air.specs.Listing.{listed_among, listed_at, listed_of, CanList, HasRoom, IsListed, Lists};
 
 use fr_base::{Channel, Dev, DevList, Slot};
 use fr_cluster::Params;

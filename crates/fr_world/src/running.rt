@@ -1,16 +1,16 @@
 ghost use Rattle.std.specs.Prelude.{◌+◌, ◌<◌};
 ghost use Rattle.fr_script.specs.Promises.{NodesJoinProperly};
-ghost use Rattle.fr_world.specs.Files.{setting_in};
+ghost use Rattle.fr_air.specs.Files.{setting_in};
 ghost use Rattle.fr_world.specs.World.{IsRowOf, StandAfter};
 
-use crate::files::{Files, files_are_lawful, sane};
 use crate::stage::Stage;
+use fr_air::files::{RunInputs, files_are_lawful, sane};
 use fr_base::{CycleRow, Slot};
 
 // Runs a cycle of all nodes, and writes its row: as an even one begins, followers join or go on, and listeners begin to
 // follow; and behind all slots those that listen catch what their references sent.
 pub(crate) fn run_cycle(
-    files: &Files,
+    files: &RunInputs,
     keys: &[Slot],
     cycle: u32,
     stage: &mut Stage,

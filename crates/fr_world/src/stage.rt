@@ -1,39 +1,38 @@
-ghost use Rattle.std.specs.Prelude.{◌≡◌, ◌≤◌, ◌<◌, ◌-◌, ◌*◌, ◌↔◌, false, filter_map, length, map, true, vec_capacity, All, AllPairs, IfOk, IfSome, IsTrue, Some, None};
-ghost use Rattle.std.specs.Option.{option_copied};
+ghost use Rattle.std.specs.Prelude.{◌≡◌, ◌≤◌, ◌<◌, ◌-◌, ◌*◌, ◌↔◌, false, filter_map, length, map, true, vec_capacity, All, AllPairs, IfOk, IsTrue, Some, None};
 ghost use Rattle.fr_base.specs.Counts.{AreAtMost};
 ghost use Rattle.fr_cluster.specs.Values.{amount};
 ghost use Rattle.fr_cluster.specs.declared.names.ParamName.TheVariants as name;
 ghost use Rattle.fr_reception.specs.Regular.{is_sync_frame};
-ghost use Rattle.fr_history.specs.History.{row_of as row_in};
-ghost use Rattle.fr_world.specs.Files.{setting_in};
-ghost use Rattle.fr_world.specs.Cycling.{begun_in, AreListable, HaveEnded, IsReady, IsWaiting};
-ghost use Rattle.fr_world.specs.Listening.{after_listening, CanBeHeard, IsListener};
-ghost use Rattle.fr_world.specs.Listing.{listed_among, HasRoom, IsListed};
-ghost use Rattle.fr_world.specs.Memory.{frame_on, HasFrame};
-ghost use Rattle.fr_world.specs.Walk.{on_both};
-ghost use Rattle.fr_world.specs.Sending.{offer_heard, sending_row_by, sending_row_in, IsEarlyRow};
-ghost use Rattle.fr_world.specs.Stage.{answered, answered_by_nodes, begun_nodes, begun_stage, ended_stage, heard_after, heard_on, saying, sent_on, stage_before, AllReady, CanAnswer, Hears, IsBefore, IsStage};
+ghost use Rattle.fr_air.specs.Files.{setting_in};
+ghost use Rattle.fr_air.specs.Cycling.{begun_in, AreListable, HaveEnded, IsReady, IsWaiting};
+ghost use Rattle.fr_air.specs.Listening.{after_listening, CanBeHeard, IsListener};
+ghost use Rattle.fr_air.specs.Listing.{listed_among, HasRoom, IsListed};
+ghost use Rattle.fr_air.specs.Memory.{frame_on, HasFrame};
+ghost use Rattle.fr_air.specs.Walk.{after_both_channels};
+ghost use Rattle.fr_air.specs.Sending.{offer_heard, IsEarlyRow};
+ghost use Rattle.fr_world.specs.Stage.{answered, answered_by_nodes, begun_nodes, begun_stage, ended_stage, heard_after, after_turn, saying, sent_on, stage_before, AllReady, CanAnswer, HearsTurn, IsBefore, IsStage};
 ghost use Rattle.fr_world.specs.Succeeding.{first_now, followers_without, listeners_now, nodes_with, succeeded, AllFit, CanPass, HasFew, HasHeardBoth, HasPassed};
-ghost use Rattle.fr_world.specs.Turns.{frame_of_turn, heard_on_air, offer_on, AreReady, IsOnAir, IsRowFound};
+ghost use Rattle.fr_air.specs.Turns.{frame_of_turn, heard_on_air, offer_on, AreReady, IsOnAir};
 ghost use Rattle.fr_node.specs.Cycle.{ended};
 ghost use Rattle.fr_node.specs.Fits.{NodeFits};
 ghost use Rattle.fr_node.specs.View.{node_row_of};
 ghost use Rattle.fr_script.specs.Promises.{NodesJoinProperly};
 ghost use Rattle.fr_script.specs.View.{is_arbitrary};
-ghost use Rattle.fr_standing.specs.Placing.{put_all};
+ghost use Rattle.fr_air.specs.Placing.{put_all};
 ghost use Rattle.fr_time.specs.Cycles.{is_odd};
 ghost use Rattle.fr_time.specs.Senders.{sender_of};
 
 use crate::beginning::{begin_following, begin_listening};
-use crate::catching::listen_all;
 use crate::cycling::{begin_all, end_all, end_followers, list_rows};
-use crate::files::{Files, sane};
-use crate::instants::due_at;
 use crate::joining::pass_all;
 use crate::listing::list_devs;
-use crate::memory::Memory;
-use crate::offering::{offer_to_all, offer_to_followers};
-use crate::turn::{Air, Sender, Turn};
+use fr_air::catching::listen_all;
+use fr_air::files::{RunInputs, sane};
+use fr_air::instants::due_at;
+use fr_air::memory::Memory;
+use fr_air::offering::{offer_to_all, offer_to_followers};
+use fr_air::senders::sending_row;
+use fr_air::turn::{Air, Sender, Turn};
 use fr_base::{Channel, Counts, CycleRow, NodeId, NodeRow, RowList, Slot, State};
 use fr_cluster::ParamName;
 use fr_node::{Listener, Node, regular_read};
@@ -44,7 +43,6 @@ use std::marker::Model;
 // A cycle on its way: the nodes that have a row, those that follow and those that listen, each in ascending order, the row
 // of each of the first before its corrections, what was counted so far, and what was sent last, each frame in its cell.
 // There is room for all nodes of a cluster in each list, so that none takes memory as nodes go from one to another.
-#[derive(Drop)]
 pub(crate) struct Stage {
     rows: RowList,
     nodes: Vec<Node>,
@@ -65,39 +63,17 @@ impl Model for Stage {
     ghost invariant = { λ s. HasSpace (vec_capacity s.nodes) (vec_capacity s.followers) (vec_capacity s.listeners) };
 }
 
-// The row of a node, if it is among these.
-fn row_among(rows: &[NodeRow], id: NodeId) -> Option<&NodeRow>
-    ensures { option_copied result ≡ row_in rows.now id }
-{
-    rows.iter().find(|row| row.node == id)
-}
-
-// The row of a node, if it sends on a channel: it is active and has the channel.
-fn row_if_sends(files: &Files, turn: &Turn, row: &NodeRow, id: NodeId) -> Option<NodeRow>
-    requires { IsEarlyRow files.now.params row.now }
-    ensures value { result ≡ sending_row_by (setting_in files.now) (Some row.now) id turn.now.channel }
-    ensures early { IfSome result (IsEarlyRow files.now.params) }
-{
-    if matches!(row.state, State::Active) && files.params.common(id, id, turn.channel) {
-        Some(*row)
-    } else {
-        None
-    }
-}
-
-// The row of a node, if it is among these and sends on a channel.
-pub(crate) fn sending_row(
-    files: &Files,
-    turn: &Turn,
-    rows: &[NodeRow],
-    id: NodeId,
-) -> Option<NodeRow>
-    requires { All (IsEarlyRow files.now.params) rows.now }
-    ensures { IsRowFound files.now (sending_row_in (setting_in files.now) rows.now id turn.now.channel) result }
-{
-    match row_among(rows, id) {
-        Some(row) => row_if_sends(files, turn, row, id),
-        None => None,
+// One call: a derived drop is opened in each function that drops a value, and proved there.
+impl Drop for Stage {
+    fn drop(self) {
+        let Stage {
+            rows: _,
+            nodes: _,
+            followers: _,
+            listeners: _,
+            counts: _,
+            memory: _,
+        } = self;
     }
 }
 
@@ -155,7 +131,7 @@ impl Stage {
     }
 
     // As an even cycle begins, followers join or go on, listeners begin to follow, and others begin to listen.
-    pub(crate) fn succeed(&mut self, files: &Files, cycle: u32)
+    pub(crate) fn succeed(&mut self, files: &RunInputs, cycle: u32)
         requires in_run { cycle < 200_000 }
         requires proper { NodesJoinProperly files.now.params files.now.script }
         requires passed { is_odd cycle ≡ false → HasPassed files.now cycle self.old }
@@ -174,7 +150,7 @@ impl Stage {
     }
 
     // Followers join, go on or are let go.
-    fn pass(&mut self, files: &Files, double: u32)
+    fn pass(&mut self, files: &RunInputs, double: u32)
         requires proper { NodesJoinProperly files.now.params files.now.script }
         requires nodes { CanPass files.now self.old.followers self.old.nodes }
         requires few { length (nodes_with files.now double 0 self.old.followers self.old.nodes) ≤ 64 }
@@ -188,7 +164,7 @@ impl Stage {
     }
 
     // Listeners begin to follow.
-    fn begin_following(&mut self, files: &Files, cycle: u32)
+    fn begin_following(&mut self, files: &RunInputs, cycle: u32)
         requires even { is_odd cycle ≡ false }
         requires in_run { cycle < 200_000 }
         requires heard { All (HasHeardBoth files.now cycle) self.old.listeners }
@@ -196,7 +172,8 @@ impl Stage {
             self.old.followers) ≤ 64 }
         requires fit { All (NodeFits files.now.params) self.old.followers }
         ensures begun { self.new ≡ record self.old {
-          followers = put_all (λ n. n.id) (filter_map (first_now files.now cycle) self.old.listeners) self.old.followers;
+          followers = put_all (λ n. n.id) (filter_map (first_now files.now cycle) self.old.listeners)
+              self.old.followers;
         } }
         ensures fit { All (NodeFits files.now.params) self.new.followers }
     {
@@ -204,7 +181,7 @@ impl Stage {
     }
 
     // Others begin to listen.
-    fn begin_listening(&mut self, files: &Files, double: u32)
+    fn begin_listening(&mut self, files: &RunInputs, double: u32)
         requires { NodesJoinProperly files.now.params files.now.script }
         ensures begun { self.new ≡ record self.old { listeners = listeners_now files.now double } }
         ensures listeners { All (IsListener files.now) self.new.listeners }
@@ -213,7 +190,7 @@ impl Stage {
     }
 
     // Begins a cycle.
-    pub(crate) fn begin(&mut self, files: &Files, cycle: u32)
+    pub(crate) fn begin(&mut self, files: &RunInputs, cycle: u32)
         requires waiting { All (IsWaiting files.now cycle) self.old.nodes }
         requires nodes { AreListable self.old.nodes }
         requires followers { All (IsWaiting files.now cycle) self.old.followers }
@@ -227,7 +204,7 @@ impl Stage {
     }
 
     // Begins a cycle of the followers.
-    fn begin_followers(&mut self, files: &Files, cycle: u32)
+    fn begin_followers(&mut self, files: &RunInputs, cycle: u32)
         requires { All (IsWaiting files.now cycle) self.old.followers }
         ensures begun { self.new ≡ record self.old { followers = map (begun_in files.now cycle) self.old.followers } }
         ensures ready { All (IsReady files.now cycle) self.new.followers }
@@ -236,7 +213,7 @@ impl Stage {
     }
 
     // Begins a cycle of the nodes that have a row.
-    fn begin_nodes(&mut self, files: &Files, cycle: u32)
+    fn begin_nodes(&mut self, files: &RunInputs, cycle: u32)
         requires waiting { All (IsWaiting files.now cycle) self.old.nodes }
         requires nodes { AreListable self.old.nodes }
         ensures begun { self.new ≡ begun_nodes files.now cycle self.old }
@@ -249,7 +226,7 @@ impl Stage {
     }
 
     // Offers a frame on the air to all nodes, and to all followers.
-    fn offer(&mut self, files: &Files, air: &Air<'_>)
+    fn offer(&mut self, files: &RunInputs, air: &Air<'_>)
         requires air { IsOnAir files.now air.now self.old.memory }
         requires stage { CanAnswer files.now air.now.turn.now.cycle self.old }
         ensures heard { self.new ≡ answered (setting_in files.now) air.now.turn.now.cycle
@@ -261,7 +238,7 @@ impl Stage {
     }
 
     // Offers it to all followers.
-    fn offer_to_followers(&mut self, files: &Files, air: &Air<'_>)
+    fn offer_to_followers(&mut self, files: &RunInputs, air: &Air<'_>)
         requires air { IsOnAir files.now air.now self.old.memory }
         requires ready { All (IsReady files.now air.now.turn.now.cycle) self.old.followers }
         requires few { length self.old.followers ≤ 64 }
@@ -274,7 +251,7 @@ impl Stage {
     }
 
     // Offers it to all nodes that have a row.
-    fn offer_to_nodes(&mut self, files: &Files, air: &Air<'_>)
+    fn offer_to_nodes(&mut self, files: &RunInputs, air: &Air<'_>)
         requires air { IsOnAir files.now air.now self.old.memory }
         requires rows { self.old.rows ≡ map node_row_of self.old.nodes }
         requires ready { AreReady files.now air.now.turn.now.cycle 1_000_000 self.old.nodes self.old.counts }
@@ -292,10 +269,11 @@ impl Stage {
     }
 
     // Writes the frame of a correct sender into its cell, and counts it; answers the number of the cell.
-    fn keep(&mut self, files: &Files, turn: &Turn, sending: &Sending) -> usize
+    fn keep(&mut self, files: &RunInputs, turn: &Turn, sending: &Sending) -> usize
         requires before { IsBefore files.now turn.now self.old }
         requires sends { sender_of files.now.params turn.now.slot turn.now.cycle ≡ Some sending.now }
-        ensures sent { self.new ≡ sent_on turn.now.slot turn.now.channel (Some (frame_of_turn files.now turn.now sending.now)) self.old }
+        ensures sent { self.new ≡
+            sent_on turn.now.slot turn.now.channel (Some (frame_of_turn files.now turn.now sending.now)) self.old }
         ensures kept { HasFrame self.new.memory (Some result) }
         ensures frame { frame_on self.new.memory (Some result) ≡ frame_of_turn files.now turn.now sending.now }
     {
@@ -306,12 +284,13 @@ impl Stage {
     }
 
     // Sends the frame of a correct sender with this row to all nodes: it is written once, into its cell, and counted.
-    fn send(&mut self, files: &Files, turn: &Turn, sending: &Sending, row: NodeRow)
+    fn send(&mut self, files: &RunInputs, turn: &Turn, sending: &Sending, row: NodeRow)
         requires before { IsBefore files.now turn.now self.old }
         requires sends { sender_of files.now.params turn.now.slot turn.now.cycle ≡ Some sending.now }
         requires row { IsEarlyRow files.now.params row }
         ensures heard { self.new ≡ answered (setting_in files.now) turn.now.cycle
-            (offer_heard (setting_in files.now) turn.now sending.now.node (Some row) (frame_of_turn files.now turn.now sending.now))
+            (offer_heard (setting_in files.now) turn.now sending.now.node (Some row)
+            (frame_of_turn files.now turn.now sending.now))
             (sent_on turn.now.slot turn.now.channel (Some (frame_of_turn files.now turn.now sending.now)) self.old) }
         ensures ready { AllReady files.now turn.now.cycle self.new }
     {
@@ -334,7 +313,7 @@ impl Stage {
     }
 
     // Writes the frame of an arbitrary sender into a further cell.
-    fn begin_saying(&mut self, files: &Files, turn: &Turn, sending: &Sending)
+    fn begin_saying(&mut self, files: &RunInputs, turn: &Turn, sending: &Sending)
         requires before { IsBefore files.now turn.now self.old }
         requires sends { sender_of files.now.params turn.now.slot turn.now.cycle ≡ Some sending.now }
         ensures { self.new ≡ saying (Some (frame_of_turn files.now turn.now sending.now)) self.old }
@@ -350,11 +329,12 @@ impl Stage {
     }
 
     // Says the frame of an arbitrary sender to all nodes: it stands in a further cell all the while.
-    fn say(&mut self, files: &Files, turn: &Turn, sending: &Sending)
+    fn say(&mut self, files: &RunInputs, turn: &Turn, sending: &Sending)
         requires before { IsBefore files.now turn.now self.old }
         requires sends { sender_of files.now.params turn.now.slot turn.now.cycle ≡ Some sending.now }
         ensures heard { self.new ≡ answered (setting_in files.now) turn.now.cycle
-            (offer_heard (setting_in files.now) turn.now sending.now.node None (frame_of_turn files.now turn.now sending.now)) self.old }
+            (offer_heard (setting_in files.now) turn.now sending.now.node None
+            (frame_of_turn files.now turn.now sending.now)) self.old }
         ensures ready { AllReady files.now turn.now.cycle self.new }
     {
         sane(&files.params);
@@ -376,11 +356,11 @@ impl Stage {
     }
 
     // What an arbitrary sender says in a slot on a channel is heard.
-    fn hear_said(&mut self, files: &Files, turn: &Turn, sending: &Sending)
+    fn hear_said(&mut self, files: &RunInputs, turn: &Turn, sending: &Sending)
         requires before { IsBefore files.now turn.now self.old }
         requires sends { sender_of files.now.params turn.now.slot turn.now.cycle ≡ Some sending.now }
         requires arbitrary { is_arbitrary files.now.script sending.now.node ≡ true }
-        ensures { Hears files.now turn.now self.old self.new }
+        ensures { HearsTurn files.now turn.now self.old self.new }
     {
         if is_sync(sending.kind) {
             self.say(files, turn, sending);
@@ -388,11 +368,11 @@ impl Stage {
     }
 
     // What a correct sender sends in a slot on a channel is heard.
-    fn hear_sent(&mut self, files: &Files, turn: &Turn, sending: &Sending)
+    fn hear_sent(&mut self, files: &RunInputs, turn: &Turn, sending: &Sending)
         requires before { IsBefore files.now turn.now self.old }
         requires sends { sender_of files.now.params turn.now.slot turn.now.cycle ≡ Some sending.now }
         requires correct { is_arbitrary files.now.script sending.now.node ≡ false }
-        ensures { Hears files.now turn.now self.old self.new }
+        ensures { HearsTurn files.now turn.now self.old self.new }
     {
         if let Some(row) = sending_row(files, turn, self.rows(), sending.node) {
             self.send(files, turn, sending, row);
@@ -400,10 +380,10 @@ impl Stage {
     }
 
     // The nodes hear a slot on a channel, in which a node sends.
-    fn hear_on(&mut self, files: &Files, turn: &Turn, sending: &Sending)
+    fn hear_on(&mut self, files: &RunInputs, turn: &Turn, sending: &Sending)
         requires before { IsBefore files.now turn.now self.old }
         requires sends { sender_of files.now.params turn.now.slot turn.now.cycle ≡ Some sending.now }
-        ensures { Hears files.now turn.now self.old self.new }
+        ensures { HearsTurn files.now turn.now self.old self.new }
     {
         if files.script.arbitrary(sending.node) {
             self.hear_said(files, turn, sending);
@@ -413,11 +393,11 @@ impl Stage {
     }
 
     // The nodes hear a slot in which a node sends, first on channel A and then on channel B.
-    fn hear_both(&mut self, files: &Files, cycle: u32, slot: Slot, sending: &Sending)
+    fn hear_both(&mut self, files: &RunInputs, cycle: u32, slot: Slot, sending: &Sending)
         requires slot { slot ≤ amount files.now.params name.gNumberOfStaticSlots }
         requires stage { IsStage files.now cycle (130 * (slot - 1)) self.old }
         requires sends { sender_of files.now.params slot cycle ≡ Some sending.now }
-        ensures heard { self.new ≡ on_both (heard_on (setting_in files.now) cycle) slot self.old }
+        ensures heard { self.new ≡ after_both_channels (after_turn (setting_in files.now) cycle) slot self.old }
         ensures stage { IsStage files.now cycle (130 * slot) self.new }
     {
         let on_a = Turn {
@@ -435,10 +415,10 @@ impl Stage {
     }
 
     // The nodes hear a slot: who sends in it is asked once for both channels.
-    fn hear_slot(&mut self, files: &Files, cycle: u32, slot: Slot)
+    fn hear_slot(&mut self, files: &RunInputs, cycle: u32, slot: Slot)
         requires slot { slot ≤ amount files.now.params name.gNumberOfStaticSlots }
         requires stage { IsStage files.now cycle (130 * (slot - 1)) self.old }
-        ensures heard { self.new ≡ on_both (heard_on (setting_in files.now) cycle) slot self.old }
+        ensures heard { self.new ≡ after_both_channels (after_turn (setting_in files.now) cycle) slot self.old }
         ensures stage { IsStage files.now cycle (130 * slot) self.new }
     {
         if let Some(sending) = sender(&files.params, slot, cycle) {
@@ -447,7 +427,7 @@ impl Stage {
     }
 
     // The nodes hear all static slots of a cycle.
-    pub(crate) fn hear_all(&mut self, files: &Files, cycle: u32)
+    pub(crate) fn hear_all(&mut self, files: &RunInputs, cycle: u32)
         requires { IsStage files.now cycle 0 self.old }
         ensures heard { self.new ≡ heard_after (setting_in files.now) cycle
             (amount files.now.params name.gNumberOfStaticSlots) self.old }
@@ -463,7 +443,7 @@ impl Stage {
     }
 
     // The listeners catch the frames of their references, behind all slots of the cycle.
-    pub(crate) fn listen(&mut self, files: &Files, cycle: u32)
+    pub(crate) fn listen(&mut self, files: &RunInputs, cycle: u32)
         requires listeners { All (IsListener files.now) self.old.listeners }
         requires rows { CanBeHeard files.now cycle self.old.rows }
         ensures caught { self.new ≡ record self.old {
@@ -481,7 +461,7 @@ impl Stage {
     }
 
     // Ends the cycle, and writes its row.
-    pub(crate) fn end(&mut self, files: &Files, keys: &[Slot], cycle: u32, row: &mut CycleRow)
+    pub(crate) fn end(&mut self, files: &RunInputs, keys: &[Slot], cycle: u32, row: &mut CycleRow)
         requires keys { AllPairs (λ a b. a < b) keys.now }
         requires ready { AllReady files.now cycle self.old }
         requires nodes { AreListable self.old.nodes }
@@ -489,7 +469,8 @@ impl Stage {
         ensures rest { self.new ≡ ended_stage files.now self.old }
         ensures ended { HaveEnded files.now self.old.nodes self.new.nodes row.new.rows }
         ensures fitting { All (NodeFits files.now.params) self.new.followers }
-        ensures listed { IsListed keys.now (listed_among files.now.params (is_odd cycle) keys.now self.old.nodes) row.new.devs }
+        ensures listed { IsListed keys.now
+            (listed_among files.now.params (is_odd cycle) keys.now self.old.nodes) row.new.devs }
         ensures counts { row.new.counts ≡ self.old.counts }
         ensures cycle { row.new.cycle ≡ cycle }
     {
@@ -498,7 +479,7 @@ impl Stage {
     }
 
     // Ends the cycle of the followers.
-    fn end_followers(&mut self, files: &Files, cycle: u32)
+    fn end_followers(&mut self, files: &RunInputs, cycle: u32)
         requires { All (IsReady files.now cycle) self.old.followers }
         ensures ended { self.new ≡ record self.old { followers = map (ended files.now.params) self.old.followers } }
         ensures fitting { All (NodeFits files.now.params) self.new.followers }
@@ -507,14 +488,15 @@ impl Stage {
     }
 
     // Ends the cycle of the nodes that have a row, and writes it.
-    fn end_nodes(&mut self, files: &Files, keys: &[Slot], cycle: u32, row: &mut CycleRow)
+    fn end_nodes(&mut self, files: &RunInputs, keys: &[Slot], cycle: u32, row: &mut CycleRow)
         requires keys { AllPairs (λ a b. a < b) keys.now }
         requires ready { All (IsReady files.now cycle) self.old.nodes }
         requires nodes { AreListable self.old.nodes }
         requires room { HasRoom keys.now row.old.devs }
         ensures rest { self.new ≡ record self.old { nodes = self.new.nodes } }
         ensures ended { HaveEnded files.now self.old.nodes self.new.nodes row.new.rows }
-        ensures listed { IsListed keys.now (listed_among files.now.params (is_odd cycle) keys.now self.old.nodes) row.new.devs }
+        ensures listed { IsListed keys.now
+            (listed_among files.now.params (is_odd cycle) keys.now self.old.nodes) row.new.devs }
         ensures counts { row.new.counts ≡ self.old.counts }
         ensures cycle { row.new.cycle ≡ cycle }
     {

@@ -6,17 +6,17 @@ ghost use Rattle.fr_drift.specs.Files.{DriftFits};
 ghost use Rattle.fr_drift.specs.Questions.{doubles_of};
 ghost use Rattle.fr_script.specs.Files.{ScriptFits};
 ghost use Rattle.fr_script.specs.View.{IsScript};
-ghost use Rattle.fr_world.specs.Listing.{HasRoom};
-ghost use Rattle.fr_world.specs.Memory.{cell_of, frame_of, place_of_slot, IsPoolOf};
+ghost use Rattle.fr_air.specs.Listing.{HasRoom};
+ghost use Rattle.fr_air.specs.Memory.{cell_of, frame_in_cell, place_of_slot, IsPoolOf};
 ghost use Rattle.fr_world.specs.Standing.{nodes_kept};
 
 use crate::building::{fresh_nodes, key_slots_of};
-use crate::fault::BuildFault;
-use crate::files::{Files, files_are_lawful, sane};
-use crate::kept::KeptDrift;
-use crate::memory::{Memory, place_of_slot};
 use crate::running::run_cycle;
 use crate::stage::Stage;
+use fr_air::fault::BuildFault;
+use fr_air::files::{RunInputs, files_are_lawful, sane};
+use fr_air::kept::KeptDrift;
+use fr_air::memory::{Memory, place_of_slot};
 use fr_base::{Channel, Counts, CycleRow, DevList, NodeId, RowList, Slot};
 use fr_cluster::Params;
 use fr_drift::Drift;
@@ -29,9 +29,8 @@ use std::marker::Model;
 /// A cluster in a run: every correct node's clock, cycle after cycle, as the parameters, the oscillators and
 /// the script decide it, with the nodes that join it. All memory is taken as it is built, and none grows with the
 /// run: contracts see the three files and how many cycles were run, which determine the one lawful run.
-#[derive(Drop)]
 pub struct World {
-    files: Files,
+    files: RunInputs,
     // The key slots in ascending order.
     keys: Vec<Slot>,
     // The nodes with rows, those that follow and those that listen, and what was sent last, each frame in its cell.
@@ -54,6 +53,19 @@ impl Model for World {
     ghost invariant = { λ w. IsWorld w.files w.keys.items w.stage w.row w.next };
 }
 
+// One call: a derived drop is opened in each function that drops a value, and proved there.
+impl Drop for World {
+    fn drop(self) {
+        let World {
+            files: _,
+            keys: _,
+            stage: _,
+            row: _,
+            next: _,
+        } = self;
+    }
+}
+
 impl World {
     /// A world before its first cycle, of files that fit one another: all memory of the run is taken here.
     /// `NoMemory` where there is not enough; the files are then dropped.
@@ -68,7 +80,7 @@ impl World {
         ensures { IfOk result (λ world. world ≡ world_before params drift script) }
     {
         let drift = KeptDrift::of(alloc, &params, drift)?;
-        let files = Files {
+        let files = RunInputs {
             params,
             drift,
             script,
@@ -89,13 +101,13 @@ impl World {
     }
 
     ghost use Rattle.fr_world.specs.World.{followed_last, memory_of, node_seen, setting_after, world_before, world_cycles, IsLastRowOf, IsRowOf};
-    ghost use Rattle.fr_world.specs.Ends.{Cycles};
+    ghost use Rattle.fr_world.specs.Ends.{LendsItsRow};
 
     /// Runs the next cycle of every node that takes part in it, and answers its row, without what followers do; None
     /// exactly after the last cycle of the run, and then nothing changes. It takes no memory.
     pub fn cycle(&mut self) -> Option<&CycleRow>
         // What the world is once the answer is let go.
-        ensures* ends { sem 𝓛 (Cycles self.entry result) }
+        ensures* ends { sem 𝓛 (LendsItsRow self.entry result) }
         ensures over { IsNone result ↔ (self.old.cycles ≡ 2 * doubles_of self.old.drift) }
         ensures row { IfSome result (λ row. IsRowOf (setting_after self.old) self.old.cycles row.now) }
     {
@@ -173,7 +185,7 @@ impl World {
     /// The last frame that a correct node sent in a slot on a channel, as it was sent: the bytes at the front of its
     /// cell. None exactly where no correct node sent a frame there so far.
     pub fn last(&self, slot: Slot, channel: Channel) -> Option<&[u8]>
-        ensures { option_copied result ≡ frame_of (memory_of self.now).held (place_of_slot slot channel) }
+        ensures { option_copied result ≡ frame_in_cell (memory_of self.now).held (place_of_slot slot channel) }
     {
         self.stage.memory().last(place_of_slot(slot, channel))
     }

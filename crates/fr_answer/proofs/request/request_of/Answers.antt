@@ -1,5 +1,5 @@
 use Rattle.std.proofs.Common.{◌≡◌, ℕ, List, [], ◌∷◌, subst}
-use Rattle.fr_ending.specs.Program.{texts}
+use Rattle.fr_program.specs.Program.{texts}
 use Rattle.fr_answer.specs.Request.{IsRequestOf}
 use Rattle.fr_answer.proofs.Requests.{four_texts}
 use Rattle.fr_answer.proofs.request.request_of.Goals as goal

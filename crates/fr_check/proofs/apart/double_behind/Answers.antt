@@ -1,5 +1,5 @@
 use Rattle.std.proofs.Common.{◌/◌, ℕ, ap, sym}
-use Rattle.fr_trace_gap.proofs.Parts.{history_length}
+use Rattle.fr_verdict.proofs.Parts.{history_length}
 use Rattle.fr_check.proofs.apart.double_behind.Goals as goal
 
 pub returns-clause-value : goal.returns-clause-value

@@ -3,7 +3,7 @@ use Rattle.fr_history.specs.History.{record_at}
 use Rattle.fr_history.specs.Sync.{is_sync_by}
 use Rattle.fr_time.specs.Cycles.{even_cycle, odd_cycle}
 use Rattle.fr_trace.specs.Cycles.{history_by}
-use Rattle.fr_trace_gap.proofs.Records.{no_record, record_of_cycle}
+use Rattle.fr_verdict.proofs.Records.{no_record, record_of_cycle}
 use Rattle.fr_check.proofs.Followed.{not_there}
 use Rattle.fr_check.proofs.apart.is_sync_at.Goals as goal
 

@@ -5,7 +5,7 @@ use Rattle.fr_history.specs.History.{History}
 use Rattle.fr_trace.specs.Cycles.{history_by, kept_of}
 use Rattle.fr_trace.specs.Items.{first_number, items_in}
 use Rattle.fr_trace.specs.declared.trace.TracedCycle.{TracedCycle}
-use Rattle.fr_trace_gap.specs.Sound.{IsSound}
+use Rattle.fr_verdict.specs.Sound.{IsSound}
 use Rattle.fr_check.specs.Controls.{Hold}
 use Rattle.fr_check.specs.Corrections.{AreLatest}
 use Rattle.fr_check.specs.Followed.{followed_by}

@@ -1,5 +1,5 @@
 use Rattle.std.proofs.Common.{subst, sym}
-use Rattle.fr_trace_gap.specs.Sound.{AreSoundDevs}
+use Rattle.fr_verdict.specs.Sound.{AreSoundDevs}
 use Rattle.fr_check.proofs.corrections.both_terms.Goals as goal
 
 pub terms_of-requires-clause-evens : goal.terms_of-requires-clause-evens

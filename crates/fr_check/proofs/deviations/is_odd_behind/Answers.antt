@@ -1,6 +1,6 @@
 use Rattle.std.proofs.Common.{sym, ap}
 use Rattle.fr_time.specs.Cycles.{is_odd}
-use Rattle.fr_trace_gap.proofs.Parts.{history_length}
+use Rattle.fr_verdict.proofs.Parts.{history_length}
 use Rattle.fr_check.proofs.deviations.is_odd_behind.Goals as goal
 
 pub returns : goal.returns

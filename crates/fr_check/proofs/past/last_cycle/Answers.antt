@@ -1,4 +1,4 @@
-use Rattle.fr_trace_gap.proofs.Parts.{history_last, history_none, sound_parts}
+use Rattle.fr_verdict.proofs.Parts.{history_last, history_none, sound_parts}
 use Rattle.fr_check.proofs.past.last_cycle.Goals as goal
 
 pub returns-in-None-clause-parts : goal.returns-in-None-clause-parts

@@ -1,5 +1,5 @@
 use Rattle.std.proofs.Common.{subst, sym}
-use Rattle.fr_trace_gap.specs.Sound.{AreSoundDevs}
+use Rattle.fr_verdict.specs.Sound.{AreSoundDevs}
 use Rattle.fr_check.proofs.past.latest_devs.Goals as goal
 
 pub returns-in-Some-clause-sound : goal.returns-in-Some-clause-sound

@@ -3,7 +3,7 @@ use mir.Val.{of_z, to_z}
 use Rattle.std.proofs.lemmas.Int.{to_z-of_z}
 use Rattle.fr_history.specs.History.{row_of}
 use Rattle.fr_trace.specs.Cycles.{history_by, kept_of}
-use Rattle.fr_trace_gap.proofs.Parts.{of_found}
+use Rattle.fr_verdict.proofs.Parts.{of_found}
 use Rattle.fr_verdict.specs.Breach.{rate_from}
 use Rattle.fr_check.specs.Corrections.{IsCorrection}
 use Rattle.fr_check.proofs.rows.rate_from.Goals as goal

@@ -1,5 +1,5 @@
 use Rattle.std.proofs.Common.{take, ◌+◌}
-use Rattle.fr_trace_gap.proofs.Parts.{take_one_more}
+use Rattle.fr_verdict.proofs.Parts.{take_one_more}
 use Rattle.fr_check.proofs.Taking.{more_taken, none_taken}
 use Rattle.fr_check.proofs.terms.take_devs.Goals as goal
 

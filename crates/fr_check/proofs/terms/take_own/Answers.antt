@@ -2,7 +2,7 @@ use Rattle.std.proofs.Common.{sym, subst}
 use Rattle.std.specs.Prelude.{All, ◌==◌}
 use Rattle.std.proofs.lemmas.List.Elements.{All-filter}
 use Rattle.fr_base.specs.declared.dev.Dev.{Dev}
-use Rattle.fr_trace_gap.specs.Sound.{IsSoundDev}
+use Rattle.fr_verdict.specs.Sound.{IsSoundDev}
 use Rattle.fr_check.proofs.Taking.{own_taken}
 use Rattle.fr_check.proofs.terms.take_own.Goals as goal
 

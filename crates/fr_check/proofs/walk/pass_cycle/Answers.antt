@@ -2,7 +2,7 @@ use Rattle.std.proofs.Common.{◌+◌, ◌<◌, List, length, take, drop, subst,
 use Rattle.fr_base.specs.declared.node_row.NodeRow.{NodeRow}
 use Rattle.fr_trace.specs.Cycles.{history_by, kept_of}
 use Rattle.fr_trace.specs.Items.{items_by}
-use Rattle.fr_trace_gap.proofs.Parts.{take_one_of}
+use Rattle.fr_verdict.proofs.Parts.{take_one_of}
 use Rattle.fr_check.specs.Corrections.{IsCorrection}
 use Rattle.fr_check.proofs.Sounded.{item_of}
 use Rattle.fr_check.proofs.Walking.{along_found, along_more, first_parts, no_item, rows_along}

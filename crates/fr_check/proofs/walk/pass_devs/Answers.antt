@@ -5,7 +5,7 @@ use Rattle.fr_base.specs.declared.dev.Dev.{Dev}
 use Rattle.fr_trace.specs.Cycles.{history_by, kept_of}
 use Rattle.fr_trace.specs.Items.Item.{Heard}
 use Rattle.fr_verdict.specs.Search.{first_from}
-use Rattle.fr_trace_gap.proofs.Parts.{take_one_more}
+use Rattle.fr_verdict.proofs.Parts.{take_one_more}
 use Rattle.fr_check.proofs.Walking.{allowed_again, allowed_here, along_found, along_more, first_parts, heard_along, heard_few, no_item, one_item, own_few, own_receiver, own_sound}
 use Rattle.fr_check.proofs.walk.pass_devs.Goals as goal
 

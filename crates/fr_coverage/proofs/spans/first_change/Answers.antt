@@ -4,7 +4,7 @@ use mir.Val.{to_z, of_z}
 use mir.Syntax.{w64}
 use Rattle.std.proofs.lemmas.Int.{to_z-of_z}
 use Rattle.fr_drift.specs.Questions.{length_of}
-use Rattle.fr_coverage.specs.Coverage.{change_gap, cycles_of, has_jumped}
+use Rattle.fr_coverage.specs.Coverage.{change_gap, has_jumped, how_many_cycles}
 use Rattle.fr_coverage.proofs.First.{below-zero, below-found, below-skip}
 use Rattle.fr_coverage.proofs.Stretches.{change-found, change-quiet}
 use Rattle.fr_coverage.proofs.spans.first_change.Goals as goal
@@ -20,9 +20,9 @@ returns-then-has_jumped c =
     let jumped : has_jumped c.args.params.now c.length-before.result c.length-ticks.result ≡ true = rw (← late, ← early) (search rules) in
     let before : c.length-before.result ≡ length_of c.args.drift.now c.args.node (c.loop-cycle.cycle - 1) =
     c.length-before.ensures.value ∙ ap (length_of c.args.drift.now c.args.node) c.saturating_sub.ensures in
-    let below : c.loop-cycle.cycle < cycles_of c.args.drift.now = omega (arith, c.cycles-end.ensures.value) in
+    let below : c.loop-cycle.cycle < how_many_cycles c.args.drift.now = omega (arith, c.cycles-end.ensures.value) in
     rw (late, early, less)
-    (sym (below-found (change_gap c.args.params.now c.args.drift.now c.args.node) c.loop-cycle.cycle (cycles_of c.args.drift.now) _ c.loop-cycle.invariant.none
+    (sym (below-found (change_gap c.args.params.now c.args.drift.now c.args.node) c.loop-cycle.cycle (how_many_cycles c.args.drift.now) _ c.loop-cycle.invariant.none
     (change-found c.args.params.now c.args.drift.now c.args.node c.loop-cycle.cycle c.length-before.result c.length-ticks.result before c.length-ticks.ensures.value jumped) below))
 
 pub loop-cycle-preserved : goal.loop-cycle-preserved

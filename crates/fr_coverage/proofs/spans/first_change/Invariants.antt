@@ -1,13 +1,13 @@
 use Rattle.std.proofs.Common.{◌≡◌, ◌≤◌, ◌-◌, None}
 use Rattle.fr_coverage.specs.First.{first_below}
-use Rattle.fr_coverage.specs.Coverage.{change_gap, cycles_of}
+use Rattle.fr_coverage.specs.Coverage.{change_gap, how_many_cycles}
 use Rattle.fr_coverage.proofs.spans.first_change.Given as goal
 
 abbrev pub invariant-loop-cycle : goal.invariant-loop-cycle
 invariant-loop-cycle l = record {
-  within : l.cycle ≤ cycles_of l.drift;
+  within : l.cycle ≤ how_many_cycles l.drift;
   none : first_below (change_gap l.params l.drift l.node) l.cycle ≡ None;
 }
 
 abbrev pub decreases-loop-cycle : goal.decreases-loop-cycle
-decreases-loop-cycle l = cycles_of l.drift - l.cycle
+decreases-loop-cycle l = how_many_cycles l.drift - l.cycle

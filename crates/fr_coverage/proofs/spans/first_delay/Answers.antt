@@ -2,7 +2,7 @@ use Rattle.std.proofs.Common.{◌≡◌, ◌<◌, ◌≤◌, arith, rules, sym, 
 use mir.Val.{to_z, of_z}
 use mir.Syntax.{w64}
 use Rattle.std.proofs.lemmas.Int.{to_z-of_z}
-use Rattle.fr_coverage.specs.Coverage.{delay_gap, cycles_of, is_wrong}
+use Rattle.fr_coverage.specs.Coverage.{delay_gap, how_many_cycles, is_wrong}
 use Rattle.fr_coverage.proofs.First.{below-zero, below-found, below-skip}
 use Rattle.fr_coverage.proofs.Stretches.{delay-found, delay-quiet}
 use Rattle.fr_coverage.proofs.spans.first_delay.Goals as goal
@@ -14,9 +14,9 @@ pub returns-then-is_wrong : goal.returns-then-is_wrong
 returns-then-is_wrong c =
     let back : to_z w64 (of_z w64 c.delay-ticks.result) ≡ c.delay-ticks.result = to_z-of_z w64 c.delay-ticks.result (search rules) in
     let off : is_wrong c.args.params.now c.args.channel c.delay-ticks.result ≡ true = rw (← back) (search rules) in
-    let below : c.loop-cycle.cycle < cycles_of c.args.drift.now = omega (arith, c.cycles-end.ensures.value) in
+    let below : c.loop-cycle.cycle < how_many_cycles c.args.drift.now = omega (arith, c.cycles-end.ensures.value) in
     rw back
-    (sym (below-found (delay_gap c.args.params.now c.args.drift.now c.args.sender c.args.receiver c.args.channel) c.loop-cycle.cycle (cycles_of c.args.drift.now) _ c.loop-cycle.invariant.none
+    (sym (below-found (delay_gap c.args.params.now c.args.drift.now c.args.sender c.args.receiver c.args.channel) c.loop-cycle.cycle (how_many_cycles c.args.drift.now) _ c.loop-cycle.invariant.none
     (delay-found c.args.params.now c.args.drift.now c.args.sender c.args.receiver c.args.channel c.loop-cycle.cycle c.delay-ticks.result c.delay-ticks.ensures.value off) below))
 
 pub loop-cycle-preserved : goal.loop-cycle-preserved

@@ -2,7 +2,7 @@ use Rattle.std.proofs.Common.{◌≡◌, ◌<◌, ◌≤◌, arith, rules, sym, 
 use mir.Val.{to_z, of_z}
 use mir.Syntax.{w64}
 use Rattle.std.proofs.lemmas.Int.{to_z-of_z}
-use Rattle.fr_coverage.specs.Coverage.{length_gap, cycles_of, is_off}
+use Rattle.fr_coverage.specs.Coverage.{length_gap, how_many_cycles, is_off}
 use Rattle.fr_coverage.proofs.First.{below-zero, below-found, below-skip}
 use Rattle.fr_coverage.proofs.Stretches.{length-found, length-quiet}
 use Rattle.fr_coverage.proofs.spans.first_length.Goals as goal
@@ -14,9 +14,9 @@ pub returns-then-is_off : goal.returns-then-is_off
 returns-then-is_off c =
     let back : to_z w64 (of_z w64 c.length-ticks.result) ≡ c.length-ticks.result = to_z-of_z w64 c.length-ticks.result (search rules) in
     let off : is_off c.args.params.now c.length-ticks.result ≡ true = rw (← back) (search rules) in
-    let below : c.loop-cycle.cycle < cycles_of c.args.drift.now = omega (arith, c.cycles-end.ensures.value) in
+    let below : c.loop-cycle.cycle < how_many_cycles c.args.drift.now = omega (arith, c.cycles-end.ensures.value) in
     rw back
-    (sym (below-found (length_gap c.args.params.now c.args.drift.now c.args.node) c.loop-cycle.cycle (cycles_of c.args.drift.now) _ c.loop-cycle.invariant.none
+    (sym (below-found (length_gap c.args.params.now c.args.drift.now c.args.node) c.loop-cycle.cycle (how_many_cycles c.args.drift.now) _ c.loop-cycle.invariant.none
     (length-found c.args.params.now c.args.drift.now c.args.node c.loop-cycle.cycle c.length-ticks.result c.length-ticks.ensures.value off) below))
 
 pub loop-cycle-preserved : goal.loop-cycle-preserved

@@ -2,7 +2,7 @@ use Rattle.std.proofs.Common.{◌<◌, ◌≤◌, ◌∙◌, ◌+◌, List, Opti
 use Rattle.std.specs.Prelude.{filter_map}
 use Rattle.fr_node.specs.Listening.{ListenerView}
 use Rattle.fr_node.specs.View.{NodeView}
-use Rattle.fr_standing.specs.Placing.{put_all}
+use Rattle.fr_air.specs.Placing.{put_all}
 use Rattle.fr_world.proofs.Beginners.{begun-all, begun-fits, begun-next}
 use Rattle.fr_world.specs.Succeeding.{first_now}
 use Rattle.fr_world.proofs.beginning.begin_following.Goals as goal

@@ -1,7 +1,7 @@
 use Rattle.std.proofs.Common.{◌≡◌, ◌≤◌, drop}
 use Rattle.std.specs.Prelude.{All, filter_map, vec_capacity}
 use Rattle.fr_node.specs.Fits.{NodeFits}
-use Rattle.fr_standing.specs.Placing.{put_all}
+use Rattle.fr_air.specs.Placing.{put_all}
 use Rattle.fr_world.specs.Succeeding.{first_now}
 use Rattle.fr_world.proofs.beginning.begin_following.Given as goal
 

@@ -5,7 +5,7 @@ use Rattle.std.proofs.lemmas.Option.{get_or_from_slice_get}
 use Rattle.fr_cluster.specs.declared.nodes.NodeSpec.{NodeSpec}
 use Rattle.fr_node.specs.Listening.{ListenerView}
 use Rattle.fr_world.proofs.Beginners.{all-listen, given-few, given-more, listeners-given}
-use Rattle.fr_world.specs.Listening.{IsListener}
+use Rattle.fr_air.specs.Listening.{IsListener}
 use Rattle.fr_world.specs.Succeeding.{listener_now}
 use Rattle.fr_world.proofs.beginning.begin_listening.Goals as goal
 

@@ -3,7 +3,7 @@ use Rattle.std.proofs.lemmas.Int.{ints, to_z-of_z}
 use Rattle.fr_drift.specs.Questions.{length_of}
 use Rattle.fr_drift.specs.View.{DriftView}
 use Rattle.fr_node.specs.Listening.{first_of}
-use Rattle.fr_world.proofs.Caught.{own-indexed}
+use Rattle.fr_air.proofs.Caught.{own-indexed}
 use Rattle.fr_world.proofs.beginning.first.Goals as goal
 
 pub first-requires-clause-reference : goal.first-requires-clause-reference

@@ -6,11 +6,11 @@ use Rattle.fr_drift.specs.View.{DriftView}
 use Rattle.fr_node.specs.Cycle.{fresh}
 use Rattle.fr_node.specs.View.{NodeView}
 use Rattle.fr_history.specs.Terms.{outcomes_in}
-use Rattle.fr_standing.specs.Nodes.{outcomes_behind, readings_behind}
+use Rattle.fr_air.specs.Nodes.{outcomes_after, readings_after}
 use Rattle.fr_world.proofs.building.fresh_node.Goals as goal
 
 pub returns-clause-node : goal.returns-clause-node
-unfolding readings_behind outcomes_in outcomes_behind
+unfolding readings_after outcomes_in outcomes_after
 returns-clause-node c =
     let p = c.args.files.now.params in
     let id = c.args.spec.now.id in

@@ -5,11 +5,11 @@ use Rattle.std.proofs.lemmas.Option.{get_or_from_slice_get}
 use Rattle.fr_cluster.specs.declared.nodes.NodeSpec.{NodeSpec}
 use Rattle.fr_node.specs.View.{NodeView}
 use Rattle.fr_cluster.specs.Setting.{Setting, is_correct}
-use Rattle.fr_joined.specs.Standing.{has_row}
-use Rattle.fr_standing.specs.Views.{node_behind}
-use Rattle.fr_standing.proofs.Placing.{filter_both}
+use Rattle.fr_history.specs.Standing.{has_row}
+use Rattle.fr_air.specs.Views.{node_of_next}
+use Rattle.fr_air.proofs.Placing.{filter_both}
 use Rattle.fr_world.proofs.Fresh.{among-known, made-step}
-use Rattle.fr_world.specs.Files.{setting_in}
+use Rattle.fr_air.specs.Files.{setting_in}
 use Rattle.fr_world.specs.World.{is_fresh}
 use Rattle.fr_world.proofs.building.fresh_nodes.Goals as goal
 
@@ -26,7 +26,7 @@ loop-place-preserved c =
     let specs = c.args.files.now.params.nodes in
     let spec = c.spec_at-spec.result.now in
     let test : NodeSpec → Bool = λ node. is_fresh x node.id in
-    let f : NodeSpec → NodeView = λ node. node_behind x [] false node.id in
+    let f : NodeSpec → NodeView = λ node. node_of_next x [] false node.id in
     let lt : c.loop-place.place < length specs = omega arith in
     let at : spec ≡ get_or specs c.loop-place.place spec = sym (get_or_from_slice_get specs c.loop-place.place spec spec c.spec_at-spec.ensures) in
     let pushed = c.in_ok-push_fresh.ensures.fresh in
@@ -42,7 +42,7 @@ returns-clause-fresh c =
     let x : Setting = setting_in c.args.files.now in
     let specs = c.args.files.now.params.nodes in
     let done : length specs ≤ c.loop-place.place = omega arith in
-    let f : NodeSpec → NodeView = λ node. node_behind x [] false node.id in
+    let f : NodeSpec → NodeView = λ node. node_of_next x [] false node.id in
     record {
       nodes_are = c.loop-place.invariant.nodes_are
           ∙ ap (λ (some : List NodeSpec). map f (filter (λ node. is_fresh x node.id) some)) (take_all c.loop-place.place specs done)

@@ -3,7 +3,7 @@ use Rattle.std.specs.List.{range_with_len}
 use Rattle.std.proofs.lemmas.List.FromFn.{length-range_with_len}
 use Rattle.std.specs.Prelude.{is_some}
 use Rattle.fr_cluster.specs.Questions.{key_index_of}
-use Rattle.fr_world.proofs.OneCycle.{length-kept}
+use Rattle.fr_air.proofs.OneCycle.{length-kept}
 use Rattle.fr_world.proofs.Fresh.{dropped-more, kept-more}
 use Rattle.fr_world.proofs.building.key_slots_of.Goals as goal
 use Rattle.fr_world.proofs.building.key_slots_of.Goals.{then-is_some+in_ok-push, else-is_some}

@@ -4,9 +4,9 @@ use Rattle.std.proofs.lemmas.List.Elements.{All-push}
 use Rattle.fr_cluster.specs.Setting.{Setting}
 use Rattle.fr_node.specs.Fits.{NodeFits}
 use Rattle.fr_node.specs.View.{NodeView, node_row_of}
-use Rattle.fr_standing.specs.Views.{node_behind}
-use Rattle.fr_world.specs.Files.{setting_in}
-use Rattle.fr_world.specs.Listening.{StartsEarly}
+use Rattle.fr_air.specs.Views.{node_of_next}
+use Rattle.fr_air.specs.Files.{setting_in}
+use Rattle.fr_air.specs.Listening.{StartsEarly}
 use Rattle.fr_world.specs.World.{fresh_of, is_fresh}
 use Rattle.fr_world.proofs.building.push_fresh.Goals as goal
 
@@ -17,7 +17,7 @@ returns-in_ok-push-clause-fresh c =
     let spec = c.args.spec.now in
     let before = c.args.nodes.now.items in
     let fresh : is_fresh x spec.id ≡ true = cc in
-    let one : fresh_of f spec ≡ node_behind x [] false spec.id ∷ [] = rw fresh refl in
+    let one : fresh_of f spec ≡ node_of_next x [] false spec.id ∷ [] = rw fresh refl in
     let pushed = c.in_ok-push.ensures.items in
     let Fit : List NodeView → Type 0 = λ ns. All (NodeFits f.params) ns in
     let Early : List NodeView → Type 0 = λ ns. All (λ (node : NodeView). StartsEarly f 0 (node_row_of node)) ns in

@@ -3,9 +3,9 @@ use Rattle.std.specs.Prelude.{All}
 use Rattle.std.proofs.lemmas.Grind.{common_steps}
 use Rattle.std.proofs.lemmas.List.{take_all}
 use Rattle.fr_node.specs.View.{NodeView}
-use Rattle.fr_world.proofs.Loops.{swept-more}
+use Rattle.fr_air.proofs.Loops.{swept-more}
 use Rattle.fr_world.proofs.Sweeps.{all-more}
-use Rattle.fr_world.specs.Cycling.{begun_in, IsReady}
+use Rattle.fr_air.specs.Cycling.{begun_in, IsReady}
 use Rattle.fr_world.proofs.cycling.begin_all.Goals as goal
 
 pub loop-node-preserved : goal.loop-node-preserved

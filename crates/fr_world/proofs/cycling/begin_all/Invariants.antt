@@ -1,6 +1,6 @@
 use Rattle.std.proofs.Common.{◌≡◌, ◌++◌, map, take, drop}
 use Rattle.std.specs.Prelude.{All}
-use Rattle.fr_world.specs.Cycling.{begun_in, IsReady}
+use Rattle.fr_air.specs.Cycling.{begun_in, IsReady}
 use Rattle.fr_world.proofs.cycling.begin_all.Given as goal
 
 -- the cycle of the nodes so far has begun, and the others are as they were

@@ -6,7 +6,7 @@ use Rattle.fr_base.specs.declared.node_row.NodeRow.{NodeRow}
 use Rattle.fr_time.proofs.Placing.{placeable_lem}
 use Rattle.fr_node.specs.Cycle.{ended, ended_row_of_node}
 use Rattle.fr_node.specs.Fits.{NodeFits}
-use Rattle.fr_world.proofs.Loops.{swept-more, swept-next}
+use Rattle.fr_air.proofs.Loops.{swept-more, swept-next}
 use Rattle.fr_world.proofs.Sweeps.{rows-below}
 use Rattle.fr_time.specs.Placed.{IsPlacedRow}
 use Rattle.fr_time.specs.Position.{grid_for}

@@ -2,7 +2,7 @@ use Rattle.std.proofs.Common.{◌≡◌, ◌<◌, ◌∙◌, length, ap, sym, ar
 use Rattle.std.proofs.lemmas.List.Elements.{All-set}
 use Rattle.fr_node.specs.Cycle.{ended}
 use Rattle.fr_node.specs.Fits.{NodeFits}
-use Rattle.fr_world.proofs.Loops.{swept-more}
+use Rattle.fr_air.proofs.Loops.{swept-more}
 use Rattle.fr_world.proofs.cycling.end_followers.Goals as goal
 
 pub loop-node-preserved : goal.loop-node-preserved

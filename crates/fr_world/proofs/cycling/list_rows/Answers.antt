@@ -5,8 +5,8 @@ use Rattle.std.proofs.lemmas.List.Elements.{All-map, All-push}
 use Rattle.fr_base.specs.declared.node_row.NodeRow.{NodeRow}
 use Rattle.fr_base.specs.Within.{IsWithin}
 use Rattle.fr_node.specs.View.{NodeView, node_row_of}
-use Rattle.fr_world.specs.Cycling.{IsReady}
-use Rattle.fr_world.specs.Sending.{IsEarlyRow}
+use Rattle.fr_air.specs.Cycling.{IsReady}
+use Rattle.fr_air.specs.Sending.{IsEarlyRow}
 use Rattle.fr_world.proofs.Sweeps.{All-at, below}
 use Rattle.fr_world.proofs.cycling.list_rows.Goals as goal
 

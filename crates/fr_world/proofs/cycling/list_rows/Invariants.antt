@@ -1,7 +1,7 @@
 use Rattle.std.proofs.Common.{◌≡◌, map, take}
 use Rattle.std.specs.Prelude.{All}
 use Rattle.fr_node.specs.View.{node_row_of}
-use Rattle.fr_world.specs.Sending.{IsEarlyRow}
+use Rattle.fr_air.specs.Sending.{IsEarlyRow}
 use Rattle.fr_world.proofs.cycling.list_rows.Given as goal
 
 -- the rows of the nodes so far are listed

@@ -1,10 +1,10 @@
 use Rattle.std.proofs.Common.{◌≡◌, ◌∙◌, ◌+◌, ◌++◌, List, take, drop, ap, sym, subst}
 use Rattle.std.specs.Prelude.{All}
 use Rattle.std.proofs.lemmas.List.{get_or_default}
-use Rattle.fr_node.specs.Cycle.{joined}
+use Rattle.fr_node.specs.Cycle.{as_joined}
 use Rattle.fr_node.specs.Fits.{NodeFits}
 use Rattle.fr_node.specs.View.{NodeView}
-use Rattle.fr_standing.specs.Placing.{put}
+use Rattle.fr_air.specs.Placing.{put}
 use Rattle.fr_world.proofs.Passed.{all-but, joins-fits, passed-gone, passed-goes, passed-joins, All-put}
 use Rattle.fr_world.proofs.Sweeps.{All-at}
 use Rattle.fr_world.specs.Succeeding.{goes_now, HasFollowed, Passes}
@@ -22,8 +22,8 @@ returns-then-joins-clause-passes c =
     let node : NodeView = c.index.result.now in
     let same : c.remove-node.result ≡ node = c.remove-node.ensures.value ∙ get_or_default followers a.place c.remove-node.result node c.requires.place ∙ sym c.index.ensures in
     let left : c.remove-node.new.self.items ≡ take a.place followers ++ drop (a.place + 1) followers = c.remove-node.ensures.by_index.2 in
-    let placed : c.put.new.nodes.items ≡ put (λ n. n.id) (joined node) a.nodes.now.items =
-    c.put.ensures.placed ∙ ap (λ (n : NodeView). put (λ m. m.id) n a.nodes.now.items) (c.join.ensures.value ∙ ap joined same) in
+    let placed : c.put.new.nodes.items ≡ put (λ n. n.id) (as_joined node) a.nodes.now.items =
+    c.put.ensures.placed ∙ ap (λ (n : NodeView). put (λ m. m.id) n a.nodes.now.items) (c.join.ensures.value ∙ ap as_joined same) in
     let P : List NodeView → Type 0 = λ after. Passes a.files.now a.double a.place a.place followers a.nodes.now.items after c.put.new.nodes.items in
     let Q : List NodeView → Type 0 = λ after. Passes a.files.now a.double a.place a.place followers a.nodes.now.items (take a.place followers ++ drop (a.place + 1) followers) after in
     subst P (sym left) (subst Q (sym placed)

@@ -1,7 +1,7 @@
 use Rattle.std.proofs.Common.{◌≡◌, ◌∙◌, List, sym, subst}
 use Rattle.std.specs.List.{insert}
 use Rattle.fr_node.specs.View.{NodeView}
-use Rattle.fr_standing.specs.Placing.{put}
+use Rattle.fr_air.specs.Placing.{put}
 use Rattle.fr_world.proofs.joining.put.Goals as goal
 
 pub returns-clause-placed : goal.returns-clause-placed

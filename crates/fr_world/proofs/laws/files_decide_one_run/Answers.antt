@@ -1,4 +1,4 @@
-use Rattle.fr_world.proofs.Deciding.{decided-setting}
+use Rattle.fr_air.proofs.Deciding.{decided-setting}
 use Rattle.fr_coverage.specs.Decided.{setting_of}
 use Rattle.fr_world.proofs.laws.files_decide_one_run.Goals as goal
 

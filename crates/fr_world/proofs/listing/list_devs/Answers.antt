@@ -3,7 +3,7 @@ use Rattle.std.proofs.Math.Nat.{mul-le-mul_left}
 use Rattle.fr_base.specs.declared.dev.Dev.{Dev}
 use Rattle.fr_node.specs.View.{NodeView}
 use Rattle.fr_world.proofs.Sweeps.{flat-more, later-node}
-use Rattle.fr_world.specs.Listing.{listed_of}
+use Rattle.fr_air.specs.Listing.{listed_of}
 use Rattle.fr_world.proofs.listing.list_devs.Goals as goal
 
 pub list_node-requires-clause-later : goal.list_node-requires-clause-later

@@ -1,5 +1,5 @@
 use Rattle.std.proofs.Common.{◌≡◌, ◌+◌, ◌*◌, ◌≤◌, length, take}
-use Rattle.fr_world.specs.Listing.{listed_among}
+use Rattle.fr_air.specs.Listing.{listed_among}
 use Rattle.fr_world.proofs.listing.list_devs.Given as goal
 
 -- the deviations of the nodes so far are listed

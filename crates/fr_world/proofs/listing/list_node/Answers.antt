@@ -4,7 +4,7 @@ use Rattle.std.proofs.lemmas.List.{append-nil, take_all}
 use Rattle.fr_base.specs.declared.dev.Dev.{Dev}
 use Rattle.fr_history.specs.Offers.{channels}
 use Rattle.fr_world.proofs.Sweeps.{flat-more, later-slot}
-use Rattle.fr_world.specs.Listing.{listed_at}
+use Rattle.fr_air.specs.Listing.{listed_at}
 use Rattle.fr_world.proofs.listing.list_node.Goals as goal
 
 pub loop-slot-init : goal.loop-slot-init

@@ -1,7 +1,7 @@
 use Rattle.std.proofs.Common.{◌≡◌, ◌+◌, ◌*◌, ◌≤◌, ◌++◌, length, take}
 use Rattle.std.specs.List.{flat_map}
 use Rattle.fr_history.specs.Offers.{channels}
-use Rattle.fr_world.specs.Listing.{listed_at}
+use Rattle.fr_air.specs.Listing.{listed_at}
 use Rattle.fr_world.proofs.listing.list_node.Given as goal
 
 -- the deviations in the key slots so far are listed

@@ -5,7 +5,7 @@ use Rattle.fr_base.specs.declared.channel.Channel.TheVariants.{B}
 use Rattle.fr_base.specs.declared.dev.Dev.{Dev}
 use Rattle.fr_world.proofs.Sweeps.{both-channels, later-b}
 use Rattle.fr_base.specs.Rows.{dev_with}
-use Rattle.fr_world.specs.Listing.{listed_at}
+use Rattle.fr_air.specs.Listing.{listed_at}
 use Rattle.fr_world.proofs.listing.list_slot.Goals as goal
 
 pub list_at-requires-2 : goal.list_at-requires-2

@@ -3,17 +3,17 @@ use Rattle.std.specs.Prelude.{All}
 use Rattle.fr_base.specs.Counts.{AreAtMost, no_counts}
 use Rattle.fr_cluster.specs.Setting.{Setting}
 use Rattle.fr_history.specs.Recorded.{recorded}
-use Rattle.fr_joined.specs.Next.{cycles_of, next_cycle}
-use Rattle.fr_joined.proofs.Exists.{length-cycles_of}
+use Rattle.fr_history.specs.Next.{cycles_of, next_cycle}
+use Rattle.fr_history.proofs.RunsExist.{length-cycles_of}
 use Rattle.fr_world.proofs.Asked.{all-listen, has-few, has-passed}
 use Rattle.fr_world.proofs.Early.{all-ended}
-use Rattle.fr_world.proofs.OneCycle.{all-wait, are-listable, counts-are, devs-are, keys-ascend, record-is, rows-are, waiting-listable}
+use Rattle.fr_air.proofs.OneCycle.{all-wait, are-listable, counts-are, devs-are, keys-ascend, record-is, rows-are, waiting-listable}
 use Rattle.fr_world.proofs.Stepping.{AreHeard, IsBefore, before-is, early-caught, first-few, first-memory, first-succeeds, keeps-on, listeners-heard, nodes-caught, remembers-on, rows-early, rows-start}
 use Rattle.fr_world.proofs.Stages.{begun-stage, counts-walked}
-use Rattle.fr_world.specs.Files.{setting_in}
+use Rattle.fr_air.specs.Files.{setting_in}
 use Rattle.fr_node.specs.Listening.{ListenerView}
 use Rattle.fr_node.specs.View.{node_row_of}
-use Rattle.fr_world.specs.Listening.{IsListener}
+use Rattle.fr_air.specs.Listening.{IsListener}
 use Rattle.fr_world.specs.Stage.{AllReady, StageView}
 use Rattle.fr_world.proofs.running.run_cycle.Goals as goal
 

@@ -1,6 +1,6 @@
 use Rattle.std.proofs.Common.{take, ◌+◌, [], refl, subst, sym}
 use Rattle.fr_base.specs.declared.node_row.NodeRow.{NodeRow}
-use Rattle.fr_trace_gap.proofs.Parts.{take_one_more}
+use Rattle.fr_verdict.proofs.Parts.{take_one_more}
 use Rattle.fr_check.specs.Corrections.{IsCorrection}
 use Rattle.fr_check.proofs.Controlling.{one_stepped, stood_still}
 use Rattle.fr_check.proofs.Sounded.{above_all}

@@ -2,7 +2,7 @@ use Rattle.std.proofs.Common.{◌<◌, ◌+◌, ◌∙◌, List, length, take, r
 use Rattle.fr_base.specs.declared.node_row.NodeRow.{NodeRow}
 use Rattle.fr_time.specs.Instant.{KeepsLimits}
 use Rattle.fr_trace.specs.Cycles.{history_by}
-use Rattle.fr_trace_gap.proofs.Parts.{take_one_of}
+use Rattle.fr_verdict.proofs.Parts.{take_one_of}
 use Rattle.fr_check.proofs.Kept.{one_kept}
 use Rattle.fr_check.proofs.Sounded.{above_all, item_of}
 use Rattle.fr_check.proofs.corrections.Corrections.compute.Goals as goal

@@ -1,5 +1,5 @@
 use Rattle.std.proofs.Common.{arith}
-use Rattle.fr_cold.specs.Questions.{end_of}
+use Rattle.fr_cold.specs.Questions.{macroticks_of_run}
 use Rattle.fr_cold.proofs.Runs.{quiet-same, quiet-stands}
 use Rattle.fr_cold.proofs.cold.Cold.skip.Goals as goal
 
@@ -24,6 +24,6 @@ returns-clause-skipped c =
       later = c.next_event-self-inside.ensures.from;
       told = told;
       same =
-          quiet-same c.args.params.now c.args.power.now c.self.inside.table c.self.inside.at c.next_event-self-inside.result (end_of c.args.params.now c.args.power.now) stands.states
+          quiet-same c.args.params.now c.args.power.now c.self.inside.table c.self.inside.at c.next_event-self-inside.result (macroticks_of_run c.args.params.now c.args.power.now) stands.states
           c.next_event-self-inside.ensures.quiet c.next_event-self-inside.ensures.from (omega arith);
     })

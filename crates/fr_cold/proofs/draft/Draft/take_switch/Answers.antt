@@ -1,6 +1,7 @@
 use Rattle.std.proofs.Common.{◌≡◌, Option, true, false, refl, rules, sym, ap, ◌∙◌}
 use Rattle.fr_startup.specs.Cluster.{is_starter}
-use Rattle.fr_cold.specs.Reasons.{is_known, is_out_of_turn, last_at}
+use Rattle.fr_cold.specs.Reasons.{is_out_of_turn, last_at}
+use Rattle.fr_cluster.specs.Questions.{is_known}
 use Rattle.fr_cold.specs.declared.draft.Last.{Last}
 use Rattle.fr_cold.proofs.Tables.{draft-switch}
 use Rattle.fr_cold.proofs.draft.Draft.take_switch.Goals as goal

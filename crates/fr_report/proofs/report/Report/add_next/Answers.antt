@@ -1,6 +1,6 @@
 use Rattle.std.proofs.Common.{◌≡◌, ◌+◌, ◌∷◌, ◌∙◌, ap, subst, sym, arith}
 use Rattle.fr_drift.specs.Questions.{doubles_of}
-use Rattle.fr_joined.specs.Next.{next_cycle}
+use Rattle.fr_history.specs.Next.{next_cycle}
 use Rattle.fr_world.specs.World.{followed_last, setting_after, world_cycles, WorldView}
 use Rattle.fr_report.specs.Held.{IsReportOf, ReportHolds}
 use Rattle.fr_report.proofs.Adding.{last_row, next_told, row-held, row_is_next}

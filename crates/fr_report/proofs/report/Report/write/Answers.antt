@@ -1,7 +1,7 @@
 use Rattle.std.proofs.Common.{◌≡◌, ap, subst, ◌∙◌}
 use Rattle.std.specs.Result.{result_err}
 use Rattle.fr_base.specs.Device.{Puts}
-use Rattle.fr_joined.specs.Cycles.{Cycles}
+use Rattle.fr_history.specs.Cycles.{Cycles}
 use Rattle.fr_cluster.specs.Setting.{Setting}
 use Rattle.fr_coverage.specs.declared.gap.Gap.{Gap}
 use Rattle.std.proofs.Common.{Option}

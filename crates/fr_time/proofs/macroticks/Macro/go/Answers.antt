@@ -1,10 +1,16 @@
-use Rattle.std.proofs.Common.{◌≡◌, FitsSigned, ℤ, pos, to_z, of_z, w64, sym, subst}
+use Rattle.std.proofs.Common.{◌≡◌, FitsSigned, ℤ, pos, to_z, of_z, w64, sym, subst, arith}
 use Rattle.std.specs.Prelude.{◌≤ℤ◌, ◌-ℤ◌}
-use Rattle.std.proofs.lemmas.Int.{to_z-of_z}
+use Rattle.std.proofs.lemmas.Int.{ints, to_z-of_z}
 use Rattle.fr_time.specs.Counted.{IsCounted}
 use Rattle.fr_time.specs.Walk.{IsWalk, Walk}
 use Rattle.fr_time.proofs.Walking.{placed_anew}
 use Rattle.fr_time.proofs.macroticks.Macro.go.Goals as goal
+
+pub placed-self-inside-requires : goal.placed-self-inside-requires
+placed-self-inside-requires c = omega (arith, ints, c.early_count.ensures.within, c.self.invariant.1.early_parts)
+
+pub placed-self-inside-requires-2 : goal.placed-self-inside-requires-2
+placed-self-inside-requires-2 c = omega (arith, ints, c.late_count.ensures.within, c.self.invariant.1.late_parts)
 
 pub invariant_of-self : goal.invariant_of-self
 invariant_of-self c =

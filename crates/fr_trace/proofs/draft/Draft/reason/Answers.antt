@@ -1,5 +1,5 @@
 use Rattle.std.proofs.Common.{◌∙◌}
-use Rattle.fr_trace.specs.Order.{may_follow}
+use Rattle.fr_trace.specs.Order.{may_come_next}
 use Rattle.fr_trace.specs.Reasons.{row_reason}
 use Rattle.fr_trace.proofs.draft.Draft.reason.Goals as goal
 
@@ -9,5 +9,5 @@ returns c =
     let d = c.args.self.now in
     let said = c.args.row.now in
     let far = c.so_far-so_far.ensures in
-    let comes = c.may_follow-comes.ensures ∙ (λ i. may_follow p (far.doubles i) (far.named i) (far.joins i) (far.before i) (far.here i) d.last said) in
+    let comes = c.may_follow-comes.ensures ∙ (λ i. may_come_next p (far.doubles i) (far.named i) (far.joins i) (far.before i) (far.here i) d.last said) in
     c.row_reason.ensures ∙ (λ i. row_reason p (far.named i) (far.joins i) said (comes i))

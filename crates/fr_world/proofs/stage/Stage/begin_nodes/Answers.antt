@@ -2,9 +2,9 @@ use Rattle.std.proofs.Common.{◌≡◌, ◌∙◌, List, length, map, ap, sym, 
 use Rattle.std.specs.Vec.{with_items}
 use Rattle.std.proofs.lemmas.List.{length-map, with_items_is}
 use Rattle.fr_node.specs.View.{NodeView, node_row_of}
-use Rattle.fr_world.specs.Cycling.{begun_in, AreListable}
+use Rattle.fr_air.specs.Cycling.{begun_in, AreListable}
 use Rattle.fr_world.specs.Stage.{StageView, begun_nodes}
-use Rattle.fr_world.proofs.OneCycle.{begun-listable}
+use Rattle.fr_air.proofs.OneCycle.{begun-listable}
 use Rattle.fr_world.proofs.Stages.{begun-same, made_stage}
 use Rattle.fr_world.proofs.stage.Stage.begin_nodes.Goals as goal
 

@@ -1,7 +1,7 @@
 use Rattle.std.proofs.Common.{List, sym, subst}
 use Rattle.std.specs.Prelude.{All}
 use Rattle.fr_node.specs.View.{NodeView}
-use Rattle.fr_world.specs.Cycling.{IsReady}
+use Rattle.fr_air.specs.Cycling.{IsReady}
 use Rattle.fr_world.specs.Stage.{StageView}
 use Rattle.fr_world.proofs.stage.Stage.end_followers.Goals as goal
 

@@ -1,11 +1,11 @@
 use Rattle.std.proofs.Common.{◌+◌, ◌-◌, ◌*◌, refl, arith}
 use Rattle.fr_world.proofs.Stages.{stage-more, walk-more}
-use Rattle.fr_world.specs.Files.{setting_in}
-use Rattle.fr_world.specs.Walk.{walked}
+use Rattle.fr_air.specs.Files.{setting_in}
+use Rattle.fr_air.specs.Walk.{over_slots}
 use Rattle.fr_world.proofs.stage.Stage.hear_all.Goals as goal
 
 pub loop-earlier-init : goal.loop-earlier-init
-unfolding walked
+unfolding over_slots
 loop-earlier-init c = (refl, stage-more c.args.files.now c.args.cycle 0 (130 * 0) c.args.self.now (omega arith) c.requires)
 
 pub hear_slot-requires-clause-stage : goal.hear_slot-requires-clause-stage

@@ -1,5 +1,5 @@
 use Rattle.std.proofs.Common.{◌≡◌, ◌*◌}
-use Rattle.fr_world.specs.Files.{setting_in}
+use Rattle.fr_air.specs.Files.{setting_in}
 use Rattle.fr_world.specs.Stage.{heard_after, IsStage}
 use Rattle.fr_world.proofs.stage.Stage.hear_all.Given as goal
 

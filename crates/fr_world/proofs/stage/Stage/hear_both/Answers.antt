@@ -1,8 +1,8 @@
 use Rattle.std.proofs.Common.{◌∙◌, ◌+◌, ◌-◌, ◌*◌, ap, arith}
 use Rattle.fr_base.specs.declared.channel.Channel.TheVariants.{B}
 use Rattle.fr_world.proofs.Stages.{stage-more}
-use Rattle.fr_world.specs.Files.{setting_in}
-use Rattle.fr_world.specs.Stage.{heard_on}
+use Rattle.fr_air.specs.Files.{setting_in}
+use Rattle.fr_world.specs.Stage.{after_turn}
 use Rattle.fr_world.proofs.stage.Stage.hear_both.Goals as goal
 
 pub hear_on-requires-clause-before : goal.hear_on-requires-clause-before
@@ -15,6 +15,6 @@ pub returns : goal.returns
 returns c =
     let a = c.args in
     record {
-      heard = c.hear_on-2.ensures.heard ∙ ap (heard_on (setting_in a.files.now) a.cycle a.slot B) c.hear_on.ensures.heard;
+      heard = c.hear_on-2.ensures.heard ∙ ap (after_turn (setting_in a.files.now) a.cycle a.slot B) c.hear_on.ensures.heard;
       stage = stage-more a.files.now a.cycle (130 * (a.slot - 1) + 65 * 1 + 65) (130 * a.slot) c.hear_on-2.new.self (omega arith) c.hear_on-2.ensures.is_stage;
     }

@@ -7,10 +7,10 @@ use Rattle.fr_cluster.specs.Setting.{Setting}
 use Rattle.fr_history.specs.Offers.{frame_in}
 use Rattle.fr_world.proofs.Channels.{sender-frame, sent-offer, unsent-offer}
 use Rattle.fr_world.proofs.Stages.{heard-same, hears, silent-same, still-ready}
-use Rattle.fr_world.specs.Files.{setting_in}
-use Rattle.fr_world.specs.Sending.{offer_heard, sending_row_in, IsEarlyRow}
+use Rattle.fr_air.specs.Files.{setting_in}
+use Rattle.fr_air.specs.Sending.{offer_heard, sending_row_in, IsEarlyRow}
 use Rattle.fr_world.specs.Stage.{most_before}
-use Rattle.fr_world.specs.Turns.{frame_of_turn}
+use Rattle.fr_air.specs.Turns.{frame_of_turn}
 use Rattle.fr_world.proofs.stage.Stage.hear_sent.Goals as goal
 
 pub sending_row-requires : goal.sending_row-requires

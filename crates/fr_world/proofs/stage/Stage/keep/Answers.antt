@@ -1,11 +1,11 @@
 use Rattle.std.proofs.Common.{◌≡◌, ◌∙◌, List, ℕ, Some, length, ap, ap₂, sym, subst, arith}
 use Rattle.fr_base.specs.Counts.{AreAtMost}
-use Rattle.fr_world.proofs.Loops.{at_most-more}
+use Rattle.fr_air.proofs.Loops.{at_most-more}
 use Rattle.fr_world.proofs.Stages.{before-ready, made_stage}
-use Rattle.fr_world.specs.Counting.{counted_sent}
-use Rattle.fr_world.specs.Memory.{memory_with}
+use Rattle.fr_air.specs.Counting.{counted_sent}
+use Rattle.fr_air.specs.Memory.{memory_with}
 use Rattle.fr_world.specs.Stage.{StageView, sent_on}
-use Rattle.fr_world.specs.Turns.{frame_of_turn}
+use Rattle.fr_air.specs.Turns.{frame_of_turn}
 use Rattle.fr_world.proofs.stage.Stage.keep.Goals as goal
 
 pub keep-cell-requires-clause-memory : goal.keep-cell-requires-clause-memory

@@ -5,11 +5,11 @@ use Rattle.fr_base.specs.declared.node_row.NodeRow.{NodeRow}
 use Rattle.fr_cluster.specs.Setting.{Setting}
 use Rattle.fr_reception.specs.Offers.{Offer}
 use Rattle.fr_node.specs.View.{NodeView, node_row_of}
-use Rattle.fr_world.specs.Counting.{counted_offers}
-use Rattle.fr_world.specs.Hearing.{after_offer}
-use Rattle.fr_world.specs.Files.{setting_in}
+use Rattle.fr_air.specs.Counting.{counted_offers}
+use Rattle.fr_air.specs.Hearing.{after_offer}
+use Rattle.fr_air.specs.Files.{setting_in}
 use Rattle.fr_world.specs.Stage.{StageView, answered_by_nodes}
-use Rattle.fr_world.specs.Turns.{offer_on, AreReady, IsOnAir}
+use Rattle.fr_air.specs.Turns.{offer_on, AreReady, IsOnAir}
 use Rattle.fr_world.proofs.Stages.{made_stage, offered}
 use Rattle.fr_world.proofs.stage.Stage.offer_to_nodes.Goals as goal
 

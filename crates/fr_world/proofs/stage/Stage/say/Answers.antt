@@ -1,10 +1,10 @@
 use Rattle.std.proofs.Common.{◌∙◌, List, None, Some, ap, sym, subst}
 use Rattle.fr_world.proofs.Stages.{before-ready, quiet-again, saying-ready}
-use Rattle.fr_world.specs.Files.{setting_in}
-use Rattle.fr_world.specs.Memory.{frame_on}
-use Rattle.fr_world.specs.Sending.{offer_heard}
+use Rattle.fr_air.specs.Files.{setting_in}
+use Rattle.fr_air.specs.Memory.{frame_on}
+use Rattle.fr_air.specs.Sending.{offer_heard}
 use Rattle.fr_world.specs.Stage.{StageView, answered, saying, CanAnswer}
-use Rattle.fr_world.specs.Turns.{frame_of_turn}
+use Rattle.fr_air.specs.Turns.{frame_of_turn}
 use Rattle.fr_world.proofs.stage.Stage.say.Goals as goal
 
 pub offer-requires-clause-stage : goal.offer-requires-clause-stage

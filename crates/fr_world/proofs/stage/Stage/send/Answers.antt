@@ -1,9 +1,9 @@
 use Rattle.std.proofs.Common.{◌∙◌, ℕ, List, Some, ap}
 use Rattle.fr_world.proofs.Stages.{sent-ready}
-use Rattle.fr_world.specs.Files.{setting_in}
-use Rattle.fr_world.specs.Sending.{offer_heard}
+use Rattle.fr_air.specs.Files.{setting_in}
+use Rattle.fr_air.specs.Sending.{offer_heard}
 use Rattle.fr_world.specs.Stage.{answered}
-use Rattle.fr_world.specs.Turns.{frame_of_turn}
+use Rattle.fr_air.specs.Turns.{frame_of_turn}
 use Rattle.fr_world.proofs.stage.Stage.send.Goals as goal
 
 pub offer-requires-clause-stage : goal.offer-requires-clause-stage

@@ -2,19 +2,19 @@ use Rattle.std.proofs.Common.{◌≡◌, ◌∙◌, List, ap, subst, sym, arith}
 use Rattle.std.specs.Prelude.{All}
 use Rattle.std.proofs.lemmas.List.Elements.{All-nil}
 use Rattle.fr_drift.specs.Files.{DriftFits}
-use Rattle.fr_joined.specs.Next.{cycles_of}
+use Rattle.fr_history.specs.Next.{cycles_of}
 use Rattle.fr_node.specs.Fits.{NodeFits}
 use Rattle.fr_node.specs.View.{NodeView, node_row_of}
-use Rattle.fr_world.specs.Listening.{StartsEarly}
-use Rattle.fr_world.specs.Memory.{held_after}
+use Rattle.fr_air.specs.Listening.{StartsEarly}
+use Rattle.fr_air.specs.Memory.{held_after}
 use Rattle.fr_world.specs.Stage.{StageView, stage_before}
-use Rattle.fr_world.specs.declared.files.Files.{Files}
+use Rattle.fr_air.specs.declared.files.RunInputs.{RunInputs}
 use Rattle.fr_world.proofs.world.World.build.Goals as goal
 
 pub invariant_of-result : goal.invariant_of-result
 unfolding cycles_of held_after
 invariant_of-result c =
-    let f : Files = record { params = c.args.params; drift = c.in_ok-drift.drift; script = c.args.script } in
+    let f : RunInputs = record { params = c.args.params; drift = c.in_ok-drift.drift; script = c.args.script } in
     let built : c.in_ok-stage.stage ≡ stage_before c.in_ok-nodes.nodes.items c.in_ok-memory.memory = c.in_ok-stage.ensures in
     let fresh = c.in_ok-nodes.ensures.fresh in
     let nodes = ap (λ (s : StageView). s.nodes) built in

@@ -1,8 +1,8 @@
 use Rattle.std.proofs.Common.{◌≡◌, subst}
-use Rattle.fr_joined.specs.Next.{cycles_of}
+use Rattle.fr_history.specs.Next.{cycles_of}
 use Rattle.fr_world.proofs.NodeIn.{followed-kept}
-use Rattle.fr_world.proofs.OneCycle.{next-one}
-use Rattle.fr_world.specs.Files.{setting_in}
+use Rattle.fr_air.proofs.OneCycle.{next-one}
+use Rattle.fr_air.specs.Files.{setting_in}
 use Rattle.fr_world.specs.World.{followed_last, world_cycles, WorldView}
 use Rattle.fr_world.proofs.world.World.following.Goals as goal
 

@@ -1,10 +1,10 @@
 use Rattle.std.proofs.Common.{◌≡◌, ◌∙◌, List, ap, subst}
 use Rattle.std.specs.Prelude.{find, ◌==◌}
 use Rattle.std.specs.Option.{option_copied}
-use Rattle.fr_joined.specs.Next.{cycles_of}
+use Rattle.fr_history.specs.Next.{cycles_of}
 use Rattle.fr_node.specs.View.{NodeView}
 use Rattle.fr_world.proofs.NodeIn.{copied_between, node-between, node-found}
-use Rattle.fr_world.specs.Files.{setting_in}
+use Rattle.fr_air.specs.Files.{setting_in}
 use Rattle.fr_world.specs.World.{node_seen, WorldView}
 use Rattle.fr_world.proofs.world.World.node.Goals as goal
 

@@ -1,0 +1,19 @@
+-- what the public contract cites
+pub mod Placing
+pub mod NextStanding
+pub mod Listeners
+pub mod Nodes
+pub mod Worked
+pub mod Views
+pub mod Files
+pub mod Listing
+pub mod Walk
+pub mod Memory
+pub mod Hearing
+pub mod Counting
+pub mod Sending
+pub mod Cycling
+pub mod Turns
+pub mod Kept
+pub mod Cells
+pub mod Listening

@@ -1,0 +1,190 @@
+ghost use Rattle.std.specs.Prelude.{◌≡◌, ℕ, ◌≤◌, List, All, Some, length, map};
+ghost use Rattle.fr_base.specs.Counts.{AreAtMost};
+ghost use Rattle.fr_node.specs.View.{node_row_of};
+ghost use Rattle.fr_time.specs.Instant.{IsSlotOf};
+ghost use Rattle.fr_air.specs.Cycling.{IsReady};
+ghost use Rattle.fr_air.specs.Files.{setting_in};
+ghost use Rattle.fr_air.specs.Memory.{frame_on};
+ghost use Rattle.fr_air.specs.Sending.{coming_offer, hears, offer_heard, said_by, said_with, sent_with, ComesAs, IsComing, IsDue, IsEarlyRow};
+ghost use Rattle.fr_air.specs.Turns.{heard_on_air, offer_on, AreReady, CanHear, HasHeard, HaveHeard, IsOnAir, IsSent};
+
+use crate::files::RunInputs;
+use crate::instants::{said_at, sent_at};
+use crate::memory::Memory;
+use crate::tally::count;
+use crate::turn::{Air, Bytes, Coming, Turn};
+use fr_base::{Channel, Counts, NodeId, NodeRow, State};
+use fr_node::Node;
+use fr_script::Event;
+
+// Whether a receiver with this row hears a sender on a channel.
+fn hears(files: &RunInputs, receiver: &NodeRow, sender: NodeId, channel: Channel) -> bool
+    ensures { result ≡ hears (setting_in files.now) receiver.now sender channel }
+{
+    let node = receiver.node;
+    !matches!(receiver.state, State::Halt)
+        && files.params.common(node, node, channel)
+        && sender != node
+}
+
+// What comes to a receiver of the frame of a correct sender with this row.
+fn sent_to<'a>(
+    files: &'a RunInputs,
+    turn: &Turn,
+    sender: &NodeRow,
+    due: i64,
+    receiver: NodeId,
+) -> Option<Coming<'a>>
+    requires due { IsDue files.now turn.now sender.now due }
+    ensures { (frame : List ℕ) →
+        ComesAs turn.now frame (sent_with (setting_in files.now) turn.now sender.now frame receiver) result }
+{
+    let arrival = sent_at(files, turn, sender, due, receiver);
+    match files
+        .script
+        .at(turn.cycle, sender.node, receiver, turn.channel)
+    {
+        Event::Regular => Some(Coming {
+            arrival,
+            bytes: Bytes::Frame,
+        }),
+        Event::Flip(bit) => Some(Coming {
+            arrival,
+            bytes: Bytes::Flipped(bit),
+        }),
+        Event::Silent | Event::Say { .. } => None,
+    }
+}
+
+// The bytes of what an arbitrary sender says.
+fn said_by(bytes: Option<&[u8]>) -> Bytes<'_>
+    ensures { result ≡ said_by bytes.entry }
+{
+    match bytes {
+        None => Bytes::Frame,
+        Some(bytes) => Bytes::Said(bytes),
+    }
+}
+
+// What comes to a receiver of an arbitrary sender, which has this regular frame: what it says, if it says
+// something.
+fn said_to<'a>(
+    files: &'a RunInputs,
+    turn: &Turn,
+    sender: NodeId,
+    receiver: &NodeRow,
+) -> Option<Coming<'a>>
+    requires receiver { IsSlotOf files.now.params receiver.now turn.now.slot }
+    ensures { (frame : List ℕ) →
+        ComesAs turn.now frame (said_with (setting_in files.now) turn.now sender frame receiver.now) result }
+{
+    match files
+        .script
+        .at(turn.cycle, sender, receiver.node, turn.channel)
+    {
+        Event::Say { shift, bytes } => Some(Coming {
+            arrival: said_at(files, turn, receiver, shift),
+            bytes: said_by(bytes),
+        }),
+        Event::Regular | Event::Silent | Event::Flip(_) => None,
+    }
+}
+
+// What comes to a receiver of a frame on the air, where it hears its sender.
+fn coming_to<'a>(files: &'a RunInputs, air: &Air<'_>, receiver: &NodeRow) -> Option<Coming<'a>>
+    requires sent { IsSent files.now air.now }
+    requires receiver { IsEarlyRow files.now.params receiver.now }
+    ensures { (frame : List ℕ) → ComesAs air.now.turn.now frame
+        (offer_heard (setting_in files.now) air.now.turn.now air.now.sender.now.node air.now.sender.now.row
+        frame receiver.now)
+        result }
+{
+    let sender = air.sender;
+    if !hears(files, receiver, sender.node, air.turn.channel) {
+        return None;
+    }
+    match &sender.row {
+        Some(row) => sent_to(files, air.turn, row, air.due, receiver.node),
+        None => said_to(files, air.turn, sender.node, receiver),
+    }
+}
+
+// A node hears what comes to it of a frame on the air, and its answer is counted.
+fn hear(
+    files: &RunInputs,
+    air: &Air<'_>,
+    coming: &Coming<'_>,
+    memory: &mut Memory,
+    node: &mut Node,
+    counts: &mut Counts,
+)
+    requires hears { CanHear files.now air.now.turn.now node.old }
+    requires air { IsOnAir files.now air.now memory.old }
+    requires coming { IsComing coming.now }
+    requires few { AreAtMost 2_000_000 counts.old }
+    ensures heard { HasHeard files.now air.now.turn.now
+        (Some (coming_offer air.now.turn.now (frame_on memory.old air.now.cell) coming.now))
+        node.old counts.old node.new counts.new }
+    ensures stays { memory.new ≡ memory.old }
+{
+    let heard = memory.hear(files, air, coming, node);
+    count(counts, &heard);
+}
+
+// Offers a frame on the air to a node, where it hears its sender.
+fn offer_to(
+    files: &RunInputs,
+    air: &Air<'_>,
+    memory: &mut Memory,
+    node: &mut Node,
+    counts: &mut Counts,
+)
+    requires air { IsOnAir files.now air.now memory.old }
+    requires ready { IsReady files.now air.now.turn.now.cycle node.old }
+    requires few { AreAtMost 2_000_000 counts.old }
+    ensures heard { HasHeard files.now air.now.turn.now (offer_on files.now air.now memory.old (node_row_of node.old))
+        node.old counts.old node.new counts.new }
+    ensures stays { memory.new ≡ memory.old }
+{
+    let receiver = node.row();
+    if let Some(coming) = coming_to(files, air, &receiver) {
+        hear(files, air, &coming, memory, node, counts);
+    }
+}
+
+// Offers a frame on the air to each node that hears its sender, and counts the answers.
+pub fn offer_to_all(
+    files: &RunInputs,
+    air: &Air<'_>,
+    memory: &mut Memory,
+    nodes: &mut [Node],
+    counts: &mut Counts,
+)
+    requires air { IsOnAir files.now air.now memory.old }
+    requires ready { AreReady files.now air.now.turn.now.cycle 1_000_000 nodes.old counts.old }
+    ensures heard { HaveHeard files.now air.now.turn.now.cycle (offer_on files.now air.now memory.old)
+        nodes.old counts.old nodes.new counts.new }
+    ensures stays { memory.new ≡ memory.old }
+{
+    for node in nodes.iter_mut() {
+        offer_to(files, air, memory, node, counts);
+    }
+}
+
+// Offers it to each follower that hears its sender. What followers answer is not counted.
+pub fn offer_to_followers(
+    files: &RunInputs,
+    air: &Air<'_>,
+    memory: &mut Memory,
+    followers: &mut [Node],
+)
+    requires air { IsOnAir files.now air.now memory.old }
+    requires ready { All (IsReady files.now air.now.turn.now.cycle) followers.old }
+    requires few { length followers.old ≤ 64 }
+    ensures heard { followers.new ≡ map (heard_on_air files.now air.now memory.old) followers.old }
+    ensures ready { All (IsReady files.now air.now.turn.now.cycle) followers.new }
+    ensures stays { memory.new ≡ memory.old }
+{
+    let mut uncounted = Counts::none();
+    offer_to_all(files, air, memory, followers, &mut uncounted);
+}

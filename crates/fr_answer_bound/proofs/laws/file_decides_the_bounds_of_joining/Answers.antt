@@ -1,5 +1,0 @@
-use Rattle.fr_answer_bound.proofs.Decided.{one_join_bounds}
-use Rattle.fr_answer_bound.proofs.laws.file_decides_the_bounds_of_joining.Goals as goal
-
-pub returns : goal.returns
-returns c = one_join_bounds c.one_answer.ensures

@@ -1,5 +1,0 @@
--- what the public contract cites
-pub mod BoundAnswer
-pub mod BoundText
-pub mod SettleAnswer
-pub mod SettleText

@@ -1,5 +1,0 @@
-use Rattle.fr_answer_capture.proofs.Decided.{one_text}
-use Rattle.fr_answer_capture.proofs.laws.file_decides_the_frames.Goals as goal
-
-pub returns : goal.returns
-returns c = one_text c.one_list_of_frames.ensures

@@ -1,3 +1,0 @@
--- what the public contract cites
-pub mod ColdAnswer
-pub mod ColdText

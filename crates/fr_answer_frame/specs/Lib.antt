@@ -1,3 +1,0 @@
--- what the public contract cites
-pub mod FrameAnswer
-pub mod FrameText

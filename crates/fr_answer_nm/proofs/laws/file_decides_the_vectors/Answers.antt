@@ -1,5 +1,0 @@
-use Rattle.fr_answer_nm.proofs.Decided.{one_text}
-use Rattle.fr_answer_nm.proofs.laws.file_decides_the_vectors.Goals as goal
-
-pub returns : goal.returns
-returns c = one_text c.one_answer.ensures

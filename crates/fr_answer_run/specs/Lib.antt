@@ -1,4 +1,0 @@
--- what the public contract cites
-pub mod RunAnswer
-pub mod RunText
-pub mod MakeAnswer

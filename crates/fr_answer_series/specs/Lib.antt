@@ -1,3 +1,0 @@
--- what the public contract cites
-pub mod Request
-pub mod SeriesAnswer

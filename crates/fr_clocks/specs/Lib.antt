@@ -1,4 +1,0 @@
--- what the public contract cites
-pub mod Clocks
-pub mod Heard
-pub mod Histories

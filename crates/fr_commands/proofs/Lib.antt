@@ -1,0 +1,2 @@
+pub mod FrameDecided
+pub mod BoundDecided

@@ -1,5 +1,0 @@
-use Rattle.fr_gathered.proofs.Onward.{succeeding_goes_on_lem}
-use Rattle.fr_gathered.proofs.laws.succeeding_goes_on.Goals as goal
-
-pub returns : goal.returns
-returns c = succeeding_goes_on_lem

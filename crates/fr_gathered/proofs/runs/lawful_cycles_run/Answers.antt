@@ -1,5 +1,0 @@
-use Rattle.fr_gathered.proofs.Lawful.{lawful_cycles_run as lawful_cycles_run_lem}
-use Rattle.fr_gathered.proofs.runs.lawful_cycles_run.Goals as goal
-
-pub returns : goal.returns
-returns c = lawful_cycles_run_lem

@@ -1,5 +1,0 @@
-use Rattle.fr_gathered.proofs.Whole.{runs_keep_up as runs_keep_up_lem}
-use Rattle.fr_gathered.proofs.runs.runs_keep_up.Goals as goal
-
-pub returns : goal.returns
-returns c = runs_keep_up_lem

@@ -1,5 +1,0 @@
-use Rattle.fr_gathered.proofs.Joined.{followers_join as followers_join_lem}
-use Rattle.fr_gathered.proofs.succession.followers_join.Goals as goal
-
-pub returns : goal.returns
-returns c = followers_join_lem

@@ -1,5 +1,0 @@
-use Rattle.fr_gathered.proofs.Whole.{gatherings_go_on as gatherings_go_on_lem}
-use Rattle.fr_gathered.proofs.succession.gatherings_go_on.Goals as goal
-
-pub returns : goal.returns
-returns c = gatherings_go_on_lem

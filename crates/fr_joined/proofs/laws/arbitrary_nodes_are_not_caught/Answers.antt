@@ -1,5 +1,0 @@
-use Rattle.fr_joined.proofs.Catching.{arbitrary_nodes_are_not_caught as arbitrary_nodes_are_not_caught_lem}
-use Rattle.fr_joined.proofs.laws.arbitrary_nodes_are_not_caught.Goals as goal
-
-pub returns : goal.returns
-returns c = arbitrary_nodes_are_not_caught_lem

@@ -1,5 +1,0 @@
-use Rattle.fr_joined.proofs.Unjoined.{deaf_run_comes}
-use Rattle.fr_joined.proofs.worked.a_run_with_a_deaf_follower.Goals as goal
-
-pub returns : goal.returns
-returns c = deaf_run_comes

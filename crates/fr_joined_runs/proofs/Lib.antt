@@ -1,9 +1,0 @@
-pub mod Joining
-pub mod Together
-pub mod Stated
-pub mod AloneStated
-pub mod AloneKept
-pub mod RowsHeard
-pub mod RowsKept
-pub mod RowsNumbers
-pub mod AloneNumbers

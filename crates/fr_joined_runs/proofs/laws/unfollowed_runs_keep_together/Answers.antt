@@ -1,5 +1,0 @@
-use Rattle.fr_joined_runs.proofs.Together.{unfollowed_runs_keep_together as unfollowed_runs_keep_together_lem}
-use Rattle.fr_joined_runs.proofs.laws.unfollowed_runs_keep_together.Goals as goal
-
-pub returns : goal.returns
-returns c = unfollowed_runs_keep_together_lem

@@ -1,9 +1,0 @@
-pub mod Checked
-pub mod Listened
-pub mod Begun
-pub mod Followed
-pub mod Grouped
-pub mod Shrunken
-pub mod Worked
-pub mod WorkedGroup
-pub mod WorkedStep

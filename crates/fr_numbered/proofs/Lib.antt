@@ -1,4 +1,0 @@
-pub mod Counts
-pub mod Behind
-pub mod InOrder
-pub mod Places

@@ -1,2 +1,0 @@
--- what the laws cite
-pub mod Numbered

@@ -1,2 +1,0 @@
--- what the public contract cites
-pub mod Phrases

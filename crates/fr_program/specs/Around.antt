@@ -1,0 +1,51 @@
+-- What a call finds around it, and leaves.
+use Rattle.std.specs.Prelude.{ℕ, List, Result, Ok, Err}
+use Rattle.std.specs.Io.KnownBytes.{Appends}
+use Rattle.fr_base.specs.Device.{AppendsFront, Puts, Rose, Shelved, Sunk}
+use Rattle.fr_base.specs.declared.sink.PutFault.{PutFault}
+use Rattle.fr_records.specs.declared.told.Told.{Told}
+use Rattle.fr_program.specs.declared.failure.Failure.{Failure}
+use Rattle.fr_program.specs.declared.failure.Failure.TheVariants.{Usage, Stopped, WriteFault}
+
+-- the shelf and the first sink, before and after
+pub record Around : Type 0 where
+  pub shelf_before : Shelved
+  pub shelf_after : Shelved
+  pub out_before : Sunk
+  pub out_after : Sunk
+
+abbrev pub around_of : Shelved → Shelved → Sunk → Sunk → Around
+around_of shelf_before shelf_after out_before out_after = record {
+  shelf_before = shelf_before;
+  shelf_after = shelf_after;
+  out_before = out_before;
+  out_after = out_after;
+}
+
+-- how a request ends, before its status and its line
+abbrev pub Ending : Type 0
+Ending = Result (Unit {0}) Failure
+
+-- a text that is defined was written whole
+pub record IsWritten (IsText : List ℕ → Type 0) (before after : Sunk) : Type 0 where
+  pub text : List ℕ
+  pub defined : IsText text
+  pub grew : Appends before.written after.written text
+
+-- a front of it was written, and the sink counted a fault
+pub record IsCutShort (IsText : List ℕ → Type 0) (before after : Sunk) : Type 0 where
+  pub text : List ℕ
+  pub defined : IsText text
+  pub counted : Rose before.faults after.faults
+  pub grew : AppendsFront before.written after.written text
+
+-- what an ending says where the text of the answer is such a one, and a stop means this
+abbrev pub TextEnds : (List ℕ → Type 0) → (Told → Type 0) → Sunk → Sunk → Ending → Type 0
+TextEnds IsText Stops before after (Ok done) = IsWritten IsText before after
+TextEnds IsText Stops before after (Err WriteFault) = IsCutShort IsText before after
+TextEnds IsText Stops before after (Err (Stopped why)) = Stops why
+TextEnds IsText Stops before after (Err Usage) = ⊥
+
+-- a line was put, in one put
+abbrev pub IsLinePut : Sunk → Sunk → List ℕ → Type 0
+IsLinePut before after line = (result : Result (Unit {0}) PutFault) × Puts result before after line

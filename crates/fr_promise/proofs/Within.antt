@@ -1,0 +1,114 @@
+-- No correction term of a run that keeps together is cut or missing, of a node with a row or of one that follows.
+use Rattle.std.proofs.Common.{◌≡◌, ◌∙◌, ◌⊎◌, ℕ, zero, suc, ◌+◌, ◌*◌, ◌<◌, ◌≤◌, None, [], ◌∷◌, ◌&&◌, inl, inr, ap, ap₂, subst, arith}
+use Rattle.std.specs.Prelude.{Contains}
+use Rattle.fr_base.specs.declared.node_row.NodeRow.{NodeRow}
+use Rattle.fr_base.specs.declared.state.Outcome.{Outcome}
+use Rattle.fr_base.specs.declared.state.Outcome.TheVariants.{Within}
+use Rattle.fr_cluster.specs.Questions.{own_index}
+use Rattle.fr_cluster.specs.Setting.{Setting}
+use Rattle.fr_cluster.specs.Values.{Values}
+use Rattle.fr_cluster.specs.declared.nodes.NodeSpec.{NodeSpec}
+use Rattle.fr_correct.specs.Terms.{is_uncut, rate_term_of}
+use Rattle.fr_correct.specs.declared.term.Term.{Term}
+use Rattle.fr_measure.specs.Deviations.{rate_values_by}
+use Rattle.fr_history.specs.Cycles.{Cycle, Cycles, told_of}
+use Rattle.fr_history.specs.History.{row_for}
+use Rattle.fr_history.specs.Laws.{follower_laws, follower_offset, row_laws}
+use Rattle.fr_history.specs.Rows.{offset_after}
+use Rattle.fr_history.specs.Standing.{following_nodes, row_nodes}
+use Rattle.fr_history.specs.Terms.{offset_term_by, rate_term_by}
+use Rattle.fr_precision.specs.Round.{Hearer}
+use Rattle.fr_runs.specs.Gathered.{follower_hearer, followers_since, hearers_of, row_hearer}
+use Rattle.fr_runs.specs.Hearers.{IsOneOf, member_from}
+use Rattle.fr_runs.specs.Numbers.{rate_term_told}
+use Rattle.fr_runs.specs.Rounds.{IsDoubleOf, KeepsUp}
+use Rattle.fr_runs.specs.Whole.{IsUnfollowedRun}
+use Rattle.fr_runs.proofs.Courses.{RunTwo, follower_term_is, run_two}
+use Rattle.fr_runs.proofs.Joining.{is_run, later_at}
+use Rattle.fr_runs.proofs.Rows.{contains_map, row_runs_by}
+use Rattle.fr_runs.proofs.Succeeding.{followers_stay, gathered_nodes_succeed, rows_stay}
+use Rattle.fr_runs.proofs.Uncut.{FollowersAre}
+use Rattle.fr_runs.proofs.UnfollowedSync.{unfollowed_sync_is}
+use Rattle.fr_runs.proofs.Whole.{double_runs, none_follows, prior_of}
+use Rattle.fr_promise.specs.Statement.{TermsAreWithin}
+
+-- ---- who follows
+
+none_yet : (x : Setting) (h : Cycles) (double : ℕ) (earlier : Cycles) (even odd : Cycle) → IsUnfollowedRun x h double → IsDoubleOf h double earlier even odd → FollowersAre x earlier double
+none_yet x h double earlier even odd s d node among =
+    let run = is_run x h double s in
+    let unfollowed = unfollowed_sync_is x h double earlier even odd run.covered.sane s.rates run.run s.unfollowed d in
+    let runs = double_runs x h double earlier even odd d run.run in
+    absurd (none_follows x earlier even node runs.1.0 unfollowed.none among)
+
+followers_next : (x : Setting) (h : Cycles) (double m : ℕ) (earlier : Cycles) (even odd : Cycle) → IsUnfollowedRun x h double → double ≤ m → suc m < x.doubles
+    → IsDoubleOf h (suc m) earlier even odd → FollowersAre x earlier (suc m)
+followers_next x h double m [] even odd s from less d =
+    let counted : 0 ≡ 2 * suc m = d.counted in
+    absurd (omega (arith, counted))
+followers_next x h double m (o ∷ []) even odd s from less d =
+    let counted : 1 ≡ 2 * suc m = d.counted in
+    absurd (omega (arith, counted))
+followers_next x h double m (o ∷ e ∷ earlier) even odd s from less d =
+    let before = (later_at x h double m earlier e o s from (omega (arith, less)) (prior_of h m earlier e o even odd d)).up in
+    let run = is_run x h double s in
+    let runs = double_runs x h (suc m) (o ∷ e ∷ earlier) even odd d run.run in
+    (gathered_nodes_succeed x earlier e o even m before.gathered runs.1.0).followers_from
+
+splits : (a b : ℕ) → a ≤ suc b → (a ≤ b) ⊎ (a ≡ suc b)
+splits a b le = grind arith
+
+followers_are_at : (x : Setting) (h : Cycles) (double k : ℕ) (earlier : Cycles) (even odd : Cycle) → double ≡ k → IsUnfollowedRun x h double → IsDoubleOf h k earlier even odd → FollowersAre x earlier k
+followers_are_at x h double k earlier even odd same s d =
+    let Are : ℕ → Type 0 = λ j. IsDoubleOf h j earlier even odd → FollowersAre x earlier j in
+    subst Are same (λ own. none_yet x h double earlier even odd s own) d
+
+followers_are : (x : Setting) (h : Cycles) (double k : ℕ) (earlier : Cycles) (even odd : Cycle) → IsUnfollowedRun x h double → double ≤ k → k < x.doubles → IsDoubleOf h k earlier even odd
+    → FollowersAre x earlier k
+followers_are x h double zero earlier even odd s from less d = followers_are_at x h double 0 earlier even odd (omega (arith, from)) s d
+followers_are x h double (suc m) earlier even odd s from less d = elim (splits double m from) [
+  | inl sooner ↦ followers_next x h double m earlier even odd s sooner less d
+  | inr same ↦ followers_are_at x h double (suc m) earlier even odd same s d
+]
+
+hearer_is : (x : Setting) (h : Cycles) (even odd : Cycle) (double : ℕ) (node : NodeSpec)
+    → Contains (followers_since x h 2 double) node ⊎ Contains (followers_since x h 1 double) node → IsOneOf (hearers_of x h even odd double) (follower_hearer x even odd node.id)
+hearer_is x h even odd double node (inl second) = inl (inr (contains_map (λ (n : NodeSpec). follower_hearer x even odd n.id) (followers_since x h 2 double) node second))
+hearer_is x h even odd double node (inr first) = inr (contains_map (λ (n : NodeSpec). follower_hearer x even odd n.id) (followers_since x h 1 double) node first)
+
+-- ---- their terms
+
+two_of : (x : Setting) (h : Cycles) (even odd : Cycle) (double : ℕ) → KeepsUp x h even odd double → RunTwo x h even odd
+two_of x h even odd double up =
+    let g = up.gathered in
+    run_two x h even odd g.even_runs g.odd_runs (rows_stay x h even double g.counted g.even_runs) (followers_stay x h even double g.counted g.even_runs)
+
+row_rate_is : (x : Setting) (even odd : Cycle) (node : NodeSpec) → (row_for odd.told.rows node.id).node ≡ node.id
+    → rate_term_told x even odd node ≡ (member_from x.params (row_hearer x even odd node.id)).rate_term
+row_rate_is x even odd node own =
+    let p : Values = x.params in
+    ap (λ (id : ℕ). rate_term_of (row_for odd.told.rows node.id).rate p.damping p.rate_limit (rate_values_by p even.told.devs odd.told.devs id (own_index p node.id))) own
+
+pub terms_are_within : (x : Setting) (h : Cycles) (double : ℕ) → IsUnfollowedRun x h double → (m : ℕ) (earlier : Cycles) (even odd : Cycle) → double ≤ m → m < x.doubles
+    → IsDoubleOf h m earlier even odd → TermsAreWithin x earlier even odd
+terms_are_within x h double s m earlier even odd from less d =
+    let p : Values = x.params in
+    let up = (later_at x h double m earlier even odd s from less d).up in
+    let two = two_of x earlier even odd m up in
+    record {
+      rows = λ node among.
+          let at : NodeSpec → Hearer = λ n. row_hearer x even odd n.id in
+          let one : IsOneOf (hearers_of x earlier even odd m) (at node) = inl (inl (contains_map at (row_nodes x earlier) node among)) in
+          let late = row_runs_by (row_laws x (even ∷ earlier)) (offset_after p (told_of (even ∷ earlier)) odd.told) (row_nodes x earlier) odd.told.rows node two.odd_rows among in
+          (ap (λ (t : Term). t.outcome) (row_rate_is x even odd node late.has.number) ∙ up.rate_within (at node) one, up.offset_within (at node) one);
+      followers = λ node among.
+          let n : Hearer = follower_hearer x even odd node.id in
+          let row : NodeRow = row_for odd.followers node.id in
+          let one = hearer_is x earlier even odd m node (followers_are x h double m earlier even odd s from less d node among) in
+          let late = row_runs_by (follower_laws x (even ∷ earlier)) (follower_offset p (even ∷ earlier) odd.follower_devs) (following_nodes x earlier) odd.followers node two.odd_followers among in
+          let offset : (offset_term_by p even.follower_devs odd.follower_devs row.node None).outcome ≡ Within =
+          ap (λ k. (offset_term_by p even.follower_devs odd.follower_devs k None).outcome) late.has.number ∙ up.offset_within n one in
+          let rate : (rate_term_by p even.follower_devs odd.follower_devs row None).outcome ≡ Within =
+          ap (λ (t : Term). t.outcome) (follower_term_is x earlier even odd node.id late.has.number) ∙ up.rate_within n one in
+          ap₂ (λ (a b : Outcome). is_uncut a && is_uncut b) offset rate;
+    }

@@ -1,8 +1,0 @@
-use Rattle.std.proofs.Common.{None, ap, ◌∙◌}
-use Rattle.fr_joined.specs.Worked.{joined_run}
-use Rattle.fr_report.specs.Text.{report_of}
-use Rattle.fr_rows.proofs.Joined.{joined_report_is}
-use Rattle.fr_rows.proofs.a_report_of_a_node_that_joins.Goals as goal
-
-pub returns : goal.returns
-returns c = ap (report_of joined_run None) c.a_joined_run.ensures.cycles ∙ joined_report_is

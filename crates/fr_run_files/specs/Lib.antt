@@ -1,4 +1,0 @@
--- what the public contract cites
-pub mod Files
-pub mod Names
-pub mod Statuses

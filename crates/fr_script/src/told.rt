@@ -1,0 +1,24 @@
+use crate::fault::ScriptFault;
+use fr_records::{Shown, record_line};
+use fr_text::Piece::Word;
+use fr_text::{Line, line_of};
+
+impl Shown for ScriptFault {
+    ghost use Rattle.std.specs.Prelude.{codes};
+    ghost use Rattle.fr_script.specs.Told.{script_fault_text};
+
+    ghost called = { codes "script" };
+
+    ghost words = { script_fault_text };
+
+    fn called() -> &'static [u8] {
+        b"script"
+    }
+
+    fn line(&self, role: &[u8]) -> Line {
+        match *self {
+            ScriptFault::Row { number, reason } => record_line(role, number, reason),
+            ScriptFault::NoMemory => line_of(&[Word(role), Word(b": no memory")]),
+        }
+    }
+}

@@ -1,3 +1,0 @@
-mod Sent
-mod Cells
-mod Both

@@ -1,4 +1,0 @@
-pub mod Above
-pub mod Following
-pub mod Rows
-pub mod Worlds

@@ -1,5 +1,0 @@
--- what the public contract cites
-pub mod Figures
-pub mod Scale
-pub mod Text
-pub mod Writing

@@ -1,6 +1,0 @@
-ghost use Rattle.fr_standing.specs.Worked.{NodeThreeStands};
-
-/// A law: how the third node of the worked run stands, which listens to the first in double cycle 1.
-pub fn a_joining_node_stands()
-    ensures { NodeThreeStands }
-{}

@@ -1,9 +1,0 @@
-use Rattle.std.proofs.Common.{◌≡◌, ◌≤◌, take}
-use Rattle.fr_trace_gap.specs.Counted.{count_in}
-use Rattle.fr_trace_gap.proofs.covering.count.Given as goal
-
-abbrev pub invariant-loop-place : goal.invariant-loop-place
-invariant-loop-place l = record {
-  sum : l.sum ≡ count_in l.trace l.named (take l.place l.nodes);
-  few : l.sum ≤ l.place;
-}

@@ -1,9 +1,0 @@
-pub mod Says
-pub mod Plain
-pub mod Ascending
-pub mod Looked
-pub mod Accepted
-pub mod Channels
-pub mod Again
-pub mod Putting
-pub mod Sane

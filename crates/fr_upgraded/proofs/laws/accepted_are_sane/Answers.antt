@@ -1,5 +1,0 @@
-use Rattle.fr_upgraded.proofs.Sane.{accepted-sane}
-use Rattle.fr_upgraded.proofs.laws.accepted_are_sane.Goals as goal
-
-pub returns : goal.returns
-returns c = accepted-sane c.an_accepted_file_is_assembled.ensures

@@ -1,5 +1,0 @@
-use Rattle.fr_upgraded.proofs.Again.{all-upgraded}
-use Rattle.fr_upgraded.proofs.laws.files_are_upgraded.Goals as goal
-
-pub returns : goal.returns
-returns c = all-upgraded c.one_answer.ensures c.accepted_are_sane.ensures

@@ -1,5 +1,0 @@
-use Rattle.std.proofs.Common.{length}
-use Rattle.fr_upgraded.proofs.writing.+put_values.Given as goal
-
-abbrev pub decreases-put_values : goal.decreases-put_values
-decreases-put_values g l = length l.names.now

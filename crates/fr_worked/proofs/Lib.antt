@@ -1,0 +1,21 @@
+pub mod Computing
+pub mod Decided
+pub mod Offset
+pub mod Rates
+pub mod OneArbitrary
+pub mod Quiet
+pub mod Lost
+pub mod Joined
+pub mod TwoArbitrary
+pub mod Gaps
+pub mod Sane
+pub mod Settings
+mod Kept
+pub mod Begun
+pub mod Covered
+pub mod JoinedKept
+pub mod UnevenStated
+pub mod UnevenComes
+pub mod UnevenKept
+pub mod FarComes
+pub mod LateBegins

@@ -1,3 +1,0 @@
--- what the laws cite
-pub mod Texts
-pub mod ReadBack

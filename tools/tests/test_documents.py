@@ -1,0 +1,195 @@
+"""tools/statement, tools/house and tools/promises, over a small repository that is written here."""
+import os
+import subprocess
+import tempfile
+import textwrap
+import unittest
+
+TOOLS = os.path.dirname(os.path.dirname(os.path.realpath(__file__)))
+
+FILES = {
+    "crates.txt": "fr_low:   # the lowest\nfr_high: fr_low\n",
+    "docs/ARCHITECTURE.md": "# A map\n",
+    "README.md": "# A repository\n\n[a part](docs/PROMISES.md#what-is-proved), and `docs/PROMISES.md`, \"What is trusted\"\n",
+    "docs/PROMISES.md": """\
+        # Promises
+
+        ## What is proved
+
+        - **First.** So it is.
+
+          *By* the laws `a_law`, `other` of `fr_low` (`src/laws.rt`); `Thing::ask` of `fr_high` (`src/thing.rt`): `ends`, by
+          `IsWhole` of `fr_high` (`specs/Whole.antt`).
+
+        ## What is trusted
+
+        - **Second.** See `IsWhole` in `crates/fr_high/specs/Whole.antt` and [`IsPart`](../crates/fr_low/specs/Part.antt).
+        """,
+    "crates/fr_low/src/laws.rt": """\
+        pub fn a_law()
+            ensures { IsPart }
+        {}
+
+        pub fn other()
+            ensures { IsPart }
+        {}
+        """,
+    "crates/fr_low/specs/Part.antt": """\
+        -- a part
+        abbrev pub IsPart : Nat → Type 0
+        IsPart n =
+            n ≡ n
+
+        -- by cases
+        abbrev pub IsEnd : Asked → Type 0
+        IsEnd (run n) = IsPart n
+        IsEnd (stop n) = IsStop n
+
+        abbrev pub IsStop : Nat → Type 0
+        IsStop n = n ≡ n
+        """,
+    "crates/fr_high/src/thing.rt": """\
+        use fr_low::a_law;
+
+        pub struct Thing {
+            it: u8,
+        }
+
+        impl Thing {
+            pub fn ask(&self) -> u8
+                requires small { self.it ≤ 9 }
+                ensures ends { IsWhole result }
+            {
+                self.it
+            }
+        }
+        """,
+    "crates/fr_high/specs/Whole.antt": """\
+        use Rattle.fr_low.specs.Part.{IsPart, IsEnd as ends}
+
+        -- a whole
+        pub record IsWhole (n : Nat) : Type 0 where
+          -- its part
+          pub part : IsPart n
+          pub end : ends n
+        """,
+}
+
+
+class Case(unittest.TestCase):
+    def setUp(self):
+        room = tempfile.TemporaryDirectory()
+        self.addCleanup(room.cleanup)
+        self.top = room.name
+        for path, text in FILES.items():
+            self.write(path, textwrap.dedent(text))
+
+    def write(self, path, text):
+        os.makedirs(os.path.dirname(os.path.join(self.top, path)) or self.top, exist_ok=True)
+        with open(os.path.join(self.top, path), "w", encoding="utf-8") as file:
+            file.write(text)
+
+    def read(self, path):
+        with open(os.path.join(self.top, path), encoding="utf-8") as file:
+            return file.read()
+
+    def change(self, path, old, new):
+        text = self.read(path)
+        self.assertIn(old, text)
+        self.write(path, text.replace(old, new))
+
+    def run_tool(self, name, *words):
+        return subprocess.run([os.path.join(TOOLS, name), *words, "--top", self.top], capture_output=True, text=True, check=False)
+
+    def ends(self, status, told, name, *words):
+        """The tool ends with the status, and tells this on one of its streams."""
+        ran = self.run_tool(name, *words)
+        self.assertEqual(ran.returncode, status, ran.stdout + ran.stderr)
+        self.assertIn(told, ran.stdout + ran.stderr)
+        return ran.stdout
+
+
+class Statement(Case):
+    def test_counts_what_is_cited(self):
+        self.ends(0, "IsWhole: 4 definitions, 11 lines", "statement", "IsWhole")
+
+    def test_stops_and_cases(self):
+        self.ends(0, "2 definitions, 6 lines", "statement", "IsWhole", "--stop", "IsEnd")
+        self.ends(0, "1 definitions, 3 lines", "statement", "IsWhole", "--stop", "fr_low")
+        self.ends(0, "3 definitions, 8 lines", "statement", "IsWhole", "--case", "run")
+
+    def test_limits(self):
+        self.ends(0, "4 definitions", "statement", "IsWhole", "--most", "4", "--most-lines", "11")
+        self.ends(1, "at most 3 are allowed", "statement", "IsWhole", "--most", "3")
+        self.ends(1, "at most 10 are allowed", "statement", "IsWhole", "--most-lines", "10")
+
+    def test_names(self):
+        self.ends(2, "no definition has this name", "statement", "IsNothing")
+        self.write("crates/fr_low/specs/More.antt", "abbrev pub IsStop : Type 0\nIsStop = Unit\n")
+        self.ends(2, "several have", "statement", "IsStop")
+        self.ends(0, "1 definitions", "statement", "More.IsStop")
+
+
+class House(Case):
+    def test_within_its_limits(self):
+        self.ends(0, "crates 2 (at most 48)", "house")
+
+    def test_a_crate_that_is_not_cited(self):
+        self.change("crates/fr_high/src/thing.rt", "use fr_low::a_law;\n", "")
+        self.change("crates/fr_high/specs/Whole.antt", "Rattle.fr_low.specs", "Rattle.std.specs")
+        self.ends(1, "fr_high: fr_low", "house")
+
+    def test_a_word_twice(self):
+        for number in range(6):
+            for place in ("low", "high"):
+                self.write(f"crates/fr_{place}/specs/W{number}.antt", f"abbrev pub IsWord{number} : Type 0\n")
+        self.ends(1, "words that two files of specs/ define: 6", "house")
+
+    def test_a_wide_clause(self):
+        self.change("crates/fr_high/src/thing.rt", "IsWhole result", "IsWhole" + " result" * 15)
+        self.ends(1, "crates/fr_high/src/thing.rt:10", "house")
+
+    def test_edits_and_lines(self):
+        for number in range(7):
+            self.write(f"crates/fr_low/must-fail/{number}.edit", "file: src/laws.rt\n")
+        self.ends(1, "fr_low 7", "house")
+        self.write("docs/ARCHITECTURE.md", "a line\n" * 351)
+        self.ends(1, "lines of docs/ARCHITECTURE.md 351", "house")
+
+
+class Promises(Case):
+    def test_all_is_there(self):
+        self.ends(0, "7 names and clauses", "promises")
+
+    def test_what_is_not_there_is_told(self):
+        for path, old, new, told in (
+            ("crates/fr_low/src/laws.rt", "fn other", "fn another", "other of fr_low"),
+            ("crates/fr_high/src/thing.rt", "ensures ends", "ensures goes", "no clause ends"),
+            ("crates/fr_low/specs/Part.antt", "IsPart", "IsPiece", "IsPart in crates/fr_low/specs/Part.antt"),
+            ("docs/PROMISES.md", "## What is proved", "## What holds", "no heading what-is-proved"),
+            ("docs/PROMISES.md", "## What is trusted\n\n", "", "nothing is said to carry this"),
+            ("docs/PROMISES.md", "## What is trusted", "## What is believed", "no part What is trusted of PROMISES"),
+            ("docs/ARCHITECTURE.md", "# A map", "# A map of `fr_gone`, `IsGone`", "no crate fr_gone"),
+        ):
+            with self.subTest(told=told):
+                kept = self.read(path)
+                self.change(path, old, new)
+                self.ends(1, told, "promises")
+                self.write(path, kept)
+
+    def test_what_moved_is_mended(self):
+        text = self.read("crates/fr_low/src/laws.rt")
+        first, second = text.split("\n\n")
+        self.write("crates/fr_low/src/laws.rt", first + "\n")
+        self.write("crates/fr_high/src/others.rt", second)
+        os.rename(os.path.join(self.top, "crates/fr_low/specs/Part.antt"), os.path.join(self.top, "crates/fr_low/specs/Piece.antt"))
+        self.ends(1, "it is in crates/fr_high/src/others.rt", "promises")
+        self.ends(0, "mended", "promises", "--write")
+        mended = " ".join(self.read("docs/PROMISES.md").split())
+        self.assertIn("`a_law` of `fr_low` (`src/laws.rt`), `other` of `fr_high` (`src/others.rt`)", mended)
+        self.assertIn("[`IsPart`](../crates/fr_low/specs/Piece.antt)", mended)
+        self.ends(0, "7 names and clauses", "promises")
+
+
+if __name__ == "__main__":
+    unittest.main()
