@@ -170,7 +170,8 @@ class Studies(Bench):
         ssh = self.write("ssh", "#!/bin/sh\nwhile [ \"${1#-}\" != \"$1\" ]; do case $1 in -o | -l | -p) shift ;; esac; shift; "
                                 f"done\nhost=$1; shift; [ \"$1\" != -- ] || shift\necho $host >>{self.path('asked')}\n"
                                 "[ $host != dead ] || { echo 'ssh: connect to host dead: no route' >&2; exit 255; }\n"
-                                f"cd '{far}' && exec sh -c \"$*\"\n")
+                                # A login has a shell, whatever this environment has.
+                                f"cd '{far}' && SHELL=/bin/sh exec sh -c \"$*\"\n")
         os.chmod(ssh, 0o755)
         self.write("a.toml", SHORT)
         words = ("study", "a.toml", "--vary", "values.drift", "--values", "50,100,150", "--ssh", ssh, "--jobs", "1")
