@@ -1,4 +1,4 @@
--- What the nodes of a run that nodes join have behind some cycles, besides a start, a rate and a state: their deviations, and
+-- What the nodes of a run have after some cycles, besides a start, a rate and a state: their deviations, and
 -- how their terms ended. A node has them whether it has a row or follows.
 use Rattle.std.specs.Prelude.{◌≡◌, ℕ, ℤ, Bool, true, false, ◌||◌, List, [], ◌∷◌, ◌++◌, length, map, Contains, Option, None, Some, is_some, option_and_then, if◌then◌else◌}
 use Rattle.std.specs.List.{range_with_len}

@@ -1,4 +1,4 @@
--- The nodes of a run that nodes join as contracts see them, behind some cycles.
+-- The nodes of a run as contracts see them, after some cycles.
 use Rattle.std.specs.Prelude.{◌≡◌, ℕ, suc, ◌*◌, Bool, true, false, List, ◌∷◌, length, map, filter_map, Contains, Option, None, Some}
 use Rattle.std.specs.Option.{option_map}
 use Rattle.fr_cluster.specs.Questions.{own_key}
@@ -20,7 +20,7 @@ use Rattle.fr_air.specs.Listeners.{Caughts, catches_after, catches_of, listening
 use Rattle.fr_air.specs.Nodes.{outcomes_after, readings_after}
 use Rattle.fr_air.specs.NextStanding.{joining_nodes}
 
--- a node before the cycle behind some cycles, with a row or as a follower
+-- a node before the cycle after some cycles, with a row or as a follower
 abbrev pub node_of_next : Setting → Cycles → Bool → ℕ → NodeView
 node_of_next x h follows node = record {
   id = node;

@@ -1,4 +1,4 @@
--- What words ask for.
+-- What the words of `flexray` ask for.
 use Rattle.std.specs.Prelude.{◌≡◌, ℕ, ◌≤◌, List, [], ◌∷◌, codes, Option, Some, None, Ok}
 use Rattle.fr_base.specs.Channels.{letter}
 use Rattle.fr_base.specs.declared.channel.Channel.{Channel}
@@ -11,10 +11,10 @@ use Rattle.fr_answer.specs.declared.request.Request.TheVariants.{Frame, Bound, B
 
 -- decode the bytes of the file as a frame on the channel; print the bounds and checks of the parameters in the file;
 -- print these and those of a cluster that nodes join; print the parameters as a file of version 2; print how long clocks
--- that begin so far apart take until they are in sync; run the cluster that the files decide, or the cluster of a seed over so many double cycles, and print the
--- report; print the trace of the run that the files decide; list the frames of the recording in the file; print the
--- network management vectors of the recording in the file, of so many bytes; print who leads the startup that the files
--- decide; say whether a recorded trace is that of a lawful and covered run
+-- that begin so far apart take until they are in sync; run the cluster that the files decide, or the cluster of a seed over
+-- so many double cycles, and print the report; list the frames of the recording in the file; print the network management
+-- vectors of the recording in the file, of so many bytes; print who leads the startup that the files decide; print the trace
+-- of the run that the files decide; say whether a recorded trace is that of a lawful and covered run
 pub data Asked : Type 0 where
   frame : (channel : Channel) (file : List ℕ) → Asked
   bound : (file : List ℕ) → Asked

@@ -1,4 +1,5 @@
-//! The program's answer as a call: words, a shelf and two sinks in, a status out. Each command is a crate below.
+//! The program's answer as a call: words, a shelf and two sinks in, a status out. The answer to each
+//! command is made in a crate below.
 #![tactic(auto)]
 
 mod request;

@@ -1,4 +1,4 @@
--- What decides a run: the cluster, its oscillators, the delays of its links, and what is done to its frames.
+-- What decides a run: the cluster, its oscillators, the delays of its links, what is done to its frames, and which nodes join.
 use Rattle.std.specs.Prelude.{ℕ, ℤ, ◌^◌, ◌<◌, Bool, not, List, All, filter, Option, IfSome}
 use Rattle.fr_base.specs.Event.{Event}
 use Rattle.fr_base.specs.Event.Event.{Regular, Silent, Flip, Say}

@@ -1,4 +1,4 @@
--- What a proof opens to compute a run that nodes join.
+-- What a proof opens to compute a run.
 use Rattle.std.specs.Prelude.{⊤}
 use Rattle.fr_bound.specs.Sync.{is_in_sync}
 use Rattle.fr_crc.specs.Bits.{bits}

@@ -1,4 +1,4 @@
--- The cycles of a run that nodes join, with the nodes that follow (integration into a running cluster, chapter 7; that the
+-- The cycles of a run, with the nodes that follow in them (integration into a running cluster, chapter 7; that the
 -- reference is given, and how long a node listens and follows, is this profile's).
 use Rattle.std.specs.Prelude.{ℕ, ◌==◌, Bool, List, [], ◌∷◌, length, map, Option, Some, None, is_some, if◌then◌else◌}
 use Rattle.std.specs.List.{list_any}

@@ -1,4 +1,4 @@
--- From when on the clocks of a run that nodes join are in sync, and none follows.
+-- In which double cycles the clocks of a run are in sync, and in which of these no node follows.
 use Rattle.std.specs.Prelude.{◌≡◌, ℕ, ◌<◌, Bool, true, false, not, List, [], ◌∷◌, map, Option, Some}
 use Rattle.fr_base.specs.declared.node_row.NodeRow.{NodeRow}
 use Rattle.fr_bound.specs.Sync.{IsInSync}
@@ -8,7 +8,7 @@ use Rattle.fr_history.specs.Gauged.{FollowedHistory, first_free_sync_of}
 use Rattle.fr_history.specs.Cycles.{Cycle, Cycles, cycle_at}
 
 -- the nodes that have rows are in sync in a double cycle, both of whose cycles are there, whoever follows
-pub record IsInSyncAt (p : Values) (h : Cycles) (double : ℕ) : Type 0 where
+pub record RowsAreInSyncAt (p : Values) (h : Cycles) (double : ℕ) : Type 0 where
   pub even : Cycle
   pub odd : Cycle
   pub has_even : cycle_at h (even_cycle double) ≡ Some even
@@ -17,7 +17,7 @@ pub record IsInSyncAt (p : Values) (h : Cycles) (double : ℕ) : Type 0 where
 
 -- and none follows
 pub record IsUnfollowedSyncAt (p : Values) (h : Cycles) (double : ℕ) : Type 0 where
-  pub synced : IsInSyncAt p h double
+  pub synced : RowsAreInSyncAt p h double
   pub none_early : synced.even.followers ≡ []
   pub none_late : synced.odd.followers ≡ []
 

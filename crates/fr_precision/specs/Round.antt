@@ -1,6 +1,5 @@
--- A round of clock synchronisation, whatever supplies it: a run, a recorded trace, or a run that nodes join (sections 8.5
--- and 8.6). Senders are the correct sync nodes with rows in a double cycle; receivers are those nodes, and others that
--- only follow.
+-- A round of clock synchronisation, whatever supplies it: a run or a recorded trace (sections 8.5 and 8.6). Senders are
+-- the correct sync nodes with rows in a double cycle; receivers are those nodes, and others that only follow.
 use Rattle.std.specs.Prelude.{◌≡◌, ◌⊎◌, ◌+◌, ◌*◌, ◌≤ℤ◌, ◌+ℤ◌, ◌-ℤ◌, ℕ, ℤ, pos, Bool, true, false, ◌&&◌, if◌then◌else◌, List, All, Contains, count_by, Option, Some, None, IsSome, is_some, option_and_then}
 use Rattle.std.specs.List.{filter_map, range_with_len}
 use Rattle.fr_base.specs.declared.channel.Channel.{Channel}

@@ -13,9 +13,9 @@ use Rattle.fr_script.specs.View.{ScriptView}
 use Rattle.fr_coverage.specs.Decided.{setting_of}
 use Rattle.fr_coverage.specs.Order.{HasNoGap}
 use Rattle.fr_history.specs.History.{record_at}
-use Rattle.fr_history.specs.Sync.{IsInSyncAt as IsToldInSyncAt}
+use Rattle.fr_history.specs.Sync.{IsInSyncAt}
 use Rattle.fr_history.specs.Cycles.{Cycle, Cycles, cycle_at, told_of}
-use Rattle.fr_history.specs.Unfollowed.{IsInSyncAt, IsUnfollowedSyncAt}
+use Rattle.fr_history.specs.Unfollowed.{RowsAreInSyncAt, IsUnfollowedSyncAt}
 use Rattle.fr_runs.proofs.Parts.{told_at}
 use Rattle.fr_runs.proofs.Covers.{coverage_suffices}
 use Rattle.fr_runs.specs.Whole.{IsUnfollowedRun}
@@ -31,7 +31,7 @@ told_cycle : (h : Cycles) (n : ℕ) (c : Cycle) → cycle_at h n ≡ Some c → 
 told_cycle h n c is = told_at h n ∙ ap (option_map (λ (d : Cycle). d.told)) is
 
 -- cycles are in sync in a double cycle where what is told of them is
-told_sync : (x : Setting) (h : Cycles) (double : ℕ) → IsInSyncAt x.params h double → IsToldInSyncAt x.params (told_of h) double
+told_sync : (x : Setting) (h : Cycles) (double : ℕ) → RowsAreInSyncAt x.params h double → IsInSyncAt x.params (told_of h) double
 told_sync x h double s = record {
   even = s.even.told;
   odd = s.odd.told;

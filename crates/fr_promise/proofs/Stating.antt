@@ -1,4 +1,4 @@
--- A run without a gap is stated as runs that nodes join are.
+-- A run without a gap is a covered one.
 use Rattle.std.proofs.Common.{◌≡◌, ℕ, ◌==◌, Bool, true, false, Option, Some, None, refl, ap, sym, ◌∙◌}
 use Rattle.std.specs.Prelude.{Contains, not, is_some}
 use Rattle.std.proofs.lemmas.Bool.{eqb-true}

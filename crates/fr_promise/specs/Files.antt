@@ -16,8 +16,7 @@ use Rattle.fr_history.specs.Unfollowed.{IsFirstUnfollowedSync, IsUnfollowedSyncA
 use Rattle.fr_runs.specs.Stated.{IsCoveredRun}
 use Rattle.fr_promise.specs.Statement.{IsRunOf, KeepsPrecision}
 
--- where parameters of a cluster and a drift and a script that fit them have no gap, the run is stated as runs that nodes join
--- are
+-- where parameters of a cluster and a drift and a script that fit them have no gap, the run is a covered one
 abbrev pub CoveredFilesAreStated : Type 0
 CoveredFilesAreStated =
     (p : Values) (d : DriftView) (s : ScriptView)

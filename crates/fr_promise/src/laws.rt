@@ -3,9 +3,9 @@ ghost use Rattle.fr_promise.specs.Files.{FilesKeepPrecision, GreatestSkewIsWithi
 ghost use Rattle.fr_promise.specs.Files.{RatesAreWithin, StartsAreNatural};
 ghost use Rattle.fr_promise.specs.Statement.{TheHeadline};
 
-/// A law: where sane parameters, a drift and a script that fit them have no gap, the run is stated as runs that nodes
-/// join are: the clocks, delays and links of its correct nodes are covered, each node that joins has a reference, and
-/// the checks of a cluster that nodes join hold where some node does.
+/// A law: where sane parameters, a drift and a script that fit them have no gap, the run is a covered one: the clocks,
+/// delays and links of its correct nodes are covered, each node that joins has a reference, and the checks of a cluster
+/// that nodes join hold where some node does.
 pub fn covered_files_are_stated()
     ensures { CoveredFilesAreStated }
 {}

@@ -1,4 +1,4 @@
--- What the words of the program ask for.
+-- What the words of `flexray-series` ask for.
 use Rattle.std.specs.Prelude.{◌≡◌, ℕ, List, [], ◌∷◌, codes, Option, Some, None}
 use Rattle.fr_program.specs.Program.{Program}
 use Rattle.fr_report.specs.Files.{run_command}

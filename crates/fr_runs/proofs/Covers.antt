@@ -1,4 +1,4 @@
--- A run that nodes join is covered by what is stated of it alone, whoever has rows.
+-- A run is covered by what is stated of it alone, whoever has rows.
 use Rattle.std.proofs.Common.{◌≡◌, ℕ, ◌≤◌, pos, Bool, true, false, ◌&&◌, Option, Some, None, refl, ap, sym, subst, inl, inr, lit≤, arith}
 use Rattle.std.specs.Prelude.{is_none, is_some}
 use Rattle.std.proofs.lemmas.Bool.{and_parts}

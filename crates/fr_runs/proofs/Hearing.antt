@@ -1,4 +1,4 @@
--- A receiver of a double cycle of a run that nodes join, whether it has rows or follows, has its deviations of each sender.
+-- A receiver of a double cycle of a run, whether it has rows or follows, has its deviations of each sender.
 use Rattle.std.proofs.Common.{◌≡◌, ◌≢◌, ◌⊎◌, ℕ, suc, ◌*◌, ◌<◌, Bool, true, false, not, ◌&&◌, ℤ, pos, Option, Some, None, List, ◌∷◌, length, refl, ap, sym, ◌∙◌, subst, inl, inr, arith, if◌then◌else◌}
 use Rattle.std.specs.Prelude.{Contains, IsSome, is_some, option_and_then}
 use Rattle.std.proofs.lemmas.Bool.{and_parts}

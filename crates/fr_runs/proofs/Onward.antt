@@ -1,4 +1,4 @@
--- The step of a run that nodes join, given who succeeds whom.
+-- The step of a run, given who succeeds whom.
 use Rattle.std.proofs.Common.{◌≡◌, ℕ, suc, ℤ, pos, List, ◌∷◌, length, map, ap, sym, ◌∙◌, subst, inl, inr}
 use Rattle.std.specs.Prelude.{Contains}
 use Rattle.fr_base.specs.Within.{IsWithin}

@@ -1,4 +1,4 @@
--- A whole run that nodes join keeps its precision from a double cycle in sync on in which none follows.
+-- A whole run keeps its precision from a double cycle in sync on in which none follows.
 use Rattle.std.proofs.Common.{◌≡◌, ◌⊎◌, ℕ, zero, suc, ◌*◌, ◌<◌, ◌≤◌, pos, Option, Some, [], ◌∷◌, ◌++◌, All, ap, sym, ◌∙◌, subst, inl, inr, arith}
 use Rattle.std.specs.Prelude.{◌≤ℤ◌}
 use Rattle.std.specs.Option.{option_map, option_map_or}

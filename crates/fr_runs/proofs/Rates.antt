@@ -1,4 +1,4 @@
--- Rates lie within their limit in every cycle of a run that nodes join.
+-- Rates lie within their limit in every cycle of a run.
 use Rattle.std.proofs.Common.{◌≡◌, ◌⊎◌, ℕ, ◌*◌, ◌==◌, Bool, true, false, ◌&&◌, ℤ, pos, Option, Some, None, List, [], ◌∷◌, length, refl, ap, sym, ◌∙◌, subst, inl, inr, arith, if◌then◌else◌}
 use Rattle.std.specs.Prelude.{neg_ℤ, int_le, ◌≤ℤ◌, ◌+ℤ◌, All, Contains, option_and_then}
 use Rattle.std.proofs.lemmas.Bool.{and_parts}

@@ -1,4 +1,4 @@
--- No cycle of a run that nodes join starts below 0, where none does in cycle 0.
+-- No cycle of a run starts below 0, where none does in cycle 0.
 use Rattle.std.proofs.Common.{◌≡◌, ℕ, ◌-◌, ◌*◌, ◌<◌, ◌≤◌, Bool, true, false, ◌&&◌, ℤ, pos, Option, Some, None, List, [], ◌∷◌, length, refl, sym, subst, arith, if◌then◌else◌}
 use Rattle.std.specs.Prelude.{◌≤ℤ◌, ◌<ℤ◌, ◌+ℤ◌, ◌*ℤ◌, ◌==◌, neg_ℤ, int_le, All, Contains}
 use Rattle.std.proofs.lemmas.Bool.{and_parts}

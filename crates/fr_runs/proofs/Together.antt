@@ -13,7 +13,7 @@ use Rattle.fr_history.specs.Cycles.{Cycle, Cycles, cycle_at, told_of}
 use Rattle.fr_history.specs.Laws.{row_laws}
 use Rattle.fr_history.specs.Lawful.{IsLawful}
 use Rattle.fr_history.specs.Standing.{has_row, row_nodes}
-use Rattle.fr_history.specs.Unfollowed.{IsInSyncAt}
+use Rattle.fr_history.specs.Unfollowed.{RowsAreInSyncAt}
 use Rattle.fr_precision.specs.Round.{Hearer}
 use Rattle.fr_precision.proofs.Lists.{kept_filtered}
 use Rattle.fr_runs.proofs.Rows.{contains_map, each_row, row_runs_by}
@@ -74,7 +74,7 @@ active_last x h double odd (even ∷ earlier) node s is there has =
     ap (λ (t : Cycles). (status_in x.params (told_of t) node.id).state) is ∙ active_behind x earlier even odd k node g later.fed among
 
 -- the nodes with rows are in sync in each later double cycle
-synced_at : (x : Setting) (h : Cycles) (double m : ℕ) → IsUnfollowedRun x h double → double ≤ m → m < x.doubles → IsInSyncAt x.params h m
+synced_at : (x : Setting) (h : Cycles) (double m : ℕ) → IsUnfollowedRun x h double → double ≤ m → m < x.doubles → RowsAreInSyncAt x.params h m
 synced_at x h double m s from within =
     let whole : length h ≡ 2 * x.doubles = s.whole in
     let at = double_at h m (omega (arith, within, whole)) in

@@ -1,4 +1,4 @@
--- A whole run that nodes join: from a double cycle in sync on in which none follows each is in sync, with its followers near.
+-- A whole run: from a double cycle in sync on in which none follows each is in sync, with its followers near.
 use Rattle.std.proofs.Common.{◌≡◌, ℕ, zero, suc, ◌+◌, ◌*◌, ◌-◌, ◌<◌, ◌≤◌, Bool, true, false, if◌then◌else◌, pos, Option, Some, None, List, [], ◌∷◌, ◌++◌, All, length, map, refl, ap, sym, ◌∙◌, subst, arith}
 use Rattle.std.specs.Prelude.{AllPairs, Contains}
 use Rattle.std.proofs.lemmas.List.{append_assoc}

@@ -1,4 +1,4 @@
--- The step of a run that nodes join, from one double cycle to the next: the clocks of its cycles, and when a double cycle is in
+-- The step of a run from one double cycle to the next: the clocks of its cycles, and when a double cycle is in
 -- sync with its followers near. What was heard is left open.
 use Rattle.std.specs.Prelude.{◌≡◌, ◌≤ℤ◌, ◌-ℤ◌, ◌<◌, ◌+◌, ◌*◌, ◌==◌, ℕ, suc, pos, Bool, true, false, ◌&&◌, List, [], ◌∷◌, length, map, filter, All, Contains, Option, None, Some, if◌then◌else◌}
 use Rattle.fr_base.specs.Within.{IsWithin}

@@ -1,4 +1,4 @@
--- What a covered run that nodes join keeps from a double cycle in sync to the next one, in numbers: of rates and of offsets.
+-- What a covered run keeps from a double cycle in sync to the next one, in numbers: of rates and of offsets.
 -- It is said of the nodes that have a row in that double cycle, whoever follows in it, and however far off.
 use Rattle.std.specs.Prelude.{◌≡◌, ◌≤◌, ℕ, suc, ◌+◌, ◌*◌, ℤ, ◌+ℤ◌, ◌-ℤ◌, ◌*ℤ◌, pos, Bool, length, Contains, IsSome, Some}
 use Rattle.fr_base.specs.Event.Event.{Regular}
@@ -18,7 +18,7 @@ use Rattle.fr_history.specs.History.{Record, row_for, row_of}
 use Rattle.fr_history.specs.Terms.{offset_term_by, rate_term_by}
 use Rattle.fr_history.specs.Cycles.{Cycle, Cycles, cycle_at}
 use Rattle.fr_history.specs.Lawful.{IsLawful}
-use Rattle.fr_history.specs.Unfollowed.{IsInSyncAt}
+use Rattle.fr_history.specs.Unfollowed.{RowsAreInSyncAt}
 use Rattle.fr_runs.specs.Links.{IsLinked, Share, cycle_in, record_in}
 use Rattle.fr_runs.specs.Rounds.{RatesBegin}
 use Rattle.fr_runs.specs.Supplied.{IsCovered}
@@ -31,13 +31,13 @@ pub record IsSyncedRun (x : Setting) (h : Cycles) (double : ℕ) : Type 0 where
   pub rates : RatesBegin x
   pub lawful : IsLawful x h
   pub within : length h ≤ 2 * x.doubles
-  pub synced : IsInSyncAt x.params h double
+  pub synced : RowsAreInSyncAt x.params h double
 
 -- all cycles of a run that is stated are such a run in each double cycle in sync
 abbrev pub StatedRunsAreSynced : Type 0
 StatedRunsAreSynced =
     (x : Setting) (double : ℕ)
-    → IsCoveredRun x → IsInSyncAt x.params (all_cycles x) double → IsSyncedRun x (all_cycles x) double
+    → IsCoveredRun x → RowsAreInSyncAt x.params (all_cycles x) double → IsSyncedRun x (all_cycles x) double
 
 -- the run has the two cycles of a double cycle
 pub record HasDouble (h : Cycles) (double : ℕ) (even odd : Cycle) : Type 0 where

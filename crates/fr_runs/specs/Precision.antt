@@ -1,4 +1,4 @@
--- The precision of a whole run that nodes join, from a double cycle in sync in which none follows to its end.
+-- The precision of a whole run, from a double cycle in sync in which none follows to its end, whoever joins.
 use Rattle.std.specs.Prelude.{◌≡◌, ◌≤ℤ◌, ◌<◌, ◌≤◌, ◌*◌, ℕ, pos, [], ◌∷◌, length, All, Some}
 use Rattle.fr_base.specs.Within.{IsWithin}
 use Rattle.fr_base.specs.declared.state.State.TheVariants.{Active}

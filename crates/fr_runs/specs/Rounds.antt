@@ -1,4 +1,4 @@
--- A whole run that nodes join: from a double cycle in sync in which no node follows on it is in sync.
+-- A whole run: from a double cycle in sync in which no node follows on it is in sync, whoever joins.
 use Rattle.std.specs.Prelude.{◌≡◌, ◌≤ℤ◌, ◌<◌, ◌≤◌, ◌*◌, ℕ, suc, pos, [], ◌∷◌, ◌++◌, length, Contains}
 use Rattle.fr_base.specs.Within.{IsWithin}
 use Rattle.fr_base.specs.declared.state.Outcome.TheVariants.{Within}

@@ -1,4 +1,4 @@
--- What is stated of a run that nodes join before it begins, and what follows for the cycles that it has.
+-- What is stated of a run before it begins, and what follows for the cycles that it has.
 use Rattle.std.specs.Prelude.{◌≡◌, true, ◌≤◌, ◌*◌, ℕ, Contains, Some}
 use Rattle.fr_cluster.specs.Setting.{IsSetting, Setting, correct_nodes}
 use Rattle.fr_cluster.specs.declared.nodes.NodeSpec.{NodeSpec}

@@ -1,4 +1,4 @@
--- What a covered run that nodes join supplies: deviations to its receivers, and frames of a reference to whoever listens.
+-- What a covered run supplies: deviations to its receivers, and frames of a reference to whoever listens.
 use Rattle.std.specs.Prelude.{◌≡◌, ◌≤ℤ◌, ◌-ℤ◌, ◌<◌, ◌*◌, ℕ, suc, pos, Bool, true, ◌&&◌, ◌∷◌, length, All, Contains, IsSome, Some, is_none}
 use Rattle.fr_base.specs.Within.{IsWithin}
 use Rattle.fr_cluster.specs.Sane.{IsSane}

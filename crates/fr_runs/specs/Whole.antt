@@ -1,4 +1,4 @@
--- Whole lawful runs that nodes join: what they keep from a double cycle in sync on in which none follows, and who joins.
+-- Whole lawful runs: what they keep from a double cycle in sync on in which none follows, and who joins.
 use Rattle.std.specs.Prelude.{◌≡◌, true, ◌<◌, ◌≤◌, ◌+◌, ◌*◌, ℕ, ◌∷◌, length, Contains, IsSome, Some}
 use Rattle.fr_base.specs.declared.state.State.TheVariants.{Active}
 use Rattle.fr_cluster.specs.Setting.{Setting, correct_nodes}
@@ -8,7 +8,7 @@ use Rattle.fr_history.specs.Terms.{status_in}
 use Rattle.fr_cluster.specs.declared.join.Join.{Join}
 use Rattle.fr_history.specs.Cycles.{Cycle, Cycles, cycle_at, some_joins, told_of}
 use Rattle.fr_history.specs.Lawful.{IsLawful}
-use Rattle.fr_history.specs.Unfollowed.{IsInSyncAt, IsUnfollowedSyncAt}
+use Rattle.fr_history.specs.Unfollowed.{RowsAreInSyncAt, IsUnfollowedSyncAt}
 use Rattle.fr_runs.specs.Precision.{CyclesKeepPrecision}
 use Rattle.fr_runs.specs.Rounds.{IsDoubleOf, KeepsUp, RatesBegin}
 use Rattle.fr_runs.specs.Supplied.{IsCovered, StartsBegin}
@@ -26,7 +26,7 @@ pub record IsUnfollowedRun (x : Setting) (h : Cycles) (double : ℕ) : Type 0 wh
 -- from there on the nodes with rows are in sync in each double cycle, whoever joined, and it keeps up; and the run keeps its
 -- precision. Whoever has a row in its last cycle is active behind it
 pub record KeepsTogether (x : Setting) (h : Cycles) (double : ℕ) : Type 0 where
-  pub synced : (m : ℕ) → double ≤ m → m < x.doubles → IsInSyncAt x.params h m
+  pub synced : (m : ℕ) → double ≤ m → m < x.doubles → RowsAreInSyncAt x.params h m
   pub keeps_up :
       (k : ℕ) (earlier : Cycles) (even odd : Cycle) → double ≤ k → k < x.doubles → IsDoubleOf h k earlier even odd
       → KeepsUp x earlier even odd k

@@ -7,7 +7,7 @@ pub fn lawful_cycles_run()
     ensures { LawfulCyclesRun }
 {}
 
-/// A law: in a whole run that nodes join, from a double cycle in sync in which no node follows on, every double
+/// A law: in a whole run, from a double cycle in sync in which no node follows on, every double
 /// cycle is in sync with its followers near, where each receiver has the deviations of its senders from there on:
 /// no macrotick of the nodes with rows lies further apart than the precision, in ticks, and no term of a node that
 /// has a row, or that follows, is cut or missing.

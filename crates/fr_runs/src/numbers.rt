@@ -10,9 +10,9 @@ pub fn stated_runs_are_synced()
     one_lawful_run();
 }
 
-/// The law of rates of a covered run that nodes join: of the nodes that have a row in a double cycle in sync,
-/// whoever follows in it, no rate term is cut or missing, and the lengths of their next double cycle's cycles, in
-/// ticks, are proper and lie near each other.
+/// The law of rates of a covered run: of the nodes that have a row in a double cycle in sync, whoever follows in it,
+/// no rate term is cut or missing, and the lengths of their next double cycle's cycles, in ticks, are proper and lie near
+/// each other.
 pub fn joined_runs_keep_rates()
     ensures { JoinedRunsKeepRates }
 {}

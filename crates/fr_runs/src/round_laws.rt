@@ -15,9 +15,8 @@ pub fn rounds_draw_near()
     ensures { RoundsDrawNear }
 {}
 
-/// A law: so it goes on in a run that nodes join, by the laws of its clocks, whoever begins to follow and whoever
-/// follows no longer: whoever followed twice is in sync with the nodes with rows, and whoever followed once, or
-/// begins to, lies near them.
+/// A law: so it goes on in a run, by the laws of its clocks, whoever begins to follow and whoever follows no longer:
+/// whoever followed twice is in sync with the nodes with rows, and whoever followed once, or begins to, lies near them.
 pub fn succeeding_goes_on()
     ensures { SucceedingGoesOn }
 {}

@@ -10,7 +10,7 @@ pub fn references_are_heard()
     ensures begin { CoveredListenersBegin }
 {}
 
-/// A law: in a covered run that nodes join, each node that has rows in a double cycle in sync, and each node that
+/// A law: in a covered run, each node that has rows in a double cycle in sync, and each node that
 /// follows in it, has the deviations of every sender, and no others but those of arbitrary nodes.
 pub fn gatherings_are_fed()
     ensures double { GatheringsAreFed }

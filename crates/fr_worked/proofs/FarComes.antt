@@ -4,7 +4,7 @@ use Rattle.fr_bound.specs.Sync.{is_in_sync}
 use Rattle.fr_bound.proofs.Sync.{in_sync_from}
 use Rattle.fr_history.specs.Cycles.{Cycles, cycle_at}
 use Rattle.fr_history.specs.Next.{cycles_of, next_cycle}
-use Rattle.fr_history.specs.Unfollowed.{IsInSyncAt, first_unfollowed_sync_of}
+use Rattle.fr_history.specs.Unfollowed.{RowsAreInSyncAt, first_unfollowed_sync_of}
 use Rattle.fr_history.proofs.Computing.{on_cycles, on_told}
 use Rattle.fr_runs.specs.Numbers.{IsSyncedRun, StatedRunsAreSynced}
 use Rattle.fr_worked.specs.FarCycles.{far_0, far_1, far_2, far_3, far_4, far_5, far_6, far_cycle_0, far_cycle_1, far_cycle_2, far_cycle_3, far_cycle_4, far_cycle_5}
@@ -48,7 +48,7 @@ synced : is_in_sync small_cluster far_cycle_2.told.rows far_cycle_3.told.rows �
 unfolding is_in_sync
 synced = refl
 
-synced_at_1 : IsInSyncAt small_cluster far_6 1
+synced_at_1 : RowsAreInSyncAt small_cluster far_6 1
 unfolding cycle_at
 synced_at_1 = record {
   even = far_cycle_2;
@@ -60,6 +60,6 @@ synced_at_1 = record {
 
 pub far_is_synced : StatedRunsAreSynced → IsSyncedRun far_run far_6 1
 far_is_synced stated =
-    let At : Cycles → Type 0 = λ h. IsInSyncAt small_cluster h 1 in
+    let At : Cycles → Type 0 = λ h. RowsAreInSyncAt small_cluster h 1 in
     let Run : Cycles → Type 0 = λ h. IsSyncedRun far_run h 1 in
     subst Run far_cycles (stated far_run 1 far_is_stated (subst At (sym far_cycles) synced_at_1))

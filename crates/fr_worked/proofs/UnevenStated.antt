@@ -1,4 +1,4 @@
--- The uneven runs meet what the laws of runs that nodes join ask, wherever their nodes begin.
+-- The uneven runs meet what the laws of runs ask, wherever their nodes begin.
 use Rattle.std.proofs.Common.{◌≡◌, ◌≢◌, ◌≤◌, ◌*◌, ℕ, zero, suc, Bool, true, false, ℤ, pos, None, Some, [], ◌∷◌, All, refl, sym, ◌∙◌, subst, inl, inr, lit≤, lit<, rules, arith}
 use Rattle.std.specs.Prelude.{◌<◌, ◌≤ℤ◌, ◌-ℤ◌, AllPairs, Contains}
 use Rattle.std.proofs.lemmas.List.Elements.{All-cons, All-nil}

@@ -22,7 +22,7 @@ kept_following_nodes x [] = []
 kept_following_nodes x (c ∷ h) = following_nodes x h
 
 -- These nodes of the last cycle as they stand before the next one, in ascending order. Those of the next cycle are
--- `nodes_of_next` of `fr_standing`.
+-- `nodes_of_next` of `fr_air`.
 abbrev pub nodes_kept : Setting → Cycles → List NodeView
 nodes_kept x h = map (λ node. node_of_next x h false node.id) (kept_row_nodes x h)
 
