@@ -26,7 +26,7 @@ use Rattle.fr_reception.specs.Regular.{regular_frame}
 use Rattle.fr_node.specs.Listening.{ListenerView, with_arrival}
 use Rattle.fr_history.specs.History.{row_of as row_in}
 use Rattle.fr_history.specs.Offers.{active_offer, is_on, sent_offer}
-use Rattle.fr_precision.proofs.Keys.{key_index_is, key_slot_within}
+use Rattle.fr_time.proofs.Keys.{key_index_is, key_slot_within}
 use Rattle.fr_history.specs.Catching.{caught_arrival, listener_offer, listening_row, sender_offers}
 use Rattle.fr_script.specs.View.{is_arbitrary, join_of}
 use Rattle.fr_air.proofs.Listening.{find-holds, own_key-sender}

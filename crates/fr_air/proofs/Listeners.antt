@@ -6,7 +6,7 @@ use Rattle.fr_cluster.specs.Setting.{correct_nodes}
 use Rattle.fr_cluster.specs.declared.join.Join.{Join}
 use Rattle.fr_cluster.specs.declared.nodes.NodeSpec.{NodeSpec}
 use Rattle.fr_history.specs.Catching.{begins_with, caught_by_slot, caught_in_run}
-use Rattle.fr_precision.proofs.Lists.{filtered, kept_filtered}
+use Rattle.fr_cluster.proofs.Elements.{filtered, kept_filtered}
 use Rattle.fr_air.specs.Listeners.{BeginningNodesListened, ListenersBegin, listening_nodes, listens_in}
 use Rattle.fr_air.specs.NextStanding.{begins_next}
 use Rattle.fr_air.proofs.NextStanding.{begins_in}

@@ -13,7 +13,7 @@ use Rattle.fr_base.specs.declared.node_row.NodeRow.{NodeRow}
 use Rattle.fr_cluster.specs.Sane.{IsSane}
 use Rattle.fr_cluster.specs.Setting.{Setting, correct_nodes}
 use Rattle.fr_cluster.specs.declared.nodes.NodeSpec.{NodeSpec}
-use Rattle.fr_precision.proofs.Lists.{Contains-here, Contains-there, filtered}
+use Rattle.fr_cluster.proofs.Elements.{Contains-here, Contains-there, filtered}
 use Rattle.fr_time.specs.Cycles.{is_odd}
 use Rattle.fr_history.specs.History.{row_of}
 use Rattle.fr_history.specs.Records.{ended_row}

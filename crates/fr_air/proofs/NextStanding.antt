@@ -16,7 +16,7 @@ use Rattle.fr_history.specs.Cycles.{Cycle, Cycles}
 use Rattle.fr_history.specs.Lawful.{IsLawful, Obeys}
 use Rattle.fr_history.specs.Standing.{followed_well, follows, follows_by, has_row, has_row_by}
 use Rattle.fr_history.proofs.Standing.{did_follow, followers_have_no_row, had_row, keeps, row_by_passing, same, stand_in_time}
-use Rattle.fr_precision.proofs.Lists.{filtered, kept_filtered}
+use Rattle.fr_cluster.proofs.Elements.{filtered, kept_filtered}
 use Rattle.fr_air.specs.NextStanding.{EvenCyclesStay, FollowersSucceed, JoiningNodesFollowed, RowsSucceed, beginning_nodes, begins_next, joins_next, stays_next}
 use Rattle.fr_air.specs.Placing.{put_all}
 use Rattle.fr_air.proofs.Placing.{filter_both, filter_same, parted}

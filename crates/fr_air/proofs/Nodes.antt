@@ -12,7 +12,7 @@ use Rattle.fr_history.specs.Terms.{outcomes_by, outcomes_in}
 use Rattle.fr_history.specs.Cycles.{Cycle, Cycles, told_of}
 use Rattle.fr_history.specs.Standing.{has_row}
 use Rattle.fr_history.proofs.Standing.{followers_have_no_row}
-use Rattle.fr_precision.proofs.Lists.{filtered}
+use Rattle.fr_cluster.proofs.Elements.{filtered}
 use Rattle.fr_air.specs.Nodes.{FollowersAreSteady, JoiningNodesAreFresh, NodesWithoutRowsAreFresh, outcomes_after, pair_in}
 use Rattle.fr_correct.specs.Terms.{are_uncut}
 use Rattle.fr_air.specs.NextStanding.{joins_next}

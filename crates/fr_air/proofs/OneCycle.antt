@@ -21,7 +21,7 @@ use Rattle.fr_time.specs.Cycles.{is_odd}
 use Rattle.fr_node.specs.Cycle.{in_cycle, ended, ended_row_of_node}
 use Rattle.fr_node.specs.Fits.{NodeFits}
 use Rattle.fr_node.specs.View.{NodeView, node_row_of}
-use Rattle.fr_precision.proofs.Lists.{filtered}
+use Rattle.fr_cluster.proofs.Elements.{filtered}
 use Rattle.fr_cluster.specs.Setting.{Setting, correct_nodes, is_correct}
 use Rattle.fr_history.specs.History.{Record}
 use Rattle.fr_history.specs.Records.{counts_over}

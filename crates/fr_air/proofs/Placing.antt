@@ -2,7 +2,7 @@
 use Rattle.std.proofs.Common.{◌≡◌, ℕ, ◌<◌, nat_lt, Bool, true, false, ◌&&◌, ◌||◌, List, [], ◌∷◌, filter, refl, ap, sym, ◌∙◌, arith, if◌then◌else◌}
 use Rattle.std.specs.Prelude.{AllPairs, Contains}
 use Rattle.fr_cluster.proofs.KeyNodes.{AllPairs-first, AllPairs-rest}
-use Rattle.fr_precision.proofs.Lists.{Contains-here, Contains-there, filtered}
+use Rattle.fr_cluster.proofs.Elements.{Contains-here, Contains-there, filtered}
 use Rattle.fr_air.specs.Placing.{put, put_all}
 
 less : (a b : ℕ) → a < b → nat_lt a b ≡ true

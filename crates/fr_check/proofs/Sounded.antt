@@ -13,7 +13,7 @@ use Rattle.fr_cluster.specs.Values.{Values, amount}
 use Rattle.fr_cluster.specs.declared.names.ParamName.TheVariants as name
 use Rattle.fr_cluster.specs.declared.nodes.NodeSpec.{NodeSpec}
 use Rattle.fr_cluster.proofs.KeyNodes.{AllPairs-rest, key_among}
-use Rattle.fr_precision.proofs.Keys.{key_node_has, key_slot_within}
+use Rattle.fr_time.proofs.Keys.{key_node_has, key_slot_within}
 use Rattle.fr_history.specs.History.{History, Record}
 use Rattle.fr_time.specs.Instant.{KeepsLimits}
 use Rattle.fr_time.specs.Placed.{IsPlacedRow}

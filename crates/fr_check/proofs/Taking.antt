@@ -14,7 +14,7 @@ use Rattle.fr_cluster.specs.Values.{Values}
 use Rattle.fr_measure.specs.Deviations.{deviations_of}
 use Rattle.fr_measure.specs.Readings.{IsEmpty, Readings, reading}
 use Rattle.fr_measure.specs.Values.{LookUp, offset_at, own_value_or, least_of, mean_of, change_of, rate_at, values_of}
-use Rattle.fr_precision.proofs.Keys.{key_slot_has, slot_of_index}
+use Rattle.fr_time.proofs.Keys.{key_slot_has, slot_of_index}
 use Rattle.fr_check.specs.Measured.{TakesIn, look_among, told_by}
 
 -- ---- one deviation

@@ -4,4 +4,5 @@ pub mod Found
 pub mod Fourth
 pub mod KeyIndexes
 pub mod KeyNodes
+pub mod Elements
 pub mod Places

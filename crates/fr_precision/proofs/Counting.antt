@@ -4,7 +4,7 @@ use Rattle.std.specs.Prelude.{AllPairs, Contains, count_by}
 use Rattle.std.specs.List.{range_with_len}
 use Rattle.std.proofs.lemmas.List.Sums.{sum_by-cons}
 use Rattle.std.proofs.lemmas.List.FromFn.{get_or-range_with_len, length-range_with_len}
-use Rattle.fr_precision.proofs.Lists.{Contains-here, Contains-none, Contains-there}
+use Rattle.fr_cluster.proofs.Elements.{Contains-here, Contains-none, Contains-there}
 use Rattle.fr_cluster.proofs.KeyNodes.{AllPairs-first, AllPairs-rest, Contains-cons_cases}
 
 -- one where the test passes

@@ -11,10 +11,8 @@ pub mod DeviationLaws
 pub mod ReceiverLaws
 pub mod StepLaws
 pub mod Worked
-pub mod Lists
 pub mod Counting
 pub mod Parting
-pub mod Keys
 pub mod RoundSenders
 pub mod Values
 pub mod Guided

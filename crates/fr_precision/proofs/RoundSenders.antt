@@ -20,8 +20,8 @@ use Rattle.fr_precision.specs.Rows.{KeepOne, Sender}
 use Rattle.fr_precision.specs.Round.{IsRound, IsSender, Round, sender_at, sender_by, sender_in, sender_with, senders_of, sync_count}
 use Rattle.fr_cluster.proofs.KeyIndexes.{index-lt}
 use Rattle.fr_precision.proofs.Counting.{AreSent, count_no, count_yes, range_apart, range_contains, sent_apart}
-use Rattle.fr_precision.proofs.Keys.{key_index_is, key_node_among, key_node_has, key_node_is, key_slot_has, rank_of, slot_of_index}
-use Rattle.fr_precision.proofs.Lists.{Contains-here, Contains-there}
+use Rattle.fr_time.proofs.Keys.{key_index_is, key_node_among, key_node_has, key_node_is, key_slot_has, rank_of, slot_of_index}
+use Rattle.fr_cluster.proofs.Elements.{Contains-here, Contains-there}
 use Rattle.fr_precision.proofs.Parting.{AreTold, IsParted, filter_map_counts, parted}
 
 -- ---- the sender of an index

@@ -21,7 +21,7 @@ use Rattle.fr_precision.proofs.PlacementLaws.{difference_places, half_places, ow
 use Rattle.fr_precision.proofs.ReceptionLaws.{ends_before}
 use Rattle.fr_cluster.specs.Questions.{key_slot_of}
 use Rattle.fr_precision.specs.Round.{Hearer, HearersKeepOne, HearsAll, IsHeardAt, IsHearer, IsOther, IsRound, IsSender, Round, sender_at, sender_with}
-use Rattle.fr_precision.proofs.Keys.{key_node_has, key_node_is, key_slot_within}
+use Rattle.fr_time.proofs.Keys.{key_node_has, key_node_is, key_slot_within}
 use Rattle.fr_precision.proofs.RoundSenders.{AreValues, IsFrom, hears_values, marked, marked_is, sender_found, sender_is, values_keep_one}
 use Rattle.fr_cluster.proofs.KeyNodes.{key_among}
 

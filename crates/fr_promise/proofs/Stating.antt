@@ -25,7 +25,7 @@ use Rattle.fr_runs.specs.References.{IsReference}
 use Rattle.fr_runs.specs.Rounds.{RatesBegin}
 use Rattle.fr_history.specs.Cycles.{some_joins}
 use Rattle.fr_runs.proofs.Reach.{some_joins_by}
-use Rattle.fr_precision.proofs.Lists.{found, kept_filtered}
+use Rattle.fr_cluster.proofs.Elements.{found, kept_filtered}
 use Rattle.fr_runs.proofs.Nodes.{correct_node, node_there}
 use Rattle.fr_runs.specs.Supplied.{IsCoveredByFiles, StartsBegin}
 use Rattle.fr_runs.proofs.Exchanged.{on_channel}

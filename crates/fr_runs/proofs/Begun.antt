@@ -18,8 +18,8 @@ use Rattle.fr_history.specs.Laws.{follower_laws, follower_offset}
 use Rattle.fr_history.specs.Standing.{following_nodes, has_row, row_nodes}
 use Rattle.fr_precision.specs.Round.{IsSender, Round, sender_at, sender_with, senders_of}
 use Rattle.fr_precision.proofs.Counting.{range_contains}
-use Rattle.fr_precision.proofs.Keys.{key_index_is, rank_of, slot_of_index}
-use Rattle.fr_precision.proofs.Lists.{Contains-here, Contains-none, Contains-there, filtered}
+use Rattle.fr_time.proofs.Keys.{key_index_is, rank_of, slot_of_index}
+use Rattle.fr_cluster.proofs.Elements.{Contains-here, Contains-none, Contains-there, filtered}
 use Rattle.fr_precision.proofs.RoundSenders.{sender_found}
 use Rattle.fr_history.specs.History.{row_for}
 use Rattle.fr_runs.proofs.Doubles.{even_length}

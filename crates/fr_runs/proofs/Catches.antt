@@ -35,7 +35,7 @@ use Rattle.fr_history.specs.Catching.{begins_with, caught_arrival, caught_by_slo
 use Rattle.fr_cluster.specs.declared.join.Join.{Join}
 use Rattle.fr_history.specs.Cycles.{Cycle, Cycles}
 use Rattle.fr_history.specs.Standing.{has_row, has_row_by, row_nodes}
-use Rattle.fr_precision.proofs.Lists.{kept_filtered}
+use Rattle.fr_cluster.proofs.Elements.{kept_filtered}
 use Rattle.fr_precision.proofs.RoundSenders.{and_then_some}
 use Rattle.fr_runs.proofs.Rows.{each_row, has_row as row_there}
 use Rattle.fr_runs.proofs.Nodes.{IsCorrectNode, IsKeySlot, correct_node, key_slot_there, node_there}

@@ -21,7 +21,7 @@ use Rattle.fr_history.specs.Cycles.{Cycle, Cycles, follower_devs_after, told_of}
 use Rattle.fr_history.specs.Catching.{begins_with}
 use Rattle.fr_history.specs.Laws.{begun_by, caught_rate, caught_start, follower_laws, follower_offset, follower_rate, follower_start, rate_by_rows, rate_of_next, row_laws, start_by_rows, start_of_next}
 use Rattle.fr_history.specs.Standing.{following_nodes, follows, has_row, row_nodes}
-use Rattle.fr_precision.proofs.Lists.{filtered}
+use Rattle.fr_cluster.proofs.Elements.{filtered}
 use Rattle.fr_runs.proofs.Doubles.{even_stands, odd_is_corrected}
 use Rattle.fr_runs.proofs.Rows.{each_row, has_row as has_row_in, row_runs_by}
 use Rattle.fr_runs.specs.Gathered.{CycleRuns, AreClocksCovered, follower_hearer, row_hearer}

@@ -22,8 +22,8 @@ use Rattle.fr_history.specs.Cycles.{Cycle, Cycles}
 use Rattle.fr_history.specs.Lawful.{IsLawful, Obeys}
 use Rattle.fr_history.specs.Standing.{follows, following_nodes, has_row, row_nodes}
 use Rattle.fr_precision.specs.Round.{Hearer, IsHeardAt, IsItself, IsOther}
-use Rattle.fr_precision.proofs.Keys.{key_slot_has, slot_of_index}
-use Rattle.fr_precision.proofs.Lists.{filtered, kept_filtered}
+use Rattle.fr_time.proofs.Keys.{key_slot_has, slot_of_index}
+use Rattle.fr_cluster.proofs.Elements.{filtered, kept_filtered}
 use Rattle.fr_runs.proofs.Receivers.{is_correct_node}
 use Rattle.fr_runs.proofs.Rows.{contains_map, correct_ascend, each_row, has_row as row_there, map_contains}
 use Rattle.fr_runs.proofs.Nodes.{node_there}

@@ -16,7 +16,7 @@ use Rattle.fr_runs.specs.Group.{IsGroupKept}
 use Rattle.fr_history.specs.Cycles.{Cycle, Cycles, some_joins}
 use Rattle.fr_history.specs.Standing.{following_nodes, follows, has_row, row_nodes}
 use Rattle.fr_precision.specs.Round.{Hearer, senders_of}
-use Rattle.fr_precision.proofs.Lists.{filtered, kept_filtered}
+use Rattle.fr_cluster.proofs.Elements.{filtered, kept_filtered}
 use Rattle.fr_history.specs.History.{row_for}
 use Rattle.fr_runs.proofs.Doubles.{even_length, odd_length}
 use Rattle.fr_runs.proofs.Receivers.{is_correct_node}

@@ -26,8 +26,8 @@ use Rattle.fr_runs.specs.Following.{IsInReach}
 use Rattle.fr_history.specs.Cycles.{Cycle, Cycles}
 use Rattle.fr_history.specs.Standing.{has_row, row_nodes}
 use Rattle.fr_precision.specs.Round.{Hearer, IsHeardAt, IsItself, IsOther, IsSender}
-use Rattle.fr_precision.proofs.Keys.{key_node_among, key_node_is, key_slot_has}
-use Rattle.fr_precision.proofs.Lists.{kept_filtered}
+use Rattle.fr_time.proofs.Keys.{key_node_among, key_node_is, key_slot_has}
+use Rattle.fr_cluster.proofs.Elements.{kept_filtered}
 use Rattle.fr_precision.proofs.RoundSenders.{and_then_some}
 use Rattle.fr_precision.proofs.Values.{acts_before}
 use Rattle.fr_runs.proofs.Receivers.{is_correct_node, no_less}

@@ -19,7 +19,7 @@ use Rattle.fr_history.specs.Cycles.{Cycle, Cycles}
 use Rattle.fr_history.specs.Standing.{followed_well, following_nodes, follows, follows_by, goes_on, has_row, has_row_by, is_steady, row_nodes}
 use Rattle.fr_history.proofs.Standing.{equal}
 use Rattle.fr_precision.specs.Round.{Hearer, senders_of}
-use Rattle.fr_precision.proofs.Lists.{kept_filtered}
+use Rattle.fr_cluster.proofs.Elements.{kept_filtered}
 use Rattle.fr_runs.proofs.Rows.{contains_map, has_row as row_there}
 use Rattle.fr_runs.specs.Gathered.{IsDoubleInSync, IsHeardByAll, follower_hearer, followers_since, hearers_of, reach_in, round_at}
 use Rattle.fr_runs.specs.Hearers.{IsOneOf, group_of, member_from}

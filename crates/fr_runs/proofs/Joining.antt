@@ -11,7 +11,7 @@ use Rattle.fr_history.specs.Cycles.{Cycle, Cycles}
 use Rattle.fr_history.specs.Lawful.{IsLawful}
 use Rattle.fr_history.specs.Standing.{follows, follows_by, goes_on, has_row, has_row_by, row_nodes}
 use Rattle.fr_history.proofs.Standing.{rows_stay as row_stays}
-use Rattle.fr_precision.proofs.Lists.{filtered, kept_filtered}
+use Rattle.fr_cluster.proofs.Elements.{filtered, kept_filtered}
 use Rattle.fr_runs.proofs.Rows.{each_row}
 use Rattle.fr_runs.specs.Gathered.{CycleRuns, IsHeardByAll, followers_since}
 use Rattle.fr_runs.specs.Rounds.{IsDoubleOf, IsFedFrom, IsRun, KeepsUp}

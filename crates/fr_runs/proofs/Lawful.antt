@@ -9,7 +9,7 @@ use Rattle.fr_cluster.specs.Setting.{Setting}
 use Rattle.fr_history.specs.Cycles.{Cycle, Cycles}
 use Rattle.fr_history.specs.Lawful.{IsLawful}
 use Rattle.fr_history.proofs.Standing.{did_follow, equal, followers_have_no_row, had_row}
-use Rattle.fr_precision.proofs.Lists.{not_found}
+use Rattle.fr_cluster.proofs.Elements.{not_found}
 use Rattle.fr_runs.specs.Rounds.{LawfulCyclesRun}
 use Rattle.fr_runs.proofs.Standing.{is_none, not_so}
 

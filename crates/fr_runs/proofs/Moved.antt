@@ -16,7 +16,7 @@ use Rattle.fr_history.specs.Cycles.{Cycle, Cycles, told_of}
 use Rattle.fr_history.specs.Laws.{follower_laws, follower_offset, rate_of_next, row_laws, start_of_next}
 use Rattle.fr_history.specs.Standing.{following_nodes, has_row, row_nodes}
 use Rattle.fr_precision.specs.Round.{Hearer, senders_of}
-use Rattle.fr_precision.proofs.Lists.{filtered, kept_filtered}
+use Rattle.fr_cluster.proofs.Elements.{filtered, kept_filtered}
 use Rattle.fr_history.specs.History.{row_for}
 use Rattle.fr_runs.proofs.Doubles.{even_length, odd_length}
 use Rattle.fr_runs.proofs.Rows.{contains_map, each_row, has_row as has_row_in, row_runs_by}

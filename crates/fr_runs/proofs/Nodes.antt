@@ -8,8 +8,8 @@ use Rattle.fr_cluster.specs.Questions.{key_index_of, node_of}
 use Rattle.fr_cluster.specs.Sane.{IsSane}
 use Rattle.fr_cluster.specs.declared.names.ParamName.TheVariants as name
 use Rattle.fr_cluster.specs.declared.nodes.NodeSpec.{NodeSpec}
-use Rattle.fr_precision.proofs.Keys.{key_index_is, key_slot_within}
-use Rattle.fr_precision.proofs.Lists.{Contains-here, Contains-none, Contains-there, filtered}
+use Rattle.fr_time.proofs.Keys.{key_index_is, key_slot_within}
+use Rattle.fr_cluster.proofs.Elements.{Contains-here, Contains-none, Contains-there, filtered}
 use Rattle.fr_cluster.specs.Setting.{Setting, correct_nodes, is_correct}
 use Rattle.fr_history.proofs.Flat.{Among}
 use Rattle.fr_cluster.proofs.KeyNodes.{key_among, AllPairs-first, AllPairs-rest, Contains-cons_cases}

@@ -26,7 +26,7 @@ use Rattle.fr_history.specs.Cycles.{Cycle, Cycles, follower_devs_after, told_of}
 use Rattle.fr_history.specs.Catching.{begins_with, caught_by_slot, caught_of}
 use Rattle.fr_history.specs.Laws.{begun_by, caught_rate, follower_laws, follower_offset, rate_by_rows, rate_of_next, row_laws}
 use Rattle.fr_history.specs.Standing.{following_nodes, follows, follows_by, row_nodes}
-use Rattle.fr_precision.proofs.Lists.{filtered, found}
+use Rattle.fr_cluster.proofs.Elements.{filtered, found}
 use Rattle.fr_precision.proofs.RoundSenders.{and_then_some}
 use Rattle.fr_runs.proofs.Rows.{all_rows, row_runs_by}
 use Rattle.fr_runs.specs.Gathered.{CycleRuns}

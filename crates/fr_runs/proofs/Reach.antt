@@ -17,7 +17,7 @@ use Rattle.fr_precision.proofs.InstantLaws.{actions_stay_near, wider}
 use Rattle.fr_runs.specs.Following.{IsInReach, first_apart, first_lengths, second_apart}
 use Rattle.fr_runs.proofs.Followed.{first_double_is_in_reach, second_double_is_in_reach}
 use Rattle.fr_history.specs.Cycles.{Cycles, some_joins}
-use Rattle.fr_precision.proofs.Lists.{Contains-none}
+use Rattle.fr_cluster.proofs.Elements.{Contains-none}
 use Rattle.fr_runs.specs.Gathered.{followers_since, reach_in}
 use Rattle.fr_runs.proofs.Standing.{follower_of}
 

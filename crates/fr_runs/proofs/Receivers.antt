@@ -4,7 +4,7 @@ use Rattle.std.specs.Prelude.{◌≤ℤ◌, Contains}
 use Rattle.std.proofs.lemmas.Int.{ints}
 use Rattle.fr_cluster.specs.declared.nodes.NodeSpec.{NodeSpec}
 use Rattle.fr_cluster.specs.Setting.{Setting, correct_nodes, is_correct}
-use Rattle.fr_precision.proofs.Lists.{Contains-here, Contains-there, kept_filtered}
+use Rattle.fr_cluster.proofs.Elements.{Contains-here, Contains-there, kept_filtered}
 
 -- a correct node of the cluster
 pub is_correct_node : (x : Setting) (node : NodeSpec) → Contains x.params.nodes node → is_correct x node.id ≡ true → Contains (correct_nodes x) node

@@ -11,7 +11,7 @@ use Rattle.fr_history.specs.History.{AreRowsOf, blank_row, row_for, row_of}
 use Rattle.fr_history.specs.Rows.{ClockLaws, RowsRun}
 use Rattle.fr_cluster.specs.Setting.{Setting, correct_nodes, is_correct}
 use Rattle.fr_history.proofs.Lists.{map-map}
-use Rattle.fr_precision.proofs.Lists.{Contains-here, Contains-none, Contains-there, found, not_found, sole_found}
+use Rattle.fr_cluster.proofs.Elements.{Contains-here, Contains-none, Contains-there, found, not_found, sole_found}
 use Rattle.fr_cluster.proofs.KeyNodes.{AllPairs-first, AllPairs-rest, Contains-cons_cases}
 
 -- ---- elements of mapped lists

@@ -29,7 +29,7 @@ use Rattle.fr_history.specs.Cycles.{Cycle, Cycles}
 use Rattle.fr_history.specs.Lawful.{Obeys, ToldObeys}
 use Rattle.fr_history.specs.Standing.{has_row, row_nodes}
 use Rattle.fr_precision.specs.Round.{IsHeardAt, IsOther}
-use Rattle.fr_precision.proofs.Keys.{key_node_among, key_node_is, key_slot_has}
+use Rattle.fr_time.proofs.Keys.{key_node_among, key_node_is, key_slot_has}
 use Rattle.fr_precision.proofs.RoundSenders.{and_then_some}
 use Rattle.fr_precision.proofs.Values.{acts_before}
 use Rattle.fr_runs.proofs.Doubles.{even_length}

@@ -17,7 +17,7 @@ use Rattle.fr_history.specs.Cycles.{Cycle, Cycles, cycle_at}
 use Rattle.fr_history.specs.Lawful.{IsLawful}
 use Rattle.fr_history.specs.Next.{cycles_of}
 use Rattle.fr_history.specs.Standing.{has_row, row_nodes}
-use Rattle.fr_precision.proofs.Lists.{kept_filtered}
+use Rattle.fr_cluster.proofs.Elements.{kept_filtered}
 use Rattle.fr_history.specs.History.{row_for}
 use Rattle.fr_runs.proofs.Rows.{has_row as row_there}
 use Rattle.fr_runs.specs.Links.{IsLinked}

@@ -13,7 +13,7 @@ use Rattle.fr_cluster.specs.declared.join.Join.{Join}
 use Rattle.fr_history.specs.Cycles.{Cycle, Cycles}
 use Rattle.fr_history.specs.Standing.{followed_well, following_nodes, follows, follows_by, goes_on, has_row, has_row_by}
 use Rattle.fr_history.proofs.Standing.{either, equal, keeps, passes_by_row, row_by_passing, same}
-use Rattle.fr_precision.proofs.Lists.{Contains-here, Contains-there, filtered, kept_filtered}
+use Rattle.fr_cluster.proofs.Elements.{Contains-here, Contains-there, filtered, kept_filtered}
 use Rattle.fr_runs.proofs.Rows.{each_row, has_row as row_there}
 use Rattle.fr_runs.specs.Gathered.{CycleRuns, followers_since, listened_by}
 

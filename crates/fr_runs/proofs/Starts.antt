@@ -33,7 +33,7 @@ use Rattle.fr_cluster.specs.declared.join.Join.{Join}
 use Rattle.fr_history.specs.Cycles.{Cycle, Cycles, follower_devs_after, told_of}
 use Rattle.fr_history.specs.Laws.{begun_by, caught_start, follower_laws, follower_offset, row_laws, start_by_rows, start_of_next}
 use Rattle.fr_history.specs.Standing.{following_nodes, row_nodes}
-use Rattle.fr_precision.proofs.Lists.{found}
+use Rattle.fr_cluster.proofs.Elements.{found}
 use Rattle.fr_runs.proofs.Rows.{all_rows, each_row, row_runs_by}
 use Rattle.fr_runs.specs.Gathered.{CycleRuns, AreClocksCovered}
 use Rattle.fr_runs.specs.Rounds.{AllClocksRun, RatesBegin}

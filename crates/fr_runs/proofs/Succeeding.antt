@@ -10,7 +10,7 @@ use Rattle.fr_cluster.specs.declared.join.Join.{Join}
 use Rattle.fr_history.specs.Cycles.{Cycle, Cycles}
 use Rattle.fr_history.specs.Standing.{followed_well, following_nodes, follows, follows_by, has_row, has_row_by, row_nodes}
 use Rattle.fr_history.proofs.Standing.{either, same}
-use Rattle.fr_precision.proofs.Lists.{filtered, kept_filtered}
+use Rattle.fr_cluster.proofs.Elements.{filtered, kept_filtered}
 use Rattle.fr_runs.specs.Gathered.{CycleRuns, followers_since}
 use Rattle.fr_runs.specs.Succession.{Begins, GatheredNodesSucceed}
 use Rattle.fr_runs.proofs.Standing.{apart_at, filter_same, follower_of, follows_stays, goes_from, had_none, has_stays, how_follows, is_follower, is_none, is_there, not_so, told_follows, told_has, well_follows}

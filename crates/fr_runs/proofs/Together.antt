@@ -15,7 +15,7 @@ use Rattle.fr_history.specs.Lawful.{IsLawful}
 use Rattle.fr_history.specs.Standing.{has_row, row_nodes}
 use Rattle.fr_history.specs.Unfollowed.{RowsAreInSyncAt}
 use Rattle.fr_precision.specs.Round.{Hearer}
-use Rattle.fr_precision.proofs.Lists.{kept_filtered}
+use Rattle.fr_cluster.proofs.Elements.{kept_filtered}
 use Rattle.fr_runs.proofs.Rows.{contains_map, each_row, row_runs_by}
 use Rattle.fr_runs.specs.Gathered.{IsDoubleInSync, IsHeardByAll, row_hearer}
 use Rattle.fr_runs.specs.Hearers.{member_from}

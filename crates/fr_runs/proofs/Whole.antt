@@ -18,7 +18,7 @@ use Rattle.fr_cluster.specs.declared.join.Join.{Join}
 use Rattle.fr_history.specs.Cycles.{Cycle, Cycles, told_of}
 use Rattle.fr_history.specs.Standing.{following_nodes, has_row, has_row_by, row_nodes}
 use Rattle.fr_precision.specs.Round.{Hearer}
-use Rattle.fr_precision.proofs.Lists.{Contains-none, filtered}
+use Rattle.fr_cluster.proofs.Elements.{Contains-none, filtered}
 use Rattle.fr_runs.proofs.Doubles.{even_length, odd_length}
 use Rattle.fr_runs.proofs.Receivers.{no_less}
 use Rattle.fr_runs.proofs.Rows.{all_rows, contains_map, correct_ascend, map_contains}

@@ -8,3 +8,4 @@ pub mod Walking
 pub mod Unused
 pub mod SoleSenders
 pub mod Lines
+pub mod Keys

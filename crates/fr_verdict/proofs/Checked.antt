@@ -39,7 +39,7 @@ use Rattle.fr_precision.specs.Step.{IsFollowed, Member}
 use Rattle.fr_precision.proofs.OffsetLaws.{third_check_suffices}
 use Rattle.fr_precision.specs.Round.{Hearer, senders_of, sync_count}
 use Rattle.fr_precision.proofs.Counting.{count_cons, one_if}
-use Rattle.fr_precision.proofs.Lists.{Contains-here, Contains-none, Contains-there, kept_filtered}
+use Rattle.fr_cluster.proofs.Elements.{Contains-here, Contains-none, Contains-there, kept_filtered}
 use Rattle.fr_skew.specs.Spreads.{spread_at}
 use Rattle.fr_time.specs.Cycles.{odd_cycle}
 use Rattle.fr_time.specs.Position.{grid_for}

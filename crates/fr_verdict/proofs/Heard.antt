@@ -27,7 +27,7 @@ use Rattle.fr_precision.proofs.DeviationLaws.{recorded_is_deviation}
 use Rattle.fr_precision.proofs.OffsetLaws.{micro_lasts}
 use Rattle.fr_cluster.specs.Questions.{key_slot_of}
 use Rattle.fr_precision.specs.Round.{Hearer, IsHeardAt, Round}
-use Rattle.fr_precision.proofs.Lists.{filtered, found, kept_filtered}
+use Rattle.fr_cluster.proofs.Elements.{filtered, found, kept_filtered}
 use Rattle.fr_time.specs.Cycles.{is_odd}
 use Rattle.fr_time.specs.Slots.{action_point_of}
 use Rattle.fr_trace.specs.Items.Item.{Heard}

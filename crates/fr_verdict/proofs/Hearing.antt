@@ -15,8 +15,8 @@ use Rattle.fr_history.specs.History.{Record, row_for}
 use Rattle.fr_cluster.specs.Setting.{Setting, correct_nodes, is_correct}
 use Rattle.fr_base.specs.Rows.{dev_in}
 use Rattle.fr_precision.specs.Round.{IsItself, IsOther}
-use Rattle.fr_precision.proofs.Keys.{key_node_among, key_node_is, key_slot_has, slot_of_index}
-use Rattle.fr_precision.proofs.Lists.{Contains-none, filtered, sole_found}
+use Rattle.fr_time.proofs.Keys.{key_node_among, key_node_is, key_slot_has, slot_of_index}
+use Rattle.fr_cluster.proofs.Elements.{Contains-none, filtered, sole_found}
 use Rattle.fr_precision.proofs.RoundSenders.{and_then_some}
 use Rattle.fr_runs.specs.Links.{IsLinked, record_in}
 use Rattle.fr_runs.proofs.Receivers.{is_correct_node}

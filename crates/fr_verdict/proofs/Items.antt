@@ -5,7 +5,7 @@ use Rattle.fr_base.specs.declared.dev.Dev.{Dev}
 use Rattle.fr_base.specs.declared.node_row.NodeRow.{NodeRow}
 use Rattle.fr_cluster.specs.Values.{Values}
 use Rattle.fr_cluster.proofs.KeyNodes.{Contains-cons_cases}
-use Rattle.fr_precision.proofs.Lists.{Contains-none}
+use Rattle.fr_cluster.proofs.Elements.{Contains-none}
 use Rattle.fr_history.specs.History.{History, Record}
 use Rattle.fr_trace.specs.Items.{Item, first_number, item_in, items_by, items_in}
 use Rattle.fr_trace.specs.Items.Item.{Clock, Heard}

@@ -9,7 +9,7 @@ use Rattle.fr_base.specs.declared.state.State.{State}
 use Rattle.fr_base.specs.declared.state.State.TheVariants.{Active, Halt, Passive}
 use Rattle.fr_cluster.specs.Values.{Values}
 use Rattle.fr_cluster.proofs.KeyNodes.{AllPairs-first, AllPairs-rest, Contains-cons_cases}
-use Rattle.fr_precision.proofs.Lists.{Contains-none, sole_found}
+use Rattle.fr_cluster.proofs.Elements.{Contains-none, sole_found}
 use Rattle.fr_history.specs.History.{History, Record, blank_row, record_at, row_for}
 use Rattle.fr_history.specs.Rows.{offset_after}
 use Rattle.fr_history.specs.Terms.{status_in}

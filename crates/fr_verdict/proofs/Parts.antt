@@ -6,7 +6,7 @@ use Rattle.std.proofs.Math.Seq.{take-suc}
 use Rattle.std.proofs.lemmas.List.Sums.{fold-append}
 use Rattle.fr_base.specs.declared.node_row.NodeRow.{NodeRow}
 use Rattle.fr_cluster.specs.Values.{Values}
-use Rattle.fr_precision.proofs.Lists.{found}
+use Rattle.fr_cluster.proofs.Elements.{found}
 use Rattle.fr_history.specs.History.{History, row_of}
 use Rattle.fr_trace.specs.Cycles.{and_then, history_by, kept_of}
 use Rattle.fr_trace.specs.declared.trace.TracedCycle.{TracedCycle}

@@ -28,7 +28,7 @@ use Rattle.fr_poc.specs.Control.{Status, control_of, first_status, step_of}
 use Rattle.fr_poc.specs.Limits.{limits_of}
 use Rattle.fr_precision.specs.Placement.{IsRegular}
 use Rattle.fr_precision.specs.Rows.{HasProperMicro, IsDoubleCycle, IsSteady, corrected_end_of}
-use Rattle.fr_precision.proofs.Lists.{filtered}
+use Rattle.fr_cluster.proofs.Elements.{filtered}
 use Rattle.fr_trace.specs.Fits.{TraceFits}
 use Rattle.fr_trace.specs.Lasting.{IsTrace}
 use Rattle.fr_trace.specs.Trace.{TraceView, row_at}

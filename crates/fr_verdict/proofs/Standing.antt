@@ -9,7 +9,7 @@ use Rattle.fr_cluster.specs.declared.join.Join.{Join}
 use Rattle.fr_cluster.specs.declared.nodes.NodeSpec.{NodeSpec}
 use Rattle.fr_history.specs.History.{AreRowsOf, History, Record, row_of}
 use Rattle.fr_history.proofs.Standing.{keeps, passes_by_row, row_by_passing}
-use Rattle.fr_precision.proofs.Lists.{Contains-here, Contains-none, Contains-there}
+use Rattle.fr_cluster.proofs.Elements.{Contains-here, Contains-none, Contains-there}
 use Rattle.fr_cluster.proofs.KeyNodes.{Contains-cons_cases}
 use Rattle.fr_runs.proofs.Standing.{filter_same}
 use Rattle.fr_trace.specs.Fits.{FitsRecord}

@@ -23,7 +23,7 @@ use Rattle.fr_precision.proofs.Worked.{two}
 use Rattle.fr_history.specs.Cycles.{Cycle, Cycles}
 use Rattle.fr_history.specs.Worked.{after_12, joined_run, on_a, roomy_cluster, two_at}
 use Rattle.fr_history.specs.Standing.{has_row, row_nodes}
-use Rattle.fr_precision.proofs.Lists.{Contains-none, filtered}
+use Rattle.fr_cluster.proofs.Elements.{Contains-none, filtered}
 use Rattle.fr_history.specs.History.{row_for}
 use Rattle.fr_runs.specs.Rounds.{IsDoubleOf, IsUnfollowedSync}
 

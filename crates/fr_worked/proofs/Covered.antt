@@ -8,7 +8,7 @@ use Rattle.fr_bound.specs.Checks.{AllChecksHold, AllJoinChecksHold}
 use Rattle.fr_precision.specs.Reception.{IsDelay}
 use Rattle.fr_cluster.specs.declared.join.Join.{Join}
 use Rattle.fr_history.specs.Worked.{joined_run, on_a, roomy_cluster}
-use Rattle.fr_precision.proofs.Lists.{Contains-here}
+use Rattle.fr_cluster.proofs.Elements.{Contains-here}
 use Rattle.fr_runs.specs.Links.{IsCarried, IsLinked}
 use Rattle.fr_runs.specs.References.{AreReferenced, IsReference}
 use Rattle.fr_runs.specs.Supplied.{IsCovered, IsCoveredByFiles}

@@ -21,7 +21,7 @@ use Rattle.fr_bound.specs.Bounds.{longest_micro, shortest_micro}
 use Rattle.fr_bound.specs.Checks.{AllChecksHold, AllJoinChecksHold}
 use Rattle.fr_precision.specs.Reception.{IsDelay}
 use Rattle.fr_history.specs.Standing.{has_row}
-use Rattle.fr_precision.proofs.Lists.{Contains-here, Contains-none, Contains-there, filtered}
+use Rattle.fr_cluster.proofs.Elements.{Contains-here, Contains-none, Contains-there, filtered}
 use Rattle.fr_runs.specs.Links.{IsCarried}
 use Rattle.fr_runs.specs.References.{AreReferenced, IsReference}
 use Rattle.fr_runs.specs.Supplied.{IsCoveredByFiles}

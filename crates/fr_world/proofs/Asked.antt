@@ -13,7 +13,7 @@ use Rattle.fr_cluster.specs.Setting.{Setting, correct_nodes}
 use Rattle.fr_cluster.specs.Values.{Values}
 use Rattle.fr_cluster.specs.declared.join.Join.{Join}
 use Rattle.fr_cluster.specs.declared.nodes.NodeSpec.{NodeSpec}
-use Rattle.fr_precision.proofs.Lists.{Contains-here, Contains-there}
+use Rattle.fr_cluster.proofs.Elements.{Contains-here, Contains-there}
 use Rattle.fr_script.specs.Promises.{NodesJoinProperly}
 use Rattle.fr_time.specs.Cycles.{is_odd}
 use Rattle.fr_node.specs.Listening.{ListenerView}

@@ -9,7 +9,7 @@ use Rattle.fr_base.proofs.Products.{below_longest}
 use Rattle.fr_cluster.specs.Setting.{Setting, correct_nodes}
 use Rattle.fr_cluster.specs.Values.{Values}
 use Rattle.fr_cluster.specs.declared.nodes.NodeSpec.{NodeSpec}
-use Rattle.fr_precision.proofs.Lists.{kept_filtered}
+use Rattle.fr_cluster.proofs.Elements.{kept_filtered}
 use Rattle.fr_time.specs.Instant.{next_start_of}
 use Rattle.fr_time.specs.Placed.{IsPlacedRow}
 use Rattle.fr_time.specs.Position.{grid_for}

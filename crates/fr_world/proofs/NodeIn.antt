@@ -9,7 +9,7 @@ use Rattle.fr_base.specs.declared.node_row.NodeRow.{NodeRow}
 use Rattle.fr_cluster.specs.Questions.{node_of}
 use Rattle.fr_cluster.specs.declared.join.Join.{Join}
 use Rattle.fr_cluster.specs.declared.nodes.NodeSpec.{NodeSpec}
-use Rattle.fr_precision.proofs.Lists.{found, kept_filtered}
+use Rattle.fr_cluster.proofs.Elements.{found, kept_filtered}
 use Rattle.fr_script.specs.View.{is_arbitrary}
 use Rattle.fr_node.specs.View.{NodeView}
 use Rattle.fr_cluster.specs.Setting.{Setting, correct_nodes, is_correct}

@@ -9,7 +9,7 @@ use Rattle.fr_cluster.specs.Sane.{IsSane}
 use Rattle.fr_cluster.specs.Setting.{Setting, correct_nodes}
 use Rattle.fr_cluster.specs.declared.join.Join.{Join}
 use Rattle.fr_cluster.specs.declared.nodes.NodeSpec.{NodeSpec}
-use Rattle.fr_precision.proofs.Lists.{Contains-here, Contains-there, filtered}
+use Rattle.fr_cluster.proofs.Elements.{Contains-here, Contains-there, filtered}
 use Rattle.fr_time.specs.Cycles.{is_odd}
 use Rattle.fr_node.specs.Cycle.{as_joined}
 use Rattle.fr_node.specs.Listening.{ListenerView, first_of, follower_by, listening}

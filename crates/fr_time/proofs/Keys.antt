@@ -16,7 +16,7 @@ use Rattle.fr_cluster.specs.declared.nodes.NodeSpec.{NodeSpec}
 use Rattle.fr_time.specs.Senders.{key_node_of}
 use Rattle.fr_cluster.proofs.KeyIndexes.{index_is_own}
 use Rattle.fr_cluster.proofs.KeyNodes.{found_key, AllPairs-first, AllPairs-rest, Contains-cons_cases}
-use Rattle.fr_precision.proofs.Lists.{Contains-here, Contains-none, Contains-there, found, sole_found}
+use Rattle.fr_cluster.proofs.Elements.{Contains-here, Contains-none, Contains-there, found, sole_found}
 
 equal : (a : ℕ) → (a == a) ≡ true
 equal a = grind arith
