@@ -44,7 +44,8 @@ use Rattle.fr_runs.specs.Supplied.{IsCovered}
 use Rattle.fr_runs.proofs.Covers.{coverage_suffices}
 use Rattle.fr_runs.proofs.RowsDrawn.{member_at, next_spread_is, two_draw_near}
 use Rattle.fr_runs.proofs.RowsHeard.{SpreadRows, row_near, row_runs}
-use Rattle.fr_runs.proofs.RowsRun.{AreDrawn, IsLawfulPart, next_rows, spread_rows}
+use Rattle.fr_runs.specs.Apart.{AreRowsSpread, IsLawfulPart}
+use Rattle.fr_runs.proofs.RowsRun.{next_rows, spread_rows}
 use Rattle.fr_coverage.specs.Decided.{setting_of}
 use Rattle.fr_promise.specs.Statement.{IsRunOf}
 use Rattle.fr_promise.proofs.Stating.{files_are_covered_alone, rates_begin}
@@ -118,7 +119,7 @@ module _ (x : Setting) (h : Cycles) (start rate double peak : ℕ) (w : Begun x 
   spread_in k = spread_after x.params start rate k
 
   abbrev Drawn : Cycle → Cycle → ℕ → Type 0
-  Drawn even odd k = AreDrawn x even odd (pos (spread_in k).starts) (pos (spread_in k).lengths) (pos peak)
+  Drawn even odd k = AreRowsSpread x even odd (pos (spread_in k).starts) (pos (spread_in k).lengths) (pos peak)
 
   abbrev Rows : Cycles → Cycle → Cycle → ℕ → Type 0
   Rows earlier even odd k = SpreadRows x earlier even odd k (pos (spread_in k).starts) (pos (spread_in k).lengths) (pos peak)

@@ -32,6 +32,7 @@ pub mod Stated
 pub mod RowsHeard
 pub mod RowsDrawn
 pub mod RowsRun
+pub mod RowsApart
 pub mod RowsNumbers
 pub mod Checked
 pub mod Listened

@@ -233,7 +233,7 @@ module _ (x : Setting) (h : Cycles) (even odd : Cycle) (double : ℕ) (starts le
       regular_is_recorded x (rows_exchange is_odd) is_odd reach sender receiver slot channel (near_exchange is_odd) (exchanged_by is_odd sender receiver slot link) share event
 
   -- and each deviation is one of both rows
-  placed_in : (is_odd : Bool) (sender receiver : NodeSpec) (slot : ℕ) (channel : Channel) (value : ℤ) → RowLink x h sender receiver slot
+  pub placed_in : (is_odd : Bool) (sender receiver : NodeSpec) (slot : ℕ) (channel : Channel) (value : ℤ) → RowLink x h sender receiver slot
       → dev_in (cycle_of is_odd even odd).told.devs receiver.id slot channel ≡ Some value
       → IsDeviation x.params is_odd (pos (action_point_of x.params slot)) (row_for (cycle_of is_odd even odd).told.rows receiver.id) (row_for (cycle_of is_odd even odd).told.rows sender.id) value
   placed_in is_odd sender receiver slot channel value link is =

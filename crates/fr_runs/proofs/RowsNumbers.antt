@@ -1,38 +1,31 @@
 -- What a run keeps of rates and of offsets from a double cycle in sync to the next one.
-use Rattle.std.proofs.Common.{◌≡◌, ℕ, suc, ◌+◌, ◌*◌, ◌<◌, true, false, ℤ, pos, Some, [], ◌∷◌, length, ap, sym, ◌∙◌, subst, arith}
-use Rattle.std.specs.Prelude.{◌-ℤ◌, ◌*ℤ◌, Contains}
+use Rattle.std.proofs.Common.{◌≡◌, ℕ, suc, ◌+◌, ◌*◌, ◌<◌, ℤ, pos, Some, [], ◌∷◌, length, ap, sym, ◌∙◌, subst, arith}
+use Rattle.std.specs.Prelude.{◌-ℤ◌, ◌*ℤ◌}
 use Rattle.fr_base.specs.Within.{IsWithin}
 use Rattle.fr_base.specs.declared.node_row.NodeRow.{NodeRow}
-use Rattle.fr_cluster.specs.Questions.{own_index}
-use Rattle.fr_cluster.specs.Setting.{IsSetting, Setting, correct_nodes}
-use Rattle.fr_cluster.specs.Values.{Values}
+use Rattle.fr_cluster.specs.Setting.{IsSetting, Setting}
 use Rattle.fr_cluster.specs.declared.nodes.NodeSpec.{NodeSpec}
-use Rattle.fr_correct.specs.Terms.{rate_term_of}
 use Rattle.fr_correct.specs.declared.term.Term.{Term}
-use Rattle.fr_measure.specs.Deviations.{rate_values_by}
 use Rattle.fr_bound.specs.Bounds.{lambda_of, pi_of}
 use Rattle.fr_precision.specs.Rows.{corrected_end_of}
 use Rattle.fr_precision.specs.Step.{DrawNear}
 use Rattle.fr_history.specs.Cycles.{Cycle, Cycles, cycle_at}
 use Rattle.fr_history.specs.Lawful.{IsLawful}
 use Rattle.fr_history.specs.Next.{cycles_of}
-use Rattle.fr_history.specs.Standing.{has_row, row_nodes}
-use Rattle.fr_cluster.proofs.Elements.{kept_filtered}
 use Rattle.fr_history.specs.History.{row_for}
-use Rattle.fr_runs.proofs.Rows.{has_row as row_there}
-use Rattle.fr_runs.specs.Links.{IsLinked}
-use Rattle.fr_runs.specs.Numbers.{HasDouble, HasRowIn, IsSyncedRun, JoinedRunsKeepOffsets, JoinedRunsKeepRates, StatedRunsAreSynced, StoresSyncFrames, node_start, rate_term_told, starts_after}
+use Rattle.fr_runs.specs.Numbers.{HasDouble, HasRowIn, IsSyncedRun, JoinedRunsKeepOffsets, JoinedRunsKeepRates, StatedRunsAreSynced, node_start, starts_after}
 use Rattle.fr_runs.specs.Gathered.{reach_in}
 use Rattle.fr_runs.specs.Rounds.{IsDoubleOf}
 use Rattle.fr_runs.proofs.Moved.{Moves}
 use Rattle.fr_runs.proofs.Parts.{cycle_within, double_at, even_is, odd_is}
-use Rattle.fr_runs.proofs.Standing.{told_has}
 use Rattle.fr_runs.proofs.Whole.{prior_of}
 use Rattle.fr_runs.proofs.Covers.{coverage_suffices}
 use Rattle.fr_runs.specs.Stated.{all_cycles}
 use Rattle.fr_runs.proofs.RowsDrawn.{hearer_at, member_at, offsets_uncut, rates_uncut, row_moves, two_draw_near}
-use Rattle.fr_runs.proofs.RowsHeard.{RowLink, SpreadRows, frames_stored}
-use Rattle.fr_runs.proofs.RowsRun.{IsLawfulPart, next_rows, spread_rows, synced_are_drawn}
+use Rattle.fr_runs.proofs.RowsHeard.{SpreadRows}
+use Rattle.fr_runs.specs.Apart.{IsLawfulPart}
+use Rattle.fr_runs.proofs.RowsRun.{next_rows, spread_rows, synced_are_spread}
+use Rattle.fr_runs.proofs.RowsApart.{among_rows, rate_term_is, stores}
 
 -- ---- the double cycle, with the cycles before it
 
@@ -102,12 +95,7 @@ synced_rows : (x : Setting) (h : Cycles) (double : ℕ) (earlier : Cycles) (s : 
     → SyncedRows x earlier s.synced.even s.synced.odd double
 synced_rows x h double earlier s d =
     spread_rows x h (part_of x h double s) double earlier s.synced.even s.synced.odd (pos (pi_of x.params)) (pos (lambda_of x.params)) (pos (reach_in x)) d
-    (synced_are_drawn x s.synced.even s.synced.odd s.covered s.synced.in_sync)
-
--- a node with a row is one of them
-among_rows : (x : Setting) (earlier : Cycles) (even odd : Cycle) (double : ℕ) (node : NodeSpec) → SyncedRows x earlier even odd double → HasRowIn x even node → Contains (row_nodes x earlier) node
-among_rows x earlier even odd double node s has =
-    kept_filtered (λ (n : NodeSpec). has_row x earlier n.id) (correct_nodes x) node has.correct (sym (told_has x earlier even node s.even_runs has.correct) ∙ has.row)
+    (synced_are_spread x s.synced.even s.synced.odd s.covered s.synced.in_sync)
 
 -- two of them draw near, and so they go on
 record GoOn (x : Setting) (even odd even2 odd2 : Cycle) (one other : NodeSpec) : Type 0 where
@@ -126,22 +114,13 @@ go_on x h double s even2 odd2 one other next first second =
     let at = next_here h double even odd even2 odd2 (has_double x h double s) next in
     let rows = synced_rows x h double at.earlier s (prior_of h double at.earlier even odd even2 odd2 at.is) in
     let n = next_rows x h (part_of x h double s) double at.earlier even odd even2 odd2 at.is in
-    let here = among_rows x at.earlier even odd double one rows first in
-    let there = among_rows x at.earlier even odd double other rows second in
+    let here = among_rows x at.earlier even odd double pi lambda reach rows one first in
+    let there = among_rows x at.earlier even odd double pi lambda reach rows other second in
     record {
       near = two_draw_near x at.earlier even odd double pi lambda reach rows one other here there;
       first = row_moves x at.earlier even odd double pi lambda reach rows even2 odd2 n one here;
       second = row_moves x at.earlier even odd double pi lambda reach rows even2 odd2 n other there;
     }
-
--- ---- terms
-
-rate_term_is : (x : Setting) (earlier : Cycles) (even odd : Cycle) (double : ℕ) (node : NodeSpec) → SyncedRows x earlier even odd double → Contains (row_nodes x earlier) node
-    → rate_term_told x even odd node ≡ (member_at x even odd node).rate_term
-rate_term_is x earlier even odd double node s among =
-    let p : Values = x.params in
-    ap (λ (id : ℕ). rate_term_of (row_for odd.told.rows node.id).rate p.damping p.rate_limit (rate_values_by p even.told.devs odd.told.devs id (own_index p node.id)))
-    (row_there (row_nodes x earlier) odd.told.rows node s.two.odd_rows.nodes among).number
 
 -- ---- what is stated suffices
 
@@ -166,8 +145,8 @@ joined_runs_keep_rates x h double s =
     let rows = synced_rows x h double at.earlier s at.is in
     record {
       uncut = λ node has.
-          let among = among_rows x at.earlier even odd double node rows has in
-          ap (λ (term : Term). term.outcome) (rate_term_is x at.earlier even odd double node rows among) ∙ rates_uncut x at.earlier even odd double (pos (pi_of x.params)) (pos (lambda_of x.params)) (pos (reach_in x)) rows node among;
+          let among = among_rows x at.earlier even odd double (pos (pi_of x.params)) (pos (lambda_of x.params)) (pos (reach_in x)) rows node has in
+          ap (λ (term : Term). term.outcome) (rate_term_is x at.earlier even odd double (pos (pi_of x.params)) (pos (lambda_of x.params)) (pos (reach_in x)) rows node among) ∙ rates_uncut x at.earlier even odd double (pos (pi_of x.params)) (pos (lambda_of x.params)) (pos (reach_in x)) rows node among;
       lengths = λ next_even next_odd one other next first second.
           let go = go_on x h double s next_even next_odd one other next first second in
           let even_of : NodeSpec → NodeRow = λ node. row_for next_even.told.rows node.id in
@@ -177,22 +156,6 @@ joined_runs_keep_rates x h double s =
           (record { near = near.0; proper = proper.0 }, record { near = near.1; proper = proper.1 });
     }
 
--- a link of two nodes with rows
-row_link : (x : Setting) (earlier : Cycles) (even odd : Cycle) (double : ℕ) (sender receiver : NodeSpec) (slot : ℕ) → SyncedRows x earlier even odd double → IsLinked x sender receiver slot
-    → HasRowIn x even sender → HasRowIn x even receiver → RowLink x earlier sender receiver slot
-row_link x earlier even odd double sender receiver slot s link first second = record {
-  sends = among_rows x earlier even odd double sender s first;
-  hears = among_rows x earlier even odd double receiver s second;
-  key = link.key;
-  other = link.other;
-}
-
-stores : (x : Setting) (earlier : Cycles) (even odd : Cycle) (double : ℕ) → SyncedRows x earlier even odd double → StoresSyncFrames x even odd double
-stores x earlier even odd double s false sender receiver slot channel link first second share regular =
-    frames_stored x earlier even odd double (pos (pi_of x.params)) (pos (lambda_of x.params)) (pos (reach_in x)) s false sender receiver slot channel (row_link x earlier even odd double sender receiver slot s link first second) share regular
-stores x earlier even odd double s true sender receiver slot channel link first second share regular =
-    frames_stored x earlier even odd double (pos (pi_of x.params)) (pos (lambda_of x.params)) (pos (reach_in x)) s true sender receiver slot channel (row_link x earlier even odd double sender receiver slot s link first second) share regular
-
 pub joined_runs_keep_offsets : JoinedRunsKeepOffsets
 joined_runs_keep_offsets x h double s =
     let even = s.synced.even in
@@ -200,11 +163,11 @@ joined_runs_keep_offsets x h double s =
     let at = here h double even odd (has_double x h double s) in
     let rows = synced_rows x h double at.earlier s at.is in
     record {
-      uncut = λ node has. offsets_uncut x at.earlier even odd double (pos (pi_of x.params)) (pos (lambda_of x.params)) (pos (reach_in x)) rows node (among_rows x at.earlier even odd double node rows has);
+      uncut = λ node has. offsets_uncut x at.earlier even odd double (pos (pi_of x.params)) (pos (lambda_of x.params)) (pos (reach_in x)) rows node (among_rows x at.earlier even odd double (pos (pi_of x.params)) (pos (lambda_of x.params)) (pos (reach_in x)) rows node has);
       starts = λ next_even next_odd one other next first second.
           let go = go_on x h double s next_even next_odd one other next first second in
           let Apart : ℤ → ℤ → Type 0 = λ a b. IsWithin (starts_after x.params) (pos 2 *ℤ (a -ℤ b)) in
           let From : ℤ → Type 0 = λ a. Apart a (corrected_end_of x.params (hearer_at x even odd other).odd) in
           subst (Apart (node_start next_even.told one)) (sym go.second.start) (subst From (sym go.first.start) go.near.ends);
-      stored = stores x at.earlier even odd double rows;
+      stored = stores x at.earlier even odd double (pos (pi_of x.params)) (pos (lambda_of x.params)) (pos (reach_in x)) rows;
     }

@@ -1,16 +1,11 @@
 -- The double cycles of a run, or of its cycles up to one of them: their rows, and those of the next one.
-use Rattle.std.proofs.Common.{◌≡◌, ℕ, suc, ◌*◌, ◌<◌, ◌≤◌, ℤ, pos, All, ◌∷◌, ◌++◌, length, subst, arith}
-use Rattle.std.specs.Prelude.{◌≤ℤ◌, ◌+ℤ◌, ◌*ℤ◌}
+use Rattle.std.proofs.Common.{◌≡◌, ℕ, suc, ◌*◌, ◌<◌, ◌≤◌, ℤ, pos, ◌∷◌, ◌++◌, length, subst, arith}
 use Rattle.std.proofs.lemmas.List.{length-append}
 use Rattle.fr_base.specs.Within.{IsWithin}
-use Rattle.fr_base.specs.declared.state.State.TheVariants.{Active}
 use Rattle.fr_cluster.specs.Setting.{Setting, correct_nodes}
 use Rattle.fr_cluster.specs.declared.nodes.NodeSpec.{NodeSpec}
 use Rattle.fr_bound.specs.Bounds.{lambda_of, longest_micro, pi_of}
 use Rattle.fr_bound.specs.Sync.{IsInSync}
-use Rattle.fr_precision.specs.Offsets.{LimitSuffices}
-use Rattle.fr_precision.specs.Reception.{LeavesRoom}
-use Rattle.fr_precision.specs.Step.{AreSpread}
 use Rattle.fr_precision.proofs.StepLaws.{sync_is_spread}
 use Rattle.fr_history.specs.Cycles.{Cycle, Cycles}
 use Rattle.fr_history.specs.Lawful.{IsLawful}
@@ -19,7 +14,8 @@ use Rattle.fr_history.proofs.Standing.{rows_stay as row_stays}
 use Rattle.fr_cluster.proofs.Elements.{filtered, kept_filtered}
 use Rattle.fr_runs.proofs.Rows.{each_row}
 use Rattle.fr_runs.specs.Gathered.{reach_in}
-use Rattle.fr_runs.specs.Rounds.{IsDoubleOf, RatesBegin}
+use Rattle.fr_runs.specs.Apart.{AreRowsSpread, IsLawfulPart}
+use Rattle.fr_runs.specs.Rounds.{IsDoubleOf}
 use Rattle.fr_runs.proofs.Courses.{run_two}
 use Rattle.fr_runs.proofs.Lawful.{lawful_cycles_run}
 use Rattle.fr_runs.proofs.Rates.{rates_stay_within}
@@ -31,13 +27,6 @@ use Rattle.fr_runs.proofs.Fed.{lawful_part}
 use Rattle.fr_runs.proofs.RowsDrawn.{NextRows}
 use Rattle.fr_runs.proofs.RowsHeard.{SpreadRows}
 
--- lawful cycles of a covered run that begins with rates within their limit
-pub record IsLawfulPart (x : Setting) (h : Cycles) : Type 0 where
-  pub covered : IsCovered x
-  pub rates : RatesBegin x
-  pub lawful : IsLawful x h
-  pub within : length h ≤ 2 * x.doubles
-
 -- a double cycle of them is one of the run
 double_within : (h : Cycles) (double doubles : ℕ) (earlier : Cycles) (even odd : Cycle) → IsDoubleOf h double earlier even odd → length h ≤ 2 * doubles → double < doubles
 double_within h double doubles earlier even odd d within =
@@ -47,19 +36,10 @@ double_within h double doubles earlier even odd d within =
     let whole : length (d.later ++ odd ∷ even ∷ earlier) ≤ 2 * doubles = subst Short d.parted within in
     omega (arith, counted, long, whole)
 
--- what is asked of the rows of one of them, besides that it is
-pub record AreDrawn (x : Setting) (even odd : Cycle) (starts lengths reach : ℤ) : Type 0 where
-  pub active_even : All (λ row. row.state ≡ Active) even.told.rows
-  pub active_odd : All (λ row. row.state ≡ Active) odd.told.rows
-  pub limit : LimitSuffices x.params reach
-  pub room : LeavesRoom x.params reach
-  pub fits : (starts +ℤ (pos 2 *ℤ lengths) +ℤ pos (longest_micro x.params)) ≤ℤ reach
-  pub spread : AreSpread x.params starts lengths even.told.rows odd.told.rows
-
 -- in sync is the case of pi and lambda, and of the reach of the run
-pub synced_are_drawn : (x : Setting) (even odd : Cycle) → IsCovered x → IsInSync x.params even.told.rows odd.told.rows
-    → AreDrawn x even odd (pos (pi_of x.params)) (pos (lambda_of x.params)) (pos (reach_in x))
-synced_are_drawn x even odd covered sync = record {
+pub synced_are_spread : (x : Setting) (even odd : Cycle) → IsCovered x → IsInSync x.params even.told.rows odd.told.rows
+    → AreRowsSpread x even odd (pos (pi_of x.params)) (pos (lambda_of x.params)) (pos (reach_in x))
+synced_are_spread x even odd covered sync = record {
   active_even = sync.active_even;
   active_odd = sync.active_odd;
   limit = covered.clocks.limit;
@@ -69,9 +49,9 @@ synced_are_drawn x even odd covered sync = record {
 }
 
 module _ (x : Setting) (h : Cycles) (w : IsLawfulPart x h) where
-  pub spread_rows : (double : ℕ) (earlier : Cycles) (even odd : Cycle) (starts lengths reach : ℤ) → IsDoubleOf h double earlier even odd → AreDrawn x even odd starts lengths reach
+  pub spread_rows : (double : ℕ) (earlier : Cycles) (even odd : Cycle) (starts lengths reach : ℤ) → IsDoubleOf h double earlier even odd → AreRowsSpread x even odd starts lengths reach
       → SpreadRows x earlier even odd double starts lengths reach
-  spread_rows double earlier even odd starts lengths reach d drawn =
+  spread_rows double earlier even odd starts lengths reach d apart =
       let lawful = lawful_part x d.later (odd ∷ even ∷ earlier) (subst (IsLawful x) d.parted w.lawful) in
       let runs = double_runs x h double earlier even odd d (lawful_cycles_run x h w.lawful) in
       record {
@@ -86,12 +66,12 @@ module _ (x : Setting) (h : Cycles) (w : IsLawfulPart x h) where
         rates = λ node among.
             each_row (row_nodes x earlier) even.told.rows (λ row. IsWithin x.params.rate_limit row.rate) node runs.1.0.rows.nodes among
             (rates_stay_within x earlier even w.covered.clocks.sane w.rates runs.1).0;
-        active_even = drawn.active_even;
-        active_odd = drawn.active_odd;
-        limit = drawn.limit;
-        room = drawn.room;
-        fits = drawn.fits;
-        spread = drawn.spread;
+        active_even = apart.active_even;
+        active_odd = apart.active_odd;
+        limit = apart.limit;
+        room = apart.room;
+        fits = apart.fits;
+        spread = apart.spread;
       }
 
   -- the next one has the rows that it has

@@ -12,6 +12,7 @@ pub mod Precision
 pub mod Whole
 pub mod Stated
 pub mod Numbers
+pub mod Apart
 pub mod Room
 pub mod Listening
 pub mod Following

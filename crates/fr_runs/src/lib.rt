@@ -4,6 +4,7 @@
 //! nothing here runs.
 #![tactic(auto)]
 
+mod apart;
 mod clock_terms;
 mod exchanges;
 mod following;
@@ -18,6 +19,7 @@ mod succession;
 mod supplying;
 mod whole_runs;
 
+pub use apart::spread_rows_draw_near;
 pub use clock_terms::clocks_apply_terms;
 pub use exchanges::{exchanged_frames_are_recorded, linked_frames_are_stored};
 pub use following::{ends_lie_near, followers_stay_in_reach, followers_stay_near};
