@@ -54,7 +54,7 @@ use Rattle.fr_verdict.specs.Sync.{IsFirstSynced, first_synced_of, is_early}
 use Rattle.fr_verdict.specs.declared.unlawful.Unlawful.TheVariants as unlawful
 use Rattle.fr_verdict.proofs.Heard.{heard_in, hearer_in, round_in, sends_in}
 use Rattle.fr_verdict.proofs.Items.{Unbroken, row_there as row_item, unbroken}
-use Rattle.fr_verdict.proofs.Doubles.{Part, each_record}
+use Rattle.fr_verdict.proofs.Doubles.{Part, each_record, part_at}
 use Rattle.fr_verdict.proofs.Recorded.{IsDouble, Passes, Rows, even_at, even_parted, node_two, odd_at, rate_follows, rate_term_is, regular_in, rows_in, start_follows, state_is, stays_active, steady, window}
 use Rattle.fr_verdict.proofs.Standing.{AreTwo, Comes, comes_or_stays, has_row, lasting_has, nodes_in, nodes_stay}
 use Rattle.fr_verdict.proofs.Syncing.{early_not, is_in_sync_at}
@@ -494,14 +494,26 @@ synced_from p t double k h even odd w first d from = record { passes = w; first 
 
 -- ---- and the whole trace keeps its precision
 
+of_part : (t : TraceView) (k : ℕ) (part : Part t.history k) → IsDouble t part.earlier part.even part.odd k
+of_part t k part = record { later = part.later; parted = part.parted; counted = part.counted }
+
+synced_at : (p : Values) (t : TraceView) (double : ℕ) → Passes p t → IsFirstSynced p t double → (k : ℕ) → Part t.history k → double ≤ k → IsInSyncAt p t.history k
+synced_at p t double w first k part from =
+    let d : IsDouble t part.earlier part.even part.odd k = of_part t k part in
+    let late : 2 * k + 1 ≡ suc (2 * k) = omega arith in
+    record {
+      even = part.even;
+      odd = part.odd;
+      has_even = even_at t part.earlier part.even part.odd k d;
+      has_odd = ap (record_at t.history) late ∙ odd_at t part.earlier part.even part.odd k d;
+      in_sync = in_sync_from p t double w first k part.earlier part.even part.odd d from;
+    }
+
 abbrev SkewsIn : Values → ℕ → Record → Type 0
 SkewsIn p n r = (macrotick : ℕ) → macrotick < amount p name.gMacroPerCycle → spread_at (grid_for p) n r.rows macrotick ≤ℤ pos (precision_of p)
 
 abbrev ActiveIn : ℕ → Record → Type 0
 ActiveIn n r = All (λ (row : NodeRow). row.state ≡ Active) r.rows
-
-of_part : (t : TraceView) (k : ℕ) (part : Part t.history k) → IsDouble t part.earlier part.even part.odd k
-of_part t k part = record { later = part.later; parted = part.parted; counted = part.counted }
 
 skews : (p : Values) (t : TraceView) (double : ℕ) → Passes p t → IsFirstSynced p t double → (k : ℕ) (part : Part t.history k) → double ≤ k → SkewsIn p (2 * k) part.even × SkewsIn p (suc (2 * k)) part.odd
 skews p t double w first k part from =
@@ -543,6 +555,7 @@ active_after p t double w first last (even ∷ h) parted =
 
 keeps : (p : Values) (t : TraceView) (double : ℕ) → Passes p t → IsFirstSynced p t double → KeepsRecordedClocks p t double
 keeps p t double w first = record {
+  synced = λ k from less. synced_at p t double w first k (part_at t.history k less) from;
   skew =
       λ cycle macrotick from less lt.
       let r = there_is (record_at t.history cycle) (record_at-some t.history cycle less) in

@@ -1,6 +1,6 @@
 -- The precision of a trace that passes: its clocks ran by their laws, and from its first double cycle in sync on they keep
 -- together, whoever joins.
-use Rattle.std.specs.Prelude.{◌≡◌, ℕ, ◌*◌, ◌<◌, ◌≤◌, ◌≤ℤ◌, pos, ◌∷◌, ◌++◌, length, filter, All, List, Some}
+use Rattle.std.specs.Prelude.{◌≡◌, ℕ, suc, ◌*◌, ◌<◌, ◌≤◌, ◌≤ℤ◌, pos, ◌∷◌, ◌++◌, length, filter, All, List, Some}
 use Rattle.fr_base.specs.declared.node_row.NodeRow.{NodeRow}
 use Rattle.fr_base.specs.declared.state.Outcome.TheVariants.{Within}
 use Rattle.fr_base.specs.declared.state.State.TheVariants.{Active}
@@ -12,6 +12,7 @@ use Rattle.fr_bound.specs.Bounds.{precision_of}
 use Rattle.fr_history.specs.History.{History, Record, record_at, row_for}
 use Rattle.fr_history.specs.Rows.{ClockLaws, RowsRun, offset_after}
 use Rattle.fr_history.specs.Skew.{skew_at}
+use Rattle.fr_history.specs.Sync.{IsInSyncAt}
 use Rattle.fr_history.specs.Terms.{offset_term_in, rate_term_in, status_in}
 use Rattle.fr_trace.specs.Fits.{TraceFits}
 use Rattle.fr_trace.specs.Lasting.{IsTrace}
@@ -49,9 +50,11 @@ pub record AreTermsWithin (p : Values) (h : History) (r : Record) (row : NodeRow
   pub offset : (offset_term_in p h r.devs row.node).outcome ≡ Within
   pub rate : (rate_term_in p h r.devs row).outcome ≡ Within
 
--- from a double cycle on corresponding macroticks of the nodes with rows lie no further apart than the precision, in ticks, every
--- such node is active, after the last cycle too, and none of its terms is cut or missing
+-- from a double cycle on the nodes with rows are in sync in each double cycle of the trace, whoever joins or may follow there;
+-- corresponding macroticks of theirs lie no further apart than the precision, in ticks, every such node is active, after the last
+-- cycle too, and none of its terms is cut or missing
 pub record KeepsRecordedClocks (p : Values) (t : TraceView) (double : ℕ) : Type 0 where
+  pub synced : (k : ℕ) → double ≤ k → suc (2 * k) < length t.history → IsInSyncAt p t.history k
   pub skew :
       (cycle macrotick : ℕ) → 2 * double ≤ cycle → cycle < length t.history → macrotick < amount p name.gMacroPerCycle
       → skew_at p t.history cycle macrotick ≤ℤ pos (precision_of p)

@@ -48,8 +48,9 @@ pub fn hearing_suffices()
     ensures { HeardSuffices }
 {}
 
-/// A law: the clocks of a lawful trace run by their laws, and those of a trace that passes keep together within the
-/// precision, in ticks, from its first double cycle in sync in which no node may follow to its end, whoever joins.
+/// A law: the clocks of a lawful trace run by their laws, and those of a trace that passes are in sync in each double
+/// cycle and keep together within the precision, in ticks, from its first double cycle in sync in which no node may
+/// follow to its end, whoever joins.
 pub fn a_passing_trace_keeps_its_precision()
     ensures run { LawfulTracesRun }
     ensures keep { CheckedTracesKeepPrecision }
