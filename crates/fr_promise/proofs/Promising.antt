@@ -15,7 +15,7 @@ use Rattle.fr_coverage.specs.Order.{HasNoGap}
 use Rattle.fr_history.specs.History.{record_at}
 use Rattle.fr_history.specs.Sync.{IsInSyncAt}
 use Rattle.fr_history.specs.Cycles.{Cycle, Cycles, cycle_at, told_of}
-use Rattle.fr_history.specs.Unfollowed.{RowsAreInSyncAt, IsUnfollowedSyncAt}
+use Rattle.fr_history.specs.Unfollowed.{IsUnfollowedSyncAt, RowsAreInSyncAt}
 use Rattle.fr_runs.proofs.Parts.{told_at}
 use Rattle.fr_runs.proofs.Covers.{coverage_suffices}
 use Rattle.fr_runs.specs.Whole.{IsUnfollowedRun}

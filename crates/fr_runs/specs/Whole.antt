@@ -8,7 +8,7 @@ use Rattle.fr_history.specs.Terms.{status_in}
 use Rattle.fr_cluster.specs.declared.join.Join.{Join}
 use Rattle.fr_history.specs.Cycles.{Cycle, Cycles, cycle_at, some_joins, told_of}
 use Rattle.fr_history.specs.Lawful.{IsLawful}
-use Rattle.fr_history.specs.Unfollowed.{RowsAreInSyncAt, IsUnfollowedSyncAt}
+use Rattle.fr_history.specs.Unfollowed.{IsUnfollowedSyncAt, RowsAreInSyncAt}
 use Rattle.fr_runs.specs.Precision.{CyclesKeepPrecision}
 use Rattle.fr_runs.specs.Rounds.{IsDoubleOf, KeepsUp, RatesBegin}
 use Rattle.fr_runs.specs.Supplied.{IsCovered, StartsBegin}
