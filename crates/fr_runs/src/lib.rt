@@ -1,7 +1,7 @@
 //! Why a covered run keeps together: each node stores every sync frame of the others that no event takes or flips,
 //! and what it stores is where their clocks are; so the clocks of the nodes that have rows stay in sync, those that
-//! follow stay near, and who listens joins. And in numbers, what the nodes with rows keep, whoever follows. Laws;
-//! nothing here runs.
+//! follow stay near, and who listens joins. And in numbers, what the nodes with rows keep, whoever follows, in sync or
+//! not yet. Laws; nothing here runs.
 #![tactic(auto)]
 
 mod apart;
