@@ -129,10 +129,7 @@ impl Pool {
 fn blank_cells(alloc: Global, count: usize) -> Result<Vec<[u8; CELL_BYTES]>, AllocError>
     ensures { IfOk result (λ cells. cells.items ≡ replicate count (replicate 264 0)) }
 {
-    let mut cells = Vec::with_capacity(alloc, count)?;
-    for _ in 0..count {
-        cells.push([0; CELL_BYTES])?;
-    }
+    let cells = vec![in alloc; [0; CELL_BYTES]; count]?;
     Ok(cells)
 }
 

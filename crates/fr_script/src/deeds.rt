@@ -19,7 +19,6 @@ pub struct Passage {
 }
 
 /// The bytes of a frame that an arbitrary node says, at most 262, seen as their list.
-#[derive(Drop)]
 pub struct SaidBytes {
     bytes: Vec<u8>,
 }
@@ -30,6 +29,13 @@ impl Model for SaidBytes {
     ghost Value = { List ℕ };
 
     ghost view = { λ a. a.bytes.items };
+}
+
+// One call: a derived drop is opened in each function that drops a value, and proved there.
+impl Drop for SaidBytes {
+    fn drop(self) {
+        let SaidBytes { bytes: _ } = self;
+    }
 }
 
 impl SaidBytes {
@@ -47,7 +53,6 @@ impl SaidBytes {
 }
 
 /// What a record of a script does to the frames of a passage on a channel.
-#[derive(Drop)]
 pub enum Deed {
     /// They are lost.
     Lose,
@@ -58,6 +63,17 @@ pub enum Deed {
         shift: i64,
         bytes: Option<SaidBytes>,
     },
+}
+
+// One call: a derived drop is opened in each function that drops a value, and proved there.
+impl Drop for Deed {
+    fn drop(self) {
+        match self {
+            Deed::Lose => {}
+            Deed::Flip(_) => {}
+            Deed::Say { shift: _, bytes: _ } => {}
+        }
+    }
 }
 
 /// The deeds of one channel by their passage, seen as a list in ascending order: by sender, then by receiver, then by

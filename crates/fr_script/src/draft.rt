@@ -19,7 +19,6 @@ use std::alloc::{AllocError, Global};
 
 // What the records so far say: which nodes are arbitrary, which join and which are their references, by their number,
 // what becomes of frames, by channel, and whether a record of another kind than `arbitrary` came.
-#[derive(Drop)]
 pub(crate) struct Draft<'a> {
     pub(crate) alloc: Global,
     pub(crate) params: &'a Params,
@@ -29,6 +28,22 @@ pub(crate) struct Draft<'a> {
     pub(crate) on_a: DeedTable,
     pub(crate) on_b: DeedTable,
     pub(crate) acted: bool,
+}
+
+// One call: a derived drop is opened in each function that drops a value, and proved there.
+impl Drop for Draft<'_> {
+    fn drop(self) {
+        let Draft {
+            alloc: _,
+            params: _,
+            arbitrary: _,
+            joins: _,
+            references: _,
+            on_a: _,
+            on_b: _,
+            acted: _,
+        } = self;
+    }
 }
 
 // A deed that is taken.

@@ -10,7 +10,6 @@ use std::marker::Model;
 
 /// Deeds in the order of cycle, then of sender, then of receiver. Each is put behind all others, so that those of one
 /// cycle lie together, as a run goes from cycle to cycle.
-#[derive(Drop)]
 pub(crate) struct Sayings {
     rows: Vec<(Passage, Deed)>,
     // For each cycle up to the last, how many rows there were as it began. A search begins there; that it may is seen
@@ -29,6 +28,13 @@ impl Model for Sayings {
     ghost view = { λ a. a.rows.items };
 
     ghost invariant = { λ a. AreInTurn a.rows.items };
+}
+
+// One call: a derived drop is opened in each function that drops a value, and proved there.
+impl Drop for Sayings {
+    fn drop(self) {
+        let Sayings { rows: _, starts: _ } = self;
+    }
 }
 
 impl Sayings {

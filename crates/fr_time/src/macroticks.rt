@@ -1,4 +1,4 @@
-ghost use Rattle.std.specs.Prelude.{◌≡◌, ◌≤ℤ◌, ◌+ℤ◌, ◌-ℤ◌, pos, IfSome, MatchOption};
+ghost use Rattle.std.specs.Prelude.{◌≡◌, ◌<◌, ◌≤◌, ◌≤ℤ◌, ◌+ℤ◌, ◌-ℤ◌, pos, IfSome, MatchOption};
 ghost use Rattle.fr_base.specs.Within.{IsBetween};
 ghost use Rattle.fr_time.specs.Position.{corrected_micros, even_position, IsGrid, IsPlaceable};
 ghost use Rattle.fr_time.specs.Walk.{first_walk, moved_on, moved_to, IsNextPosition};
@@ -137,8 +137,26 @@ fn late_share(grid: &Grid, rate: i32, offset: i32, start: i64) -> Share
     ensures parts { pos result.parts ≡ grid.now.macros -ℤ grid.now.correction }
     ensures count { result.count ≡ 0 }
 {
-    Share::none(
-        left(grid, rate, offset, start) as u32,
-        (grid.macros - grid.correction) as u32,
-    )
+    Share::none(late_length(grid, rate, offset, start), late_parts(grid))
+}
+
+// How many microticks are left for them.
+fn late_length(grid: &Grid, rate: i32, offset: i32, start: i64) -> u32
+    requires placeable { IsPlaceable grid.now rate offset }
+    requires start { start ≡ even_position grid.now rate grid.now.correction }
+    requires start_from { pos 0 ≤ℤ start }
+    ensures value { pos result ≡ corrected_micros grid.now rate offset }
+    ensures short { result ≤ 660_000 }
+{
+    left(grid, rate, offset, start) as u32
+}
+
+// How many there are.
+fn late_parts(grid: &Grid) -> u32
+    requires { IsGrid grid.now }
+    ensures value { pos result ≡ grid.now.macros -ℤ grid.now.correction }
+    ensures some { 0 < result }
+    ensures few { result ≤ 16_000 }
+{
+    (grid.macros - grid.correction) as u32
 }

@@ -1,4 +1,4 @@
-ghost use Rattle.std.specs.Prelude.{◌≡◌, ◌≤ℤ◌, ◌+ℤ◌, ◌*ℤ◌, pos};
+ghost use Rattle.std.specs.Prelude.{◌≡◌, ◌≤ℤ◌, ◌+ℤ◌, ◌-ℤ◌, ◌*ℤ◌, ◌&&◌, int_lt, pos};
 ghost use Rattle.fr_base.specs.Within.{IsBetween};
 ghost use Rattle.fr_time.specs.Position.{corrected_micros, corrected_position, even_position, floor_of, position_of, IsGrid, IsPlaceable};
 ghost use Rattle.fr_time.specs.Instant.{instant_of};
@@ -17,11 +17,18 @@ pub fn position(grid: &Grid, rate: i32, offset: i32, odd: bool, macrotick: i64) 
     ensures value { result ≡ position_of grid.now rate offset odd macrotick }
     ensures within { IsBetween (pos 0) (pos 700_000) result }
 {
-    if odd && grid.correction < macrotick {
+    if is_late(grid, odd, macrotick) {
         corrected(grid, rate, offset, macrotick)
     } else {
         even(grid, rate, macrotick)
     }
+}
+
+// Whether a macrotick lies after the start of the offset correction of its cycle.
+fn is_late(grid: &Grid, odd: bool, macrotick: i64) -> bool
+    ensures { result ≡ (odd && int_lt grid.now.correction macrotick) }
+{
+    odd && grid.correction < macrotick
 }
 
 /// The instant of a macrotick in a node's cycle, in ticks (section 8.2): the start of the cycle, and a
@@ -69,12 +76,23 @@ fn corrected(grid: &Grid, rate: i32, offset: i32, macrotick: i64) -> i64
 {
     let start = even(grid, rate, grid.correction);
     let length = left(grid, rate, offset, start);
-    start
-        + share(
-            macrotick - grid.correction,
-            length,
-            grid.macros - grid.correction,
-        )
+    start + late(grid, length, macrotick)
+}
+
+// How far a macrotick lies behind the start of the offset correction, where so much is left from there on.
+fn late(grid: &Grid, length: i64, macrotick: i64) -> i64
+    requires grid { IsGrid grid.now }
+    requires macrotick { IsBetween grid.now.correction grid.now.macros macrotick }
+    requires length { IsBetween (pos 0) (pos 660_000) length }
+    ensures value { result ≡
+        floor_of ((macrotick -ℤ grid.now.correction) *ℤ length) (grid.now.macros -ℤ grid.now.correction) }
+    ensures within { IsBetween (pos 0) (pos 660_000) result }
+{
+    share(
+        macrotick - grid.correction,
+        length,
+        grid.macros - grid.correction,
+    )
 }
 
 // The microticks that are left where the offset correction starts.

@@ -5,41 +5,22 @@ use Rattle.fr_time.specs.Position.{corrected_micros, corrected_position, even_po
 use Rattle.fr_time.proofs.Ends.{corrected_position_le}
 use Rattle.fr_time.proofs.positions.corrected.Goals as goal
 
-pub share-requires-clause-count : goal.share-requires-clause-count
-share-requires-clause-count c =
-    let grid = c.requires.placeable.is_grid in
-    record {
-      low = omega (arith, ints, grid.correction_from, grid.correction_to, grid.macros_to);
-      high = omega (arith, ints, grid.correction_from, grid.correction_to, grid.macros_to);
-    }
-
-pub share-requires-clause-parts : goal.share-requires-clause-parts
-share-requires-clause-parts c =
-    let grid = c.requires.placeable.is_grid in
-    record {
-      low = omega (arith, ints, grid.correction_from, grid.correction_to, grid.macros_to);
-      high = omega (arith, ints, grid.correction_from, grid.correction_to, grid.macros_to);
-    }
-
 -- what the calls answer, without the conversions of their arguments
-value_lem : (c : goal.After-share) → c.even-start.result +ℤ c.share.result ≡ corrected_position c.args.grid.now c.args.rate c.args.offset c.args.macrotick
+value_lem : (c : goal.After-late) → c.even-start.result +ℤ c.late.result ≡ corrected_position c.args.grid.now c.args.rate c.args.offset c.args.macrotick
 value_lem c =
     let grid = c.requires.placeable.is_grid in
     let rate : FitsSigned w32 c.args.rate = c.ranges.rate in
     let offset : FitsSigned w32 c.args.offset = c.ranges.offset in
     let macrotick : FitsSigned w64 c.args.macrotick = c.ranges.macrotick in
     let start_fits : FitsSigned w64 c.even-start.result = search rules in
-    let macros : FitsSigned w64 c.args.grid.now.macros = omega (arith, ints, grid.correction_from, grid.correction_to, grid.macros_to) in
     let correction : FitsSigned w64 c.args.grid.now.correction = omega (arith, ints, grid.correction_from, grid.correction_to, grid.macros_to) in
-    let count : FitsSigned w64 (c.args.macrotick -ℤ c.args.grid.now.correction) = omega (arith, ints, grid.correction_from, grid.correction_to, grid.macros_to) in
-    let parts : FitsSigned w64 (c.args.grid.now.macros -ℤ c.args.grid.now.correction) = omega (arith, ints, grid.correction_from, grid.correction_to, grid.macros_to) in
     let left_fits : FitsSigned w64 c.left-length.result = search rules in
     let start : c.even-start.result ≡ even_position c.args.grid.now c.args.rate c.args.grid.now.correction = simp to_z-of_z at c.even-start.ensures.value in
     let left : c.left-length.result ≡ corrected_micros c.args.grid.now c.args.rate c.args.offset = simp to_z-of_z at c.left-length.ensures.value in
-    let share : c.share.result ≡ floor_of ((c.args.macrotick -ℤ c.args.grid.now.correction) *ℤ c.left-length.result) (c.args.grid.now.macros -ℤ c.args.grid.now.correction) =
-    simp to_z-of_z at c.share.ensures.value in
-    let whole : c.share.result ≡ floor_of ((c.args.macrotick -ℤ c.args.grid.now.correction) *ℤ corrected_micros c.args.grid.now c.args.rate c.args.offset) (c.args.grid.now.macros -ℤ c.args.grid.now.correction) =
-    rw left at share in
+    let late : c.late.result ≡ floor_of ((c.args.macrotick -ℤ c.args.grid.now.correction) *ℤ c.left-length.result) (c.args.grid.now.macros -ℤ c.args.grid.now.correction) =
+    simp to_z-of_z at c.late.ensures.value in
+    let whole : c.late.result ≡ floor_of ((c.args.macrotick -ℤ c.args.grid.now.correction) *ℤ corrected_micros c.args.grid.now c.args.rate c.args.offset) (c.args.grid.now.macros -ℤ c.args.grid.now.correction) =
+    rw left at late in
     cc
 
 pub returns-clause-value : goal.returns-clause-value
