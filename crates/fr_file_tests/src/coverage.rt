@@ -1,11 +1,13 @@
 // The first gap of the longest run of the largest cluster, which is too long a run for the program. What else a gap is told of
 // is tried through it.
+use crate::drift::drift_of;
+use crate::params::params_of;
+use crate::script::script_of;
 use fr_cluster::Params;
 use fr_coverage::{covered, gap_line};
 use fr_drift::Drift;
-use fr_samples::params_of;
 use fr_script::Script;
-use std::alloc::{AllocError, Global};
+use std::alloc::Global;
 use std::test::Fail;
 
 // Rows of a drift file of the longest run and a script, and the gap of the run, if it has one.
@@ -23,52 +25,19 @@ const LARGEST: &[(&str, &str, &str)] = &[
     ),
 ];
 
-const DIGITS: &[&str] = &["0", "1", "2", "3", "4", "5", "6", "7", "8", "9"];
-
-// The record of a node on both channels, with a key slot up to 15.
-fn put_node(text: &mut String, number: usize, tens: &str, ones: &str) -> Result<(), AllocError> {
-    text.push_str("node,")?;
-    text.push_str(tens)?;
-    text.push_str(ones)?;
-    text.push(',')?;
-    if number < 16 {
-        text.push_str(tens)?;
-        text.push_str(ones)?;
-    }
-    text.push_str(if number < 16 { ",AB,1\n" } else { ",AB,0\n" })
-}
-
-// As many nodes as a cluster may have.
-fn most_nodes(alloc: Global) -> Result<String, AllocError> {
-    let mut text = String::new(alloc);
-    for number in 1..65usize {
-        if let (Some(tens), Some(ones)) = (DIGITS.get(number / 10), DIGITS.get(number % 10)) {
-            put_node(&mut text, number, tens, ones)?;
-        }
-    }
-    Ok(text)
-}
-
-fn cluster(alloc: Global) -> Result<Params, Fail> {
-    match params_of(alloc, &[], &most_nodes(alloc)?) {
-        Ok(params) => Ok(params),
-        Err(_) => Err(Fail::new("no parameters")),
-    }
-}
-
-fn drift_of(alloc: Global, params: &Params, rows: &str) -> Result<Drift, Fail> {
-    match fr_drift::read(alloc, params, rows.as_bytes()) {
-        Ok(drift) => Ok(drift),
-        Err(_) => Err(Fail::new("no drift")),
-    }
-}
-
-fn script_of(alloc: Global, params: &Params, rows: &str) -> Result<Script, Fail> {
-    match fr_script::read(alloc, params, rows.as_bytes()) {
-        Ok(script) => Ok(script),
-        Err(_) => Err(Fail::new("no script")),
-    }
-}
+// As many nodes as a cluster may have, each on both channels, those from 1 to 15 with a key slot.
+const NODES: &str = "\
+node,1,1,AB,1\nnode,2,2,AB,1\nnode,3,3,AB,1\nnode,4,4,AB,1\nnode,5,5,AB,1\nnode,6,6,AB,1\nnode,7,7,AB,1\n\
+node,8,8,AB,1\nnode,9,9,AB,1\nnode,10,10,AB,1\nnode,11,11,AB,1\nnode,12,12,AB,1\nnode,13,13,AB,1\nnode,14,14,AB,1\n\
+node,15,15,AB,1\nnode,16,,AB,0\nnode,17,,AB,0\nnode,18,,AB,0\nnode,19,,AB,0\nnode,20,,AB,0\nnode,21,,AB,0\n\
+node,22,,AB,0\nnode,23,,AB,0\nnode,24,,AB,0\nnode,25,,AB,0\nnode,26,,AB,0\nnode,27,,AB,0\nnode,28,,AB,0\n\
+node,29,,AB,0\nnode,30,,AB,0\nnode,31,,AB,0\nnode,32,,AB,0\nnode,33,,AB,0\nnode,34,,AB,0\nnode,35,,AB,0\n\
+node,36,,AB,0\nnode,37,,AB,0\nnode,38,,AB,0\nnode,39,,AB,0\nnode,40,,AB,0\nnode,41,,AB,0\nnode,42,,AB,0\n\
+node,43,,AB,0\nnode,44,,AB,0\nnode,45,,AB,0\nnode,46,,AB,0\nnode,47,,AB,0\nnode,48,,AB,0\nnode,49,,AB,0\n\
+node,50,,AB,0\nnode,51,,AB,0\nnode,52,,AB,0\nnode,53,,AB,0\nnode,54,,AB,0\nnode,55,,AB,0\nnode,56,,AB,0\n\
+node,57,,AB,0\nnode,58,,AB,0\nnode,59,,AB,0\nnode,60,,AB,0\nnode,61,,AB,0\nnode,62,,AB,0\nnode,63,,AB,0\n\
+node,64,,AB,0\n\
+";
 
 fn has_gap(params: &Params, drift: &Drift, script: &Script, gap: &str) -> bool {
     match covered(params, drift, script) {
@@ -79,7 +48,7 @@ fn has_gap(params: &Params, drift: &Drift, script: &Script, gap: &str) -> bool {
 
 // The place of the first row of which another gap is told.
 fn first_wrong(alloc: Global) -> Result<Option<usize>, Fail> {
-    let params = cluster(alloc)?;
+    let params = params_of(alloc, &[], NODES, &[])?;
     for (place, (rows, script, gap)) in LARGEST.iter().enumerate() {
         let drift = drift_of(alloc, &params, rows)?;
         let script = script_of(alloc, &params, script)?;

@@ -1,7 +1,7 @@
+use crate::params::params_of;
 use fr_base::Channel;
 use fr_cluster::Params;
 use fr_drift::{Drift, read};
-use fr_samples as clusters;
 use fr_samples::node;
 use std::alloc::Global;
 use std::test::Fail;
@@ -57,15 +57,8 @@ const CHANGES: &[(u32, u32, u32, u32, u32)] = &[
     (2, 20, 4, 7, 20),
 ];
 
-fn params_of(alloc: Global) -> Result<Params, Fail> {
-    match clusters::params_of(alloc, DELAY, NODES) {
-        Ok(params) => Ok(params),
-        Err(_) => Err(Fail::new("no parameters")),
-    }
-}
-
-fn drift_of(alloc: Global) -> Result<Drift, Fail> {
-    match read(alloc, &params_of(alloc)?, ROWS.as_bytes()) {
+pub fn drift_of(alloc: Global, params: &Params, text: &str) -> Result<Drift, Fail> {
+    match read(alloc, params, text.as_bytes()) {
         Ok(drift) => Ok(drift),
         Err(_) => Err(Fail::new("no drift")),
     }
@@ -134,7 +127,8 @@ fn first_change(drift: &Drift) -> Option<usize> {
 
 #[test]
 fn answers_what_the_file_says(rt: HostRuntime) -> Result<(), Fail> {
-    let drift = drift_of(rt.alloc())?;
+    let params = params_of(rt.alloc(), DELAY, NODES, &[])?;
+    let drift = drift_of(rt.alloc(), &params, ROWS)?;
     assert_eq!(rt; drift.doubles(), 100_000);
     assert_eq!(rt; first_start(&drift), None);
     assert_eq!(rt; first_length(&drift), None);

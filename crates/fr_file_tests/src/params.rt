@@ -1,4 +1,4 @@
-use fr_base::{Channel, Slot};
+use fr_base::{Channel, NodeId, Slot};
 use fr_cluster::{ParamName, Params};
 use fr_params::read;
 use fr_samples::{TWO_ON_A, edited, file_of, node};
@@ -37,8 +37,8 @@ const CROSSED: &[(usize, &str)] = &[
 
 const SEVEN: &[(usize, &str)] = &[(16, "param,pDelayCompensation,7,,")];
 
-// Further lines of the file, changed ones, and the numbers that it then says: macroticks, the error of delays, microticks, the
-// limit of offset terms, bytes of a frame, and the compensations on A, on B and the wider one.
+// Lines in the place of those that begin so, changed lines, and the numbers that the file then says: macroticks, the error of
+// delays, microticks, the limit of offset terms, bytes of a frame, and the compensations on A, on B and the wider one.
 const NUMBERS: &[(&[(&str, &str)], &[(usize, &str)], &[i64])] = &[
     (&[], WIDER, &[5000, 500_000, 200_000, 254, 24, 0, 0, 0]),
     (&[], CROSSED, &[5000, 500_000, 200_000, 254, 8, 0, 0, 0]),
@@ -53,8 +53,8 @@ const LISTS: &[(&[(usize, &str)], &[u8], &[u16])] = &[
     (SEVEN, &[1, 2], &[]),
 ];
 
-// A slot, the node whose key slot it is, its place among the key slots from 1 on, and the node whose further slot it is; 0 where
-// there is none.
+// A slot, the node whose key slot it is, its place among the key slots from 1 on, and the node whose further slot it is; 0
+// where there is none.
 const USES: &[(&[(usize, &str)], u16, u8, usize, u8)] = &[
     (WIDER, 1, 1, 1, 0),
     (WIDER, 2, 2, 2, 0),
@@ -82,12 +82,14 @@ const PAIRS: &[(&[(usize, &str)], u8, u8, bool, bool, bool)] = &[
     (CROSSED, 1, 64, false, false, false),
 ];
 
-fn params_of(
+// The cluster with lines in the place of those that begin so, with these nodes and further slots, and with changed lines.
+pub fn params_of(
     alloc: Global,
-    further: &[(&str, &str)],
+    values: &[(&str, &str)],
+    nodes: &str,
     edits: &[(usize, &str)],
 ) -> Result<Params, Fail> {
-    let file = edited(alloc, &file_of(alloc, further, TWO_ON_A)?, edits)?;
+    let file = edited(alloc, &file_of(alloc, values, nodes)?, edits)?;
     match read(alloc, file.as_bytes()) {
         Ok(params) => Ok(params),
         Err(_) => Err(Fail::new("no parameters")),
@@ -116,10 +118,24 @@ fn has_numbers(params: &Params, numbers: &[i64]) -> bool {
     true
 }
 
+// 0 where there is none.
+fn node_at(params: &Params, place: usize) -> u8 {
+    match params.nodes.get(place) {
+        Some(node) => node.id.0,
+        None => 0,
+    }
+}
+
+fn slot_at(params: &Params, place: usize) -> u16 {
+    match params.slots.get(place) {
+        Some(spec) => spec.slot.0,
+        None => 0,
+    }
+}
+
 fn has_nodes(params: &Params, nodes: &[u8]) -> bool {
     for (place, number) in nodes.iter().enumerate() {
-        let found = params.nodes.get(place);
-        if found.is_none_or(|node| node.id.0 != *number) {
+        if node_at(params, place) != *number {
             return false;
         }
     }
@@ -128,37 +144,61 @@ fn has_nodes(params: &Params, nodes: &[u8]) -> bool {
 
 fn has_slots(params: &Params, slots: &[u16]) -> bool {
     for (place, number) in slots.iter().enumerate() {
-        let found = params.slots.get(place);
-        if found.is_none_or(|spec| spec.slot.0 != *number) {
+        if slot_at(params, place) != *number {
             return false;
         }
     }
     params.slots.len() == slots.len()
 }
 
-fn use_of(params: &Params, number: u16) -> (u8, usize, u8) {
-    if number < 1 || 1023 < number {
-        return (0, 0, 0);
+fn key_of(params: &Params, slot: Slot) -> u8 {
+    match params.key_node(slot) {
+        Some(node) => node.id.0,
+        None => 0,
     }
-    let key = params.key_node(Slot(number)).map_or(0, |node| node.id.0);
-    let place = params.key_index(Slot(number)).map_or(0, |place| place + 1);
-    let further = params
-        .further_slot(Slot(number))
-        .map_or(0, |spec| spec.node.0);
-    (key, place, further)
 }
 
-fn pair_of(params: &Params, one: u8, other: u8) -> Option<(bool, bool, bool)> {
-    let (one, other) = (node(one)?, node(other)?);
+fn place_of(params: &Params, slot: Slot) -> usize {
+    match params.key_index(slot) {
+        Some(place) => place + 1,
+        None => 0,
+    }
+}
+
+fn further_of(params: &Params, slot: Slot) -> u8 {
+    match params.further_slot(slot) {
+        Some(spec) => spec.node.0,
+        None => 0,
+    }
+}
+
+fn has_use(params: &Params, number: u16, key: u8, place: usize, further: u8) -> bool {
+    if number < 1 || 1023 < number {
+        return false;
+    }
+    let slot = Slot(number);
+    key_of(params, slot) == key
+        && place_of(params, slot) == place
+        && further_of(params, slot) == further
+}
+
+fn pair_of(params: &Params, one: NodeId, other: NodeId) -> (bool, bool, bool) {
     let on_a = params.common(one, other, Channel::A);
     let on_b = params.common(one, other, Channel::B);
-    Some((params.node(other).is_some(), on_a, on_b))
+    (params.node(other).is_some(), on_a, on_b)
+}
+
+fn has_pair(params: &Params, one: u8, other: u8, pair: (bool, bool, bool)) -> bool {
+    match (node(one), node(other)) {
+        (Some(one), Some(other)) => pair_of(params, one, other) == pair,
+        _ => false,
+    }
 }
 
 // The place of the first row of which a file says otherwise.
 fn first_number(alloc: Global) -> Result<Option<usize>, Fail> {
-    for (place, (further, edits, numbers)) in NUMBERS.iter().enumerate() {
-        if !has_numbers(&params_of(alloc, further, edits)?, numbers) {
+    for (place, (values, edits, numbers)) in NUMBERS.iter().enumerate() {
+        if !has_numbers(&params_of(alloc, values, TWO_ON_A, edits)?, numbers) {
             return Ok(Some(place));
         }
     }
@@ -167,7 +207,7 @@ fn first_number(alloc: Global) -> Result<Option<usize>, Fail> {
 
 fn first_list(alloc: Global) -> Result<Option<usize>, Fail> {
     for (place, (edits, nodes, slots)) in LISTS.iter().enumerate() {
-        let params = params_of(alloc, &[], edits)?;
+        let params = params_of(alloc, &[], TWO_ON_A, edits)?;
         if !has_nodes(&params, nodes) || !has_slots(&params, slots) {
             return Ok(Some(place));
         }
@@ -177,7 +217,8 @@ fn first_list(alloc: Global) -> Result<Option<usize>, Fail> {
 
 fn first_use(alloc: Global) -> Result<Option<usize>, Fail> {
     for (at, (edits, slot, key, place, further)) in USES.iter().enumerate() {
-        if use_of(&params_of(alloc, &[], edits)?, *slot) != (*key, *place, *further) {
+        let params = params_of(alloc, &[], TWO_ON_A, edits)?;
+        if !has_use(&params, *slot, *key, *place, *further) {
             return Ok(Some(at));
         }
     }
@@ -186,8 +227,8 @@ fn first_use(alloc: Global) -> Result<Option<usize>, Fail> {
 
 fn first_pair(alloc: Global) -> Result<Option<usize>, Fail> {
     for (at, (edits, one, other, stands, on_a, on_b)) in PAIRS.iter().enumerate() {
-        let pair = pair_of(&params_of(alloc, &[], edits)?, *one, *other);
-        if pair != Some((*stands, *on_a, *on_b)) {
+        let params = params_of(alloc, &[], TWO_ON_A, edits)?;
+        if !has_pair(&params, *one, *other, (*stands, *on_a, *on_b)) {
             return Ok(Some(at));
         }
     }

@@ -1,6 +1,6 @@
-use fr_base::Channel;
+use crate::params::params_of;
+use fr_base::{Channel, NodeId};
 use fr_cluster::Params;
-use fr_samples as clusters;
 use fr_samples::{TWO_FACED, node};
 use fr_script::{Event, Script, read};
 use std::alloc::Global;
@@ -46,15 +46,8 @@ const MEMBERS: &[(&str, u8, bool, Option<(u32, u8)>)] = &[
     (JOINS, 3, false, None),
 ];
 
-fn params_of(alloc: Global) -> Result<Params, Fail> {
-    match clusters::params_of(alloc, &[], NODES) {
-        Ok(params) => Ok(params),
-        Err(_) => Err(Fail::new("no parameters")),
-    }
-}
-
-fn script_of(alloc: Global, text: &str) -> Result<Script, Fail> {
-    match read(alloc, &params_of(alloc)?, text.as_bytes()) {
+pub fn script_of(alloc: Global, params: &Params, text: &str) -> Result<Script, Fail> {
+    match read(alloc, params, text.as_bytes()) {
         Ok(script) => Ok(script),
         Err(_) => Err(Fail::new("no script")),
     }
@@ -79,21 +72,26 @@ fn comes(script: &Script, cycle: u32, sender: u8, receiver: u8, wanted: Wanted) 
     }
 }
 
+fn joining_of(script: &Script, node: NodeId) -> Option<(u32, u8)> {
+    match script.join(node) {
+        Some(join) => Some((join.double, join.reference.0)),
+        None => None,
+    }
+}
+
 fn is_member(script: &Script, number: u8, arbitrary: bool, joins: Option<(u32, u8)>) -> bool {
-    let Some(node) = node(number) else {
-        return false;
-    };
-    let join = script
-        .join(node)
-        .map(|join| (join.double, join.reference.0));
-    script.arbitrary(node) == arbitrary && join == joins
+    match node(number) {
+        Some(node) => script.arbitrary(node) == arbitrary && joining_of(script, node) == joins,
+        None => false,
+    }
 }
 
 // The place of the first row that a script answers otherwise.
 fn first_event(alloc: Global) -> Result<Option<usize>, Fail> {
+    let params = params_of(alloc, &[], NODES, &[])?;
     for (place, (text, cycle, sender, receiver, wanted)) in EVENTS.iter().enumerate() {
         if !comes(
-            &script_of(alloc, text)?,
+            &script_of(alloc, &params, text)?,
             *cycle,
             *sender,
             *receiver,
@@ -106,8 +104,9 @@ fn first_event(alloc: Global) -> Result<Option<usize>, Fail> {
 }
 
 fn first_member(alloc: Global) -> Result<Option<usize>, Fail> {
+    let params = params_of(alloc, &[], NODES, &[])?;
     for (place, (text, node, arbitrary, joins)) in MEMBERS.iter().enumerate() {
-        if !is_member(&script_of(alloc, text)?, *node, *arbitrary, *joins) {
+        if !is_member(&script_of(alloc, &params, text)?, *node, *arbitrary, *joins) {
             return Ok(Some(place));
         }
     }

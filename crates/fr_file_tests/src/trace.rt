@@ -1,4 +1,6 @@
-use fr_samples::{THREE_ON_A, TWO_ON_A, params_of};
+use crate::params::params_of;
+use fr_cluster::Params;
+use fr_samples::{THREE_ON_A, TWO_ON_A};
 use fr_trace::{Trace, read};
 use std::alloc::Global;
 use std::test::Fail;
@@ -19,14 +21,18 @@ dev,1,2,1,A,-3,,\n\
 // Where all nodes are arbitrary no row of a cycle comes.
 const ARBITRARY: &str = "run,2,,,,,,\narbitrary,1,,,,,,\narbitrary,2,,,,,,\n";
 
-// Node 3 joins with double cycle 0, and has no row: it never takes part.
+// Node 3 joins with double cycle 0, and has rows in the last two cycles.
 const JOINED: &str = "\
-run,1,,,,,,\n\
+run,4,,,,,,\n\
 join,3,1,0,,,,\n\
-cycle,0,1,0,1000000,0,0,active\n\
-cycle,0,2,0,1000000,0,0,active\n\
-cycle,1,1,0,1000000,0,0,active\n\
-cycle,1,2,0,1000000,0,0,active\n\
+cycle,0,1,0,1000000,0,0,active\ncycle,0,2,0,1000000,0,0,active\n\
+cycle,1,1,0,1000000,0,0,active\ncycle,1,2,0,1000000,0,0,active\n\
+cycle,2,1,0,1000000,0,0,active\ncycle,2,2,0,1000000,0,0,active\n\
+cycle,3,1,0,1000000,0,0,active\ncycle,3,2,0,1000000,0,0,active\n\
+cycle,4,1,0,1000000,0,0,active\ncycle,4,2,0,1000000,0,0,active\n\
+cycle,5,1,0,1000000,0,0,active\ncycle,5,2,0,1000000,0,0,active\n\
+cycle,6,1,0,1000000,0,0,active\ncycle,6,2,0,1000000,0,0,active\ncycle,6,3,0,1000000,0,0,active\n\
+cycle,7,1,0,1000000,0,0,active\ncycle,7,2,0,1000000,0,0,active\ncycle,7,3,0,1000000,0,0,active\n\
 ";
 
 // A node that joins, the double cycle in which it listens, and the node to which.
@@ -36,23 +42,27 @@ type Joining = (u8, u32, u8);
 const SAID: &[(&str, &str, u32, u32, usize, &[Joining])] = &[
     (TWO_ON_A, TRACE, 1, 0, 2, &[]),
     (TWO_ON_A, ARBITRARY, 2, 2, 4, &[]),
-    (THREE_ON_A, JOINED, 1, 0, 2, &[(3, 0, 1)]),
+    (THREE_ON_A, JOINED, 4, 0, 8, &[(3, 0, 1)]),
 ];
 
-fn trace_of(alloc: Global, nodes: &str, text: &str) -> Result<Trace, Fail> {
-    let Ok(params) = params_of(alloc, &[], nodes) else {
-        return Err(Fail::new("no parameters"));
-    };
-    match read(alloc, &params, text.as_bytes()) {
+fn trace_of(alloc: Global, params: &Params, text: &str) -> Result<Trace, Fail> {
+    match read(alloc, params, text.as_bytes()) {
         Ok(trace) => Ok(trace),
         Err(_) => Err(Fail::new("no trace")),
     }
 }
 
+// All zero where there is none.
+fn join_at(trace: &Trace, place: usize) -> Joining {
+    match trace.joins().get(place) {
+        Some(row) => (row.node.0, row.join.double, row.join.reference.0),
+        None => (0, 0, 0),
+    }
+}
+
 fn has_joins(trace: &Trace, joins: &[Joining]) -> bool {
-    for (row, (node, double, reference)) in trace.joins().iter().zip(joins) {
-        let (listens, to) = (row.join.double, row.join.reference.0);
-        if (row.node.0, listens, to) != (*node, *double, *reference) {
+    for (place, joining) in joins.iter().enumerate() {
+        if join_at(trace, place) != *joining {
             return false;
         }
     }
@@ -62,7 +72,8 @@ fn has_joins(trace: &Trace, joins: &[Joining]) -> bool {
 // The place of the first row of which a trace says otherwise.
 fn first_wrong(alloc: Global) -> Result<Option<usize>, Fail> {
     for (place, (nodes, text, doubles, arbitrary, cycles, joins)) in SAID.iter().enumerate() {
-        let trace = trace_of(alloc, nodes, text)?;
+        let params = params_of(alloc, &[], nodes, &[])?;
+        let trace = trace_of(alloc, &params, text)?;
         let counts = (trace.doubles(), trace.arbitrary(), trace.cycles().len());
         if counts != (*doubles, *arbitrary, *cycles) || !has_joins(&trace, joins) {
             return Ok(Some(place));
