@@ -1,8 +1,7 @@
-//! Tests of the readers of files, and of what they decide of a run. Nothing stands on this crate.
+//! Tests of what calls answer of files that are read, and of how files of records are read. What the readers take and
+//! refuse, `tools/try-cases` tries through the program. Nothing stands on this crate.
 #![tactic(auto)]
 
-#[cfg(test)]
-mod checks;
 #[cfg(test)]
 mod coverage;
 #[cfg(test)]
@@ -13,8 +12,6 @@ mod params;
 mod records;
 #[cfg(test)]
 mod script;
-#[cfg(test)]
-mod startup;
 #[cfg(test)]
 mod trace;
 #[cfg(test)]

@@ -152,28 +152,6 @@ pub fn edited(alloc: Global, text: &str, edits: &[(usize, &str)]) -> Result<Stri
     Ok(made)
 }
 
-/// The records with a further one at a place, counted from 0.
-pub fn with_record(
-    alloc: Global,
-    records: &[&str],
-    place: usize,
-    record: &str,
-) -> Result<String, AllocError> {
-    let mut text = String::new(alloc);
-    for (at, line) in records.iter().enumerate() {
-        if at == place {
-            text.push_str(record)?;
-            text.push('\n')?;
-        }
-        text.push_str(line)?;
-        text.push('\n')?;
-    }
-    if place == records.len() {
-        text.push_str(record)?;
-    }
-    Ok(text)
-}
-
 /// The node of this number.
 pub fn node(number: u8) -> Option<NodeId> {
     if number < 1 || 64 < number {
