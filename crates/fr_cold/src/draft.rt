@@ -1,14 +1,19 @@
-ghost use Rattle.std.specs.Prelude.{◌≡◌, [], IfOk};
+ghost use Rattle.std.specs.Prelude.{◌≡◌, [], List, Some, IfOk};
 ghost use Rattle.std.specs.Option.{option_copied};
 ghost use Rattle.fr_cluster.specs.Values.{Values};
 ghost use Rattle.fr_startup.specs.Cluster.{is_starter};
 ghost use Rattle.fr_cold.specs.Rows.{IsProperCycles};
 ghost use Rattle.fr_cold.specs.Reasons.{is_out_of_turn};
 ghost use Rattle.fr_cluster.specs.Questions.{is_known};
+ghost use Rattle.std.specs.BTreeMap.{IsOrdered};
+ghost use Rattle.fr_records.specs.Records.{FileRecord};
+ghost use Rattle.fr_cold.specs.Files.{PowerStandsFor};
+ghost use Rattle.fr_cold.specs.Keys.{power_cmp};
 ghost use Rattle.fr_cold.specs.Draft.{IsEntryPut, IsPowerDraft, TakesPowerRow, TakesPowerRowAtOnce};
 ghost use Rattle.fr_cold.specs.declared.rows.Row.TheVariants as said;
 
 use crate::keys::PowerKey;
+use crate::power::Power;
 use crate::rows::SwitchRow;
 use fr_base::{NodeId, Reason};
 use fr_cluster::Params;
@@ -25,11 +30,21 @@ pub struct Last {
 
 // What the records so far say: how many cycles the run has, the switches by macrotick and node, and the last of each
 // node.
-#[derive(Drop)]
 pub(crate) struct Draft {
     pub(crate) cycles: Option<u32>,
     pub(crate) switches: BTreeMap<PowerKey, Switch>,
     pub(crate) lasts: BTreeMap<NodeId, Last>,
+}
+
+// One call: a derived drop is opened in each function that drops a value, and proved there.
+impl Drop for Draft {
+    fn drop(self) {
+        let Draft {
+            cycles: _,
+            switches: _,
+            lasts: _,
+        } = self;
+    }
 }
 
 impl Draft {
@@ -78,6 +93,21 @@ impl Draft {
         put(&mut self.switches, key, row.switch)?;
         put(&mut self.lasts, row.node, last)?;
         Ok(None)
+    }
+
+    // What the tables stand for.
+    pub(crate) fn into_power(self, cycles: u32) -> Power
+        requires told { self.cycles ≡ Some cycles }
+        requires proper { IsProperCycles cycles }
+        requires ordered { IsOrdered power_cmp self.switches }
+        ensures { (records : List FileRecord) → IsPowerDraft self records → PowerStandsFor result records }
+    {
+        let Draft {
+            cycles: _,
+            switches,
+            lasts: _,
+        } = self;
+        Power { cycles, switches }
     }
 }
 

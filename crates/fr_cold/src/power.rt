@@ -1,14 +1,7 @@
-ghost use Rattle.std.specs.Prelude.{◌≡◌, ◌≤◌, ◌<◌, ℕ, List, Some, None};
-ghost use Rattle.fr_records.specs.Records.{FileRecord};
-ghost use Rattle.fr_cold.specs.Draft.{IsPowerDraft};
-ghost use Rattle.fr_cold.specs.Files.{PowerStandsFor};
+ghost use Rattle.std.specs.Prelude.{◌≡◌, ◌≤◌, ◌<◌, ℕ, Some, None};
 ghost use Rattle.fr_cold.specs.Questions.{IsUnswitched, cycles_of_power};
-ghost use Rattle.fr_cold.specs.Rows.{IsProperCycles};
 ghost use Rattle.fr_cold.specs.View.{switch_rows};
-ghost use Rattle.std.specs.BTreeMap.{IsOrdered};
-ghost use Rattle.fr_cold.specs.Keys.{power_cmp};
 
-use crate::draft::Draft;
 use crate::events::next_switch;
 use crate::keys::PowerKey;
 use fr_base::NodeId;
@@ -19,8 +12,8 @@ use std::marker::Model;
 /// What a power file says of a cluster: how many cycles a run of startup has, and at which macrotick each coldstart
 /// node is switched on and off.
 pub struct Power {
-    cycles: u32,
-    switches: BTreeMap<PowerKey, Switch>,
+    pub(crate) cycles: u32,
+    pub(crate) switches: BTreeMap<PowerKey, Switch>,
 }
 
 impl Model for Power {
@@ -45,19 +38,6 @@ impl Drop for Power {
             cycles: _,
             switches: _,
         } = self;
-    }
-}
-
-// What the tables stand for.
-pub(crate) fn power_of(draft: Draft, cycles: u32) -> Power
-    requires told { draft.cycles ≡ Some cycles }
-    requires proper { IsProperCycles cycles }
-    requires ordered { IsOrdered power_cmp draft.switches }
-    ensures { (records : List FileRecord) → IsPowerDraft draft records → PowerStandsFor result records }
-{
-    Power {
-        cycles,
-        switches: draft.switches,
     }
 }
 

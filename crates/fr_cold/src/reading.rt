@@ -6,7 +6,7 @@ ghost use Rattle.fr_cold.specs.Files.{PowerFits, power_file};
 
 use crate::draft::Draft;
 use crate::fault::PowerFault;
-use crate::power::{Power, power_of};
+use crate::power::Power;
 use crate::rows::{Row, read_row};
 use csv::ByteRecord;
 use fr_base::Reason;
@@ -57,7 +57,7 @@ pub fn read(alloc: Global, params: &Params, bytes: &[u8]) -> Result<Power, Power
     }
     let Reading { params: _, draft } = reading;
     match draft.cycles {
-        Some(cycles) => Ok(power_of(draft, cycles)),
+        Some(cycles) => Ok(draft.into_power(cycles)),
         None => Err(PowerFault::MissingCycles),
     }
 }

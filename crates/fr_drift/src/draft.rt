@@ -1,13 +1,16 @@
-ghost use Rattle.std.specs.Prelude.{◌≡◌, [], Some, None, ◌&&◌, IfOk, OnErr, is_some, if◌then◌else◌};
+ghost use Rattle.std.specs.Prelude.{◌≡◌, [], List, Some, None, ◌&&◌, IfOk, OnErr, is_some, if◌then◌else◌};
 ghost use Rattle.std.specs.BTreeMap.{get};
 ghost use Rattle.fr_base.specs.declared.reason.Reason.TheVariants as reason;
 ghost use Rattle.fr_cluster.specs.Values.{Values};
 ghost use Rattle.fr_drift.specs.Rows.{IsProperCount, IsProperDelay, IsMicrotickLength, IsProperStart};
 ghost use Rattle.fr_base.specs.Within.{lies_within};
 ghost use Rattle.fr_cluster.specs.Questions.{is_known};
-ghost use Rattle.fr_drift.specs.Draft.{IsDriftDraft, IsNewEntryPut, TakesDriftRow, TakesDriftRowAtOnce};
+ghost use Rattle.fr_records.specs.Records.{FileRecord};
+ghost use Rattle.fr_drift.specs.Files.{DriftStandsFor};
+ghost use Rattle.fr_drift.specs.Draft.{AreProper, IsDriftDraft, IsNewEntryPut, TakesDriftRow, TakesDriftRowAtOnce};
 ghost use Rattle.fr_drift.specs.declared.rows.Row.TheVariants as said;
 
+use crate::drift::Drift;
 use crate::keys::{DelayKey, LengthKey};
 use crate::rows::{DelayRow, LengthRow, Start, StartRow};
 use fr_base::{Channel, NodeId, Reason};
@@ -17,13 +20,25 @@ use std::collections::BTreeMap;
 
 // What the records so far say: how many double cycles the run has, the starts by node, and the rows of
 // lengths and of the delays of each channel by what they are about and the cycle from which on they hold.
-#[derive(Drop)]
 pub(crate) struct Draft {
     pub(crate) doubles: Option<u32>,
     pub(crate) starts: BTreeMap<NodeId, Start>,
     pub(crate) lengths: BTreeMap<LengthKey, i64>,
     pub(crate) delays_a: BTreeMap<DelayKey, i64>,
     pub(crate) delays_b: BTreeMap<DelayKey, i64>,
+}
+
+// One call: a derived drop is opened in each function that drops a value, and proved there.
+impl Drop for Draft {
+    fn drop(self) {
+        let Draft {
+            doubles: _,
+            starts: _,
+            lengths: _,
+            delays_a: _,
+            delays_b: _,
+        } = self;
+    }
 }
 
 impl Draft {
@@ -113,6 +128,30 @@ impl Draft {
         match channel {
             Channel::A => put(&mut self.delays_a, key, row.ticks),
             Channel::B => put(&mut self.delays_b, key, row.ticks),
+        }
+    }
+
+    // What the tables stand for against these parameters.
+    pub(crate) fn into_drift(self, params: &Params, doubles: u32) -> Drift
+        requires proper { AreProper self }
+        requires told { self.doubles ≡ Some doubles }
+        ensures { (records : List FileRecord) → IsDriftDraft self records → DriftStandsFor params.now result records }
+    {
+        let Draft {
+            doubles: _,
+            starts,
+            lengths,
+            delays_a,
+            delays_b,
+        } = self;
+        Drift {
+            doubles,
+            compensation_a: params.compensation(Channel::A),
+            compensation_b: params.compensation(Channel::B),
+            starts,
+            lengths,
+            delays_a,
+            delays_b,
         }
     }
 }

@@ -1,6 +1,5 @@
-ghost use Rattle.std.specs.Prelude.{◌≡◌, ◌≤◌, ◌<◌, ◌≤ℤ◌, ℕ, pos, negsuc, List, Some, None, IsSome, IfSome};
+ghost use Rattle.std.specs.Prelude.{◌≡◌, ◌≤◌, ◌<◌, ◌≤ℤ◌, ℕ, pos, negsuc, Some, None, IsSome, IfSome};
 ghost use Rattle.std.specs.BTreeMap.{get};
-ghost use Rattle.fr_records.specs.Records.{FileRecord};
 ghost use Rattle.fr_cluster.specs.Values.{Values};
 ghost use Rattle.fr_cluster.specs.Sane.{IsSane};
 ghost use Rattle.fr_drift.specs.Keys.{delay_cmp, delay_key};
@@ -9,10 +8,9 @@ ghost use Rattle.fr_drift.specs.declared.keys.DelayKey.{DelayKey as Key};
 ghost use Rattle.fr_drift.specs.Held.{IsNextChange, held};
 ghost use Rattle.fr_drift.specs.Rows.{IsProperDelay, IsMicrotickLength, IsProperStart};
 ghost use Rattle.fr_drift.specs.Questions.{delay_of, doubles_of, length_of, rate_of, start_of};
-ghost use Rattle.fr_drift.specs.Draft.{AreDelaysOn, AreProper, IsDriftDraft};
-ghost use Rattle.fr_drift.specs.Files.{DriftFits, IsRateWithin, DriftStandsFor};
+ghost use Rattle.fr_drift.specs.Draft.{AreDelaysOn};
+ghost use Rattle.fr_drift.specs.Files.{DriftFits, IsRateWithin};
 
-use crate::draft::Draft;
 use crate::keys::{DelayKey, LengthKey};
 use crate::rows::Start;
 use crate::spans::{held_delay, held_length, next_delay_row, next_length_row};
@@ -29,9 +27,9 @@ const NOMINAL: i64 = 1_000_000;
 ///
 /// It keeps the delay compensation of each channel of the parameters against which it was read.
 pub struct Drift {
-    doubles: u32,
-    compensation_a: i64,
-    compensation_b: i64,
+    pub(crate) doubles: u32,
+    pub(crate) compensation_a: i64,
+    pub(crate) compensation_b: i64,
     pub(crate) starts: BTreeMap<NodeId, Start>,
     pub(crate) lengths: BTreeMap<LengthKey, i64>,
     pub(crate) delays_a: BTreeMap<DelayKey, i64>,
@@ -65,23 +63,6 @@ impl Drop for Drift {
             delays_a: _,
             delays_b: _,
         } = self;
-    }
-}
-
-// What the tables stand for against these parameters.
-pub(crate) fn drift_of(params: &Params, draft: Draft, doubles: u32) -> Drift
-    requires proper { AreProper draft }
-    requires told { draft.doubles ≡ Some doubles }
-    ensures { (records : List FileRecord) → IsDriftDraft draft records → DriftStandsFor params.now result records }
-{
-    Drift {
-        doubles,
-        compensation_a: params.compensation(Channel::A),
-        compensation_b: params.compensation(Channel::B),
-        starts: draft.starts,
-        lengths: draft.lengths,
-        delays_a: draft.delays_a,
-        delays_b: draft.delays_b,
     }
 }
 

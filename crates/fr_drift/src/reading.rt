@@ -5,7 +5,7 @@ ghost use Rattle.fr_drift.specs.Draft.{IsDriftDraft};
 ghost use Rattle.fr_drift.specs.Files.{DriftFits, drift_file};
 
 use crate::draft::Draft;
-use crate::drift::{Drift, drift_of};
+use crate::drift::Drift;
 use crate::fault::DriftFault;
 use crate::rows::{Row, read_row};
 use csv::ByteRecord;
@@ -59,7 +59,7 @@ pub fn read(alloc: Global, params: &Params, bytes: &[u8]) -> Result<Drift, Drift
     }
     let Reading { params: _, draft } = reading;
     match draft.doubles {
-        Some(doubles) => Ok(drift_of(params, draft, doubles)),
+        Some(doubles) => Ok(draft.into_drift(params, doubles)),
         None => Err(DriftFault::MissingDoubles),
     }
 }

@@ -6,7 +6,7 @@ ghost use Rattle.fr_drift.specs.Written.{delay_record, doubles_record, length_re
 ghost use Rattle.fr_drift.specs.Adding.{AddsDriftRecord, EntersRow, TakesDriftRecord};
 
 use crate::draft::{Draft, put};
-use crate::drift::{Drift, drift_of};
+use crate::drift::Drift;
 use crate::fault::DriftFault;
 use crate::keys::{DelayKey, LengthKey};
 use crate::rows::Start;
@@ -25,7 +25,7 @@ impl Drift {
     {
         let mut draft = Draft::new(alloc);
         let _ = draft.take_doubles(doubles);
-        drift_of(params, draft, doubles)
+        draft.into_drift(params, doubles)
     }
 
     /// Adds the record that starts a node's clock at a tick, 0 to 1,000,000,000,000, with a first rate term

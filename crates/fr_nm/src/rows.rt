@@ -14,7 +14,6 @@ use std::marker::Model;
 const MOST_DIGITS: usize = 524;
 
 /// The bytes that a record was seen with, as their list.
-#[derive(Drop)]
 pub struct SeenBytes {
     bytes: Vec<u8>,
 }
@@ -25,6 +24,13 @@ impl Model for SeenBytes {
     ghost Value = { List ℕ };
 
     ghost view = { λ a. a.bytes.items };
+}
+
+// One call: a derived drop is opened in each function that drops a value, and proved there.
+impl Drop for SeenBytes {
+    fn drop(self) {
+        let SeenBytes { bytes: _ } = self;
+    }
 }
 
 impl SeenBytes {

@@ -12,7 +12,6 @@ use std::collections::BTreeMap;
 use std::marker::Model;
 
 /// The vectors of a recording, cycle by cycle, and how many of its records count and how many do not.
-#[derive(Drop)]
 pub struct Vectors {
     pub(crate) width: usize,
     pub(crate) rows: BTreeMap<u32, Folded>,
@@ -29,6 +28,18 @@ impl Model for Vectors {
     ghost view = { vectors_view_of };
 
     ghost invariant = { λ a. IsFolding (vectors_view_of a) };
+}
+
+// One call: a derived drop is opened in each function that drops a value, and proved there.
+impl Drop for Vectors {
+    fn drop(self) {
+        let Vectors {
+            width: _,
+            rows: _,
+            frames: _,
+            ignored: _,
+        } = self;
+    }
 }
 
 impl Vectors {

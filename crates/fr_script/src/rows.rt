@@ -101,11 +101,7 @@ fn is_node_alone(row: &ByteRecord) -> bool
     requires { length (fields_of row.now) ≡ 7 }
     ensures { result ≡ is_node_alone (fields_of row.now) }
 {
-    field(row, 2).is_empty()
-        && field(row, 3).is_empty()
-        && field(row, 4).is_empty()
-        && field(row, 5).is_empty()
-        && field(row, 6).is_empty()
+    field(row, 2).is_empty() && field(row, 3).is_empty() && is_reference_last(row)
 }
 
 fn read_say(alloc: Global, row: &ByteRecord) -> Result<Result<Row, Reason>, AllocError>

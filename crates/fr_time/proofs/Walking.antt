@@ -1,7 +1,8 @@
 -- A share that is counted is the position of its macrotick.
-use Rattle.std.proofs.Common.{◌≡◌, ℕ, ℤ, pos, ◌+◌, ◌*◌, ◌/◌, ◌<◌, Bool, true, false, ◌⊎◌, inl, inr, refl, ap, sym, subst, ◌∙◌, arith}
+use Rattle.std.proofs.Common.{◌≡◌, FitsSigned, ℕ, ℤ, pos, to_z, of_z, w64, ◌+◌, ◌*◌, ◌/◌, ◌<◌, Bool, true, false, ◌⊎◌, inl, inr, refl, ap, sym, subst, ◌∙◌, arith}
 use Rattle.std.specs.Prelude.{◌≤ℤ◌, ◌<ℤ◌, ◌+ℤ◌, ◌-ℤ◌, ◌*ℤ◌}
-use Rattle.std.proofs.lemmas.Int.{ints, by_lt_z}
+use Rattle.std.proofs.lemmas.Int.{ints, by_lt_z, to_z-of_z}
+use lib.Signed.{le_z}
 use Rattle.fr_time.specs.Counted.{IsCounted}
 use Rattle.fr_time.specs.declared.grid.Grid.{Grid}
 use Rattle.fr_time.specs.declared.shares.Share.{Share}
@@ -152,3 +153,39 @@ placed_anew walk start m early late early_next late_next walks is from to early_
       late_count = λ odd after. late_count after;
     } in
     (placed, counted)
+
+-- ---- what the tests of a walk say, which compare numbers of the machine
+
+macros_fit : (walk : Walk) → IsWalk walk → FitsSigned w64 walk.grid.macros
+macros_fit walk is =
+    let grid = is.is_placeable.is_grid in
+    omega (arith, ints, grid.correction_from, grid.correction_to, grid.macros_to)
+
+correction_fits : (walk : Walk) → IsWalk walk → FitsSigned w64 walk.grid.correction
+correction_fits walk is =
+    let grid = is.is_placeable.is_grid in
+    omega (arith, ints, grid.correction_from, grid.correction_to, grid.macros_to)
+
+next_fits : (walk : Walk) → IsWalk walk → FitsSigned w64 walk.next
+next_fits walk is = omega (arith, ints, is.next_within.low, is.next_within.high, is.is_placeable.is_grid.macros_to)
+
+below_of : (a b : ℤ) → FitsSigned w64 a → FitsSigned w64 b → le_z (to_z w64 (of_z w64 a)) (to_z w64 (of_z w64 b)) ≡ false → b <ℤ a
+below_of a b a_fits b_fits test = grind (arith, ints, to_z-of_z, test)
+
+up_to_of : (a b : ℤ) → FitsSigned w64 a → FitsSigned w64 b → le_z (to_z w64 (of_z w64 a)) (to_z w64 (of_z w64 b)) ≡ true → a ≤ℤ b
+up_to_of a b a_fits b_fits test = grind (arith, ints, to_z-of_z, test)
+
+pub not_over : (walk : Walk) → IsWalk walk → le_z (to_z w64 (of_z w64 walk.grid.macros)) (to_z w64 (of_z w64 walk.next)) ≡ false → walk.next <ℤ walk.grid.macros
+not_over walk is test = below_of walk.grid.macros walk.next (macros_fit walk is) (next_fits walk is) test
+
+pub is_before : (walk : Walk) → IsWalk walk → le_z (to_z w64 (of_z w64 walk.grid.correction)) (to_z w64 (of_z w64 walk.next)) ≡ false → walk.next <ℤ walk.grid.correction
+is_before walk is test = below_of walk.grid.correction walk.next (correction_fits walk is) (next_fits walk is) test
+
+pub is_from : (walk : Walk) → IsWalk walk → le_z (to_z w64 (of_z w64 walk.grid.correction)) (to_z w64 (of_z w64 walk.next)) ≡ true → walk.grid.correction ≤ℤ walk.next
+is_from walk is test = up_to_of walk.grid.correction walk.next (correction_fits walk is) (next_fits walk is) test
+
+pub one_more : (walk : Walk) → IsWalk walk → to_z w64 (of_z w64 (to_z w64 (of_z w64 walk.next) +ℤ pos 1)) ≡ walk.next +ℤ pos 1
+one_more walk is = omega (arith, ints, is.next_within.low, is.next_within.high, is.is_placeable.is_grid.macros_to)
+
+pub one_more_fits : (walk : Walk) → IsWalk walk → FitsSigned w64 (to_z w64 (of_z w64 walk.next) +ℤ pos 1)
+one_more_fits walk is = omega (arith, ints, is.next_within.low, is.next_within.high, is.is_placeable.is_grid.macros_to)

@@ -5,6 +5,7 @@ ghost use Rattle.fr_cluster.specs.Values.{Values};
 ghost use Rattle.fr_trace.specs.Cycles.{history_by};
 ghost use Rattle.fr_trace.specs.Draft.{HasClock, HasDeviation, HasEnded, HasFilled, HasKept, HasPut, IsTraceDraft, TakesTraceRow, over_of};
 ghost use Rattle.fr_trace.specs.Joins.{latest_rows};
+ghost use Rattle.fr_trace.specs.Lasting.{IsTrace};
 ghost use Rattle.fr_trace.specs.Order.{doubles_or_0, may_come_next};
 ghost use Rattle.fr_trace.specs.Reasons.{arbitrary_reason, clock_reason, have_common, heard_reason, is_beyond, is_linked, is_of_other, joins_wrongly, knows_node_and_reference, row_reason, traced_join_reason};
 ghost use Rattle.fr_base.specs.Within.{lies_within};
@@ -13,7 +14,7 @@ ghost use Rattle.fr_trace.specs.declared.rows.Row.TheVariants as said;
 
 use crate::order::{SoFar, is_among, join_among, may_follow};
 use crate::rows::{HeardRow, Row};
-use crate::trace::{TracedCycle, TracedJoin};
+use crate::trace::{Trace, TracedCycle, TracedJoin};
 use fr_base::{Channel, Dev, NodeId, NodeRow, Reason};
 use fr_cluster::{ParamName, Params};
 use std::alloc::{AllocError, Global};
@@ -22,7 +23,6 @@ use std::mem::replace;
 // What the records so far say: the number of double cycles, the nodes that are named arbitrary and those that join, the
 // last row, how many records there are, the cycles that are over, and the rows and deviations of the one that is under
 // way.
-#[derive(Drop)]
 pub(crate) struct Draft {
     pub(crate) alloc: Global,
     pub(crate) doubles: Option<u32>,
@@ -33,6 +33,23 @@ pub(crate) struct Draft {
     pub(crate) cycles: Vec<TracedCycle>,
     pub(crate) rows: Vec<NodeRow>,
     pub(crate) devs: Vec<Dev>,
+}
+
+// One call: a derived drop is opened in each function that drops a value, and proved there.
+impl Drop for Draft {
+    fn drop(self) {
+        let Draft {
+            alloc: _,
+            doubles: _,
+            arbitrary: _,
+            joins: _,
+            last: _,
+            count: _,
+            cycles: _,
+            rows: _,
+            devs: _,
+        } = self;
+    }
 }
 
 impl Draft {
@@ -177,6 +194,35 @@ impl Draft {
             self.end_cycle()?;
         }
         Ok(())
+    }
+
+    // The trace of the cycles that are over.
+    pub(crate) fn into_trace(self, doubles: u32) -> Trace
+        requires { IsTrace (record {
+          doubles = doubles;
+          arbitrary = self.arbitrary.items;
+          joins = self.joins.items;
+          history = over_of self;
+        }) }
+        ensures { result ≡ record {
+          doubles = doubles;
+          arbitrary = self.arbitrary.items;
+          joins = self.joins.items;
+          history = over_of self;
+        } }
+    {
+        let Draft {
+            alloc: _,
+            doubles: _,
+            arbitrary,
+            joins,
+            last: _,
+            count: _,
+            cycles,
+            rows: _,
+            devs: _,
+        } = self;
+        Trace::of(doubles, arbitrary, joins, cycles)
     }
 }
 

@@ -102,16 +102,5 @@ fn whole_trace(params: &Params, draft: Draft, doubles: u32) -> Result<Trace, Tra
         Ok(()) => {}
         Err(_) => return Err(TraceFault::NoMemory),
     }
-    let Draft {
-        alloc: _,
-        doubles: _,
-        arbitrary,
-        joins,
-        last: _,
-        count: _,
-        cycles,
-        rows: _,
-        devs: _,
-    } = draft;
-    Ok(Trace::of(doubles, arbitrary, joins, cycles))
+    Ok(draft.into_trace(doubles))
 }

@@ -7,13 +7,20 @@ use fr_cluster::Join;
 use std::marker::Model;
 
 /// What a trace records of one cycle.
-#[derive(Debug, Drop)]
+#[derive(Debug)]
 pub struct TracedCycle {
     /// A row for each correct node that takes part, in ascending order of node: of one that joins, from its first row
     /// on. No trace records how many terms were cut, so 0 stands there.
     pub rows: Vec<NodeRow>,
     /// The deviations that the nodes measured, in ascending order of receiver, slot and channel.
     pub devs: Vec<Dev>,
+}
+
+// One call: a derived drop is opened in each function that drops a value, and proved there.
+impl Drop for TracedCycle {
+    fn drop(self) {
+        let TracedCycle { rows: _, devs: _ } = self;
+    }
 }
 
 /// That a node joins the running cluster, and how.

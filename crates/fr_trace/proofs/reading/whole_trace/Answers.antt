@@ -15,8 +15,8 @@ fill-requires c =
     let few = few-over c.args.params.now c.args.draft c.requires.0 c.args.doubles c.requires.1.holds c.requires.1.told in
     omega (arith, few)
 
-pub of-requires : goal.of-requires
-of-requires c =
+pub into_trace-requires : goal.into_trace-requires
+into_trace-requires c =
     let p = c.args.params.now in
     let d = c.args.draft in
     let e = c.fill.new.self in
@@ -53,4 +53,4 @@ returns c = λ records w.
     let fits : TraceFits p t =
     subst (λ joins. P e.arbitrary.items joins) (sym filled.head.joins) (subst (λ l. P l d.joins.items) (sym filled.head.named) (trace-fits p n d.arbitrary.items d.joins.items (over_of e) head can.over))
     in
-    (w.whole, subst (λ (x : TraceView). TraceStandsFor x records) (sym c.of.ensures) stands, subst (TraceFits p) (sym c.of.ensures) fits)
+    (w.whole, subst (λ (x : TraceView). TraceStandsFor x records) (sym c.into_trace.ensures) stands, subst (TraceFits p) (sym c.into_trace.ensures) fits)
