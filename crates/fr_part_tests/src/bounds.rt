@@ -7,8 +7,7 @@ use fr_bound::{CheckSides, bounds, checks, join_checks, reach, side};
 use fr_cluster::{ParamName, Params};
 use fr_samples::params_of;
 use fr_skew::in_sync;
-use std::alloc::{AllocError, Global};
-use std::test::Fail;
+use std::alloc::Global;
 
 type Lines = &'static [(&'static str, &'static str)];
 
@@ -55,68 +54,87 @@ const NARROWER: Lines = &[
     ("param,pRateCorrectionOut", "param,pRateCorrectionOut,84,,"),
 ];
 
-// Lines of the parameters, a check, and its sides and whether it holds.
-const SIDES: &[(Lines, u8, i64, i64, bool)] = &[
-    (EARLY, 4, 1_194_275_097_200, 1_262_718_000_000, false),
-    (WIDE, 6, 83_983_200, 83_000_400, true),
-    (WIDE, 7, 453_909_200, 453_577_800, true),
-    (WIDE, 8, 2_393_513_201_600, 2_262_888_000_000, true),
-    (WIDE, 9, 3_592_769_302_400, 2_262_888_000_000, true),
-    (NARROWER, 8, 2_193_637_184_800, 2_262_888_000_000, false),
+// What is told of a cluster: the precision, the reach, the first check and the first check of nodes that join that fail,
+// and the delay compensation on both channels, the wider one, and by its name.
+type Told = (i64, i64, Result<(), u8>, Result<(), u8>, [i64; 4]);
+
+// Both sides of a check and whether it holds.
+type Sides = (i64, i64, bool);
+
+// Lines of the parameters, what is told of them, a check, and its sides: none where there is no such check.
+const TOLD: &[(Lines, Told, u8, Option<Sides>)] = &[
+    (
+        EARLY,
+        (252_043_600, 452_077_600, Err(4), Err(6), [0; 4]),
+        4,
+        Some((1_194_275_097_200, 1_262_718_000_000, false)),
+    ),
+    (
+        COMPENSATED,
+        (252_084_400, 452_154_400, Ok(()), Err(6), [1, 3, 3, 3]),
+        0,
+        None,
+    ),
+    (WIDE, WIDE_TOLD, 6, Some((83_983_200, 83_000_400, true))),
+    (WIDE, WIDE_TOLD, 7, Some((453_909_200, 453_577_800, true))),
+    (
+        WIDE,
+        WIDE_TOLD,
+        8,
+        Some((2_393_513_201_600, 2_262_888_000_000, true)),
+    ),
+    (
+        WIDE,
+        WIDE_TOLD,
+        9,
+        Some((3_592_769_302_400, 2_262_888_000_000, true)),
+    ),
+    (
+        NARROWER,
+        (252_043_600, 452_077_600, Ok(()), Err(8), [0; 4]),
+        8,
+        Some((2_193_637_184_800, 2_262_888_000_000, false)),
+    ),
 ];
 
-// Lines of the parameters, and what is told of them: the precision, the reach, the first check and the first check of
-// nodes that join that fail, and the delay compensation on both channels, the wider one, and by its name.
-const TOLD: &[(Lines, &str)] = &[
-    (EARLY, "252043600 452077600 Err(4) Err(6) 0 0 0 0"),
-    (COMPENSATED, "252084400 452154400 Ok(()) Err(6) 1 3 3 3"),
-    (WIDE, "252043600 452077600 Ok(()) Ok(()) 0 0 0 0"),
-    (NARROWER, "252043600 452077600 Ok(()) Err(8) 0 0 0 0"),
-];
+const WIDE_TOLD: Told = (252_043_600, 452_077_600, Ok(()), Ok(()), [0; 4]);
 
-// Both sides of a check and whether it holds; none where the parameters are refused or there is no such check.
-fn sides_of(alloc: Global, lines: Lines, number: u8) -> Option<(i64, i64, bool)> {
+fn sides(params: &Params, number: u8) -> Option<Sides> {
     if number < 1 || number > 9 {
         return None;
     }
+    let CheckSides { left, right, holds } = side(params, number);
+    Some((left, right, holds))
+}
+
+fn told(params: &Params) -> Told {
+    (
+        bounds(params).precision,
+        reach(params),
+        checks(params),
+        join_checks(params),
+        [
+            params.compensation(Channel::A),
+            params.compensation(Channel::B),
+            params.widest_compensation(),
+            params.value(ParamName::pDelayCompensation),
+        ],
+    )
+}
+
+// Both, of a cluster with these lines; none where they are refused.
+fn told_of(alloc: Global, lines: Lines, number: u8) -> Option<(Told, Option<Sides>)> {
     match params_of(alloc, lines, ONE_NODE) {
-        Ok(params) => {
-            let CheckSides { left, right, holds } = side(&params, number);
-            Some((left, right, holds))
-        }
+        Ok(params) => Some((told(&params), sides(&params, number))),
         Err(_) => None,
     }
 }
 
-fn told(alloc: Global, params: &Params) -> Result<String, AllocError> {
-    let (precision, reach) = (bounds(params).precision, reach(params));
-    let (first, joining) = (checks(params), join_checks(params));
-    let (on_a, on_b) = (
-        params.compensation(Channel::A),
-        params.compensation(Channel::B),
-    );
-    let widest = params.widest_compensation();
-    let named = params.value(ParamName::pDelayCompensation);
-    format!(in alloc; "{precision} {reach} {first:?} {joining:?} {on_a} {on_b} {widest} {named}")
-}
-
-fn told_of(alloc: Global, lines: Lines) -> Result<String, AllocError> {
-    match params_of(alloc, lines, ONE_NODE) {
-        Ok(params) => told(alloc, &params),
-        Err(_) => String::from_str(alloc, "refused"),
-    }
-}
-
 #[test]
-fn bounds_and_checks_are_those_of_the_rows(rt: HostRuntime) -> Result<(), Fail> {
-    for (lines, number, left, right, holds) in SIDES {
-        let told = sides_of(rt.alloc(), lines, *number);
-        assert_eq!(rt; told, Some((*left, *right, *holds)), "check {number}");
+fn bounds_and_checks_are_those_of_the_rows(rt: HostRuntime) {
+    for (lines, wanted, number, sides) in TOLD {
+        assert!(rt; told_of(rt.alloc(), lines, *number) == Some((*wanted, *sides)));
     }
-    for (lines, wanted) in TOLD {
-        assert_eq!(rt; told_of(rt.alloc(), lines)?.as_str(), *wanted);
-    }
-    Ok(())
 }
 
 // A node's row: a start and a rate term, and whether it is active.
@@ -184,13 +202,28 @@ fn rows_of(first: Short, second: Short) -> RowList
     rows
 }
 
-#[test]
-fn tells_whether_clocks_are_in_sync(rt: HostRuntime) -> Result<(), Fail> {
-    let params = params_of(rt.alloc(), EARLY, ONE_NODE)?;
-    assert!(rt; in_sync(&params, &RowList::new(), &RowList::new()));
-    for (row, (even, even_2, odd, odd_2, wanted)) in ROWS.iter().enumerate() {
-        let told = in_sync(&params, &rows_of(*even, *even_2), &rows_of(*odd, *odd_2));
-        assert_eq!(rt; told, *wanted, "row {row}");
+// The place of the first row that is answered otherwise, with clocks of no rows behind them.
+fn first_other(params: &Params) -> Option<usize> {
+    for (place, (even, even_2, odd, odd_2, wanted)) in ROWS.iter().enumerate() {
+        if in_sync(params, &rows_of(*even, *even_2), &rows_of(*odd, *odd_2)) != *wanted {
+            return Some(place);
+        }
     }
-    Ok(())
+    None
+}
+
+// The same over a cluster; none where it is refused.
+fn first_unsynced(alloc: Global) -> Option<(Option<usize>, bool)> {
+    match params_of(alloc, EARLY, ONE_NODE) {
+        Ok(params) => Some((
+            first_other(&params),
+            in_sync(&params, &RowList::new(), &RowList::new()),
+        )),
+        Err(_) => None,
+    }
+}
+
+#[test]
+fn tells_whether_clocks_are_in_sync(rt: HostRuntime) {
+    assert!(rt; first_unsynced(rt.alloc()) == Some((None, true)));
 }

@@ -2,8 +2,6 @@
 use fr_base::Channel;
 use fr_capture::{Capture, CaptureFault};
 use fr_frame::{Header, encode};
-use std::alloc::{AllocError, Global};
-use std::test::Fail;
 
 // A sync frame, a frame of one word, and three bytes.
 const TWO: [u8; 21] = [
@@ -11,25 +9,31 @@ const TWO: [u8; 21] = [
     0x12, 0x6B, 0x18, 0x01, 0x00,
 ];
 
-// Two pieces; how many bytes of each are used, with the place of a frame that was completed; and the end.
-const FED: &[(&[u8], &[u8], &str)] = &[
+// How many bytes of a piece are used, and the place of a frame that was completed.
+type Part = (usize, Option<u64>);
+
+// How a capture ends.
+type End = Result<u64, (u64, CaptureFault)>;
+
+// Two pieces, what becomes of each, and the end.
+const FED: &[(&[u8], &[u8], (Part, Part, End))] = &[
     // A piece ends with its first frame.
     (
         b"\x18\x01\x00\x6F\x00\x9A\xE5\x25\x20\x05\x02\xB3\x89\x12\x34\x75\x12\x6B\x18\x01\x00",
         b"\x20\x05\x02\xB3\x89\x12\x34\x75\x12\x6B\x18\x01\x00",
-        "8 Some(0) 10 Some(8) Ok(18)",
+        ((8, Some(0)), (10, Some(8)), Ok(18)),
     ),
     // A wrong header is shown by five bytes.
     (
         b"\x18\x01\x02\x6F\x00\x18\x01",
         b"\x18\x01\x02\x6F\x00\x18\x01",
-        "5 None 0 None Err((0, HeaderCrc { kept: 444, computed: 569 }))",
+        ((5, None), (0, None), WRONG_HEADER),
     ),
     // A frame of four words, which are a frame: it is none.
     (
         b"\x20\x07\x09\xCC\x03\x18\x01\x00\x6F\x00\x9A\xE5\x25\x1A\xBD\x91",
         b"",
-        "16 Some(0) 0 None Ok(16)",
+        ((16, Some(0)), (0, None), Ok(16)),
     ),
     // Bytes in which no frame begins, though one stands further on: a wrong frame CRC behind a payload that is a
     // frame, a wrong header CRC before it, a frame of no ID, and a startup frame that is no sync frame, with a frame
@@ -37,64 +41,75 @@ const FED: &[(&[u8], &[u8], &str)] = &[
     (
         b"\x20\x07\x09\xCC\x02\x18\x01\x00\x6F\x00\x9A\xE5\x25\x1A\xBD\x91",
         b"\x18\x01\x00\x6F\x00\x9A\xE5\x25",
-        "16 None 0 None Err((0, FrameCrc { kept: 1752465, computed: 7075418 }))",
+        ((16, None), (0, None), WRONG_FRAME),
     ),
     (
         b"\x20\x07\x0B\xCC\x03\x18\x01\x00\x6F\x00\x9A\xE5\x25\x1A\xBD\x91",
         b"\x18\x01\x00\x6F\x00\x9A\xE5\x25",
-        "5 None 0 None Err((0, HeaderCrc { kept: 1840, computed: 1205 }))",
+        ((5, None), (0, None), OTHER_HEADER),
     ),
     (
         b"\x00\x00\x01\xDA\x80\x5F\xA2\x6B\x18\x01\x00\x6F\x00\x9A\xE5\x25",
         b"\x18\x01\x00\x6F\x00\x9A\xE5\x25",
-        "8 None 0 None Err((0, ZeroId))",
+        ((8, None), (0, None), Err((0, CaptureFault::ZeroId))),
     ),
     (
         b"\x08\x01\x01\x1F\x80\xF6\xC4\x62\x18\x01\x00\x6F\x00\x9A\xE5\x25",
         b"\x18\x01\x00\x6F\x00\x9A\xE5\x25",
-        "8 None 0 None Err((0, StartupNotSync))",
+        ((8, None), (0, None), Err((0, CaptureFault::StartupNotSync))),
     ),
 ];
 
-fn fed(alloc: Global, first: &[u8], second: &[u8]) -> Result<String, AllocError> {
+const WRONG_HEADER: End = Err((
+    0,
+    CaptureFault::HeaderCrc {
+        kept: 444,
+        computed: 569,
+    },
+));
+
+const OTHER_HEADER: End = Err((
+    0,
+    CaptureFault::HeaderCrc {
+        kept: 1840,
+        computed: 1205,
+    },
+));
+
+const WRONG_FRAME: End = Err((
+    0,
+    CaptureFault::FrameCrc {
+        kept: 1_752_465,
+        computed: 7_075_418,
+    },
+));
+
+fn fed(first: &[u8], second: &[u8]) -> Option<(Part, Part, End)> {
     if first.len() > 100 || second.len() > 100 {
-        return String::from_str(alloc, "too long");
+        return None;
     }
     let mut capture = Capture::new(Channel::A);
     let (one, other) = (capture.feed(first), capture.feed(second));
-    let end = capture.finish();
-    format!(in alloc;
-        "{} {:?} {} {:?} {end:?}",
-        one.used, one.at, other.used, other.at
-    )
+    Some(((one.used, one.at), (other.used, other.at), capture.finish()))
 }
 
-// The place, the ID and the frame CRC of a frame.
-type Seen = (u64, u16, u32);
+// The place, the ID and the frame CRC of both frames.
+const FRAMES: &[(u64, u16, u32)] = &[(0, 1, 0x9AE525), (8, 5, 0x75126B)];
 
-// How a capture ends.
-type End = Result<u64, (u64, CaptureFault)>;
-
-// The frames of bytes, and how they end.
-#[derive(Drop)]
-struct Told {
-    frames: Vec<Seen>,
-    end: End,
-}
-
-// What is told of bytes that are fed one at a time.
-fn fed_by_bytes(alloc: Global, bytes: &[u8]) -> Result<Told, AllocError> {
+// How many of the two frames are told, in this order, of bytes that are fed one at a time, and the end.
+fn fed_by_bytes(bytes: &[u8]) -> (usize, End) {
     let mut capture = Capture::new(Channel::A);
-    let mut frames = Vec::new(alloc);
+    let mut told = 0usize;
     for done in 0..bytes.len() {
         let fed = capture.feed(&bytes[done..done + 1]);
         if let Some(place) = fed.at {
             let frame = capture.frame();
-            frames.push((place, frame.header.id, frame.frame_crc))?;
+            if FRAMES.get(told) == Some(&(place, frame.header.id, frame.frame_crc)) {
+                told = told.saturating_add(1);
+            }
         }
     }
-    let end = capture.finish();
-    Ok(Told { frames, end })
+    (told, capture.finish())
 }
 
 fn cut(place: usize, needed: usize, end: usize) -> End {
@@ -142,16 +157,10 @@ fn is_taken(channel: Channel, words: u8) -> bool {
 }
 
 #[test]
-fn frames_are_told_piece_by_piece(rt: HostRuntime) -> Result<(), Fail> {
+fn frames_are_told_piece_by_piece(rt: HostRuntime) {
     for (first, second, wanted) in FED {
-        assert_eq!(rt; fed(rt.alloc(), first, second)?.as_str(), *wanted);
+        assert!(rt; fed(first, second) == Some(*wanted));
     }
-    let frames = fed_by_bytes(rt.alloc(), &TWO)?.frames;
-    assert_eq!(rt;
-        frames.as_slice(),
-        [(0, 1, 0x9AE525), (8, 5, 0x75126B)].as_slice()
-    );
-    Ok(())
 }
 
 // How a capture ends that is fed the first bytes of the two frames in two pieces.
@@ -164,14 +173,14 @@ fn end_in_pieces(end: usize) -> End {
 }
 
 #[test]
-fn each_cut_is_told(rt: HostRuntime) -> Result<(), Fail> {
+fn each_cut_is_told(rt: HostRuntime) {
     for end in 0..=21 {
         if end <= 18 {
-            assert_eq!(rt; end_in_pieces(end), end_of(end));
+            assert!(rt; end_in_pieces(end) == end_of(end));
         }
-        assert_eq!(rt; fed_by_bytes(rt.alloc(), &TWO[..end])?.end, end_of(end));
+        let frames = usize::from(end >= 8) + usize::from(end >= 18);
+        assert!(rt; fed_by_bytes(&TWO[..end]) == (frames, end_of(end)));
     }
-    Ok(())
 }
 
 // The bytes before the frame CRC are 5, 7, 9, 11, 13 and 259: one by one, and with a part of eight or more.
@@ -179,7 +188,7 @@ fn each_cut_is_told(rt: HostRuntime) -> Result<(), Fail> {
 fn frames_of_all_lengths_are_taken(rt: HostRuntime) {
     for words in [0, 1, 2, 3, 4, 127] {
         for channel in [Channel::A, Channel::B] {
-            assert!(rt; is_taken(channel, words), "{words} words");
+            assert!(rt; is_taken(channel, words));
         }
     }
 }

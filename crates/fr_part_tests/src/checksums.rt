@@ -90,12 +90,12 @@ fn entries(index: u8) -> Option<(u16, u32)> {
 fn checksums_are_those_of_the_rows(rt: HostRuntime) {
     for (sync, startup, id, words, crc) in HEADERS {
         let told = header_crcs(*sync, *startup, *id, *words);
-        assert_eq!(rt; told, Some([*crc, *crc]), "ID {id}, {words} words");
+        assert!(rt; told == Some([*crc, *crc]));
     }
     for (body, on_a, on_b) in BODIES {
-        assert_eq!(rt; frame_crcs(body), Some([*on_a, *on_a, *on_b, *on_b]));
+        assert!(rt; frame_crcs(body) == Some([*on_a, *on_a, *on_b, *on_b]));
     }
     for (index, header, frame) in ENTRIES {
-        assert_eq!(rt; entries(*index), Some((*header, *frame)), "at {index}");
+        assert!(rt; entries(*index) == Some((*header, *frame)));
     }
 }

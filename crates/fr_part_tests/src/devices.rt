@@ -9,88 +9,86 @@ use std::alloc::{AllocError, Global};
 use std::fs;
 use std::test::Fail;
 
-// What is loaded, or the fault; nothing may be left in the place of the bytes then.
-fn loaded<S: Shelf>(alloc: Global, shelf: &mut S, name: &str) -> Result<String, AllocError> {
-    let mut bytes = Vec::new(alloc);
-    let answer = shelf.load(name, &mut bytes);
-    if bytes.len() > 99 {
-        return format!(in alloc; "{answer:?} {}", bytes.len());
-    }
-    let text = String::from_utf8_lossy(alloc, bytes.as_slice())?;
-    format!(in alloc; "{answer:?} {text}")
-}
+// A name, what its load answers, and the bytes that are there then: how many, and the first of them. After a fault none
+// may be left in their place.
+type Load = (&'static str, Result<(), LoadFault>, usize, &'static [u8]);
 
-// Names in the order in which they are loaded, and what is loaded. The second load is to fail.
-const LOADS: &[(&str, &str)] = &[
-    ("a", "Ok(()) new"),
-    ("a", "Err(Failed) "),
-    ("c", "Err(Failed) "),
-    ("b", "Ok(()) other"),
-    ("longest", "Ok(()) 16777216"),
-    ("longer", "Err(TooLong { seen: 16777217 }) "),
+const LONGER: Result<(), LoadFault> = Err(LoadFault::TooLong { seen: 16_777_217 });
+
+// Names in the order in which they are loaded. The second load is to fail.
+const LOADS: &[Load] = &[
+    ("a", Ok(()), 3, b"new"),
+    ("a", Err(LoadFault::Failed), 0, b""),
+    ("c", Err(LoadFault::Failed), 0, b""),
+    ("b", Ok(()), 5, b"other"),
+    ("longest", Ok(()), 16_777_216, b"\x07\x07"),
+    ("longer", LONGER, 0, b""),
 ];
 
 // The same of a shelf that never fails.
-const SURE_LOADS: &[(&str, &str)] = &[
-    ("longest", "Ok(()) 16777216"),
-    ("longer", "Err(TooLong { seen: 16777217 }) "),
-    ("none", "Ok(()) "),
+const SURE_LOADS: &[Load] = &[
+    ("longest", Ok(()), 16_777_216, b"\x07\x07"),
+    ("longer", LONGER, 0, b""),
+    ("none", Ok(()), 0, b""),
 ];
+
+fn is_loaded<S: Shelf>(alloc: Global, shelf: &mut S, load: &Load) -> bool {
+    let (name, answer, count, front) = load;
+    let mut bytes = Vec::new(alloc);
+    shelf.load(name, &mut bytes) == *answer
+        && bytes.len() == *count
+        && bytes.as_slice().starts_with(front)
+}
+
+// The place of the first of these that are loaded otherwise.
+fn first_misloaded<S: Shelf>(alloc: Global, shelf: &mut S, loads: &[Load]) -> Option<usize> {
+    for (place, load) in loads.iter().enumerate() {
+        if !is_loaded(alloc, shelf, load) {
+            return Some(place);
+        }
+    }
+    None
+}
 
 // Names and what is held under them, in this order, and names with so many bytes.
 const HELD: &[(&str, &[u8])] = &[("a", b"old"), ("b", b"other"), ("a", b"new")];
 
 const LONG: &[(&str, usize)] = &[("longest", MAX_FILE), ("longer", 16_777_217)];
 
-fn memory_shelf(alloc: Global) -> Result<MemoryShelf, AllocError> {
-    let mut shelf = MemoryShelf::new(alloc);
+fn sevens(alloc: Global, count: usize) -> Result<Vec<u8>, AllocError> {
+    vec![in alloc; 7; count]
+}
+
+fn fill(alloc: Global, shelf: &mut MemoryShelf) -> Result<(), AllocError> {
     for (name, bytes) in HELD {
         shelf.hold(name, bytes)?;
     }
     for (name, count) in LONG {
-        shelf.hold(name, &vec![in alloc; 7; *count]?)?;
+        shelf.hold(name, &sevens(alloc, *count)?)?;
     }
-    shelf.fail_at(2)?;
-    Ok(shelf)
+    shelf.fail_at(2)
 }
 
-fn sure_shelf(alloc: Global) -> Result<SureShelf, AllocError> {
-    let mut shelf = SureShelf::new(alloc);
+fn fill_surely(alloc: Global, shelf: &mut SureShelf) -> Result<(), AllocError> {
     for (name, count) in LONG {
-        shelf.hold(name, &vec![in alloc; 7; *count]?)?;
+        shelf.hold(name, &sevens(alloc, *count)?)?;
     }
-    Ok(shelf)
-}
-
-// What is loaded otherwise.
-fn misloaded<S: Shelf>(
-    alloc: Global,
-    shelf: &mut S,
-    loads: &[(&str, &str)],
-) -> Result<String, AllocError> {
-    let mut told = String::new(alloc);
-    for (name, wanted) in loads {
-        let given = loaded(alloc, shelf, name)?;
-        if given.as_str() != *wanted {
-            told.push_str(given.as_str())?;
-            told.push_str(" and not ")?;
-            told.push_str(wanted)?;
-        }
-    }
-    Ok(told)
+    Ok(())
 }
 
 #[test]
 fn shelves_in_memory_load_what_they_hold(rt: HostRuntime) -> Result<(), Fail> {
-    let mut shelf = memory_shelf(rt.alloc())?;
-    assert_eq!(rt; misloaded(rt.alloc(), &mut shelf, LOADS)?.as_str(), "");
+    let mut shelf = MemoryShelf::new(rt.alloc());
+    fill(rt.alloc(), &mut shelf)?;
+    assert!(rt; first_misloaded(rt.alloc(), &mut shelf, LOADS).is_none());
     Ok(())
 }
 
 #[test]
 fn a_sure_shelf_holds_every_name(rt: HostRuntime) -> Result<(), Fail> {
-    let mut shelf = sure_shelf(rt.alloc())?;
-    assert_eq!(rt; misloaded(rt.alloc(), &mut shelf, SURE_LOADS)?.as_str(), "");
+    let mut shelf = SureShelf::new(rt.alloc());
+    fill_surely(rt.alloc(), &mut shelf)?;
+    assert!(rt; first_misloaded(rt.alloc(), &mut shelf, SURE_LOADS).is_none());
     Ok(())
 }
 
@@ -103,31 +101,30 @@ const PUTS: &[(&[u8], bool)] = &[
     (b"", true),
 ];
 
-// What a sink in memory has after the puts; none where one is answered otherwise.
-fn taken(alloc: Global) -> Result<Option<MemorySink>, AllocError> {
-    let mut sink = MemorySink::new(alloc, 5)?;
-    sink.fail_at(2)?;
+// Whether each is answered so.
+fn takes(sink: &mut MemorySink) -> bool {
+    let mut same = true;
     for (piece, wanted) in PUTS {
-        if sink.put(piece).is_ok() != *wanted {
-            return Ok(None);
-        }
+        same = sink.put(piece).is_ok() == *wanted && same;
     }
-    Ok(Some(sink))
+    same
 }
 
 #[test]
 fn a_sink_in_memory_takes_what_fits(rt: HostRuntime) -> Result<(), Fail> {
-    let sink = taken(rt.alloc())?.ok_or("another answer")?;
-    assert_eq!(rt; sink.bytes(), b"abcde".as_slice());
+    let mut sink = MemorySink::new(rt.alloc(), 5)?;
+    sink.fail_at(2)?;
+    assert!(rt; takes(&mut sink));
+    assert!(rt; sink.bytes() == b"abcde".as_slice());
     assert!(rt; SureSink::new().put(b"any").is_ok());
     Ok(())
 }
 
-const ON_DISK: &[(&str, &str)] = &[
-    ("line", "Ok(()) a line\nand one more\n"),
-    ("no such file", "Err(Failed) "),
-    (".", "Err(Failed) "),
-    ("", "Err(Failed) "),
+const ON_DISK: &[Load] = &[
+    ("line", Ok(()), 20, b"a line\nand one more\n"),
+    ("no such file", Err(LoadFault::Failed), 0, b""),
+    (".", Err(LoadFault::Failed), 0, b""),
+    ("", Err(LoadFault::Failed), 0, b""),
 ];
 
 fn put_twice<S: Sink>(sink: &mut S) -> bool {
@@ -140,7 +137,7 @@ fn the_adapters_reach_files(rt: HostRuntime) -> Result<(), Fail> {
     assert!(rt; put_twice(&mut sink));
     drop(sink);
     let mut shelf = DiskShelf::new(&rt);
-    assert_eq!(rt; misloaded(rt.alloc(), &mut shelf, ON_DISK)?.as_str(), "");
+    assert!(rt; first_misloaded(rt.alloc(), &mut shelf, ON_DISK).is_none());
     Ok(())
 }
 
@@ -151,11 +148,7 @@ const SIGNED: &[(i64, &[u8])] = &[
     (i64::MIN, b"-9223372036854775808\n"),
 ];
 
-#[test]
-fn a_line_shows_numbers(rt: HostRuntime) {
-    for (value, text) in SIGNED {
-        assert_eq!(rt; line_of(&[Signed(*value)]).bytes(), *text);
-    }
+fn are_shown() -> bool {
     let crcs = line_of(&[
         Word(b"crc "),
         Hex(0x1BC, 3),
@@ -164,39 +157,42 @@ fn a_line_shows_numbers(rt: HostRuntime) {
         Word(b" "),
         Hex(0xFEDC_BA98, 6),
     ]);
-    assert_eq!(rt; crcs.bytes(), b"crc 1BC 00009A DCBA98\n".as_slice());
     let row = row_of(
         b"say",
         &[Natural(u64::MAX), Word(b"A"), Bytes(&[0xAB, 0x09])],
     );
-    assert_eq!(rt;
-        row.bytes(),
-        b"say,18446744073709551615,A,AB09\n".as_slice()
-    );
+    crcs.bytes() == b"crc 1BC 00009A DCBA98\n".as_slice()
+        && row.bytes() == b"say,18446744073709551615,A,AB09\n".as_slice()
+}
+
+#[test]
+fn a_line_shows_numbers(rt: HostRuntime) {
+    for (value, text) in SIGNED {
+        assert!(rt; line_of(&[Signed(*value)]).bytes() == *text);
+    }
+    assert!(rt; are_shown());
 }
 
 // The put that fails, and what is written then.
-const FAILING: &[(u64, &str)] = &[(1, ""), (2, "one\n"), (3, "one\ntwo\n")];
+const FAILING: &[(u64, &[u8])] = &[(1, b""), (2, b"one\n"), (3, b"one\ntwo\n")];
 
-fn put(alloc: Global, failing: u64) -> Result<String, AllocError> {
-    let mut sink = MemorySink::new(alloc, 100)?;
-    sink.fail_at(failing)?;
+// Whether of three lines these are written, and then a put fails.
+fn is_put(sink: &mut MemorySink, written: &[u8]) -> bool {
     let lines = [
         Some(line_of(&[Word(b"one")])),
         None,
         Some(line_of(&[Word(b"two")])),
         Some(line_of(&[Word(b"three")])),
     ];
-    let answer = put_lines(&lines, &mut sink);
-    let text = String::from_utf8_lossy(alloc, sink.bytes())?;
-    format!(in alloc; "{answer:?} {text}")
+    put_lines(&lines, sink) == Err(PutFault::Failed) && sink.bytes() == written
 }
 
 #[test]
 fn each_line_is_one_put(rt: HostRuntime) -> Result<(), Fail> {
-    for (failing, text) in FAILING {
-        let wanted = format!(in rt.alloc(); "Err(Failed) {text}")?;
-        assert_eq!(rt; put(rt.alloc(), *failing)?.as_str(), wanted.as_str());
+    for (failing, written) in FAILING {
+        let mut sink = MemorySink::new(rt.alloc(), 100)?;
+        sink.fail_at(*failing)?;
+        assert!(rt; is_put(&mut sink, written));
     }
     Ok(())
 }
@@ -223,10 +219,6 @@ const NUMBERS: &[(&[u8], Result<i64, NumberFault>)] = &[
 #[test]
 fn reads_what_is_a_number(rt: HostRuntime) {
     for (text, wanted) in NUMBERS {
-        assert_eq!(rt;
-            number(text, -100, 999_999_999_999_999_999),
-            *wanted,
-            "at {text:?}"
-        );
+        assert!(rt; number(text, -100, 999_999_999_999_999_999) == *wanted);
     }
 }

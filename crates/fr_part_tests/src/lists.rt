@@ -1,6 +1,7 @@
 ghost use Rattle.std.specs.Prelude.{◌≡◌};
 
 use fr_base::{Channel, Dev, DevList, NodeId, NodeRow, RowList, Slot, State};
+use std::alloc::{AllocError, Global};
 use std::test::Fail;
 
 fn row(node: NodeId) -> NodeRow
@@ -17,16 +18,18 @@ fn row(node: NodeId) -> NodeRow
     }
 }
 
-#[test]
-fn rows_are_listed(rt: HostRuntime) {
+fn are_rows_listed() -> bool {
     let mut rows = RowList::new();
     rows.push(row(NodeId(2)));
     rows.push(row(NodeId(5)));
-    assert_eq!(rt; rows.len(), 2);
-    assert_eq!(rt; rows.get(1), Some(&row(NodeId(5))));
-    assert_eq!(rt; rows.get(2), None);
+    let listed = rows.len() == 2 && rows.get(1) == Some(&row(NodeId(5))) && rows.get(2).is_none();
     rows.clear();
-    assert_eq!(rt; rows.len(), 0);
+    listed && rows.len() == 0
+}
+
+#[test]
+fn rows_are_listed(rt: HostRuntime) {
+    assert!(rt; are_rows_listed());
 }
 
 fn dev(slot: Slot, channel: Channel) -> Dev {
@@ -38,14 +41,18 @@ fn dev(slot: Slot, channel: Channel) -> Dev {
     }
 }
 
+fn are_devs_listed(alloc: Global) -> Result<bool, AllocError> {
+    let mut devs = DevList::with_room(alloc, 2)?;
+    devs.push(dev(Slot(2), Channel::B));
+    let listed = devs.len() == 1
+        && devs.get(0) == Some(&dev(Slot(2), Channel::B))
+        && devs.get(1).is_none();
+    devs.clear();
+    Ok(listed && devs.as_slice().len() == 0)
+}
+
 #[test]
 fn deviations_are_listed(rt: HostRuntime) -> Result<(), Fail> {
-    let mut devs = DevList::with_room(rt.alloc(), 2)?;
-    devs.push(dev(Slot(2), Channel::B));
-    assert_eq!(rt; devs.len(), 1);
-    assert_eq!(rt; devs.get(0), Some(&dev(Slot(2), Channel::B)));
-    assert_eq!(rt; devs.get(1), None);
-    devs.clear();
-    assert_eq!(rt; devs.as_slice().len(), 0);
+    assert!(rt; are_devs_listed(rt.alloc())?);
     Ok(())
 }

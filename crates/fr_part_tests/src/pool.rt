@@ -1,7 +1,8 @@
 ghost use Rattle.std.specs.Prelude.{◌≡◌};
 ghost use Rattle.fr_pool.specs.Pool.{IsOut};
 
-use fr_pool::{Cell, Pool};
+use fr_pool::{Cell, Pool, PoolFault};
+use std::alloc::Global;
 use std::test::Fail;
 
 // Whether no cell of a pool is left.
@@ -47,32 +48,31 @@ fn keeps(pool: &mut Pool, cell: &Cell) -> bool
     others && pool.read(cell)[0] == 7
 }
 
-#[test]
-fn two_cells_are_taken_and_no_third(rt: HostRuntime) -> Result<(), Fail> {
-    let mut pool = Pool::new(rt.alloc(), 2)?;
-    assert!(rt; holds(&mut pool, 2));
-    assert!(rt; holds(&mut pool, 2));
-    Ok(())
-}
-
-#[test]
-fn a_cell_that_stays_out_keeps_its_bytes(rt: HostRuntime) -> Result<(), Fail> {
-    let mut pool = Pool::new(rt.alloc(), 2)?;
-    let kept = match pool.take() {
+// Whether a cell that stays out does so.
+fn is_kept(pool: &mut Pool) -> bool {
+    match pool.take() {
         None => false,
         Some(cell) => {
-            let kept = keeps(&mut pool, &cell);
+            let kept = keeps(pool, &cell);
             pool.give(cell);
             kept
         }
-    };
-    assert!(rt; kept);
-    Ok(())
+    }
+}
+
+// Whether a pool holds so many cells, twice, and of two keeps the bytes of one that stays out.
+fn is_pool(alloc: Global, cells: u32) -> Result<bool, PoolFault> {
+    if cells < 1 || cells > 4096 {
+        return Ok(false);
+    }
+    let mut pool = Pool::new(alloc, cells)?;
+    Ok(holds(&mut pool, cells) && (cells != 2 || is_kept(&mut pool)) && holds(&mut pool, cells))
 }
 
 #[test]
-fn four_thousand_and_ninety_six_cells_are_taken(rt: HostRuntime) -> Result<(), Fail> {
-    let mut pool = Pool::new(rt.alloc(), 4096)?;
-    assert!(rt; holds(&mut pool, 4096));
+fn cells_are_taken_and_no_more(rt: HostRuntime) -> Result<(), Fail> {
+    for cells in [2, 4096] {
+        assert!(rt; is_pool(rt.alloc(), cells)?);
+    }
     Ok(())
 }

@@ -1,13 +1,12 @@
 // From the deviations of a double cycle to its terms and the state: the table, the midpoint, both terms, the control.
 use fr_base::Channel::{A, B};
 use fr_base::Outcome::{Exceeded, Missing, Within};
+use fr_base::State::{Active, Halt, Passive};
 use fr_base::{Channel, Outcome, State};
 use fr_correct::{Term, offset_term, rate_term};
 use fr_measure::Table;
 use fr_midpoint::{List15, midpoint};
 use fr_poc::{Poc, PocLimits};
-use std::alloc::{AllocError, Global};
-use std::test::Fail;
 
 fn list_of(values: &[i32]) -> List15 {
     let mut list = List15::new();
@@ -63,7 +62,9 @@ fn table_of(stored: &[Stored]) -> Table {
 
 // The deviation of sync node 3 in the odd cycle on channel B; how many offset values there are, and their midpoint; and
 // the same of the rate values.
-fn listed(alloc: Global, stored: &[Stored]) -> Result<String, AllocError> {
+type Listed = (Option<i32>, usize, Option<i32>, usize, Option<i32>);
+
+fn listed(stored: &[Stored]) -> Listed {
     let table = table_of(stored);
     let kept = table.get(3, true, B);
     let mut offsets = List15::new();
@@ -71,14 +72,19 @@ fn listed(alloc: Global, stored: &[Stored]) -> Result<String, AllocError> {
     let mut rates = List15::new();
     table.rate_values(None, &mut rates);
     let (offset_count, rate_count) = (offsets.len(), rates.len());
-    let (offset, rate) = (midpoint(&mut offsets), midpoint(&mut rates));
-    format!(in alloc; "{kept:?} {offset_count} {offset:?} {rate_count} {rate:?}")
+    (
+        kept,
+        offset_count,
+        midpoint(&mut offsets),
+        rate_count,
+        midpoint(&mut rates),
+    )
 }
 
-const TABLES: &[(&[Stored], &str)] = &[
+const TABLES: &[(&[Stored], Listed)] = &[
     (
         &[(3, true, Some(A), 5), (3, true, Some(B), -7)],
-        "Some(-7) 1 Some(-7) 0 None",
+        (Some(-7), 1, Some(-7), 0, None),
     ),
     (
         &[
@@ -86,11 +92,11 @@ const TABLES: &[(&[Stored], &str)] = &[
             (3, true, Some(B), -7),
             (0, false, None, 0),
         ],
-        "None 0 None 0 None",
+        (None, 0, None, 0, None),
     ),
     (
         &[(3, false, Some(A), 1), (3, true, Some(B), 4)],
-        "Some(4) 1 Some(4) 0 None",
+        (Some(4), 1, Some(4), 0, None),
     ),
     (
         &[
@@ -100,19 +106,18 @@ const TABLES: &[(&[Stored], &str)] = &[
             (3, false, Some(B), 2),
             (3, true, Some(B), -2),
         ],
-        "Some(-2) 1 Some(-2) 1 Some(0)",
+        (Some(-2), 1, Some(-2), 1, Some(0)),
     ),
 ];
 
 #[test]
-fn values_are_listed_and_halved(rt: HostRuntime) -> Result<(), Fail> {
+fn values_are_listed_and_halved(rt: HostRuntime) {
     for (values, wanted) in MIDPOINTS {
-        assert_eq!(rt; middle_of(values), *wanted, "at {values:?}");
+        assert!(rt; middle_of(values) == *wanted);
     }
     for (stored, wanted) in TABLES {
-        assert_eq!(rt; listed(rt.alloc(), stored)?.as_str(), *wanted);
+        assert!(rt; listed(stored) == *wanted);
     }
-    Ok(())
 }
 
 // Values, and the rate term of the old term 0, a damping of 4 and a limit of 81: its value, that before the limit, and
@@ -125,65 +130,96 @@ const RATES: &[(&[i32], i32, i32, Outcome)] = &[
     (&[], 0, 0, Missing),
 ];
 
-// Four outcomes of the offset terms, the state after each, as it is answered and as it is asked for, and the counts of
-// bad and good double cycles. All rates are within their limits.
-const STEPS: &[(&[Outcome], &str)] = &[
-    (&[Missing, Missing, Within, Within], "AA PP PP AA 0 0"),
-    (&[Missing, Missing, Missing, Missing], "AA PP PP HH 4 0"),
-    (&[Missing, Missing, Missing, Within], "AA PP PP PP 0 1"),
-    (&[Exceeded, Within, Missing, Within], "HH HH HH HH 0 0"),
+// The outcome of an offset term, and the state after it.
+type Step = (Outcome, State);
+
+// Four such steps in a row, and the counts of bad and good double cycles. All rates are within their limits.
+const STEPS: &[(&[Step], u8, u8)] = &[
+    (
+        &[
+            (Missing, Active),
+            (Missing, Passive),
+            (Within, Passive),
+            (Within, Active),
+        ],
+        0,
+        0,
+    ),
+    (
+        &[
+            (Missing, Active),
+            (Missing, Passive),
+            (Missing, Passive),
+            (Missing, Halt),
+        ],
+        4,
+        0,
+    ),
+    (
+        &[
+            (Missing, Active),
+            (Missing, Passive),
+            (Missing, Passive),
+            (Within, Passive),
+        ],
+        0,
+        1,
+    ),
+    (
+        &[
+            (Exceeded, Halt),
+            (Within, Halt),
+            (Missing, Halt),
+            (Within, Halt),
+        ],
+        0,
+        0,
+    ),
 ];
 
-fn letter(state: State) -> &'static str {
-    match state {
-        State::Active => "A",
-        State::Passive => "P",
-        State::Halt => "H",
-    }
-}
-
-fn stepped(alloc: Global, outcomes: &[Outcome]) -> Result<String, AllocError> {
+// Whether each state is answered, and then asked for, and the counts are these.
+fn is_stepped(steps: &[Step], bad: u8, good: u8) -> bool {
     let mut poc = Poc::new(PocLimits {
         passive: 2,
         fatal: 4,
         halt_allowed: true,
         to_active: 2,
     });
-    let mut text = String::new(alloc);
-    for outcome in outcomes {
-        text.push_str(letter(poc.step(Within, *outcome)))?;
-        text.push_str(letter(poc.state()))?;
-        text.push_str(" ")?;
+    let mut same = true;
+    for (outcome, state) in steps {
+        same = poc.step(*outcome, Within) == *state && poc.state() == *state && same;
     }
-    let (bad, good) = (poc.bad(), poc.good());
-    writeln!(text, "{bad} {good}")?;
-    Ok(text)
+    same && poc.bad() == bad && poc.good() == good
 }
 
-#[test]
-fn terms_and_states_are_those_of_the_rows(rt: HostRuntime) -> Result<(), Fail> {
-    for (values, value, before, outcome) in RATES {
-        let Term {
-            value: given,
-            before: uncut,
-            outcome: told,
-        } = rate_term(0, 4, 81, &mut list_of(values));
-        assert_eq!(rt;
-            (given, uncut, told),
-            (*value, *before, *outcome),
-            "at {values:?}"
-        );
-    }
+// Whether the rate term of these values is so.
+fn is_rate(values: &[i32], value: i32, before: i32, outcome: Outcome) -> bool {
+    let wanted = Term {
+        value,
+        before,
+        outcome,
+    };
+    rate_term(0, 4, 81, &mut list_of(values)) == wanted
+}
+
+fn is_cut() -> bool {
     let wanted = Term {
         value: -316,
         before: -400,
         outcome: Exceeded,
     };
-    assert_eq!(rt; offset_term(316, &mut list_of(&[-400])), wanted);
-    for (outcomes, wanted) in STEPS {
-        assert_eq!(rt; stepped(rt.alloc(), outcomes)?.trim_end(), *wanted);
+    offset_term(316, &mut list_of(&[-400])) == wanted
+}
+
+#[test]
+fn terms_and_states_are_those_of_the_rows(rt: HostRuntime) {
+    for (values, value, before, outcome) in RATES {
+        assert!(rt; is_rate(values, *value, *before, *outcome));
     }
-    Ok(())
+    assert!(rt; is_cut());
+    for (steps, bad, good) in STEPS {
+        assert!(rt; is_stepped(steps, *bad, *good));
+    }
 }
 
 // A position in ticks, and its values at a receiver with base 300 and a microtick of 1,000,100 ticks and at one
@@ -201,26 +237,32 @@ fn places(one: i32, other: i32) -> [i64; 2] {
     [300 + one as i64 * 1_000_100, -700 + other as i64 * 999_900]
 }
 
+// Whether both places lie at a position, or before it by no more than the law of two receivers allows for.
+fn are_near(position: i32, places: [i64; 2]) -> bool {
+    let position = position as i64;
+    let [one, other] = places;
+    position - 1_000_200 <= one.min(other) && one.max(other) <= position
+}
+
 // A seventh sender is late to one receiver and early to the other, so that one discards the position that lies
 // far off and the other keeps it: their midpoints are the last two above. The places of these lie nearly half of the
 // spread apart, and no further than the law of two receivers says.
-#[test]
-fn two_receivers_agree(rt: HostRuntime) {
-    for (position, one, other) in PLACED {
-        let position = *position as i64;
-        for place in places(*one, *other) {
-            assert!(rt;
-                position - 1_000_200 <= place && place <= position,
-                "at {position}"
-            );
-        }
-    }
+fn is_near_law() -> bool {
     let (spread, before, longest): (i64, i64, i64) = (192_400_000, 1_000_200, 1_000_200);
     let most = spread + 2 * before + 2 * longest;
     let (place, other): (i64, i64) = (300, -700 - 95 * 999_900);
     let apart = 2 * (place - other);
-    assert!(rt; apart == 189_983_000 && apart <= most && most == 196_400_800);
-    for place in [place, other] {
-        assert!(rt; -190_000_000 - before <= place && place <= 2_400_000);
+    apart == 189_983_000
+        && apart <= most
+        && most == 196_400_800
+        && -190_000_000 - before <= place.min(other)
+        && place.max(other) <= 2_400_000
+}
+
+#[test]
+fn two_receivers_agree(rt: HostRuntime) {
+    for (position, one, other) in PLACED {
+        assert!(rt; are_near(*position, places(*one, *other)));
     }
+    assert!(rt; is_near_law());
 }

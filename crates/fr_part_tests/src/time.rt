@@ -1,4 +1,8 @@
 // Macroticks in a cycle, the slots and their senders, and the greatest skew over all macroticks.
+ghost use Rattle.std.specs.Prelude.{All};
+ghost use Rattle.fr_time.specs.Placed.{IsPlacedRow};
+ghost use Rattle.fr_time.specs.Position.{IsGrid};
+
 use fr_base::{NodeId, NodeRow, Slot, State};
 use fr_cluster::{ParamName, Params};
 use fr_samples::params_of;
@@ -6,8 +10,7 @@ use fr_skew::{Peak, swept, swept_through};
 use fr_time::{
     Grid, Kind, Macro, Sending, action_point, grid_of, instant, position, sender, slot_bounds,
 };
-use std::alloc::{AllocError, Global};
-use std::test::Fail;
+use std::alloc::Global;
 
 // Three static slots of two macroticks in a cycle of ten.
 const NARROW: &[(&str, &str)] = &[
@@ -59,15 +62,13 @@ const UNEVEN: Grid = Grid {
     correction: 4,
 };
 
-// All positions of a cycle, and what is answered behind them.
-fn walked(alloc: Global, walk: &mut Macro) -> Result<String, AllocError> {
-    let mut text = String::new(alloc);
-    for _ in 0..12 {
-        if let Some(position) = walk.next() {
-            writeln!(text, "{position}")?;
-        }
+// Whether a walk answers these positions, and none behind them.
+fn walks(walk: &mut Macro, positions: &[i64]) -> bool {
+    let mut same = true;
+    for position in positions {
+        same = walk.next() == Some(*position) && same;
     }
-    Ok(text)
+    same && walk.next().is_none()
 }
 
 // The positions that are answered ahead and back, on both sides of the start of the offset correction, and at the end.
@@ -84,33 +85,32 @@ fn gone() -> [Option<i64>; 4] {
 }
 
 // The positions of an uneven cycle, computed one by one.
-fn computed(alloc: Global, odd: bool) -> Result<String, AllocError> {
-    let mut text = String::new(alloc);
-    for macrotick in 0u32..7 {
-        let position = position(&UNEVEN, 1, 2, odd, i64::from(macrotick));
-        writeln!(text, "{position}")?;
+fn computed(odd: bool) -> [i64; 7] {
+    let mut positions = [0; 7];
+    for macrotick in 0..7 {
+        positions[macrotick] = position(&UNEVEN, 1, 2, odd, macrotick as i64);
     }
-    Ok(text)
+    positions
 }
 
 #[test]
-fn walks_through_the_cycle(rt: HostRuntime) -> Result<(), Fail> {
-    let even = walked(rt.alloc(), &mut Macro::begin(&EVEN, 0, 0, false))?;
-    let odd = walked(rt.alloc(), &mut Macro::begin(&ODD, 0, 2, true))?;
-    assert_eq!(rt; even.as_str(), "0\n2\n5\n7\n10\n12\n15\n17\n20\n22\n");
-    assert_eq!(rt; odd.as_str(), "0\n2\n5\n7\n10\n12\n15\n17\n20\n23\n");
-    assert_eq!(rt; gone(), [Some(23), Some(7), Some(10), None]);
-    Ok(())
+fn walks_through_the_cycle(rt: HostRuntime) {
+    let (even, odd) = (
+        [0, 2, 5, 7, 10, 12, 15, 17, 20, 22],
+        [0, 2, 5, 7, 10, 12, 15, 17, 20, 23],
+    );
+    assert!(rt; walks(&mut Macro::begin(&EVEN, 0, 0, false), &even));
+    assert!(rt; walks(&mut Macro::begin(&ODD, 0, 2, true), &odd));
+    assert!(rt; gone() == [Some(23), Some(7), Some(10), None]);
 }
 
 #[test]
-fn counts_what_is_computed(rt: HostRuntime) -> Result<(), Fail> {
-    for (odd, last) in [(false, "22\n"), (true, "23\n")] {
-        let walked = walked(rt.alloc(), &mut Macro::begin(&UNEVEN, 1, 2, odd))?;
-        assert!(rt; walked.ends_with(last));
-        assert_eq!(rt; computed(rt.alloc(), odd)?.as_str(), walked.as_str());
+fn counts_what_is_computed(rt: HostRuntime) {
+    for (odd, last) in [(false, 22), (true, 23)] {
+        let positions = computed(odd);
+        assert!(rt; walks(&mut Macro::begin(&UNEVEN, 1, 2, odd), &positions));
+        assert_eq!(rt; positions[6], last);
     }
-    Ok(())
 }
 
 // An odd cycle of a node whose microtick is 1,000,100 ticks.
@@ -149,17 +149,27 @@ fn slots(params: &Params) -> Option<(i64, (i64, i64))> {
     Some((action_point(params, Slot(1)), slot_bounds(params, Slot(3))))
 }
 
-#[test]
-fn tells_instants_slots_and_senders(rt: HostRuntime) -> Result<(), Fail> {
-    let params = params_of(rt.alloc(), NARROW, NODES)?;
+// Whether a cluster has these senders, slots and cycle.
+fn is_laid_out(params: &Params) -> bool {
+    let mut same = true;
     for (slot, cycle, wanted) in SENDERS {
-        assert_eq!(rt; sent(&params, *slot, *cycle), *wanted);
+        same = sent(params, *slot, *cycle) == *wanted && same;
     }
-    assert_eq!(rt; slots(&params), Some((1, (4, 6))));
-    assert_eq!(rt; grid_of(&params), ODD);
-    assert_eq!(rt; position(&ODD, 0, 2, true, 10), 27);
-    assert_eq!(rt; instant(&ODD, &ROW, true, 9), 23_002_800);
-    Ok(())
+    same && slots(params) == Some((1, (4, 6))) && grid_of(params) == ODD
+}
+
+fn is_narrow_laid_out(alloc: Global) -> bool {
+    match params_of(alloc, NARROW, NODES) {
+        Ok(params) => is_laid_out(&params),
+        Err(_) => false,
+    }
+}
+
+#[test]
+fn tells_instants_slots_and_senders(rt: HostRuntime) {
+    assert!(rt; is_narrow_laid_out(rt.alloc()));
+    assert!(rt; position(&ODD, 0, 2, true, 10) == 27);
+    assert!(rt; instant(&ODD, &ROW, true, 9) == 23_002_800);
 }
 
 const GRID: Grid = ODD;
@@ -272,29 +282,21 @@ enum Clocks {
 }
 
 // The same by stretches and macrotick by macrotick.
-fn swept_both(clocks: Clocks, cycle: u32, before: Option<Peak>) -> [Option<Peak>; 2] {
+fn swept_both(grid: &Grid, rows: &[NodeRow], cycle: u32, before: Option<Peak>) -> [Option<Peak>; 2]
+    requires grid { IsGrid grid.now }
+    requires rows { All (IsPlacedRow grid.now) rows.now }
+{
+    [
+        swept(grid, cycle, rows, before),
+        swept_through(grid, cycle, rows, before),
+    ]
+}
+
+fn swept_by(clocks: Clocks, cycle: u32, before: Option<Peak>) -> [Option<Peak>; 2] {
     match clocks {
-        Clocks::Short => {
-            let rows = [FIRST, SECOND];
-            [
-                swept(&GRID, cycle, &rows, before),
-                swept_through(&GRID, cycle, &rows, before),
-            ]
-        }
-        Clocks::Parting => {
-            let rows = [EVEN_CLOCK, SLOW_CLOCK];
-            [
-                swept(&LONG, cycle, &rows, before),
-                swept_through(&LONG, cycle, &rows, before),
-            ]
-        }
-        Clocks::Alike => {
-            let rows = [FIRST, LATER];
-            [
-                swept(&LONG, cycle, &rows, before),
-                swept_through(&LONG, cycle, &rows, before),
-            ]
-        }
+        Clocks::Short => swept_both(&GRID, &[FIRST, SECOND], cycle, before),
+        Clocks::Parting => swept_both(&LONG, &[EVEN_CLOCK, SLOW_CLOCK], cycle, before),
+        Clocks::Alike => swept_both(&LONG, &[FIRST, LATER], cycle, before),
     }
 }
 
@@ -311,9 +313,6 @@ fn peak(place: Place) -> Peak {
 fn sweeps_by_stretches_as_macrotick_by_macrotick(rt: HostRuntime) {
     for (clocks, cycle, before, found) in SWEEPS {
         let found = Some(peak(*found));
-        assert_eq!(rt;
-            swept_both(*clocks, *cycle, before.map(peak)),
-            [found, found]
-        );
+        assert!(rt; swept_by(*clocks, *cycle, before.map(peak)) == [found, found]);
     }
 }

@@ -23,18 +23,12 @@ pub(crate) enum File<'a> {
 // The words, the files, the status, what is written, and what is told.
 pub(crate) type Row<'a> = (&'a [&'a str], &'a [File<'a>], Status, &'a str, &'a str);
 
-// The words, the files, and what is written: a text with other lines.
-pub(crate) type Done<'a> = (&'a [&'a str], &'a [File<'a>], &'a str, Lines<'a>);
-
-// The words, the files, the status, and what is told.
-pub(crate) type Failed<'a> = (&'a [&'a str], &'a [File<'a>], Status, &'a str);
-
 // Which load, which put and which telling of a failure is to fail, counted from 1; 0 is none.
 pub(crate) type Faults = (u64, u64, u64);
 
 pub(crate) const NONE: Faults = (0, 0, 0);
 
-fn words_of(alloc: Global, texts: &[&str]) -> Result<Vec<String>, AllocError> {
+pub(crate) fn words_of(alloc: Global, texts: &[&str]) -> Result<Vec<String>, AllocError> {
     let mut words = Vec::new(alloc);
     for text in texts {
         words.push(String::from_str(alloc, text)?)?;
@@ -51,7 +45,11 @@ fn hold(alloc: Global, shelf: &mut MemoryShelf, file: &File<'_>) -> Result<(), A
     }
 }
 
-fn shelf_of(alloc: Global, files: &[File<'_>], failing: u64) -> Result<MemoryShelf, AllocError> {
+pub(crate) fn shelf_of(
+    alloc: Global,
+    files: &[File<'_>],
+    failing: u64,
+) -> Result<MemoryShelf, AllocError> {
     let mut shelf = MemoryShelf::new(alloc);
     for file in files {
         hold(alloc, &mut shelf, file)?;
@@ -66,98 +64,64 @@ fn sink_of(alloc: Global, failing: u64) -> Result<MemorySink, AllocError> {
     Ok(sink)
 }
 
-// A status, what was written, and what was told, as one text.
-fn shown(alloc: Global, status: Status, out: &[u8], err: &[u8]) -> Result<String, AllocError> {
-    let out = String::from_utf8_lossy(alloc, out)?;
-    let err = String::from_utf8_lossy(alloc, err)?;
-    format!(in alloc; "{status:?}\n{out}--\n{err}")
+// Which of the two programs is called.
+#[derive(Clone, Copy)]
+pub(crate) enum Program {
+    Flexray,
+    Series,
 }
 
-// What the program answers words over a shelf.
-fn ends(
+// The status, what is written and what is told.
+pub(crate) type Wanted<'a> = (Status, &'a [u8], &'a str);
+
+// Whether the program ends so over a shelf, where this put and this telling fail.
+pub(crate) fn ends(
     alloc: Global,
+    program: Program,
     words: &[String],
     shelf: &mut MemoryShelf,
-    put: u64,
-    tell: u64,
-) -> Result<String, AllocError> {
+    failing: (u64, u64),
+    wanted: Wanted<'_>,
+) -> Result<bool, AllocError> {
+    let (put, tell) = failing;
     let mut out = sink_of(alloc, put)?;
     let mut err = sink_of(alloc, tell)?;
-    let status = flexray(alloc, words, shelf, &mut out, &mut err);
-    shown(alloc, status, out.bytes(), err.bytes())
+    let status = match program {
+        Program::Flexray => flexray(alloc, words, shelf, &mut out, &mut err),
+        Program::Series => flexray_series(alloc, words, shelf, &mut out, &mut err),
+    };
+    let (done, written, told) = wanted;
+    Ok(status == done && out.bytes() == written && err.bytes() == told.as_bytes())
 }
 
-// What the program answers words.
-pub(crate) fn answer(
-    alloc: Global,
-    words: &[&str],
-    files: &[File<'_>],
-    faults: Faults,
-) -> Result<String, AllocError> {
-    let (load, put, tell) = faults;
-    let words = words_of(alloc, words)?;
-    let mut shelf = shelf_of(alloc, files, load)?;
-    ends(alloc, &words, &mut shelf, put, tell)
-}
-
-// What it answers where it is called twice over the same shelf.
+// Whether a program answers words over files so, where these fail.
 pub(crate) fn answers(
     alloc: Global,
-    words: &[&str],
-    files: &[File<'_>],
-    load: u64,
-) -> Result<String, AllocError> {
-    let words = words_of(alloc, words)?;
-    let mut shelf = shelf_of(alloc, files, load)?;
-    let first = ends(alloc, &words, &mut shelf, 0, 0)?;
-    let second = ends(alloc, &words, &mut shelf, 0, 0)?;
-    format!(in alloc; "{first}{second}")
-}
-
-// What the second program answers words.
-pub(crate) fn series_answer(
-    alloc: Global,
+    program: Program,
     words: &[&str],
     files: &[File<'_>],
     faults: Faults,
-) -> Result<String, AllocError> {
+    wanted: Wanted<'_>,
+) -> Result<bool, AllocError> {
     let (load, put, tell) = faults;
     let words = words_of(alloc, words)?;
     let mut shelf = shelf_of(alloc, files, load)?;
-    let mut out = sink_of(alloc, put)?;
-    let mut err = sink_of(alloc, tell)?;
-    let status = flexray_series(alloc, &words, &mut shelf, &mut out, &mut err);
-    shown(alloc, status, out.bytes(), err.bytes())
+    ends(alloc, program, &words, &mut shelf, (put, tell), wanted)
 }
 
-// What is wanted and what is answered, where it differs; else nothing.
-pub(crate) fn wrong(alloc: Global, row: &Row<'_>, faults: Faults) -> Result<String, AllocError> {
+// Whether `flexray` answers a row so, where these fail.
+pub(crate) fn is_row(alloc: Global, row: &Row<'_>, faults: Faults) -> Result<bool, AllocError> {
     let (words, files, status, out, err) = row;
-    let wanted = shown(alloc, *status, out.as_bytes(), err.as_bytes())?;
-    let given = answer(alloc, words, files, faults)?;
-    if given == wanted {
-        return Ok(String::new(alloc));
-    }
-    format!(in alloc; "wanted {wanted}given {given}")
+    let wanted = (*status, out.as_bytes(), *err);
+    answers(alloc, Program::Flexray, words, files, faults, wanted)
 }
 
-// What is answered otherwise than by these texts.
-pub(crate) fn not_done(alloc: Global, rows: &[Done<'_>]) -> Result<String, AllocError> {
-    let mut told = String::new(alloc);
-    for (words, files, text, lines) in rows {
-        let text = changed(alloc, text, lines)?;
-        let row = (*words, *files, Status::Done, text.as_str(), "");
-        told.push_str(wrong(alloc, &row, NONE)?.as_str())?;
+// The place of the first of these that it answers otherwise.
+pub(crate) fn first_other(alloc: Global, rows: &[Row<'_>]) -> Result<Option<usize>, AllocError> {
+    for (place, row) in rows.iter().enumerate() {
+        if !is_row(alloc, row, NONE)? {
+            return Ok(Some(place));
+        }
     }
-    Ok(told)
-}
-
-// What is answered otherwise than by failing so.
-pub(crate) fn not_failed(alloc: Global, rows: &[Failed<'_>]) -> Result<String, AllocError> {
-    let mut told = String::new(alloc);
-    for (words, files, status, err) in rows {
-        let row = (*words, *files, *status, "", *err);
-        told.push_str(wrong(alloc, &row, NONE)?.as_str())?;
-    }
-    Ok(told)
+    Ok(None)
 }

@@ -1,70 +1,19 @@
-// Words that ask for nothing, and devices that fail.
-use crate::bounds::{BOUND, BOUNDS, CLUSTER};
+// Devices that fail, and those that never do.
+use crate::answers::{
+    BOUND, BOUNDS, CALM, CHECK, CLUSTER, DRIFT, LATE, LINE, MADE_REPORT, ON_A, ON_B, RECORDED, RUN,
+    SYNC, TRACE, TWO, TWO_LINES, VERDICT,
+};
 use crate::calls::File::{Bytes, Text, TooLong};
-use crate::calls::{Faults, File, NONE, Row, answer, answers, wrong};
-use crate::frames::{LINE, ON_A, ON_B, RECORDED, SYNC, TWO, TWO_LINES};
-use crate::runs::{CALM, LATE, MADE_REPORT, RUN};
-use crate::traces::{CHECK, DRIFT, TRACE, VERDICT};
-use fr_answer::Status;
-use fr_answer::Status::{Done, No, ReadFault, Usage, WriteFault};
+use crate::calls::{
+    Faults, File, NONE, Program, Row, Wanted, answers, ends, is_row, shelf_of, words_of,
+};
+use fr_answer::Status::{Done, No, ReadFault, Refused, Usage, WriteFault};
+use fr_answer::{Status, flexray};
+use fr_base::{MemoryShelf, MemorySink, PutFault, SureShelf, SureSink};
+use fr_nm::fold;
 use fr_samples::LATER_REPORT;
 use std::alloc::{AllocError, Global};
 use std::test::Fail;
-
-const OTHER_WORDS: &[&[&str]] = &[
-    &[],
-    &["frame"],
-    &["frame", "A"],
-    &["frame", "C", "f"],
-    &["frame", "a", "f"],
-    &["Frame", "A", "f"],
-    &["frame", "A", "f", "f"],
-    &["--help"],
-    &["--version"],
-    &["bound"],
-    &["bound", "f", "f"],
-    &["run"],
-    &["run", "p", "d"],
-    &["run", "p", "d", "s", "s"],
-    &["trace", "p", "d"],
-    &["check", "p"],
-    &["check", "p", "t", "t"],
-    &["make", "1"],
-    &["make", "1", "0"],
-    &["make", "-1", "1"],
-    &["make", "+1", "1"],
-    &["make", " 1", "1"],
-    &["make", "1", "-1"],
-    &["make", "1", ""],
-    &["make", "1", "10001"],
-    &["make", "4294967296", "1"],
-    &["settle", "p", "1"],
-    &["settle", "p", "0", "1000000000001"],
-    &["settle", "p", "-1", "0"],
-    &["settle", "p", "0", "x"],
-    &["cold", "p"],
-    &["nm", "0", "f"],
-    &["nm", "13", "f"],
-    &["capture", "C", "f"],
-];
-
-const USAGE: &str = "Usage\n--\nusage: flexray COMMAND WORDS\n";
-
-// The place of the first of these words that are answered otherwise.
-fn first_request(alloc: Global) -> Result<Option<usize>, AllocError> {
-    for (place, words) in OTHER_WORDS.iter().enumerate() {
-        if answer(alloc, words, &[Bytes("f", SYNC), CLUSTER], NONE)?.as_str() != USAGE {
-            return Ok(Some(place));
-        }
-    }
-    Ok(None)
-}
-
-#[test]
-fn other_words_are_no_request(rt: HostRuntime) -> Result<(), Fail> {
-    assert_eq!(rt; first_request(rt.alloc())?, None);
-    Ok(())
-}
 
 const CHECKED: &[File] = &[CLUSTER, Text("t", TRACE, &[])];
 
@@ -127,90 +76,166 @@ const FAILING: &[(Faults, Row)] = &[
     ),
 ];
 
-// What is answered otherwise.
-fn unfailing(alloc: Global) -> Result<String, AllocError> {
-    let mut told = String::new(alloc);
-    for (faults, row) in FAILING {
-        told.push_str(wrong(alloc, row, *faults)?.as_str())?;
+// The place of the first of these that is answered otherwise.
+fn first_unfailing(alloc: Global) -> Result<Option<usize>, AllocError> {
+    for (place, (faults, row)) in FAILING.iter().enumerate() {
+        if !is_row(alloc, row, *faults)? {
+            return Ok(Some(place));
+        }
     }
-    Ok(told)
+    Ok(None)
 }
 
 #[test]
 fn devices_fail(rt: HostRuntime) -> Result<(), Fail> {
-    assert_eq!(rt; unfailing(rt.alloc())?.as_str(), "");
+    assert_eq!(rt; first_unfailing(rt.alloc())?, None);
     Ok(())
+}
+
+// What both calls over the same shelf answer.
+const REFUSED: Wanted = (Refused, b"", "params: record 1: Shape\n");
+
+const FAILED: Wanted = (ReadFault, b"", "params: read fault\n");
+
+fn end_in_turn(
+    alloc: Global,
+    words: &[String],
+    shelf: &mut MemoryShelf,
+) -> Result<bool, AllocError> {
+    let refused = ends(alloc, Program::Flexray, words, shelf, (0, 0), REFUSED)?;
+    let failed = ends(alloc, Program::Flexray, words, shelf, (0, 0), FAILED)?;
+    Ok(refused && failed)
+}
+
+// Whether two calls over the same shelf, whose second load fails, are answered so.
+fn is_loaded_in_turn(alloc: Global) -> Result<bool, AllocError> {
+    let words = words_of(alloc, RUN)?;
+    let mut shelf = shelf_of(alloc, &[Bytes("p", b"x\n"), LATE, CALM], 2)?;
+    end_in_turn(alloc, &words, &mut shelf)
 }
 
 // A file is loaded once those before it are accepted: the second load is that of the second call, whose first file is
 // not accepted either.
 #[test]
 fn files_are_loaded_in_their_turn(rt: HostRuntime) -> Result<(), Fail> {
-    let files = [Bytes("p", b"x\n"), LATE, CALM];
-    assert_eq!(rt;
-        answers(rt.alloc(), RUN, &files, 2)?.as_str(),
-        "Refused\n--\nparams: record 1: Shape\nReadFault\n--\nparams: read fault\n"
-    );
+    assert!(rt; is_loaded_in_turn(rt.alloc())?);
     Ok(())
 }
 
-// Words and files whose answer has several lines, and the answer.
-const WRITTEN: &[(&[&str], &[File], &str)] = &[
-    (BOUND, &[CLUSTER], BOUNDS),
+// Words and files whose answer has several lines, the answer, and how many puts it has with one behind it.
+const WRITTEN: &[(&[&str], &[File], &str, usize)] = &[
+    (BOUND, &[CLUSTER], BOUNDS, 10),
     (
         &["settle", "p", "190032800", "30005200"],
         &[CLUSTER],
         "start 190032800 rate 30005200\npeak 252043600\nsettles 0\n",
+        4,
     ),
-    (RECORDED, &[Bytes("f", TWO)], TWO_LINES),
-    (RUN, &[CLUSTER, LATE, CALM], LATER_REPORT),
-    (&["make", "7", "1"], &[], MADE_REPORT),
-    (&["trace", "p", "d", "s"], &[CLUSTER, DRIFT, CALM], TRACE),
-    (CHECK, CHECKED, VERDICT),
+    (RECORDED, &[Bytes("f", TWO)], TWO_LINES, 5),
+    (RUN, FILES, LATER_REPORT, 12),
+    (&["make", "7", "1"], &[], MADE_REPORT, 16),
+    (
+        &["trace", "p", "d", "s"],
+        &[CLUSTER, DRIFT, CALM],
+        TRACE,
+        10,
+    ),
+    (CHECK, CHECKED, VERDICT, 5),
 ];
 
-// Where the call is answered otherwise though this put fails, the answer; else nothing.
-fn failing_put(
+// Whether the lines before a put, so many bytes, were written where it fails.
+fn is_kept(
     alloc: Global,
     words: &[&str],
     files: &[File<'_>],
+    front: Option<&[u8]>,
     put: u64,
-    wanted: &str,
-) -> Result<String, AllocError> {
-    let given = answer(alloc, words, files, (0, put, 2))?;
-    if given.as_str() == wanted {
-        return Ok(String::new(alloc));
+) -> Result<bool, AllocError> {
+    match front {
+        Some(front) => {
+            let wanted = (WriteFault, front, "write fault\n");
+            answers(alloc, Program::Flexray, words, files, (0, put, 2), wanted)
+        }
+        None => Ok(false),
     }
-    format!(in alloc; "put {put}: wanted {wanted}given {given}")
 }
 
-// Each put of the answer fails in its turn, and one behind it, which is never made.
-fn first_kept(
+// How many of the puts of an answer, and of one behind them, which is never made, are answered so where they fail.
+fn kept(
     alloc: Global,
     words: &[&str],
     files: &[File<'_>],
     text: &str,
-) -> Result<String, AllocError> {
-    let mut told = String::new(alloc);
-    let mut front = String::new(alloc);
-    for (done, line) in text.lines().enumerate() {
-        let put = (done as u64).saturating_add(1);
-        let wanted = format!(in alloc; "WriteFault\n{front}--\nwrite fault\n")?;
-        told.push_str(failing_put(alloc, words, files, put, wanted.as_str())?.as_str())?;
-        front.push_str(line)?;
-        front.push_str("\n")?;
+) -> Result<usize, AllocError> {
+    let mut kept = 0usize;
+    let mut front = 0usize;
+    let mut put = 1u64;
+    for line in text.lines() {
+        if is_kept(alloc, words, files, text.as_bytes().get(..front), put)? {
+            kept = kept.saturating_add(1);
+        }
+        front = front.saturating_add(line.len()).saturating_add(1);
+        put = put.saturating_add(1);
     }
-    let wanted = format!(in alloc; "Done\n{text}--\n")?;
-    let behind = (text.lines().count() as u64).saturating_add(1);
-    told.push_str(failing_put(alloc, words, files, behind, wanted.as_str())?.as_str())?;
-    Ok(told)
+    let wanted = (Done, text.as_bytes(), "");
+    if answers(alloc, Program::Flexray, words, files, (0, put, 2), wanted)? {
+        kept = kept.saturating_add(1);
+    }
+    Ok(kept)
 }
 
-// Where a put fails, the lines before it were written.
+// Each put of an answer fails in its turn, and one behind it, which is never made.
 #[test]
 fn each_line_is_a_put(rt: HostRuntime) -> Result<(), Fail> {
-    for (words, files, text) in WRITTEN {
-        assert_eq!(rt; first_kept(rt.alloc(), words, files, text)?.as_str(), "");
+    for (words, files, text, puts) in WRITTEN {
+        assert_eq!(rt; kept(rt.alloc(), words, files, text)?, *puts);
     }
+    Ok(())
+}
+
+// The answer to a frame on channel A and B, over devices that never fail.
+fn surely(alloc: Global, words: &[&str]) -> Result<Status, AllocError> {
+    let words = words_of(alloc, words)?;
+    let mut shelf = SureShelf::new(alloc);
+    shelf.hold("f", SYNC)?;
+    let (mut out, mut err) = (SureSink::new(), SureSink::new());
+    Ok(flexray(alloc, &words, &mut shelf, &mut out, &mut err))
+}
+
+#[test]
+fn devices_that_never_fail_are_taken(rt: HostRuntime) -> Result<(), Fail> {
+    assert_eq!(rt; surely(rt.alloc(), ON_A)?, Done);
+    assert_eq!(rt; surely(rt.alloc(), ON_B)?, No);
+    Ok(())
+}
+
+// A recording of one frame, which has a vector.
+const RECORDING: &[u8] = b"9,A,600502B3891234DBEF87\n";
+
+// Whether writing the vectors answers so where this put fails, and this stands in the sink then.
+fn is_written(
+    alloc: Global,
+    failing: u64,
+    wanted: Result<(), PutFault>,
+    text: &[u8],
+) -> Result<bool, Fail> {
+    let vectors = fold(alloc, 2, RECORDING)?;
+    let mut sink = MemorySink::new(alloc, 100)?;
+    sink.fail_at(failing)?;
+    Ok(vectors.write(&mut sink) == wanted && sink.bytes() == text)
+}
+
+#[test]
+fn vectors_are_written_where_no_put_fails(rt: HostRuntime) -> Result<(), Fail> {
+    let lines = b"cycle 9 vector 1234 frames 1\nframes 1 ignored 0\n";
+    assert!(rt; is_written(rt.alloc(), 0, Ok(()), lines)?);
+    assert!(rt;
+        is_written(
+            rt.alloc(),
+            2,
+            Err(PutFault::Failed),
+            b"cycle 9 vector 1234 frames 1\n"
+        )?
+    );
     Ok(())
 }

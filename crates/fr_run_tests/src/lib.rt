@@ -3,18 +3,12 @@
 #![tactic(auto)]
 
 #[cfg(test)]
-mod bounds;
+mod answers;
 #[cfg(test)]
 mod calls;
 #[cfg(test)]
 mod faults;
 #[cfg(test)]
-mod frames;
-#[cfg(test)]
-mod runs;
-#[cfg(test)]
 mod series;
-#[cfg(test)]
-mod traces;
 #[cfg(test)]
 mod world;

@@ -1,8 +1,9 @@
 // The second program's answers.
-use crate::bounds::CLUSTER;
+use crate::answers::{CALM, CLUSTER};
 use crate::calls::File::Bytes;
-use crate::calls::{Faults, NONE, series_answer};
-use crate::runs::CALM;
+use crate::calls::{Faults, NONE, Program, answers};
+use fr_answer::Status;
+use fr_answer::Status::{Done, Usage, WriteFault};
 use std::alloc::{AllocError, Global};
 use std::test::Fail;
 
@@ -17,33 +18,18 @@ const LATE: &[u8] = b"doubles,3,,,,\nlength,1,0,1000000,,\nlength,1,2,1001500,,\
 // The same from cycle 0 on: never in sync.
 const NEVER: &[u8] = b"doubles,2,,,,\nlength,1,0,1001500,,\n";
 
-const USAGE: &str = "Usage\n--\nusage: flexray-series PARAMS DRIFT SCRIPT\n";
+const USAGE: &str = "usage: flexray-series PARAMS DRIFT SCRIPT\n";
 
-// The words, the drift, what fails, and the answer: a series is written line by line.
-const SERIES: &[(&[&str], &[u8], Faults, &str)] = &[
-    (
-        FILES,
-        APART,
-        NONE,
-        "\
-Done\n\
-cycle,in_sync,skew,macrotick\n\
-0,no,39992000,4999\n\
-1,no,79200000,4900\n\
-2,yes,48991900,4999\n\
-3,yes,56495900,4687\n\
-greatest,56495900,3,4687\n\
-synced,yes,,\n\
-within,yes,,\n\
---\n\
-",
-    ),
+// The words, the drift, what fails, and the answer: a series is written line by line. The one whose last put fails lies
+// whole in examples/series.
+const SERIES: &[(&[&str], &[u8], Faults, (Status, &str, &str))] = &[
     (
         FILES,
         LATE,
         NONE,
-        "\
-Done\n\
+        (
+            Done,
+            "\
 cycle,in_sync,skew,macrotick\n\
 0,yes,0,0\n\
 1,yes,0,0\n\
@@ -54,15 +40,17 @@ cycle,in_sync,skew,macrotick\n\
 greatest,594000000,3,4900\n\
 synced,no,1,\n\
 within,no,2,4201\n\
---\n\
 ",
+            "",
+        ),
     ),
     (
         FILES,
         NEVER,
         NONE,
-        "\
-Done\n\
+        (
+            Done,
+            "\
 cycle,in_sync,skew,macrotick\n\
 0,no,299940000,4999\n\
 1,no,594000000,4900\n\
@@ -71,22 +59,28 @@ cycle,in_sync,skew,macrotick\n\
 greatest,-,-,-\n\
 synced,no,0,\n\
 within,-,,\n\
---\n\
 ",
+            "",
+        ),
     ),
-    (FILES, APART, (0, 1, 2), "WriteFault\n--\nwrite fault\n"),
+    (FILES, APART, (0, 1, 2), (WriteFault, "", "write fault\n")),
     (
         FILES,
         APART,
         (0, 2, 2),
-        "WriteFault\ncycle,in_sync,skew,macrotick\n--\nwrite fault\n",
+        (
+            WriteFault,
+            "cycle,in_sync,skew,macrotick\n",
+            "write fault\n",
+        ),
     ),
     (
         FILES,
         APART,
         (0, 8, 2),
-        "\
-WriteFault\n\
+        (
+            WriteFault,
+            "\
 cycle,in_sync,skew,macrotick\n\
 0,no,39992000,4999\n\
 1,no,79200000,4900\n\
@@ -94,29 +88,30 @@ cycle,in_sync,skew,macrotick\n\
 3,yes,56495900,4687\n\
 greatest,56495900,3,4687\n\
 synced,yes,,\n\
---\n\
-write fault\n\
 ",
+            "write fault\n",
+        ),
     ),
-    (&["p", "d"], APART, NONE, USAGE),
-    (&["p", "d", "s", "t"], APART, NONE, USAGE),
-    (&[], APART, NONE, USAGE),
+    (&["p", "d"], APART, NONE, (Usage, "", USAGE)),
+    (&["p", "d", "s", "t"], APART, NONE, (Usage, "", USAGE)),
+    (&[], APART, NONE, (Usage, "", USAGE)),
 ];
 
-// The first of these that is answered otherwise, with the answer; nothing where there is none.
-fn first_other(alloc: Global) -> Result<String, AllocError> {
-    for (words, drift, faults, wanted) in SERIES {
+// The place of the first of these that is answered otherwise.
+fn first_other(alloc: Global) -> Result<Option<usize>, AllocError> {
+    for (place, (words, drift, faults, wanted)) in SERIES.iter().enumerate() {
+        let (status, out, err) = wanted;
         let files = [CLUSTER, Bytes("d", drift), CALM];
-        let given = series_answer(alloc, words, &files, *faults)?;
-        if given.as_str() != *wanted {
-            return format!(in alloc; "wanted {wanted}given {given}");
+        let wanted = (*status, out.as_bytes(), *err);
+        if !answers(alloc, Program::Series, words, &files, *faults, wanted)? {
+            return Ok(Some(place));
         }
     }
-    Ok(String::new(alloc))
+    Ok(None)
 }
 
 #[test]
 fn series_of_runs_are_written(rt: HostRuntime) -> Result<(), Fail> {
-    assert_eq!(rt; first_other(rt.alloc())?.as_str(), "");
+    assert_eq!(rt; first_other(rt.alloc())?, None);
     Ok(())
 }

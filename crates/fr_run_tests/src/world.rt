@@ -1,9 +1,8 @@
 // A world run cycle by cycle: its rows, its nodes, its cells, and its report.
-ghost use Rattle.std.specs.Prelude.{◌≡◌, ◌<◌, IfOk, IsNone};
+ghost use Rattle.std.specs.Prelude.{◌≡◌, ◌<◌, IsNone};
 
-use crate::runs::TWO_FACED_REPORT;
 use fr_answer::play;
-use fr_base::{Channel, CycleRow, MemorySink, NodeId, PutFault, Slot};
+use fr_base::{Channel, Counts, CycleRow, Dev, MemorySink, NodeId, NodeRow, PutFault, Slot, State};
 use fr_coverage::covered;
 use fr_frame::decode;
 use fr_node::Node;
@@ -13,142 +12,144 @@ use fr_samples::{
     params_of,
 };
 use fr_world::World;
-use std::alloc::{AllocError, Global};
+use std::alloc::Global;
 use std::test::Fail;
 
-// The world of the cluster with these nodes, a drift file and a script.
-fn world_of(alloc: Global, nodes: &str, drift: &str, script: &str) -> Result<World, Fail>
-    ensures { IfOk result (λ world. world.cycles ≡ 0) }
-{
-    let params = params_of(alloc, &[], nodes)?;
-    let drift = fr_drift::read(alloc, &params, drift.as_bytes())?;
-    let script = fr_script::read(alloc, &params, script.as_bytes())?;
-    Ok(World::build(alloc, params, drift, script)?)
+// What is asked of a world that was just built.
+enum Question {
+    // Whether it has these rows, as it answers them and as it keeps them, and no more.
+    Rows(&'static [Kept]),
+    // How a node stands after so many cycles, by a place among the sync nodes.
+    Standing(u32, u8, usize, Option<Standing>),
+    // Whether a node follows, and whether node 3 has a row, before each cycle.
+    Joining(&'static [(bool, bool)]),
+    // What stands in the cell of a slot on a channel after so many cycles.
+    Cell(u32, u16, Channel, (bool, Option<Front>)),
+    // What a report tells where this put fails, and how many of the lines of a text are written: each is one put.
+    Told(u64, Result<Told, PutFault>, &'static str, usize),
+    // The report of its run.
+    Played(&'static str),
 }
 
-// Four cycles of two clocks that lie apart. In each both frames are stored, and their frame CRCs add up to 5240D1.
-const ROWS: &str = "\
-NodeRow { node: NodeId(1), start: 0, length: 1000100, rate: 0, offset: 0, state: Active, cut: 0 }\n\
-NodeRow { node: NodeId(2), start: 0, length: 999900, rate: 0, offset: 0, state: Active, cut: 0 }\n\
-Dev { receiver: NodeId(1), slot: Slot(2), channel: A, value: -1 }\n\
-Dev { receiver: NodeId(2), slot: Slot(1), channel: A, value: 0 }\n\
-Counts { sent_a: 2, sent_b: 0, xor_a: 5390545, xor_b: 0, stored: 2, outside: 0, damaged: 0, wrong_id: 0, wrong_cycle: 0, wrong_length: 0, plain: 0 }\n\
-NodeRow { node: NodeId(1), start: 200020000000, length: 1000100, rate: 0, offset: -20, state: Active, cut: 0 }\n\
-NodeRow { node: NodeId(2), start: 199980000000, length: 999900, rate: 0, offset: 20, state: Active, cut: 0 }\n\
-Dev { receiver: NodeId(1), slot: Slot(2), channel: A, value: -41 }\n\
-Dev { receiver: NodeId(2), slot: Slot(1), channel: A, value: 40 }\n\
-Counts { sent_a: 2, sent_b: 0, xor_a: 5390545, xor_b: 0, stored: 2, outside: 0, damaged: 0, wrong_id: 0, wrong_cycle: 0, wrong_length: 0, plain: 0 }\n\
-NodeRow { node: NodeId(1), start: 400019998000, length: 1000100, rate: -16, offset: 0, state: Active, cut: 0 }\n\
-NodeRow { node: NodeId(2), start: 399979998000, length: 999900, rate: 16, offset: 0, state: Active, cut: 0 }\n\
-Dev { receiver: NodeId(1), slot: Slot(2), channel: A, value: -40 }\n\
-Dev { receiver: NodeId(2), slot: Slot(1), channel: A, value: 39 }\n\
-Counts { sent_a: 2, sent_b: 0, xor_a: 5390545, xor_b: 0, stored: 2, outside: 0, damaged: 0, wrong_id: 0, wrong_cycle: 0, wrong_length: 0, plain: 0 }\n\
-NodeRow { node: NodeId(1), start: 600023996400, length: 1000100, rate: -16, offset: -24, state: Active, cut: 0 }\n\
-NodeRow { node: NodeId(2), start: 599975996400, length: 999900, rate: 16, offset: 23, state: Active, cut: 0 }\n\
-Dev { receiver: NodeId(1), slot: Slot(2), channel: A, value: -48 }\n\
-Dev { receiver: NodeId(2), slot: Slot(1), channel: A, value: 47 }\n\
-Counts { sent_a: 2, sent_b: 0, xor_a: 5390545, xor_b: 0, stored: 2, outside: 0, damaged: 0, wrong_id: 0, wrong_cycle: 0, wrong_length: 0, plain: 0 }\n\
-";
+// Start, length, rate term and offset term of a clock in a cycle.
+type Clock = (i64, i64, i32, i32);
 
-// Writes the rows of a cycle, its deviations and its counts.
-fn add(text: &mut String, row: &CycleRow) -> Result<(), AllocError> {
-    for node in row.rows.as_slice() {
-        writeln!(text, "{node:?}")?;
+// The clocks of nodes 1 and 2 in a cycle, and what each measures of the other on channel A.
+type Kept = (Clock, Clock, i32, i32);
+
+// Four cycles of two clocks that lie apart.
+const ROWS: &[Kept] = &[
+    ((0, 1_000_100, 0, 0), (0, 999_900, 0, 0), -1, 0),
+    (
+        (200_020_000_000, 1_000_100, 0, -20),
+        (199_980_000_000, 999_900, 0, 20),
+        -41,
+        40,
+    ),
+    (
+        (400_019_998_000, 1_000_100, -16, 0),
+        (399_979_998_000, 999_900, 16, 0),
+        -40,
+        39,
+    ),
+    (
+        (600_023_996_400, 1_000_100, -16, -24),
+        (599_975_996_400, 999_900, 16, 23),
+        -48,
+        47,
+    ),
+];
+
+// In each both frames are stored, and their frame CRCs add up to 5240D1.
+const COUNTS: Counts = Counts {
+    sent_a: 2,
+    sent_b: 0,
+    xor_a: 0x5240D1,
+    xor_b: 0,
+    stored: 2,
+    outside: 0,
+    damaged: 0,
+    wrong_id: 0,
+    wrong_cycle: 0,
+    wrong_length: 0,
+    plain: 0,
+};
+
+fn clock(node: NodeId, row: Clock) -> NodeRow {
+    let (start, length, rate, offset) = row;
+    NodeRow {
+        node,
+        start,
+        length,
+        rate,
+        offset,
+        state: State::Active,
+        cut: 0,
     }
-    for dev in row.devs.as_slice() {
-        writeln!(text, "{dev:?}")?;
+}
+
+fn dev(receiver: NodeId, slot: Slot, value: i32) -> Dev {
+    Dev {
+        receiver,
+        slot,
+        channel: Channel::A,
+        value,
     }
-    writeln!(text, "{:?}", row.counts)
 }
 
-// What the world answers for each cycle of a run of at most nine.
-fn answered(text: &mut String, world: &mut World) -> Result<(), AllocError> {
-    for _ in 0..9 {
-        if let Some(row) = world.cycle() {
-            add(text, row)?;
-        }
+fn is_row(row: &CycleRow, wanted: &Kept) -> bool {
+    let (one, two, first, second) = wanted;
+    let rows = [clock(NodeId(1), *one), clock(NodeId(2), *two)];
+    let devs = [
+        dev(NodeId(1), Slot(2), *first),
+        dev(NodeId(2), Slot(1), *second),
+    ];
+    row.rows.as_slice() == rows.as_slice()
+        && row.devs.as_slice() == devs.as_slice()
+        && row.counts == COUNTS
+}
+
+fn is_that(row: Option<&CycleRow>, wanted: &Kept) -> bool {
+    match row {
+        Some(row) => is_row(row, wanted),
+        None => false,
     }
-    Ok(())
 }
 
-// The row that a world of four cycles keeps of each.
-fn kept(text: &mut String, world: &mut World) -> Result<(), AllocError> {
-    for _ in 0..4 {
-        world.cycle();
-        if let Some(row) = world.row() {
-            add(text, row)?;
-        }
+fn has_rows(world: &mut World, rows: &[Kept]) -> bool {
+    let mut same = world.row().is_none();
+    for wanted in rows {
+        same = is_that(world.cycle(), wanted) && is_that(world.row(), wanted) && same;
     }
-    Ok(())
-}
-
-#[test]
-fn answers_its_rows(rt: HostRuntime) -> Result<(), Fail> {
-    let mut world = world_of(rt.alloc(), TWO_ON_A, APART, "")?;
-    let mut text = String::new(rt.alloc());
-    answered(&mut text, &mut world)?;
-    assert_eq!(rt; text.as_str(), ROWS);
-    Ok(())
-}
-
-#[test]
-fn keeps_its_last_row(rt: HostRuntime) -> Result<(), Fail> {
-    let mut world = world_of(rt.alloc(), TWO_ON_A, APART, "")?;
-    let is_fresh = world.row().is_none();
-    let mut text = String::new(rt.alloc());
-    kept(&mut text, &mut world)?;
-    assert!(rt; is_fresh);
-    assert_eq!(rt; text.as_str(), ROWS);
-    Ok(())
+    same && world.cycle().is_none()
 }
 
 // The start of the next cycle, its rate term, the state in it, and the deviations of the sync node at a place on channel A
 // in the even and in the odd cycle.
-fn standing(alloc: Global, node: &Node, place: usize) -> Result<String, AllocError>
+type Standing = (i64, i32, State, Option<i32>, Option<i32>);
+
+fn standing(node: &Node, place: usize) -> Standing
     requires between { IsNone node.now.length }
     requires place { place < 15 }
 {
-    let (start, rate, state) = (node.next_start(), node.next_rate(), node.next_state());
-    let even = node.deviation(place, false, Channel::A);
-    let odd = node.deviation(place, true, Channel::A);
-    format!(in alloc; "{start} {rate} {state:?} {even:?} {odd:?}")
+    (
+        node.next_start(),
+        node.next_rate(),
+        node.next_state(),
+        node.deviation(place, false, Channel::A),
+        node.deviation(place, true, Channel::A),
+    )
 }
 
-fn standing_of(alloc: Global, world: &World, id: u8, place: usize) -> Result<String, AllocError> {
+fn standing_of(world: &World, id: u8, place: usize) -> Option<Standing> {
     if id < 1 || id > 64 || place >= 15 {
-        return String::from_str(alloc, "no place");
+        return None;
     }
     match world.node(NodeId(id)) {
-        Some(node) => standing(alloc, node, place),
-        None => String::from_str(alloc, "none"),
+        Some(node) => Some(standing(node, place)),
+        None => None,
     }
 }
-
-// Nodes, a drift, a script, the cycles that are run, a node, a place among the sync nodes, and how it stands: none where
-// it is arbitrary or unknown.
-const STANDINGS: &[(&str, &str, &str, u32, u8, usize, &str)] = &[
-    (
-        TWO_ON_A,
-        APART,
-        "",
-        2,
-        1,
-        1,
-        "400019998000 -16 Active Some(-1) Some(-41)",
-    ),
-    (
-        TWO_ON_A,
-        APART,
-        "",
-        2,
-        2,
-        0,
-        "399979998000 16 Active Some(0) Some(40)",
-    ),
-    (FOUR_ON_A, ONE, TWO_FACED, 0, 3, 0, "0 0 Active None None"),
-    (FOUR_ON_A, ONE, TWO_FACED, 0, 4, 0, "none"),
-    (FOUR_ON_A, ONE, TWO_FACED, 0, 5, 0, "none"),
-];
 
 fn run(world: &mut World, cycles: u32) {
     for _ in 0..cycles {
@@ -156,94 +157,37 @@ fn run(world: &mut World, cycles: u32) {
     }
 }
 
-#[test]
-fn answers_its_nodes(rt: HostRuntime) -> Result<(), Fail> {
-    for (nodes, drift, script, cycles, id, place, wanted) in STANDINGS {
-        let mut world = world_of(rt.alloc(), nodes, drift, script)?;
-        run(&mut world, *cycles);
-        assert_eq!(rt;
-            standing_of(rt.alloc(), &world, *id, *place)?.as_str(),
-            *wanted
-        );
-    }
-    Ok(())
-}
-
-// Whether a node follows, and whether node 3 has a row.
-fn seen(alloc: Global, world: &World) -> Result<String, AllocError> {
-    let (following, row) = (world.following(), world.node(NodeId(3)).is_some());
-    format!(in alloc; "{following} {row}\n")
-}
-
-fn joins(alloc: Global, world: &mut World) -> Result<String, AllocError> {
-    let mut text = seen(alloc, world)?;
-    for _ in 0..10 {
+fn is_joined(world: &mut World, seen: &[(bool, bool)]) -> bool {
+    let mut same = true;
+    for (following, row) in seen {
+        same = world.following() == *following && world.node(NodeId(3)).is_some() == *row && same;
         world.cycle();
-        text.push_str(seen(alloc, world)?.as_str())?;
     }
-    Ok(text)
+    same
 }
 
-// Node 3 listens in cycles 0 and 1, follows in cycles 2 to 5, and takes part from cycle 6 on.
-#[test]
-fn tells_who_follows_and_who_takes_part(rt: HostRuntime) -> Result<(), Fail> {
-    let mut world = world_of(rt.alloc(), THREE_ON_A, "doubles,5,,,,\n", "join,0,3,1,,,\n")?;
-    assert_eq!(rt;
-        joins(rt.alloc(), &mut world)?.as_str(),
-        "\
-false false\nfalse false\nfalse false\n\
-true false\ntrue false\ntrue false\ntrue false\n\
-false true\nfalse true\nfalse true\nfalse true\n\
-"
-    );
-    Ok(())
-}
+// How many bytes a frame has, whether it is one, and its first five.
+type Front = (usize, bool, [u8; 5]);
 
-// What stands in the cell of a slot on a channel: its header where it is a frame, and whether there is one.
-fn cell_of(
-    alloc: Global,
-    world: &World,
-    slot: u16,
-    channel: Channel,
-) -> Result<String, AllocError> {
+// Whether there is a cell, and what stands in it.
+fn cell_of(world: &World, slot: u16, channel: Channel) -> (bool, Option<Front>) {
     if slot < 1 || slot > 1023 {
-        return String::from_str(alloc, "no slot");
+        return (false, None);
     }
     let slot = Slot(slot);
-    let held = world.cell(slot, channel).is_some();
-    match world.last(slot, channel) {
-        Some(bytes) => {
-            let front = bytes.get(..5);
-            let (count, sound) = (bytes.len(), decode(channel, bytes).is_ok());
-            format!(in alloc; "{held} {count} {sound} {front:?}")
-        }
-        None => format!(in alloc; "{held}"),
-    }
+    (
+        world.cell(slot, channel).is_some(),
+        front_of(world.last(slot, channel), channel),
+    )
 }
 
-// Slots and channels, and what stands there after a cycle: nothing was sent in slot 3 or on channel B.
-const CELLS: &[(u16, Channel, &str)] = &[
-    (1, Channel::A, "true 8 true Some([56, 1, 0, 111, 0])"),
-    (3, Channel::A, "false"),
-    (1, Channel::B, "false"),
-];
-
-#[test]
-fn a_cell_has_the_last_frame_of_its_slot_and_channel(rt: HostRuntime) -> Result<(), Fail> {
-    let mut world = world_of(rt.alloc(), TWO_ON_A, ONE, "")?;
-    assert_eq!(rt;
-        cell_of(rt.alloc(), &world, 1, Channel::A)?.as_str(),
-        "false"
-    );
-    run(&mut world, 1);
-    for (slot, channel, wanted) in CELLS {
-        assert_eq!(rt;
-            cell_of(rt.alloc(), &world, *slot, *channel)?.as_str(),
-            *wanted
-        );
+fn front_of(frame: Option<&[u8]>, channel: Channel) -> Option<Front> {
+    let bytes = frame?;
+    if bytes.len() < 5 {
+        return None;
     }
-    assert_eq!(rt; world.pool().cells(), 282);
-    Ok(())
+    let front = [bytes[0], bytes[1], bytes[2], bytes[3], bytes[4]];
+    Some((bytes.len(), decode(channel, bytes).is_ok(), front))
 }
 
 // The greatest skew with its place, and the first double cycle in sync.
@@ -265,68 +209,232 @@ fn tell(world: &mut World, out: &mut MemorySink) -> Result<Told, PutFault>
     Ok((greatest, report.synced()))
 }
 
-// A drift, the put that fails, what is told, and the report, of which so many lines are written: each is one put.
-const TOLD: &[(&str, u64, &str, &str, usize)] = &[
-    (
-        LATER,
-        12,
-        "Ok((Some((2500000, 0, 0)), Some(0)))",
-        LATER_REPORT,
-        11,
-    ),
-    (
-        APART,
-        12,
-        "Ok((Some((79200000, 1, 4900)), Some(1)))",
-        APART_REPORT,
-        11,
-    ),
-    (LATER, 1, "Err(Failed)", LATER_REPORT, 0),
-    (LATER, 2, "Err(Failed)", LATER_REPORT, 1),
-    (LATER, 11, "Err(Failed)", LATER_REPORT, 10),
-];
+// Whether a text has so many lines of another one, and no more.
+fn is_front(written: &[u8], text: &str, lines: usize) -> bool {
+    let mut count = 0usize;
+    for line in text.lines().take(lines) {
+        count = count.saturating_add(line.len()).saturating_add(1);
+    }
+    count == written.len() && text.as_bytes().starts_with(written)
+}
 
-// What is told of a run and written, as one text.
-fn told(alloc: Global, drift: &str, put: u64) -> Result<String, Fail> {
-    let mut world = world_of(alloc, TWO_ON_A, drift, "")?;
+fn tells(
+    alloc: Global,
+    world: &mut World,
+    put: u64,
+    wanted: Result<Told, PutFault>,
+    front: (&str, usize),
+) -> Result<bool, Fail>
+    requires { world.old.cycles ≡ 0 }
+{
+    let (text, lines) = front;
     let mut out = MemorySink::new(alloc, 1000)?;
     out.fail_at(put)?;
-    let told = tell(&mut world, &mut out);
-    let text = String::from_utf8_lossy(alloc, out.bytes())?;
-    Ok(format!(in alloc; "{told:?}\n{text}")?)
+    Ok(tell(world, &mut out) == wanted && is_front(out.bytes(), text, lines))
 }
 
-fn front(alloc: Global, told: &str, text: &str, lines: usize) -> Result<String, AllocError> {
-    let mut front = format!(in alloc; "{told}\n")?;
-    for line in text.lines().take(lines) {
-        writeln!(front, "{line}")?;
+fn plays(alloc: Global, world: &mut World, report: &str) -> Result<bool, Fail>
+    requires { world.old.cycles ≡ 0 }
+{
+    let mut written = MemorySink::new(alloc, 2000)?;
+    Ok(
+        play(world, &mut written).is_ok()
+            && written.bytes() == report.as_bytes()
+            && world.cycle().is_none(),
+    )
+}
+
+fn answers(alloc: Global, world: &mut World, question: &Question) -> Result<bool, Fail>
+    requires { world.old.cycles ≡ 0 }
+{
+    match question {
+        Question::Rows(rows) => Ok(has_rows(world, rows)),
+        Question::Standing(cycles, id, place, wanted) => {
+            run(world, *cycles);
+            Ok(standing_of(world, *id, *place) == *wanted)
+        }
+        Question::Joining(seen) => Ok(is_joined(world, seen)),
+        Question::Cell(cycles, slot, channel, wanted) => {
+            run(world, *cycles);
+            Ok(cell_of(world, *slot, *channel) == *wanted && world.pool().cells() == 282)
+        }
+        Question::Told(put, wanted, text, lines) => {
+            tells(alloc, world, *put, *wanted, (text, *lines))
+        }
+        Question::Played(report) => plays(alloc, world, report),
     }
-    Ok(front)
 }
 
-#[test]
-fn tells_a_run(rt: HostRuntime) -> Result<(), Fail> {
-    for (drift, put, wanted, report, lines) in TOLD {
-        let wanted = front(rt.alloc(), wanted, report, *lines)?;
-        assert_eq!(rt; told(rt.alloc(), drift, *put)?.as_str(), wanted.as_str());
-    }
-    Ok(())
+// Whether the world of the cluster with these nodes, a drift file and a script answers so: it is dropped here alone.
+fn is_answered(
+    alloc: Global,
+    nodes: &str,
+    drift: &str,
+    script: &str,
+    question: &Question,
+) -> Result<bool, Fail> {
+    let params = params_of(alloc, &[], nodes)?;
+    let drift = fr_drift::read(alloc, &params, drift.as_bytes())?;
+    let script = fr_script::read(alloc, &params, script.as_bytes())?;
+    let mut world = World::build(alloc, params, drift, script)?;
+    answers(alloc, &mut world, question)
 }
 
-// A world's nodes, drift and script, and the report of its run.
-const PLAYED: &[(&str, &str, &str, &str)] = &[
-    (TWO_ON_A, LATER, "", LATER_REPORT),
-    (FOUR_ON_A, ONE, TWO_FACED, TWO_FACED_REPORT),
+// Node 3 listens in cycles 0 and 1, follows in cycles 2 to 5, and takes part from cycle 6 on.
+const SEEN: &[(bool, bool)] = &[
+    (false, false),
+    (false, false),
+    (false, false),
+    (true, false),
+    (true, false),
+    (true, false),
+    (true, false),
+    (false, true),
+    (false, true),
+    (false, true),
+    (false, true),
 ];
 
-#[test]
-fn a_world_is_played_to_its_end(rt: HostRuntime) -> Result<(), Fail> {
-    for (nodes, drift, script, report) in PLAYED {
-        let mut world = world_of(rt.alloc(), nodes, drift, script)?;
-        let mut written = MemorySink::new(rt.alloc(), 2000)?;
-        assert!(rt; play(&mut world, &mut written).is_ok());
-        assert_eq!(rt; written.bytes(), report.as_bytes());
-        assert!(rt; world.cycle().is_none());
+const TWO_FACED_REPORT: &str = "\
+nodes 4 sync 4 arbitrary 1 doubles 1\n\
+precision 252043600\n\
+covered yes\n\
+in sync 0\n\
+greatest skew 0 cycle 0 macrotick 0\n\
+sent A 6 xor 5D6DCB\n\
+sent B 0 xor 000000\n\
+heard stored 16 outside 0 damaged 0 id 0 cycle 0 length 0 plain 0\n\
+cut 0\n\
+node 1 active next 400000000000 rate 0 offset 0\n\
+node 2 active next 400000000000 rate 0 offset 0\n\
+node 3 active next 400000000000 rate 0 offset 0\n\
+";
+
+// Nodes, a drift, a script, and what is answered: of a node none where it is arbitrary or unknown; of cells where nothing
+// was sent yet, in slot 3 and on channel B, none.
+const ANSWERS: &[(&str, &str, &str, Question)] = &[
+    (TWO_ON_A, APART, "", Question::Rows(ROWS)),
+    (
+        TWO_ON_A,
+        APART,
+        "",
+        Question::Standing(
+            2,
+            1,
+            1,
+            Some((400_019_998_000, -16, State::Active, Some(-1), Some(-41))),
+        ),
+    ),
+    (
+        TWO_ON_A,
+        APART,
+        "",
+        Question::Standing(
+            2,
+            2,
+            0,
+            Some((399_979_998_000, 16, State::Active, Some(0), Some(40))),
+        ),
+    ),
+    (
+        FOUR_ON_A,
+        ONE,
+        TWO_FACED,
+        Question::Standing(0, 3, 0, Some((0, 0, State::Active, None, None))),
+    ),
+    (FOUR_ON_A, ONE, TWO_FACED, Question::Standing(0, 4, 0, None)),
+    (FOUR_ON_A, ONE, TWO_FACED, Question::Standing(0, 5, 0, None)),
+    (
+        THREE_ON_A,
+        "doubles,5,,,,\n",
+        "join,0,3,1,,,\n",
+        Question::Joining(SEEN),
+    ),
+    (
+        TWO_ON_A,
+        ONE,
+        "",
+        Question::Cell(0, 1, Channel::A, (false, None)),
+    ),
+    (
+        TWO_ON_A,
+        ONE,
+        "",
+        Question::Cell(
+            1,
+            1,
+            Channel::A,
+            (true, Some((8, true, [56, 1, 0, 111, 0]))),
+        ),
+    ),
+    (
+        TWO_ON_A,
+        ONE,
+        "",
+        Question::Cell(1, 3, Channel::A, (false, None)),
+    ),
+    (
+        TWO_ON_A,
+        ONE,
+        "",
+        Question::Cell(1, 1, Channel::B, (false, None)),
+    ),
+    (
+        TWO_ON_A,
+        LATER,
+        "",
+        Question::Told(12, Ok((Some((2_500_000, 0, 0)), Some(0))), LATER_REPORT, 11),
+    ),
+    (
+        TWO_ON_A,
+        APART,
+        "",
+        Question::Told(
+            12,
+            Ok((Some((79_200_000, 1, 4900)), Some(1))),
+            APART_REPORT,
+            11,
+        ),
+    ),
+    (
+        TWO_ON_A,
+        LATER,
+        "",
+        Question::Told(1, Err(PutFault::Failed), LATER_REPORT, 0),
+    ),
+    (
+        TWO_ON_A,
+        LATER,
+        "",
+        Question::Told(2, Err(PutFault::Failed), LATER_REPORT, 1),
+    ),
+    (
+        TWO_ON_A,
+        LATER,
+        "",
+        Question::Told(11, Err(PutFault::Failed), LATER_REPORT, 10),
+    ),
+    (TWO_ON_A, LATER, "", Question::Played(LATER_REPORT)),
+    (
+        FOUR_ON_A,
+        ONE,
+        TWO_FACED,
+        Question::Played(TWO_FACED_REPORT),
+    ),
+];
+
+// The place of the first of these that is answered otherwise.
+fn first_other(alloc: Global) -> Result<Option<usize>, Fail> {
+    for (place, (nodes, drift, script, question)) in ANSWERS.iter().enumerate() {
+        if !is_answered(alloc, nodes, drift, script, question)? {
+            return Ok(Some(place));
+        }
     }
+    Ok(None)
+}
+
+#[test]
+fn worlds_answer(rt: HostRuntime) -> Result<(), Fail> {
+    assert_eq!(rt; first_other(rt.alloc())?, None);
     Ok(())
 }

@@ -50,11 +50,6 @@ pub const THREE_ON_A: &str = "node,1,1,A,1\nnode,2,2,A,1\nnode,3,3,A,1\n";
 
 pub const FOUR_ON_A: &str = "node,1,1,A,1\nnode,2,2,A,1\nnode,3,3,A,1\nnode,4,4,A,1\n";
 
-pub const EIGHT_ON_A: &str = "\
-node,1,1,A,1\nnode,2,2,A,1\nnode,3,3,A,1\nnode,4,4,A,1\n\
-node,5,5,A,1\nnode,6,6,A,1\nnode,7,7,A,1\nnode,8,8,A,1\n\
-";
-
 /// One double cycle in which all clocks run as they should.
 pub const ONE: &str = "doubles,1,,,,\n";
 
