@@ -12,7 +12,7 @@ use Rattle.fr_records.specs.Fields.{or_else}
 use Rattle.fr_records.proofs.Cuts.{none-or-first-refused}
 use Rattle.fr_records.proofs.Lookups.{or_else-none}
 use Rattle.fr_cluster.specs.Values.{Values}
-use Rattle.fr_startup.specs.declared.state.Switch.{Switch}
+use Rattle.fr_cold.specs.declared.state.Switch.{Switch}
 use Rattle.fr_cold.specs.Keys.{power_cmp, power_key}
 use Rattle.fr_cold.specs.Rows.{power_row_of}
 use Rattle.fr_cold.specs.Reasons.{cycles_at, last_given, power_reason_after, switch_at, switch_in}

@@ -11,9 +11,9 @@ use Rattle.fr_records.specs.Least.{GivesLeast, IsLeastReason, row_passes}
 use Rattle.fr_records.proofs.LeastReasons.{least-first}
 use Rattle.fr_records.proofs.FormFacts.{IsFormed, IsFormedBy, formed-if, formed-one, formed-read, formed-sized, is_overfull, least-formed, natural-read, never, read-both}
 use Rattle.fr_cluster.specs.Values.{Values}
-use Rattle.fr_startup.specs.Cluster.{is_starter}
-use Rattle.fr_startup.specs.declared.state.Switch.{Switch}
-use Rattle.fr_startup.specs.declared.state.Switch.TheVariants as switch
+use Rattle.fr_cold.specs.Cluster.{is_starter}
+use Rattle.fr_cold.specs.declared.state.Switch.{Switch}
+use Rattle.fr_cold.specs.declared.state.Switch.TheVariants as switch
 use Rattle.fr_cold.specs.Rows.{cycles_row, power_file_row, power_row_of, switch_row, switch_with}
 use Rattle.fr_cold.specs.Reasons.{cycles_at, is_out_of_turn, last_at, power_reason_after, power_row_reason}
 use Rattle.fr_cluster.specs.Questions.{is_known}

@@ -1,3 +1,12 @@
+pub mod KeySlots
+pub mod Hearing
+pub mod StartupTurns
+pub mod Ages
+pub mod Leaders
+pub mod StartupSteps
+pub mod First
+pub mod Phases
+pub mod WorkedStartup
 pub mod RowFacts
 pub mod Tables
 pub mod Making

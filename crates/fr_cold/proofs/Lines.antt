@@ -6,8 +6,8 @@ use Rattle.std.specs.declared.cmp.Ordering.TheVariants.{Less, Equal, Greater}
 use Rattle.std.specs.Ordering.{nat_cmp, ordering_then, is_gt}
 use Rattle.std.specs.BTreeMap.{BTreeMap, get}
 use Rattle.std.proofs.lemmas.Bool.Decides.{nat_tests}
-use Rattle.fr_startup.specs.Laws.{IsNumber}
-use Rattle.fr_startup.specs.declared.state.Switch.{Switch}
+use Rattle.fr_cold.specs.StartupLaws.{IsNumber}
+use Rattle.fr_cold.specs.declared.state.Switch.{Switch}
 use Rattle.fr_cold.specs.Keys.{power_cmp, power_key}
 use Rattle.fr_cold.specs.Spans.{IsFromTo, IsFirstRow}
 use Rattle.fr_cold.specs.declared.keys.PowerKey.{PowerKey}

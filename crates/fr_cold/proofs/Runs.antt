@@ -3,13 +3,13 @@ use Rattle.std.proofs.Common.{◌≡◌, ℕ, zero, suc, ◌+◌, ◌-◌, ◌*�
 use Rattle.std.specs.Prelude.{nat_lt, ◌==◌, ◌||◌, if◌then◌else◌}
 use Rattle.std.proofs.lemmas.Bool.Decides.{nat_tests}
 use Rattle.fr_cluster.specs.Values.{Values}
-use Rattle.fr_startup.specs.Node.{acts, is_resolved, resolved, sends, sent, switched}
-use Rattle.fr_startup.specs.Cluster.{Switches, action_of, after_macrotick, begins_at, is_starter, macroticks_of_cycle, moved_states, ready_states, states_at}
-use Rattle.fr_startup.specs.Laws.{IsNumber}
-use Rattle.fr_startup.specs.declared.state.ColdState.{ColdState}
-use Rattle.fr_startup.specs.declared.state.ColdState.TheVariants as state
-use Rattle.fr_startup.proofs.Ages.{next-as, ready-as, sends-as, sends_at, starts-off}
-use Rattle.fr_startup.proofs.Hearing.{hears-none}
+use Rattle.fr_cold.specs.Node.{acts, is_resolved, resolved, sends, sent, switched}
+use Rattle.fr_cold.specs.Cluster.{Switches, action_of, after_macrotick, begins_at, is_starter, macroticks_of_cycle, moved_states, ready_states, states_at}
+use Rattle.fr_cold.specs.StartupLaws.{IsNumber}
+use Rattle.fr_cold.specs.declared.state.ColdState.{ColdState}
+use Rattle.fr_cold.specs.declared.state.ColdState.TheVariants as state
+use Rattle.fr_cold.proofs.Ages.{next-as, ready-as, sends-as, sends_at, starts-off}
+use Rattle.fr_cold.proofs.Hearing.{hears-none}
 use Rattle.fr_cold.specs.View.{PowerView, switch_rows}
 use Rattle.fr_cold.specs.Questions.{IsUnswitched, macroticks_of_run, switches_of}
 use Rattle.fr_cold.specs.Cold.{Agrees, state_in}

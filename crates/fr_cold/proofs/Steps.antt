@@ -7,10 +7,10 @@ use Rattle.fr_base.specs.declared.channel.Channel.{Channel}
 use Rattle.fr_base.specs.declared.channel.Channel.TheVariants as channel
 use Rattle.fr_cluster.specs.Values.{Values}
 use Rattle.fr_cluster.specs.Questions.{has_channel, node_of}
-use Rattle.fr_startup.specs.Node.{acts, heard, resolved, sends, sent, switched}
-use Rattle.fr_startup.specs.Cluster.{States, action_of, is_busy, is_hearing, is_sending, macroticks_of_cycle, moved_states, ready_states, states_at}
-use Rattle.fr_startup.specs.Laws.{IsNumber}
-use Rattle.fr_startup.specs.declared.state.ColdState.{ColdState}
+use Rattle.fr_cold.specs.Node.{acts, heard, resolved, sends, sent, switched}
+use Rattle.fr_cold.specs.Cluster.{States, action_of, is_busy, is_hearing, is_sending, macroticks_of_cycle, moved_states, ready_states, states_at}
+use Rattle.fr_cold.specs.StartupLaws.{IsNumber}
+use Rattle.fr_cold.specs.declared.state.ColdState.{ColdState}
 use Rattle.fr_cold.specs.View.{PowerView}
 use Rattle.fr_cold.specs.Questions.{IsUnswitched, switches_of}
 use Rattle.fr_cold.specs.Cold.{Agrees, state_in}

@@ -10,7 +10,7 @@ use Rattle.fr_base.specs.declared.reason.Reason.{Reason}
 use Rattle.fr_records.specs.Records.{FileRecord}
 use Rattle.fr_records.specs.Fields.{or_else}
 use Rattle.fr_records.proofs.Lookups.{looked_up-more, looked_up-nil, or_else-none}
-use Rattle.fr_startup.specs.declared.state.Switch.{Switch}
+use Rattle.fr_cold.specs.declared.state.Switch.{Switch}
 use Rattle.fr_cold.specs.Keys.{power_cmp, power_key}
 use Rattle.fr_cold.specs.Rows.{IsProperCycles, power_row_of}
 use Rattle.fr_cold.specs.Reasons.{cycles_at, cycles_in, last_at, last_given, last_in, switch_at, switch_in}

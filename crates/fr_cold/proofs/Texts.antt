@@ -2,14 +2,14 @@
 use Rattle.std.proofs.Common.{◌≡◌, ℕ, zero, suc, ◌+◌, ◌-◌, ◌<◌, ◌≤◌, Bool, true, false, List, [], ◌∷◌, ◌++◌, Option, Some, None, refl, ap, sym, ◌∙◌, arith}
 use Rattle.std.specs.Prelude.{◌||◌}
 use Rattle.fr_cluster.specs.Values.{Values}
-use Rattle.fr_startup.specs.Node.{is_leading}
+use Rattle.fr_cold.specs.Node.{is_leading}
 use Rattle.std.specs.Prelude.{codes}
 use Rattle.fr_text.specs.Pieces.{line}
-use Rattle.fr_startup.specs.Cluster.{States, is_starter, states_at}
+use Rattle.fr_cold.specs.Cluster.{States, is_starter, states_at}
 use Rattle.fr_cold.specs.View.{PowerView}
 use Rattle.fr_cold.specs.Questions.{macroticks_of_run, switches_of}
 use Rattle.fr_cold.specs.Leads.{leads_of}
-use Rattle.fr_startup.specs.Laws.{IsNumber}
+use Rattle.fr_cold.specs.StartupLaws.{IsNumber}
 use Rattle.fr_cold.specs.declared.cold.Lead.{Lead}
 use Rattle.fr_cold.specs.ColdText.{least_apart, cold_text, startup_head, does_any_lead, answer_or, are_apart, lead_line, lead_text, leading_line, leading_lines, leading_text, lines_or_none, one_more, first_pair_in, paired_or, starters_up_to}
 

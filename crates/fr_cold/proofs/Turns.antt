@@ -10,10 +10,10 @@ use Rattle.fr_records.specs.Records.{FileRecord}
 use Rattle.fr_records.specs.Fields.{or_else}
 use Rattle.fr_records.specs.Refusal.{NoneRefused}
 use Rattle.fr_cluster.specs.Values.{Values}
-use Rattle.fr_startup.specs.Cluster.{is_starter}
-use Rattle.fr_startup.specs.Laws.{StaysOn, SwitchesStarters}
-use Rattle.fr_startup.specs.declared.state.Switch.{Switch}
-use Rattle.fr_startup.specs.declared.state.Switch.TheVariants as switch
+use Rattle.fr_cold.specs.Cluster.{is_starter}
+use Rattle.fr_cold.specs.StartupLaws.{StaysOn, SwitchesStarters}
+use Rattle.fr_cold.specs.declared.state.Switch.{Switch}
+use Rattle.fr_cold.specs.declared.state.Switch.TheVariants as switch
 use Rattle.fr_cold.specs.Rows.{power_row_of}
 use Rattle.fr_cold.specs.Reasons.{is_out_of_turn, last_at, last_in, power_reason_after, power_row_reason, switch_alike, switch_at, switch_in, switch_reason}
 use Rattle.fr_cluster.specs.Questions.{is_known}

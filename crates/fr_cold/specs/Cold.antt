@@ -1,10 +1,10 @@
 -- What a run of startup has come to.
 use Rattle.std.specs.Prelude.{ℕ, ◌-◌, ◌≡◌, ◌≤◌, List, [], ◌∷◌, slice_index_or, Option, Some, None}
 use Rattle.fr_cluster.specs.Values.{Values}
-use Rattle.fr_startup.specs.Cluster.{States, states_at}
-use Rattle.fr_startup.specs.Laws.{IsNumber}
-use Rattle.fr_startup.specs.declared.state.ColdState.{ColdState}
-use Rattle.fr_startup.specs.declared.state.ColdState.TheVariants as state
+use Rattle.fr_cold.specs.Cluster.{States, states_at}
+use Rattle.fr_cold.specs.StartupLaws.{IsNumber}
+use Rattle.fr_cold.specs.declared.state.ColdState.{ColdState}
+use Rattle.fr_cold.specs.declared.state.ColdState.TheVariants as state
 use Rattle.fr_cold.specs.View.{PowerView}
 use Rattle.fr_cold.specs.Questions.{macroticks_of_run, switches_of}
 use Rattle.fr_cold.specs.Leads.{leads_after}

@@ -3,9 +3,9 @@ use Rattle.std.specs.Prelude.{ℕ, zero, suc, ◌+◌, ◌-◌, ◌*◌, ◌≡�
 use Rattle.std.specs.Fmt.{decimal, signed_decimal}
 use Rattle.fr_cluster.specs.Values.{Values}
 use Rattle.fr_text.specs.Pieces.{line}
-use Rattle.fr_startup.specs.Node.{is_leading}
-use Rattle.fr_startup.specs.Cluster.{States, is_sharing, is_starter, macroticks_of_cycle, states_at}
-use Rattle.fr_startup.specs.Laws.{AreConnected, AtMostOneLeads, IsFirstOn, LeadsAlone}
+use Rattle.fr_cold.specs.Node.{is_leading}
+use Rattle.fr_cold.specs.Cluster.{States, is_sharing, is_starter, macroticks_of_cycle, states_at}
+use Rattle.fr_cold.specs.StartupLaws.{AreConnected, AtMostOneLeads, IsFirstOn, LeadsAlone}
 use Rattle.fr_cold.specs.View.{PowerView}
 use Rattle.fr_cold.specs.Questions.{IsNeverOff, cycles_of_power, macroticks_of_run, switches_of}
 use Rattle.fr_cold.specs.Leads.{leads_of}

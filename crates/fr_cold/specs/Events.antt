@@ -3,10 +3,10 @@ use Rattle.std.specs.Prelude.{ℕ, ◌-◌, ◌≡◌, ◌≤◌, ◌<◌, suc, 
 use Rattle.fr_base.specs.declared.channel.Channel.TheVariants as channel
 use Rattle.fr_cluster.specs.Values.{Values}
 use Rattle.fr_cluster.specs.Questions.{has_channel, node_of}
-use Rattle.fr_startup.specs.Node.{acts, sends}
-use Rattle.fr_startup.specs.Cluster.{Switches, action_of, macroticks_of_cycle, ready_states, states_at}
-use Rattle.fr_startup.specs.Laws.{IsNumber}
-use Rattle.fr_startup.specs.declared.state.ColdState.{ColdState}
+use Rattle.fr_cold.specs.Node.{acts, sends}
+use Rattle.fr_cold.specs.Cluster.{Switches, action_of, macroticks_of_cycle, ready_states, states_at}
+use Rattle.fr_cold.specs.StartupLaws.{IsNumber}
+use Rattle.fr_cold.specs.declared.state.ColdState.{ColdState}
 use Rattle.fr_cold.specs.View.{PowerView}
 use Rattle.fr_cold.specs.Questions.{IsUnswitched, macroticks_of_run, switches_of}
 use Rattle.fr_cold.specs.Cold.{ColdView, leads_left, state_in}

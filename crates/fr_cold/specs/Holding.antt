@@ -8,7 +8,7 @@ use Rattle.fr_records.specs.Fields.{field_of}
 use Rattle.fr_records.specs.Forms.{Form, number_field, misses_form, has_unknown_name, has_no_number, is_out_of_range}
 use Rattle.fr_records.specs.Least.{row_passes}
 use Rattle.fr_cluster.specs.Values.{Values}
-use Rattle.fr_startup.specs.Cluster.{is_starter}
+use Rattle.fr_cold.specs.Cluster.{is_starter}
 use Rattle.fr_cold.specs.Rows.{power_row_of}
 use Rattle.fr_cold.specs.Reasons.{cycles_at, is_out_of_turn, last_at}
 use Rattle.fr_cluster.specs.Questions.{is_known}

@@ -1,7 +1,7 @@
 -- The begins of leading in a run of startup, by time and then by node.
 use Rattle.std.specs.Prelude.{ℕ, zero, suc, pos, ◌-◌, ◌++◌, nat_lt, Bool, true, false, List, [], ◌∷◌}
 use Rattle.fr_cluster.specs.Values.{Values}
-use Rattle.fr_startup.specs.Cluster.{Switches, begins_at}
+use Rattle.fr_cold.specs.Cluster.{Switches, begins_at}
 use Rattle.fr_cold.specs.View.{PowerView}
 use Rattle.fr_cold.specs.Questions.{macroticks_of_run, switches_of}
 use Rattle.fr_cold.specs.declared.cold.Lead.{Lead}

@@ -1,4 +1,8 @@
 -- what the public contract cites
+pub mod Node
+pub mod Cluster
+pub mod StartupLaws
+pub mod Moves
 pub mod Keys
 pub mod Rows
 pub mod Reasons

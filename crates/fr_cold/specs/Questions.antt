@@ -1,9 +1,9 @@
 -- What a power file says of a run.
 use Rattle.std.specs.Prelude.{◌≢◌, ℕ, ◌≡◌, ◌*◌, Some, None, if◌then◌else◌}
 use Rattle.fr_cluster.specs.Values.{Values}
-use Rattle.fr_startup.specs.Cluster.{Switches, is_starter, macroticks_of_cycle}
-use Rattle.fr_startup.specs.Laws.{IsNumber}
-use Rattle.fr_startup.specs.declared.state.Switch.TheVariants as switch
+use Rattle.fr_cold.specs.Cluster.{Switches, is_starter, macroticks_of_cycle}
+use Rattle.fr_cold.specs.StartupLaws.{IsNumber}
+use Rattle.fr_cold.specs.declared.state.Switch.TheVariants as switch
 use Rattle.fr_cold.specs.View.{PowerView, switch_rows}
 
 -- how many cycles it has

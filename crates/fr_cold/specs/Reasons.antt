@@ -7,9 +7,9 @@ use Rattle.fr_records.specs.Records.{FileRecord}
 use Rattle.fr_records.specs.Fields.{looked_up, or_else}
 use Rattle.fr_cluster.specs.Values.{Values}
 use Rattle.fr_cluster.specs.Questions.{is_known}
-use Rattle.fr_startup.specs.Cluster.{is_starter}
-use Rattle.fr_startup.specs.declared.state.Switch.{Switch}
-use Rattle.fr_startup.specs.declared.state.Switch.TheVariants as switch
+use Rattle.fr_cold.specs.Cluster.{is_starter}
+use Rattle.fr_cold.specs.declared.state.Switch.{Switch}
+use Rattle.fr_cold.specs.declared.state.Switch.TheVariants as switch
 use Rattle.fr_cold.specs.Rows.{power_row_of}
 use Rattle.fr_cold.specs.declared.draft.Last.{Last}
 use Rattle.fr_cold.specs.declared.rows.SwitchRow.{SwitchRow}

@@ -5,8 +5,8 @@ use Rattle.fr_base.specs.declared.reason.Reason.{Reason}
 use Rattle.fr_base.specs.declared.reason.Reason.TheVariants as reason
 use Rattle.fr_records.specs.Records.{FileRecord}
 use Rattle.fr_records.specs.Fields.{both_of, field_of, is_blank, natural_of, or_reason}
-use Rattle.fr_startup.specs.declared.state.Switch.{Switch}
-use Rattle.fr_startup.specs.declared.state.Switch.TheVariants as switch
+use Rattle.fr_cold.specs.declared.state.Switch.{Switch}
+use Rattle.fr_cold.specs.declared.state.Switch.TheVariants as switch
 use Rattle.fr_cold.specs.declared.rows.Row.{Row}
 use Rattle.fr_cold.specs.declared.rows.Row.TheVariants as row
 

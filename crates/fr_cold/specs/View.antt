@@ -1,8 +1,8 @@
 -- What contracts see of a power file.
 use Rattle.std.specs.Prelude.{ℕ, ◌≡◌, Bool, true, false, refl, Option, List}
 use Rattle.std.specs.Coded.{Coded, code_by, coded×, coded_bool, coded_list, coded_ℕ}
-use Rattle.fr_startup.specs.declared.state.Switch.{Switch}
-use Rattle.fr_startup.specs.declared.state.Switch.TheVariants as switch
+use Rattle.fr_cold.specs.declared.state.Switch.{Switch}
+use Rattle.fr_cold.specs.declared.state.Switch.TheVariants as switch
 use Rattle.fr_cold.specs.Keys.{coded_key, power_cmp, power_key}
 use Rattle.fr_records.specs.Keys.{found_at}
 use Rattle.fr_cold.specs.Rows.{IsProperCycles}

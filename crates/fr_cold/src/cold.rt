@@ -1,5 +1,5 @@
 ghost use Rattle.std.specs.Prelude.{◌≡◌, ◌<◌, ◌+◌};
-ghost use Rattle.fr_startup.specs.Node.{is_leading};
+ghost use Rattle.fr_cold.specs.Node.{is_leading};
 ghost use Rattle.fr_cold.specs.View.{PowerView};
 ghost use Rattle.fr_cold.specs.Questions.{macroticks_of_run, switches_of};
 ghost use Rattle.fr_cold.specs.Leads.{lead_at, leads_of};
@@ -9,9 +9,9 @@ ghost use Rattle.fr_cold.specs.Events.{IsNextBeginner, IsSkipped, Steps};
 use crate::power::Power;
 use crate::table::StateTable;
 use crate::ticks::{cycle_length, end_tick, make_ready, move_all, next_event, switch_of};
+use crate::{is_leading, resolves};
 use fr_base::NodeId;
 use fr_cluster::Params;
-use fr_startup::{is_leading, resolves};
 use std::marker::Model;
 
 /// A node that begins to lead, and the macrotick at which it does, counted from the begin of the run.

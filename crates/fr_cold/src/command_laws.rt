@@ -6,8 +6,7 @@ ghost use Rattle.fr_records.specs.Files.{IsDecided};
 ghost use Rattle.fr_cold.specs.ColdAnswer.{cold_files};
 ghost use Rattle.fr_cold.specs.ColdText.{IsColdText, cold_text};
 
-use crate::switched_on_once;
-use fr_startup::{at_most_one_leads, the_first_leads};
+use crate::{at_most_one_leads, switched_on_once, the_first_leads};
 
 /// A law: what is printed of a startup says who leads; where every two coldstart nodes share a channel at most one
 /// node leads at each macrotick, and where besides none is switched off, it is the first.

@@ -1,5 +1,5 @@
 ghost use Rattle.std.specs.Prelude.{◌≡◌, ◌≤◌, ◌-◌, suc};
-ghost use Rattle.fr_startup.specs.Cluster.{is_starter};
+ghost use Rattle.fr_cold.specs.Cluster.{is_starter};
 ghost use Rattle.fr_cold.specs.ColdText.{least_apart, are_apart, one_more, first_pair_in, starters_up_to};
 
 use fr_base::{Channel, NodeId};

@@ -1,7 +1,7 @@
 ghost use Rattle.std.specs.Prelude.{◌≡◌, [], List, Some, IfOk};
 ghost use Rattle.std.specs.Option.{option_copied};
 ghost use Rattle.fr_cluster.specs.Values.{Values};
-ghost use Rattle.fr_startup.specs.Cluster.{is_starter};
+ghost use Rattle.fr_cold.specs.Cluster.{is_starter};
 ghost use Rattle.fr_cold.specs.Rows.{IsProperCycles};
 ghost use Rattle.fr_cold.specs.Reasons.{is_out_of_turn};
 ghost use Rattle.fr_cluster.specs.Questions.{is_known};
@@ -12,12 +12,12 @@ ghost use Rattle.fr_cold.specs.Keys.{power_cmp};
 ghost use Rattle.fr_cold.specs.Draft.{IsEntryPut, IsPowerDraft, TakesPowerRow, TakesPowerRowAtOnce};
 ghost use Rattle.fr_cold.specs.declared.rows.Row.TheVariants as said;
 
+use crate::Switch;
 use crate::keys::PowerKey;
 use crate::power::Power;
 use crate::rows::SwitchRow;
 use fr_base::{NodeId, Reason};
 use fr_cluster::Params;
-use fr_startup::Switch;
 use std::alloc::{AllocError, Global};
 use std::collections::BTreeMap;
 

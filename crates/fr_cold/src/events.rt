@@ -1,13 +1,13 @@
 ghost use Rattle.std.specs.Prelude.{◌≡◌, ◌≤◌, ◌<◌, ℕ, None, false};
 ghost use Rattle.std.specs.Ordering.{is_gt};
 ghost use Rattle.std.specs.BTreeMap.{get};
-ghost use Rattle.fr_startup.specs.Laws.{IsNumber};
+ghost use Rattle.fr_cold.specs.StartupLaws.{IsNumber};
 ghost use Rattle.fr_cold.specs.Keys.{power_cmp, power_key};
 ghost use Rattle.fr_cold.specs.Spans.{IsFirstIn};
 
+use crate::Switch;
 use crate::keys::PowerKey;
 use fr_base::NodeId;
-use fr_startup::Switch;
 use std::collections::BTreeMap;
 
 // The first key from `first` to `last` under which something stands.

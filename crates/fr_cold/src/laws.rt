@@ -3,7 +3,7 @@ ghost use Rattle.fr_records.specs.Least.{GivesLeast};
 ghost use Rattle.fr_cluster.specs.Values.{Values};
 ghost use Rattle.fr_cold.specs.Reasons.{power_reason_after};
 ghost use Rattle.fr_cold.specs.Holding.{power_holds};
-ghost use Rattle.fr_startup.specs.Laws.{StaysOn, SwitchesStarters};
+ghost use Rattle.fr_cold.specs.StartupLaws.{StaysOn, SwitchesStarters};
 ghost use Rattle.fr_cold.specs.View.{PowerView};
 ghost use Rattle.fr_cold.specs.Questions.{IsNeverOff, switches_of};
 ghost use Rattle.fr_cold.specs.Files.{PowerFits, power_file};

@@ -2,10 +2,10 @@ ghost use Rattle.std.specs.Prelude.{◌≡◌, ◌≤◌, ◌<◌, ℕ, Some, No
 ghost use Rattle.fr_cold.specs.Questions.{IsUnswitched, cycles_of_power};
 ghost use Rattle.fr_cold.specs.View.{switch_rows};
 
+use crate::Switch;
 use crate::events::next_switch;
 use crate::keys::PowerKey;
 use fr_base::NodeId;
-use fr_startup::Switch;
 use std::collections::BTreeMap;
 use std::marker::Model;
 

@@ -1,7 +1,7 @@
 ghost use Rattle.std.specs.Prelude.{◌≡◌, ◌≤◌, ◌-◌, ◌||◌, IfOk};
 ghost use Rattle.fr_base.specs.Device.{Puts};
 ghost use Rattle.fr_text.specs.Lines.{joined_lines};
-ghost use Rattle.fr_startup.specs.Node.{is_leading};
+ghost use Rattle.fr_cold.specs.Node.{is_leading};
 ghost use Rattle.fr_cold.specs.Cold.{StandsForStartup, leads_left, state_in};
 ghost use Rattle.fr_cold.specs.ColdText.{IsAtEnd, cold_text, connected_line, counts_line, does_any_lead, startup_head, lead_line, lead_text, leading_line, leading_lines, leading_text};
 

@@ -2,10 +2,10 @@ ghost use Rattle.std.specs.Prelude.{◌≡◌, IfOk};
 ghost use Rattle.csv.specs.Records.{fields_of};
 ghost use Rattle.fr_cold.specs.Rows.{IsProperPowerRow, cycles_row, power_file_row, power_row_of, switch_row};
 
+use crate::Switch;
 use csv::ByteRecord;
 use fr_base::{NodeId, Reason};
 use fr_records::{both, field, natural, reason_of};
-use fr_startup::Switch;
 
 /// A node that is switched at a macrotick.
 #[derive(Clone, Copy, Debug, PartialEq, Eq)]

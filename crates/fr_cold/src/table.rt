@@ -1,11 +1,11 @@
 ghost use Rattle.std.specs.Prelude.{◌≡◌, ℕ, ◌==◌, if◌then◌else◌};
-ghost use Rattle.fr_startup.specs.Laws.{IsNumber};
-ghost use Rattle.fr_startup.specs.Moves.{IsTimely};
-ghost use Rattle.fr_startup.specs.declared.state.ColdState.TheVariants as state;
+ghost use Rattle.fr_cold.specs.StartupLaws.{IsNumber};
+ghost use Rattle.fr_cold.specs.Moves.{IsTimely};
+ghost use Rattle.fr_cold.specs.declared.state.ColdState.TheVariants as state;
 ghost use Rattle.fr_cold.specs.Cold.{state_in};
 
+use crate::ColdState;
 use fr_base::NodeId;
-use fr_startup::ColdState;
 use std::marker::Model;
 
 // What each node does, in a fixed place by its number from 1 on.
@@ -16,8 +16,8 @@ pub(crate) struct StateTable {
 
 impl Model for StateTable {
     ghost use Rattle.std.specs.Prelude.{List, All};
-    ghost use Rattle.fr_startup.specs.Moves.{IsTimely};
-    ghost use Rattle.fr_startup.specs.declared.state.ColdState.{ColdState};
+    ghost use Rattle.fr_cold.specs.Moves.{IsTimely};
+    ghost use Rattle.fr_cold.specs.declared.state.ColdState.{ColdState};
 
     ghost Value = { List ColdState };
 

@@ -1,7 +1,7 @@
 ghost use Rattle.std.specs.Prelude.{◌≡◌, ◌≤◌, ◌&&◌, ◌||◌};
-ghost use Rattle.fr_startup.specs.Node.{sends};
-ghost use Rattle.fr_startup.specs.Moves.{IsTimely};
-ghost use Rattle.fr_startup.specs.Cluster.{States, action_of, is_busy, macroticks_of_cycle, moved_states, states_at};
+ghost use Rattle.fr_cold.specs.Node.{sends};
+ghost use Rattle.fr_cold.specs.Moves.{IsTimely};
+ghost use Rattle.fr_cold.specs.Cluster.{States, action_of, is_busy, macroticks_of_cycle, moved_states, states_at};
 ghost use Rattle.fr_cluster.specs.Questions.{has_channel, node_of};
 ghost use Rattle.fr_cold.specs.Questions.{macroticks_of_run, switches_of};
 ghost use Rattle.fr_cold.specs.Cold.{Agrees};
@@ -10,9 +10,9 @@ ghost use Rattle.fr_cold.specs.Events.{IsQuietUpTo, hears_by, ready_at};
 use crate::draft::is_starter;
 use crate::power::Power;
 use crate::table::StateTable;
+use crate::{ColdState, Switch, action, moved, quiet_before, ready, sends};
 use fr_base::{Channel, NodeId};
 use fr_cluster::{ParamName, Params};
-use fr_startup::{ColdState, Switch, action, moved, quiet_before, ready, sends};
 
 // The macroticks of a cycle.
 pub(crate) fn cycle_length(params: &Params) -> u32

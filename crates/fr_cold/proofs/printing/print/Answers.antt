@@ -1,7 +1,7 @@
 use Rattle.std.proofs.Common.{◌≡◌, ◌++◌, ◌∙◌, ap, ℕ, refl}
 use Rattle.fr_base.proofs.Putting.{cut, then}
 use Rattle.fr_text.specs.Lines.{joined_lines}
-use Rattle.fr_startup.specs.Cluster.{states_at}
+use Rattle.fr_cold.specs.Cluster.{states_at}
 use Rattle.fr_cold.specs.Cold.{leads_left, state_in}
 use Rattle.fr_cold.specs.Leads.{leads_of}
 use Rattle.fr_cold.specs.Questions.{macroticks_of_run, switches_of}

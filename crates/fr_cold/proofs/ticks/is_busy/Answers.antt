@@ -1,7 +1,7 @@
 use Rattle.std.proofs.Common.{◌≡◌, ◌∙◌, ◌-◌, ap, sym, arith, Bool, ℕ}
 use Rattle.std.specs.Prelude.{◌||◌}
-use Rattle.fr_startup.specs.Cluster.{is_busy}
-use Rattle.fr_startup.specs.Laws.{IsNumber}
+use Rattle.fr_cold.specs.Cluster.{is_busy}
+use Rattle.fr_cold.specs.StartupLaws.{IsNumber}
 use Rattle.fr_cold.proofs.Steps.{busy-more, busy-none}
 use Rattle.fr_cold.proofs.ticks.is_busy.Goals as goal
 

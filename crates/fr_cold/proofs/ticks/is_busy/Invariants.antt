@@ -1,5 +1,5 @@
 use Rattle.std.proofs.Common.{◌≡◌, ◌≤◌, ◌-◌}
-use Rattle.fr_startup.specs.Cluster.{States, is_busy}
+use Rattle.fr_cold.specs.Cluster.{States, is_busy}
 use Rattle.fr_cold.specs.Cold.{Agrees}
 use Rattle.fr_cold.proofs.ticks.is_busy.Given as goal
 

@@ -1,7 +1,7 @@
 use Rattle.std.proofs.Common.{◌∙◌, arith}
-use Rattle.fr_startup.specs.Cluster.{states_at}
-use Rattle.fr_startup.specs.Node.{resolved, switched}
-use Rattle.fr_startup.specs.Laws.{IsNumber}
+use Rattle.fr_cold.specs.Cluster.{states_at}
+use Rattle.fr_cold.specs.Node.{resolved, switched}
+use Rattle.fr_cold.specs.StartupLaws.{IsNumber}
 use Rattle.fr_cold.specs.Questions.{switches_of}
 use Rattle.fr_cold.specs.Events.{ready_at}
 use Rattle.fr_cold.proofs.Steps.{done-all, done-more, done-none, ready-is}

@@ -1,5 +1,5 @@
 use Rattle.std.proofs.Common.{◌≤◌}
-use Rattle.fr_startup.specs.Cluster.{states_at}
+use Rattle.fr_cold.specs.Cluster.{states_at}
 use Rattle.fr_cold.specs.Questions.{switches_of}
 use Rattle.fr_cold.specs.Events.{ready_at}
 use Rattle.fr_cold.proofs.Steps.{AreDone}

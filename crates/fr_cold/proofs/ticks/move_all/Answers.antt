@@ -1,7 +1,7 @@
 use Rattle.std.proofs.Common.{◌∙◌, arith}
-use Rattle.fr_startup.specs.Cluster.{moved_states}
-use Rattle.fr_startup.specs.Node.{heard, sent}
-use Rattle.fr_startup.specs.Laws.{IsNumber}
+use Rattle.fr_cold.specs.Cluster.{moved_states}
+use Rattle.fr_cold.specs.Node.{heard, sent}
+use Rattle.fr_cold.specs.StartupLaws.{IsNumber}
 use Rattle.fr_cold.proofs.Steps.{done-all, done-more, done-none, moved-is}
 use Rattle.fr_cold.proofs.ticks.move_all.Goals as goal
 

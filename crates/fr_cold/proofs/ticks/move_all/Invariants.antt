@@ -1,5 +1,5 @@
 use Rattle.std.proofs.Common.{◌≤◌}
-use Rattle.fr_startup.specs.Cluster.{States, moved_states}
+use Rattle.fr_cold.specs.Cluster.{States, moved_states}
 use Rattle.fr_cold.specs.Cold.{Agrees}
 use Rattle.fr_cold.proofs.Steps.{AreDone}
 use Rattle.fr_cold.proofs.ticks.move_all.Given as goal

@@ -1,5 +1,5 @@
 use Rattle.std.proofs.Common.{◌∙◌, sym, arith}
-use Rattle.fr_startup.specs.Node.{acts}
+use Rattle.fr_cold.specs.Node.{acts}
 use Rattle.fr_cold.proofs.Steps.{quiet-all, quiet-more, quiet-none}
 use Rattle.fr_cold.proofs.ticks.next_event.Goals as goal
 

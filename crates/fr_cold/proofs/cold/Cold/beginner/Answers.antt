@@ -1,8 +1,8 @@
 use Rattle.std.proofs.Common.{◌≡◌, ◌∙◌, ap, sym, arith, ℕ, List, true, false}
-use Rattle.fr_startup.specs.Cluster.{begins_at}
-use Rattle.fr_startup.specs.Laws.{IsNumber}
-use Rattle.fr_startup.specs.Node.{is_resolved, switched}
-use Rattle.fr_startup.specs.declared.state.ColdState.{ColdState}
+use Rattle.fr_cold.specs.Cluster.{begins_at}
+use Rattle.fr_cold.specs.StartupLaws.{IsNumber}
+use Rattle.fr_cold.specs.Node.{is_resolved, switched}
+use Rattle.fr_cold.specs.declared.state.ColdState.{ColdState}
 use Rattle.fr_cold.specs.Cold.{ColdView, state_in}
 use Rattle.fr_cold.specs.Questions.{switches_of}
 use Rattle.fr_cold.proofs.Runs.{asked-all, asked-none, asked-one, begins-is}

@@ -1,5 +1,5 @@
 use Rattle.std.proofs.Common.{◌≡◌, Option, true, false, refl, rules, sym, ap, ◌∙◌}
-use Rattle.fr_startup.specs.Cluster.{is_starter}
+use Rattle.fr_cold.specs.Cluster.{is_starter}
 use Rattle.fr_cold.specs.Reasons.{is_out_of_turn, last_at}
 use Rattle.fr_cluster.specs.Questions.{is_known}
 use Rattle.fr_cold.specs.declared.draft.Last.{Last}

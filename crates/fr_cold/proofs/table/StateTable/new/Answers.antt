@@ -1,8 +1,8 @@
 use Rattle.std.proofs.Common.{◌-◌, sym, subst, arith}
 use Rattle.std.proofs.lemmas.List.{get_or-replicate}
-use Rattle.fr_startup.specs.Moves.{IsTimely}
-use Rattle.fr_startup.specs.declared.state.ColdState.{ColdState}
-use Rattle.fr_startup.specs.declared.state.ColdState.TheVariants as state
+use Rattle.fr_cold.specs.Moves.{IsTimely}
+use Rattle.fr_cold.specs.declared.state.ColdState.{ColdState}
+use Rattle.fr_cold.specs.declared.state.ColdState.TheVariants as state
 use Rattle.fr_cold.proofs.table.StateTable.new.Goals as goal
 
 pub invariant_of-result : goal.invariant_of-result

@@ -1,9 +1,9 @@
 -- Macroticks of two nodes that are switched on together, computed: cycles of 5,000 macroticks, slots of 30, and an action
 -- point 7 macroticks into each.
 use Rattle.std.proofs.Common.{◌≡◌, true, false, Some, refl}
-use Rattle.fr_startup.specs.Node.{heard, is_resolved, is_turn, resolved, sends, sent, switched}
-use Rattle.fr_startup.specs.declared.state.ColdState.TheVariants as state
-use Rattle.fr_startup.specs.declared.state.Switch.TheVariants as switch
+use Rattle.fr_cold.specs.Node.{heard, is_resolved, is_turn, resolved, sends, sent, switched}
+use Rattle.fr_cold.specs.declared.state.ColdState.TheVariants as state
+use Rattle.fr_cold.specs.declared.state.Switch.TheVariants as switch
 
 listens : switched (Some switch.On) 4 state.Off ≡ state.Listening 4
 listens = refl

@@ -4,17 +4,17 @@ use Rattle.std.specs.Prelude.{◌==◌}
 use Rattle.std.proofs.lemmas.Bool.{cases_eq}
 use Rattle.fr_cluster.specs.Values.{Values}
 use Rattle.fr_cluster.specs.Sane.{IsSane}
-use Rattle.fr_startup.specs.Cluster.{Switches, action_of, is_starter, macroticks_of_cycle, ready_states, states_at}
-use Rattle.fr_startup.specs.Laws.{AreConnected, StaysOn, SwitchesStarters}
-use Rattle.fr_startup.specs.declared.state.ColdState.{ColdState}
-use Rattle.fr_startup.specs.declared.state.ColdState.TheVariants as state
-use Rattle.fr_startup.specs.declared.state.Switch.{Switch}
-use Rattle.fr_startup.specs.declared.state.Switch.TheVariants as switch
-use Rattle.fr_startup.proofs.Keys.{cycle-from}
-use Rattle.fr_startup.proofs.Turns.{turn-before}
-use Rattle.fr_startup.proofs.Hearing.{sender-deaf}
-use Rattle.fr_startup.proofs.Ages.{hears_at, sends_at}
-use Rattle.fr_startup.proofs.Steps.{move-due, move-off, move-on, next-anew, next-deaf, resolving-anew, resolving-deaf, sends-due, sends-not_due, sends-resolving}
+use Rattle.fr_cold.specs.Cluster.{Switches, action_of, is_starter, macroticks_of_cycle, ready_states, states_at}
+use Rattle.fr_cold.specs.StartupLaws.{AreConnected, StaysOn, SwitchesStarters}
+use Rattle.fr_cold.specs.declared.state.ColdState.{ColdState}
+use Rattle.fr_cold.specs.declared.state.ColdState.TheVariants as state
+use Rattle.fr_cold.specs.declared.state.Switch.{Switch}
+use Rattle.fr_cold.specs.declared.state.Switch.TheVariants as switch
+use Rattle.fr_cold.proofs.KeySlots.{cycle-from}
+use Rattle.fr_cold.proofs.StartupTurns.{turn-before}
+use Rattle.fr_cold.proofs.Hearing.{sender-deaf}
+use Rattle.fr_cold.proofs.Ages.{hears_at, sends_at}
+use Rattle.fr_cold.proofs.StartupSteps.{move-due, move-off, move-on, next-anew, next-deaf, resolving-anew, resolving-deaf, sends-due, sends-not_due, sends-resolving}
 
 -- a node that is off, or listens since some macrotick or a later one
 unfoldable pub IsLow : ℕ → ColdState → Type 0

@@ -5,14 +5,14 @@ use Rattle.std.proofs.lemmas.Bool.{cases_lt}
 use Rattle.std.proofs.lemmas.Bool.Decides.{nat_tests}
 use Rattle.fr_cluster.specs.Values.{Values}
 use Rattle.fr_cluster.specs.Sane.{IsSane}
-use Rattle.fr_startup.specs.Node.{is_leading, is_turn}
-use Rattle.fr_startup.specs.Cluster.{Switches, action_of, is_starter, macroticks_of_cycle, ready_states, states_at}
-use Rattle.fr_startup.specs.Laws.{AreConnected, AtMostOneLeads, IsNumber, SwitchesStarters}
-use Rattle.fr_startup.specs.declared.state.ColdState.{ColdState}
-use Rattle.fr_startup.specs.declared.state.ColdState.TheVariants as state
-use Rattle.fr_startup.proofs.Keys.{action-apart, action-within, cycle-from}
-use Rattle.fr_startup.proofs.Turns.{turn-below, turn-first, turn-only}
-use Rattle.fr_startup.proofs.Ages.{IsAged, Kept, hears_at, kept, next-as, on-starts, sends_at}
+use Rattle.fr_cold.specs.Node.{is_leading, is_turn}
+use Rattle.fr_cold.specs.Cluster.{Switches, action_of, is_starter, macroticks_of_cycle, ready_states, states_at}
+use Rattle.fr_cold.specs.StartupLaws.{AreConnected, AtMostOneLeads, IsNumber, SwitchesStarters}
+use Rattle.fr_cold.specs.declared.state.ColdState.{ColdState}
+use Rattle.fr_cold.specs.declared.state.ColdState.TheVariants as state
+use Rattle.fr_cold.proofs.KeySlots.{action-apart, action-within, cycle-from}
+use Rattle.fr_cold.proofs.StartupTurns.{turn-below, turn-first, turn-only}
+use Rattle.fr_cold.proofs.Ages.{IsAged, Kept, hears_at, kept, next-as, on-starts, sends_at}
 
 or-true : (x : Bool) → (x || true) ≡ true
 or-true true = refl
@@ -95,7 +95,7 @@ module _ (p : Values) (switches : Switches) (sane : IsSane p) (starters : Switch
           let at_j : states_at p switches t j ≡ state.Leading a.0 = b.1 ∙ ap (λ (x : ℕ). state.Leading x) same in
           action-apart p i j sane (starts t i a.0 a.1) (starts t j a.0 at_j) (together t i j a.0 number_i number_j a.1 at_j)
 
-  stays : (b : Bool) (t begun : ℕ) → Rattle.fr_startup.specs.Node.heard b t (state.Leading begun) ≡ state.Leading begun
+  stays : (b : Bool) (t begun : ℕ) → Rattle.fr_cold.specs.Node.heard b t (state.Leading begun) ≡ state.Leading begun
   stays true t begun = refl
   stays false t begun = refl
 

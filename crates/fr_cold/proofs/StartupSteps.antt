@@ -4,13 +4,13 @@ use Rattle.std.specs.Prelude.{◌==◌}
 use Rattle.std.proofs.lemmas.Bool.Decides.{nat_tests}
 use Rattle.fr_cluster.specs.Values.{Values}
 use Rattle.fr_cluster.specs.Sane.{IsSane}
-use Rattle.fr_startup.specs.Node.{heard, is_turn, sent}
-use Rattle.fr_startup.specs.Cluster.{Switches, action_of, macroticks_of_cycle, ready_states, states_at}
-use Rattle.fr_startup.specs.declared.state.ColdState.{ColdState}
-use Rattle.fr_startup.specs.declared.state.ColdState.TheVariants as state
-use Rattle.fr_startup.specs.declared.state.Switch.TheVariants as switch
-use Rattle.fr_startup.proofs.Ages.{hears_at, next-as, ready-as, sends-as, sends_at}
-use Rattle.fr_startup.proofs.Keys.{cycle-from}
+use Rattle.fr_cold.specs.Node.{heard, is_turn, sent}
+use Rattle.fr_cold.specs.Cluster.{Switches, action_of, macroticks_of_cycle, ready_states, states_at}
+use Rattle.fr_cold.specs.declared.state.ColdState.{ColdState}
+use Rattle.fr_cold.specs.declared.state.ColdState.TheVariants as state
+use Rattle.fr_cold.specs.declared.state.Switch.TheVariants as switch
+use Rattle.fr_cold.proofs.Ages.{hears_at, next-as, ready-as, sends-as, sends_at}
+use Rattle.fr_cold.proofs.KeySlots.{cycle-from}
 
 module _ (p : Values) (switches : Switches) (sane : IsSane p) (t j : ℕ) where
   -- whether it sends at the macrotick, and what it does after it

@@ -3,7 +3,7 @@ ghost use Rattle.fr_cluster.specs.Values.{amount};
 ghost use Rattle.fr_cluster.specs.Questions.{own_key};
 ghost use Rattle.fr_cluster.specs.declared.names.ParamName.TheVariants as name;
 ghost use Rattle.fr_time.specs.Slots.{action_point_of};
-ghost use Rattle.fr_startup.specs.Cluster.{action_of, macroticks_of_cycle};
+ghost use Rattle.fr_cold.specs.Cluster.{action_of, macroticks_of_cycle};
 
 use fr_base::{NodeId, Slot};
 use fr_cluster::{ParamName, Params};

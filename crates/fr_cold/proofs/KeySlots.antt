@@ -17,7 +17,7 @@ use Rattle.fr_cluster.proofs.Found.{find_keeps}
 use Rattle.fr_cluster.proofs.KeyNodes.{found_key, key_among}
 use Rattle.fr_time.specs.Slots.{action_point_of, slot_end_of}
 use Rattle.fr_time.proofs.Placing.{action_point_lt, slot_end_lt}
-use Rattle.fr_startup.specs.Cluster.{action_of, is_starter, macroticks_of_cycle}
+use Rattle.fr_cold.specs.Cluster.{action_of, is_starter, macroticks_of_cycle}
 
 some-same : {A : Type 0} (x y : A) → Some x ≡ Some y → x ≡ y
 some-same x y e = cc e

@@ -1,6 +1,6 @@
 ghost use Rattle.std.specs.Prelude.{◌≡◌, ◌≤◌, ◌<◌, ℕ, false};
-ghost use Rattle.fr_startup.specs.Node.{acts, heard, is_leading, is_resolved, is_turn, resolved, sends, sent, switched};
-ghost use Rattle.fr_startup.specs.Moves.{IsTimely};
+ghost use Rattle.fr_cold.specs.Node.{acts, heard, is_leading, is_resolved, is_turn, resolved, sends, sent, switched};
+ghost use Rattle.fr_cold.specs.Moves.{IsTimely};
 
 use crate::state::{ColdState, Switch};
 

@@ -1,4 +1,4 @@
-ghost use Rattle.fr_startup.specs.Laws.{AtMostOneEverLeads, TheFirstLeads};
+ghost use Rattle.fr_cold.specs.StartupLaws.{AtMostOneEverLeads, TheFirstLeads};
 
 /// A law: where every two coldstart nodes share a channel, at most one node leads at each macrotick, whenever
 /// which node is switched.

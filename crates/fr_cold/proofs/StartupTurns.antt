@@ -3,7 +3,7 @@ use Rattle.std.proofs.Common.{◌≡◌, ℕ, zero, suc, ◌+◌, ◌-◌, ◌*�
 use Rattle.std.specs.Prelude.{nat_lt}
 use Rattle.std.proofs.lemmas.Bool.Decides.{nat_tests}
 use Rattle.std.proofs.Math.Nat.{add-mul-mod_self_left, mul-mod_right}
-use Rattle.fr_startup.specs.Node.{is_turn}
+use Rattle.fr_cold.specs.Node.{is_turn}
 
 -- by whole cycles after the first
 pub turn-at : (first cycle n : ℕ) → is_turn first cycle (first + cycle * n) ≡ true

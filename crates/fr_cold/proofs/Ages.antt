@@ -5,15 +5,15 @@ use Rattle.std.proofs.lemmas.Bool.{cases_eq}
 use Rattle.std.proofs.lemmas.Bool.Decides.{nat_tests}
 use Rattle.fr_cluster.specs.Values.{Values}
 use Rattle.fr_cluster.specs.Sane.{IsSane}
-use Rattle.fr_startup.specs.Node.{heard, is_turn, resolved, sends, sent, switched}
-use Rattle.fr_startup.specs.Cluster.{Switches, action_of, after_macrotick, is_hearing, is_sending, is_starter, macroticks_of_cycle, moved_states, ready_states, states_at}
-use Rattle.fr_startup.specs.Laws.{AreConnected, IsNumber, SwitchesStarters}
-use Rattle.fr_startup.specs.declared.state.ColdState.{ColdState}
-use Rattle.fr_startup.specs.declared.state.ColdState.TheVariants as state
-use Rattle.fr_startup.specs.declared.state.Switch.{Switch}
-use Rattle.fr_startup.specs.declared.state.Switch.TheVariants as switch
-use Rattle.fr_startup.proofs.Hearing.{hears-not, sender-deaf}
-use Rattle.fr_startup.proofs.Keys.{cycle-from}
+use Rattle.fr_cold.specs.Node.{heard, is_turn, resolved, sends, sent, switched}
+use Rattle.fr_cold.specs.Cluster.{Switches, action_of, after_macrotick, is_hearing, is_sending, is_starter, macroticks_of_cycle, moved_states, ready_states, states_at}
+use Rattle.fr_cold.specs.StartupLaws.{AreConnected, IsNumber, SwitchesStarters}
+use Rattle.fr_cold.specs.declared.state.ColdState.{ColdState}
+use Rattle.fr_cold.specs.declared.state.ColdState.TheVariants as state
+use Rattle.fr_cold.specs.declared.state.Switch.{Switch}
+use Rattle.fr_cold.specs.declared.state.Switch.TheVariants as switch
+use Rattle.fr_cold.proofs.Hearing.{hears-not, sender-deaf}
+use Rattle.fr_cold.proofs.KeySlots.{cycle-from}
 
 -- whether a node sends at a macrotick of the run, and whether it hears something
 abbrev pub sends_at : Values → Switches → ℕ → ℕ → Bool

@@ -1,7 +1,7 @@
 use Rattle.std.proofs.Common.{◌≡◌, ◌∙◌, sym}
-use Rattle.fr_startup.specs.Cluster.{action_of}
-use Rattle.fr_startup.proofs.Keys.{action-none, action-own, action-within, own-static}
-use Rattle.fr_startup.proofs.actions.action.Goals as goal
+use Rattle.fr_cold.specs.Cluster.{action_of}
+use Rattle.fr_cold.proofs.KeySlots.{action-none, action-own, action-within, own-static}
+use Rattle.fr_cold.proofs.actions.action.Goals as goal
 
 pub point-requires : goal.point-requires
 point-requires c = (own-static c.args.params.now c.args.node c.in-Some.slot c.value-cycle.ensures.sane (sym c.in-Some.ensures)).1

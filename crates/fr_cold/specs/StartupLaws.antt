@@ -3,9 +3,9 @@ use Rattle.std.specs.Prelude.{ℕ, ◌+◌, ◌*◌, ◌≡◌, ◌≢◌, ◌�
 use Rattle.fr_cluster.specs.Values.{Values}
 use Rattle.fr_cluster.specs.Sane.{IsSane}
 use Rattle.fr_cluster.specs.Questions.{own_key}
-use Rattle.fr_startup.specs.Node.{is_leading}
-use Rattle.fr_startup.specs.Cluster.{Switches, begins_at, is_sharing, is_starter, macroticks_of_cycle, ready_states, states_at}
-use Rattle.fr_startup.specs.declared.state.Switch.TheVariants as switch
+use Rattle.fr_cold.specs.Node.{is_leading}
+use Rattle.fr_cold.specs.Cluster.{Switches, begins_at, is_sharing, is_starter, macroticks_of_cycle, ready_states, states_at}
+use Rattle.fr_cold.specs.declared.state.Switch.TheVariants as switch
 
 -- a node's number
 pub record IsNumber (node : ℕ) : Type 0 where

@@ -6,8 +6,8 @@ use Rattle.fr_base.specs.declared.channel.Channel.{Channel}
 use Rattle.fr_base.specs.declared.channel.Channel.TheVariants as channel
 use Rattle.fr_cluster.specs.Values.{Values}
 use Rattle.fr_cluster.specs.Questions.{has_channel, node_of}
-use Rattle.fr_startup.specs.Cluster.{States, is_busy, is_hearing, is_sending, is_sharing}
-use Rattle.fr_startup.specs.Laws.{IsNumber}
+use Rattle.fr_cold.specs.Cluster.{States, is_busy, is_hearing, is_sending, is_sharing}
+use Rattle.fr_cold.specs.StartupLaws.{IsNumber}
 
 or-right : (x : Bool) → (x || true) ≡ true
 or-right true = refl

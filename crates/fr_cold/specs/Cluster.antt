@@ -7,10 +7,10 @@ use Rattle.fr_cluster.specs.Values.{Values, amount}
 use Rattle.fr_cluster.specs.Questions.{has_channel, is_common, node_of, own_key}
 use Rattle.fr_cluster.specs.declared.names.ParamName.TheVariants as name
 use Rattle.fr_time.specs.Slots.{action_point_of}
-use Rattle.fr_startup.specs.Node.{heard, is_resolved, resolved, sends, sent, switched}
-use Rattle.fr_startup.specs.declared.state.ColdState.{ColdState}
-use Rattle.fr_startup.specs.declared.state.ColdState.TheVariants as state
-use Rattle.fr_startup.specs.declared.state.Switch.{Switch}
+use Rattle.fr_cold.specs.Node.{heard, is_resolved, resolved, sends, sent, switched}
+use Rattle.fr_cold.specs.declared.state.ColdState.{ColdState}
+use Rattle.fr_cold.specs.declared.state.ColdState.TheVariants as state
+use Rattle.fr_cold.specs.declared.state.Switch.{Switch}
 
 -- how each node is switched at each macrotick: by macrotick, and then by the node's number
 abbrev pub Switches : Type 0

@@ -5,18 +5,18 @@ use Rattle.std.proofs.lemmas.Bool.{cases_eq, cases_lt}
 use Rattle.std.proofs.lemmas.Bool.Decides.{nat_tests}
 use Rattle.fr_cluster.specs.Values.{Values}
 use Rattle.fr_cluster.specs.Sane.{IsSane}
-use Rattle.fr_startup.specs.Node.{is_leading, is_resolved, is_turn}
-use Rattle.fr_startup.specs.Cluster.{Switches, action_of, begins_at, is_starter, macroticks_of_cycle, ready_states, states_at}
-use Rattle.fr_startup.specs.Laws.{AreConnected, IsFirstOn, IsNumber, LeadsAlone, StaysOn, SwitchesStarters}
-use Rattle.fr_startup.specs.declared.state.ColdState.{ColdState}
-use Rattle.fr_startup.specs.declared.state.ColdState.TheVariants as state
-use Rattle.fr_startup.specs.declared.state.Switch.TheVariants as switch
-use Rattle.fr_startup.proofs.Keys.{HasKey, action-apart, action-is, action-order, action-within, cycle-from, has-key, own-key}
-use Rattle.fr_startup.proofs.Turns.{turn-at, turn-before, turn-between, turn-first}
-use Rattle.fr_startup.proofs.Hearing.{hears-none, hears-one, sender-deaf}
-use Rattle.fr_startup.proofs.Ages.{hears_at, on-starts, ready-as, sends_at, starts-off}
-use Rattle.fr_startup.proofs.Steps.{leading-goes-on, move-due, move-off, move-on, next-deaf, resolving-deaf, sends-due, sends-not_due, sends-resolving}
-use Rattle.fr_startup.proofs.First.{Contends, IsLow, IsRival, contends-deaf, contends-hears, contends-quiet, is-equal, low-deaf, low-hears, low-quiet, not-equal, on-or-none, on-starter, rival-deaf, rival-low, rival-sends}
+use Rattle.fr_cold.specs.Node.{is_leading, is_resolved, is_turn}
+use Rattle.fr_cold.specs.Cluster.{Switches, action_of, begins_at, is_starter, macroticks_of_cycle, ready_states, states_at}
+use Rattle.fr_cold.specs.StartupLaws.{AreConnected, IsFirstOn, IsNumber, LeadsAlone, StaysOn, SwitchesStarters}
+use Rattle.fr_cold.specs.declared.state.ColdState.{ColdState}
+use Rattle.fr_cold.specs.declared.state.ColdState.TheVariants as state
+use Rattle.fr_cold.specs.declared.state.Switch.TheVariants as switch
+use Rattle.fr_cold.proofs.KeySlots.{HasKey, action-apart, action-is, action-order, action-within, cycle-from, has-key, own-key}
+use Rattle.fr_cold.proofs.StartupTurns.{turn-at, turn-before, turn-between, turn-first}
+use Rattle.fr_cold.proofs.Hearing.{hears-none, hears-one, sender-deaf}
+use Rattle.fr_cold.proofs.Ages.{hears_at, on-starts, ready-as, sends_at, starts-off}
+use Rattle.fr_cold.proofs.StartupSteps.{leading-goes-on, move-due, move-off, move-on, next-deaf, resolving-deaf, sends-due, sends-not_due, sends-resolving}
+use Rattle.fr_cold.proofs.First.{Contends, IsLow, IsRival, contends-deaf, contends-hears, contends-quiet, is-equal, low-deaf, low-hears, low-quiet, not-equal, on-or-none, on-starter, rival-deaf, rival-low, rival-sends}
 
 module _ (p : Values) (switches : Switches) (at i : ℕ) (sane : IsSane p) (starters : SwitchesStarters p switches) (joined : AreConnected p) (stays : StaysOn switches) (first : IsFirstOn p switches at i) where
   -- the macrotick of its symbol, that of its first startup frame, and those of the later ones

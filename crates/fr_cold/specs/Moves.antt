@@ -1,7 +1,7 @@
 -- The states whose times are those of a run.
 use Rattle.std.specs.Prelude.{◌≤◌}
-use Rattle.fr_startup.specs.declared.state.ColdState.{ColdState}
-use Rattle.fr_startup.specs.declared.state.ColdState.TheVariants as state
+use Rattle.fr_cold.specs.declared.state.ColdState.{ColdState}
+use Rattle.fr_cold.specs.declared.state.ColdState.TheVariants as state
 
 -- the macrotick from which on a node does what it does lies in the run, of at most 16,000,000 macroticks
 abbrev pub IsTimely : ColdState → Type 0

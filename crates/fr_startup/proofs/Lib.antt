@@ -1,9 +1,0 @@
-pub mod Keys
-pub mod Hearing
-pub mod Turns
-pub mod Ages
-pub mod Leaders
-pub mod Steps
-pub mod First
-pub mod Phases
-pub mod Worked

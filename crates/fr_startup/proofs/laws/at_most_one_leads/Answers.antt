@@ -1,5 +1,0 @@
-use Rattle.fr_startup.proofs.Leaders.{at-most-one}
-use Rattle.fr_startup.proofs.laws.at_most_one_leads.Goals as goal
-
-pub returns : goal.returns
-returns c = at-most-one
