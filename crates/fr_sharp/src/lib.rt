@@ -2,6 +2,10 @@
 //! rows and values, without arbitrary nodes and beside them. Nothing here runs.
 #![tactic(auto)]
 
+mod lengths;
 mod midpoints;
+mod steady;
 
+pub use lengths::{lengths_come_near, ranges_walk};
 pub use midpoints::midpoints_agree;
+pub use steady::{pairs_are_steady, steady_values_place};
