@@ -2,5 +2,8 @@ pub mod SaidLemmas
 pub mod Signed
 pub mod Walks
 pub mod Zips
-pub mod LengthLemmas
 pub mod SteadyLemmas
+pub mod LengthLemmas
+pub mod Tails
+pub mod EndLemmas
+pub mod NearLemmas

@@ -1,5 +1,7 @@
 -- what the public contract cites
+pub mod Ends
 pub mod Lengths
+pub mod Nearness
 pub mod Said
 pub mod SharpBounds
 pub mod SharpChecks
