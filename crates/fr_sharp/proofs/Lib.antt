@@ -2,8 +2,12 @@ pub mod SaidLemmas
 pub mod Signed
 pub mod Walks
 pub mod Zips
+pub mod BoundLemmas
 pub mod SteadyLemmas
 pub mod LengthLemmas
 pub mod Tails
 pub mod EndLemmas
 pub mod NearLemmas
+pub mod StepLemmas
+pub mod SharpRows
+pub mod SharpWorked

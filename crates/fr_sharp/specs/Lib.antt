@@ -5,4 +5,5 @@ pub mod Nearness
 pub mod Said
 pub mod SharpBounds
 pub mod SharpChecks
+pub mod SharpStep
 pub mod Steady

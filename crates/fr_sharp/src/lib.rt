@@ -2,14 +2,18 @@
 //! rows and values, without arbitrary nodes and beside them. Nothing here runs.
 #![tactic(auto)]
 
+mod bounds;
 mod ends;
 mod lengths;
 mod midpoints;
 mod nearness;
 mod steady;
+mod step;
 
+pub use bounds::{sharp_bounds_are_below, sharp_checks_suffice, walks_are_bounded};
 pub use ends::ends_come_near;
 pub use lengths::{lengths_come_near, ranges_walk};
 pub use midpoints::midpoints_agree;
 pub use nearness::nodes_lie_near;
 pub use steady::{pairs_are_steady, steady_values_place};
+pub use step::{sharp_spreads_shrink, sharp_sync_is_kept};
