@@ -1,5 +1,5 @@
 -- The sharper bounds, checks and walk.
-use Rattle.std.proofs.Common.{◌≡◌, ℕ, zero, suc, ◌+◌, ◌-◌, ◌*◌, ◌/◌, ◌%◌, ◌<◌, ◌≤◌, Bool, true, false, if◌then◌else◌, ℤ, pos, negsuc, Some, None, List, [], ◌∷◌, All, refl, ap, sym, ◌∙◌, subst, arith}
+use Rattle.std.proofs.Common.{◌≡◌, ℕ, zero, suc, ◌+◌, ◌-◌, ◌*◌, ◌/◌, ◌%◌, ◌<◌, ◌≤◌, Bool, true, false, if◌then◌else◌, ℤ, pos, negsuc, Some, None, IfSome, List, [], ◌∷◌, All, refl, ap, sym, ◌∙◌, subst, arith}
 use Rattle.std.specs.Prelude.{◌+ℤ◌, ◌-ℤ◌, ◌*ℤ◌, ◌≤ℤ◌, ◌<ℤ◌, ◌↔◌, Contains, int_le, int_lt, max, nat_abs, nat_le, nat_lt}
 use Rattle.std.proofs.lemmas.Bool.Decides.{nat_tests}
 use Rattle.std.proofs.lemmas.Int.{ints}
@@ -9,7 +9,7 @@ use Rattle.fr_cluster.specs.Values.{Values, amount}
 use Rattle.fr_cluster.specs.Sane.{IsSane}
 use Rattle.fr_cluster.specs.Constraints.{correction_macros, key_slots, least_micros}
 use Rattle.fr_cluster.specs.declared.names.ParamName.TheVariants as name
-use Rattle.fr_midpoint.proofs.Products.{mulz_from, mulz-lez_left, subz-mulz}
+use Rattle.fr_midpoint.proofs.Products.{addz-mulz, mulz_from, mulz-lez_left, subz-mulz}
 use Rattle.fr_time.specs.Position.{floor_of}
 use Rattle.fr_time.specs.Slots.{action_point_of, slot_end_of}
 use Rattle.fr_time.proofs.Placing.{action_point_lt, slot_end_lt}
@@ -21,8 +21,8 @@ use Rattle.fr_precision.specs.Reception.{LeavesRoom}
 use Rattle.fr_precision.proofs.Figures.{nat_le-true, natural, times_natural}
 use Rattle.fr_precision.proofs.PlacementLaws.{limit_below}
 use Rattle.fr_sharp.specs.SharpBounds.{last_action, last_of, near_by, odd_spread, precision_by, rate_room, rate_walk, sharp_lambda, sharp_near, sharp_pi, sharp_precision, steady_error, walk_lasts, wide_change, AloneIsBelow, NearIsBelow, SharpIsBelow}
-use Rattle.fr_sharp.specs.SharpChecks.{sharp_holds_of, BoundsWalk, FirstCheckStopsWalk, LastsSoLong, OlderChecksSuffice, RateSuffices, SharpChecksHold, SharpChecksSuffice, StillSuffices, WalkIsBounded}
-use Rattle.fr_sharp.specs.Lengths.{CanWalk}
+use Rattle.fr_sharp.specs.SharpChecks.{sharp_holds_of, BoundsWalk, FirstCheckStopsWalk, OlderChecksSuffice, RateSuffices, SharpChecksHold, SharpChecksSuffice, WalkIsBounded}
+use Rattle.fr_sharp.specs.Lengths.{CanWalk, WalkIsHeld}
 use Rattle.fr_sharp.specs.SharpStep.{IsSharpReach, KeySlotsActEarly, SharpChecksReach}
 use Rattle.fr_sharp.proofs.Signed.{one_more, signed_of}
 
@@ -230,18 +230,18 @@ first_check_stops_walk p flutter reach sane =
     stops_by (int_lt (pos 0) p.damping) p.damping (amount p name.pClusterDriftDamping * shortest_micro p) (shortest_micro p) (longest_micro p) flutter (cycle_change p) (wide_change p) refl s.c_from
     (times_natural p.damping (shortest_micro p) s.c_from) micros.0 micros.1
 
-pub still_suffices : StillSuffices
+-- the rate limit suffices for ever where lengths do not walk
+pub still_suffices : (p : Values) (flutter : ℕ) → holds_of 2 p ≡ true → rate_walk p flutter ≤ℤ pos 0 → RateSuffices p (pos 0 +ℤ rate_walk p flutter)
 still_suffices p flutter second still = step (right_of 2 p) (left_of 2 p) (rate_walk p flutter) (nat_le-true (right_of 2 p) (left_of 2 p) second) still
   where
     step : (a b : ℕ) (w : ℤ) → a ≤ b → w ≤ℤ pos 0 → (pos a +ℤ (pos 0 +ℤ w)) ≤ℤ pos b
     step a b w le still = omega (arith, ints, le, still)
 
-lasts_by : (b : Bool) (walk : ℤ) (room lasts passed need limit : ℕ) → int_le walk (pos 0) ≡ b → (if b then None else Some (room / nat_abs walk)) ≡ Some lasts → passed < lasts → room ≡ limit - need → need ≤ limit
+-- else in each double cycle before the walk has used up its room
+suffices_by : (walk : ℤ) (room lasts passed need limit : ℕ) → int_le walk (pos 0) ≡ false → room / nat_abs walk ≡ lasts → passed < lasts → room ≡ limit - need → need ≤ limit
     → (pos need +ℤ ((pos passed *ℤ walk) +ℤ walk)) ≤ℤ pos limit
-lasts_by true walk room lasts passed need limit is told before room_is fits = absurd (cc)
-lasts_by false walk room lasts passed need limit is told before room_is fits =
+suffices_by walk room lasts passed need limit is same before room_is fits =
     let k = nat_abs walk in
-    let same : room / k ≡ lasts = cc in
     let whole : room / k * k + room % k ≡ room = div-add-mod' room k in
     let most : lasts * k ≤ room = up_to (room / k) lasts k (room % k) room same whole in
     let fewer : (passed + 1) * k ≤ lasts * k = mul-le-mul_right k (next passed lasts before) in
@@ -262,9 +262,54 @@ lasts_by false walk room lasts passed need limit is told before room_is fits =
     sum : (pk qk lk k room need limit : ℕ) (walk product : ℤ) → product ≡ pos pk → walk ≡ pos k → qk ≡ pk + k → qk ≤ lk → lk ≤ room → room ≡ limit - need → need ≤ limit → (pos need +ℤ (product +ℤ walk)) ≤ℤ pos limit
     sum pk qk lk k room need limit walk product a b c d e f g = omega (arith, ints)
 
-pub lasts_so_long : LastsSoLong
-lasts_so_long p flutter lasts passed second told before =
-    lasts_by (int_le (rate_walk p flutter) (pos 0)) (rate_walk p flutter) (rate_room p) lasts passed (right_of 2 p) (left_of 2 p) refl told before refl (nat_le-true (right_of 2 p) (left_of 2 p) second)
+-- the numbers of a double cycle, and of the one after it
+Held : Values → ℕ → ℕ → Bool → Type 0
+Held p flutter passed stops =
+    CanWalk p flutter (if stops then pos 0 else pos passed *ℤ rate_walk p flutter) (rate_walk p flutter)
+    × (pos 0 ≤ℤ (if stops then pos 0 else pos (passed + 1) *ℤ rate_walk p flutter))
+    × (((if stops then pos 0 else pos passed *ℤ rate_walk p flutter) +ℤ rate_walk p flutter) ≤ℤ (if stops then pos 0 else pos (passed + 1) *ℤ rate_walk p flutter))
+
+held_by : (p : Values) (flutter passed : ℕ) (stops : Bool) → IsSane p → holds_of 2 p ≡ true → int_le (rate_walk p flutter) (pos 0) ≡ stops
+    → IfSome (if stops then None else Some (rate_room p / nat_abs (rate_walk p flutter))) (λ lasts. passed < lasts) → Held p flutter passed stops
+held_by p flutter passed true sane second is before =
+    let still = at_most (rate_walk p flutter) is in
+    (record { bounds = walk_is_bounded p flutter sane; suffices = still_suffices p flutter second still }, nothing, none (rate_walk p flutter) still)
+  where
+    at_most : (w : ℤ) → int_le w (pos 0) ≡ true → w ≤ℤ pos 0
+    at_most w is = omega (arith, ints, is)
+
+    nothing : pos 0 ≤ℤ pos 0
+    nothing = omega (arith, ints)
+
+    none : (w : ℤ) → w ≤ℤ pos 0 → (pos 0 +ℤ w) ≤ℤ pos 0
+    none w le = omega (arith, ints, le)
+held_by p flutter passed false sane second is before =
+    let walk = rate_walk p flutter in
+    let more : pos (passed + 1) *ℤ walk ≡ (pos passed *ℤ walk) +ℤ walk = addz-mulz (pos passed) (pos 1) walk ∙ ap (λ x. (pos passed *ℤ walk) +ℤ x) (once walk) in
+    (
+      record {
+        bounds = walk_is_bounded p flutter sane;
+        suffices =
+            suffices_by walk (rate_room p) (rate_room p / nat_abs walk) passed (right_of 2 p) (left_of 2 p) is refl before refl (nat_le-true (right_of 2 p) (left_of 2 p) second);
+      },
+      mulz_from (pos (passed + 1)) walk (no_less (passed + 1)) (above walk is),
+      same (pos passed *ℤ walk) walk (pos (passed + 1) *ℤ walk) more,
+    )
+  where
+    once : (t : ℤ) → pos 1 *ℤ t ≡ t
+    once t = omega (arith, ints)
+
+    no_less : (n : ℕ) → pos 0 ≤ℤ pos n
+    no_less n = omega (arith, ints)
+
+    above : (w : ℤ) → int_le w (pos 0) ≡ false → pos 0 ≤ℤ w
+    above w is = omega (arith, ints, is)
+
+    same : (a w b : ℤ) → b ≡ a +ℤ w → (a +ℤ w) ≤ℤ b
+    same a w b is = omega (arith, ints, is)
+
+pub walk_is_held : WalkIsHeld
+walk_is_held p flutter passed sane second before = held_by p flutter passed (int_le (rate_walk p flutter) (pos 0)) sane second refl before
 
 -- ---- the checks
 

@@ -32,7 +32,7 @@ use Rattle.fr_sharp.specs.SharpChecks.{sharp_holds_of, SharpChecksHold}
 use Rattle.fr_sharp.specs.Steady.{IsSteadyPair, PlacesEven}
 use Rattle.fr_sharp.specs.Lengths.{CanWalk, IsAboutCycle, IsSteadyRound, KeepSenders}
 use Rattle.fr_sharp.specs.SharpStep.{AllKeepSenders, AreSharp, ComputesSharply, IsHeardByAll, IsInSharpSync, StaySharp}
-use Rattle.fr_sharp.proofs.BoundLemmas.{still_suffices, walk_is_bounded}
+use Rattle.fr_sharp.proofs.BoundLemmas.{walk_is_held}
 use Rattle.fr_sharp.proofs.SharpRows.{set_of}
 use Rattle.fr_sharp.proofs.SteadyLemmas.{counted_are_steady, steady_values_place_lem}
 use Rattle.fr_sharp.proofs.StepLemmas.{next_is_in_sharp_sync, sharp_sync_is_kept_lem}
@@ -501,8 +501,9 @@ checks true (suc (suc (suc (suc zero)))) from to = refl
 checks true (suc (suc (suc (suc (suc zero))))) from to = refl
 checks beside (suc (suc (suc (suc (suc (suc k)))))) from to = absurd (omega (arith, to))
 
+-- whatever many double cycles have passed, the rate limit suffices: these rates walk back
 can_walk : CanWalk cluster 0 (pos 0) (rate_walk cluster 0)
-can_walk = record { bounds = walk_is_bounded cluster 0 is_sane; suffices = still_suffices cluster 0 refl (record { le = tt }) }
+can_walk = (walk_is_held cluster 0 7 is_sane refl tt).0
 
 -- they stay in sharp sync, with no macrotick further apart than the precision: here of nodes 1 and 3
 stay : (beside : Bool) → StaySharp beside cluster 0 (pos 0) (first_member beside) third_member

@@ -10,8 +10,8 @@ use Rattle.fr_cluster.specs.Values.{Values}
 use Rattle.fr_cluster.specs.Sane.{IsSane}
 use Rattle.fr_time.specs.Position.{floor_of}
 use Rattle.fr_bound.specs.Bounds.{arrival_error, cycle_change, longest_micro}
-use Rattle.fr_bound.specs.Sync.{cycle_length_of}
-use Rattle.fr_precision.specs.Rows.{corrected_end_of, KeepOne, Sender}
+use Rattle.fr_bound.specs.Sync.{cycle_length_of, IsCycleLength}
+use Rattle.fr_precision.specs.Rows.{corrected_end_of, longest_cycle, shortest_cycle, KeepOne, Sender}
 use Rattle.fr_precision.specs.Instants.{gap_of, row_in, LieNear, Runs}
 use Rattle.fr_precision.specs.Offsets.{IsSending}
 use Rattle.fr_precision.specs.Placement.{IsRegular}
@@ -24,7 +24,7 @@ use Rattle.fr_sharp.specs.SharpBounds.{last_action, near_by, odd_spread, precisi
 use Rattle.fr_sharp.specs.SharpChecks.{SharpChecksHold}
 use Rattle.fr_sharp.specs.Lengths.{CanWalk, EvensAreAbout, IsAboutCycle, IsNextEven, KeepSenders, LengthsCome}
 use Rattle.fr_sharp.specs.Ends.{EndsCome, SendApart, TakesOffsets}
-use Rattle.fr_sharp.specs.SharpStep.{ActionsLieInReach, AreSharp, ComeSharply, ComputesSharply, DrawsTo, IsHeardByAll, IsInSharpSync, IsSharpReach, MacroticksStaySharp, NextIsInSharpSync, NextIsSharp, ReceiversComeSharply, SharpSpreadsShrink, SharpSyncDraws, SharpSyncIsKept, StaySharp, TakesSharply}
+use Rattle.fr_sharp.specs.SharpStep.{ActionsLieInReach, AreSharp, ComeSharply, ComputesSharply, DrawsTo, InSyncIsSharp, IsHeardByAll, IsInSharpSync, IsSharpReach, MacroticksStaySharp, NextIsInSharpSync, NextIsSharp, ReceiversComeSharply, SharpSpreadsShrink, SharpSyncDraws, SharpSyncIsKept, StaySharp, TakesSharply}
 use Rattle.fr_sharp.proofs.BoundLemmas.{sharp_checks_reach}
 use Rattle.fr_sharp.proofs.EndLemmas.{ends_come_near_lem}
 use Rattle.fr_sharp.proofs.LengthLemmas.{lengths_come_near_lem, range_walks}
@@ -321,3 +321,18 @@ next_is_in_sharp_sync beside p flutter senders nodes beyond walk next next_even 
           next_is_sharp beside p flutter senders nodes pi lambda pi lambda beyond walk next (pos (near_by p pi lambda)) (pos (last_action p)) next_even next_odd is next_from to_next (sharp_sync_draws beside p flutter)
           sync.rows heard followed;
     }
+
+-- ---- from the older sync
+
+pub in_sync_is_sharp : InSyncIsSharp
+in_sync_is_sharp p even odd sync = record {
+  starts_lie = sync.starts;
+  lengths_lie = sync.even_lengths;
+  about = All-along (λ row. IsCycleLength p (cycle_length_of p row)) (λ row. IsAboutCycle p (pos 0) (cycle_length_of p row)) even (λ row is. about (cycle_length_of p row) is) sync.even_proper;
+}
+  where
+    about : (long : ℤ) → IsCycleLength p long → IsAboutCycle p (pos 0) long
+    about long is = step (shortest_cycle p) (longest_cycle p) long is.0 is.1
+      where
+        step : (a b : ℕ) (x : ℤ) → pos a ≤ℤ x → x ≤ℤ pos b → IsBetween (pos a -ℤ pos 0) (pos b +ℤ pos 0) x
+        step a b x low high = record { low = omega (arith, ints); high = omega (arith, ints) }

@@ -1,5 +1,5 @@
 -- The sharper laws of rates: what rate correction makes of the lengths of the next even cycles.
-use Rattle.std.specs.Prelude.{ℕ, ◌≡◌, ◌+◌, ◌≤◌, Bool, true, false, ℤ, pos, ◌+ℤ◌, ◌-ℤ◌, ◌*ℤ◌, ◌≤ℤ◌, List, length, All}
+use Rattle.std.specs.Prelude.{ℕ, ◌≡◌, ◌+◌, ◌<◌, ◌≤◌, int_le, if◌then◌else◌, IfSome, Bool, true, false, ℤ, pos, ◌+ℤ◌, ◌-ℤ◌, ◌*ℤ◌, ◌≤ℤ◌, List, length, All}
 use Rattle.fr_base.specs.declared.node_row.NodeRow.{NodeRow}
 use Rattle.fr_base.specs.declared.Outcome.TheVariants.{Within}
 use Rattle.fr_base.specs.Within.{IsBetween, IsWithin}
@@ -8,9 +8,10 @@ use Rattle.fr_cluster.specs.Sane.{IsSane}
 use Rattle.fr_midpoint.specs.Receivers.{Hears}
 use Rattle.fr_correct.specs.declared.term.Term.{Term}
 use Rattle.fr_correct.specs.Terms.{IsRateTerm}
+use Rattle.fr_bound.specs.Checks.{holds_of}
 use Rattle.fr_bound.specs.Sync.{cycle_length_of}
 use Rattle.fr_precision.specs.Rows.{longest_cycle, shortest_cycle, AreNear, HasProperMicro, IsSteady, KeepOne, Sender}
-use Rattle.fr_sharp.specs.SharpBounds.{sharp_lambda}
+use Rattle.fr_sharp.specs.SharpBounds.{rate_walk, sharp_lambda, walk_lasts}
 use Rattle.fr_sharp.specs.SharpChecks.{BoundsWalk, RateSuffices}
 use Rattle.fr_sharp.specs.Steady.{PlacesEven}
 
@@ -49,6 +50,20 @@ pub record WalksOn (p : Values) (next : ℤ) (row : NodeRow) (term : Term) : Typ
 pub record CanWalk (p : Values) (flutter : ℕ) (beyond walk : ℤ) : Type 0 where
   pub bounds : BoundsWalk p flutter walk
   pub suffices : RateSuffices p (beyond +ℤ walk)
+
+-- how far beyond their range the lengths may lie after so many double cycles, from the first in which they lie in it on
+abbrev pub walked_after : Values → ℕ → ℕ → ℤ
+walked_after p flutter passed = if int_le (rate_walk p flutter) (pos 0) then pos 0 else pos passed *ℤ rate_walk p flutter
+
+-- for as many double cycles as the walk lasts, and for ever where it stops, the rate limit suffices, and the next number takes
+-- the walk in
+abbrev pub WalkIsHeld : Type 0
+WalkIsHeld =
+    (p : Values) (flutter passed : ℕ)
+    → IsSane p → holds_of 2 p ≡ true → IfSome (walk_lasts p flutter) (λ lasts. passed < lasts)
+    → CanWalk p flutter (walked_after p flutter passed) (rate_walk p flutter)
+    × (pos 0 ≤ℤ walked_after p flutter (passed + 1))
+    × ((walked_after p flutter passed +ℤ rate_walk p flutter) ≤ℤ walked_after p flutter (passed + 1))
 
 -- the lengths walk by no more, and come back into the range where the walk is below 0
 abbrev pub RangeWalks : Type 0

@@ -53,18 +53,6 @@ FirstCheckStopsWalk =
     (p : Values) (flutter reach : ℕ) → IsSane p
     → (sharp_holds_of 1 flutter reach p ≡ true) ↔ (rate_walk p flutter ≤ℤ pos 0)
 
--- and then the rate limit suffices for ever
-abbrev pub StillSuffices : Type 0
-StillSuffices =
-    (p : Values) (flutter : ℕ) → holds_of 2 p ≡ true → rate_walk p flutter ≤ℤ pos 0
-    → RateSuffices p (pos 0 +ℤ rate_walk p flutter)
-
--- else it suffices for each double cycle before the number that the walk lasts, from the first in which lengths are in range
-abbrev pub LastsSoLong : Type 0
-LastsSoLong =
-    (p : Values) (flutter lasts passed : ℕ) → holds_of 2 p ≡ true → walk_lasts p flutter ≡ Some lasts → passed < lasts
-    → RateSuffices p ((pos passed *ℤ rate_walk p flutter) +ℤ rate_walk p flutter)
-
 -- where the checks hold with a reach, the offset limit suffices for it, and slots leave room for it
 abbrev pub SharpChecksSuffice : Type 0
 SharpChecksSuffice =

@@ -9,8 +9,8 @@ use Rattle.fr_cluster.specs.Sane.{IsSane}
 use Rattle.fr_cluster.specs.Constraints.{key_slots}
 use Rattle.fr_time.specs.Position.{floor_of}
 use Rattle.fr_time.specs.Slots.{action_point_of}
-use Rattle.fr_bound.specs.Bounds.{arrival_error, longest_micro}
-use Rattle.fr_bound.specs.Sync.{cycle_length_of}
+use Rattle.fr_bound.specs.Bounds.{arrival_error, lambda_of, longest_micro, pi_of}
+use Rattle.fr_bound.specs.Sync.{cycle_length_of, IsInSync}
 use Rattle.fr_precision.specs.Rows.{corrected_end_of, Sender}
 use Rattle.fr_precision.specs.Instants.{gap_of, row_in}
 use Rattle.fr_precision.specs.Offsets.{IsOffsetRound, LimitSuffices}
@@ -202,3 +202,8 @@ NextIsInSharpSync =
     → IsHeardByAll beside p flutter senders nodes (pos (last_action p))
     → All (λ node. IsFollowed p node (next_even node) (next_odd node)) nodes
     → IsInSharpSync beside p flutter next (map next_even nodes) (map next_odd nodes)
+
+-- nodes in sync in the older sense are so near with the older numbers, and their lengths lie in the range
+abbrev pub InSyncIsSharp : Type 0
+InSyncIsSharp =
+    (p : Values) (even odd : List NodeRow) → IsInSync p even odd → AreSharp p (pi_of p) (lambda_of p) (pos 0) even

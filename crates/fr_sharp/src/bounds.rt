@@ -1,5 +1,6 @@
 ghost use Rattle.fr_sharp.specs.SharpBounds.{AloneIsBelow, NearIsBelow, SharpIsBelow};
-ghost use Rattle.fr_sharp.specs.SharpChecks.{FirstCheckStopsWalk, LastsSoLong, OlderChecksSuffice, SharpChecksSuffice, StillSuffices, WalkIsBounded};
+ghost use Rattle.fr_sharp.specs.Lengths.{WalkIsHeld};
+ghost use Rattle.fr_sharp.specs.SharpChecks.{FirstCheckStopsWalk, OlderChecksSuffice, SharpChecksSuffice, WalkIsBounded};
 ghost use Rattle.fr_sharp.specs.SharpStep.{KeySlotsActEarly, SharpChecksReach};
 
 /// A law: the sharper bounds, in ticks, are no greater than the older ones, and without arbitrary nodes no
@@ -16,8 +17,7 @@ pub fn sharp_bounds_are_below()
 pub fn walks_are_bounded()
     ensures bounded { WalkIsBounded }
     ensures stops { FirstCheckStopsWalk }
-    ensures still { StillSuffices }
-    ensures lasts { LastsSoLong }
+    ensures held { WalkIsHeld }
 {}
 
 /// A law: where the sharper checks hold, the offset limit suffices for how far action points lie apart, and the

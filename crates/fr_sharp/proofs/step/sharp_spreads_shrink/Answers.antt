@@ -1,4 +1,4 @@
-use Rattle.fr_sharp.proofs.StepLemmas.{actions_lie_in_reach, macroticks_stay_sharp, next_is_sharp, receivers_come_sharply, sharp_spreads_shrink_lem}
+use Rattle.fr_sharp.proofs.StepLemmas.{actions_lie_in_reach, in_sync_is_sharp, macroticks_stay_sharp, next_is_sharp, receivers_come_sharply, sharp_spreads_shrink_lem}
 use Rattle.fr_sharp.proofs.step.sharp_spreads_shrink.Goals as goal
 
 pub returns-clause-two : goal.returns-clause-two
@@ -15,3 +15,6 @@ returns-clause-macroticks c = macroticks_stay_sharp
 
 pub returns-clause-next : goal.returns-clause-next
 returns-clause-next c = next_is_sharp
+
+pub returns-clause-sync : goal.returns-clause-sync
+returns-clause-sync c = in_sync_is_sharp
