@@ -263,7 +263,7 @@ suffices_by walk room lasts passed need limit is same before room_is fits =
     sum pk qk lk k room need limit walk product a b c d e f g = omega (arith, ints)
 
 -- the numbers of a double cycle, and of the one after it
-Held : Values → ℕ → ℕ → Bool → Type 0
+abbrev Held : Values → ℕ → ℕ → Bool → Type 0
 Held p flutter passed stops =
     CanWalk p flutter (if stops then pos 0 else pos passed *ℤ rate_walk p flutter) (rate_walk p flutter)
     × (pos 0 ≤ℤ (if stops then pos 0 else pos (passed + 1) *ℤ rate_walk p flutter))
