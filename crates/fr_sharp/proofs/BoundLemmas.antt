@@ -1,6 +1,6 @@
 -- The sharper bounds, checks and walk.
-use Rattle.std.proofs.Common.{◌≡◌, ℕ, zero, suc, ◌+◌, ◌-◌, ◌*◌, ◌/◌, ◌%◌, ◌<◌, ◌≤◌, Bool, true, false, if◌then◌else◌, ℤ, pos, negsuc, Some, None, IfSome, List, [], ◌∷◌, All, refl, ap, sym, ◌∙◌, subst, arith}
-use Rattle.std.specs.Prelude.{◌+ℤ◌, ◌-ℤ◌, ◌*ℤ◌, ◌≤ℤ◌, ◌<ℤ◌, ◌↔◌, Contains, int_le, int_lt, max, nat_abs, nat_le, nat_lt}
+use Rattle.std.proofs.Common.{◌≡◌, ℕ, zero, suc, ◌+◌, ◌-◌, ◌*◌, ◌/◌, ◌%◌, ◌<◌, ◌≤◌, Bool, true, false, if◌then◌else◌, ℤ, pos, negsuc, Some, None, IfSome, List, [], ◌∷◌, All, refl, ap, ◌∙◌, arith}
+use Rattle.std.specs.Prelude.{◌+ℤ◌, ◌-ℤ◌, ◌*ℤ◌, ◌≤ℤ◌, ◌<ℤ◌, ◌↔◌, int_le, int_lt, max, nat_abs, nat_le, nat_lt}
 use Rattle.std.proofs.lemmas.Bool.Decides.{nat_tests}
 use Rattle.std.proofs.lemmas.Int.{ints}
 use Rattle.std.proofs.lemmas.List.Elements.{All-cons, All-contains, All-head, All-nil, All-tail}
@@ -15,15 +15,12 @@ use Rattle.fr_time.specs.Slots.{action_point_of, slot_end_of}
 use Rattle.fr_time.proofs.Placing.{action_point_lt, slot_end_lt}
 use Rattle.fr_bound.specs.Bounds.{arrival_error, cycle_change, lambda_of, longest_micro, nominal, pi_of, precision_of, shortest_micro, widest}
 use Rattle.fr_bound.specs.Checks.{back_need_of, front_need_of, holds_of, left_of, right_of}
-use Rattle.fr_bound.specs.Settling.{settle_holds_of}
-use Rattle.fr_precision.specs.Offsets.{LimitSuffices}
-use Rattle.fr_precision.specs.Reception.{LeavesRoom}
 use Rattle.fr_precision.proofs.Figures.{nat_le-true, natural, times_natural}
 use Rattle.fr_precision.proofs.PlacementLaws.{limit_below}
-use Rattle.fr_sharp.specs.SharpBounds.{last_action, last_of, near_by, odd_spread, precision_by, rate_room, rate_walk, sharp_lambda, sharp_near, sharp_pi, sharp_precision, steady_error, walk_lasts, wide_change, AloneIsBelow, NearIsBelow, SharpIsBelow}
-use Rattle.fr_sharp.specs.SharpChecks.{sharp_holds_of, BoundsWalk, FirstCheckStopsWalk, OlderChecksSuffice, RateSuffices, SharpChecksHold, SharpChecksSuffice, WalkIsBounded}
+use Rattle.fr_sharp.specs.SharpBounds.{last_action, last_of, near_by, odd_spread, rate_room, rate_walk, sharp_lambda, sharp_near, sharp_pi, sharp_precision, steady_error, wide_change, AloneIsBelow, NearIsBelow, SharpIsBelow}
+use Rattle.fr_sharp.specs.SharpChecks.{FirstCheckStopsWalk, OlderChecksSuffice, RateSuffices, SharpChecksSuffice, WalkIsBounded}
 use Rattle.fr_sharp.specs.Lengths.{CanWalk, WalkIsHeld}
-use Rattle.fr_sharp.specs.SharpStep.{IsSharpReach, KeySlotsActEarly, SharpChecksReach}
+use Rattle.fr_sharp.specs.SharpStep.{KeySlotsActEarly, SharpChecksReach}
 use Rattle.fr_sharp.proofs.Signed.{one_more, signed_of}
 
 -- ---- against the older bounds
@@ -124,8 +121,7 @@ last_acts_early p sane =
 
 pub key_slots_act_early : KeySlotsActEarly
 key_slots_act_early p sane =
-    let start = sane.ranges name.gOffsetCorrectionStart in
-    (
+    let start = sane.ranges name.gOffsetCorrectionStart in (
       λ slot among. acts_later p slot (last_of (key_slots p.nodes)) (All-contains (λ k. k ≤ last_of (key_slots p.nodes)) (key_slots p.nodes) slot (all_to_last (key_slots p.nodes)) among),
       early (last_action p) (amount p name.gOffsetCorrectionStart) p.correction (natural p.correction (omega (arith, ints, start.0))) (last_acts_early p sane),
     )
@@ -285,8 +281,7 @@ held_by p flutter passed true sane second is before =
     none w le = omega (arith, ints, le)
 held_by p flutter passed false sane second is before =
     let walk = rate_walk p flutter in
-    let more : pos (passed + 1) *ℤ walk ≡ (pos passed *ℤ walk) +ℤ walk = addz-mulz (pos passed) (pos 1) walk ∙ ap (λ x. (pos passed *ℤ walk) +ℤ x) (once walk) in
-    (
+    let more : pos (passed + 1) *ℤ walk ≡ (pos passed *ℤ walk) +ℤ walk = addz-mulz (pos passed) (pos 1) walk ∙ ap (λ x. (pos passed *ℤ walk) +ℤ x) (once walk) in (
       record {
         bounds = walk_is_bounded p flutter sane;
         suffices =
@@ -321,8 +316,7 @@ sharp_checks_suffice_lem p flutter reach sane checks =
     let far = reach + widest p * nominal + amount p name.xDelayError in
     let third = nat_le-true (reach + arrival_error p + longest_micro p) (left_of 3 p) (checks 3 (omega arith) (omega arith)) in
     let fourth = nat_le-true (front_need_of p reach) (left_of 4 p) (checks 4 (omega arith) (omega arith)) in
-    let fifth = nat_lt-true (back_need_of p reach) (left_of 5 p) (checks 5 (omega arith) (omega arith)) in
-    (
+    let fifth = nat_lt-true (back_need_of p reach) (left_of 5 p) (checks 5 (omega arith) (omega arith)) in (
       limit reach (arrival_error p) (longest_micro p) (left_of 3 p) third,
       record {
         before = at_most (front_need_of p reach) (left_of 4 p) (p.macros *ℤ pos near) (times_natural p.macros near from) fourth;

@@ -3,13 +3,12 @@ use Rattle.std.proofs.Common.{◌≡◌, ◌⊎◌, ℕ, ◌+◌, ◌*◌, ◌�
 use Rattle.std.specs.Prelude.{neg_ℤ, ◌+ℤ◌, ◌-ℤ◌, ◌*ℤ◌, ◌≤ℤ◌, ◌<ℤ◌, int_lt}
 use Rattle.std.proofs.lemmas.Int.{ints}
 use Rattle.fr_base.specs.declared.node_row.NodeRow.{NodeRow}
-use Rattle.fr_base.specs.declared.Outcome.{Outcome}
 use Rattle.fr_base.specs.declared.Outcome.TheVariants.{Exceeded, Within}
 use Rattle.fr_base.specs.Within.{IsWithin}
 use Rattle.fr_cluster.specs.Values.{Values}
 use Rattle.fr_cluster.specs.Sane.{IsSane}
 use Rattle.fr_midpoint.specs.Midpoint.{IsMidpoint}
-use Rattle.fr_midpoint.specs.Receivers.{place_at, Hears, Receiver}
+use Rattle.fr_midpoint.specs.Receivers.{place_at, Receiver}
 use Rattle.fr_midpoint.proofs.Products.{addz-mulz}
 use Rattle.fr_correct.specs.declared.term.Term.{Term}
 use Rattle.fr_correct.specs.Terms.{limited, missing_term, term_of}
@@ -19,7 +18,7 @@ use Rattle.fr_time.proofs.Lines.{lines_end, OnLine}
 use Rattle.fr_time.proofs.Placing.{is_grid_lem}
 use Rattle.fr_bound.specs.Bounds.{arrival_error, longest_micro}
 use Rattle.fr_bound.specs.Sync.{cycle_length_of}
-use Rattle.fr_precision.specs.Rows.{corrected_end_of, end_of, HasProperMicro, Sender}
+use Rattle.fr_precision.specs.Rows.{corrected_end_of, end_of, Sender}
 use Rattle.fr_precision.specs.Offsets.{IsDeviation, IsOffsetRound, IsSending}
 use Rattle.fr_precision.proofs.InstantLaws.{early_on_line, odd_start_is}
 use Rattle.fr_precision.proofs.OffsetLaws.{micro_lasts, offset_terms_are_uncut}
@@ -192,11 +191,10 @@ pair_of p starts evens odds row other_row one other sends other_sends start even
 }
 
 module _
-  (p : Values) (senders : List Sender) (starts evens odds reach other_reach : ℤ) (row other_row : NodeRow) (values other_values : List ℤ) (term other_term : Term)
-  (sane : IsSane p) (send : SendApart p starts evens odds senders)
-  (takes : TakesOffsets p senders reach odds row values term) (also : TakesOffsets p senders other_reach odds other_row other_values other_term)
-  (near : IsWithin odds (cycle_length_of p row -ℤ cycle_length_of p other_row)) where
-
+    (p : Values) (senders : List Sender) (starts evens odds reach other_reach : ℤ) (row other_row : NodeRow) (values other_values : List ℤ) (term other_term : Term)
+    (sane : IsSane p) (send : SendApart p starts evens odds senders)
+    (takes : TakesOffsets p senders reach odds row values term) (also : TakesOffsets p senders other_reach odds other_row other_values other_term)
+    (near : IsWithin odds (cycle_length_of p row -ℤ cycle_length_of p other_row)) where
   same_near :
       SameLieNear (ends_at p row values) (ends_at p other_row other_values) (odds +ℤ pos (2 * arrival_error p + 2 * longest_micro p)) takes.round.hears.said also.round.hears.said
   same_near =

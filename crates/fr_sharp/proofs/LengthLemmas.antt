@@ -1,6 +1,6 @@
 -- The sharper laws of rates, over rows.
-use Rattle.std.proofs.Common.{◌≡◌, ◌⊎◌, ℕ, ◌+◌, ◌-◌, ◌*◌, ◌≤◌, Bool, true, false, ℤ, pos, List, [], length, All, inl, inr, ap, sym, ◌∙◌, subst, arith}
-use Rattle.std.specs.Prelude.{◌+ℤ◌, ◌-ℤ◌, ◌*ℤ◌, ◌≤ℤ◌, ◌<ℤ◌}
+use Rattle.std.proofs.Common.{◌≡◌, ◌⊎◌, ℕ, ◌+◌, ◌-◌, ◌*◌, ◌≤◌, true, false, ℤ, pos, List, [], length, All, inl, inr, ap, sym, ◌∙◌, subst, arith}
+use Rattle.std.specs.Prelude.{◌+ℤ◌, ◌-ℤ◌, ◌*ℤ◌, ◌≤ℤ◌}
 use Rattle.std.proofs.lemmas.Int.{ints}
 use Rattle.fr_base.specs.declared.node_row.NodeRow.{NodeRow}
 use Rattle.fr_base.specs.declared.Outcome.TheVariants.{Within}
@@ -15,17 +15,16 @@ use Rattle.fr_correct.specs.declared.term.Term.{Term}
 use Rattle.fr_correct.specs.Terms.{damped, missing_term, term_of}
 use Rattle.fr_bound.specs.Bounds.{cycle_change, longest_micro, shortest_micro}
 use Rattle.fr_bound.specs.Sync.{cycle_length_of}
-use Rattle.fr_precision.specs.Rows.{longest_cycle, shortest_cycle, HasProperMicro, KeepOne, Sender}
+use Rattle.fr_precision.specs.Rows.{longest_cycle, shortest_cycle, HasProperMicro, Sender}
 use Rattle.fr_precision.proofs.Figures.{longest_is, shortest_is, times_natural}
 use Rattle.fr_precision.proofs.OffsetLaws.{micro_lasts}
 use Rattle.fr_precision.proofs.PlacementLaws.{steady_within}
 use Rattle.fr_precision.proofs.RateLaws.{limited_within, outcome_within}
 use Rattle.fr_precision.proofs.Senders.{heard_all}
 use Rattle.fr_sharp.specs.Said.{lies_after, AllLieNear, KeepsSaid, SameLieNear}
-use Rattle.fr_sharp.specs.SharpBounds.{sharp_lambda, steady_error, wide_change}
-use Rattle.fr_sharp.specs.SharpChecks.{BoundsWalk}
+use Rattle.fr_sharp.specs.SharpBounds.{steady_error, wide_change}
 use Rattle.fr_sharp.specs.Steady.{between_actions, placed_length, PlacesEven}
-use Rattle.fr_sharp.specs.Lengths.{CanWalk, EvensAreAbout, EvensWithin, IsAboutCycle, IsNextEven, IsSteadyRound, LengthsComeNear, RangeWalks, WalksOn}
+use Rattle.fr_sharp.specs.Lengths.{CanWalk, EvensAreAbout, EvensWithin, IsAboutCycle, IsNextEven, IsSteadyRound, LengthsComeNear, RangeWalks}
 use Rattle.fr_sharp.proofs.SaidLemmas.{one_between_lem, two_alone_lem, two_apart_lem}
 use Rattle.fr_sharp.proofs.Signed.{room_of, signed_of}
 use Rattle.fr_sharp.proofs.Walks.{changed, damped_away, moved_on, walked, HasRoom, Walked}

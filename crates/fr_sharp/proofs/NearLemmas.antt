@@ -1,6 +1,6 @@
 -- The sharper laws of instants, over rows.
-use Rattle.std.proofs.Common.{◌≡◌, ℕ, ◌+◌, ◌*◌, Bool, true, false, ℤ, pos, refl, ap, sym, ◌∙◌, subst, arith}
-use Rattle.std.specs.Prelude.{neg_ℤ, ◌+ℤ◌, ◌-ℤ◌, ◌*ℤ◌, ◌≤ℤ◌, ◌<ℤ◌, int_lt}
+use Rattle.std.proofs.Common.{◌≡◌, ℕ, ◌+◌, ◌*◌, true, false, ℤ, pos, refl, ap, sym, ◌∙◌, subst, arith}
+use Rattle.std.specs.Prelude.{◌+ℤ◌, ◌-ℤ◌, ◌*ℤ◌, ◌≤ℤ◌, ◌<ℤ◌, int_lt}
 use Rattle.std.proofs.lemmas.Int.{ints, by_lt_z}
 use Rattle.fr_base.specs.declared.node_row.NodeRow.{NodeRow}
 use Rattle.fr_base.specs.Within.{IsWithin}
@@ -15,10 +15,8 @@ use Rattle.fr_bound.specs.Bounds.{cycle_change, longest_micro}
 use Rattle.fr_bound.specs.Sync.{cycle_length_of}
 use Rattle.fr_precision.specs.Rows.{corrected_end_of, Lasts}
 use Rattle.fr_precision.specs.Instants.{gap_of, LieNear, Runs}
-use Rattle.fr_precision.specs.Placement.{IsRegular}
 use Rattle.fr_precision.proofs.InstantLaws.{early_on_line, macroticks_stay_near_lem, odd_start_is, wider}
 use Rattle.fr_precision.proofs.PlacementLaws.{share_from}
-use Rattle.fr_sharp.specs.SharpBounds.{odd_spread}
 use Rattle.fr_sharp.specs.Nearness.{ActionsLieNear, MacroticksLieInReach, OddLengthsFollow}
 use Rattle.fr_sharp.proofs.Signed.{signed_of}
 use Rattle.fr_sharp.proofs.SteadyLemmas.{regularly}

@@ -1,6 +1,6 @@
 -- The sharper bounds, checks and walk of worked clusters, computed: a cycle of 5 ms at a microtick of 25 ns, with the limits and
 -- the slots that such clusters have, by damping, oscillators, their changes and delays.
-use Rattle.std.proofs.Common.{◌≡◌, ℕ, ℤ, pos, negsuc, Bool, true, false, Some, None, List, [], ◌∷◌, refl}
+use Rattle.std.proofs.Common.{◌≡◌, ℕ, pos, negsuc, Bool, true, false, Some, None, List, [], ◌∷◌, refl}
 use Rattle.fr_cluster.specs.Values.{Values}
 use Rattle.fr_cluster.specs.declared.nodes.NodeSpec.{NodeSpec}
 use Rattle.fr_bound.specs.Bounds.{precision_of}

@@ -2,7 +2,7 @@
 -- node 1 that it is 100 microticks early, node 2 that it is as much late, and node 3 nothing. Their starts lie 1,000,000 ticks
 -- apart, and their offset terms are 1, 0 and -1: so the next double cycle starts at the same instant for all.
 use Rattle.std.proofs.Common.{◌≡◌, ◌≢◌, ℕ, suc, zero, ◌+◌, ◌≤◌, ◌<◌, Bool, true, false, ℤ, pos, negsuc, List, [], ◌∷◌, ◌++◌, length, All, refl, inr, lit≤, lit<, rules, arith}
-use Rattle.std.specs.Prelude.{◌+ℤ◌, ◌-ℤ◌, ◌*ℤ◌, ◌≤ℤ◌, ◌<ℤ◌, AllPairs, Contains, nat_abs}
+use Rattle.std.specs.Prelude.{◌+ℤ◌, ◌-ℤ◌, ◌≤ℤ◌, AllPairs, Contains, nat_abs}
 use Rattle.std.proofs.lemmas.List.Elements.{All-cons, All-contains, All-nil}
 use Rattle.std.proofs.lemmas.List.Kept.{AllPairs-cons}
 use Rattle.std.proofs.lemmas.List.Sorted.{IsPermutation-refl}
@@ -10,7 +10,7 @@ use Rattle.fr_base.specs.declared.channel.Channel.TheVariants.{A}
 use Rattle.fr_base.specs.declared.node_row.NodeRow.{NodeRow}
 use Rattle.fr_base.specs.declared.Outcome.TheVariants.{Within}
 use Rattle.fr_base.specs.declared.state.State.TheVariants.{Active}
-use Rattle.fr_base.specs.Within.{IsBetween, IsWithin, LieWithin}
+use Rattle.fr_base.specs.Within.{IsBetween, LieWithin}
 use Rattle.fr_cluster.specs.Values.{figure, Values}
 use Rattle.fr_cluster.specs.Ranges.{InRange}
 use Rattle.fr_cluster.specs.Sane.{IsSane, IsSaneNode, IsSaneSlot}
@@ -22,16 +22,16 @@ use Rattle.fr_midpoint.specs.Midpoint.{discarded, IsMidpoint}
 use Rattle.fr_correct.specs.declared.term.Term.{Term}
 use Rattle.fr_bound.specs.Sync.{cycle_length_of}
 use Rattle.fr_precision.specs.Rows.{corrected_end_of, HasProperMicro, Sender}
-use Rattle.fr_precision.specs.Offsets.{IsDeviation, IsOffsetRound}
+use Rattle.fr_precision.specs.Offsets.{IsOffsetRound}
 use Rattle.fr_precision.specs.Placement.{IsRegular}
 use Rattle.fr_precision.specs.Rates.{IsNext}
 use Rattle.fr_precision.specs.Step.{IsAmong, IsFollowed, Member}
 use Rattle.fr_precision.proofs.Worked.{node, row}
-use Rattle.fr_sharp.specs.SharpBounds.{last_action, last_of, rate_walk, sharp_lambda, sharp_near, sharp_pi, sharp_precision}
-use Rattle.fr_sharp.specs.SharpChecks.{sharp_holds_of, SharpChecksHold}
+use Rattle.fr_sharp.specs.SharpBounds.{last_action, last_of, rate_walk, sharp_lambda, sharp_near, sharp_pi}
+use Rattle.fr_sharp.specs.SharpChecks.{SharpChecksHold}
 use Rattle.fr_sharp.specs.Steady.{IsSteadyPair, PlacesEven}
-use Rattle.fr_sharp.specs.Lengths.{CanWalk, IsAboutCycle, IsSteadyRound, KeepSenders}
-use Rattle.fr_sharp.specs.SharpStep.{AllKeepSenders, AreSharp, ComputesSharply, IsHeardByAll, IsInSharpSync, StaySharp}
+use Rattle.fr_sharp.specs.Lengths.{CanWalk, IsAboutCycle, IsSteadyRound}
+use Rattle.fr_sharp.specs.SharpStep.{AllKeepSenders, AreSharp, ComputesSharply, IsSharpDouble, IsInSharpSync, StaySharp}
 use Rattle.fr_sharp.proofs.BoundLemmas.{walk_is_held}
 use Rattle.fr_sharp.proofs.SharpRows.{set_of}
 use Rattle.fr_sharp.proofs.SteadyLemmas.{counted_are_steady, steady_values_place_lem}
@@ -475,7 +475,7 @@ acts =
     three (λ (sender : Sender). IsBetween (pos 0) (pos (last_action cluster)) sender.action) first second third (record { low = record { le = tt }; high = record { le = tt } })
     (record { low = record { le = tt }; high = record { le = tt } }) (record { low = record { le = tt }; high = record { le = tt } })
 
-heard : (beside : Bool) → IsHeardByAll beside cluster 0 senders (members beside) (pos (last_action cluster))
+heard : (beside : Bool) → IsSharpDouble beside cluster 0 senders (members beside) (pos (last_action cluster))
 heard beside = record {
   among =
       three (IsAmong (members beside)) first second third (first_member beside, (0, lit< tt, refl), refl, refl) (second_member beside, (1, lit< tt, refl), refl, refl)

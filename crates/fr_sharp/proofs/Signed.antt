@@ -8,7 +8,7 @@ use Rattle.fr_cluster.specs.Sane.{IsSane}
 use Rattle.fr_cluster.specs.declared.names.ParamName.TheVariants as name
 use Rattle.fr_bound.specs.Bounds.{cycle_change, longest_micro, shortest_micro}
 use Rattle.fr_bound.proofs.Uncut.{uncut_lem}
-use Rattle.fr_precision.proofs.Figures.{change_is, drift_range, natural, times_natural}
+use Rattle.fr_precision.proofs.Figures.{change_is, drift_range, times_natural}
 use Rattle.fr_sharp.specs.SharpBounds.{wide_change}
 use Rattle.fr_sharp.specs.SharpChecks.{RateSuffices}
 

@@ -18,15 +18,14 @@ use Rattle.fr_time.proofs.Lines.{rest_of}
 use Rattle.fr_time.proofs.Placing.{is_grid_lem}
 use Rattle.fr_bound.specs.Bounds.{arrival_error}
 use Rattle.fr_bound.specs.Sync.{cycle_length_of}
-use Rattle.fr_precision.specs.Rows.{HasProperMicro, Sender}
-use Rattle.fr_precision.specs.Instants.{gap_of}
+use Rattle.fr_precision.specs.Rows.{Sender}
 use Rattle.fr_precision.specs.Placement.{IsRegular}
 use Rattle.fr_precision.proofs.DeviationLaws.{compensation_within}
 use Rattle.fr_precision.proofs.InstantLaws.{before_correction, odd_start_is}
 use Rattle.fr_precision.proofs.OffsetLaws.{micro_lasts}
 use Rattle.fr_precision.proofs.PlacementLaws.{product_within, share_from, steady_within}
 use Rattle.fr_sharp.specs.SharpBounds.{steady_error, wide_change}
-use Rattle.fr_sharp.specs.Steady.{between_actions, even_arrival, left_of_pair, odd_arrival, placed_length, ActsRegularly, CountedAreSteady, DeviationsAreSteady, HalfPlacesEven, OwnValuePlacesEven, PlacesEven, SteadyValuesPlace}
+use Rattle.fr_sharp.specs.Steady.{between_actions, even_arrival, left_of_pair, odd_arrival, placed_length, CountedAreSteady, DeviationsAreSteady, HalfPlacesEven, OwnValuePlacesEven, PlacesEven, SteadyValuesPlace}
 use Rattle.fr_sharp.proofs.Signed.{signed_of}
 
 -- ---- shares of a cycle

@@ -11,7 +11,7 @@ use Rattle.fr_cluster.specs.Sane.{IsSane}
 use Rattle.fr_time.specs.Position.{floor_of}
 use Rattle.fr_bound.specs.Bounds.{arrival_error, cycle_change, longest_micro}
 use Rattle.fr_bound.specs.Sync.{cycle_length_of, IsCycleLength}
-use Rattle.fr_precision.specs.Rows.{corrected_end_of, longest_cycle, shortest_cycle, KeepOne, Sender}
+use Rattle.fr_precision.specs.Rows.{corrected_end_of, longest_cycle, shortest_cycle, Sender}
 use Rattle.fr_precision.specs.Instants.{gap_of, row_in, LieNear, Runs}
 use Rattle.fr_precision.specs.Offsets.{IsSending}
 use Rattle.fr_precision.specs.Placement.{IsRegular}
@@ -20,11 +20,10 @@ use Rattle.fr_precision.proofs.InstantLaws.{wider}
 use Rattle.fr_precision.proofs.OffsetLaws.{micro_lasts, offset_terms_are_uncut}
 use Rattle.fr_precision.proofs.Senders.{All-along}
 use Rattle.fr_precision.proofs.StepLaws.{all_lie, any_two, mapped_twice, same_apart, unmapped}
-use Rattle.fr_sharp.specs.SharpBounds.{last_action, near_by, odd_spread, precision_by, sharp_lambda, sharp_near, sharp_pi, sharp_precision}
-use Rattle.fr_sharp.specs.SharpChecks.{SharpChecksHold}
-use Rattle.fr_sharp.specs.Lengths.{CanWalk, EvensAreAbout, IsAboutCycle, IsNextEven, KeepSenders, LengthsCome}
-use Rattle.fr_sharp.specs.Ends.{EndsCome, SendApart, TakesOffsets}
-use Rattle.fr_sharp.specs.SharpStep.{ActionsLieInReach, AreSharp, ComeSharply, ComputesSharply, DrawsTo, InSyncIsSharp, IsHeardByAll, IsInSharpSync, IsSharpReach, MacroticksStaySharp, NextIsInSharpSync, NextIsSharp, ReceiversComeSharply, SharpSpreadsShrink, SharpSyncDraws, SharpSyncIsKept, StaySharp, TakesSharply}
+use Rattle.fr_sharp.specs.SharpBounds.{last_action, near_by, odd_spread, sharp_lambda, sharp_pi, sharp_precision}
+use Rattle.fr_sharp.specs.Lengths.{EvensAreAbout, IsAboutCycle, IsNextEven, KeepSenders, LengthsCome}
+use Rattle.fr_sharp.specs.Ends.{EndsCome, SendApart}
+use Rattle.fr_sharp.specs.SharpStep.{ActionsLieInReach, AreSharp, ComputesSharply, DrawsTo, InSyncIsSharp, IsSharpDouble, IsSharpReach, MacroticksStaySharp, NextIsInSharpSync, NextIsSharp, ReceiversComeSharply, SharpSpreadsShrink, SharpSyncDraws, SharpSyncIsKept, TakesSharply}
 use Rattle.fr_sharp.proofs.BoundLemmas.{sharp_checks_reach}
 use Rattle.fr_sharp.proofs.EndLemmas.{ends_come_near_lem}
 use Rattle.fr_sharp.proofs.LengthLemmas.{lengths_come_near_lem, range_walks}
@@ -134,7 +133,7 @@ turned : (bound x y : ℤ) → IsWithin bound (x -ℤ y) → IsWithin bound (y -
 turned bound x y near = record { low = omega (arith, ints, near.high); high = omega (arith, ints, near.low) }
 
 double_of : (beside : Bool) (p : Values) (flutter : ℕ) (senders : List Sender) (nodes : List Member) (starts lengths : ℕ) (beyond last : ℤ) → IsSane p
-    → AreSharp p starts lengths beyond (map (λ (node : Member). node.even) nodes) → IsHeardByAll beside p flutter senders nodes last → Double p starts lengths beyond nodes
+    → AreSharp p starts lengths beyond (map (λ (node : Member). node.even) nodes) → IsSharpDouble beside p flutter senders nodes last → Double p starts lengths beyond nodes
 double_of beside p flutter senders nodes starts lengths beyond last sane sharp heard = record {
   sane = sane;
   sharp = sharp;
@@ -163,7 +162,7 @@ acts_in_cycle : (last early action : ℤ) → last ≤ℤ early → IsBetween (p
 acts_in_cycle last early action le between = (between.low, omega (arith, ints, between.high))
 
 send_apart : (beside : Bool) (p : Values) (flutter : ℕ) (senders : List Sender) (nodes : List Member) (starts lengths : ℕ) (beyond walk reach last : ℤ) → IsSharpReach p flutter starts lengths beyond walk reach last
-    → Double p starts lengths beyond nodes → IsHeardByAll beside p flutter senders nodes last → SendApart p (pos starts) (pos lengths) (pos (odd_spread p lengths)) senders
+    → Double p starts lengths beyond nodes → IsSharpDouble beside p flutter senders nodes last → SendApart p (pos starts) (pos lengths) (pos (odd_spread p lengths)) senders
 send_apart beside p flutter senders nodes starts lengths beyond walk reach last is double heard = record {
   sending = λ i d short. sends _ (heard.among i d short) (heard.acts i d short);
   by_start =
@@ -184,7 +183,7 @@ send_apart beside p flutter senders nodes starts lengths beyond walk reach last 
         record { double = regular.double; lasts = micro_lasts p sender.odd is.sane regular.odd_micro; acts_from = both.0; acts_to = both.1 }
 
 takes_sharply : (beside : Bool) (p : Values) (flutter : ℕ) (senders : List Sender) (nodes : List Member) (starts lengths : ℕ) (beyond walk reach last : ℤ) (node : Member)
-    → IsSharpReach p flutter starts lengths beyond walk reach last → Double p starts lengths beyond nodes → IsHeardByAll beside p flutter senders nodes last → Contains nodes node
+    → IsSharpReach p flutter starts lengths beyond walk reach last → Double p starts lengths beyond nodes → IsSharpDouble beside p flutter senders nodes last → Contains nodes node
     → TakesSharply p flutter senders reach lengths node
 takes_sharply beside p flutter senders nodes starts lengths beyond walk reach last node is double heard here =
     let computes = All-contains (ComputesSharply p flutter senders) nodes node heard.computes here in

@@ -1,5 +1,5 @@
 -- The sharper laws of offsets: what offset correction makes of the starts of the next double cycle.
-use Rattle.std.specs.Prelude.{ℕ, ◌+◌, ◌*◌, Bool, true, false, ℤ, pos, ◌+ℤ◌, ◌-ℤ◌, ◌*ℤ◌, List, All}
+use Rattle.std.specs.Prelude.{◌+◌, ◌*◌, Bool, true, false, ℤ, pos, ◌+ℤ◌, ◌-ℤ◌, ◌*ℤ◌, List, All}
 use Rattle.fr_base.specs.declared.node_row.NodeRow.{NodeRow}
 use Rattle.fr_base.specs.Within.{IsWithin}
 use Rattle.fr_cluster.specs.Values.{Values}

@@ -1,6 +1,6 @@
 -- The checks under which the sharper bounds hold, with a reach: how far action points may lie apart. The first one tells
 -- whether they hold for ever, or for as many double cycles as the rate limit holds the walk.
-use Rattle.std.specs.Prelude.{ℕ, zero, suc, ◌+◌, ◌*◌, ◌<◌, ◌≤◌, ◌≡◌, ◌↔◌, ℤ, pos, ◌+ℤ◌, ◌-ℤ◌, ◌*ℤ◌, ◌≤ℤ◌, Bool, true, nat_le, Some}
+use Rattle.std.specs.Prelude.{ℕ, zero, suc, ◌+◌, ◌*◌, ◌≤◌, ◌≡◌, ◌↔◌, ℤ, pos, ◌+ℤ◌, ◌-ℤ◌, ◌*ℤ◌, ◌≤ℤ◌, Bool, true, nat_le}
 use Rattle.fr_cluster.specs.Values.{Values, amount}
 use Rattle.fr_cluster.specs.Sane.{IsSane}
 use Rattle.fr_cluster.specs.declared.names.ParamName.TheVariants as name
@@ -9,7 +9,7 @@ use Rattle.fr_bound.specs.Checks.{holds_of, left_of}
 use Rattle.fr_bound.specs.Settling.{settle_holds_of, settle_right_of}
 use Rattle.fr_precision.specs.Offsets.{LimitSuffices}
 use Rattle.fr_precision.specs.Reception.{LeavesRoom}
-use Rattle.fr_sharp.specs.SharpBounds.{rate_walk, sharp_near, walk_lasts, wide_change}
+use Rattle.fr_sharp.specs.SharpBounds.{rate_walk, sharp_near, wide_change}
 
 -- the left side of a check, by its number; that of the first in ticks, as the others
 abbrev pub sharp_left_of : ℕ → Values → ℕ

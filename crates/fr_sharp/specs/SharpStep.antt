@@ -83,7 +83,7 @@ AllKeepSenders beside senders nodes =
     → KeepSenders beside senders one.offsets other.offsets × KeepSenders beside senders one.rates other.rates
 
 -- the senders of a double cycle are some of its nodes and act up to a last macrotick; all compute their terms
-pub record IsHeardByAll (beside : Bool) (p : Values) (flutter : ℕ) (senders : List Sender) (nodes : List Member) (last : ℤ) : Type 0 where
+pub record IsSharpDouble (beside : Bool) (p : Values) (flutter : ℕ) (senders : List Sender) (nodes : List Member) (last : ℤ) : Type 0 where
   pub among : All (IsAmong nodes) senders
   pub acts : All (λ sender. IsBetween (pos 0) last sender.action) senders
   pub computes : All (ComputesSharply p flutter senders) nodes
@@ -115,7 +115,7 @@ SharpSpreadsShrink =
     (starts lengths next_starts next_lengths : ℕ) (beyond walk next reach last : ℤ) (one other : Member)
     → IsSharpReach p flutter starts lengths beyond walk reach last → pos 0 ≤ℤ next → (beyond +ℤ walk) ≤ℤ next
     → DrawsTo beside p flutter starts lengths next_starts next_lengths
-    → AreSharp p starts lengths beyond (map (λ node. node.even) nodes) → IsHeardByAll beside p flutter senders nodes last
+    → AreSharp p starts lengths beyond (map (λ node. node.even) nodes) → IsSharpDouble beside p flutter senders nodes last
     → Contains nodes one → Contains nodes other → ComeSharply p next_starts next_lengths next one other
 
 -- no macrotick of any two of them lies further apart than a bound that takes in both ends of the double cycle
@@ -137,7 +137,7 @@ NextIsSharp =
     (starts lengths next_starts next_lengths : ℕ) (beyond walk next reach last : ℤ) (next_even next_odd : Member → NodeRow)
     → IsSharpReach p flutter starts lengths beyond walk reach last → pos 0 ≤ℤ next → (beyond +ℤ walk) ≤ℤ next
     → DrawsTo beside p flutter starts lengths next_starts next_lengths
-    → AreSharp p starts lengths beyond (map (λ node. node.even) nodes) → IsHeardByAll beside p flutter senders nodes last
+    → AreSharp p starts lengths beyond (map (λ node. node.even) nodes) → IsSharpDouble beside p flutter senders nodes last
     → All (λ node. IsFollowed p node (next_even node) (next_odd node)) nodes
     → AreSharp p next_starts next_lengths next (map next_even nodes)
 
@@ -188,7 +188,7 @@ SharpSyncIsKept =
     → IsSane p → SharpChecksHold flutter (sharp_near beside p flutter) p
     → CanWalk p flutter beyond walk → pos 0 ≤ℤ next → (beyond +ℤ walk) ≤ℤ next
     → IsInSharpSync beside p flutter beyond (map (λ node. node.even) nodes) (map (λ node. node.odd) nodes)
-    → IsHeardByAll beside p flutter senders nodes (pos (last_action p))
+    → IsSharpDouble beside p flutter senders nodes (pos (last_action p))
     → (one other : Member) → Contains nodes one → Contains nodes other → StaySharp beside p flutter next one other
 
 -- and the rows of the next double cycle are in sharp sync
@@ -199,7 +199,7 @@ NextIsInSharpSync =
     → IsSane p → SharpChecksHold flutter (sharp_near beside p flutter) p
     → CanWalk p flutter beyond walk → pos 0 ≤ℤ next → (beyond +ℤ walk) ≤ℤ next
     → IsInSharpSync beside p flutter beyond (map (λ node. node.even) nodes) (map (λ node. node.odd) nodes)
-    → IsHeardByAll beside p flutter senders nodes (pos (last_action p))
+    → IsSharpDouble beside p flutter senders nodes (pos (last_action p))
     → All (λ node. IsFollowed p node (next_even node) (next_odd node)) nodes
     → IsInSharpSync beside p flutter next (map next_even nodes) (map next_odd nodes)
 
