@@ -8,6 +8,8 @@ pub mod LengthLemmas
 pub mod Tails
 pub mod EndLemmas
 pub mod NearLemmas
+pub mod HearingLemmas
 pub mod StepLemmas
 pub mod SharpRows
 pub mod SharpWorked
+pub mod SharpLists

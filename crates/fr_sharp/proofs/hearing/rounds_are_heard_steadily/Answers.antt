@@ -1,0 +1,8 @@
+use Rattle.fr_sharp.proofs.HearingLemmas.{hearers_keep_senders, hears_all_steadily}
+use Rattle.fr_sharp.proofs.hearing.rounds_are_heard_steadily.Goals as goal
+
+pub returns-clause-all : goal.returns-clause-all
+returns-clause-all c = hears_all_steadily
+
+pub returns-clause-keep : goal.returns-clause-keep
+returns-clause-keep c = hearers_keep_senders
