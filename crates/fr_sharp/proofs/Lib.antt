@@ -4,6 +4,7 @@ pub mod Walks
 pub mod Zips
 pub mod BoundLemmas
 pub mod SteadyLemmas
+pub mod Arriving
 pub mod LengthLemmas
 pub mod Tails
 pub mod EndLemmas

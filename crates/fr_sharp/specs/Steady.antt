@@ -1,11 +1,12 @@
 -- What two deviations of a sender, one in each cycle, say of the length of its even cycle: they place it by the flutter of the
 -- delay and a microtick, since all that both arrivals share drops out.
-use Rattle.std.specs.Prelude.{ℕ, ◌≡◌, ◌+◌, ◌*◌, true, false, ℤ, pos, neg_ℤ, ◌+ℤ◌, ◌-ℤ◌, ◌*ℤ◌, ◌≤ℤ◌}
+use Rattle.std.specs.Prelude.{ℕ, ◌≡◌, ◌+◌, ◌*◌, true, false, ℤ, pos, neg_ℤ, ◌+ℤ◌, ◌-ℤ◌, ◌*ℤ◌, ◌≤ℤ◌, ◌≤◌}
 use Rattle.fr_base.specs.declared.channel.Channel.{Channel}
 use Rattle.fr_base.specs.declared.node_row.NodeRow.{NodeRow}
 use Rattle.fr_base.specs.Within.{IsBetween, IsWithin}
-use Rattle.fr_cluster.specs.Values.{Values}
+use Rattle.fr_cluster.specs.Values.{Values, amount}
 use Rattle.fr_cluster.specs.Sane.{IsSane}
+use Rattle.fr_cluster.specs.declared.names.ParamName.TheVariants as name
 use Rattle.fr_midpoint.specs.Midpoint.{half_of_sum}
 use Rattle.fr_time.specs.Position.{even_position, floor_of, grid_for}
 use Rattle.fr_time.specs.Instant.{instant_of}
@@ -13,7 +14,9 @@ use Rattle.fr_time.specs.Slots.{action_point_of}
 use Rattle.fr_bound.specs.Bounds.{arrival_error}
 use Rattle.fr_bound.specs.Sync.{cycle_length_of}
 use Rattle.fr_precision.specs.Rows.{HasProperMicro, Sender}
-use Rattle.fr_precision.specs.Offsets.{IsDeviation}
+use Rattle.fr_precision.specs.Instants.{gap_of}
+use Rattle.fr_precision.specs.Offsets.{IsDeviation, LimitSuffices}
+use Rattle.fr_precision.specs.Reception.{IsDelay, LeavesRoom}
 use Rattle.fr_precision.specs.Deviations.{counted_of}
 use Rattle.fr_precision.specs.Placement.{IsRegular}
 use Rattle.fr_sharp.specs.SharpBounds.{steady_error, wide_change}
@@ -110,3 +113,15 @@ CountedAreSteady =
     → IsSteadyPair p flutter sender even odd
     (counted_of p even slot channel (even_arrival p sender delay))
     (counted_of p odd slot channel (odd_arrival p sender other_delay))
+
+-- so they are of a frame in each cycle that a sender within reach sends in a slot that leaves room for it
+abbrev pub FramesAreSteady : Type 0
+FramesAreSteady =
+    (p : Values) (flutter slot : ℕ) (channel : Channel) (even odd other_even other_odd : NodeRow) (delay other_delay reach : ℤ)
+    → IsSane p → LeavesRoom p reach → LimitSuffices p reach → IsRegular p even odd
+    → 1 ≤ slot → slot ≤ amount p name.gNumberOfStaticSlots
+    → IsWithin reach (gap_of p false (pos (action_point_of p slot)) other_even even)
+    → IsDelay p channel delay → IsWithin (pos flutter) (other_delay -ℤ delay)
+    → IsSteadyPair p flutter (record { even = other_even; odd = other_odd; action = pos (action_point_of p slot) }) even odd
+    (counted_of p even slot channel (instant_of (grid_for p) other_even false (pos (action_point_of p slot)) +ℤ delay))
+    (counted_of p odd slot channel (instant_of (grid_for p) other_odd true (pos (action_point_of p slot)) +ℤ other_delay))
