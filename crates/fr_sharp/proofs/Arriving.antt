@@ -1,11 +1,9 @@
 -- Two frames of a sender that arrive within their slots are counted as a steady pair.
-use Rattle.std.proofs.Common.{◌≡◌, ℕ, ◌+◌, ◌<◌, ◌≤◌, true, false, ℤ, pos, refl, arith}
+use Rattle.std.proofs.Common.{ℕ, ◌<◌, false, ℤ, pos, refl, arith}
 use Rattle.std.specs.Prelude.{◌+ℤ◌, ◌-ℤ◌, ◌*ℤ◌, ◌≤ℤ◌, ◌<ℤ◌}
 use Rattle.std.proofs.lemmas.Int.{ints}
 use Rattle.fr_base.specs.declared.node_row.NodeRow.{NodeRow}
-use Rattle.fr_cluster.specs.Values.{Values, amount}
-use Rattle.fr_cluster.specs.Sane.{IsSane}
-use Rattle.fr_cluster.specs.declared.names.ParamName.TheVariants as name
+use Rattle.fr_cluster.specs.Values.{Values}
 use Rattle.fr_midpoint.proofs.Products.{lez_of_mulz-lez}
 use Rattle.fr_time.specs.Position.{even_position, floor_of, grid_for}
 use Rattle.fr_time.specs.Instant.{instant_of}
@@ -13,7 +11,6 @@ use Rattle.fr_time.specs.Slots.{action_point_of, slot_end_of}
 use Rattle.fr_time.proofs.Floors.{share_le}
 use Rattle.fr_time.proofs.Lines.{rest_of}
 use Rattle.fr_time.proofs.Placing.{action_point_lt, is_grid_lem}
-use Rattle.fr_precision.specs.Placement.{IsRegular}
 use Rattle.fr_precision.proofs.DeviationLaws.{counted_is_deviation}
 use Rattle.fr_precision.proofs.OffsetLaws.{deviation_within, micro_lasts}
 use Rattle.fr_precision.proofs.ReceptionLaws.{arrives_in_slot, ends_before}

@@ -23,7 +23,7 @@ use Rattle.fr_precision.proofs.StepLaws.{all_lie, any_two, mapped_twice, same_ap
 use Rattle.fr_sharp.specs.SharpBounds.{last_action, near_by, odd_spread, sharp_lambda, sharp_pi, sharp_precision}
 use Rattle.fr_sharp.specs.Lengths.{EvensAreAbout, IsAboutCycle, IsNextEven, KeepSenders, LengthsCome}
 use Rattle.fr_sharp.specs.Ends.{EndsCome, SendApart}
-use Rattle.fr_sharp.specs.SharpStep.{ActionsLieInReach, AreSharp, ComputesSharply, DrawsTo, InSyncIsSharp, IsSharpDouble, IsSharpReach, MacroticksStaySharp, NextIsInSharpSync, NextIsSharp, ReceiversComeSharply, SharpSpreadsShrink, SharpSyncDraws, SharpSyncIsKept, TakesSharply}
+use Rattle.fr_sharp.specs.SharpStep.{ActionsLieInReach, AreSharp, ComputesSharply, DrawsTo, InSyncIsSharp, IsSharpDouble, IsSharpReach, MacroticksStaySharp, NextIsInSharpSync, NextIsSharp, ReceiversComeSharply, SharpIsWider, SharpSpreadsShrink, SharpSyncDraws, SharpSyncIsKept, TakesSharply}
 use Rattle.fr_sharp.proofs.BoundLemmas.{sharp_checks_reach}
 use Rattle.fr_sharp.proofs.EndLemmas.{ends_come_near_lem}
 use Rattle.fr_sharp.proofs.LengthLemmas.{lengths_come_near_lem, range_walks}
@@ -335,3 +335,26 @@ in_sync_is_sharp p even odd sync = record {
       where
         step : (a b : ℕ) (x : ℤ) → pos a ≤ℤ x → x ≤ℤ pos b → IsBetween (pos a -ℤ pos 0) (pos b +ℤ pos 0) x
         step a b x low high = record { low = omega (arith, ints); high = omega (arith, ints) }
+
+-- ---- with greater numbers
+
+lie_wider : (bound more : ℕ) (xs : List ℤ) → bound ≤ more → LieWithin (pos bound) xs → LieWithin (pos more) xs
+lie_wider bound more xs le near i d short j e below = further _ bound more le (near i d short j e below)
+  where
+    further : (x : ℤ) (a b : ℕ) → a ≤ b → x ≤ℤ pos a → x ≤ℤ pos b
+    further x a b le within = omega (arith, ints, le, within)
+
+pub sharp_is_wider : SharpIsWider
+sharp_is_wider p starts lengths more_starts more_lengths beyond more_beyond even starts_le lengths_le beyond_le sharp = record {
+  starts_lie = lie_wider starts more_starts (map (λ (row : NodeRow). row.start) even) starts_le sharp.starts_lie;
+  lengths_lie = lie_wider lengths more_lengths (map (cycle_length_of p) even) lengths_le sharp.lengths_lie;
+  about =
+      All-along (λ row. IsAboutCycle p beyond (cycle_length_of p row)) (λ row. IsAboutCycle p more_beyond (cycle_length_of p row)) even
+      (λ row is. about (pos (shortest_cycle p)) (pos (longest_cycle p)) (cycle_length_of p row) is) sharp.about;
+}
+  where
+    about : (a b x : ℤ) → IsBetween (a -ℤ beyond) (b +ℤ beyond) x → IsBetween (a -ℤ more_beyond) (b +ℤ more_beyond) x
+    about a b x is = step a b x beyond more_beyond beyond_le is
+      where
+        step : (a b x c d : ℤ) → c ≤ℤ d → IsBetween (a -ℤ c) (b +ℤ c) x → IsBetween (a -ℤ d) (b +ℤ d) x
+        step a b x c d le is = record { low = omega (arith, ints, is.low); high = omega (arith, ints, is.high) }

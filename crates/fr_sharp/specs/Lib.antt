@@ -6,5 +6,6 @@ pub mod Nearness
 pub mod Said
 pub mod SharpBounds
 pub mod SharpChecks
+pub mod SharpSettling
 pub mod SharpStep
 pub mod Steady

@@ -70,6 +70,13 @@ pub record AreSharp (p : Values) (starts lengths : ℕ) (beyond : ℤ) (even : L
   pub lengths_lie : LieWithin (pos lengths) (map (cycle_length_of p) even)
   pub about : All (λ row. IsAboutCycle p beyond (cycle_length_of p row)) even
 
+-- with greater numbers they are too
+abbrev pub SharpIsWider : Type 0
+SharpIsWider =
+    (p : Values) (starts lengths more_starts more_lengths : ℕ) (beyond more_beyond : ℤ) (even : List NodeRow)
+    → starts ≤ more_starts → lengths ≤ more_lengths → beyond ≤ℤ more_beyond
+    → AreSharp p starts lengths beyond even → AreSharp p more_starts more_lengths more_beyond even
+
 -- a node with regular rows has its values of every sender and computes its terms from them
 pub record ComputesSharply (p : Values) (flutter : ℕ) (senders : List Sender) (node : Member) : Type 0 where
   pub regular : IsRegular p node.even node.odd

@@ -8,6 +8,7 @@ mod hearing;
 mod lengths;
 mod midpoints;
 mod nearness;
+mod settling;
 mod steady;
 mod step;
 
@@ -17,5 +18,6 @@ pub use hearing::rounds_are_heard_steadily;
 pub use lengths::{lengths_come_near, ranges_walk};
 pub use midpoints::midpoints_agree;
 pub use nearness::nodes_lie_near;
+pub use settling::sharp_spreads_settle;
 pub use steady::{pairs_are_steady, steady_values_place};
 pub use step::{sharp_spreads_shrink, sharp_sync_is_kept};

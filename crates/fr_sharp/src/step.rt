@@ -1,4 +1,4 @@
-ghost use Rattle.fr_sharp.specs.SharpStep.{ActionsLieInReach, InSyncIsSharp, MacroticksStaySharp, NextIsInSharpSync, NextIsSharp, ReceiversComeSharply, SharpSpreadsShrink, SharpSyncDraws, SharpSyncIsKept};
+ghost use Rattle.fr_sharp.specs.SharpStep.{ActionsLieInReach, InSyncIsSharp, MacroticksStaySharp, NextIsInSharpSync, NextIsSharp, ReceiversComeSharply, SharpIsWider, SharpSpreadsShrink, SharpSyncDraws, SharpSyncIsKept};
 
 /// The law of the step with free numbers: nodes with a value of every sender cut no term, and their next starts and
 /// even lengths, in ticks, draw together as the numbers do; of two receivers, and of any two of a list of nodes.
@@ -10,6 +10,7 @@ pub fn sharp_spreads_shrink()
     ensures macroticks { MacroticksStaySharp }
     ensures next { NextIsSharp }
     ensures sync { InSyncIsSharp }
+    ensures wider { SharpIsWider }
 {}
 
 /// The law of the step: under the sharper checks nodes in sharp sync in a double cycle, with a value of every sender,

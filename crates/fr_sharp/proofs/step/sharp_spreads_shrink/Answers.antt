@@ -1,4 +1,4 @@
-use Rattle.fr_sharp.proofs.StepLemmas.{actions_lie_in_reach, in_sync_is_sharp, macroticks_stay_sharp, next_is_sharp, receivers_come_sharply, sharp_spreads_shrink_lem}
+use Rattle.fr_sharp.proofs.StepLemmas.{actions_lie_in_reach, in_sync_is_sharp, macroticks_stay_sharp, next_is_sharp, receivers_come_sharply, sharp_is_wider, sharp_spreads_shrink_lem}
 use Rattle.fr_sharp.proofs.step.sharp_spreads_shrink.Goals as goal
 
 pub returns-clause-two : goal.returns-clause-two
@@ -18,3 +18,6 @@ returns-clause-next c = next_is_sharp
 
 pub returns-clause-sync : goal.returns-clause-sync
 returns-clause-sync c = in_sync_is_sharp
+
+pub returns-clause-wider : goal.returns-clause-wider
+returns-clause-wider c = sharp_is_wider
