@@ -7,6 +7,7 @@ use Rattle.fr_bound.specs.Bounds.{precision_of}
 use Rattle.fr_bound.specs.Checks.{holds_of}
 use Rattle.fr_precision.proofs.Worked.{node}
 use Rattle.fr_sharp.specs.SharpBounds.{last_action, last_of, rate_walk, sharp_lambda, sharp_near, sharp_pi, sharp_precision, walk_lasts}
+use Rattle.fr_sharp.specs.SharpSettling.{sharp_spread_after, sharply_apart_in}
 use Rattle.fr_sharp.specs.SharpChecks.{sharp_holds_of, sharp_left_of, sharp_right_of}
 
 -- such a cluster with these nodes, damping, compensation of the delay, drift and change bounds, and delay error
@@ -116,3 +117,20 @@ flutters = (refl, refl)
 -- without damping 560 double cycles, at the greatest flutter 62 with damping 2, and for ever with damping 2 and none
 lasts : (walk_lasts (set 0 7 100 0 5_000_000) 0 ≡ Some 560) × (walk_lasts (set 2 7 100 0 5_000_000) 10_000_000 ≡ Some 62) × (walk_lasts (set 2 7 100 0 5_000_000) 0 ≡ None)
 lasts = (refl, refl, refl)
+
+-- ---- how soon clocks that begin apart are in sharp sync
+
+-- starts within 3 us and lengths within 1 us, without arbitrary nodes: after two double cycles; the first is the worst
+settles_alone : (sharp_spread_after false (set 2 7 100 0 5_000_000) 0 120_000_000 40_000_000 1 ≡ record { starts = 53_001_700; lengths = 7_000_698 }) × (sharp_spread_after false (set 2 7 100 0 5_000_000) 0 120_000_000 40_000_000 2 ≡ record { starts = 20_002_398; lengths = 7_000_698 }) × (sharply_apart_in (set 2 7 100 0 5_000_000) (sharp_spread_after false (set 2 7 100 0 5_000_000) 0 120_000_000 40_000_000 0) ≡ 202_000_200)
+unfolding sharp_spread_after
+settles_alone = (refl, refl, refl)
+
+-- beside them, and lengths within half of that: after 29
+settles_beside : (sharp_spread_after true (set 2 7 100 0 5_000_000) 0 120_000_000 20_000_000 28 ≡ record { starts = 69_007_689; lengths = 14_001_396 }) × (sharp_spread_after true (set 2 7 100 0 5_000_000) 0 120_000_000 20_000_000 29 ≡ record { starts = 69_007_688; lengths = 14_001_396 }) × (sharply_apart_in (set 2 7 100 0 5_000_000) (sharp_spread_after true (set 2 7 100 0 5_000_000) 0 120_000_000 20_000_000 0) ≡ 162_000_200)
+unfolding sharp_spread_after
+settles_beside = (refl, refl, refl)
+
+-- from sync in the older sense: after 32, and on the way no further apart than the older precision
+from_older : (sharp_spread_after true (set 2 7 100 0 5_000_000) 0 376_048_000 58_007_400 31 ≡ record { starts = 69_007_689; lengths = 14_001_396 }) × (sharp_spread_after true (set 2 7 100 0 5_000_000) 0 376_048_000 58_007_400 32 ≡ record { starts = 69_007_688; lengths = 14_001_396 }) × (sharply_apart_in (set 2 7 100 0 5_000_000) (sharp_spread_after true (set 2 7 100 0 5_000_000) 0 376_048_000 58_007_400 0) ≡ precision_of (set 2 7 100 0 5_000_000))
+unfolding sharp_spread_after
+from_older = (refl, refl, refl)
