@@ -1,14 +1,17 @@
 -- Clocks that begin apart come to rest in sharp sync.
 use Rattle.std.proofs.Common.{◌≡◌, ℕ, zero, suc, ◌+◌, ◌*◌, ◌-◌, ◌<◌, ◌≤◌, Bool, true, false, refl, ap, ◌∙◌, subst, arith, inl, inr}
 use Rattle.std.specs.Prelude.{max, ◌/◌, ◌^◌}
-use Rattle.std.proofs.Math.Nat.{le-max_right}
+use Rattle.std.proofs.Math.Nat.{le-max_right, max-le}
 use Rattle.std.proofs.lemmas.Bool.{cases_order}
-use Rattle.fr_cluster.specs.Values.{Values}
+use Rattle.fr_cluster.specs.Values.{Values, amount}
+use Rattle.fr_cluster.specs.Sane.{IsSane}
+use Rattle.fr_cluster.specs.declared.names.ParamName.TheVariants as name
 use Rattle.fr_bound.specs.declared.settling.Spread.{Spread}
-use Rattle.fr_bound.specs.Bounds.{arrival_error, cycle_change, longest_micro}
+use Rattle.fr_bound.specs.Bounds.{arrival_error, cycle_change, lambda_of, longest_micro, pi_of, precision_of}
 use Rattle.fr_bound.proofs.Halving.{halved, halved_no_more, halved_to_none}
-use Rattle.fr_sharp.specs.SharpBounds.{odd_spread, sharp_lambda, sharp_pi}
-use Rattle.fr_sharp.specs.SharpSettling.{first_sharp_spread, next_sharp_spread, sharp_spread_after, sharply_apart_in, AloneSettlesSoon, BesideSettlesSoon, NextSpreadDraws, NextStartsFit, SettledStays}
+use Rattle.fr_sharp.specs.SharpBounds.{odd_spread, sharp_lambda, sharp_pi, steady_error, wide_change}
+use Rattle.fr_sharp.specs.SharpSettling.{first_sharp_spread, next_sharp_spread, sharp_spread_after, sharply_apart_in, sharply_near_in, AloneSettlesSoon, BesideSettlesSoon, FitsOlder, NextSpreadDraws, NextStartsFit, OlderWayFits, SettledStays}
+use Rattle.fr_sharp.proofs.BoundLemmas.{near_is_below, sharp_is_below, wide_le}
 
 -- ---- what the step draws to
 
@@ -200,3 +203,72 @@ beside_settles_soon p flutter start rate from to =
   where
     by_none : (n m more : ℕ) → n ≡ m + more → more ≡ 0 → n ≡ m
     by_none n m more e none = omega (arith, e, none)
+
+-- ---- from the older sync
+
+-- starts no further apart than pi, and lengths than lambda, both of the older kind
+record IsUpTo (p : Values) (s : Spread) : Type 0 where
+  starts_to : s.starts ≤ pi_of p
+  lengths_to : s.lengths ≤ lambda_of p
+
+up_to_first : (beside : Bool) (p : Values) (flutter : ℕ) → IsSane p → flutter ≤ 2 * arrival_error p → IsUpTo p (first_sharp_spread beside p flutter (pi_of p) (lambda_of p))
+up_to_first beside p flutter sane le =
+    let below = sharp_is_below beside p flutter sane le in
+    record { starts_to = max-le (le_itself (pi_of p)) below.1; lengths_to = max-le (le_itself (lambda_of p)) below.0 }
+
+older_alone : (t q w c j e k l old_l old_pi long : ℕ) → t ≤ 2 * e → w ≤ 2 * j → k ≡ t + (q - 1) + w → l ≡ 2 * k + q + 2 * c + 2 * j
+    → old_l ≡ 4 * (2 * e + 2 * q + 3 * j) + 2 * q + 4 * c + 8 * j → old_pi ≡ 6 * old_l + 4 * e + 8 * q → long ≤ old_l
+    → ((long + 2 * j) + 2 * e + 3 * q ≤ old_pi) × (l + 2 * j ≤ old_l)
+older_alone t q w c j e k l old_l old_pi long a b c0 c1 c2 c3 d = (omega arith, omega arith)
+
+older_beside : (t q w c j e k l old_l old_pi s long : ℕ) → t ≤ 2 * e → w ≤ 2 * j → k ≡ t + (q - 1) + w → l ≡ 4 * k + 2 * q + 4 * c + 4 * j
+    → old_l ≡ 4 * (2 * e + 2 * q + 3 * j) + 2 * q + 4 * c + 8 * j → old_pi ≡ 6 * old_l + 4 * e + 8 * q → s ≤ old_pi → long ≤ old_l
+    → ((s + long + 2 * (long + 2 * j) + 4 * e + 7 * q) / 2 ≤ old_pi) × ((long + l) / 2 + 2 * j ≤ old_l)
+older_beside t q w c j e k l old_l old_pi s long a b c0 c1 c2 c3 d f = (omega arith, omega arith)
+
+-- the next double cycle's starts, and its odd lengths
+next_up_to : (beside : Bool) (p : Values) (flutter : ℕ) (s : Spread) → IsSane p → flutter ≤ 2 * arrival_error p → IsUpTo p s
+    → ((next_sharp_spread beside p flutter s).starts ≤ pi_of p) × (odd_spread p (next_sharp_spread beside p flutter s).lengths ≤ lambda_of p)
+next_up_to false p flutter s sane le up =
+    older_alone flutter (longest_micro p) (wide_change p) (amount p name.pClusterDriftDamping * longest_micro p) (cycle_change p) (arrival_error p) (steady_error p flutter) (sharp_lambda false p flutter)
+    (lambda_of p) (pi_of p) s.lengths le (wide_le p sane) refl refl refl refl up.lengths_to
+next_up_to true p flutter s sane le up =
+    older_beside flutter (longest_micro p) (wide_change p) (amount p name.pClusterDriftDamping * longest_micro p) (cycle_change p) (arrival_error p) (steady_error p flutter) (sharp_lambda true p flutter)
+    (lambda_of p) (pi_of p) s.starts s.lengths le (wide_le p sane) refl refl refl refl up.starts_to up.lengths_to
+
+up_to_by : (p : Values) (s : Spread) → s.starts ≤ pi_of p → odd_spread p s.lengths ≤ lambda_of p → IsUpTo p s
+up_to_by p s starts odds = record { starts_to = starts; lengths_to = less s.lengths (cycle_change p) (lambda_of p) odds }
+  where
+    less : (l j o : ℕ) → l + 2 * j ≤ o → l ≤ o
+    less l j o le = omega (arith, le)
+
+up_to_after : (beside : Bool) (p : Values) (flutter double : ℕ) → IsSane p → flutter ≤ 2 * arrival_error p → IsUpTo p (sharp_spread_after beside p flutter (pi_of p) (lambda_of p) double)
+unfolding sharp_spread_after
+up_to_after beside p flutter zero sane le = up_to_first beside p flutter sane le
+up_to_after beside p flutter (suc double) sane le =
+    let s = sharp_spread_after beside p flutter (pi_of p) (lambda_of p) double in
+    let next = next_up_to beside p flutter s sane le (up_to_after beside p flutter double sane le) in
+    up_to_by p (next_sharp_spread beside p flutter s) next.0 next.1
+
+fits_by : (p : Values) (s : Spread) → IsSane p → s.starts ≤ pi_of p → odd_spread p s.lengths ≤ lambda_of p → FitsOlder p s
+fits_by p s sane starts odds =
+    let apart = step s.starts s.lengths (odd_spread p s.lengths) (pi_of p) (lambda_of p) (cycle_change p) (longest_micro p) refl starts odds in
+    record {
+      starts_fit = starts;
+      odds_fit = odds;
+      near_fits = chain (sharply_near_in p s) (sharply_apart_in p s) (precision_of p) (near_is_below p s.starts s.lengths sane) apart;
+      apart_fits = apart;
+    }
+  where
+    step : (s k o pi l j q : ℕ) → o ≡ k + 2 * j → s ≤ pi → o ≤ l → s + k + o + 2 * q ≤ pi + 2 * l + 2 * q
+    step s k o pi l j q is a b = omega (arith, is, a, b)
+
+    chain : (a b c : ℕ) → a ≤ b → b ≤ c → a ≤ c
+    chain a b c h k = omega (arith, h, k)
+
+pub older_way_fits : OlderWayFits
+unfolding sharp_spread_after
+older_way_fits beside p flutter double sane le =
+    let s = sharp_spread_after beside p flutter (pi_of p) (lambda_of p) double in
+    let next = next_up_to beside p flutter s sane le (up_to_after beside p flutter double sane le) in
+    fits_by p (next_sharp_spread beside p flutter s) sane next.0 next.1

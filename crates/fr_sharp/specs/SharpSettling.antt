@@ -1,8 +1,9 @@
 -- How long clocks that begin apart take until they are in sharp sync, and how far they may lie apart on the way, in ticks.
 use Rattle.std.specs.Prelude.{ℕ, zero, suc, ◌≡◌, ◌+◌, ◌*◌, ◌/◌, ◌≤◌, max, Bool, true, false}
 use Rattle.fr_cluster.specs.Values.{Values}
+use Rattle.fr_cluster.specs.Sane.{IsSane}
 use Rattle.fr_bound.specs.declared.settling.Spread.{Spread}
-use Rattle.fr_bound.specs.Bounds.{arrival_error, longest_micro}
+use Rattle.fr_bound.specs.Bounds.{arrival_error, lambda_of, longest_micro, pi_of, precision_of}
 use Rattle.fr_sharp.specs.SharpBounds.{near_by, odd_spread, precision_by, sharp_lambda, sharp_pi}
 use Rattle.fr_sharp.specs.SharpStep.{DrawsTo}
 
@@ -71,3 +72,16 @@ abbrev pub BesideSettlesSoon : Type 0
 BesideSettlesSoon =
     (p : Values) (flutter start rate : ℕ) → start ≤ 1_000_000_000_000 → rate ≤ 1_000_000_000_000
     → IsSharplySettled true p flutter (sharp_spread_after true p flutter start rate 82)
+
+-- clocks that are in sync in the older sense, with the older numbers to begin with: from the second double cycle on neither
+-- starts nor odd lengths lie further apart than those, nor action points nor macroticks than the older precision
+pub record FitsOlder (p : Values) (s : Spread) : Type 0 where
+  pub starts_fit : s.starts ≤ pi_of p
+  pub odds_fit : odd_spread p s.lengths ≤ lambda_of p
+  pub near_fits : sharply_near_in p s ≤ precision_of p
+  pub apart_fits : sharply_apart_in p s ≤ precision_of p
+
+abbrev pub OlderWayFits : Type 0
+OlderWayFits =
+    (beside : Bool) (p : Values) (flutter double : ℕ) → IsSane p → flutter ≤ 2 * arrival_error p
+    → FitsOlder p (sharp_spread_after beside p flutter (pi_of p) (lambda_of p) (suc double))

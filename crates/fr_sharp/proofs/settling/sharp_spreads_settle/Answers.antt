@@ -1,4 +1,4 @@
-use Rattle.fr_sharp.proofs.SettlingLemmas.{alone_settles_soon, beside_settles_soon, next_spread_draws, next_starts_fit, settled_stays}
+use Rattle.fr_sharp.proofs.SettlingLemmas.{alone_settles_soon, beside_settles_soon, next_spread_draws, next_starts_fit, older_way_fits, settled_stays}
 use Rattle.fr_sharp.proofs.settling.sharp_spreads_settle.Goals as goal
 
 pub returns-clause-draws : goal.returns-clause-draws
@@ -15,3 +15,6 @@ returns-clause-alone c = alone_settles_soon
 
 pub returns-clause-beside : goal.returns-clause-beside
 returns-clause-beside c = beside_settles_soon
+
+pub returns-clause-older : goal.returns-clause-older
+returns-clause-older c = older_way_fits
