@@ -1,7 +1,7 @@
 -- The premises of the laws are met: three nodes of a worked cluster, without an arbitrary node and beside one, which tells
 -- node 1 that it is 100 microticks early, node 2 that it is as much late, and node 3 nothing. Their starts lie 1,000,000 ticks
 -- apart, and their offset terms are 1, 0 and -1: so the next double cycle starts at the same instant for all.
-use Rattle.std.proofs.Common.{◌≡◌, ◌≢◌, ℕ, suc, zero, ◌+◌, ◌≤◌, ◌<◌, Bool, true, false, ℤ, pos, negsuc, List, [], ◌∷◌, ◌++◌, length, All, refl, inr, lit≤, lit<, rules, arith}
+use Rattle.std.proofs.Common.{◌≡◌, ◌≢◌, ℕ, suc, zero, ◌+◌, ◌*◌, ◌≤◌, ◌<◌, Bool, true, false, ℤ, pos, negsuc, List, [], ◌∷◌, ◌++◌, length, All, refl, inr, lit≤, lit<, rules, arith}
 use Rattle.std.specs.Prelude.{◌+ℤ◌, ◌-ℤ◌, ◌≤ℤ◌, AllPairs, Contains, nat_abs}
 use Rattle.std.proofs.lemmas.List.Elements.{All-cons, All-contains, All-nil}
 use Rattle.std.proofs.lemmas.List.Kept.{AllPairs-cons}
@@ -20,6 +20,7 @@ use Rattle.fr_cluster.specs.declared.nodes.NodeSpec.{NodeSpec}
 use Rattle.fr_cluster.specs.declared.nodes.SlotSpec.{SlotSpec}
 use Rattle.fr_midpoint.specs.Midpoint.{discarded, IsMidpoint}
 use Rattle.fr_correct.specs.declared.term.Term.{Term}
+use Rattle.fr_bound.specs.Bounds.{arrival_error}
 use Rattle.fr_bound.specs.Sync.{cycle_length_of}
 use Rattle.fr_precision.specs.Rows.{corrected_end_of, HasProperMicro, Sender}
 use Rattle.fr_precision.specs.Offsets.{IsOffsetRound}
@@ -34,7 +35,7 @@ use Rattle.fr_sharp.specs.Lengths.{CanWalk, IsAboutCycle, IsSteadyRound}
 use Rattle.fr_sharp.specs.SharpStep.{AllKeepSenders, AreSharp, ComputesSharply, IsSharpDouble, IsInSharpSync, StaySharp}
 use Rattle.fr_sharp.proofs.BoundLemmas.{walk_is_held}
 use Rattle.fr_sharp.proofs.SharpRows.{set_of}
-use Rattle.fr_sharp.proofs.SteadyLemmas.{counted_are_steady, steady_values_place_lem}
+use Rattle.fr_sharp.proofs.SteadyLemmas.{counted_are_steady, deviations_are_steady, steady_values_place_lem}
 use Rattle.fr_sharp.proofs.StepLemmas.{next_is_in_sharp_sync, sharp_sync_is_kept_lem}
 
 -- ---- the cluster: four key slots, damping 2, delays of 50 to 300 ns, 100 ppm
@@ -281,6 +282,12 @@ counted : IsSteadyPair cluster 0 second first.even first.odd (pos 2) (pos 2)
 counted =
     counted_are_steady cluster 0 2 A second first.even first.odd (pos 8_000_000) (pos 8_000_000) is_sane first_regular refl (record { le = tt })
     (record { low = record { le = tt }; high = record { le = tt } }) (record { le = tt }) (record { low = record { le = tt }; high = record { le = tt } })
+
+-- what is recorded is one too, with the errors of both arrivals for the flutter
+recorded : IsSteadyPair cluster (2 * arrival_error cluster) second first.even first.odd (pos 2) (pos 2)
+recorded =
+    deviations_are_steady cluster second first.even first.odd (pos 2) (pos 2) is_sane first_regular (record { le = tt }) (record { le = tt }) (record { low = record { le = tt }; high = record { le = tt } })
+    (record { low = record { lt = tt }; high = record { le = tt } }) (record { low = record { lt = tt }; high = record { le = tt } })
 
 -- so the difference, 0, places the length of node 2's even cycle
 placed : PlacesEven cluster 0 second first.odd (pos 0)
