@@ -1,5 +1,5 @@
 -- The sharper bounds, checks and walk.
-use Rattle.std.proofs.Common.{◌≡◌, ℕ, zero, suc, ◌+◌, ◌-◌, ◌*◌, ◌/◌, ◌%◌, ◌<◌, ◌≤◌, Bool, true, false, if◌then◌else◌, ℤ, pos, negsuc, Some, None, IfSome, List, [], ◌∷◌, All, refl, ap, ◌∙◌, arith}
+use Rattle.std.proofs.Common.{◌≡◌, ℕ, zero, suc, ◌+◌, ◌-◌, ◌*◌, ◌/◌, ◌%◌, ◌<◌, ◌≤◌, Bool, true, false, if◌then◌else◌, ℤ, pos, negsuc, Some, None, IfSome, List, [], ◌∷◌, All, refl, ap, ◌∙◌, subst, arith}
 use Rattle.std.specs.Prelude.{◌+ℤ◌, ◌-ℤ◌, ◌*ℤ◌, ◌≤ℤ◌, ◌<ℤ◌, ◌↔◌, int_le, int_lt, max, nat_abs, nat_le, nat_lt}
 use Rattle.std.proofs.lemmas.Bool.Decides.{nat_tests}
 use Rattle.std.proofs.lemmas.Int.{ints}
@@ -19,7 +19,7 @@ use Rattle.fr_precision.proofs.Figures.{nat_le-true, natural, times_natural}
 use Rattle.fr_precision.proofs.PlacementLaws.{limit_below}
 use Rattle.fr_sharp.specs.SharpBounds.{last_action, last_of, near_by, odd_spread, rate_room, rate_walk, sharp_lambda, sharp_near, sharp_pi, sharp_precision, steady_error, wide_change, AloneIsBelow, NearIsBelow, SharpIsBelow}
 use Rattle.fr_sharp.specs.SharpChecks.{FirstCheckStopsWalk, OlderChecksSuffice, RateSuffices, SharpChecksSuffice, WalkIsBounded}
-use Rattle.fr_sharp.specs.Lengths.{CanWalk, WalkIsHeld}
+use Rattle.fr_sharp.specs.Lengths.{walked_after, CanWalk, WalkIsHeld}
 use Rattle.fr_sharp.specs.SharpStep.{KeySlotsActEarly, SharpChecksReach}
 use Rattle.fr_sharp.proofs.Signed.{one_more, signed_of}
 
@@ -304,7 +304,20 @@ held_by p flutter passed false sane second is before =
     same a w b is = omega (arith, ints, is)
 
 pub walk_is_held : WalkIsHeld
-walk_is_held p flutter passed sane second before = held_by p flutter passed (int_le (rate_walk p flutter) (pos 0)) sane second refl before
+walk_is_held p flutter passed sane second before =
+    let next : passed + 1 ≡ suc passed = omega arith in
+    let At : ℕ → Type 0 = λ n.
+    CanWalk p flutter (walked_after p flutter passed) (rate_walk p flutter) × (pos 0 ≤ℤ walked_after p flutter n)
+    × ((walked_after p flutter passed +ℤ rate_walk p flutter) ≤ℤ walked_after p flutter n) in
+    subst At next (held_by p flutter passed (int_le (rate_walk p flutter) (pos 0)) sane second refl before)
+
+-- none has passed in the first double cycle
+pub walked_none : (p : Values) (flutter : ℕ) → walked_after p flutter 0 ≡ pos 0
+walked_none p flutter = by_test (int_le (rate_walk p flutter) (pos 0)) (rate_walk p flutter)
+  where
+    by_test : (b : Bool) (w : ℤ) → (if b then pos 0 else pos 0 *ℤ w) ≡ pos 0
+    by_test true w = refl
+    by_test false w = omega (arith, ints)
 
 -- ---- the checks
 

@@ -11,6 +11,7 @@ pub mod EndLemmas
 pub mod NearLemmas
 pub mod HearingLemmas
 pub mod StepLemmas
+pub mod LastingLemmas
 pub mod SettlingLemmas
 pub mod SharpRows
 pub mod SharpWorked

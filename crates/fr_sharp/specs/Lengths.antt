@@ -1,5 +1,5 @@
 -- The sharper laws of rates: what rate correction makes of the lengths of the next even cycles.
-use Rattle.std.specs.Prelude.{ℕ, ◌≡◌, ◌+◌, ◌<◌, ◌≤◌, int_le, if◌then◌else◌, IfSome, Bool, true, false, ℤ, pos, ◌+ℤ◌, ◌-ℤ◌, ◌*ℤ◌, ◌≤ℤ◌, List, length, All}
+use Rattle.std.specs.Prelude.{ℕ, suc, ◌≡◌, ◌<◌, ◌≤◌, int_le, if◌then◌else◌, IfSome, Bool, true, false, ℤ, pos, ◌+ℤ◌, ◌-ℤ◌, ◌*ℤ◌, ◌≤ℤ◌, List, length, All}
 use Rattle.fr_base.specs.declared.node_row.NodeRow.{NodeRow}
 use Rattle.fr_base.specs.declared.Outcome.TheVariants.{Within}
 use Rattle.fr_base.specs.Within.{IsBetween, IsWithin}
@@ -62,8 +62,8 @@ WalkIsHeld =
     (p : Values) (flutter passed : ℕ)
     → IsSane p → holds_of 2 p ≡ true → IfSome (walk_lasts p flutter) (λ lasts. passed < lasts)
     → CanWalk p flutter (walked_after p flutter passed) (rate_walk p flutter)
-    × (pos 0 ≤ℤ walked_after p flutter (passed + 1))
-    × ((walked_after p flutter passed +ℤ rate_walk p flutter) ≤ℤ walked_after p flutter (passed + 1))
+    × (pos 0 ≤ℤ walked_after p flutter (suc passed))
+    × ((walked_after p flutter passed +ℤ rate_walk p flutter) ≤ℤ walked_after p flutter (suc passed))
 
 -- the lengths walk by no more, and come back into the range where the walk is below 0
 abbrev pub RangeWalks : Type 0

@@ -5,6 +5,7 @@
 mod bounds;
 mod ends;
 mod hearing;
+mod lasting;
 mod lengths;
 mod midpoints;
 mod nearness;
@@ -15,6 +16,7 @@ mod step;
 pub use bounds::{sharp_bounds_are_below, sharp_checks_suffice, walks_are_bounded};
 pub use ends::ends_come_near;
 pub use hearing::rounds_are_heard_steadily;
+pub use lasting::sharp_sync_lasts;
 pub use lengths::{lengths_come_near, ranges_walk};
 pub use midpoints::midpoints_agree;
 pub use nearness::nodes_lie_near;

@@ -1,0 +1,9 @@
+ghost use Rattle.fr_sharp.specs.SharpRun.{SharpDoublesDraw, SharpSyncLasts};
+
+/// The law of many double cycles: where all hear all senders in each of them, nodes draw together as the step does; and in
+/// sharp sync they stay, with no term cut and no macrotick further apart than the sharper precision, in ticks, for as
+/// many double cycles as the rate limit holds the walk: for ever where the first check holds.
+pub fn sharp_sync_lasts()
+    ensures draw { SharpDoublesDraw }
+    ensures lasts { SharpSyncLasts }
+{}
