@@ -407,7 +407,7 @@ older_checks_suffice beside p flutter (suc (suc (suc (suc (suc (suc k)))))) sane
 
 -- ---- the reach of a double cycle
 
-floor_is : (a o : ℕ) (m : ℤ) → pos 0 ≤ℤ m → floor_of (pos a *ℤ pos o) m ≡ pos (a * o / nat_abs m)
+pub floor_is : (a o : ℕ) (m : ℤ) → pos 0 ≤ℤ m → floor_of (pos a *ℤ pos o) m ≡ pos (a * o / nat_abs m)
 floor_is a o (pos m) from = refl
 floor_is a o (negsuc m) from = absurd (omega (arith, ints))
 

@@ -1,21 +1,30 @@
 -- Many double cycles, by the step.
-use Rattle.std.proofs.Common.{◌≡◌, ℕ, zero, suc, ◌<◌, Bool, ℤ, pos, Option, Some, None, IfSome, List, map, All, sym, subst, arith}
-use Rattle.std.specs.Prelude.{Contains}
+use Rattle.std.proofs.Common.{◌≡◌, ℕ, zero, suc, ◌+◌, ◌*◌, ◌<◌, ◌≤◌, Bool, ℤ, pos, Option, Some, None, IfSome, List, map, All, sym, subst, arith}
+use Rattle.std.specs.Prelude.{◌+ℤ◌, ◌*ℤ◌, ◌≤ℤ◌, ◌/◌, Contains}
+use Rattle.std.proofs.lemmas.Int.{ints}
 use Rattle.std.proofs.lemmas.List.Elements.{All-contains_itself, All-map}
+use Rattle.std.proofs.Math.Nat.{le-max_left}
 use Rattle.fr_base.specs.declared.node_row.NodeRow.{NodeRow}
 use Rattle.fr_base.specs.declared.state.Outcome.TheVariants.{Within}
 use Rattle.fr_base.specs.declared.state.State.TheVariants.{Active}
-use Rattle.fr_cluster.specs.Values.{Values}
+use Rattle.fr_cluster.specs.Values.{amount, Values}
+use Rattle.fr_cluster.specs.Sane.{IsSane}
+use Rattle.fr_cluster.specs.declared.names.ParamName.TheVariants as name
+use Rattle.fr_time.specs.Position.{floor_of}
+use Rattle.fr_bound.specs.Bounds.{longest_micro}
 use Rattle.fr_precision.specs.Rows.{Sender}
+use Rattle.fr_precision.specs.Placement.{IsRegular}
 use Rattle.fr_precision.specs.Step.{IsFollowed, Member}
 use Rattle.fr_precision.proofs.Senders.{All-along}
-use Rattle.fr_sharp.specs.SharpBounds.{last_action, rate_walk, sharp_lambda, sharp_near, sharp_pi, walk_lasts}
+use Rattle.fr_sharp.specs.SharpBounds.{last_action, near_by, odd_spread, rate_walk, sharp_lambda, sharp_near, sharp_pi, walk_lasts}
 use Rattle.fr_sharp.specs.SharpChecks.{SharpChecksHold}
 use Rattle.fr_sharp.specs.Lengths.{walked_after, CanWalk}
-use Rattle.fr_sharp.specs.SharpStep.{AreSharp, ComeSharply, IsInSharpSync, IsSharpReach}
-use Rattle.fr_sharp.specs.SharpRun.{AllUncut, AreSharpDoubles, DrawInReach, IsNextDouble, SharpDoublesDraw, SharpSyncLasts, WalkLastsAfter}
-use Rattle.fr_sharp.proofs.BoundLemmas.{sharp_checks_reach, walk_is_held, walked_none}
-use Rattle.fr_sharp.proofs.StepLemmas.{next_is_sharp, sharp_spreads_shrink_lem, sharp_sync_draws, sharp_sync_is_kept_lem}
+use Rattle.fr_sharp.specs.SharpSettling.{sharp_spread_after, sharply_apart_in}
+use Rattle.fr_sharp.specs.SharpStep.{AreSharp, ComeSharply, ComputesSharply, DrawsTo, IsInSharpSync, IsSharpReach}
+use Rattle.fr_sharp.specs.SharpRun.{AllUncut, AreSharpDoubles, DrawInReach, IsNextDouble, SharpDoublesDraw, SharpSpreadsKeep, SharpSyncLasts, WalkLastsAfter}
+use Rattle.fr_sharp.proofs.BoundLemmas.{floor_is, key_slots_act_early, sharp_checks_reach, sharp_checks_suffice_lem, walk_is_held, walked_none}
+use Rattle.fr_sharp.proofs.SettlingLemmas.{next_spread_draws, next_starts_fit}
+use Rattle.fr_sharp.proofs.StepLemmas.{macroticks_stay_sharp, next_is_sharp, sharp_is_wider, sharp_spreads_shrink_lem, sharp_sync_draws, sharp_sync_is_kept_lem}
 
 earlier_by : (o : Option ℕ) (k : ℕ) → IfSome o (λ lasts. suc k < lasts) → IfSome o (λ lasts. k < lasts)
 earlier_by None k before = tt
@@ -137,3 +146,57 @@ sharp_sync_lasts_lem beside p flutter doubles senders nodes are checks first k s
       sync,
       sharp_sync_is_kept_lem beside p flutter (senders k) (nodes k) (walked_after p flutter k) (rate_walk p flutter) (walked_after p flutter (suc k)) are.sane checks held.0 held.1 held.2 sync (are.heard k short),
     )
+
+-- ---- from stated numbers
+
+-- the reach takes in what the spread of a double cycle says
+near_fits : (p : Values) (starts lengths reach : ℕ) → IsSane p → near_by p starts lengths ≤ reach
+    → (pos starts +ℤ pos lengths +ℤ floor_of (pos (last_action p) *ℤ pos (odd_spread p lengths)) p.macros +ℤ pos (longest_micro p)) ≤ℤ pos reach
+near_fits p starts lengths reach sane le =
+    let macros = sane.ranges name.gMacroPerCycle in
+    step starts lengths (last_action p * odd_spread p lengths / amount p name.gMacroPerCycle) (longest_micro p) reach (floor_of (pos (last_action p) *ℤ pos (odd_spread p lengths)) p.macros)
+    (floor_is (last_action p) (odd_spread p lengths) p.macros (omega (arith, ints, macros.0))) le
+  where
+    step : (s l f q r : ℕ) (x : ℤ) → x ≡ pos f → s + l + f + q ≤ r → (pos s +ℤ pos l +ℤ x +ℤ pos q) ≤ℤ pos r
+    step s l f q r x is le = omega (arith, ints)
+
+spread_draws : (beside : Bool) (p : Values) (flutter start rate k : ℕ)
+    → DrawsTo beside p flutter (sharp_spread_after beside p flutter start rate k).starts (sharp_spread_after beside p flutter start rate k).lengths
+    (sharp_spread_after beside p flutter start rate (suc k)).starts (sharp_spread_after beside p flutter start rate (suc k)).lengths
+unfolding sharp_spread_after
+spread_draws beside p flutter start rate k = next_spread_draws beside p flutter (sharp_spread_after beside p flutter start rate k)
+
+first_spread_is : (beside : Bool) (p : Values) (flutter start rate : ℕ)
+    → (start ≤ (sharp_spread_after beside p flutter start rate 0).starts) × (rate ≤ (sharp_spread_after beside p flutter start rate 0).lengths)
+unfolding sharp_spread_after
+first_spread_is beside p flutter start rate = (le-max_left start (sharp_pi beside p flutter), le-max_left rate (sharp_lambda beside p flutter))
+
+pub sharp_spreads_keep : SharpSpreadsKeep
+sharp_spreads_keep beside p flutter start rate reach doubles senders nodes are checks near first k short before =
+    let starts : ℕ → ℕ = λ m. (sharp_spread_after beside p flutter start rate m).starts in
+    let lengths : ℕ → ℕ = λ m. (sharp_spread_after beside p flutter start rate m).lengths in
+    let draw : DrawInReach beside p flutter doubles starts lengths (pos reach) (pos (last_action p)) = record {
+      draws = λ m. spread_draws beside p flutter start rate m;
+      suffices = (sharp_checks_suffice_lem p flutter reach are.sane checks).0;
+      early = (key_slots_act_early p are.sane).1;
+      fits = λ m within. near_fits p (starts m) (lengths m) reach are.sane (near m within);
+    } in
+    let wide = first_spread_is beside p flutter start rate in
+    let from = sharp_is_wider p start rate (starts 0) (lengths 0) (pos 0) (pos 0) (map (λ (node : Member). node.even) (nodes 0)) wide.0 wide.1 nothing first in
+    let keeps = sharp_doubles_draw beside p flutter doubles senders nodes starts lengths (pos reach) (pos (last_action p)) are draw from k short before in
+    let regular =
+    All-along (ComputesSharply p flutter (senders k)) (λ (node : Member). IsRegular p node.even node.odd) (nodes k) (λ node computes. computes.regular) (are.heard k short).computes in
+    record {
+      keeps = keeps;
+      precise =
+          λ one other macrotick is_odd here there from_first to_last.
+          macroticks_stay_sharp p (starts k) (lengths k) (starts (suc k)) (lengths (suc k)) (walked_after p flutter k) (walked_after p flutter (suc k)) (nodes k) one other
+          (sharply_apart_in p (sharp_spread_after beside p flutter start rate k)) macrotick is_odd are.sane keeps.sharp regular here there (keeps.come one other here there)
+          (le_itself (sharply_apart_in p (sharp_spread_after beside p flutter start rate k))) (next_starts_fit beside p flutter start rate k) from_first to_last;
+    }
+  where
+    nothing : pos 0 ≤ℤ pos 0
+    nothing = omega (arith, ints)
+
+    le_itself : (n : ℕ) → n ≤ n
+    le_itself n = omega arith

@@ -11,8 +11,8 @@ pub mod EndLemmas
 pub mod NearLemmas
 pub mod HearingLemmas
 pub mod StepLemmas
-pub mod LastingLemmas
 pub mod SettlingLemmas
+pub mod LastingLemmas
 pub mod SharpRows
 pub mod SharpWorked
 pub mod SharpLists

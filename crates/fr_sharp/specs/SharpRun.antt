@@ -1,19 +1,22 @@
 -- Nodes over many double cycles: they draw together as the step does, and where they are in sharp sync they stay so, for as many
 -- double cycles as the rate limit holds the walk.
-use Rattle.std.specs.Prelude.{ℕ, suc, ◌≡◌, ◌<◌, Bool, true, ℤ, pos, ◌+ℤ◌, ◌*ℤ◌, ◌≤ℤ◌, IfSome, List, All, map, Contains}
+use Rattle.std.specs.Prelude.{ℕ, ◌≤◌, suc, ◌≡◌, ◌<◌, Bool, true, ℤ, pos, ◌+ℤ◌, ◌*ℤ◌, ◌≤ℤ◌, IfSome, List, All, map, Contains}
 use Rattle.fr_base.specs.declared.node_row.NodeRow.{NodeRow}
 use Rattle.fr_base.specs.declared.state.Outcome.TheVariants.{Within}
+use Rattle.fr_base.specs.Within.{IsWithin}
 use Rattle.fr_cluster.specs.Values.{Values}
 use Rattle.fr_cluster.specs.Sane.{IsSane}
 use Rattle.fr_time.specs.Position.{floor_of}
 use Rattle.fr_bound.specs.Bounds.{longest_micro}
 use Rattle.fr_bound.specs.Checks.{holds_of}
 use Rattle.fr_precision.specs.Rows.{Sender}
+use Rattle.fr_precision.specs.Instants.{gap_of, row_in}
 use Rattle.fr_precision.specs.Offsets.{LimitSuffices}
 use Rattle.fr_precision.specs.Step.{IsFollowed, Member}
 use Rattle.fr_sharp.specs.SharpBounds.{last_action, odd_spread, sharp_near, walk_lasts}
 use Rattle.fr_sharp.specs.SharpChecks.{SharpChecksHold}
 use Rattle.fr_sharp.specs.Lengths.{walked_after}
+use Rattle.fr_sharp.specs.SharpSettling.{sharp_spread_after, sharply_apart_in, sharply_near_in}
 use Rattle.fr_sharp.specs.SharpStep.{AreSharp, ComeSharply, DrawsTo, IsInSharpSync, IsSharpDouble, StaySharp}
 
 -- no node cuts a term
@@ -77,3 +80,24 @@ SharpSyncLasts =
     → IsInSharpSync beside p flutter (walked_after p flutter k) (map (λ node. node.even) (nodes k)) (map (λ node. node.odd) (nodes k))
     × ((one other : Member) → Contains (nodes k) one → Contains (nodes k) other
     → StaySharp beside p flutter (walked_after p flutter (suc k)) one other)
+
+-- nodes that begin within stated numbers, with lengths in their range, keep to the spreads by double cycle, as long as the checks
+-- hold with a reach for all of these; and no macrotick of any two lies further apart than the spread says
+pub record KeepsToSpreads (beside : Bool) (p : Values) (flutter start rate : ℕ) (nodes : ℕ → List Member) (k : ℕ) : Type 0 where
+  pub keeps :
+      KeepsSharp p flutter (λ m. (sharp_spread_after beside p flutter start rate m).starts)
+      (λ m. (sharp_spread_after beside p flutter start rate m).lengths) nodes k
+  pub precise :
+      (one other : Member) (macrotick : ℤ) (is_odd : Bool) → Contains (nodes k) one → Contains (nodes k) other
+      → pos 0 ≤ℤ macrotick → macrotick ≤ℤ p.macros
+      → IsWithin
+      (pos (sharply_apart_in p (sharp_spread_after beside p flutter start rate k)))
+      (gap_of p is_odd macrotick (row_in is_odd one.even one.odd) (row_in is_odd other.even other.odd))
+
+abbrev pub SharpSpreadsKeep : Type 0
+SharpSpreadsKeep =
+    (beside : Bool) (p : Values) (flutter start rate reach doubles : ℕ) (senders : ℕ → List Sender) (nodes : ℕ → List Member)
+    → AreSharpDoubles beside p flutter doubles senders nodes (pos (last_action p)) → SharpChecksHold flutter reach p
+    → ((k : ℕ) → k < doubles → sharply_near_in p (sharp_spread_after beside p flutter start rate k) ≤ reach)
+    → AreSharp p start rate (pos 0) (map (λ node. node.even) (nodes 0))
+    → (k : ℕ) → k < doubles → WalkLastsAfter p flutter k → KeepsToSpreads beside p flutter start rate nodes k
