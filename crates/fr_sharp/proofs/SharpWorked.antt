@@ -1,7 +1,7 @@
 -- The premises of the laws are met: three nodes of a worked cluster, without an arbitrary node and beside one, which tells
 -- node 1 that it is 100 microticks early, node 2 that it is as much late, and node 3 nothing. Their starts lie 1,000,000 ticks
 -- apart, and their offset terms are 1, 0 and -1: so the next double cycle starts at the same instant for all.
-use Rattle.std.proofs.Common.{◌≡◌, ◌≢◌, ℕ, suc, zero, ◌+◌, ◌*◌, ◌≤◌, ◌<◌, Bool, true, false, ℤ, pos, negsuc, List, [], ◌∷◌, ◌++◌, length, All, refl, inr, lit≤, lit<, rules, arith}
+use Rattle.std.proofs.Common.{◌≡◌, ◌≢◌, ℕ, suc, zero, ◌+◌, ◌*◌, ◌≤◌, ◌<◌, Bool, true, false, ℤ, pos, negsuc, List, [], ◌∷◌, ◌++◌, length, map, All, refl, inr, lit≤, lit<, rules, arith}
 use Rattle.std.specs.Prelude.{◌+ℤ◌, ◌-ℤ◌, ◌≤ℤ◌, AllPairs, Contains, nat_abs}
 use Rattle.std.proofs.lemmas.List.Elements.{All-cons, All-contains, All-nil}
 use Rattle.std.proofs.lemmas.List.Kept.{AllPairs-cons}
@@ -32,11 +32,13 @@ use Rattle.fr_sharp.specs.SharpBounds.{last_action, last_of, rate_walk, sharp_la
 use Rattle.fr_sharp.specs.SharpChecks.{SharpChecksHold}
 use Rattle.fr_sharp.specs.Steady.{IsSteadyPair, PlacesEven}
 use Rattle.fr_sharp.specs.Lengths.{CanWalk, IsAboutCycle, IsSteadyRound}
+use Rattle.fr_sharp.specs.SharpRun.{AreSharpDoubles, IsNextDouble}
 use Rattle.fr_sharp.specs.SharpStep.{AllKeepSenders, AreSharp, ComputesSharply, IsSharpDouble, IsInSharpSync, StaySharp}
 use Rattle.fr_sharp.proofs.BoundLemmas.{walk_is_held}
 use Rattle.fr_sharp.proofs.SharpRows.{set_of}
 use Rattle.fr_sharp.proofs.SteadyLemmas.{counted_are_steady, deviations_are_steady, steady_values_place_lem}
 use Rattle.fr_sharp.proofs.StepLemmas.{next_is_in_sharp_sync, sharp_sync_is_kept_lem}
+use Rattle.fr_sharp.proofs.LastingLemmas.{sharp_sync_lasts_lem}
 
 -- ---- the cluster: four key slots, damping 2, delays of 50 to 300 ns, 100 ppm
 
@@ -540,6 +542,13 @@ next number start other_start offset = record {
   odd_steady = record { low = record { le = tt }; high = record { le = tt } };
 }
 
+followed : (beside : Bool) → All (λ node. IsFollowed cluster node (next_even node) (next_odd node)) (members beside)
+followed beside =
+    three (λ member. IsFollowed cluster member (next_even member) (next_odd member)) (first_member beside) (second_member beside) third_member
+    (record { start = refl; next = next 1 200_000_000_000 400_001_000_000 (pos 1); active_even = refl; active_odd = refl })
+    (record { start = refl; next = next 2 200_001_000_000 400_001_000_000 (pos 0); active_even = refl; active_odd = refl })
+    (record { start = refl; next = next 3 200_002_000_000 400_001_000_000 (negsuc 0); active_even = refl; active_odd = refl })
+
 next_in_sharp_sync :
     (beside : Bool)
     → IsInSharpSync beside cluster 0 (pos 0) (next_even (first_member beside) ∷ next_even (second_member beside) ∷ next_even third_member ∷ [])
@@ -547,7 +556,139 @@ next_in_sharp_sync :
 next_in_sharp_sync beside =
     next_is_in_sharp_sync beside cluster 0 senders (members beside) (pos 0) (rate_walk cluster 0) (pos 0) next_even next_odd is_sane (checks beside) can_walk (record { le = tt }) (record { le = tt }) (in_sharp_sync beside)
     (heard beside)
-    (three (λ member. IsFollowed cluster member (next_even member) (next_odd member)) (first_member beside) (second_member beside) third_member
-    (record { start = refl; next = next 1 200_000_000_000 400_001_000_000 (pos 1); active_even = refl; active_odd = refl })
-    (record { start = refl; next = next 2 200_001_000_000 400_001_000_000 (pos 0); active_even = refl; active_odd = refl })
-    (record { start = refl; next = next 3 200_002_000_000 400_001_000_000 (negsuc 0); active_even = refl; active_odd = refl }))
+    (followed beside)
+
+-- ---- and again in the next double cycle, where all start together and measure 0
+
+abbrev again : List Sender
+again = sender 1 400_001_000_000 (pos 0) 4 ∷ sender 2 400_001_000_000 (pos 0) 28 ∷ sender 3 400_001_000_000 (pos 0) 52 ∷ []
+
+again_offsets : (number : ℕ) (beside : Bool) (value : ℤ) → IsMidpoint (rates beside value) (pos 0) → IsOffsetRound cluster again (row number 600_001_000_000 (pos 0)) (rates beside value) (uncut (pos 0))
+again_offsets number beside value middle = record {
+  micro = micro number 600_001_000_000 (pos 0);
+  hears = record {
+    said = pos 0 ∷ pos 0 ∷ pos 0 ∷ [];
+    further = told beside value;
+    parts = IsPermutation-refl (rates beside value);
+    few = few_rates beside value;
+    each = (
+      record { low = record { lt = tt }; high = record { le = tt } },
+      (record { low = record { lt = tt }; high = record { le = tt } }, (record { low = record { lt = tt }; high = record { le = tt } }, tt)),
+    );
+  };
+  is_term = inr (pos 0, middle, refl);
+  applied = refl;
+}
+
+again_rates : (number : ℕ) (beside : Bool) (value : ℤ) → IsMidpoint (rates beside value) (pos 0) → IsSteadyRound cluster 0 again (row number 600_001_000_000 (pos 0)) (rates beside value) (uncut (pos 0))
+again_rates number beside value middle = record {
+  micro = micro number 600_001_000_000 (pos 0);
+  hears = record {
+    said = pos 0 ∷ pos 0 ∷ pos 0 ∷ [];
+    further = told beside value;
+    parts = IsPermutation-refl (rates beside value);
+    few = few_rates beside value;
+    each = (
+      record { actions = record { low = record { le = tt }; high = record { le = tt } }; length = record { low = record { le = tt }; high = record { le = tt } } },
+      (
+        record { actions = record { low = record { le = tt }; high = record { le = tt } }; length = record { low = record { le = tt }; high = record { le = tt } } },
+        (record { actions = record { low = record { le = tt }; high = record { le = tt } }; length = record { low = record { le = tt }; high = record { le = tt } } }, tt),
+      ),
+    );
+  };
+  is_term = inr (pos 0, middle, refl);
+}
+
+abbrev again_member : ℕ → Bool → ℤ → Member
+again_member number beside value = record {
+  even = row number 400_001_000_000 (pos 0);
+  odd = row number 600_001_000_000 (pos 0);
+  offsets = rates beside value;
+  rates = rates beside value;
+  offset_term = uncut (pos 0);
+  rate_term = uncut (pos 0);
+}
+
+again_computes : (number : ℕ) (beside : Bool) (value : ℤ) → IsMidpoint (rates beside value) (pos 0) → ComputesSharply cluster 0 again (again_member number beside value)
+again_computes number beside value middle = record {
+  regular = regular number 400_001_000_000 (pos 0) refl;
+  by_offset = again_offsets number beside value middle;
+  by_rate = again_rates number beside value middle;
+}
+
+abbrev again_members : Bool → List Member
+again_members beside = again_member 1 beside (pos 100) ∷ again_member 2 beside (negsuc 99) ∷ again_member 3 false (pos 100) ∷ []
+
+hold_again : (beside : Bool) → All (Holds beside) (again_members beside)
+hold_again false = three (Holds false) (again_member 1 false (pos 100)) (again_member 2 false (negsuc 99)) (again_member 3 false (pos 100)) (refl, refl) (refl, refl) (refl, refl)
+hold_again true =
+    three (Holds true) (again_member 1 true (pos 100)) (again_member 2 true (negsuc 99)) (again_member 3 false (pos 100)) (lit≤ tt, lit≤ tt, lit≤ tt, lit≤ tt) (lit≤ tt, lit≤ tt, lit≤ tt, lit≤ tt) (lit≤ tt, lit≤ tt, lit≤ tt, lit≤ tt)
+
+kept_again : (beside : Bool) → AllKeepSenders beside again (again_members beside)
+kept_again false one other here there =
+    let of_one = All-contains (Holds false) (again_members false) one (hold_again false) here in
+    let of_other = All-contains (Holds false) (again_members false) other (hold_again false) there in
+    ((lit≤ tt, of_one.0, of_other.0), (lit≤ tt, of_one.1, of_other.1))
+kept_again true one other here there =
+    let of_one = All-contains (Holds true) (again_members true) one (hold_again true) here in
+    let of_other = All-contains (Holds true) (again_members true) other (hold_again true) there in (
+      keep_one (length one.offsets) (length other.offsets) of_one.0 of_one.1 of_other.0 of_other.1,
+      keep_one (length one.rates) (length other.rates) of_one.2 of_one.3 of_other.2 of_other.3,
+    )
+
+acts_again : All (λ sender. IsBetween (pos 0) (pos (last_action cluster)) sender.action) again
+unfolding last_of
+acts_again =
+    three (λ (sender : Sender). IsBetween (pos 0) (pos (last_action cluster)) sender.action) (sender 1 400_001_000_000 (pos 0) 4) (sender 2 400_001_000_000 (pos 0) 28) (sender 3 400_001_000_000 (pos 0) 52)
+    (record { low = record { le = tt }; high = record { le = tt } }) (record { low = record { le = tt }; high = record { le = tt } }) (record { low = record { le = tt }; high = record { le = tt } })
+
+heard_again : (beside : Bool) → IsSharpDouble beside cluster 0 again (again_members beside) (pos (last_action cluster))
+heard_again beside = record {
+  among =
+      three (IsAmong (again_members beside)) (sender 1 400_001_000_000 (pos 0) 4) (sender 2 400_001_000_000 (pos 0) 28) (sender 3 400_001_000_000 (pos 0) 52)
+      (again_member 1 beside (pos 100), (0, lit< tt, refl), refl, refl) (again_member 2 beside (negsuc 99), (1, lit< tt, refl), refl, refl) (again_member 3 false (pos 100), (2, lit< tt, refl), refl, refl);
+  acts = acts_again;
+  computes =
+      three (ComputesSharply cluster 0 again) (again_member 1 beside (pos 100)) (again_member 2 beside (negsuc 99)) (again_member 3 false (pos 100)) (again_computes 1 beside (pos 100) (zero_middle beside).0)
+      (again_computes 2 beside (negsuc 99) (zero_middle beside).1) (again_computes 3 false (pos 100) (zero_middle false).0);
+  keep = kept_again beside;
+}
+
+-- both double cycles
+abbrev senders_in : ℕ → List Sender
+senders_in zero = senders
+senders_in (suc k) = again
+
+abbrev members_in : Bool → ℕ → List Member
+members_in beside zero = members beside
+members_in beside (suc k) = again_members beside
+
+heard_in : (beside : Bool) (k : ℕ) → IsSharpDouble beside cluster 0 (senders_in k) (members_in beside k) (pos (last_action cluster))
+heard_in beside zero = heard beside
+heard_in beside (suc k) = heard_again beside
+
+follows_in : (beside : Bool) (k : ℕ) → suc k < 2 → IsNextDouble cluster (members_in beside k) (members_in beside (suc k))
+follows_in beside zero short = record {
+  next_even = next_even;
+  next_odd = next_odd;
+  followed = followed beside;
+  evens = refl;
+  odds = refl;
+}
+follows_in beside (suc k) short = absurd (omega (arith, short))
+
+doubles : (beside : Bool) → AreSharpDoubles beside cluster 0 2 senders_in (members_in beside) (pos (last_action cluster))
+doubles beside = record {
+  sane = is_sane;
+  second = refl;
+  heard = λ k short. heard_in beside k;
+  follows = λ k short uncut. follows_in beside k short;
+}
+
+-- in the second one all are in sharp sync, and stay so
+lasts : (beside : Bool)
+    → IsInSharpSync beside cluster 0 (pos 0) (map (λ node. node.even) (again_members beside)) (map (λ node. node.odd) (again_members beside))
+    × StaySharp beside cluster 0 (pos 0) (again_member 1 beside (pos 100)) (again_member 3 false (pos 100))
+lasts beside =
+    let both = sharp_sync_lasts_lem beside cluster 0 2 senders_in (members_in beside) (doubles beside) (checks beside) (in_sharp_sync beside) 1 (lit< tt) tt in
+    (both.0, both.1 (again_member 1 beside (pos 100)) (again_member 3 false (pos 100)) (0, lit< tt, refl) (2, lit< tt, refl))
