@@ -54,8 +54,8 @@ last_of_eight : last_action (set 2 7 100 0 5_000_000) ≡ 172
 unfolding last_of
 last_of_eight = refl
 
--- without flutter, first without arbitrary nodes and then beside them; the older precision of them is five to thirteen times
--- the first
+-- without flutter, first without arbitrary nodes and then beside them; the older precision is more than nine times the first, and
+-- more than three times the second
 no_damping : Bounds false (set 0 7 100 0 5_000_000) 0 3_000_298 16_001_998 24_002_794 20_144_324 × Bounds true (set 0 7 100 0 5_000_000) 0 6_000_596 45_005_288 59_006_680 52_289_840 × (rate_walk (set 0 7 100 0 5_000_000) 0 ≡ pos 1000099) × (precision_of (set 0 7 100 0 5_000_000) ≡ 430_056_600)
 unfolding last_of
 no_damping = ((refl, refl, refl, refl), (refl, refl, refl, refl), refl, refl)
