@@ -4,7 +4,7 @@ use Rattle.std.specs.Prelude.{neg_ℤ, ◌+ℤ◌, ◌-ℤ◌, ◌*ℤ◌, ◌�
 use Rattle.std.proofs.lemmas.Int.{ints}
 use Rattle.fr_base.specs.declared.node_row.NodeRow.{NodeRow}
 use Rattle.fr_base.specs.declared.Outcome.TheVariants.{Exceeded, Within}
-use Rattle.fr_base.specs.Within.{IsWithin}
+use Rattle.fr_base.specs.Within.{IsBetween, IsWithin}
 use Rattle.fr_cluster.specs.Values.{Values}
 use Rattle.fr_cluster.specs.Sane.{IsSane}
 use Rattle.fr_midpoint.specs.Midpoint.{IsMidpoint}
@@ -22,12 +22,12 @@ use Rattle.fr_precision.specs.Rows.{corrected_end_of, end_of, Sender}
 use Rattle.fr_precision.specs.Offsets.{IsDeviation, IsOffsetRound, IsSending}
 use Rattle.fr_precision.proofs.InstantLaws.{early_on_line, odd_start_is}
 use Rattle.fr_precision.proofs.OffsetLaws.{micro_lasts, offset_terms_are_uncut}
-use Rattle.fr_precision.proofs.Senders.{heard_all}
+use Rattle.fr_precision.proofs.Senders.{heard_all, All-along}
 use Rattle.fr_sharp.specs.Said.{lies_after, AllLieNear, KeepsSaid, SameLieNear}
-use Rattle.fr_sharp.specs.Ends.{EndsComeNear, SendApart, TakesOffsets}
-use Rattle.fr_sharp.proofs.SaidLemmas.{two_alone_lem, two_apart_lem}
-use Rattle.fr_sharp.proofs.Tails.{tails_near}
-use Rattle.fr_sharp.proofs.Zips.{zip_all, zip_both, zip_same_length}
+use Rattle.fr_sharp.specs.Ends.{CorrectedEndIsNear, EndsComeNear, SendApart, TakesOffsets}
+use Rattle.fr_sharp.proofs.SaidLemmas.{one_between_lem, two_alone_lem, two_apart_lem}
+use Rattle.fr_sharp.proofs.Tails.{tail_near_end, tails_near}
+use Rattle.fr_sharp.proofs.Zips.{zip_all, zip_both, zip_said, zip_same_length}
 
 -- ---- one receiver
 
@@ -251,3 +251,82 @@ ends_come_near_lem true p senders starts evens odds reach other_reach row other_
     (cross_near p senders starts evens odds reach other_reach row other_row values other_values term other_term sane send takes also near)
     (omega (arith, keep, said)) one.middle other.middle
     )
+
+-- ---- one receiver and a sender
+
+end_value_sum : (starts evens odds end at act v t other_end : ℤ) (e q : ℕ)
+    → IsWithin (((starts +ℤ evens) +ℤ odds) +ℤ pos q) (((end -ℤ at) +ℤ act) -ℤ other_end)
+    → ((act -ℤ at) -ℤ (pos e +ℤ t)) <ℤ v → v ≤ℤ ((act -ℤ at) +ℤ pos e) → t ≤ℤ pos q
+    → IsBetween (other_end -ℤ (((starts +ℤ evens) +ℤ odds) +ℤ pos (e + 2 * q))) (other_end +ℤ (((starts +ℤ evens) +ℤ odds) +ℤ pos (e + 2 * q))) (end +ℤ v)
+end_value_sum starts evens odds end at act v t other_end e q near a b c = record { low = omega (arith, ints, near.low); high = omega (arith, ints, near.high) }
+
+-- a sender and the one whose end is looked at
+record Ending (p : Values) (starts evens odds : ℤ) (row : NodeRow) (reference sender : Sender) : Type 0 where
+  sends : IsSending p sender
+  start : IsWithin (starts +ℤ evens) (sender.odd.start -ℤ reference.odd.start)
+  odd : IsWithin odds (cycle_length_of p sender.odd -ℤ cycle_length_of p reference.odd)
+  from_row : IsWithin odds (cycle_length_of p row -ℤ cycle_length_of p reference.odd)
+
+ending_of : (p : Values) (starts evens odds : ℤ) (row : NodeRow) (reference sender : Sender) → IsSending p reference → IsSending p sender
+    → IsWithin starts (sender.even.start -ℤ reference.even.start) → IsWithin evens (cycle_length_of p sender.even -ℤ cycle_length_of p reference.even)
+    → IsWithin odds (cycle_length_of p sender.odd -ℤ cycle_length_of p reference.odd) → IsWithin odds (cycle_length_of p row -ℤ cycle_length_of p reference.odd)
+    → Ending p starts evens odds row reference sender
+ending_of p starts evens odds row reference sender reference_sends sends start even odd from = record {
+  sends = sends;
+  start =
+      odd_starts starts evens sender.even.start sender.odd.start reference.even.start reference.odd.start (cycle_length_of p sender.even) (cycle_length_of p reference.even)
+      (odd_start_is p sender.even sender.odd sends.double) (odd_start_is p reference.even reference.odd reference_sends.double) start even;
+  odd = odd;
+  from_row = from;
+}
+
+end_value : (p : Values) (senders : List Sender) (starts evens odds : ℤ) (row : NodeRow) (values : List ℤ) (term : Term) (reference sender : Sender) (v : ℤ)
+    → IsSane p → IsOffsetRound p senders row values term → Ending p starts evens odds row reference sender → IsDeviation p true sender.action row sender.odd v
+    → IsBetween (end_of p reference.odd -ℤ (((starts +ℤ evens) +ℤ odds) +ℤ pos (arrival_error p + 2 * longest_micro p))) (end_of p reference.odd +ℤ (((starts +ℤ evens) +ℤ odds) +ℤ pos (arrival_error p + 2 * longest_micro p)))
+    (place_at (ends_at p row values) v)
+end_value p senders starts evens odds row values term reference sender v sane round ends dev =
+    let grid = is_grid_lem p sane in
+    let at = instant_of (grid_for p) row true sender.action in
+    let act = instant_of (grid_for p) sender.odd true sender.action in
+    end_value_sum starts evens odds (end_of p row) at act (v *ℤ row.length) row.length (end_of p reference.odd) (arrival_error p) (longest_micro p)
+    (
+    tail_near_end row.start (cycle_length_of p row) row.length sender.odd.start (cycle_length_of p sender.odd) sender.odd.length sender.action at act reference.odd.start (cycle_length_of p reference.odd)
+    p.macros (pos (longest_micro p)) (starts +ℤ evens) odds
+    (line_of p senders row values term sender sane round ends.sends) (early_on_line p sender.odd sender.action sane ends.sends.lasts ends.sends.acts_to)
+    (some_macros p.correction p.macros grid.correction_from grid.correction_to) (no_less (longest_micro p))
+    ends.sends.acts_from (in_cycle sender.action p.correction p.macros ends.sends.acts_to grid.correction_to) ends.start ends.from_row ends.odd
+    )
+    dev.low dev.high round.micro.most
+
+module _
+  (p : Values) (senders : List Sender) (starts evens odds reach : ℤ) (row : NodeRow) (values : List ℤ) (term : Term)
+  (sane : IsSane p) (some : 1 ≤ length senders) (send : SendApart p starts evens odds senders) (takes : TakesOffsets p senders reach odds row values term) where
+
+  endings : All (λ reference. All (Ending p starts evens odds row reference) senders) senders
+  endings i d short j e below =
+      ending_of p starts evens odds row _ _ (send.sending i d short) (send.sending j e below) (send.by_start j e below i d short) (send.by_even j e below i d short) (send.by_odd j e below i d short) (takes.near i d short)
+
+  end_near : (reference : Sender) → All (Ending p starts evens odds row reference) senders
+      → IsWithin (starts +ℤ evens +ℤ odds +ℤ pos (arrival_error p + 2 * longest_micro p)) (corrected_end_of p row -ℤ end_of p reference.odd)
+  end_near reference all =
+      let bound = ((starts +ℤ evens) +ℤ odds) +ℤ pos (arrival_error p + 2 * longest_micro p) in
+      let one = corrected p senders reach odds row values term sane some takes in
+      let among =
+      one_between_lem takes.round.hears.said (end_of p reference.odd -ℤ bound) (end_of p reference.odd +ℤ bound) (ends_at p row values) one.mid (keeps_said p senders row values term sane takes.round)
+      (
+      zip_said (Ending p starts evens odds row reference) (λ (sender : Sender) value. IsDeviation p true sender.action row sender.odd value)
+      (λ v. IsBetween (end_of p reference.odd -ℤ bound) (end_of p reference.odd +ℤ bound) (place_at (ends_at p row values) v)) senders takes.round.hears.said
+      (λ sender v ends dev. end_value p senders starts evens odds row values term reference sender v sane takes.round ends dev) all takes.round.hears.each
+      )
+      one.middle in
+      back bound (corrected_end_of p row) (place_at (ends_at p row values) one.mid) (end_of p reference.odd) one.is among
+    where
+      back : (bound x y end : ℤ) → x ≡ y → IsBetween (end -ℤ bound) (end +ℤ bound) y → IsWithin bound (x -ℤ end)
+      back bound x y end is between = record { low = omega (arith, ints, between.low); high = omega (arith, ints, between.high) }
+
+pub corrected_end_is_near : CorrectedEndIsNear
+corrected_end_is_near p senders starts evens odds reach row values term sane some send takes =
+    All-along (λ (reference : Sender). All (Ending p starts evens odds row reference) senders)
+    (λ (reference : Sender). IsWithin (starts +ℤ evens +ℤ odds +ℤ pos (arrival_error p + 2 * longest_micro p)) (corrected_end_of p row -ℤ end_of p reference.odd)) senders
+    (λ reference all. end_near p senders starts evens odds reach row values term sane some send takes reference all)
+    (endings p senders starts evens odds reach row values term sane some send takes)

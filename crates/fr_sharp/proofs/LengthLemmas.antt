@@ -20,11 +20,11 @@ use Rattle.fr_precision.proofs.Figures.{longest_is, shortest_is, times_natural}
 use Rattle.fr_precision.proofs.OffsetLaws.{micro_lasts}
 use Rattle.fr_precision.proofs.PlacementLaws.{steady_within}
 use Rattle.fr_precision.proofs.RateLaws.{limited_within, outcome_within}
-use Rattle.fr_precision.proofs.Senders.{heard_all}
+use Rattle.fr_precision.proofs.Senders.{heard_all, All-along}
 use Rattle.fr_sharp.specs.Said.{lies_after, AllLieNear, KeepsSaid, SameLieNear}
 use Rattle.fr_sharp.specs.SharpBounds.{steady_error, wide_change}
 use Rattle.fr_sharp.specs.Steady.{between_actions, placed_length, PlacesEven}
-use Rattle.fr_sharp.specs.Lengths.{CanWalk, EvensAreAbout, EvensWithin, IsAboutCycle, IsNextEven, IsSteadyRound, LengthsComeNear, RangeWalks}
+use Rattle.fr_sharp.specs.Lengths.{next_length_error, NextLengthIsNear, CanWalk, EvensAreAbout, EvensWithin, IsAboutCycle, IsNextEven, IsSteadyRound, LengthsComeNear, RangeWalks}
 use Rattle.fr_sharp.proofs.SaidLemmas.{one_between_lem, two_alone_lem, two_apart_lem}
 use Rattle.fr_sharp.proofs.Signed.{room_of, signed_of}
 use Rattle.fr_sharp.proofs.Walks.{changed, damped_away, moved_on, walked, HasRoom, Walked}
@@ -265,6 +265,39 @@ lengths_come_near_lem true p flutter senders spread beyond walk row other_row va
     beside_sum spread (steady_error p flutter) (longest_micro p) (amount p name.pClusterDriftDamping * longest_micro p) (cycle_change p) (p.damping *ℤ pos (longest_micro p))
     (place_at (rates_at p row values) round.mid) (cycle_length_of p even) (place_at (rates_at p other_row other_values) other_round.mid) (cycle_length_of p other_even) (damping_is p sane) apart
     (next_near p row values term (beyond +ℤ walk) even sane is.micro round next) (next_near p other_row other_values other_term (beyond +ℤ walk) other_even sane also.micro other_round other_next)
+  where
+    itself : (a : ℤ) → a ≤ℤ a
+    itself a = omega (arith, ints)
+
+-- ---- one receiver and a sender
+
+placed_about : (spread far : ℤ) (e : ℕ) (x l k : ℤ) → far ≤ℤ pos e → IsWithin spread (l -ℤ k) → IsWithin far (x -ℤ k) → IsBetween (l -ℤ (spread +ℤ pos e)) (l +ℤ (spread +ℤ pos e)) x
+placed_about spread far e x l k le near placed = record { low = omega (arith, ints, le, near.high, placed.low); high = omega (arith, ints, le, near.low, placed.high) }
+
+near_sum : (spread c : ℤ) (e cqp j : ℕ) (u v l : ℤ) → pos cqp ≡ c → IsBetween (l -ℤ (spread +ℤ pos e)) (l +ℤ (spread +ℤ pos e)) u → IsWithin (c +ℤ pos j) (u -ℤ v) → IsWithin (spread +ℤ pos (e + cqp + j)) (v -ℤ l)
+near_sum spread c e cqp j u v l is between near = record { low = omega (arith, ints, between.low, near.high); high = omega (arith, ints, between.high, near.low) }
+
+pub next_length_is_near : NextLengthIsNear
+next_length_is_near p flutter senders spread beyond walk row values term even sane can some about within is next =
+    let round = round_of p flutter senders beyond walk (beyond +ℤ walk) row values term sane can (itself (beyond +ℤ walk)) some about is in
+    let e = steady_error p flutter in
+    All-along (λ (one : Sender). All (λ (other : Sender). IsWithin spread (cycle_length_of p one.even -ℤ cycle_length_of p other.even)) senders)
+    (λ (one : Sender). IsWithin (spread +ℤ pos (next_length_error p flutter)) (cycle_length_of p even -ℤ cycle_length_of p one.even)) senders
+    (λ one near.
+    let long = cycle_length_of p one.even in
+    let among =
+    one_between_lem is.hears.said (long -ℤ (spread +ℤ pos e)) (long +ℤ (spread +ℤ pos e)) (rates_at p row values) round.mid (keeps_said p flutter senders row values sane is.micro is.hears)
+    (
+    zip_said (λ (other : Sender). IsWithin spread (long -ℤ cycle_length_of p other.even)) (λ (sender : Sender) value. PlacesEven p flutter sender row value)
+    (λ v. IsBetween (long -ℤ (spread +ℤ pos e)) (long +ℤ (spread +ℤ pos e)) (placed_length p row v)) senders is.hears.said
+    (λ other v close places.
+    placed_about spread (far_of p flutter row) e (placed_length p row v) long (cycle_length_of p other.even) (far_to flutter (wide_change p) (amount p name.xRateBound) row.length is.micro.most) close places.length)
+    near is.hears.each
+    )
+    round.middle in
+    near_sum spread (p.damping *ℤ pos (longest_micro p)) e (amount p name.pClusterDriftDamping * longest_micro p) (cycle_change p) (place_at (rates_at p row values) round.mid) (cycle_length_of p even) long (damping_is p sane) among
+    (next_near p row values term (beyond +ℤ walk) even sane is.micro round next))
+    within
   where
     itself : (a : ℤ) → a ≤ℤ a
     itself a = omega (arith, ints)

@@ -170,6 +170,57 @@ tails_near start length unit sender_start sender_length sender_unit a at sender_
     line.from line.to sender_line.from sender_line.to other_line.from other_line.to other_sender_line.from other_sender_line.to m_from
     )
 
+-- ---- one tail and an end
+
+-- the mean of two lengths differs from a third one by no more than both do
+weighted_one : (g a l i j k : ℤ) → pos 0 ≤ℤ a → a ≤ℤ g → IsWithin l (i -ℤ k) → IsWithin l (j -ℤ k) → IsWithin (g *ℤ l) ((((g -ℤ a) *ℤ i) +ℤ (a *ℤ j)) -ℤ (g *ℤ k))
+weighted_one g a l i j k from to ik jk =
+    sum ((g -ℤ a) *ℤ i) (a *ℤ j) (g *ℤ k) ((g -ℤ a) *ℤ k) (a *ℤ k) ((g -ℤ a) *ℤ (i -ℤ k)) (a *ℤ (j -ℤ k)) ((g -ℤ a) *ℤ l) (a *ℤ l) (g *ℤ l)
+    (two_weights (g -ℤ a) a g k (all g a)) (mulz-subz i k (g -ℤ a)) (mulz-subz j k a) (two_weights (g -ℤ a) a g l (all g a))
+    (scaled (g -ℤ a) (i -ℤ k) l (left g a to) ik) (scaled a (j -ℤ k) l from jk)
+  where
+    all : (g a : ℤ) → (g -ℤ a) +ℤ a ≡ g
+    all g a = omega (arith, ints)
+
+    left : (a b : ℤ) → b ≤ℤ a → pos 0 ≤ℤ (a -ℤ b)
+    left a b le = omega (arith, ints)
+
+    sum : (ga_i a_j g_k ga_k a_k x y ga_l a_l g_l : ℤ) → g_k ≡ ga_k +ℤ a_k → x ≡ ga_i -ℤ ga_k → y ≡ a_j -ℤ a_k → g_l ≡ ga_l +ℤ a_l → IsWithin ga_l x → IsWithin a_l y → IsWithin g_l ((ga_i +ℤ a_j) -ℤ g_k)
+    sum ga_i a_j g_k ga_k a_k x y ga_l a_l g_l a b c d h k = record { low = omega (arith, ints, h.low, k.low); high = omega (arith, ints, h.high, k.high) }
+
+end_sum : (d t n o r w rl sd e f sb gl lg bg mg most : ℤ) → d ≡ t -ℤ n → t ≡ ((o +ℤ w) +ℤ e) -ℤ f → n ≡ r +ℤ rl → sd ≡ o -ℤ r → IsWithin sb sd → IsWithin gl (w -ℤ rl) → gl ≡ lg → bg ≡ (sb +ℤ lg) +ℤ mg
+    → pos 0 ≤ℤ e → e ≤ℤ (mg -ℤ most) → pos 0 ≤ℤ f → f ≤ℤ (mg -ℤ most) → pos 0 ≤ℤ most → IsWithin bg d
+end_sum d t n o r w rl sd e f sb gl lg bg mg most a b c h k near i j m1 m2 m3 m4 m5 = record {
+  low = omega (arith, ints, k.low, near.low);
+  high = omega (arith, ints, k.high, near.high);
+}
+
+-- a tail with its sender's instant lies no further from the end of another sender than the senders' starts and one length, and a
+-- microtick
+pub tail_near_end :
+    (start length unit sender_start sender_length sender_unit a at sender_at other_start other_length parts most starts lengths : ℤ)
+    → OnLine start length unit a parts most at → OnLine sender_start sender_length sender_unit a parts most sender_at
+    → pos 0 <ℤ parts → pos 0 ≤ℤ most → pos 0 ≤ℤ a → a ≤ℤ parts
+    → IsWithin starts (sender_start -ℤ other_start) → IsWithin lengths (length -ℤ other_length) → IsWithin lengths (sender_length -ℤ other_length)
+    → IsWithin ((starts +ℤ lengths) +ℤ most) ((((start +ℤ length) -ℤ at) +ℤ sender_at) -ℤ (other_start +ℤ other_length))
+tail_near_end start length unit sender_start sender_length sender_unit a at sender_at other_start other_length parts most starts lengths line sender_line some m_from a_from a_to by_start ik jk =
+    let one = ((start +ℤ length) -ℤ at) +ℤ sender_at in
+    let end = other_start +ℤ other_length in
+    cancelled (one -ℤ end) ((starts +ℤ lengths) +ℤ most) parts some
+    (
+    end_sum ((one -ℤ end) *ℤ parts) (one *ℤ parts) (end *ℤ parts) (sender_start *ℤ parts) (other_start *ℤ parts) (((parts -ℤ a) *ℤ length) +ℤ (a *ℤ sender_length)) (parts *ℤ other_length) ((sender_start -ℤ other_start) *ℤ parts)
+    line.less sender_line.less (starts *ℤ parts) (parts *ℤ lengths) (lengths *ℤ parts) (((starts +ℤ lengths) +ℤ most) *ℤ parts) (most *ℤ parts) most
+    (subz-mulz one end parts)
+    (tail_is start length unit sender_start sender_length sender_unit a parts most at sender_at line sender_line)
+    (addz-mulz other_start other_length parts ∙ ap (λ x. (other_start *ℤ parts) +ℤ x) (mulz_comm other_length parts))
+    (subz-mulz sender_start other_start parts)
+    (scaled_back (sender_start -ℤ other_start) starts parts some by_start)
+    (weighted_one parts a lengths length sender_length other_length a_from a_to ik jk)
+    (mulz_comm parts lengths)
+    (addz-mulz (starts +ℤ lengths) most parts ∙ ap (λ x. x +ℤ (most *ℤ parts)) (addz-mulz starts lengths parts))
+    line.from line.to sender_line.from sender_line.to m_from
+    )
+
 -- ---- a share of a way
 
 share_sum : (d x y s s' sd al al' ad e e' sb most mg lo fg bg g : ℤ) → d ≡ x -ℤ y → x ≡ (s +ℤ al) -ℤ e → y ≡ (s' +ℤ al') -ℤ e' → sd ≡ s -ℤ s' → ad ≡ al -ℤ al'

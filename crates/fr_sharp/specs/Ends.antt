@@ -1,5 +1,5 @@
 -- The sharper laws of offsets: what offset correction makes of the starts of the next double cycle.
-use Rattle.std.specs.Prelude.{◌+◌, ◌*◌, Bool, true, false, ℤ, pos, ◌+ℤ◌, ◌-ℤ◌, ◌*ℤ◌, List, All}
+use Rattle.std.specs.Prelude.{◌+◌, ◌*◌, Bool, true, false, ℤ, pos, ◌+ℤ◌, ◌-ℤ◌, ◌*ℤ◌, List, length, ◌≤◌, All}
 use Rattle.fr_base.specs.declared.node_row.NodeRow.{NodeRow}
 use Rattle.fr_base.specs.Within.{IsWithin}
 use Rattle.fr_cluster.specs.Values.{Values}
@@ -7,7 +7,7 @@ use Rattle.fr_cluster.specs.Sane.{IsSane}
 use Rattle.fr_correct.specs.declared.term.Term.{Term}
 use Rattle.fr_bound.specs.Bounds.{arrival_error, longest_micro}
 use Rattle.fr_bound.specs.Sync.{cycle_length_of}
-use Rattle.fr_precision.specs.Rows.{corrected_end_of, AreNear, Sender}
+use Rattle.fr_precision.specs.Rows.{corrected_end_of, end_of, AreNear, Sender}
 use Rattle.fr_precision.specs.Offsets.{IsOffsetRound, IsSending, LimitSuffices, NearAll, ReachAll}
 use Rattle.fr_sharp.specs.Lengths.{KeepSenders}
 
@@ -41,3 +41,12 @@ EndsComeNear =
     → TakesOffsets p senders reach odds row values term → TakesOffsets p senders other_reach odds other_row other_values other_term
     → IsWithin odds (cycle_length_of p row -ℤ cycle_length_of p other_row) → KeepSenders beside senders values other_values
     → EndsCome beside p starts evens odds (corrected_end_of p row -ℤ corrected_end_of p other_row)
+
+-- the corrected end of one receiver lies near each sender's end
+abbrev pub CorrectedEndIsNear : Type 0
+CorrectedEndIsNear =
+    (p : Values) (senders : List Sender) (starts evens odds reach : ℤ) (row : NodeRow) (values : List ℤ) (term : Term)
+    → IsSane p → 1 ≤ length senders → SendApart p starts evens odds senders → TakesOffsets p senders reach odds row values term
+    → All
+    (λ sender. IsWithin (starts +ℤ evens +ℤ odds +ℤ pos (arrival_error p + 2 * longest_micro p)) (corrected_end_of p row -ℤ end_of p sender.odd))
+    senders

@@ -1,17 +1,19 @@
 -- The sharper laws of rates: what rate correction makes of the lengths of the next even cycles.
-use Rattle.std.specs.Prelude.{ℕ, suc, ◌≡◌, ◌<◌, ◌≤◌, int_le, if◌then◌else◌, IfSome, Bool, true, false, ℤ, pos, ◌+ℤ◌, ◌-ℤ◌, ◌*ℤ◌, ◌≤ℤ◌, List, length, All}
+use Rattle.std.specs.Prelude.{ℕ, suc, ◌≡◌, ◌+◌, ◌*◌, ◌<◌, ◌≤◌, int_le, if◌then◌else◌, IfSome, Bool, true, false, ℤ, pos, ◌+ℤ◌, ◌-ℤ◌, ◌*ℤ◌, ◌≤ℤ◌, List, length, All}
 use Rattle.fr_base.specs.declared.node_row.NodeRow.{NodeRow}
 use Rattle.fr_base.specs.declared.Outcome.TheVariants.{Within}
 use Rattle.fr_base.specs.Within.{IsBetween, IsWithin}
-use Rattle.fr_cluster.specs.Values.{Values}
+use Rattle.fr_cluster.specs.Values.{Values, amount}
 use Rattle.fr_cluster.specs.Sane.{IsSane}
+use Rattle.fr_cluster.specs.declared.names.ParamName.TheVariants as name
 use Rattle.fr_midpoint.specs.Receivers.{Hears}
 use Rattle.fr_correct.specs.declared.term.Term.{Term}
 use Rattle.fr_correct.specs.Terms.{IsRateTerm}
+use Rattle.fr_bound.specs.Bounds.{cycle_change, longest_micro}
 use Rattle.fr_bound.specs.Checks.{holds_of}
 use Rattle.fr_bound.specs.Sync.{cycle_length_of}
 use Rattle.fr_precision.specs.Rows.{longest_cycle, shortest_cycle, AreNear, HasProperMicro, IsSteady, KeepOne, Sender}
-use Rattle.fr_sharp.specs.SharpBounds.{rate_walk, sharp_lambda, walk_lasts}
+use Rattle.fr_sharp.specs.SharpBounds.{rate_walk, sharp_lambda, steady_error, walk_lasts}
 use Rattle.fr_sharp.specs.SharpChecks.{BoundsWalk, RateSuffices}
 use Rattle.fr_sharp.specs.Steady.{PlacesEven}
 
@@ -94,3 +96,16 @@ LengthsComeNear =
     → KeepSenders beside senders values other_values
     → IsNextEven p row term even → IsNextEven p other_row other_term other_even
     → LengthsCome beside p flutter spread (cycle_length_of p even -ℤ cycle_length_of p other_even)
+
+-- how far beyond the senders' spread a receiver's next even length may lie from a sender's
+abbrev pub next_length_error : Values → ℕ → ℕ
+next_length_error p flutter =
+    steady_error p flutter + amount p name.pClusterDriftDamping * longest_micro p + cycle_change p
+
+-- the length of one receiver's next even cycle lies near each sender's even one
+abbrev pub NextLengthIsNear : Type 0
+NextLengthIsNear =
+    (p : Values) (flutter : ℕ) (senders : List Sender) (spread beyond walk : ℤ) (row : NodeRow) (values : List ℤ) (term : Term) (even : NodeRow)
+    → IsSane p → CanWalk p flutter beyond walk → 1 ≤ length senders → EvensAreAbout p beyond senders → EvensWithin p spread senders
+    → IsSteadyRound p flutter senders row values term → IsNextEven p row term even
+    → All (λ sender. IsWithin (spread +ℤ pos (next_length_error p flutter)) (cycle_length_of p even -ℤ cycle_length_of p sender.even)) senders
