@@ -299,9 +299,8 @@ end_value p senders starts evens odds row values term reference sender v sane ro
     dev.low dev.high round.micro.most
 
 module _
-  (p : Values) (senders : List Sender) (starts evens odds reach : ℤ) (row : NodeRow) (values : List ℤ) (term : Term)
-  (sane : IsSane p) (some : 1 ≤ length senders) (send : SendApart p starts evens odds senders) (takes : TakesOffsets p senders reach odds row values term) where
-
+    (p : Values) (senders : List Sender) (starts evens odds reach : ℤ) (row : NodeRow) (values : List ℤ) (term : Term)
+    (sane : IsSane p) (some : 1 ≤ length senders) (send : SendApart p starts evens odds senders) (takes : TakesOffsets p senders reach odds row values term) where
   endings : All (λ reference. All (Ending p starts evens odds row reference) senders) senders
   endings i d short j e below =
       ending_of p starts evens odds row _ _ (send.sending i d short) (send.sending j e below) (send.by_start j e below i d short) (send.by_even j e below i d short) (send.by_odd j e below i d short) (takes.near i d short)

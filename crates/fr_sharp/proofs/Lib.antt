@@ -11,6 +11,7 @@ pub mod EndLemmas
 pub mod NearLemmas
 pub mod HearingLemmas
 pub mod StepLemmas
+pub mod RoundLemmas
 pub mod SettlingLemmas
 pub mod LastingLemmas
 pub mod SharpRows

@@ -91,12 +91,12 @@ among_rows P nodes sender (node, here, same_even, same_odd) holds =
     subst Odd same_odd (subst Even same_even (holds node here))
 
 -- a double cycle of some nodes with regular rows, whose starts and even lengths lie so near
-record Double (p : Values) (starts lengths : ℕ) (beyond : ℤ) (nodes : List Member) : Type 0 where
-  sane : IsSane p
-  sharp : AreSharp p starts lengths beyond (map (λ (node : Member). node.even) nodes)
-  regular : (node : Member) → Contains nodes node → IsRegular p node.even node.odd
+pub record Double (p : Values) (starts lengths : ℕ) (beyond : ℤ) (nodes : List Member) : Type 0 where
+  pub sane : IsSane p
+  pub sharp : AreSharp p starts lengths beyond (map (λ (node : Member). node.even) nodes)
+  pub regular : (node : Member) → Contains nodes node → IsRegular p node.even node.odd
 
-nodes_near : (p : Values) (starts lengths : ℕ) (beyond : ℤ) (nodes : List Member) → Double p starts lengths beyond nodes → (one other : Member) → Contains nodes one → Contains nodes other
+pub nodes_near : (p : Values) (starts lengths : ℕ) (beyond : ℤ) (nodes : List Member) → Double p starts lengths beyond nodes → (one other : Member) → Contains nodes one → Contains nodes other
     → LieNear p (pos starts) (pos lengths) (pos (odd_spread p lengths)) one.even one.odd other.even other.odd
 nodes_near p starts lengths beyond nodes double one other here there =
     let Near : ℕ → List ℤ → Type 0 = λ bound xs. LieWithin (pos bound) xs in
@@ -140,7 +140,7 @@ double_of beside p flutter senders nodes starts lengths beyond last sane sharp h
   regular = λ node here. (All-contains (ComputesSharply p flutter senders) nodes node heard.computes here).regular;
 }
 
-reached_by : (p : Values) (flutter starts lengths : ℕ) (beyond walk reach last action : ℤ) (is_odd : Bool) (even odd other_even other_odd : NodeRow) → IsSharpReach p flutter starts lengths beyond walk reach last
+pub reached_by : (p : Values) (flutter starts lengths : ℕ) (beyond walk reach last action : ℤ) (is_odd : Bool) (even odd other_even other_odd : NodeRow) → IsSharpReach p flutter starts lengths beyond walk reach last
     → IsRegular p even odd → IsRegular p other_even other_odd → LieNear p (pos starts) (pos lengths) (pos (odd_spread p lengths)) even odd other_even other_odd → pos 0 ≤ℤ action → action ≤ℤ last
     → IsWithin reach (gap_of p is_odd action (row_in is_odd even odd) (row_in is_odd other_even other_odd))
 reached_by p flutter starts lengths beyond walk reach last action is_odd even odd other_even other_odd is regular other_regular near from to =
