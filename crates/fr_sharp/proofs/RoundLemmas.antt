@@ -12,7 +12,7 @@ use Rattle.fr_correct.proofs.There.{offset_term_is_there, rate_term_is_there}
 use Rattle.fr_precision.specs.Rows.{Sender}
 use Rattle.fr_precision.specs.Instants.{gap_of}
 use Rattle.fr_precision.specs.Placement.{IsRegular}
-use Rattle.fr_precision.specs.Round.{offsets_of, rates_of, sender_at, sender_with, senders_of, Hearer, IsHearer, IsSender, Round}
+use Rattle.fr_precision.specs.Round.{offsets_of, rates_of, sender_at, sender_with, senders_of, Hearer, IsHearer, Round}
 use Rattle.fr_precision.specs.Step.{IsAmong, Member}
 use Rattle.fr_precision.proofs.Lists.{Contains-here, Contains-none, Contains-there}
 use Rattle.fr_precision.proofs.RoundSenders.{sender_is, IsFrom}
