@@ -211,17 +211,17 @@ some_senders r is = least (length (senders_of r)) (sync_count r.params r.is_arbi
 abbrev pub AreValues : Round → (Sender → ℤ → Type 0) → (ℕ → Option ℤ) → Type 0
 AreValues r Says at = AreTold Sender Says (sender_at r) at (marked r)
 
-record Sized (r : Round) (values : List ℤ) : Type 0 where
-  heard : ℕ
-  size : length values ≡ length (senders_of r) + heard
-  few : heard ≤ sync_count r.params r.is_arbitrary
+pub record Sized (r : Round) (values : List ℤ) : Type 0 where
+  pub heard : ℕ
+  pub size : length values ≡ length (senders_of r) + heard
+  pub few : heard ≤ sync_count r.params r.is_arbitrary
 
 parts_of : (r : Round) (Says : Sender → ℤ → Type 0) (at : ℕ → Option ℤ) → AreValues r Says at
     → IsParted Sender Says (senders_of r) (values_of at) (count_by (marked r) (range_with_len 0 15))
 unfolding values_of
 parts_of r Says at told = parted Sender Says (sender_at r) at (marked r) (range_with_len 0 15) told
 
-sized : (r : Round) (Says : Sender → ℤ → Type 0) (at : ℕ → Option ℤ) → IsRound r → AreValues r Says at → Sized r (values_of at)
+pub sized : (r : Round) (Says : Sender → ℤ → Type 0) (at : ℕ → Option ℤ) → IsRound r → AreValues r Says at → Sized r (values_of at)
 sized r Says at is told =
     let parts = parts_of r Says at told in
     let few = parts.few_further in

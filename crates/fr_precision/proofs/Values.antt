@@ -28,10 +28,10 @@ use Rattle.fr_cluster.proofs.KeyNodes.{key_among}
 -- ---- of both channels
 
 -- there is one
-abbrev IsThere : Option ℤ → Type 0
+abbrev pub IsThere : Option ℤ → Type 0
 IsThere o = (v : ℤ) × (o ≡ Some v)
 
-there_by : (o : Option ℤ) → IsSome o → IsThere o
+pub there_by : (o : Option ℤ) → IsSome o → IsThere o
 there_by None is = absurd (cc)
 there_by (Some v) is = (v, refl)
 
@@ -52,7 +52,7 @@ least_has P (Some a) None one other some = (a, refl, one a refl)
 least_has P (Some a) (Some b) one other some = (int_min a b, refl, least_either P a b (one a refl) (other b refl))
 
 -- and of their mean, where it holds of half of their sum
-mean_has : (P : ℤ → Type 0) (a b : Option ℤ) → ((x y : ℤ) → P x → P y → P (half_of_sum x y)) → ((v : ℤ) → a ≡ Some v → P v) → ((v : ℤ) → b ≡ Some v → P v)
+pub mean_has : (P : ℤ → Type 0) (a b : Option ℤ) → ((x y : ℤ) → P x → P y → P (half_of_sum x y)) → ((v : ℤ) → a ≡ Some v → P v) → ((v : ℤ) → b ≡ Some v → P v)
     → IsThere a ⊎ IsThere b → (v : ℤ) × (mean_of a b ≡ Some v) × P v
 mean_has P None None half one other (inl none) = absurd (let e = none.1 in cc)
 mean_has P None None half one other (inr none) = absurd (let e = none.1 in cc)
@@ -70,19 +70,19 @@ mean_from None b v is = inr (v, is)
 mean_from (Some a) b v is = inl (a, refl)
 
 -- a change is there where both deviations are
-change_there : (early late : Option ℤ) → IsSome early → IsSome late → IsThere (change_of early late)
+pub change_there : (early late : Option ℤ) → IsSome early → IsSome late → IsThere (change_of early late)
 change_there None late is also = absurd (cc)
 change_there (Some early) None is also = absurd (cc)
 change_there (Some early) (Some late) is also = (late -ℤ early, refl)
 
-change_from : (early late : Option ℤ) (v : ℤ) → change_of early late ≡ Some v
+pub change_from : (early late : Option ℤ) (v : ℤ) → change_of early late ≡ Some v
     → (e : ℤ) × ((l : ℤ) × (early ≡ Some e) × (late ≡ Some l) × (v ≡ l -ℤ e))
 change_from None late v is = absurd (cc)
 change_from (Some early) None v is = absurd (cc)
 change_from (Some early) (Some late) v is = (early, (late, refl, refl, let e : Some (late -ℤ early) ≡ Some v = is in cc))
 
 -- what one channel has, one of both has
-of_channels : (f : Channel → Option ℤ) (channel : Channel) → IsThere (f channel) → IsThere (f A) ⊎ IsThere (f B)
+pub of_channels : (f : Channel → Option ℤ) (channel : Channel) → IsThere (f channel) → IsThere (f A) ⊎ IsThere (f B)
 of_channels f A is = inl is
 of_channels f B is = inr is
 
@@ -96,10 +96,10 @@ own_is : (own : Option ℕ) (index : ℕ) → is_own own index ≡ true → own 
 own_is None index is = absurd (cc)
 own_is (Some own) index is = let e : own ≡ index = grind arith in ap Some e
 
-own_value : (own : Option ℕ) (index : ℕ) (value : Option ℤ) → is_own own index ≡ true → own_value_or own index value ≡ Some (pos 0)
+pub own_value : (own : Option ℕ) (index : ℕ) (value : Option ℤ) → is_own own index ≡ true → own_value_or own index value ≡ Some (pos 0)
 own_value own index value is = ap (λ b. if b then Some (pos 0) else value) is
 
-other_value : (own : Option ℕ) (index : ℕ) (value : Option ℤ) → is_own own index ≡ false → own_value_or own index value ≡ value
+pub other_value : (own : Option ℕ) (index : ℕ) (value : Option ℤ) → is_own own index ≡ false → own_value_or own index value ≡ value
 other_value own index value is = ap (λ b. if b then Some (pos 0) else value) is
 
 -- two senders of one index are the same node
@@ -114,7 +114,7 @@ sole_sender r index slot other_slot node other sane from also slot_is other_is =
     cc
 
 -- the sender of a receiver's own index has its odd row
-own_odd : (r : Round) (n : Hearer) (index : ℕ) (sender : Sender) → IsRound r → IsHeardAt r n → IsFrom r index sender → is_own n.own index ≡ true
+pub own_odd : (r : Round) (n : Hearer) (index : ℕ) (sender : Sender) → IsRound r → IsHeardAt r n → IsFrom r index sender → is_own n.own index ≡ true
     → sender.odd ≡ n.odd
 own_odd r n index sender is hears from own =
     let own_one = hears.itself index (own_is n.own index own) in
@@ -148,12 +148,12 @@ own_none r n index is hears none own =
     let itself = own_one.1.1 in
     no_sender r index own_one.0 own_one.1.0 is.sane itself.sender itself.slot_is none
 
-other_of : (r : Round) (n : Hearer) (index : ℕ) (sender : Sender) (from : IsFrom r index sender) → is_own n.own index ≡ false → IsOther r n index from.slot from.node
+pub other_of : (r : Round) (n : Hearer) (index : ℕ) (sender : Sender) (from : IsFrom r index sender) → is_own n.own index ≡ false → IsOther r n index from.slot from.node
 other_of r n index sender from other = record { sender = from.from; slot_is = from.slot_is; other = other }
 
 -- ---- offset values
 
-Offsets : Round → Hearer → Sender → ℤ → Type 0
+pub Offsets : Round → Hearer → Sender → ℤ → Type 0
 Offsets r n sender value = IsDeviation r.params true sender.action n.odd sender.odd value
 
 offset_said : (r : Round) (reach : ℤ) (n : Hearer) (index : ℕ) (sender : Sender) (own : Bool) → IsRound r → IsHearer r reach n → IsFrom r index sender → is_own n.own index ≡ own
@@ -184,7 +184,7 @@ offset_other r n index v false is hears own none some =
     let there = channel_of (n.look index true) (least_from (n.look index true A) (n.look index true B) v least) in
     of_arbitrary r n index true there.0 there.1.0 is hears none there.1.1
 
-offsets_told : (r : Round) (reach : ℤ) (n : Hearer) → IsRound r → IsHearer r reach n → AreValues r (Offsets r n) (offset_at n.look n.own)
+pub offsets_told : (r : Round) (reach : ℤ) (n : Hearer) → IsRound r → IsHearer r reach n → AreValues r (Offsets r n) (offset_at n.look n.own)
 offsets_told r reach n is hears = record {
   said = λ index sender some. offset_said r reach n index sender (is_own n.own index) is hears (sender_is r index sender some) refl;
   other = λ index v none some. offset_other r n index v (is_own n.own index) is hears.supply refl none some;
@@ -243,7 +243,7 @@ rate_said r reach n index sender false is hears from own =
     (of_channels (change_at n.look index) heard.0 (change_there (n.look index false heard.0) (n.look index true heard.0) heard.1 heard.2)) in
     (mean.0, other_value n.own index (mean_of (change_at n.look index A) (change_at n.look index B)) own ∙ mean.1, mean.2)
 
-rate_other : (r : Round) (n : Hearer) (index : ℕ) (v : ℤ) (own : Bool) → IsRound r → IsHeardAt r n → is_own n.own index ≡ own → sender_at r index ≡ None
+pub rate_other : (r : Round) (n : Hearer) (index : ℕ) (v : ℤ) (own : Bool) → IsRound r → IsHeardAt r n → is_own n.own index ≡ own → sender_at r index ≡ None
     → rate_at n.look n.own index ≡ Some v → marked r index ≡ true
 rate_other r n index v true is hears own none some = absurd (own_none r n index is hears none own)
 rate_other r n index v false is hears own none some =
@@ -252,7 +252,7 @@ rate_other r n index v false is hears own none some =
     let both = change_from (n.look index false there.0) (n.look index true there.0) there.1.0 there.1.1 in
     of_arbitrary r n index true there.0 both.1.0 is hears none both.1.2
 
-rates_told : (r : Round) (reach : ℤ) (n : Hearer) → IsRound r → IsHearer r reach n → AreValues r (PlacesLength r.params n.odd) (rate_at n.look n.own)
+pub rates_told : (r : Round) (reach : ℤ) (n : Hearer) → IsRound r → IsHearer r reach n → AreValues r (PlacesLength r.params n.odd) (rate_at n.look n.own)
 rates_told r reach n is hears = record {
   said = λ index sender some. rate_said r reach n index sender (is_own n.own index) is hears (sender_is r index sender some) refl;
   other = λ index v none some. rate_other r n index v (is_own n.own index) is hears.supply refl none some;

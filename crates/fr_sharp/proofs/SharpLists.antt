@@ -1,0 +1,74 @@
+-- The law of two receivers, both sides computed: three senders, whose values are the same at both receivers, and an arbitrary
+-- one that tells the first 100 and the second -100. Twice the difference is 20, of the 22 that the law allows; the bound without
+-- further values, 1, does not hold.
+use Rattle.std.proofs.Common.{ℤ, pos, negsuc, List, [], ◌∷◌, ◌++◌, All, refl, lit≤, lit<}
+use Rattle.std.specs.Prelude.{◌+ℤ◌}
+use Rattle.std.proofs.lemmas.List.Sorted.{IsPermutation-refl}
+use Rattle.fr_base.specs.Within.{IsWithin}
+use Rattle.fr_midpoint.specs.Midpoint.{IsMidpoint}
+use Rattle.fr_midpoint.specs.Receivers.{Receiver}
+use Rattle.fr_sharp.specs.Said.{lies_after, AllLieNear, KeepsSaid, SameLieNear}
+use Rattle.fr_sharp.proofs.SaidLemmas.{two_apart_lem}
+use Rattle.fr_sharp.proofs.SharpWorked.{three}
+
+abbrev said : List ℤ
+said = pos 0 ∷ pos 10 ∷ pos 20 ∷ []
+
+abbrev told_early : Receiver
+told_early = record { base = pos 0; unit = pos 1; values = said ++ pos 100 ∷ [] }
+
+abbrev told_late : Receiver
+told_late = record { base = pos 0; unit = pos 1; values = said ++ negsuc 99 ∷ [] }
+
+keeps_early : KeepsSaid said told_early
+keeps_early = record { lasts = record { lt = tt }; further = pos 100 ∷ []; parts = IsPermutation-refl (said ++ pos 100 ∷ []); few = lit≤ tt }
+
+keeps_late : KeepsSaid said told_late
+keeps_late = record { lasts = record { lt = tt }; further = negsuc 99 ∷ []; parts = IsPermutation-refl (said ++ negsuc 99 ∷ []); few = lit≤ tt }
+
+middle_early : IsMidpoint told_early.values (pos 15)
+middle_early = record {
+  low = pos 10;
+  high = pos 20;
+  least = record { few_below = lit≤ tt; more_up_to = lit< tt };
+  greatest = record { few_above = lit≤ tt; more_from = lit< tt };
+  half = refl;
+}
+
+middle_late : IsMidpoint told_late.values (pos 5)
+middle_late = record {
+  low = pos 0;
+  high = pos 10;
+  least = record { few_below = lit≤ tt; more_up_to = lit< tt };
+  greatest = record { few_above = lit≤ tt; more_from = lit< tt };
+  half = refl;
+}
+
+same : SameLieNear told_early told_late (pos 0) said said
+same = (
+  record { low = record { le = tt }; high = record { le = tt } },
+  (record { low = record { le = tt }; high = record { le = tt } }, (record { low = record { le = tt }; high = record { le = tt } }, tt)),
+)
+
+cross : AllLieNear told_early told_late (pos 20) said said
+cross =
+    three (λ v. All (λ u. IsWithin (pos 20) (lies_after told_early told_late v u)) said) (pos 0) (pos 10) (pos 20)
+    (
+    three (λ u. IsWithin (pos 20) (lies_after told_early told_late (pos 0) u)) (pos 0) (pos 10) (pos 20)
+    (record { low = record { le = tt }; high = record { le = tt } }) (record { low = record { le = tt }; high = record { le = tt } }) (record { low = record { le = tt }; high = record { le = tt } })
+    )
+    (
+    three (λ u. IsWithin (pos 20) (lies_after told_early told_late (pos 10) u)) (pos 0) (pos 10) (pos 20)
+    (record { low = record { le = tt }; high = record { le = tt } }) (record { low = record { le = tt }; high = record { le = tt } }) (record { low = record { le = tt }; high = record { le = tt } })
+    )
+    (
+    three (λ u. IsWithin (pos 20) (lies_after told_early told_late (pos 20) u)) (pos 0) (pos 10) (pos 20)
+    (record { low = record { le = tt }; high = record { le = tt } }) (record { low = record { le = tt }; high = record { le = tt } }) (record { low = record { le = tt }; high = record { le = tt } })
+    )
+
+within : IsWithin (pos 22) (pos 20)
+within =
+    two_apart_lem said said (pos 0) (pos 20) (pos 1) told_early told_late (pos 15) (pos 5) keeps_early keeps_late (record { le = tt }) (record { le = tt }) same cross (lit≤ tt) middle_early middle_late
+
+not_alone : IsWithin (pos 0 +ℤ pos 1) (lies_after told_early told_late (pos 15) (pos 5)) → ⊥
+not_alone near = absurd (near.high.le)

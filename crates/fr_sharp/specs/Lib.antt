@@ -1,0 +1,13 @@
+-- what the public contract cites
+pub mod Ends
+pub mod Hearing
+pub mod Lengths
+pub mod Nearness
+pub mod Said
+pub mod SharpBounds
+pub mod SharpChecks
+pub mod SharpRound
+pub mod SharpRun
+pub mod SharpSettling
+pub mod SharpStep
+pub mod Steady

@@ -1,0 +1,25 @@
+//! Why clocks keep a sharper precision where delays change little from one cycle of a double cycle to the next: laws over
+//! rows and values, without arbitrary nodes and beside them. Nothing here runs.
+#![tactic(auto)]
+
+mod bounds;
+mod ends;
+mod hearing;
+mod lasting;
+mod lengths;
+mod midpoints;
+mod nearness;
+mod settling;
+mod steady;
+mod step;
+
+pub use bounds::{sharp_bounds_are_below, sharp_checks_suffice, walks_are_bounded};
+pub use ends::ends_come_near;
+pub use hearing::rounds_are_heard_steadily;
+pub use lasting::sharp_sync_lasts;
+pub use lengths::{lengths_come_near, ranges_walk};
+pub use midpoints::midpoints_agree;
+pub use nearness::nodes_lie_near;
+pub use settling::sharp_spreads_settle;
+pub use steady::{pairs_are_steady, steady_values_place};
+pub use step::{sharp_spreads_shrink, sharp_sync_is_kept};

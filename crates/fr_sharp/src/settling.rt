@@ -1,0 +1,13 @@
+ghost use Rattle.fr_sharp.specs.SharpSettling.{AloneSettlesSoon, BesideSettlesSoon, NextSpreadDraws, NextStartsFit, OlderWayFits, SettledStays};
+
+/// The law of settling: how far starts and even lengths may lie apart, in ticks, draws together from one double cycle
+/// to the next as the step does, and comes to rest in sharp sync: after two double cycles without arbitrary nodes,
+/// and after 82 beside them. From sync in the older sense it stays within the older precision on the way.
+pub fn sharp_spreads_settle()
+    ensures draws { NextSpreadDraws }
+    ensures fit { NextStartsFit }
+    ensures stays { SettledStays }
+    ensures alone { AloneSettlesSoon }
+    ensures beside { BesideSettlesSoon }
+    ensures older { OlderWayFits }
+{}
