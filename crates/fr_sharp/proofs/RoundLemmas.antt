@@ -7,6 +7,7 @@ use Rattle.std.proofs.lemmas.List.Elements.{All-cons, All-contains_itself, All-n
 use Rattle.fr_base.specs.declared.node_row.NodeRow.{NodeRow}
 use Rattle.fr_base.specs.Within.{IsBetween, IsWithin}
 use Rattle.fr_cluster.proofs.KeyNodes.{key_among, Contains-cons_cases}
+use Rattle.fr_cluster.proofs.Elements.{Contains-here, Contains-none, Contains-there}
 use Rattle.fr_time.specs.Slots.{action_point_of}
 use Rattle.fr_correct.proofs.There.{offset_term_is_there, rate_term_is_there}
 use Rattle.fr_precision.specs.Rows.{Sender}
@@ -14,7 +15,6 @@ use Rattle.fr_precision.specs.Instants.{gap_of}
 use Rattle.fr_precision.specs.Placement.{IsRegular}
 use Rattle.fr_precision.specs.Round.{offsets_of, rates_of, sender_at, sender_with, senders_of, Hearer, IsHearer, Round}
 use Rattle.fr_precision.specs.Step.{IsAmong, Member}
-use Rattle.fr_cluster.proofs.Elements.{Contains-here, Contains-none, Contains-there}
 use Rattle.fr_precision.proofs.RoundSenders.{sender_is, IsFrom}
 use Rattle.fr_precision.proofs.Senders.{All-along}
 use Rattle.fr_sharp.specs.SharpBounds.{last_action}
