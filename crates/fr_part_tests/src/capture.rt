@@ -96,7 +96,8 @@ fn fed(first: &[u8], second: &[u8]) -> Option<(Part, Part, End)> {
 // The place, the ID and the frame CRC of both frames.
 const FRAMES: &[(u64, u16, u32)] = &[(0, 1, 0x9AE525), (8, 5, 0x75126B)];
 
-// How many of the two frames are told, in this order, of bytes that are fed one at a time, and the end.
+// How many of the two frames are told, in this order, of bytes that are fed one at a time, and the end; no such number
+// where another frame is told.
 fn fed_by_bytes(bytes: &[u8]) -> (usize, End) {
     let mut capture = Capture::new(Channel::A);
     let mut told = 0usize;
@@ -104,9 +105,12 @@ fn fed_by_bytes(bytes: &[u8]) -> (usize, End) {
         let fed = capture.feed(&bytes[done..done + 1]);
         if let Some(place) = fed.at {
             let frame = capture.frame();
-            if FRAMES.get(told) == Some(&(place, frame.header.id, frame.frame_crc)) {
-                told = told.saturating_add(1);
-            }
+            let is_next = FRAMES.get(told) == Some(&(place, frame.header.id, frame.frame_crc));
+            told = if is_next {
+                told.saturating_add(1)
+            } else {
+                usize::MAX
+            };
         }
     }
     (told, capture.finish())

@@ -67,8 +67,8 @@ pub record KeepsRecordedClocks (p : Values) (t : TraceView) (double : ℕ) : Typ
   pub after :
       (last : Record) (h : History) → t.history ≡ last ∷ h → All (λ row. (status_in p t.history row.node).state ≡ Active) last.rows
 
--- what a verdict promises of the recorded trace: so it is from its first double cycle in sync on, if there is one; of a node that
--- joins nothing is said before its first row
+-- what a verdict promises of the recorded trace: so it is from the first double cycle on that is in sync and in which no node may
+-- follow, if there is one; of a node that joins nothing is said before its first row
 abbrev pub KeepsItsPrecision : Values → TraceView → Verdict → Type 0
 KeepsItsPrecision p t v = (double : ℕ) → v.synced ≡ Some double → KeepsRecordedClocks p t double
 
