@@ -1,5 +1,5 @@
 -- Many double cycles, by the step.
-use Rattle.std.proofs.Common.{◌≡◌, ℕ, zero, suc, ◌+◌, ◌*◌, ◌-◌, ◌<◌, ◌≤◌, Bool, ℤ, pos, Option, Some, None, IfSome, List, map, All, sym, subst, arith}
+use Rattle.std.proofs.Common.{◌≡◌, ℕ, zero, suc, ◌+◌, ◌*◌, ◌-◌, ◌<◌, ◌≤◌, Bool, true, ℤ, pos, Option, Some, None, IfSome, List, map, All, sym, subst, arith}
 use Rattle.std.specs.Prelude.{◌+ℤ◌, ◌*ℤ◌, ◌≤ℤ◌, ◌/◌, Contains}
 use Rattle.std.proofs.lemmas.Int.{ints}
 use Rattle.std.proofs.lemmas.List.Elements.{All-contains_itself, All-map}
@@ -13,6 +13,8 @@ use Rattle.fr_cluster.specs.Sane.{IsSane}
 use Rattle.fr_cluster.specs.declared.names.ParamName.TheVariants as name
 use Rattle.fr_time.specs.Position.{floor_of}
 use Rattle.fr_bound.specs.Bounds.{longest_micro}
+use Rattle.fr_bound.specs.Checks.{holds_of}
+use Rattle.fr_precision.specs.Offsets.{LimitSuffices}
 use Rattle.fr_precision.specs.Rows.{Sender}
 use Rattle.fr_precision.specs.Instants.{gap_of, row_in}
 use Rattle.fr_precision.specs.Placement.{IsRegular}
@@ -22,11 +24,11 @@ use Rattle.fr_sharp.specs.SharpBounds.{last_action, near_by, odd_spread, precisi
 use Rattle.fr_sharp.specs.SharpChecks.{SharpChecksHold}
 use Rattle.fr_sharp.specs.Lengths.{walked_after}
 use Rattle.fr_sharp.specs.SharpSettling.{sharp_spread_after, sharply_apart_in, IsSharplySettled}
-use Rattle.fr_sharp.specs.SharpStep.{AreSharp, ComeSharply, ComputesSharply, DrawsTo, IsInSharpSync, IsSharpDouble, IsSharpReach, StaySharp}
+use Rattle.fr_sharp.specs.SharpStep.{ActInReach, AreSharp, ComeSharply, ComputesSharply, DrawsTo, IsInSharpSync, IsSharpDouble, IsSharpReach, StaySharp}
 use Rattle.fr_sharp.specs.SharpRun.{lengths_from, starts_from, AllUncut, AreSharpDoubles, BeginSharp, BeginWithin, DrawInReach, IsNextDouble, KeepsSharp, SharpDoublesDraw, SharpSpreadsKeep, SharpSyncIsReached, SharpSyncLasts, WalkLastsAfter, WalkLastsUpTo}
 use Rattle.fr_sharp.proofs.BoundLemmas.{floor_is, key_slots_act_early, sharp_checks_suffice_lem, walk_is_held, walked_none}
 use Rattle.fr_sharp.proofs.SettlingLemmas.{next_spread_draws, next_starts_fit, settled_stays}
-use Rattle.fr_sharp.proofs.StepLemmas.{macroticks_stay_sharp, next_is_sharp, sharp_is_wider, sharp_spreads_shrink_lem, sharp_sync_draws, sharp_sync_is_kept_lem}
+use Rattle.fr_sharp.proofs.StepLemmas.{act_in_reach, macroticks_stay_sharp, next_is_near, sharp_is_wider, sharp_sync_draws, sharp_sync_is_kept_lem, spreads_shrink_in_reach}
 
 pub earlier : (p : Values) (flutter k : ℕ) → WalkLastsUpTo p flutter (suc k) → WalkLastsAfter p flutter k
 earlier p flutter k before = by (walk_lasts p flutter) before
@@ -66,26 +68,18 @@ next_active p nodes next_nodes next =
     All-map (λ (row : NodeRow). row.state ≡ Active) next.next_odd nodes (All-along Followed (λ node. (next.next_odd node).state ≡ Active) nodes (λ node is. is.active_odd) next.followed) in
     (subst Are (sym next.evens) evens, subst Are (sym next.odds) odds)
 
--- ---- by the step
+-- ---- by the step, whatever says that action points lie within the reach
 
 module _ (beside : Bool) (p : Values) (flutter doubles : ℕ) (starts lengths : ℕ → ℕ) (senders : ℕ → List Sender) (nodes : ℕ → List Member) (reach last : ℤ)
-    (are : AreSharpDoubles beside p flutter doubles starts lengths senders nodes last) (draw : DrawInReach beside p flutter doubles starts lengths reach last) where
-  -- the numbers of one of them
-  reach_of : (k : ℕ) → k < doubles → WalkLastsAfter p flutter k → IsSharpReach p flutter (starts k) (lengths k) (walked_after p flutter k) (rate_walk p flutter) reach last
-  reach_of k short before = record {
-    sane = are.sane;
-    walks = (walk_is_held p flutter k are.sane are.second before).0;
-    suffices = draw.suffices;
-    early = draw.early;
-    fits = draw.fits k short;
-  }
-
+    (are : AreSharpDoubles beside p flutter doubles starts lengths senders nodes last) (draws : (k : ℕ) → DrawsTo beside p flutter (starts k) (lengths k) (starts (suc k)) (lengths (suc k)))
+    (suffices : LimitSuffices p reach) (early : last ≤ℤ p.correction)
+    (acting : (k : ℕ) → k < doubles → WalkLastsAfter p flutter k → BeginSharp p flutter starts lengths nodes k → ActInReach p reach last (nodes k)) where
   come_of : (k : ℕ) → k < doubles → WalkLastsAfter p flutter k → BeginSharp p flutter starts lengths nodes k → (one other : Member) → Contains (nodes k) one → Contains (nodes k) other
       → ComeSharply p (starts (suc k)) (lengths (suc k)) (walked_after p flutter (suc k)) one other
   come_of k short before begin one other here there =
       let held = walk_is_held p flutter k are.sane are.second before in
-      sharp_spreads_shrink_lem beside p flutter (senders k) (nodes k) (starts k) (lengths k) (starts (suc k)) (lengths (suc k)) (walked_after p flutter k) (rate_walk p flutter) (walked_after p flutter (suc k)) reach last one other
-      (reach_of k short before) held.1 held.2 (draw.draws k) begin.sharp (are.heard k short before begin) here there
+      spreads_shrink_in_reach beside p flutter (senders k) (nodes k) (starts k) (lengths k) (starts (suc k)) (lengths (suc k)) (walked_after p flutter k) (rate_walk p flutter) (walked_after p flutter (suc k)) reach last one other
+      (record { sane = are.sane; walks = held.0; suffices = suffices; early = early }) (acting k short before begin) held.1 held.2 (draws k) begin.sharp (are.heard k short before begin) here there
 
   begins_after : AreSharp p (starts 0) (lengths 0) (pos 0) (map (λ (node : Member). node.even) (nodes 0)) → (k : ℕ) → k < doubles → WalkLastsUpTo p flutter k → BeginSharp p flutter starts lengths nodes k
   unfolding Active_in
@@ -96,23 +90,39 @@ module _ (beside : Bool) (p : Values) (flutter doubles : ℕ) (starts lengths : 
       let now = sooner k doubles short in
       let still = earlier p flutter k before in
       let begin = begins_after first k now (up_to p flutter k still) in
-      let next = are.follows k short still begin (uncut_of p (starts (suc k)) (lengths (suc k)) (walked_after p flutter (suc k)) (nodes k) (come_of k now still begin)) in
-      let held = walk_is_held p flutter k are.sane are.second still in
+      let come = come_of k now still begin in
+      let next = are.follows k short still begin (uncut_of p (starts (suc k)) (lengths (suc k)) (walked_after p flutter (suc k)) (nodes k) come) in
       let At : List NodeRow → Type 0 = λ rows. AreSharp p (starts (suc k)) (lengths (suc k)) (walked_after p flutter (suc k)) rows in
       record {
         sharp =
             subst At (sym next.evens)
-            (
-            next_is_sharp beside p flutter (senders k) (nodes k) (starts k) (lengths k) (starts (suc k)) (lengths (suc k)) (walked_after p flutter k) (rate_walk p flutter) (walked_after p flutter (suc k)) reach last next.next_even next.next_odd
-            (reach_of k now still) held.1 held.2 (draw.draws k) begin.sharp (are.heard k now still begin) next.followed
-            );
+            (next_is_near p (nodes k) (starts (suc k)) (lengths (suc k)) (walked_after p flutter (suc k)) next.next_even next.next_odd come next.followed);
         active = next_active p (nodes k) (nodes (suc k)) next;
       }
 
+  doubles_draw : AreSharp p (starts 0) (lengths 0) (pos 0) (map (λ (node : Member). node.even) (nodes 0)) → (k : ℕ) → k < doubles → KeepsSharp p flutter starts lengths nodes k
+  doubles_draw first k short =
+      let begins = begins_after first k short in
+      record { begins = begins; come = λ before. come_of k short before (begins (up_to p flutter k before)) }
+
+-- the numbers of one of them
+reach_of : (beside : Bool) (p : Values) (flutter doubles : ℕ) (starts lengths : ℕ → ℕ) (reach last : ℤ) → IsSane p → holds_of 2 p ≡ true → DrawInReach beside p flutter doubles starts lengths reach last
+    → (k : ℕ) → k < doubles → WalkLastsAfter p flutter k → IsSharpReach p flutter (starts k) (lengths k) (walked_after p flutter k) (rate_walk p flutter) reach last
+reach_of beside p flutter doubles starts lengths reach last sane second draw k short before = record {
+  sane = sane;
+  walks = (walk_is_held p flutter k sane second before).0;
+  suffices = draw.suffices;
+  early = draw.early;
+  fits = draw.fits k short;
+}
+
 pub sharp_doubles_draw : SharpDoublesDraw
 sharp_doubles_draw beside p flutter doubles starts lengths senders nodes reach last are draw first k short =
-    let begins = begins_after beside p flutter doubles starts lengths senders nodes reach last are draw first k short in
-    record { begins = begins; come = λ before. come_of beside p flutter doubles starts lengths senders nodes reach last are draw k short before (begins (up_to p flutter k before)) }
+    doubles_draw beside p flutter doubles starts lengths senders nodes reach last are draw.draws draw.suffices draw.early
+    (λ k short before begin.
+    act_in_reach beside p flutter (senders k) (nodes k) (starts k) (lengths k) (walked_after p flutter k) (rate_walk p flutter) reach last
+    (reach_of beside p flutter doubles starts lengths reach last are.sane are.second draw k short before) begin.sharp (are.heard k short before begin))
+    first k short
 
 -- ---- in sharp sync
 
