@@ -25,7 +25,7 @@ use Rattle.fr_sharp.specs.SharpChecks.{SharpChecksHold}
 use Rattle.fr_sharp.specs.Lengths.{walked_after}
 use Rattle.fr_sharp.specs.SharpSettling.{sharp_spread_after, sharply_apart_in, IsSharplySettled}
 use Rattle.fr_sharp.specs.SharpStep.{ActInReach, AreSharp, ComeSharply, ComputesSharply, DrawsTo, IsInSharpSync, IsSharpDouble, IsSharpReach, StaySharp}
-use Rattle.fr_sharp.specs.SharpRun.{lengths_from, starts_from, AllUncut, AreSharpDoubles, BeginSharp, BeginWithin, DrawInReach, IsNextDouble, KeepsSharp, SharpDoublesDraw, SharpSpreadsKeep, SharpSyncIsReached, SharpSyncLasts, WalkLastsAfter, WalkLastsUpTo}
+use Rattle.fr_sharp.specs.SharpRun.{lengths_from, starts_from, AllUncut, AreSharpDoubles, BeginSharp, BeginWithin, DrawInReach, IsNextDouble, KeepsSharp, KeepsToSpreads, SharpDoublesDraw, SharpSpreadsKeep, SharpSyncIsReached, SharpSyncLasts, StaysInSharpSync, WalkLastsAfter, WalkLastsUpTo}
 use Rattle.fr_sharp.proofs.BoundLemmas.{floor_is, key_slots_act_early, sharp_checks_suffice_lem, walk_is_held, walked_none}
 use Rattle.fr_sharp.proofs.SettlingLemmas.{next_spread_draws, next_starts_fit, settled_stays}
 use Rattle.fr_sharp.proofs.StepLemmas.{act_in_reach, macroticks_stay_sharp, next_is_near, sharp_is_wider, sharp_sync_draws, sharp_sync_is_kept_lem, spreads_shrink_in_reach}
@@ -100,7 +100,7 @@ module _ (beside : Bool) (p : Values) (flutter doubles : ℕ) (starts lengths : 
         active = next_active p (nodes k) (nodes (suc k)) next;
       }
 
-  doubles_draw : AreSharp p (starts 0) (lengths 0) (pos 0) (map (λ (node : Member). node.even) (nodes 0)) → (k : ℕ) → k < doubles → KeepsSharp p flutter starts lengths nodes k
+  pub doubles_draw : AreSharp p (starts 0) (lengths 0) (pos 0) (map (λ (node : Member). node.even) (nodes 0)) → (k : ℕ) → k < doubles → KeepsSharp p flutter starts lengths nodes k
   doubles_draw first k short =
       let begins = begins_after first k short in
       record { begins = begins; come = λ before. come_of k short before (begins (up_to p flutter k before)) }
@@ -127,7 +127,7 @@ sharp_doubles_draw beside p flutter doubles starts lengths senders nodes reach l
 -- ---- in sharp sync
 
 -- the reach takes in how far action points lie apart
-near_fits : (p : Values) (starts lengths reach : ℕ) → IsSane p → near_by p starts lengths ≤ reach
+pub near_fits : (p : Values) (starts lengths reach : ℕ) → IsSane p → near_by p starts lengths ≤ reach
     → (pos starts +ℤ pos lengths +ℤ floor_of (pos (last_action p) *ℤ pos (odd_spread p lengths)) p.macros +ℤ pos (longest_micro p)) ≤ℤ pos reach
 near_fits p starts lengths reach sane le =
     let macros = sane.ranges name.gMacroPerCycle in
@@ -174,16 +174,16 @@ sharp_sync_lasts_lem beside p flutter doubles senders nodes are checks first k s
 
 -- ---- from stated numbers
 
-spread_draws : (beside : Bool) (p : Values) (flutter start rate k : ℕ)
+pub spread_draws : (beside : Bool) (p : Values) (flutter start rate k : ℕ)
     → DrawsTo beside p flutter (starts_from beside p flutter start rate k) (lengths_from beside p flutter start rate k) (starts_from beside p flutter start rate (suc k)) (lengths_from beside p flutter start rate (suc k))
 unfolding sharp_spread_after
 spread_draws beside p flutter start rate k = next_spread_draws beside p flutter (sharp_spread_after beside p flutter start rate k)
 
-first_spread_is : (beside : Bool) (p : Values) (flutter start rate : ℕ) → (start ≤ starts_from beside p flutter start rate 0) × (rate ≤ lengths_from beside p flutter start rate 0)
+pub first_spread_is : (beside : Bool) (p : Values) (flutter start rate : ℕ) → (start ≤ starts_from beside p flutter start rate 0) × (rate ≤ lengths_from beside p flutter start rate 0)
 unfolding sharp_spread_after
 first_spread_is beside p flutter start rate = (le-max_left start (sharp_pi beside p flutter), le-max_left rate (sharp_lambda beside p flutter))
 
-nothing : pos 0 ≤ℤ pos 0
+pub nothing : pos 0 ≤ℤ pos 0
 nothing = omega (arith, ints)
 
 spreads_keep : (beside : Bool) (p : Values) (flutter start rate reach doubles : ℕ) (senders : ℕ → List Sender) (nodes : ℕ → List Member) → BeginWithin beside p flutter start rate reach doubles senders nodes → (k : ℕ) → k < doubles
@@ -202,15 +202,16 @@ spreads_keep beside p flutter start rate reach doubles senders nodes begin k sho
     let from = sharp_is_wider p start rate (starts 0) (lengths 0) (pos 0) (pos 0) (map (λ (node : Member). node.even) (nodes 0)) wide.0 wide.1 nothing begin.first in
     sharp_doubles_draw beside p flutter doubles starts lengths senders nodes (pos reach) (pos (last_action p)) are draw from k short
 
-all_regular : (beside : Bool) (p : Values) (flutter : ℕ) (senders : List Sender) (nodes : List Member) (last : ℤ) → IsSharpDouble beside p flutter senders nodes last → All (λ (node : Member). IsRegular p node.even node.odd) nodes
+pub all_regular : (beside : Bool) (p : Values) (flutter : ℕ) (senders : List Sender) (nodes : List Member) (last : ℤ) → IsSharpDouble beside p flutter senders nodes last → All (λ (node : Member). IsRegular p node.even node.odd) nodes
 all_regular beside p flutter senders nodes last heard = All-along (ComputesSharply p flutter senders) (λ (node : Member). IsRegular p node.even node.odd) nodes (λ node computes. computes.regular) heard.computes
 
-pub sharp_spreads_keep : SharpSpreadsKeep
-sharp_spreads_keep beside p flutter start rate reach doubles senders nodes begin k short =
-    let are = begin.doubles_are in
+-- while the walk lasts, no macrotick of any two lies further apart than the spread says
+pub keeps_to_spreads : (beside : Bool) (p : Values) (flutter start rate doubles : ℕ) (senders : ℕ → List Sender) (nodes : ℕ → List Member)
+    → AreSharpDoubles beside p flutter doubles (starts_from beside p flutter start rate) (lengths_from beside p flutter start rate) senders nodes (pos (last_action p)) → (k : ℕ) → k < doubles
+    → KeepsSharp p flutter (starts_from beside p flutter start rate) (lengths_from beside p flutter start rate) nodes k → KeepsToSpreads beside p flutter start rate nodes k
+keeps_to_spreads beside p flutter start rate doubles senders nodes are k short keeps =
     let starts : ℕ → ℕ = starts_from beside p flutter start rate in
     let lengths : ℕ → ℕ = lengths_from beside p flutter start rate in
-    let keeps = spreads_keep beside p flutter start rate reach doubles senders nodes begin k short in
     record {
       keeps = keeps;
       precise =
@@ -221,6 +222,10 @@ sharp_spreads_keep beside p flutter start rate reach doubles senders nodes begin
           (all_regular beside p flutter (senders k) (nodes k) (pos (last_action p)) (are.heard k short before now)) here there (keeps.come before one other here there)
           (le_itself (sharply_apart_in p (sharp_spread_after beside p flutter start rate k))) (next_starts_fit beside p flutter start rate k) from_first to_last;
     }
+
+pub sharp_spreads_keep : SharpSpreadsKeep
+sharp_spreads_keep beside p flutter start rate reach doubles senders nodes begin k short =
+    keeps_to_spreads beside p flutter start rate doubles senders nodes begin.doubles_are k short (spreads_keep beside p flutter start rate reach doubles senders nodes begin k short)
 
 -- ---- at rest
 
@@ -271,9 +276,9 @@ stay_at beside p flutter start rate k next one other settled later come precise 
           subst Second settled.0 (subst First settled.1 (precise macrotick is_odd from to));
     }
 
-pub sharp_sync_is_reached : SharpSyncIsReached
-sharp_sync_is_reached beside p flutter start rate reach doubles rest senders nodes begin from settled k le short =
-    let kept = sharp_spreads_keep beside p flutter start rate reach doubles senders nodes begin k short in
+pub stays_at_rest : (beside : Bool) (p : Values) (flutter start rate rest : ℕ) (nodes : ℕ → List Member) (k : ℕ) → 1 ≤ rest → IsSharplySettled beside p flutter (sharp_spread_after beside p flutter start rate rest) → rest ≤ k
+    → KeepsToSpreads beside p flutter start rate nodes k → StaysInSharpSync beside p flutter nodes k
+stays_at_rest beside p flutter start rate rest nodes k from settled le kept =
     let now = settled_after beside p flutter start rate rest k settled le in
     let later = settled_after beside p flutter start rate rest (suc k) settled (more rest k le) in
     record {
@@ -289,3 +294,7 @@ sharp_sync_is_reached beside p flutter start rate reach doubles rest senders nod
 
     no_less : (a b : ℕ) → 1 ≤ a → a ≤ b → 1 ≤ b
     no_less a b from le = omega (arith, from, le)
+
+pub sharp_sync_is_reached : SharpSyncIsReached
+sharp_sync_is_reached beside p flutter start rate reach doubles rest senders nodes begin from settled k le short =
+    stays_at_rest beside p flutter start rate rest nodes k from settled le (sharp_spreads_keep beside p flutter start rate reach doubles senders nodes begin k short)

@@ -80,7 +80,7 @@ receivers_come_sharply beside p flutter senders starts lengths next_starts next_
 
 -- ---- a list of nodes
 
-runs_of : (p : Values) (even odd : NodeRow) → IsSane p → IsRegular p even odd → Runs p even odd
+pub runs_of : (p : Values) (even odd : NodeRow) → IsSane p → IsRegular p even odd → Runs p even odd
 runs_of p even odd sane regular = record { double = regular.double; even_lasts = micro_lasts p even sane regular.even_micro; odd_lasts = micro_lasts p odd sane regular.odd_micro }
 
 -- what holds of the rows of each node holds of those of a sender

@@ -1,6 +1,6 @@
 -- Nodes over many double cycles: they draw together as the step does, and where they are in sharp sync they stay so, for as many
 -- double cycles as the rate limit holds the walk.
-use Rattle.std.specs.Prelude.{ℕ, ◌≤◌, zero, suc, ◌≡◌, ◌<◌, Bool, true, ℤ, pos, ◌+ℤ◌, ◌*ℤ◌, ◌≤ℤ◌, IfSome, List, All, map, Contains}
+use Rattle.std.specs.Prelude.{ℕ, ◌≤◌, zero, suc, ◌≡◌, ◌<◌, ◌*◌, None, Bool, true, ℤ, pos, ◌+ℤ◌, ◌*ℤ◌, ◌≤ℤ◌, IfSome, List, All, map, Contains}
 use Rattle.fr_base.specs.declared.node_row.NodeRow.{NodeRow}
 use Rattle.fr_base.specs.declared.state.Outcome.TheVariants.{Within}
 use Rattle.fr_base.specs.declared.state.State.TheVariants.{Active}
@@ -8,8 +8,9 @@ use Rattle.fr_base.specs.Within.{IsWithin}
 use Rattle.fr_cluster.specs.Values.{Values}
 use Rattle.fr_cluster.specs.Sane.{IsSane}
 use Rattle.fr_time.specs.Position.{floor_of}
-use Rattle.fr_bound.specs.Bounds.{longest_micro}
+use Rattle.fr_bound.specs.Bounds.{arrival_error, lambda_of, longest_micro, pi_of, precision_of}
 use Rattle.fr_bound.specs.Checks.{holds_of}
+use Rattle.fr_bound.specs.Sync.{IsInSync}
 use Rattle.fr_precision.specs.Rows.{Sender}
 use Rattle.fr_precision.specs.Instants.{gap_of, row_in}
 use Rattle.fr_precision.specs.Offsets.{LimitSuffices}
@@ -151,3 +152,33 @@ SharpSyncIsReached =
     → BeginWithin beside p flutter start rate reach doubles senders nodes
     → 1 ≤ rest → IsSharplySettled beside p flutter (sharp_spread_after beside p flutter start rate rest)
     → (k : ℕ) → rest ≤ k → k < doubles → StaysInSharpSync beside p flutter nodes k
+
+-- so many double cycles from sync in the older sense, under the older checks, where delays flutter by no more than twice the error
+-- of an arrival
+pub record BeginInSync (beside : Bool) (p : Values) (flutter doubles : ℕ) (senders : ℕ → List Sender) (nodes : ℕ → List Member) : Type 0 where
+  pub doubles_are :
+      AreSharpDoubles beside p flutter doubles (starts_from beside p flutter (pi_of p) (lambda_of p))
+      (lengths_from beside p flutter (pi_of p) (lambda_of p))
+      senders nodes (pos (last_action p))
+  pub little : flutter ≤ 2 * arrival_error p
+  pub checks : (number : ℕ) → 1 ≤ number → number ≤ 5 → holds_of number p ≡ true
+  pub sync : IsInSync p (map (λ node. node.even) (nodes 0)) (map (λ node. node.odd) (nodes 0))
+
+-- then the lengths do not walk, the nodes keep to the spreads from the older pi and lambda, with no macrotick of any two further
+-- apart than the older precision; and when the spreads have come to rest they are in sharp sync
+pub record KeepsFromSync (beside : Bool) (p : Values) (flutter : ℕ) (nodes : ℕ → List Member) (k : ℕ) : Type 0 where
+  pub still : walk_lasts p flutter ≡ None
+  pub spreads : KeepsToSpreads beside p flutter (pi_of p) (lambda_of p) nodes k
+  pub older :
+      (one other : Member) (macrotick : ℤ) (is_odd : Bool) → Contains (nodes k) one → Contains (nodes k) other
+      → pos 0 ≤ℤ macrotick → macrotick ≤ℤ p.macros
+      → IsWithin (pos (precision_of p)) (gap_of p is_odd macrotick (row_in is_odd one.even one.odd) (row_in is_odd other.even other.odd))
+  pub reached :
+      (rest : ℕ) → 1 ≤ rest → rest ≤ k
+      → IsSharplySettled beside p flutter (sharp_spread_after beside p flutter (pi_of p) (lambda_of p) rest)
+      → StaysInSharpSync beside p flutter nodes k
+
+abbrev pub OlderSyncSettles : Type 0
+OlderSyncSettles =
+    (beside : Bool) (p : Values) (flutter doubles : ℕ) (senders : ℕ → List Sender) (nodes : ℕ → List Member)
+    → BeginInSync beside p flutter doubles senders nodes → (k : ℕ) → k < doubles → KeepsFromSync beside p flutter nodes k
