@@ -1,5 +1,5 @@
 -- Many double cycles, by the step.
-use Rattle.std.proofs.Common.{◌≡◌, ℕ, zero, suc, ◌+◌, ◌*◌, ◌<◌, ◌≤◌, Bool, ℤ, pos, Option, Some, None, IfSome, List, map, All, sym, subst, arith}
+use Rattle.std.proofs.Common.{◌≡◌, ℕ, zero, suc, ◌+◌, ◌*◌, ◌-◌, ◌<◌, ◌≤◌, Bool, true, ℤ, pos, Option, Some, None, IfSome, List, map, All, sym, subst, arith}
 use Rattle.std.specs.Prelude.{◌+ℤ◌, ◌*ℤ◌, ◌≤ℤ◌, ◌/◌, Contains}
 use Rattle.std.proofs.lemmas.Int.{ints}
 use Rattle.std.proofs.lemmas.List.Elements.{All-contains_itself, All-map}
@@ -7,100 +7,51 @@ use Rattle.std.proofs.Math.Nat.{le-max_left}
 use Rattle.fr_base.specs.declared.node_row.NodeRow.{NodeRow}
 use Rattle.fr_base.specs.declared.state.Outcome.TheVariants.{Within}
 use Rattle.fr_base.specs.declared.state.State.TheVariants.{Active}
+use Rattle.fr_base.specs.Within.{IsWithin}
 use Rattle.fr_cluster.specs.Values.{amount, Values}
 use Rattle.fr_cluster.specs.Sane.{IsSane}
 use Rattle.fr_cluster.specs.declared.names.ParamName.TheVariants as name
 use Rattle.fr_time.specs.Position.{floor_of}
 use Rattle.fr_bound.specs.Bounds.{longest_micro}
+use Rattle.fr_bound.specs.Checks.{holds_of}
+use Rattle.fr_precision.specs.Offsets.{LimitSuffices}
 use Rattle.fr_precision.specs.Rows.{Sender}
+use Rattle.fr_precision.specs.Instants.{gap_of, row_in}
 use Rattle.fr_precision.specs.Placement.{IsRegular}
 use Rattle.fr_precision.specs.Step.{IsFollowed, Member}
 use Rattle.fr_precision.proofs.Senders.{All-along}
-use Rattle.fr_sharp.specs.SharpBounds.{last_action, near_by, odd_spread, rate_walk, sharp_lambda, sharp_near, sharp_pi, walk_lasts}
+use Rattle.fr_sharp.specs.SharpBounds.{last_action, near_by, odd_spread, precision_by, rate_walk, sharp_lambda, sharp_near, sharp_pi, walk_lasts}
 use Rattle.fr_sharp.specs.SharpChecks.{SharpChecksHold}
-use Rattle.fr_sharp.specs.Lengths.{walked_after, CanWalk}
-use Rattle.fr_sharp.specs.SharpSettling.{sharp_spread_after, sharply_apart_in}
-use Rattle.fr_sharp.specs.SharpStep.{AreSharp, ComeSharply, ComputesSharply, DrawsTo, IsInSharpSync, IsSharpReach}
-use Rattle.fr_sharp.specs.SharpRun.{AllUncut, AreSharpDoubles, DrawInReach, IsNextDouble, SharpDoublesDraw, SharpSpreadsKeep, SharpSyncLasts, WalkLastsAfter}
-use Rattle.fr_sharp.proofs.BoundLemmas.{floor_is, key_slots_act_early, sharp_checks_reach, sharp_checks_suffice_lem, walk_is_held, walked_none}
-use Rattle.fr_sharp.proofs.SettlingLemmas.{next_spread_draws, next_starts_fit}
-use Rattle.fr_sharp.proofs.StepLemmas.{macroticks_stay_sharp, next_is_sharp, sharp_is_wider, sharp_spreads_shrink_lem, sharp_sync_draws, sharp_sync_is_kept_lem}
+use Rattle.fr_sharp.specs.Lengths.{walked_after}
+use Rattle.fr_sharp.specs.SharpSettling.{sharp_spread_after, sharply_apart_in, IsSharplySettled}
+use Rattle.fr_sharp.specs.SharpStep.{ActInReach, AreSharp, ComeSharply, ComputesSharply, DrawsTo, IsInSharpSync, IsSharpDouble, IsSharpReach, StaySharp}
+use Rattle.fr_sharp.specs.SharpRun.{lengths_from, starts_from, AllUncut, AreSharpDoubles, BeginSharp, BeginWithin, DrawInReach, IsNextDouble, KeepsSharp, KeepsToSpreads, SharpDoublesDraw, SharpSpreadsKeep, SharpSyncIsReached, SharpSyncLasts, StaysInSharpSync, WalkLastsAfter, WalkLastsUpTo}
+use Rattle.fr_sharp.proofs.BoundLemmas.{floor_is, key_slots_act_early, sharp_checks_suffice_lem, walk_is_held, walked_none}
+use Rattle.fr_sharp.proofs.SettlingLemmas.{next_spread_draws, next_starts_fit, settled_stays}
+use Rattle.fr_sharp.proofs.StepLemmas.{act_in_reach, macroticks_stay_sharp, next_is_near, sharp_is_wider, sharp_sync_draws, sharp_sync_is_kept_lem, spreads_shrink_in_reach}
 
-earlier_by : (o : Option ℕ) (k : ℕ) → IfSome o (λ lasts. suc k < lasts) → IfSome o (λ lasts. k < lasts)
-earlier_by None k before = tt
-earlier_by (Some lasts) k before = omega (arith, before)
+pub earlier : (p : Values) (flutter k : ℕ) → WalkLastsUpTo p flutter (suc k) → WalkLastsAfter p flutter k
+earlier p flutter k before = by (walk_lasts p flutter) before
+  where
+    by : (o : Option ℕ) → IfSome o (λ lasts. suc k ≤ lasts) → IfSome o (λ lasts. k < lasts)
+    by None before = tt
+    by (Some lasts) before = omega (arith, before)
 
-earlier : (p : Values) (flutter k : ℕ) → WalkLastsAfter p flutter (suc k) → WalkLastsAfter p flutter k
-earlier p flutter k before = earlier_by (walk_lasts p flutter) k before
+pub up_to : (p : Values) (flutter k : ℕ) → WalkLastsAfter p flutter k → WalkLastsUpTo p flutter k
+up_to p flutter k before = by (walk_lasts p flutter) before
+  where
+    by : (o : Option ℕ) → IfSome o (λ lasts. k < lasts) → IfSome o (λ lasts. k ≤ lasts)
+    by None before = tt
+    by (Some lasts) before = omega (arith, before)
 
 sooner : (k n : ℕ) → suc k < n → k < n
 sooner k n less = omega (arith, less)
-
--- the numbers of one of them
-reach_of : (beside : Bool) (p : Values) (flutter doubles : ℕ) (senders : ℕ → List Sender) (nodes : ℕ → List Member) (starts lengths : ℕ → ℕ) (reach last : ℤ)
-    → AreSharpDoubles beside p flutter doubles senders nodes last → DrawInReach beside p flutter doubles starts lengths reach last → (k : ℕ) → k < doubles → WalkLastsAfter p flutter k
-    → IsSharpReach p flutter (starts k) (lengths k) (walked_after p flutter k) (rate_walk p flutter) reach last
-reach_of beside p flutter doubles senders nodes starts lengths reach last are draw k short before = record {
-  sane = are.sane;
-  walks = (walk_is_held p flutter k are.sane are.second before).0;
-  suffices = draw.suffices;
-  early = draw.early;
-  fits = draw.fits k short;
-}
-
-come_of : (beside : Bool) (p : Values) (flutter doubles : ℕ) (senders : ℕ → List Sender) (nodes : ℕ → List Member) (starts lengths : ℕ → ℕ) (reach last : ℤ)
-    → AreSharpDoubles beside p flutter doubles senders nodes last → DrawInReach beside p flutter doubles starts lengths reach last → (k : ℕ) → k < doubles → WalkLastsAfter p flutter k
-    → AreSharp p (starts k) (lengths k) (walked_after p flutter k) (map (λ (node : Member). node.even) (nodes k)) → (one other : Member) → Contains (nodes k) one → Contains (nodes k) other
-    → ComeSharply p (starts (suc k)) (lengths (suc k)) (walked_after p flutter (suc k)) one other
-come_of beside p flutter doubles senders nodes starts lengths reach last are draw k short before sharp one other here there =
-    let held = walk_is_held p flutter k are.sane are.second before in
-    sharp_spreads_shrink_lem beside p flutter (senders k) (nodes k) (starts k) (lengths k) (starts (suc k)) (lengths (suc k)) (walked_after p flutter k) (rate_walk p flutter) (walked_after p flutter (suc k)) reach last one other
-    (reach_of beside p flutter doubles senders nodes starts lengths reach last are draw k short before) held.1 held.2 (draw.draws k) sharp (are.heard k short) here there
 
 -- where any two come together, none cuts a term
 uncut_of : (p : Values) (next_starts next_lengths : ℕ) (next : ℤ) (nodes : List Member) → ((one other : Member) → Contains nodes one → Contains nodes other → ComeSharply p next_starts next_lengths next one other) → AllUncut nodes
 uncut_of p next_starts next_lengths next nodes come =
     All-along (Contains nodes) (λ (node : Member). (node.offset_term.outcome ≡ Within) × (node.rate_term.outcome ≡ Within)) nodes
     (λ node here. let both = come node node here here in (both.uncut, both.range.uncut)) (All-contains_itself nodes)
-
-sharp_after : (beside : Bool) (p : Values) (flutter doubles : ℕ) (senders : ℕ → List Sender) (nodes : ℕ → List Member) (starts lengths : ℕ → ℕ) (reach last : ℤ)
-    → AreSharpDoubles beside p flutter doubles senders nodes last → DrawInReach beside p flutter doubles starts lengths reach last
-    → AreSharp p (starts 0) (lengths 0) (pos 0) (map (λ (node : Member). node.even) (nodes 0)) → (k : ℕ) → k < doubles → WalkLastsAfter p flutter k
-    → AreSharp p (starts k) (lengths k) (walked_after p flutter k) (map (λ (node : Member). node.even) (nodes k))
-sharp_after beside p flutter doubles senders nodes starts lengths reach last are draw first zero short before =
-    let At : ℤ → Type 0 = λ beyond. AreSharp p (starts 0) (lengths 0) beyond (map (λ (node : Member). node.even) (nodes 0)) in
-    subst At (sym (walked_none p flutter)) first
-sharp_after beside p flutter doubles senders nodes starts lengths reach last are draw first (suc k) short before =
-    let now = sooner k doubles short in
-    let still = earlier p flutter k before in
-    let sharp = sharp_after beside p flutter doubles senders nodes starts lengths reach last are draw first k now still in
-    let come = come_of beside p flutter doubles senders nodes starts lengths reach last are draw k now still sharp in
-    let next = are.follows k short (uncut_of p (starts (suc k)) (lengths (suc k)) (walked_after p flutter (suc k)) (nodes k) come) in
-    let held = walk_is_held p flutter k are.sane are.second still in
-    let At : List NodeRow → Type 0 = λ rows. AreSharp p (starts (suc k)) (lengths (suc k)) (walked_after p flutter (suc k)) rows in
-    subst At (sym next.evens)
-    (
-    next_is_sharp beside p flutter (senders k) (nodes k) (starts k) (lengths k) (starts (suc k)) (lengths (suc k)) (walked_after p flutter k) (rate_walk p flutter) (walked_after p flutter (suc k)) reach last next.next_even next.next_odd
-    (reach_of beside p flutter doubles senders nodes starts lengths reach last are draw k now still) held.1 held.2 (draw.draws k) sharp (are.heard k now) next.followed
-    )
-
-pub sharp_doubles_draw : SharpDoublesDraw
-sharp_doubles_draw beside p flutter doubles senders nodes starts lengths reach last are draw first k short before =
-    let sharp = sharp_after beside p flutter doubles senders nodes starts lengths reach last are draw first k short before in
-    record { sharp = sharp; come = come_of beside p flutter doubles senders nodes starts lengths reach last are draw k short before sharp }
-
--- ---- in sharp sync
-
-in_reach : (beside : Bool) (p : Values) (flutter doubles : ℕ) (senders : ℕ → List Sender) (nodes : ℕ → List Member) → AreSharpDoubles beside p flutter doubles senders nodes (pos (last_action p))
-    → SharpChecksHold flutter (sharp_near beside p flutter) p → CanWalk p flutter (walked_after p flutter 0) (rate_walk p flutter)
-    → DrawInReach beside p flutter doubles (λ k. sharp_pi beside p flutter) (λ k. sharp_lambda beside p flutter) (pos (sharp_near beside p flutter)) (pos (last_action p))
-in_reach beside p flutter doubles senders nodes are checks can =
-    let is = sharp_checks_reach p flutter (sharp_pi beside p flutter) (sharp_lambda beside p flutter) (walked_after p flutter 0) (rate_walk p flutter) are.sane checks can in
-    record { draws = λ k. sharp_sync_draws beside p flutter; suffices = is.suffices; early = is.early; fits = λ k short. is.fits }
-
-first_lasts : (o : Option ℕ) (k : ℕ) → IfSome o (λ lasts. k < lasts) → IfSome o (λ lasts. 0 < lasts)
-first_lasts None k before = tt
-first_lasts (Some lasts) k before = omega (arith, before)
 
 -- the rows of a next double cycle are of active nodes
 Active_in : List NodeRow → Type 0
@@ -117,40 +68,66 @@ next_active p nodes next_nodes next =
     All-map (λ (row : NodeRow). row.state ≡ Active) next.next_odd nodes (All-along Followed (λ node. (next.next_odd node).state ≡ Active) nodes (λ node is. is.active_odd) next.followed) in
     (subst Are (sym next.evens) evens, subst Are (sym next.odds) odds)
 
-active_after : (beside : Bool) (p : Values) (flutter doubles : ℕ) (senders : ℕ → List Sender) (nodes : ℕ → List Member) → AreSharpDoubles beside p flutter doubles senders nodes (pos (last_action p))
-    → DrawInReach beside p flutter doubles (λ k. sharp_pi beside p flutter) (λ k. sharp_lambda beside p flutter) (pos (sharp_near beside p flutter)) (pos (last_action p))
-    → IsInSharpSync beside p flutter (pos 0) (map (λ (node : Member). node.even) (nodes 0)) (map (λ (node : Member). node.odd) (nodes 0)) → (k : ℕ) → k < doubles → WalkLastsAfter p flutter k
-    → Active_in (map (λ (node : Member). node.even) (nodes k)) × Active_in (map (λ (node : Member). node.odd) (nodes k))
-unfolding Active_in
-active_after beside p flutter doubles senders nodes are draw first zero short before = (first.active_even, first.active_odd)
-active_after beside p flutter doubles senders nodes are draw first (suc k) short before =
-    let now = sooner k doubles short in
-    let still = earlier p flutter k before in
-    let pi : ℕ → ℕ = λ k. sharp_pi beside p flutter in
-    let lambda : ℕ → ℕ = λ k. sharp_lambda beside p flutter in
-    let keeps = sharp_doubles_draw beside p flutter doubles senders nodes pi lambda (pos (sharp_near beside p flutter)) (pos (last_action p)) are draw first.rows k now still in
-    next_active p (nodes k) (nodes (suc k)) (are.follows k short (uncut_of p (sharp_pi beside p flutter) (sharp_lambda beside p flutter) (walked_after p flutter (suc k)) (nodes k) keeps.come))
+-- ---- by the step, whatever says that action points lie within the reach
 
-pub sharp_sync_lasts_lem : SharpSyncLasts
-unfolding Active_in
-sharp_sync_lasts_lem beside p flutter doubles senders nodes are checks first k short before =
-    let pi : ℕ → ℕ = λ k. sharp_pi beside p flutter in
-    let lambda : ℕ → ℕ = λ k. sharp_lambda beside p flutter in
-    let can = (walk_is_held p flutter 0 are.sane are.second (first_lasts (walk_lasts p flutter) k before)).0 in
-    let draw = in_reach beside p flutter doubles senders nodes are checks can in
-    let keeps = sharp_doubles_draw beside p flutter doubles senders nodes pi lambda (pos (sharp_near beside p flutter)) (pos (last_action p)) are draw first.rows k short before in
-    let active = active_after beside p flutter doubles senders nodes are draw first k short before in
-    let sync : IsInSharpSync beside p flutter (walked_after p flutter k) (map (λ (node : Member). node.even) (nodes k)) (map (λ (node : Member). node.odd) (nodes k)) =
-    record { active_even = active.0; active_odd = active.1; rows = keeps.sharp } in
-    let held = walk_is_held p flutter k are.sane are.second before in (
-      sync,
-      sharp_sync_is_kept_lem beside p flutter (senders k) (nodes k) (walked_after p flutter k) (rate_walk p flutter) (walked_after p flutter (suc k)) are.sane checks held.0 held.1 held.2 sync (are.heard k short),
-    )
+module _ (beside : Bool) (p : Values) (flutter doubles : ℕ) (starts lengths : ℕ → ℕ) (senders : ℕ → List Sender) (nodes : ℕ → List Member) (reach last : ℤ)
+    (are : AreSharpDoubles beside p flutter doubles starts lengths senders nodes last) (draws : (k : ℕ) → DrawsTo beside p flutter (starts k) (lengths k) (starts (suc k)) (lengths (suc k)))
+    (suffices : LimitSuffices p reach) (early : last ≤ℤ p.correction)
+    (acting : (k : ℕ) → k < doubles → WalkLastsAfter p flutter k → BeginSharp p flutter starts lengths nodes k → ActInReach p reach last (nodes k)) where
+  come_of : (k : ℕ) → k < doubles → WalkLastsAfter p flutter k → BeginSharp p flutter starts lengths nodes k → (one other : Member) → Contains (nodes k) one → Contains (nodes k) other
+      → ComeSharply p (starts (suc k)) (lengths (suc k)) (walked_after p flutter (suc k)) one other
+  come_of k short before begin one other here there =
+      let held = walk_is_held p flutter k are.sane are.second before in
+      spreads_shrink_in_reach beside p flutter (senders k) (nodes k) (starts k) (lengths k) (starts (suc k)) (lengths (suc k)) (walked_after p flutter k) (rate_walk p flutter) (walked_after p flutter (suc k)) reach last one other
+      (record { sane = are.sane; walks = held.0; suffices = suffices; early = early }) (acting k short before begin) held.1 held.2 (draws k) begin.sharp (are.heard k short before begin) here there
 
--- ---- from stated numbers
+  begins_after : AreSharp p (starts 0) (lengths 0) (pos 0) (map (λ (node : Member). node.even) (nodes 0)) → (k : ℕ) → k < doubles → WalkLastsUpTo p flutter k → BeginSharp p flutter starts lengths nodes k
+  unfolding Active_in
+  begins_after first zero short before =
+      let At : ℤ → Type 0 = λ beyond. AreSharp p (starts 0) (lengths 0) beyond (map (λ (node : Member). node.even) (nodes 0)) in
+      record { sharp = subst At (sym (walked_none p flutter)) first; active = tt }
+  begins_after first (suc k) short before =
+      let now = sooner k doubles short in
+      let still = earlier p flutter k before in
+      let begin = begins_after first k now (up_to p flutter k still) in
+      let come = come_of k now still begin in
+      let next = are.follows k short still begin (uncut_of p (starts (suc k)) (lengths (suc k)) (walked_after p flutter (suc k)) (nodes k) come) in
+      let At : List NodeRow → Type 0 = λ rows. AreSharp p (starts (suc k)) (lengths (suc k)) (walked_after p flutter (suc k)) rows in
+      record {
+        sharp =
+            subst At (sym next.evens)
+            (next_is_near p (nodes k) (starts (suc k)) (lengths (suc k)) (walked_after p flutter (suc k)) next.next_even next.next_odd come next.followed);
+        active = next_active p (nodes k) (nodes (suc k)) next;
+      }
 
--- the reach takes in what the spread of a double cycle says
-near_fits : (p : Values) (starts lengths reach : ℕ) → IsSane p → near_by p starts lengths ≤ reach
+  pub doubles_draw : AreSharp p (starts 0) (lengths 0) (pos 0) (map (λ (node : Member). node.even) (nodes 0)) → (k : ℕ) → k < doubles → KeepsSharp p flutter starts lengths nodes k
+  doubles_draw first k short =
+      let begins = begins_after first k short in
+      record { begins = begins; come = λ before. come_of k short before (begins (up_to p flutter k before)) }
+
+-- the numbers of one of them
+reach_of : (beside : Bool) (p : Values) (flutter doubles : ℕ) (starts lengths : ℕ → ℕ) (reach last : ℤ) → IsSane p → holds_of 2 p ≡ true → DrawInReach beside p flutter doubles starts lengths reach last
+    → (k : ℕ) → k < doubles → WalkLastsAfter p flutter k → IsSharpReach p flutter (starts k) (lengths k) (walked_after p flutter k) (rate_walk p flutter) reach last
+reach_of beside p flutter doubles starts lengths reach last sane second draw k short before = record {
+  sane = sane;
+  walks = (walk_is_held p flutter k sane second before).0;
+  suffices = draw.suffices;
+  early = draw.early;
+  fits = draw.fits k short;
+}
+
+pub sharp_doubles_draw : SharpDoublesDraw
+sharp_doubles_draw beside p flutter doubles starts lengths senders nodes reach last are draw first k short =
+    doubles_draw beside p flutter doubles starts lengths senders nodes reach last are draw.draws draw.suffices draw.early
+    (λ k short before begin.
+    act_in_reach beside p flutter (senders k) (nodes k) (starts k) (lengths k) (walked_after p flutter k) (rate_walk p flutter) reach last
+    (reach_of beside p flutter doubles starts lengths reach last are.sane are.second draw k short before) begin.sharp (are.heard k short before begin))
+    first k short
+
+-- ---- in sharp sync
+
+-- the reach takes in how far action points lie apart
+pub near_fits : (p : Values) (starts lengths reach : ℕ) → IsSane p → near_by p starts lengths ≤ reach
     → (pos starts +ℤ pos lengths +ℤ floor_of (pos (last_action p) *ℤ pos (odd_spread p lengths)) p.macros +ℤ pos (longest_micro p)) ≤ℤ pos reach
 near_fits p starts lengths reach sane le =
     let macros = sane.ranges name.gMacroPerCycle in
@@ -160,43 +137,164 @@ near_fits p starts lengths reach sane le =
     step : (s l f q r : ℕ) (x : ℤ) → x ≡ pos f → s + l + f + q ≤ r → (pos s +ℤ pos l +ℤ x +ℤ pos q) ≤ℤ pos r
     step s l f q r x is le = omega (arith, ints)
 
-spread_draws : (beside : Bool) (p : Values) (flutter start rate k : ℕ)
-    → DrawsTo beside p flutter (sharp_spread_after beside p flutter start rate k).starts (sharp_spread_after beside p flutter start rate k).lengths
-    (sharp_spread_after beside p flutter start rate (suc k)).starts (sharp_spread_after beside p flutter start rate (suc k)).lengths
+le_itself : (n : ℕ) → n ≤ n
+le_itself n = omega arith
+
+sync_reach : (beside : Bool) (p : Values) (flutter doubles : ℕ) → IsSane p → SharpChecksHold flutter (sharp_near beside p flutter) p
+    → DrawInReach beside p flutter doubles (λ k. sharp_pi beside p flutter) (λ k. sharp_lambda beside p flutter) (pos (sharp_near beside p flutter)) (pos (last_action p))
+sync_reach beside p flutter doubles sane checks = record {
+  draws = λ k. sharp_sync_draws beside p flutter;
+  suffices = (sharp_checks_suffice_lem p flutter (sharp_near beside p flutter) sane checks).0;
+  early = (key_slots_act_early p sane).1;
+  fits = λ k short. near_fits p (sharp_pi beside p flutter) (sharp_lambda beside p flutter) (sharp_near beside p flutter) sane (le_itself (sharp_near beside p flutter));
+}
+
+-- where all begin with pi and lambda, and are active in the first too, they are in sharp sync
+sync_of : (beside : Bool) (p : Values) (flutter : ℕ) (nodes : ℕ → List Member) → IsInSharpSync beside p flutter (pos 0) (map (λ (node : Member). node.even) (nodes 0)) (map (λ (node : Member). node.odd) (nodes 0))
+    → (k : ℕ) → BeginSharp p flutter (λ k. sharp_pi beside p flutter) (λ k. sharp_lambda beside p flutter) nodes k
+    → IsInSharpSync beside p flutter (walked_after p flutter k) (map (λ (node : Member). node.even) (nodes k)) (map (λ (node : Member). node.odd) (nodes k))
+sync_of beside p flutter nodes first zero begin = record { active_even = first.active_even; active_odd = first.active_odd; rows = begin.sharp }
+sync_of beside p flutter nodes first (suc k) begin = record { active_even = begin.active.0; active_odd = begin.active.1; rows = begin.sharp }
+
+pub sharp_sync_lasts_lem : SharpSyncLasts
+sharp_sync_lasts_lem beside p flutter doubles senders nodes are checks first k short =
+    let pi : ℕ → ℕ = λ k. sharp_pi beside p flutter in
+    let lambda : ℕ → ℕ = λ k. sharp_lambda beside p flutter in
+    let draw = sync_reach beside p flutter doubles are.sane checks in
+    let keeps = sharp_doubles_draw beside p flutter doubles pi lambda senders nodes (pos (sharp_near beside p flutter)) (pos (last_action p)) are draw first.rows k short in
+    record {
+      sync = λ before. sync_of beside p flutter nodes first k (keeps.begins before);
+      stay =
+          λ before.
+          let begin = keeps.begins (up_to p flutter k before) in
+          let held = walk_is_held p flutter k are.sane are.second before in
+          sharp_sync_is_kept_lem beside p flutter (senders k) (nodes k) (walked_after p flutter k) (rate_walk p flutter) (walked_after p flutter (suc k)) are.sane checks held.0 held.1 held.2
+          (sync_of beside p flutter nodes first k begin) (are.heard k short before begin);
+    }
+
+-- ---- from stated numbers
+
+pub spread_draws : (beside : Bool) (p : Values) (flutter start rate k : ℕ)
+    → DrawsTo beside p flutter (starts_from beside p flutter start rate k) (lengths_from beside p flutter start rate k) (starts_from beside p flutter start rate (suc k)) (lengths_from beside p flutter start rate (suc k))
 unfolding sharp_spread_after
 spread_draws beside p flutter start rate k = next_spread_draws beside p flutter (sharp_spread_after beside p flutter start rate k)
 
-first_spread_is : (beside : Bool) (p : Values) (flutter start rate : ℕ)
-    → (start ≤ (sharp_spread_after beside p flutter start rate 0).starts) × (rate ≤ (sharp_spread_after beside p flutter start rate 0).lengths)
+pub first_spread_is : (beside : Bool) (p : Values) (flutter start rate : ℕ) → (start ≤ starts_from beside p flutter start rate 0) × (rate ≤ lengths_from beside p flutter start rate 0)
 unfolding sharp_spread_after
 first_spread_is beside p flutter start rate = (le-max_left start (sharp_pi beside p flutter), le-max_left rate (sharp_lambda beside p flutter))
 
-pub sharp_spreads_keep : SharpSpreadsKeep
-sharp_spreads_keep beside p flutter start rate reach doubles senders nodes are checks near first k short before =
-    let starts : ℕ → ℕ = λ m. (sharp_spread_after beside p flutter start rate m).starts in
-    let lengths : ℕ → ℕ = λ m. (sharp_spread_after beside p flutter start rate m).lengths in
+pub nothing : pos 0 ≤ℤ pos 0
+nothing = omega (arith, ints)
+
+spreads_keep : (beside : Bool) (p : Values) (flutter start rate reach doubles : ℕ) (senders : ℕ → List Sender) (nodes : ℕ → List Member) → BeginWithin beside p flutter start rate reach doubles senders nodes → (k : ℕ) → k < doubles
+    → KeepsSharp p flutter (starts_from beside p flutter start rate) (lengths_from beside p flutter start rate) nodes k
+spreads_keep beside p flutter start rate reach doubles senders nodes begin k short =
+    let are = begin.doubles_are in
+    let starts : ℕ → ℕ = starts_from beside p flutter start rate in
+    let lengths : ℕ → ℕ = lengths_from beside p flutter start rate in
     let draw : DrawInReach beside p flutter doubles starts lengths (pos reach) (pos (last_action p)) = record {
       draws = λ m. spread_draws beside p flutter start rate m;
-      suffices = (sharp_checks_suffice_lem p flutter reach are.sane checks).0;
+      suffices = (sharp_checks_suffice_lem p flutter reach are.sane begin.checks).0;
       early = (key_slots_act_early p are.sane).1;
-      fits = λ m within. near_fits p (starts m) (lengths m) reach are.sane (near m within);
+      fits = λ m within. near_fits p (starts m) (lengths m) reach are.sane (begin.near m within);
     } in
     let wide = first_spread_is beside p flutter start rate in
-    let from = sharp_is_wider p start rate (starts 0) (lengths 0) (pos 0) (pos 0) (map (λ (node : Member). node.even) (nodes 0)) wide.0 wide.1 nothing first in
-    let keeps = sharp_doubles_draw beside p flutter doubles senders nodes starts lengths (pos reach) (pos (last_action p)) are draw from k short before in
-    let regular =
-    All-along (ComputesSharply p flutter (senders k)) (λ (node : Member). IsRegular p node.even node.odd) (nodes k) (λ node computes. computes.regular) (are.heard k short).computes in
+    let from = sharp_is_wider p start rate (starts 0) (lengths 0) (pos 0) (pos 0) (map (λ (node : Member). node.even) (nodes 0)) wide.0 wide.1 nothing begin.first in
+    sharp_doubles_draw beside p flutter doubles starts lengths senders nodes (pos reach) (pos (last_action p)) are draw from k short
+
+pub all_regular : (beside : Bool) (p : Values) (flutter : ℕ) (senders : List Sender) (nodes : List Member) (last : ℤ) → IsSharpDouble beside p flutter senders nodes last → All (λ (node : Member). IsRegular p node.even node.odd) nodes
+all_regular beside p flutter senders nodes last heard = All-along (ComputesSharply p flutter senders) (λ (node : Member). IsRegular p node.even node.odd) nodes (λ node computes. computes.regular) heard.computes
+
+-- while the walk lasts, no macrotick of any two lies further apart than the spread says
+pub keeps_to_spreads : (beside : Bool) (p : Values) (flutter start rate doubles : ℕ) (senders : ℕ → List Sender) (nodes : ℕ → List Member)
+    → AreSharpDoubles beside p flutter doubles (starts_from beside p flutter start rate) (lengths_from beside p flutter start rate) senders nodes (pos (last_action p)) → (k : ℕ) → k < doubles
+    → KeepsSharp p flutter (starts_from beside p flutter start rate) (lengths_from beside p flutter start rate) nodes k → KeepsToSpreads beside p flutter start rate nodes k
+keeps_to_spreads beside p flutter start rate doubles senders nodes are k short keeps =
+    let starts : ℕ → ℕ = starts_from beside p flutter start rate in
+    let lengths : ℕ → ℕ = lengths_from beside p flutter start rate in
     record {
       keeps = keeps;
       precise =
-          λ one other macrotick is_odd here there from_first to_last.
+          λ before one other macrotick is_odd here there from_first to_last.
+          let now = keeps.begins (up_to p flutter k before) in
           macroticks_stay_sharp p (starts k) (lengths k) (starts (suc k)) (lengths (suc k)) (walked_after p flutter k) (walked_after p flutter (suc k)) (nodes k) one other
-          (sharply_apart_in p (sharp_spread_after beside p flutter start rate k)) macrotick is_odd are.sane keeps.sharp regular here there (keeps.come one other here there)
+          (sharply_apart_in p (sharp_spread_after beside p flutter start rate k)) macrotick is_odd are.sane now.sharp
+          (all_regular beside p flutter (senders k) (nodes k) (pos (last_action p)) (are.heard k short before now)) here there (keeps.come before one other here there)
           (le_itself (sharply_apart_in p (sharp_spread_after beside p flutter start rate k))) (next_starts_fit beside p flutter start rate k) from_first to_last;
     }
-  where
-    nothing : pos 0 ≤ℤ pos 0
-    nothing = omega (arith, ints)
 
-    le_itself : (n : ℕ) → n ≤ n
-    le_itself n = omega arith
+pub sharp_spreads_keep : SharpSpreadsKeep
+sharp_spreads_keep beside p flutter start rate reach doubles senders nodes begin k short =
+    keeps_to_spreads beside p flutter start rate doubles senders nodes begin.doubles_are k short (spreads_keep beside p flutter start rate reach doubles senders nodes begin k short)
+
+-- ---- at rest
+
+settled_further : (beside : Bool) (p : Values) (flutter start rate rest more : ℕ) → IsSharplySettled beside p flutter (sharp_spread_after beside p flutter start rate rest)
+    → IsSharplySettled beside p flutter (sharp_spread_after beside p flutter start rate (rest + more))
+unfolding sharp_spread_after
+settled_further beside p flutter start rate rest zero settled =
+    let same : rest ≡ rest + 0 = omega arith in
+    subst (λ (n : ℕ). IsSharplySettled beside p flutter (sharp_spread_after beside p flutter start rate n)) same settled
+settled_further beside p flutter start rate rest (suc more) settled =
+    let next : suc (rest + more) ≡ rest + suc more = omega arith in
+    subst (λ (n : ℕ). IsSharplySettled beside p flutter (sharp_spread_after beside p flutter start rate n)) next
+    (settled_stays beside p flutter (sharp_spread_after beside p flutter start rate (rest + more)) (settled_further beside p flutter start rate rest more settled))
+
+settled_after : (beside : Bool) (p : Values) (flutter start rate rest k : ℕ) → IsSharplySettled beside p flutter (sharp_spread_after beside p flutter start rate rest) → rest ≤ k
+    → IsSharplySettled beside p flutter (sharp_spread_after beside p flutter start rate k)
+settled_after beside p flutter start rate rest k settled le =
+    let same : rest + (k - rest) ≡ k = omega (arith, le) in
+    subst (λ (n : ℕ). IsSharplySettled beside p flutter (sharp_spread_after beside p flutter start rate n)) same (settled_further beside p flutter start rate rest (k - rest) settled)
+
+-- a spread at rest is that of sharp sync
+sync_at : (beside : Bool) (p : Values) (flutter start rate : ℕ) (nodes : ℕ → List Member) (k : ℕ) → 1 ≤ k → IsSharplySettled beside p flutter (sharp_spread_after beside p flutter start rate k)
+    → BeginSharp p flutter (starts_from beside p flutter start rate) (lengths_from beside p flutter start rate) nodes k
+    → IsInSharpSync beside p flutter (walked_after p flutter k) (map (λ (node : Member). node.even) (nodes k)) (map (λ (node : Member). node.odd) (nodes k))
+sync_at beside p flutter start rate nodes zero from settled begin = absurd (omega (arith, from))
+sync_at beside p flutter start rate nodes (suc k) from settled begin =
+    let evens = map (λ (node : Member). node.even) (nodes (suc k)) in
+    let Starts : ℕ → Type 0 = λ n. AreSharp p n (lengths_from beside p flutter start rate (suc k)) (walked_after p flutter (suc k)) evens in
+    let Lengths : ℕ → Type 0 = λ n. AreSharp p (sharp_pi beside p flutter) n (walked_after p flutter (suc k)) evens in
+    record { active_even = begin.active.0; active_odd = begin.active.1; rows = subst Lengths settled.0 (subst Starts settled.1 begin.sharp) }
+
+stay_at : (beside : Bool) (p : Values) (flutter start rate k : ℕ) (next : ℤ) (one other : Member) → IsSharplySettled beside p flutter (sharp_spread_after beside p flutter start rate k)
+    → IsSharplySettled beside p flutter (sharp_spread_after beside p flutter start rate (suc k))
+    → ComeSharply p (starts_from beside p flutter start rate (suc k)) (lengths_from beside p flutter start rate (suc k)) next one other
+    → ((macrotick : ℤ) (is_odd : Bool) → pos 0 ≤ℤ macrotick → macrotick ≤ℤ p.macros
+    → IsWithin (pos (sharply_apart_in p (sharp_spread_after beside p flutter start rate k))) (gap_of p is_odd macrotick (row_in is_odd one.even one.odd) (row_in is_odd other.even other.odd)))
+    → StaySharp beside p flutter next one other
+stay_at beside p flutter start rate k next one other settled later come precise =
+    let Starts : ℕ → Type 0 = λ n. ComeSharply p n (lengths_from beside p flutter start rate (suc k)) next one other in
+    let Lengths : ℕ → Type 0 = λ n. ComeSharply p (sharp_pi beside p flutter) n next one other in
+    record {
+      come = subst Lengths later.0 (subst Starts later.1 come);
+      precise =
+          λ macrotick is_odd from to.
+          let gap = gap_of p is_odd macrotick (row_in is_odd one.even one.odd) (row_in is_odd other.even other.odd) in
+          let First : ℕ → Type 0 = λ n. IsWithin (pos (precision_by p n (lengths_from beside p flutter start rate k))) gap in
+          let Second : ℕ → Type 0 = λ n. IsWithin (pos (precision_by p (sharp_pi beside p flutter) n)) gap in
+          subst Second settled.0 (subst First settled.1 (precise macrotick is_odd from to));
+    }
+
+pub stays_at_rest : (beside : Bool) (p : Values) (flutter start rate rest : ℕ) (nodes : ℕ → List Member) (k : ℕ) → 1 ≤ rest → IsSharplySettled beside p flutter (sharp_spread_after beside p flutter start rate rest) → rest ≤ k
+    → KeepsToSpreads beside p flutter start rate nodes k → StaysInSharpSync beside p flutter nodes k
+stays_at_rest beside p flutter start rate rest nodes k from settled le kept =
+    let now = settled_after beside p flutter start rate rest k settled le in
+    let later = settled_after beside p flutter start rate rest (suc k) settled (more rest k le) in
+    record {
+      sync = λ before. sync_at beside p flutter start rate nodes k (no_less rest k from le) now (kept.keeps.begins before);
+      stay =
+          λ before one other here there.
+          stay_at beside p flutter start rate k (walked_after p flutter (suc k)) one other now later (kept.keeps.come before one other here there)
+          (λ macrotick is_odd from_first to_last. kept.precise before one other macrotick is_odd here there from_first to_last);
+    }
+  where
+    more : (a b : ℕ) → a ≤ b → a ≤ suc b
+    more a b le = omega (arith, le)
+
+    no_less : (a b : ℕ) → 1 ≤ a → a ≤ b → 1 ≤ b
+    no_less a b from le = omega (arith, from, le)
+
+pub sharp_sync_is_reached : SharpSyncIsReached
+sharp_sync_is_reached beside p flutter start rate reach doubles rest senders nodes begin from settled k le short =
+    stays_at_rest beside p flutter start rate rest nodes k from settled le (sharp_spreads_keep beside p flutter start rate reach doubles senders nodes begin k short)

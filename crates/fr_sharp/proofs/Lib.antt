@@ -14,6 +14,7 @@ pub mod StepLemmas
 pub mod RoundLemmas
 pub mod SettlingLemmas
 pub mod LastingLemmas
+pub mod OlderLemmas
 pub mod SharpRows
 pub mod SharpWorked
 pub mod SharpLists

@@ -20,7 +20,7 @@ use Rattle.fr_precision.proofs.Senders.{All-along}
 use Rattle.fr_sharp.specs.SharpBounds.{last_action}
 use Rattle.fr_sharp.specs.Lengths.{KeepSenders}
 use Rattle.fr_sharp.specs.SharpStep.{AllKeepSenders, AreSharp, ComputesSharply}
-use Rattle.fr_sharp.specs.SharpRound.{as_member, IsSharpRound, RoundsAreSharp}
+use Rattle.fr_sharp.specs.SharpRound.{as_member, IsRoundInReach, IsSharpRound, RoundsAreSharp, RoundsInReachAreSharp}
 use Rattle.fr_sharp.proofs.BoundLemmas.{key_slots_act_early}
 use Rattle.fr_sharp.proofs.HearingLemmas.{hearers_keep_senders, hears_all_steadily}
 use Rattle.fr_sharp.proofs.StepLemmas.{nodes_near, reached_by, Double}
@@ -67,7 +67,7 @@ no_more a b le = omega (arith, ints, le)
 
 -- ---- a round
 
-module _ (beside : Bool) (r : Round) (flutter starts lengths : ℕ) (beyond walk reach : ℤ) (rows : List Hearer) (s : IsSharpRound beside r flutter starts lengths beyond walk reach rows) where
+module _ (beside : Bool) (r : Round) (flutter : ℕ) (reach : ℤ) (rows : List Hearer) (s : IsRoundInReach beside r flutter reach rows) where
   acts : All (λ (sender : Sender). IsBetween (pos 0) (pos (last_action r.params)) sender.action) (senders_of r)
   acts =
       let p = r.params in
@@ -90,28 +90,13 @@ module _ (beside : Bool) (r : Round) (flutter starts lengths : ℕ) (beyond walk
       let is : IsAmong nodes (sender_with r from.slot from.node.id) = (as_member r.params row.0, contains_map (as_member r.params) rows row.0 row.1, row.2, row.3) in
       subst (IsAmong nodes) from.is is)
 
-  sharp_members : AreSharp r.params starts lengths beyond (map (λ (node : Member). node.even) (map (as_member r.params) rows))
-  sharp_members =
-      let At : List NodeRow → Type 0 = λ evens. AreSharp r.params starts lengths beyond evens in
-      subst At (sym (evens_are r rows)) s.sharp
-
-  regular_members : (node : Member) → Contains (map (as_member r.params) rows) node → IsRegular r.params node.even node.odd
-  regular_members node is =
-      let n = map_contains (as_member r.params) rows node is in
-      let At : Member → Type 0 = λ node. IsRegular r.params node.even node.odd in
-      subst At n.2 (s.supplied n.0 n.1).regular
-
-  double : Double r.params starts lengths beyond (map (as_member r.params) rows)
-  double = record { sane = s.round.sane; sharp = sharp_members; regular = regular_members }
-
   hearer : (n : Hearer) → Contains rows n → IsHearer r reach n
   hearer n here =
       let p = r.params in
       let at = as_member p in
-      let nodes = map at rows in
       record {
         regular = (s.supplied n here).regular;
-        suffices = s.numbers.suffices;
+        suffices = s.suffices;
         near =
             λ index slot node other.
             let row = s.among node slot other.sender in
@@ -120,8 +105,7 @@ module _ (beside : Bool) (r : Round) (flutter starts lengths : ℕ) (beyond walk
             let Near : NodeRow → Type 0 = λ even. IsWithin reach (gap_of p false action even n.even) in
             subst Near row.2
             (
-            reached_by p flutter starts lengths beyond walk reach (pos (last_action p)) action false row.0.even row.0.odd n.even n.odd s.numbers (s.supplied row.0 row.1).regular (s.supplied n here).regular
-            (nodes_near p starts lengths beyond nodes double (at row.0) (at n) (contains_map at rows row.0 row.1) (contains_map at rows n here)) (no_less (action_point_of p slot))
+            s.acts false (at row.0) (at n) action (contains_map at rows row.0 row.1) (contains_map at rows n here) (no_less (action_point_of p slot))
             (no_more (action_point_of p slot) (last_action p) ((key_slots_act_early p s.round.sane).0 slot key))
             );
         supply = (s.supplied n here).hears;
@@ -164,13 +148,46 @@ module _ (beside : Bool) (r : Round) (flutter starts lengths : ℕ) (beyond walk
       let First : Member → Type 0 = λ a. Keep a other in
       subst First first.2 (subst (Keep (at first.0)) second.2 kept)
 
+pub rounds_in_reach_are_sharp : RoundsInReachAreSharp
+rounds_in_reach_are_sharp beside r flutter reach rows s = record {
+  among = among beside r flutter reach rows s;
+  acts = acts beside r flutter reach rows s;
+  computes = computes beside r flutter reach rows s;
+  keep = keep beside r flutter reach rows s;
+}
+
+-- ---- a round whose receivers lie so near
+
+module _ (beside : Bool) (r : Round) (flutter starts lengths : ℕ) (beyond walk reach : ℤ) (rows : List Hearer) (s : IsSharpRound beside r flutter starts lengths beyond walk reach rows) where
+  sharp_members : AreSharp r.params starts lengths beyond (map (λ (node : Member). node.even) (map (as_member r.params) rows))
+  sharp_members =
+      let At : List NodeRow → Type 0 = λ evens. AreSharp r.params starts lengths beyond evens in
+      subst At (sym (evens_are r rows)) s.sharp
+
+  regular_members : (node : Member) → Contains (map (as_member r.params) rows) node → IsRegular r.params node.even node.odd
+  regular_members node is =
+      let n = map_contains (as_member r.params) rows node is in
+      let At : Member → Type 0 = λ node. IsRegular r.params node.even node.odd in
+      subst At n.2 (s.supplied n.0 n.1).regular
+
+  double : Double r.params starts lengths beyond (map (as_member r.params) rows)
+  double = record { sane = s.round.sane; sharp = sharp_members; regular = regular_members }
+
+  in_reach : IsRoundInReach beside r flutter reach rows
+  in_reach = record {
+    round = s.round;
+    arbitrary = s.arbitrary;
+    suffices = s.numbers.suffices;
+    acts =
+        λ is_odd one other action here there from to.
+        reached_by r.params flutter starts lengths beyond walk reach (pos (last_action r.params)) action is_odd one.even one.odd other.even other.odd s.numbers (regular_members one here) (regular_members other there)
+        (nodes_near r.params starts lengths beyond (map (as_member r.params) rows) double one other here there) from to;
+    supplied = s.supplied;
+    among = s.among;
+  }
+
 pub rounds_are_sharp : RoundsAreSharp
 rounds_are_sharp beside r flutter starts lengths beyond walk reach rows s = (
   sharp_members beside r flutter starts lengths beyond walk reach rows s,
-  record {
-    among = among beside r flutter starts lengths beyond walk reach rows s;
-    acts = acts beside r flutter starts lengths beyond walk reach rows s;
-    computes = computes beside r flutter starts lengths beyond walk reach rows s;
-    keep = keep beside r flutter starts lengths beyond walk reach rows s;
-  },
+  rounds_in_reach_are_sharp beside r flutter reach rows (in_reach beside r flutter starts lengths beyond walk reach rows s),
 )

@@ -677,12 +677,12 @@ follows_in beside zero short = record {
 }
 follows_in beside (suc k) short = absurd (omega (arith, short))
 
-doubles : (beside : Bool) → AreSharpDoubles beside cluster 0 2 senders_in (members_in beside) (pos (last_action cluster))
+doubles : (beside : Bool) → AreSharpDoubles beside cluster 0 2 (λ k. sharp_pi beside cluster 0) (λ k. sharp_lambda beside cluster 0) senders_in (members_in beside) (pos (last_action cluster))
 doubles beside = record {
   sane = is_sane;
   second = refl;
-  heard = λ k short. heard_in beside k;
-  follows = λ k short uncut. follows_in beside k short;
+  heard = λ k short before begin. heard_in beside k;
+  follows = λ k short before begin uncut. follows_in beside k short;
 }
 
 -- in the second one all are in sharp sync, and stay so
@@ -690,5 +690,5 @@ lasts : (beside : Bool)
     → IsInSharpSync beside cluster 0 (pos 0) (map (λ node. node.even) (again_members beside)) (map (λ node. node.odd) (again_members beside))
     × StaySharp beside cluster 0 (pos 0) (again_member 1 beside (pos 100)) (again_member 3 false (pos 100))
 lasts beside =
-    let both = sharp_sync_lasts_lem beside cluster 0 2 senders_in (members_in beside) (doubles beside) (checks beside) (in_sharp_sync beside) 1 (lit< tt) tt in
-    (both.0, both.1 (again_member 1 beside (pos 100)) (again_member 3 false (pos 100)) (0, lit< tt, refl) (2, lit< tt, refl))
+    let both = sharp_sync_lasts_lem beside cluster 0 2 senders_in (members_in beside) (doubles beside) (checks beside) (in_sharp_sync beside) 1 (lit< tt) in
+    (both.sync tt, both.stay tt (again_member 1 beside (pos 100)) (again_member 3 false (pos 100)) (0, lit< tt, refl) (2, lit< tt, refl))

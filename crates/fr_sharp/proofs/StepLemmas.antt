@@ -23,7 +23,7 @@ use Rattle.fr_precision.proofs.StepLaws.{all_lie, any_two, mapped_twice, same_ap
 use Rattle.fr_sharp.specs.SharpBounds.{last_action, near_by, odd_spread, sharp_lambda, sharp_pi, sharp_precision}
 use Rattle.fr_sharp.specs.Lengths.{EvensAreAbout, IsAboutCycle, IsNextEven, KeepSenders, LengthsCome}
 use Rattle.fr_sharp.specs.Ends.{EndsCome, SendApart}
-use Rattle.fr_sharp.specs.SharpStep.{ActionsLieInReach, AreSharp, ComputesSharply, DrawsTo, InSyncIsSharp, IsSharpDouble, IsSharpReach, MacroticksStaySharp, NextIsInSharpSync, NextIsSharp, ReceiversComeSharply, SharpIsWider, SharpSpreadsShrink, SharpSyncDraws, SharpSyncIsKept, TakesSharply}
+use Rattle.fr_sharp.specs.SharpStep.{ActInReach, ActionsLieInReach, AreSharp, ComputesSharply, DrawsTo, InSyncIsSharp, IsSharpDouble, IsSharpLimit, IsSharpReach, MacroticksStaySharp, NextIsInSharpSync, NextIsNear, NextIsSharp, ReceiversComeSharply, SharpIsWider, SharpSpreadsShrink, SharpSyncDraws, SharpSyncIsKept, SpreadsShrinkInReach, TakesSharply}
 use Rattle.fr_sharp.proofs.BoundLemmas.{sharp_checks_reach}
 use Rattle.fr_sharp.proofs.EndLemmas.{ends_come_near_lem}
 use Rattle.fr_sharp.proofs.LengthLemmas.{lengths_come_near_lem, range_walks}
@@ -80,7 +80,7 @@ receivers_come_sharply beside p flutter senders starts lengths next_starts next_
 
 -- ---- a list of nodes
 
-runs_of : (p : Values) (even odd : NodeRow) → IsSane p → IsRegular p even odd → Runs p even odd
+pub runs_of : (p : Values) (even odd : NodeRow) → IsSane p → IsRegular p even odd → Runs p even odd
 runs_of p even odd sane regular = record { double = regular.double; even_lasts = micro_lasts p even sane regular.even_micro; odd_lasts = micro_lasts p odd sane regular.odd_micro }
 
 -- what holds of the rows of each node holds of those of a sender
@@ -161,7 +161,7 @@ actions_lie_in_reach p flutter starts lengths beyond walk reach last action is_o
 acts_in_cycle : (last early action : ℤ) → last ≤ℤ early → IsBetween (pos 0) last action → (pos 0 ≤ℤ action) × (action ≤ℤ early)
 acts_in_cycle last early action le between = (between.low, omega (arith, ints, between.high))
 
-send_apart : (beside : Bool) (p : Values) (flutter : ℕ) (senders : List Sender) (nodes : List Member) (starts lengths : ℕ) (beyond walk reach last : ℤ) → IsSharpReach p flutter starts lengths beyond walk reach last
+send_apart : (beside : Bool) (p : Values) (flutter : ℕ) (senders : List Sender) (nodes : List Member) (starts lengths : ℕ) (beyond walk reach last : ℤ) → IsSharpLimit p flutter beyond walk reach last
     → Double p starts lengths beyond nodes → IsSharpDouble beside p flutter senders nodes last → SendApart p (pos starts) (pos lengths) (pos (odd_spread p lengths)) senders
 send_apart beside p flutter senders nodes starts lengths beyond walk reach last is double heard = record {
   sending = λ i d short. sends _ (heard.among i d short) (heard.acts i d short);
@@ -183,9 +183,9 @@ send_apart beside p flutter senders nodes starts lengths beyond walk reach last 
         record { double = regular.double; lasts = micro_lasts p sender.odd is.sane regular.odd_micro; acts_from = both.0; acts_to = both.1 }
 
 takes_sharply : (beside : Bool) (p : Values) (flutter : ℕ) (senders : List Sender) (nodes : List Member) (starts lengths : ℕ) (beyond walk reach last : ℤ) (node : Member)
-    → IsSharpReach p flutter starts lengths beyond walk reach last → Double p starts lengths beyond nodes → IsSharpDouble beside p flutter senders nodes last → Contains nodes node
+    → IsSharpLimit p flutter beyond walk reach last → ActInReach p reach last nodes → Double p starts lengths beyond nodes → IsSharpDouble beside p flutter senders nodes last → Contains nodes node
     → TakesSharply p flutter senders reach lengths node
-takes_sharply beside p flutter senders nodes starts lengths beyond walk reach last node is double heard here =
+takes_sharply beside p flutter senders nodes starts lengths beyond walk reach last node is acting double heard here =
     let computes = All-contains (ComputesSharply p flutter senders) nodes node heard.computes here in
     record {
       offsets = record {
@@ -200,8 +200,8 @@ takes_sharply beside p flutter senders nodes starts lengths beyond walk reach la
   where
     reached : (sender : Sender) → IsAmong nodes sender → IsBetween (pos 0) last sender.action → IsWithin reach (gap_of p true sender.action sender.odd node.odd)
     reached sender among acts =
-        reached_by p flutter starts lengths beyond walk reach last sender.action true sender.even sender.odd node.even node.odd is (among_rows (IsRegular p) nodes sender among double.regular) (double.regular node here)
-        (sender_near p starts lengths beyond nodes double sender node among here) acts.low acts.high
+        among_rows (λ even odd. IsWithin reach (gap_of p true sender.action odd node.odd)) nodes sender among
+        (λ one there. acting true one node sender.action there here acts.low acts.high)
 
     odds : (sender : Sender) → IsAmong nodes sender → IsWithin (pos (odd_spread p lengths)) (cycle_length_of p node.odd -ℤ cycle_length_of p sender.odd)
     odds sender among = turned (pos (odd_spread p lengths)) (cycle_length_of p sender.odd) (cycle_length_of p node.odd) (sender_near p starts lengths beyond nodes double sender node among here).by_odd
@@ -211,15 +211,30 @@ senders_about p starts lengths beyond nodes senders double among =
     All-along (IsAmong nodes) (λ sender. IsAboutCycle p beyond (cycle_length_of p sender.even)) senders
     (λ sender is. among_rows (λ even odd. IsAboutCycle p beyond (cycle_length_of p even)) nodes sender is (node_about p starts lengths beyond nodes double)) among
 
-pub sharp_spreads_shrink_lem : SharpSpreadsShrink
-sharp_spreads_shrink_lem beside p flutter senders nodes starts lengths next_starts next_lengths beyond walk next reach last one other is next_from to_next draws sharp heard here there =
+pub spreads_shrink_in_reach : SpreadsShrinkInReach
+spreads_shrink_in_reach beside p flutter senders nodes starts lengths next_starts next_lengths beyond walk next reach last one other is acting next_from to_next draws sharp heard here there =
     let double = double_of beside p flutter senders nodes starts lengths beyond last is.sane sharp heard in
     let kept = heard.keep one other here there in
     receivers_come_sharply beside p flutter senders starts lengths next_starts next_lengths beyond walk next reach reach one other is.sane is.walks next_from to_next draws
     (send_apart beside p flutter senders nodes starts lengths beyond walk reach last is double heard) (senders_about p starts lengths beyond nodes senders double heard.among)
-    (takes_sharply beside p flutter senders nodes starts lengths beyond walk reach last one is double heard here)
-    (takes_sharply beside p flutter senders nodes starts lengths beyond walk reach last other is double heard there)
+    (takes_sharply beside p flutter senders nodes starts lengths beyond walk reach last one is acting double heard here)
+    (takes_sharply beside p flutter senders nodes starts lengths beyond walk reach last other is acting double heard there)
     (nodes_near p starts lengths beyond nodes double one other here there).by_odd kept.0 kept.1
+
+pub limit_of : (p : Values) (flutter starts lengths : ℕ) (beyond walk reach last : ℤ) → IsSharpReach p flutter starts lengths beyond walk reach last → IsSharpLimit p flutter beyond walk reach last
+limit_of p flutter starts lengths beyond walk reach last is = record { sane = is.sane; walks = is.walks; suffices = is.suffices; early = is.early }
+
+pub act_in_reach : (beside : Bool) (p : Values) (flutter : ℕ) (senders : List Sender) (nodes : List Member) (starts lengths : ℕ) (beyond walk reach last : ℤ) → IsSharpReach p flutter starts lengths beyond walk reach last
+    → AreSharp p starts lengths beyond (map (λ (node : Member). node.even) nodes) → IsSharpDouble beside p flutter senders nodes last → ActInReach p reach last nodes
+act_in_reach beside p flutter senders nodes starts lengths beyond walk reach last is sharp heard is_odd one other action here there from to =
+    let double = double_of beside p flutter senders nodes starts lengths beyond last is.sane sharp heard in
+    reached_by p flutter starts lengths beyond walk reach last action is_odd one.even one.odd other.even other.odd is (double.regular one here) (double.regular other there)
+    (nodes_near p starts lengths beyond nodes double one other here there) from to
+
+pub sharp_spreads_shrink_lem : SharpSpreadsShrink
+sharp_spreads_shrink_lem beside p flutter senders nodes starts lengths next_starts next_lengths beyond walk next reach last one other is next_from to_next draws sharp heard here there =
+    spreads_shrink_in_reach beside p flutter senders nodes starts lengths next_starts next_lengths beyond walk next reach last one other (limit_of p flutter starts lengths beyond walk reach last is)
+    (act_in_reach beside p flutter senders nodes starts lengths beyond walk reach last is sharp heard) next_from to_next draws sharp heard here there
 
 pub macroticks_stay_sharp : MacroticksStaySharp
 macroticks_stay_sharp p starts lengths next_starts next_lengths beyond next nodes one other apart macrotick is_odd sane sharp regular here there come fits ends_fit from to =
@@ -238,10 +253,8 @@ macroticks_stay_sharp p starts lengths next_starts next_lengths beyond next node
 next_even_of : (p : Values) (node : Member) (even odd : NodeRow) → IsFollowed p node even odd → IsNextEven p node.odd node.rate_term even
 next_even_of p node even odd is = record { rate = is.next.even_rate; micro = is.next.even_micro; steady = is.next.even_steady }
 
-pub next_is_sharp : NextIsSharp
-next_is_sharp beside p flutter senders nodes starts lengths next_starts next_lengths beyond walk next reach last next_even next_odd is next_from to_next draws sharp heard followed =
-    let come = λ (one other : Member) (here : Contains nodes one) (there : Contains nodes other).
-    sharp_spreads_shrink_lem beside p flutter senders nodes starts lengths next_starts next_lengths beyond walk next reach last one other is next_from to_next draws sharp heard here there in
+pub next_is_near : NextIsNear
+next_is_near p nodes next_starts next_lengths next next_even next_odd come followed =
     let Followed : Member → Type 0 = λ node. IsFollowed p node (next_even node) (next_odd node) in
     let follows = λ (node : Member) (here : Contains nodes node). All-contains Followed nodes node followed here in
     let after = λ (node : Member) (here : Contains nodes node). next_even_of p node (next_even node) (next_odd node) (follows node here) in
@@ -268,6 +281,13 @@ next_is_sharp beside p flutter senders nodes starts lengths next_starts next_len
           (λ node here. (come node node here here).range.range (next_even node) (after node here)) (All-contains_itself nodes)
           );
     }
+
+pub next_is_sharp : NextIsSharp
+next_is_sharp beside p flutter senders nodes starts lengths next_starts next_lengths beyond walk next reach last next_even next_odd is next_from to_next draws sharp heard followed =
+    next_is_near p nodes next_starts next_lengths next next_even next_odd
+    (λ one other here there.
+    sharp_spreads_shrink_lem beside p flutter senders nodes starts lengths next_starts next_lengths beyond walk next reach last one other is next_from to_next draws sharp heard here there)
+    followed
 
 -- ---- in sharp sync
 

@@ -1,6 +1,6 @@
 -- The sharper bounds of a cluster, in ticks, where delays flutter by no more than so many ticks: the delay of a correct
 -- node's frames at another one, on a channel, differs by no more than the flutter between the two cycles of a double cycle.
--- There are two sets of them: of a cluster without arbitrary nodes, and beside arbitrary sync nodes.
+-- There are two sets of them: of a cluster without arbitrary sync nodes, and beside arbitrary sync nodes.
 use Rattle.std.specs.Prelude.{ℕ, ◌+◌, ◌-◌, ◌*◌, ◌/◌, ◌≤◌, max, nat_abs, ℤ, pos, ◌+ℤ◌, ◌-ℤ◌, ◌*ℤ◌, int_le, int_lt, Bool, true, false, if◌then◌else◌, Option, Some, None, List, [], ◌∷◌}
 use Rattle.fr_cluster.specs.Values.{Values, amount}
 use Rattle.fr_cluster.specs.Sane.{IsSane}
@@ -63,8 +63,8 @@ near_by p starts lengths =
 abbrev pub sharp_near : Bool → Values → ℕ → ℕ
 sharp_near beside p flutter = near_by p (sharp_pi beside p flutter) (sharp_lambda beside p flutter)
 
--- no sharper bound is above the older one, where delays flutter by no more than twice the error of an arrival, as they
--- always do; without arbitrary nodes none is above that beside them; and action points lie nearer than macroticks
+-- no sharper bound is above the older one, where delays flutter by no more than twice the error of an arrival; without
+-- arbitrary nodes none is above that beside them; and action points lie no further apart than macroticks
 abbrev pub SharpIsBelow : Type 0
 SharpIsBelow =
     (beside : Bool) (p : Values) (flutter : ℕ) → IsSane p → flutter ≤ 2 * arrival_error p
@@ -93,7 +93,8 @@ rate_walk p flutter =
 abbrev pub rate_room : Values → ℕ
 rate_room p = amount p name.pRateCorrectionOut * shortest_micro p - 2 * (amount p name.pMicroPerCycle * amount p name.xRateBound)
 
--- for how many double cycles the rate limit holds the walk; none where it holds it for ever
+-- under the second check, for how many double cycles the rate limit holds the walk; without a number where the lengths do
+-- not walk, so that it does for ever
 abbrev pub walk_lasts : Values → ℕ → Option ℕ
 walk_lasts p flutter =
     if int_le (rate_walk p flutter) (pos 0) then None else Some (rate_room p / nat_abs (rate_walk p flutter))

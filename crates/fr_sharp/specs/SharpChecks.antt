@@ -11,7 +11,7 @@ use Rattle.fr_precision.specs.Offsets.{LimitSuffices}
 use Rattle.fr_precision.specs.Reception.{LeavesRoom}
 use Rattle.fr_sharp.specs.SharpBounds.{rate_walk, sharp_near, wide_change}
 
--- the left side of a check, by its number; that of the first in ticks, as the others
+-- the left side of a check, by its number: that of the older check, and at the first one tick more
 abbrev pub sharp_left_of : ℕ → Values → ℕ
 sharp_left_of (suc zero) p = amount p name.pClusterDriftDamping * shortest_micro p + 1
 sharp_left_of other p = left_of other p
@@ -37,7 +37,7 @@ BoundsWalk p flutter walk =
     (micro : ℤ) → pos (shortest_micro p) ≤ℤ micro → micro ≤ℤ pos (longest_micro p)
     → ((pos (flutter + cycle_change p + wide_change p) +ℤ (micro -ℤ pos 1)) -ℤ (p.damping *ℤ micro)) ≤ℤ walk
 
--- the rate limit suffices for lengths that lie so far beside their range: the second check with so much more
+-- the rate limit suffices for lengths that lie so far beyond their range: the second check with so much more
 abbrev pub RateSuffices : Values → ℤ → Type 0
 RateSuffices p beyond =
     (pos (2 * (amount p name.pMicroPerCycle * amount p name.xRateBound)) +ℤ beyond)
@@ -59,7 +59,7 @@ SharpChecksSuffice =
     (p : Values) (flutter reach : ℕ) → IsSane p → SharpChecksHold flutter reach p
     → LimitSuffices p (pos reach) × LeavesRoom p (pos reach)
 
--- where the older checks hold, so do these
+-- where the older checks hold, so do these, if delays flutter by no more than twice the error of an arrival
 abbrev pub OlderChecksSuffice : Type 0
 OlderChecksSuffice =
     (beside : Bool) (p : Values) (flutter number : ℕ) → IsSane p → flutter ≤ 2 * arrival_error p

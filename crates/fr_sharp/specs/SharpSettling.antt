@@ -67,7 +67,7 @@ abbrev pub AloneSettlesSoon : Type 0
 AloneSettlesSoon =
     (p : Values) (flutter start rate : ℕ) → IsSharplySettled false p flutter (sharp_spread_after false p flutter start rate 2)
 
--- beside arbitrary nodes after 82, of whatever numbers that may be stated
+-- beside arbitrary nodes after 82, of numbers up to 1,000,000,000,000
 abbrev pub BesideSettlesSoon : Type 0
 BesideSettlesSoon =
     (p : Values) (flutter start rate : ℕ) → start ≤ 1_000_000_000_000 → rate ≤ 1_000_000_000_000

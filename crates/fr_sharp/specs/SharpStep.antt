@@ -115,7 +115,30 @@ ActionsLieInReach =
     → pos 0 ≤ℤ action → action ≤ℤ last
     → IsWithin reach (gap_of p is_odd action (row_in is_odd one.even one.odd) (row_in is_odd other.even other.odd))
 
+-- what is asked of those numbers where the reach is known to take in action points for another reason
+pub record IsSharpLimit (p : Values) (flutter : ℕ) (beyond walk reach last : ℤ) : Type 0 where
+  pub sane : IsSane p
+  pub walks : CanWalk p flutter beyond walk
+  pub suffices : LimitSuffices p reach
+  pub early : last ≤ℤ p.correction
+
+-- action points of any two nodes lie within a reach, up to a last macrotick
+abbrev pub ActInReach : Values → ℤ → ℤ → List Member → Type 0
+ActInReach p reach last nodes =
+    (is_odd : Bool) (one other : Member) (action : ℤ) → Contains nodes one → Contains nodes other
+    → pos 0 ≤ℤ action → action ≤ℤ last
+    → IsWithin reach (gap_of p is_odd action (row_in is_odd one.even one.odd) (row_in is_odd other.even other.odd))
+
 -- any two of the nodes come together
+abbrev pub SpreadsShrinkInReach : Type 0
+SpreadsShrinkInReach =
+    (beside : Bool) (p : Values) (flutter : ℕ) (senders : List Sender) (nodes : List Member)
+    (starts lengths next_starts next_lengths : ℕ) (beyond walk next reach last : ℤ) (one other : Member)
+    → IsSharpLimit p flutter beyond walk reach last → ActInReach p reach last nodes → pos 0 ≤ℤ next → (beyond +ℤ walk) ≤ℤ next
+    → DrawsTo beside p flutter starts lengths next_starts next_lengths
+    → AreSharp p starts lengths beyond (map (λ node. node.even) nodes) → IsSharpDouble beside p flutter senders nodes last
+    → Contains nodes one → Contains nodes other → ComeSharply p next_starts next_lengths next one other
+
 abbrev pub SharpSpreadsShrink : Type 0
 SharpSpreadsShrink =
     (beside : Bool) (p : Values) (flutter : ℕ) (senders : List Sender) (nodes : List Member)
@@ -137,7 +160,14 @@ MacroticksStaySharp =
     → pos 0 ≤ℤ macrotick → macrotick ≤ℤ p.macros
     → IsWithin (pos apart) (gap_of p is_odd macrotick (row_in is_odd one.even one.odd) (row_in is_odd other.even other.odd))
 
--- and the rows of the next double cycle are as near
+-- and where any two come together, the rows of the next double cycle are as near
+abbrev pub NextIsNear : Type 0
+NextIsNear =
+    (p : Values) (nodes : List Member) (next_starts next_lengths : ℕ) (next : ℤ) (next_even next_odd : Member → NodeRow)
+    → ((one other : Member) → Contains nodes one → Contains nodes other → ComeSharply p next_starts next_lengths next one other)
+    → All (λ node. IsFollowed p node (next_even node) (next_odd node)) nodes
+    → AreSharp p next_starts next_lengths next (map next_even nodes)
+
 abbrev pub NextIsSharp : Type 0
 NextIsSharp =
     (beside : Bool) (p : Values) (flutter : ℕ) (senders : List Sender) (nodes : List Member)

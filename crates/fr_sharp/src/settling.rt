@@ -2,7 +2,8 @@ ghost use Rattle.fr_sharp.specs.SharpSettling.{AloneSettlesSoon, BesideSettlesSo
 
 /// The law of settling: how far starts and even lengths may lie apart, in ticks, draws together from one double cycle
 /// to the next as the step does, and comes to rest in sharp sync: after two double cycles without arbitrary nodes,
-/// and after 82 beside them. From sync in the older sense it stays within the older precision on the way.
+/// and after 82 beside them, of numbers up to 1,000,000,000,000. From sync in the older sense it stays within the
+/// older precision from the second double cycle on, where delays flutter by no more than twice the error of an arrival.
 pub fn sharp_spreads_settle()
     ensures draws { NextSpreadDraws }
     ensures fit { NextStartsFit }

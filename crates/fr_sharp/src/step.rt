@@ -1,13 +1,15 @@
-ghost use Rattle.fr_sharp.specs.SharpStep.{ActionsLieInReach, InSyncIsSharp, MacroticksStaySharp, NextIsInSharpSync, NextIsSharp, ReceiversComeSharply, SharpIsWider, SharpSpreadsShrink, SharpSyncDraws, SharpSyncIsKept};
+ghost use Rattle.fr_sharp.specs.SharpStep.{ActionsLieInReach, InSyncIsSharp, MacroticksStaySharp, NextIsInSharpSync, NextIsNear, NextIsSharp, ReceiversComeSharply, SharpIsWider, SharpSpreadsShrink, SharpSyncDraws, SharpSyncIsKept, SpreadsShrinkInReach};
 
 /// The law of the step with free numbers: nodes with a value of every sender cut no term, and their next starts and
-/// even lengths, in ticks, draw together as the numbers do; of two receivers, and of any two of a list of nodes.
-/// Nodes in sync in the older sense are a case of it.
+/// even lengths, in ticks, draw together as the numbers do; of two receivers, and of any two of a list of nodes,
+/// whatever says that the reach takes in their action points. Nodes in sync in the older sense are a case of it.
 pub fn sharp_spreads_shrink()
     ensures two { ReceiversComeSharply }
     ensures reach { ActionsLieInReach }
+    ensures within { SpreadsShrinkInReach }
     ensures shrink { SharpSpreadsShrink }
     ensures macroticks { MacroticksStaySharp }
+    ensures near { NextIsNear }
     ensures next { NextIsSharp }
     ensures sync { InSyncIsSharp }
     ensures wider { SharpIsWider }
