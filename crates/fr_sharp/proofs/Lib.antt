@@ -17,4 +17,5 @@ pub mod LastingLemmas
 pub mod OlderLemmas
 pub mod SharpRows
 pub mod SharpWorked
+pub mod SharpSlow
 pub mod SharpLists

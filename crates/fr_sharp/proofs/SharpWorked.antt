@@ -47,7 +47,7 @@ use Rattle.fr_sharp.proofs.LastingLemmas.{sharp_spreads_keep, sharp_sync_lasts_l
 
 -- ---- the cluster: four key slots, damping 2, delays of 50 to 300 ns, 100 ppm
 
-abbrev cluster : Values
+abbrev pub cluster : Values
 cluster = set_of (node 1 ∷ node 2 ∷ node 3 ∷ node 4 ∷ []) 2 7 100 0 5_000_000
 
 -- the same with another damping
@@ -127,7 +127,7 @@ sane_by damping is = record {
   };
 }
 
-is_sane : IsSane cluster
+pub is_sane : IsSane cluster
 is_sane = sane_by 2 (record { le = tt }, record { le = tt })
 
 -- ---- without damping the rate limit holds the walk for 560 double cycles: before the last of them it suffices, and then no more
@@ -238,7 +238,7 @@ third_middle = record {
 }
 
 -- a term that is not cut
-abbrev uncut : ℤ → Term
+abbrev pub uncut : ℤ → Term
 uncut value = record { value = value; before = value; outcome = Within }
 
 first_round : (beside : Bool) → IsOffsetRound cluster senders first.odd (first_offsets beside) (uncut (pos 1))
@@ -481,7 +481,7 @@ kept true one other here there =
       keep_one (length one.rates) (length other.rates) of_one.2 of_one.3 of_other.2 of_other.3,
     )
 
-lie_three : (bound a b c : ℤ) → (a -ℤ a) ≤ℤ bound → (a -ℤ b) ≤ℤ bound → (a -ℤ c) ≤ℤ bound → (b -ℤ a) ≤ℤ bound → (b -ℤ b) ≤ℤ bound → (b -ℤ c) ≤ℤ bound → (c -ℤ a) ≤ℤ bound → (c -ℤ b) ≤ℤ bound → (c -ℤ c) ≤ℤ bound
+pub lie_three : (bound a b c : ℤ) → (a -ℤ a) ≤ℤ bound → (a -ℤ b) ≤ℤ bound → (a -ℤ c) ≤ℤ bound → (b -ℤ a) ≤ℤ bound → (b -ℤ b) ≤ℤ bound → (b -ℤ c) ≤ℤ bound → (c -ℤ a) ≤ℤ bound → (c -ℤ b) ≤ℤ bound → (c -ℤ c) ≤ℤ bound
     → LieWithin bound (a ∷ b ∷ c ∷ [])
 lie_three bound a b c aa ab ac ba bb bc ca cb cc =
     three (λ x. All (λ y. (x -ℤ y) ≤ℤ bound) (a ∷ b ∷ c ∷ [])) a b c (three (λ y. (a -ℤ y) ≤ℤ bound) a b c aa ab ac) (three (λ y. (b -ℤ y) ≤ℤ bound) a b c ba bb bc)
@@ -731,7 +731,7 @@ lasts beside =
 
 -- ---- from stated numbers: starts within 2.4 us, and lengths within 0.5 us
 
-near_way : (beside : Bool) (k : ℕ) → k < 2 → sharply_near_in cluster (sharp_spread_after beside cluster 0 96_000_000 20_000_000 k) ≤ 117_418_141
+pub near_way : (beside : Bool) (k : ℕ) → k < 2 → sharply_near_in cluster (sharp_spread_after beside cluster 0 96_000_000 20_000_000 k) ≤ 117_418_141
 unfolding last_of sharp_spread_after
 near_way false zero short = lit≤ tt
 near_way false (suc zero) short = lit≤ tt
@@ -739,7 +739,7 @@ near_way true zero short = lit≤ tt
 near_way true (suc zero) short = lit≤ tt
 near_way beside (suc (suc k)) short = absurd (omega (arith, short))
 
-way_checks : SharpChecksHold 0 117_418_141 cluster
+pub way_checks : SharpChecksHold 0 117_418_141 cluster
 way_checks zero from to = absurd (omega (arith, from))
 way_checks (suc zero) from to = absurd (omega (arith, from))
 way_checks (suc (suc zero)) from to = refl
