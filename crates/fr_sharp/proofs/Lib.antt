@@ -18,4 +18,5 @@ pub mod OlderLemmas
 pub mod SharpRows
 pub mod SharpWorked
 pub mod SharpSlow
+pub mod OlderWorked
 pub mod SharpLists

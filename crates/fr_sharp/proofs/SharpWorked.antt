@@ -35,15 +35,15 @@ use Rattle.fr_sharp.specs.SharpBounds.{last_action, last_of, rate_walk, sharp_la
 use Rattle.fr_sharp.specs.SharpChecks.{SharpChecksHold}
 use Rattle.fr_sharp.specs.Steady.{IsSteadyPair, PlacesEven}
 use Rattle.fr_sharp.specs.Lengths.{walked_after, CanWalk, IsAboutCycle, IsSteadyRound}
-use Rattle.fr_sharp.specs.SharpRun.{AreSharpDoubles, BeginWithin, IsNextDouble, KeepsToSpreads}
-use Rattle.fr_sharp.specs.SharpSettling.{sharp_spread_after, sharply_near_in}
+use Rattle.fr_sharp.specs.SharpRun.{AreSharpDoubles, BeginWithin, IsNextDouble, KeepsToSpreads, StaysInSharpSync}
+use Rattle.fr_sharp.specs.SharpSettling.{sharp_spread_after, sharply_near_in, IsSharplySettled}
 use Rattle.fr_sharp.specs.SharpStep.{AllKeepSenders, AreSharp, ComputesSharply, IsSharpDouble, IsInSharpSync, StaySharp}
 use Rattle.fr_sharp.proofs.Arriving.{frames_are_steady}
 use Rattle.fr_sharp.proofs.BoundLemmas.{sharp_checks_suffice_lem, walk_is_held}
 use Rattle.fr_sharp.proofs.SharpRows.{set_of}
 use Rattle.fr_sharp.proofs.SteadyLemmas.{counted_are_steady, deviations_are_steady, steady_values_place_lem}
 use Rattle.fr_sharp.proofs.StepLemmas.{next_is_in_sharp_sync, sharp_is_wider, sharp_sync_is_kept_lem}
-use Rattle.fr_sharp.proofs.LastingLemmas.{sharp_spreads_keep, sharp_sync_lasts_lem}
+use Rattle.fr_sharp.proofs.LastingLemmas.{sharp_spreads_keep, sharp_sync_is_reached, sharp_sync_lasts_lem}
 
 -- ---- the cluster: four key slots, damping 2, delays of 50 to 300 ns, 100 ppm
 
@@ -770,3 +770,45 @@ begin beside = record {
 -- they keep to the spreads in the second double cycle
 spreads : (beside : Bool) → KeepsToSpreads beside cluster 0 96_000_000 20_000_000 (members_in beside) 1
 spreads beside = sharp_spreads_keep beside cluster 0 96_000_000 20_000_000 117_418_141 2 senders_in (members_in beside) (begin beside) 1 (lit< tt)
+
+-- ---- and with numbers that lie within pi and lambda they are in sharp sync from the second double cycle on
+
+within_sync : (beside : Bool) (k : ℕ) → k < 2 → sharply_near_in cluster (sharp_spread_after beside cluster 0 2_000_000 0 k) ≤ sharp_near beside cluster 0
+unfolding last_of sharp_spread_after
+within_sync false zero short = lit≤ tt
+within_sync false (suc zero) short = lit≤ tt
+within_sync true zero short = lit≤ tt
+within_sync true (suc zero) short = lit≤ tt
+within_sync beside (suc (suc k)) short = absurd (omega (arith, short))
+
+narrow : AreSharp cluster 2_000_000 0 (pos 0) evens
+narrow = record {
+  starts_lie =
+      lie_three (pos 2_000_000) first.even.start second.even.start third.even.start (record { le = tt }) (record { le = tt }) (record { le = tt }) (record { le = tt }) (record { le = tt })
+      (record { le = tt }) (record { le = tt }) (record { le = tt }) (record { le = tt });
+  lengths_lie =
+      lie_three (pos 0) (cycle_length_of cluster first.even) (cycle_length_of cluster second.even) (cycle_length_of cluster third.even) (record { le = tt }) (record { le = tt })
+      (record { le = tt }) (record { le = tt }) (record { le = tt }) (record { le = tt }) (record { le = tt }) (record { le = tt }) (record { le = tt });
+  about = (sharp false).about;
+}
+
+begin_near : (beside : Bool) → BeginWithin beside cluster 0 2_000_000 0 (sharp_near beside cluster 0) 2 senders_in (members_in beside)
+begin_near beside = record {
+  doubles_are = record {
+    sane = is_sane;
+    second = refl;
+    heard = λ k short before begin. heard_in beside k;
+    follows = λ k short before begin uncut. follows_in beside k short;
+  };
+  checks = checks beside;
+  near = within_sync beside;
+  first = narrow;
+}
+
+at_rest : (beside : Bool) → IsSharplySettled beside cluster 0 (sharp_spread_after beside cluster 0 2_000_000 0 1)
+unfolding sharp_spread_after
+at_rest false = (refl, refl)
+at_rest true = (refl, refl)
+
+reached : (beside : Bool) → StaysInSharpSync beside cluster 0 (members_in beside) 1
+reached beside = sharp_sync_is_reached beside cluster 0 2_000_000 0 (sharp_near beside cluster 0) 2 1 senders_in (members_in beside) (begin_near beside) (lit≤ tt) (at_rest beside) 1 (lit≤ tt) (lit< tt)
