@@ -94,7 +94,8 @@ DeviationsAreSteady =
     → IsDeviation p false sender.action even sender.even early → IsDeviation p true sender.action odd sender.odd late
     → IsSteadyPair p (2 * arrival_error p) sender even odd early late
 
--- two delays of a channel lie within twice the delay error of each other, and that is no more than twice the error of an arrival
+-- two delays of a channel lie within twice the delay error of each other, and that is no more than twice the error of an
+-- arrival
 abbrev pub DelaysFlutterLittle : Type 0
 DelaysFlutterLittle =
     (p : Values) (channel : Channel) (delay other_delay : ℤ)
