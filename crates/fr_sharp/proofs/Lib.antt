@@ -17,4 +17,6 @@ pub mod LastingLemmas
 pub mod OlderLemmas
 pub mod SharpRows
 pub mod SharpWorked
+pub mod SharpSlow
+pub mod OlderWorked
 pub mod SharpLists

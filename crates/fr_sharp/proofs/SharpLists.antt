@@ -1,6 +1,7 @@
 -- The law of two receivers, both sides computed: three senders, whose values are the same at both receivers, and an arbitrary
 -- one that tells the first 100 and the second -100. Twice the difference is 20, of the 22 that the law allows; the bound without
--- further values, 1, does not hold.
+-- further values, 1, does not hold. And three senders alone, whose values lie at most 1 apart: the midpoints lie 1 apart, of the
+-- 2 that the law allows.
 use Rattle.std.proofs.Common.{ℤ, pos, negsuc, List, [], ◌∷◌, ◌++◌, All, refl, lit≤, lit<}
 use Rattle.std.specs.Prelude.{◌+ℤ◌}
 use Rattle.std.proofs.lemmas.List.Sorted.{IsPermutation-refl}
@@ -8,7 +9,7 @@ use Rattle.fr_base.specs.Within.{IsWithin}
 use Rattle.fr_midpoint.specs.Midpoint.{IsMidpoint}
 use Rattle.fr_midpoint.specs.Receivers.{Receiver}
 use Rattle.fr_sharp.specs.Said.{lies_after, AllLieNear, KeepsSaid, SameLieNear}
-use Rattle.fr_sharp.proofs.SaidLemmas.{two_apart_lem}
+use Rattle.fr_sharp.proofs.SaidLemmas.{two_alone_lem, two_apart_lem}
 use Rattle.fr_sharp.proofs.SharpWorked.{three}
 
 abbrev said : List ℤ
@@ -72,3 +73,48 @@ within =
 
 not_alone : IsWithin (pos 0 +ℤ pos 1) (lies_after told_early told_late (pos 15) (pos 5)) → ⊥
 not_alone near = absurd (near.high.le)
+
+-- ---- without further values
+
+abbrev said_later : List ℤ
+said_later = negsuc 0 ∷ pos 9 ∷ pos 20 ∷ []
+
+abbrev one_alone : Receiver
+one_alone = record { base = pos 0; unit = pos 1; values = said }
+
+abbrev other_alone : Receiver
+other_alone = record { base = pos 0; unit = pos 1; values = said_later }
+
+keeps_one : KeepsSaid said one_alone
+keeps_one = record { lasts = record { lt = tt }; further = []; parts = IsPermutation-refl said; few = lit≤ tt }
+
+keeps_other : KeepsSaid said_later other_alone
+keeps_other = record { lasts = record { lt = tt }; further = []; parts = IsPermutation-refl said_later; few = lit≤ tt }
+
+middle_one : IsMidpoint said (pos 10)
+middle_one = record {
+  low = pos 10;
+  high = pos 10;
+  least = record { few_below = lit≤ tt; more_up_to = lit< tt };
+  greatest = record { few_above = lit≤ tt; more_from = lit< tt };
+  half = refl;
+}
+
+middle_other : IsMidpoint said_later (pos 9)
+middle_other = record {
+  low = pos 9;
+  high = pos 9;
+  least = record { few_below = lit≤ tt; more_up_to = lit< tt };
+  greatest = record { few_above = lit≤ tt; more_from = lit< tt };
+  half = refl;
+}
+
+each_near : SameLieNear one_alone other_alone (pos 1) said said_later
+each_near = (
+  record { low = record { le = tt }; high = record { le = tt } },
+  (record { low = record { le = tt }; high = record { le = tt } }, (record { low = record { le = tt }; high = record { le = tt } }, tt)),
+)
+
+within_alone : IsWithin (pos 2) (pos 1)
+within_alone =
+    two_alone_lem said said_later (pos 1) (pos 1) one_alone other_alone (pos 10) (pos 9) keeps_one keeps_other (record { le = tt }) (record { le = tt }) each_near refl refl middle_one middle_other

@@ -3,11 +3,11 @@
 use Rattle.std.proofs.Common.{◌≡◌, ℕ, pos, negsuc, Bool, true, false, Some, None, List, [], ◌∷◌, refl}
 use Rattle.fr_cluster.specs.Values.{Values}
 use Rattle.fr_cluster.specs.declared.nodes.NodeSpec.{NodeSpec}
-use Rattle.fr_bound.specs.Bounds.{precision_of}
+use Rattle.fr_bound.specs.Bounds.{lambda_of, pi_of, precision_of}
 use Rattle.fr_bound.specs.Checks.{holds_of}
-use Rattle.fr_precision.proofs.Worked.{node}
+use Rattle.fr_precision.proofs.Worked.{cluster, node}
 use Rattle.fr_sharp.specs.SharpBounds.{last_action, last_of, rate_walk, sharp_lambda, sharp_near, sharp_pi, sharp_precision, walk_lasts}
-use Rattle.fr_sharp.specs.SharpSettling.{sharp_spread_after, sharply_apart_in}
+use Rattle.fr_sharp.specs.SharpSettling.{sharp_spread_after, sharply_apart_in, sharply_near_in}
 use Rattle.fr_sharp.specs.SharpChecks.{sharp_holds_of, sharp_left_of, sharp_right_of}
 
 -- such a cluster with these nodes, damping, compensation of the delay, drift and change bounds, and delay error
@@ -90,9 +90,21 @@ short_changing = ((refl, refl, refl, refl), (refl, refl, refl, refl), refl, refl
 
 -- ---- checks
 
--- three of the five older checks fail
-older_checks : (holds_of 1 (set 2 7 100 0 5_000_000) ≡ false) × (holds_of 3 (set 2 7 100 0 5_000_000) ≡ false) × (holds_of 4 (set 2 7 100 0 5_000_000) ≡ false)
-older_checks = (refl, refl, refl)
+-- three of the five older checks fail in each of these clusters
+OlderFail : Values → Type 0
+OlderFail p = (holds_of 1 p ≡ false) × (holds_of 3 p ≡ false) × (holds_of 4 p ≡ false)
+
+older_fail : OlderFail (set 0 7 100 0 5_000_000) × OlderFail (set 1 7 100 0 5_000_000) × OlderFail (set 2 7 100 0 5_000_000) × OlderFail (set 4 7 100 0 5_000_000) × OlderFail (set 1 4 300 0 2_000_000) × OlderFail (set 2 7 300 0 5_000_000) × OlderFail (set 2 7 100 1 5_000_000) × OlderFail (set 2 4 300 1 2_000_000)
+unfolding OlderFail
+older_fail = ((refl, refl, refl), (refl, refl, refl), (refl, refl, refl), (refl, refl, refl), (refl, refl, refl), (refl, refl, refl), (refl, refl, refl), (refl, refl, refl))
+
+-- in the reference cluster they hold, and so do these; the older precision is more than six times the first, and twice the second
+reference : Bounds false cluster 0 11_002_198 15_002_798 39_007_594 27_086_612 × Bounds true cluster 0 22_004_396 75_014_588 121_023_780 98_182_016 × (precision_of cluster ≡ 252_043_600)
+unfolding last_of
+reference = ((refl, refl, refl, refl), (refl, refl, refl, refl), refl)
+
+reference_holds : (holds_of 1 cluster ≡ true) × (holds_of 2 cluster ≡ true) × (holds_of 3 cluster ≡ true) × (holds_of 4 cluster ≡ true) × (holds_of 5 cluster ≡ true)
+reference_holds = (refl, refl, refl, refl, refl)
 
 abbrev Sides : ℕ → ℕ → ℕ → Values → ℕ → ℕ → Type 0
 Sides number flutter reach p left right = (sharp_left_of number p ≡ left) × (sharp_right_of number flutter reach p ≡ right)
@@ -120,17 +132,24 @@ lasts = (refl, refl, refl)
 
 -- ---- how soon clocks that begin apart are in sharp sync
 
--- starts within 3 us and lengths within 1 us, without arbitrary nodes: after two double cycles; the first is the worst
-settles_alone : (sharp_spread_after false (set 2 7 100 0 5_000_000) 0 120_000_000 40_000_000 1 ≡ record { starts = 53_001_700; lengths = 7_000_698 }) × (sharp_spread_after false (set 2 7 100 0 5_000_000) 0 120_000_000 40_000_000 2 ≡ record { starts = 20_002_398; lengths = 7_000_698 }) × (sharply_apart_in (set 2 7 100 0 5_000_000) (sharp_spread_after false (set 2 7 100 0 5_000_000) 0 120_000_000 40_000_000 0) ≡ 202_000_200)
+-- starts within 2.4 us and lengths within 0.5 us: action points then lie within 117,946,194 ticks in the first double cycle, and
+-- with this reach the checks hold
+way_holds : (sharply_near_in (set 2 7 100 0 5_000_000) (sharp_spread_after false (set 2 7 100 0 5_000_000) 0 96_000_000 20_000_000 0) ≡ 117_946_194) × (sharply_near_in (set 2 7 100 0 5_000_000) (sharp_spread_after true (set 2 7 100 0 5_000_000) 0 96_000_000 20_000_000 0) ≡ 117_946_194) × Sides 3 0 117_946_194 (set 2 7 100 0 5_000_000) 126_987_300 123_946_994 × (sharp_holds_of 3 0 117_946_194 (set 2 7 100 0 5_000_000) ≡ true) × (sharp_holds_of 4 0 117_946_194 (set 2 7 100 0 5_000_000) ≡ true) × (sharp_holds_of 5 0 117_946_194 (set 2 7 100 0 5_000_000) ≡ true)
+unfolding last_of sharp_spread_after
+way_holds = (refl, refl, (refl, refl), refl, refl, refl)
+
+-- without arbitrary nodes such clocks are in sharp sync after two double cycles
+settles_alone : (sharp_spread_after false (set 2 7 100 0 5_000_000) 0 96_000_000 20_000_000 1 ≡ record { starts = 33_001_700; lengths = 7_000_698 }) × (sharp_spread_after false (set 2 7 100 0 5_000_000) 0 96_000_000 20_000_000 2 ≡ record { starts = 20_002_398; lengths = 7_000_698 }) × (sharply_apart_in (set 2 7 100 0 5_000_000) (sharp_spread_after false (set 2 7 100 0 5_000_000) 0 96_000_000 20_000_000 0) ≡ 138_000_200)
 unfolding sharp_spread_after
 settles_alone = (refl, refl, refl)
 
--- beside them, and lengths within half of that: after 29
-settles_beside : (sharp_spread_after true (set 2 7 100 0 5_000_000) 0 120_000_000 20_000_000 28 ≡ record { starts = 69_007_689; lengths = 14_001_396 }) × (sharp_spread_after true (set 2 7 100 0 5_000_000) 0 120_000_000 20_000_000 29 ≡ record { starts = 69_007_688; lengths = 14_001_396 }) × (sharply_apart_in (set 2 7 100 0 5_000_000) (sharp_spread_after true (set 2 7 100 0 5_000_000) 0 120_000_000 20_000_000 0) ≡ 162_000_200)
+-- beside them after 29; macroticks lie furthest apart in the first
+settles_beside : (sharp_spread_after true (set 2 7 100 0 5_000_000) 0 96_000_000 20_000_000 28 ≡ record { starts = 69_007_689; lengths = 14_001_396 }) × (sharp_spread_after true (set 2 7 100 0 5_000_000) 0 96_000_000 20_000_000 29 ≡ record { starts = 69_007_688; lengths = 14_001_396 }) × (sharply_apart_in (set 2 7 100 0 5_000_000) (sharp_spread_after true (set 2 7 100 0 5_000_000) 0 96_000_000 20_000_000 0) ≡ 138_000_200) × (sharply_apart_in (set 2 7 100 0 5_000_000) (sharp_spread_after true (set 2 7 100 0 5_000_000) 0 96_000_000 20_000_000 1) ≡ 127_503_346)
 unfolding sharp_spread_after
-settles_beside = (refl, refl, refl)
+settles_beside = (refl, refl, refl, refl)
 
--- from sync in the older sense: after 32, and on the way no further apart than the older precision
-from_older : (sharp_spread_after true (set 2 7 100 0 5_000_000) 0 376_048_000 58_007_400 31 ≡ record { starts = 69_007_689; lengths = 14_001_396 }) × (sharp_spread_after true (set 2 7 100 0 5_000_000) 0 376_048_000 58_007_400 32 ≡ record { starts = 69_007_688; lengths = 14_001_396 }) × (sharply_apart_in (set 2 7 100 0 5_000_000) (sharp_spread_after true (set 2 7 100 0 5_000_000) 0 376_048_000 58_007_400 0) ≡ precision_of (set 2 7 100 0 5_000_000))
+-- from sync in the older sense, in the reference cluster, where the older checks hold: after 30, and on the way no further apart than
+-- the older precision
+from_older : (sharp_spread_after true cluster 0 (pi_of cluster) (lambda_of cluster) 29 ≡ record { starts = 75_014_589; lengths = 22_004_396 }) × (sharp_spread_after true cluster 0 (pi_of cluster) (lambda_of cluster) 30 ≡ record { starts = 75_014_588; lengths = 22_004_396 }) × (sharply_apart_in cluster (sharp_spread_after true cluster 0 (pi_of cluster) (lambda_of cluster) 0) ≡ precision_of cluster)
 unfolding sharp_spread_after
 from_older = (refl, refl, refl)

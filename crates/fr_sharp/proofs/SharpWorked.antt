@@ -2,7 +2,7 @@
 -- node 1 that it is 100 microticks early, node 2 that it is as much late, and node 3 nothing. Their starts lie 1,000,000 ticks
 -- apart, and their offset terms are 1, 0 and -1: so the next double cycle starts at the same instant for all.
 use Rattle.std.proofs.Common.{◌≡◌, ◌≢◌, ℕ, suc, zero, ◌+◌, ◌*◌, ◌≤◌, ◌<◌, Bool, true, false, ℤ, pos, negsuc, List, [], ◌∷◌, ◌++◌, length, map, All, refl, inr, lit≤, lit<, rules, arith}
-use Rattle.std.specs.Prelude.{◌+ℤ◌, ◌-ℤ◌, ◌≤ℤ◌, AllPairs, Contains, nat_abs}
+use Rattle.std.specs.Prelude.{◌+ℤ◌, ◌*ℤ◌, ◌-ℤ◌, ◌≤ℤ◌, AllPairs, Contains, nat_abs}
 use Rattle.std.proofs.lemmas.List.Elements.{All-cons, All-contains, All-nil}
 use Rattle.std.proofs.lemmas.List.Kept.{AllPairs-cons}
 use Rattle.std.proofs.lemmas.List.Sorted.{IsPermutation-refl}
@@ -22,7 +22,10 @@ use Rattle.fr_midpoint.specs.Midpoint.{discarded, IsMidpoint}
 use Rattle.fr_correct.specs.declared.term.Term.{Term}
 use Rattle.fr_bound.specs.Bounds.{arrival_error}
 use Rattle.fr_bound.specs.Sync.{cycle_length_of}
+use Rattle.fr_time.specs.Instant.{instant_of}
+use Rattle.fr_time.specs.Position.{grid_for}
 use Rattle.fr_precision.specs.Rows.{corrected_end_of, HasProperMicro, Sender}
+use Rattle.fr_precision.specs.Deviations.{counted_of}
 use Rattle.fr_precision.specs.Offsets.{IsOffsetRound}
 use Rattle.fr_precision.specs.Placement.{IsRegular}
 use Rattle.fr_precision.specs.Rates.{IsNext}
@@ -31,42 +34,48 @@ use Rattle.fr_precision.proofs.Worked.{node, row}
 use Rattle.fr_sharp.specs.SharpBounds.{last_action, last_of, rate_walk, sharp_lambda, sharp_near, sharp_pi}
 use Rattle.fr_sharp.specs.SharpChecks.{SharpChecksHold}
 use Rattle.fr_sharp.specs.Steady.{IsSteadyPair, PlacesEven}
-use Rattle.fr_sharp.specs.Lengths.{CanWalk, IsAboutCycle, IsSteadyRound}
-use Rattle.fr_sharp.specs.SharpRun.{AreSharpDoubles, IsNextDouble}
+use Rattle.fr_sharp.specs.Lengths.{walked_after, CanWalk, IsAboutCycle, IsSteadyRound}
+use Rattle.fr_sharp.specs.SharpRun.{AreSharpDoubles, BeginWithin, IsNextDouble, KeepsToSpreads, StaysInSharpSync}
+use Rattle.fr_sharp.specs.SharpSettling.{sharp_spread_after, sharply_near_in, IsSharplySettled}
 use Rattle.fr_sharp.specs.SharpStep.{AllKeepSenders, AreSharp, ComputesSharply, IsSharpDouble, IsInSharpSync, StaySharp}
-use Rattle.fr_sharp.proofs.BoundLemmas.{walk_is_held}
+use Rattle.fr_sharp.proofs.Arriving.{frames_are_steady}
+use Rattle.fr_sharp.proofs.BoundLemmas.{sharp_checks_suffice_lem, walk_is_held}
 use Rattle.fr_sharp.proofs.SharpRows.{set_of}
 use Rattle.fr_sharp.proofs.SteadyLemmas.{counted_are_steady, deviations_are_steady, steady_values_place_lem}
-use Rattle.fr_sharp.proofs.StepLemmas.{next_is_in_sharp_sync, sharp_sync_is_kept_lem}
-use Rattle.fr_sharp.proofs.LastingLemmas.{sharp_sync_lasts_lem}
+use Rattle.fr_sharp.proofs.StepLemmas.{next_is_in_sharp_sync, sharp_is_wider, sharp_sync_is_kept_lem}
+use Rattle.fr_sharp.proofs.LastingLemmas.{sharp_spreads_keep, sharp_sync_is_reached, sharp_sync_lasts_lem}
 
 -- ---- the cluster: four key slots, damping 2, delays of 50 to 300 ns, 100 ppm
 
-abbrev cluster : Values
+abbrev pub cluster : Values
 cluster = set_of (node 1 ∷ node 2 ∷ node 3 ∷ node 4 ∷ []) 2 7 100 0 5_000_000
 
-in_range : (n : ParamName) → InRange n (figure cluster n)
-in_range name.gMacroPerCycle = (record { le = tt }, record { le = tt })
-in_range name.pMicroPerCycle = (record { le = tt }, record { le = tt })
-in_range name.gNumberOfStaticSlots = (record { le = tt }, record { le = tt })
-in_range name.gdStaticSlot = (record { le = tt }, record { le = tt })
-in_range name.gdActionPointOffset = (record { le = tt }, record { le = tt })
-in_range name.gdNIT = (record { le = tt }, record { le = tt })
-in_range name.gPayloadLengthStatic = (record { le = tt }, record { le = tt })
-in_range name.gOffsetCorrectionStart = (record { le = tt }, record { le = tt })
-in_range name.gMaxWithoutClockCorrectionPassive = (record { le = tt }, record { le = tt })
-in_range name.gMaxWithoutClockCorrectionFatal = (record { le = tt }, record { le = tt })
-in_range name.pAllowHaltDueToClock = (record { le = tt }, record { le = tt })
-in_range name.pAllowPassiveToActive = (record { le = tt }, record { le = tt })
-in_range name.pClusterDriftDamping = (record { le = tt }, record { le = tt })
-in_range name.pOffsetCorrectionOut = (record { le = tt }, record { le = tt })
-in_range name.pRateCorrectionOut = (record { le = tt }, record { le = tt })
-in_range name.pDelayCompensation = (record { le = tt }, record { le = tt })
-in_range name.pDelayCompensationA = (record { le = tt }, record { le = tt })
-in_range name.pDelayCompensationB = (record { le = tt }, record { le = tt })
-in_range name.xRateBound = (record { le = tt }, record { le = tt })
-in_range name.xChangeBound = (record { le = tt }, record { le = tt })
-in_range name.xDelayError = (record { le = tt }, record { le = tt })
+-- the same with another damping
+abbrev damped_by : ℕ → Values
+damped_by damping = set_of (node 1 ∷ node 2 ∷ node 3 ∷ node 4 ∷ []) damping 7 100 0 5_000_000
+
+in_range : (damping : ℕ) → InRange name.pClusterDriftDamping (pos damping) → (n : ParamName) → InRange n (figure (damped_by damping) n)
+in_range damping is name.gMacroPerCycle = (record { le = tt }, record { le = tt })
+in_range damping is name.pMicroPerCycle = (record { le = tt }, record { le = tt })
+in_range damping is name.gNumberOfStaticSlots = (record { le = tt }, record { le = tt })
+in_range damping is name.gdStaticSlot = (record { le = tt }, record { le = tt })
+in_range damping is name.gdActionPointOffset = (record { le = tt }, record { le = tt })
+in_range damping is name.gdNIT = (record { le = tt }, record { le = tt })
+in_range damping is name.gPayloadLengthStatic = (record { le = tt }, record { le = tt })
+in_range damping is name.gOffsetCorrectionStart = (record { le = tt }, record { le = tt })
+in_range damping is name.gMaxWithoutClockCorrectionPassive = (record { le = tt }, record { le = tt })
+in_range damping is name.gMaxWithoutClockCorrectionFatal = (record { le = tt }, record { le = tt })
+in_range damping is name.pAllowHaltDueToClock = (record { le = tt }, record { le = tt })
+in_range damping is name.pAllowPassiveToActive = (record { le = tt }, record { le = tt })
+in_range damping is name.pClusterDriftDamping = is
+in_range damping is name.pOffsetCorrectionOut = (record { le = tt }, record { le = tt })
+in_range damping is name.pRateCorrectionOut = (record { le = tt }, record { le = tt })
+in_range damping is name.pDelayCompensation = (record { le = tt }, record { le = tt })
+in_range damping is name.pDelayCompensationA = (record { le = tt }, record { le = tt })
+in_range damping is name.pDelayCompensationB = (record { le = tt }, record { le = tt })
+in_range damping is name.xRateBound = (record { le = tt }, record { le = tt })
+in_range damping is name.xChangeBound = (record { le = tt }, record { le = tt })
+in_range damping is name.xDelayError = (record { le = tt }, record { le = tt })
 
 one_by_one : {X : Type 0} (P : X → Type 0) (a : X) → P a → All P (a ∷ [])
 one_by_one P a is = All-cons P a [] is (All-nil P)
@@ -91,9 +100,9 @@ pairs R a b c d ab ac ad bc bd cd =
 sane_node : (id : ℕ) → 1 ≤ id → id ≤ 64 → IsSaneNode (node id)
 sane_node id from to = record { proper = record { from = from; to = to; key = (from, omega arith) }; starts = refl }
 
-is_sane : IsSane cluster
-is_sane = record {
-  ranges = in_range;
+sane_by : (damping : ℕ) → InRange name.pClusterDriftDamping (pos damping) → IsSane (damped_by damping)
+sane_by damping is = record {
+  ranges = in_range damping is;
   constraints = record {
     whole_cycle = refl;
     acts_in_slot = lit< tt;
@@ -117,6 +126,20 @@ is_sane = record {
     few_slots = lit≤ tt;
   };
 }
+
+pub is_sane : IsSane cluster
+is_sane = sane_by 2 (record { le = tt }, record { le = tt })
+
+-- ---- without damping the rate limit holds the walk for 560 double cycles: before the last of them it suffices, and then no more
+
+undamped_sane : IsSane (damped_by 0)
+undamped_sane = sane_by 0 (record { le = tt }, record { le = tt })
+
+last_held : CanWalk (damped_by 0) 0 (pos 559 *ℤ pos 1000099) (pos 1000099)
+last_held = (walk_is_held (damped_by 0) 0 559 undamped_sane refl (lit< tt)).0
+
+held_no_more : CanWalk (damped_by 0) 0 (walked_after (damped_by 0) 0 560) (rate_walk (damped_by 0) 0) → ⊥
+held_no_more can = absurd (can.suffices.le)
 
 -- ---- three nodes
 
@@ -215,7 +238,7 @@ third_middle = record {
 }
 
 -- a term that is not cut
-abbrev uncut : ℤ → Term
+abbrev pub uncut : ℤ → Term
 uncut value = record { value = value; before = value; outcome = Within }
 
 first_round : (beside : Bool) → IsOffsetRound cluster senders first.odd (first_offsets beside) (uncut (pos 1))
@@ -277,6 +300,22 @@ third_round = record {
   applied = refl;
 }
 
+-- ---- the checks, beside the arbitrary node and without
+
+checks : (beside : Bool) → SharpChecksHold 0 (sharp_near beside cluster 0) cluster
+unfolding last_of
+checks beside zero from to = absurd (omega (arith, from))
+checks beside (suc zero) from to = absurd (omega (arith, from))
+checks false (suc (suc zero)) from to = refl
+checks false (suc (suc (suc zero))) from to = refl
+checks false (suc (suc (suc (suc zero)))) from to = refl
+checks false (suc (suc (suc (suc (suc zero))))) from to = refl
+checks true (suc (suc zero)) from to = refl
+checks true (suc (suc (suc zero))) from to = refl
+checks true (suc (suc (suc (suc zero)))) from to = refl
+checks true (suc (suc (suc (suc (suc zero))))) from to = refl
+checks beside (suc (suc (suc (suc (suc (suc k)))))) from to = absurd (omega (arith, to))
+
 -- ---- their rates
 
 -- node 1 counts 2 for node 2 in both cycles, whose frames come after 200 ns: a steady pair without flutter
@@ -284,6 +323,17 @@ counted : IsSteadyPair cluster 0 second first.even first.odd (pos 2) (pos 2)
 counted =
     counted_are_steady cluster 0 2 A second first.even first.odd (pos 8_000_000) (pos 8_000_000) is_sane first_regular refl (record { le = tt })
     (record { low = record { le = tt }; high = record { le = tt } }) (record { le = tt }) (record { low = record { le = tt }; high = record { le = tt } })
+
+-- so they are where only its distance and the room of its slot are known, and the delay is 300 ticks longer in the odd cycle
+framed :
+    IsSteadyPair cluster 300 second first.even first.odd
+    (counted_of cluster first.even 2 A (instant_of (grid_for cluster) second.even false (pos 28) +ℤ pos 8_000_000))
+    (counted_of cluster first.odd 2 A (instant_of (grid_for cluster) second.odd true (pos 28) +ℤ pos 8_000_300))
+unfolding last_of
+framed =
+    let rooms = sharp_checks_suffice_lem cluster 0 (sharp_near false cluster 0) is_sane (checks false) in
+    frames_are_steady cluster 300 2 A first.even first.odd second.even second.odd (pos 8_000_000) (pos 8_000_300) (pos (sharp_near false cluster 0)) is_sane rooms.1 rooms.0 first_regular (lit≤ tt) (lit≤ tt)
+    (record { low = record { le = tt }; high = record { le = tt } }) (record { low = record { le = tt }; high = record { le = tt } }) (record { low = record { le = tt }; high = record { le = tt } })
 
 -- what is recorded is one too, with the errors of both arrivals for the flutter
 recorded : IsSteadyPair cluster (2 * arrival_error cluster) second first.even first.odd (pos 2) (pos 2)
@@ -431,7 +481,7 @@ kept true one other here there =
       keep_one (length one.rates) (length other.rates) of_one.2 of_one.3 of_other.2 of_other.3,
     )
 
-lie_three : (bound a b c : ℤ) → (a -ℤ a) ≤ℤ bound → (a -ℤ b) ≤ℤ bound → (a -ℤ c) ≤ℤ bound → (b -ℤ a) ≤ℤ bound → (b -ℤ b) ≤ℤ bound → (b -ℤ c) ≤ℤ bound → (c -ℤ a) ≤ℤ bound → (c -ℤ b) ≤ℤ bound → (c -ℤ c) ≤ℤ bound
+pub lie_three : (bound a b c : ℤ) → (a -ℤ a) ≤ℤ bound → (a -ℤ b) ≤ℤ bound → (a -ℤ c) ≤ℤ bound → (b -ℤ a) ≤ℤ bound → (b -ℤ b) ≤ℤ bound → (b -ℤ c) ≤ℤ bound → (c -ℤ a) ≤ℤ bound → (c -ℤ b) ≤ℤ bound → (c -ℤ c) ≤ℤ bound
     → LieWithin bound (a ∷ b ∷ c ∷ [])
 lie_three bound a b c aa ab ac ba bb bc ca cb cc =
     three (λ x. All (λ y. (x -ℤ y) ≤ℤ bound) (a ∷ b ∷ c ∷ [])) a b c (three (λ y. (a -ℤ y) ≤ℤ bound) a b c aa ab ac) (three (λ y. (b -ℤ y) ≤ℤ bound) a b c ba bb bc)
@@ -495,20 +545,6 @@ heard beside = record {
       (record { regular = second_regular; by_offset = second_round beside; by_rate = second_rates beside }) (record { regular = third_regular; by_offset = third_round; by_rate = third_rates });
   keep = kept beside;
 }
-
-checks : (beside : Bool) → SharpChecksHold 0 (sharp_near beside cluster 0) cluster
-unfolding last_of
-checks beside zero from to = absurd (omega (arith, from))
-checks beside (suc zero) from to = absurd (omega (arith, from))
-checks false (suc (suc zero)) from to = refl
-checks false (suc (suc (suc zero))) from to = refl
-checks false (suc (suc (suc (suc zero)))) from to = refl
-checks false (suc (suc (suc (suc (suc zero))))) from to = refl
-checks true (suc (suc zero)) from to = refl
-checks true (suc (suc (suc zero))) from to = refl
-checks true (suc (suc (suc (suc zero)))) from to = refl
-checks true (suc (suc (suc (suc (suc zero))))) from to = refl
-checks beside (suc (suc (suc (suc (suc (suc k)))))) from to = absurd (omega (arith, to))
 
 -- whatever many double cycles have passed, the rate limit suffices: these rates walk back
 can_walk : CanWalk cluster 0 (pos 0) (rate_walk cluster 0)
@@ -692,3 +728,87 @@ lasts : (beside : Bool)
 lasts beside =
     let both = sharp_sync_lasts_lem beside cluster 0 2 senders_in (members_in beside) (doubles beside) (checks beside) (in_sharp_sync beside) 1 (lit< tt) in
     (both.sync tt, both.stay tt (again_member 1 beside (pos 100)) (again_member 3 false (pos 100)) (0, lit< tt, refl) (2, lit< tt, refl))
+
+-- ---- from stated numbers: starts within 2.4 us, and lengths within 0.5 us
+
+pub near_way : (beside : Bool) (k : ℕ) → k < 2 → sharply_near_in cluster (sharp_spread_after beside cluster 0 96_000_000 20_000_000 k) ≤ 117_418_141
+unfolding last_of sharp_spread_after
+near_way false zero short = lit≤ tt
+near_way false (suc zero) short = lit≤ tt
+near_way true zero short = lit≤ tt
+near_way true (suc zero) short = lit≤ tt
+near_way beside (suc (suc k)) short = absurd (omega (arith, short))
+
+pub way_checks : SharpChecksHold 0 117_418_141 cluster
+way_checks zero from to = absurd (omega (arith, from))
+way_checks (suc zero) from to = absurd (omega (arith, from))
+way_checks (suc (suc zero)) from to = refl
+way_checks (suc (suc (suc zero))) from to = refl
+way_checks (suc (suc (suc (suc zero)))) from to = refl
+way_checks (suc (suc (suc (suc (suc zero))))) from to = refl
+way_checks (suc (suc (suc (suc (suc (suc k)))))) from to = absurd (omega (arith, to))
+
+wide : (beside : Bool) → AreSharp cluster 96_000_000 20_000_000 (pos 0) evens
+wide false =
+    sharp_is_wider cluster (sharp_pi false cluster 0) (sharp_lambda false cluster 0) 96_000_000 20_000_000 (pos 0) (pos 0) evens (lit≤ tt) (lit≤ tt) (record { le = tt }) (sharp false)
+wide true =
+    sharp_is_wider cluster (sharp_pi true cluster 0) (sharp_lambda true cluster 0) 96_000_000 20_000_000 (pos 0) (pos 0) evens (lit≤ tt) (lit≤ tt) (record { le = tt }) (sharp true)
+
+begin : (beside : Bool) → BeginWithin beside cluster 0 96_000_000 20_000_000 117_418_141 2 senders_in (members_in beside)
+begin beside = record {
+  doubles_are = record {
+    sane = is_sane;
+    second = refl;
+    heard = λ k short before begin. heard_in beside k;
+    follows = λ k short before begin uncut. follows_in beside k short;
+  };
+  checks = way_checks;
+  near = near_way beside;
+  first = wide beside;
+}
+
+-- they keep to the spreads in the second double cycle
+spreads : (beside : Bool) → KeepsToSpreads beside cluster 0 96_000_000 20_000_000 (members_in beside) 1
+spreads beside = sharp_spreads_keep beside cluster 0 96_000_000 20_000_000 117_418_141 2 senders_in (members_in beside) (begin beside) 1 (lit< tt)
+
+-- ---- and with numbers that lie within pi and lambda they are in sharp sync from the second double cycle on
+
+within_sync : (beside : Bool) (k : ℕ) → k < 2 → sharply_near_in cluster (sharp_spread_after beside cluster 0 2_000_000 0 k) ≤ sharp_near beside cluster 0
+unfolding last_of sharp_spread_after
+within_sync false zero short = lit≤ tt
+within_sync false (suc zero) short = lit≤ tt
+within_sync true zero short = lit≤ tt
+within_sync true (suc zero) short = lit≤ tt
+within_sync beside (suc (suc k)) short = absurd (omega (arith, short))
+
+narrow : AreSharp cluster 2_000_000 0 (pos 0) evens
+narrow = record {
+  starts_lie =
+      lie_three (pos 2_000_000) first.even.start second.even.start third.even.start (record { le = tt }) (record { le = tt }) (record { le = tt }) (record { le = tt }) (record { le = tt })
+      (record { le = tt }) (record { le = tt }) (record { le = tt }) (record { le = tt });
+  lengths_lie =
+      lie_three (pos 0) (cycle_length_of cluster first.even) (cycle_length_of cluster second.even) (cycle_length_of cluster third.even) (record { le = tt }) (record { le = tt })
+      (record { le = tt }) (record { le = tt }) (record { le = tt }) (record { le = tt }) (record { le = tt }) (record { le = tt }) (record { le = tt });
+  about = (sharp false).about;
+}
+
+begin_near : (beside : Bool) → BeginWithin beside cluster 0 2_000_000 0 (sharp_near beside cluster 0) 2 senders_in (members_in beside)
+begin_near beside = record {
+  doubles_are = record {
+    sane = is_sane;
+    second = refl;
+    heard = λ k short before begin. heard_in beside k;
+    follows = λ k short before begin uncut. follows_in beside k short;
+  };
+  checks = checks beside;
+  near = within_sync beside;
+  first = narrow;
+}
+
+at_rest : (beside : Bool) → IsSharplySettled beside cluster 0 (sharp_spread_after beside cluster 0 2_000_000 0 1)
+unfolding sharp_spread_after
+at_rest false = (refl, refl)
+at_rest true = (refl, refl)
+
+reached : (beside : Bool) → StaysInSharpSync beside cluster 0 (members_in beside) 1
+reached beside = sharp_sync_is_reached beside cluster 0 2_000_000 0 (sharp_near beside cluster 0) 2 1 senders_in (members_in beside) (begin_near beside) (lit≤ tt) (at_rest beside) 1 (lit≤ tt) (lit< tt)

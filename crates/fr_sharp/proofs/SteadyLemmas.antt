@@ -1,5 +1,5 @@
 -- What two deviations of a sender say of the length of its even cycle.
-use Rattle.std.proofs.Common.{◌≡◌, ℕ, ◌+◌, ◌-◌, ◌*◌, true, false, ℤ, pos, refl, ap, ◌∙◌, arith}
+use Rattle.std.proofs.Common.{◌≡◌, ℕ, ◌+◌, ◌-◌, ◌*◌, ◌≤◌, true, false, ℤ, pos, refl, ap, ◌∙◌, arith}
 use Rattle.std.specs.Prelude.{neg_ℤ, ◌+ℤ◌, ◌-ℤ◌, ◌*ℤ◌, ◌≤ℤ◌, ◌<ℤ◌}
 use Rattle.std.proofs.lemmas.Int.{ints, by_lt_z}
 use Rattle.fr_base.specs.declared.node_row.NodeRow.{NodeRow}
@@ -16,7 +16,7 @@ use Rattle.fr_time.specs.Slots.{action_point_of}
 use Rattle.fr_time.proofs.Floors.{share_le}
 use Rattle.fr_time.proofs.Lines.{rest_of}
 use Rattle.fr_time.proofs.Placing.{is_grid_lem}
-use Rattle.fr_bound.specs.Bounds.{arrival_error}
+use Rattle.fr_bound.specs.Bounds.{arrival_error, nominal, widest}
 use Rattle.fr_bound.specs.Sync.{cycle_length_of}
 use Rattle.fr_precision.specs.Rows.{Sender}
 use Rattle.fr_precision.specs.Placement.{IsRegular}
@@ -25,7 +25,7 @@ use Rattle.fr_precision.proofs.InstantLaws.{before_correction, odd_start_is}
 use Rattle.fr_precision.proofs.OffsetLaws.{micro_lasts}
 use Rattle.fr_precision.proofs.PlacementLaws.{product_within, share_from, steady_within}
 use Rattle.fr_sharp.specs.SharpBounds.{steady_error, wide_change}
-use Rattle.fr_sharp.specs.Steady.{between_actions, even_arrival, left_of_pair, odd_arrival, placed_length, CountedAreSteady, DeviationsAreSteady, HalfPlacesEven, OwnValuePlacesEven, PlacesEven, SteadyValuesPlace}
+use Rattle.fr_sharp.specs.Steady.{between_actions, even_arrival, left_of_pair, odd_arrival, placed_length, CountedAreSteady, DelaysFlutterLittle, DeviationsAreSteady, HalfPlacesEven, OwnValuePlacesEven, PlacesEven, SteadyValuesPlace}
 use Rattle.fr_sharp.proofs.Signed.{signed_of}
 
 -- ---- shares of a cycle
@@ -345,3 +345,15 @@ counted_are_steady p flutter slot ch sender even odd delay other_delay sane regu
 
     up_to : (n u g h : ℤ) → pos 0 ≤ℤ u → h ≡ g → (((n -ℤ u) -ℤ g) +ℤ h) ≤ℤ n
     up_to n u g h from same = omega (arith, ints)
+
+-- ---- how much delays may flutter
+
+pub delays_flutter_little : DelaysFlutterLittle
+delays_flutter_little p channel delay other_delay is other =
+    (apart (amount p name.xDelayError) (compensation_of p channel *ℤ pos nominal) delay other_delay is other, no_more (amount p name.xDelayError) (widest p * amount p name.xRateBound))
+  where
+    apart : (e : ℕ) (c d d' : ℤ) → IsWithin (pos e) (d -ℤ c) → IsWithin (pos e) (d' -ℤ c) → IsWithin (pos (2 * e)) (d' -ℤ d)
+    apart e c d d' is other = record { low = omega (arith, ints, is.high, other.low); high = omega (arith, ints, is.low, other.high) }
+
+    no_more : (e more : ℕ) → 2 * e ≤ 2 * (e + more)
+    no_more e more = omega arith

@@ -1,5 +1,5 @@
--- Nodes over many double cycles: they draw together as the step does, and where they are in sharp sync they stay so, for as many
--- double cycles as the rate limit holds the walk.
+-- Nodes over many double cycles: they draw together as the step does, and where they are in sharp sync they stay so, for as
+-- many double cycles as the rate limit holds the walk.
 use Rattle.std.specs.Prelude.{ℕ, ◌≤◌, zero, suc, ◌≡◌, ◌<◌, ◌*◌, None, Bool, true, ℤ, pos, ◌+ℤ◌, ◌*ℤ◌, ◌≤ℤ◌, IfSome, List, All, map, Contains}
 use Rattle.fr_base.specs.declared.node_row.NodeRow.{NodeRow}
 use Rattle.fr_base.specs.declared.state.Outcome.TheVariants.{Within}
@@ -91,8 +91,8 @@ SharpDoublesDraw =
     → AreSharp p (starts 0) (lengths 0) (pos 0) (map (λ node. node.even) (nodes 0))
     → (k : ℕ) → k < doubles → KeepsSharp p flutter starts lengths nodes k
 
--- a double cycle is in sharp sync, behind the last in which the walk lasts too; and while it lasts, any two nodes stay so, with no
--- macrotick further apart than the sharper precision
+-- a double cycle is in sharp sync, behind the last in which the walk lasts too; and while it lasts, any two nodes stay so,
+-- with no macrotick further apart than the sharper precision
 pub record StaysInSharpSync (beside : Bool) (p : Values) (flutter : ℕ) (nodes : ℕ → List Member) (k : ℕ) : Type 0 where
   pub sync :
       WalkLastsUpTo p flutter k
@@ -118,8 +118,8 @@ starts_from beside p flutter start rate k = (sharp_spread_after beside p flutter
 abbrev pub lengths_from : Bool → Values → ℕ → ℕ → ℕ → ℕ → ℕ
 lengths_from beside p flutter start rate k = (sharp_spread_after beside p flutter start rate k).lengths
 
--- so many double cycles from stated numbers: the nodes begin within them, with lengths in their range, and the checks hold with a
--- reach for the whole way
+-- so many double cycles from stated numbers: the nodes begin within them, with lengths in their range, and the checks hold
+-- with a reach for the whole way
 pub record BeginWithin (beside : Bool) (p : Values) (flutter start rate reach doubles : ℕ) (senders : ℕ → List Sender) (nodes : ℕ → List Member) : Type 0 where
   pub doubles_are :
       AreSharpDoubles beside p flutter doubles (starts_from beside p flutter start rate) (lengths_from beside p flutter start rate)
@@ -153,8 +153,8 @@ SharpSyncIsReached =
     → 1 ≤ rest → IsSharplySettled beside p flutter (sharp_spread_after beside p flutter start rate rest)
     → (k : ℕ) → rest ≤ k → k < doubles → StaysInSharpSync beside p flutter nodes k
 
--- so many double cycles from sync in the older sense, under the older checks, where delays flutter by no more than twice the error
--- of an arrival
+-- so many double cycles from sync in the older sense, under the older checks, where delays flutter by no more than twice the
+-- error of an arrival
 pub record BeginInSync (beside : Bool) (p : Values) (flutter doubles : ℕ) (senders : ℕ → List Sender) (nodes : ℕ → List Member) : Type 0 where
   pub doubles_are :
       AreSharpDoubles beside p flutter doubles (starts_from beside p flutter (pi_of p) (lambda_of p))
@@ -164,8 +164,8 @@ pub record BeginInSync (beside : Bool) (p : Values) (flutter doubles : ℕ) (sen
   pub checks : (number : ℕ) → 1 ≤ number → number ≤ 5 → holds_of number p ≡ true
   pub sync : IsInSync p (map (λ node. node.even) (nodes 0)) (map (λ node. node.odd) (nodes 0))
 
--- then the lengths do not walk, the nodes keep to the spreads from the older pi and lambda, with no macrotick of any two further
--- apart than the older precision; and when the spreads have come to rest they are in sharp sync
+-- then the lengths do not walk, the nodes keep to the spreads from the older pi and lambda, with no macrotick of any two
+-- further apart than the older precision; and when the spreads have come to rest they are in sharp sync
 pub record KeepsFromSync (beside : Bool) (p : Values) (flutter : ℕ) (nodes : ℕ → List Member) (k : ℕ) : Type 0 where
   pub still : walk_lasts p flutter ≡ None
   pub spreads : KeepsToSpreads beside p flutter (pi_of p) (lambda_of p) nodes k

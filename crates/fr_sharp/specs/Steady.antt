@@ -94,6 +94,15 @@ DeviationsAreSteady =
     → IsDeviation p false sender.action even sender.even early → IsDeviation p true sender.action odd sender.odd late
     → IsSteadyPair p (2 * arrival_error p) sender even odd early late
 
+-- two delays of a channel lie within twice the delay error of each other, and that is no more than twice the error of an
+-- arrival
+abbrev pub DelaysFlutterLittle : Type 0
+DelaysFlutterLittle =
+    (p : Values) (channel : Channel) (delay other_delay : ℤ)
+    → IsDelay p channel delay → IsDelay p channel other_delay
+    → IsWithin (pos (2 * amount p name.xDelayError)) (other_delay -ℤ delay)
+    × (2 * amount p name.xDelayError ≤ 2 * arrival_error p)
+
 -- the arrival of a sender's frame in a cycle, after a delay
 abbrev pub even_arrival : Values → Sender → ℤ → ℤ
 even_arrival p sender delay = instant_of (grid_for p) sender.even false sender.action +ℤ delay

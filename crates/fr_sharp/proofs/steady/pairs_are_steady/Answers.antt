@@ -1,5 +1,5 @@
 use Rattle.fr_sharp.proofs.Arriving.{frames_are_steady}
-use Rattle.fr_sharp.proofs.SteadyLemmas.{counted_are_steady, deviations_are_steady}
+use Rattle.fr_sharp.proofs.SteadyLemmas.{counted_are_steady, delays_flutter_little, deviations_are_steady}
 use Rattle.fr_sharp.proofs.steady.pairs_are_steady.Goals as goal
 
 pub returns-clause-counted : goal.returns-clause-counted
@@ -10,3 +10,6 @@ returns-clause-recorded c = deviations_are_steady
 
 pub returns-clause-frames : goal.returns-clause-frames
 returns-clause-frames c = frames_are_steady
+
+pub returns-clause-flutter : goal.returns-clause-flutter
+returns-clause-flutter c = delays_flutter_little
