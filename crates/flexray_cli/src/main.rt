@@ -4,7 +4,7 @@
 #![tactic(auto)]
 
 use fr_answer::{Status, flexray};
-use fr_base::{DiskShelf, StreamSink};
+use fr_program::{DiskShelf, StreamSink};
 use std::env;
 use std::process::ExitCode;
 

@@ -2,7 +2,7 @@
 //! whether they are in sync.
 #![tactic(auto)]
 
-use fr_base::{DiskShelf, StreamSink};
+use fr_program::{DiskShelf, StreamSink};
 use fr_report::{Status, flexray_series};
 use std::env;
 use std::process::ExitCode;

@@ -1,12 +1,21 @@
 -- Texts that are put one after the other.
-use Rattle.std.proofs.Common.{◌≡◌, ℕ, suc, ◌+◌, List, [], ◌∷◌, ◌++◌, length, take, Option, Result, Ok, Err, sym, ap, subst, ◌∙◌, arith, inl, inr}
+use Rattle.std.proofs.Common.{◌≡◌, ℕ, suc, ◌+◌, List, [], ◌∷◌, ◌++◌, length, take, Option, Some, None, Result, Ok, Err, sym, ap, subst, ◌∙◌, append_assoc, append-nil, arith, inl, inr}
 use Rattle.std.specs.Io.KnownBytes.{Appends}
 use Rattle.std.specs.Result.{IsErr}
 use Rattle.std.proofs.lemmas.Bool.{cases_lt}
 use Rattle.std.proofs.lemmas.List.{take-append-le, take_all}
 use Rattle.fr_base.specs.Device.{AppendsFront, Puts, Rose, Sunk}
 use Rattle.fr_base.specs.declared.sink.PutFault.{PutFault}
-use Rattle.fr_base.proofs.Transfers.{Appends-nil, Appends-trans}
+
+pub Appends-nil : (told : Option (List ℕ)) → Appends told told []
+Appends-nil None = tt
+Appends-nil (Some bytes) = sym (append-nil bytes)
+
+pub Appends-trans : (a b c : Option (List ℕ)) (xs ys : List ℕ) → Appends a b xs → Appends b c ys → Appends a c (xs ++ ys)
+Appends-trans None b c xs ys p q = tt
+Appends-trans (Some told) None c xs ys p q = absurd p
+Appends-trans (Some told) (Some next) None xs ys p q = absurd q
+Appends-trans (Some told) (Some next) (Some last) xs ys p q = q ∙ ap (λ (l : List ℕ). l ++ ys) p ∙ append_assoc told xs ys
 
 take_past : (xs ys : List ℕ) (n : ℕ) → take (length xs + n) (xs ++ ys) ≡ xs ++ take n ys
 take_past [] ys n = let same : 0 + n ≡ n = omega arith in ap (λ (k : ℕ). take k ys) same

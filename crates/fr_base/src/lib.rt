@@ -1,16 +1,13 @@
 //! What every crate of the cluster speaks of: channels, identifiers and states, exact numbers and the
-//! reasons for which records are refused, and the two devices, a shelf that files are loaded from and a sink
-//! that text is put into.
+//! reasons for which records are refused, and what is promised of the two devices, a shelf that files are
+//! loaded from and a sink that text is put into.
 #![tactic(auto)]
 
-mod adapters;
 mod channel;
 mod cycle_row;
 mod dev;
 mod dev_list;
 mod ids;
-mod memory_shelf;
-mod memory_sink;
 mod node_row;
 mod numbers;
 mod reason;
@@ -18,17 +15,13 @@ mod row_list;
 mod shelf;
 mod sink;
 mod state;
-mod sure;
 mod ticks;
 
-pub use adapters::{DiskShelf, StreamSink};
 pub use channel::Channel;
 pub use cycle_row::{Counts, CycleRow};
 pub use dev::Dev;
 pub use dev_list::DevList;
 pub use ids::{NodeId, Slot};
-pub use memory_shelf::MemoryShelf;
-pub use memory_sink::MemorySink;
 pub use node_row::NodeRow;
 pub use numbers::{NumberFault, number};
 pub use reason::Reason;
@@ -36,7 +29,6 @@ pub use row_list::{ROW_ROOM, RowList};
 pub use shelf::{LoadFault, MAX_FILE, Shelf};
 pub use sink::{PutFault, Sink};
 pub use state::{Outcome, State};
-pub use sure::{SureShelf, SureSink};
 pub use ticks::ticks_of;
 
 /// The length of a microtick, in ticks, at the nominal rate of an oscillator.

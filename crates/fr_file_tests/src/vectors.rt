@@ -1,5 +1,5 @@
-use fr_base::MemorySink;
 use fr_nm::{Vectors, fold};
+use fr_program::MemorySink;
 use std::alloc::Global;
 use std::test::Fail;
 

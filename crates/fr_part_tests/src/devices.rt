@@ -1,8 +1,6 @@
 // Shelves and sinks, in memory and on the disk; lines that are put into a sink, and numbers that are read.
-use fr_base::{
-    DiskShelf, LoadFault, MAX_FILE, MemoryShelf, MemorySink, NumberFault, PutFault, Shelf, Sink,
-    StreamSink, SureShelf, SureSink, number,
-};
+use fr_base::{LoadFault, MAX_FILE, NumberFault, PutFault, Shelf, Sink, number};
+use fr_program::{DiskShelf, MemoryShelf, MemorySink, StreamSink, SureShelf, SureSink};
 use fr_text::Piece::{Bytes, Hex, Natural, Signed, Word};
 use fr_text::{line_of, put_lines, row_of};
 use std::alloc::{AllocError, Global};

@@ -1,5 +1,10 @@
 -- what the public contract cites
 pub mod Around
 pub mod Command
+pub mod DiskShelf
 pub mod Failure
+pub mod MemoryShelf
+pub mod MemorySink
 pub mod Program
+pub mod StreamSink
+pub mod SureShelf

@@ -1,7 +1,16 @@
 //! A program's answer to its words: how a command may end, its status and its line, and what an ending says of the files
-//! and of the sinks. Each command stands on it.
+//! and of the sinks. Each command stands on it. Besides, the shelves and sinks that a program runs over: the file system
+//! and the streams, and what stands in memory.
 #![tactic(auto)]
 
+mod adapters;
 mod failure;
+mod memory_shelf;
+mod memory_sink;
+mod sure;
 
+pub use adapters::{DiskShelf, StreamSink};
 pub use failure::Failure;
+pub use memory_shelf::MemoryShelf;
+pub use memory_sink::MemorySink;
+pub use sure::{SureShelf, SureSink};

@@ -9,8 +9,9 @@ use crate::calls::{
 };
 use fr_answer::Status::{Done, No, ReadFault, Refused, Usage, WriteFault};
 use fr_answer::{Status, flexray};
-use fr_base::{MemoryShelf, MemorySink, PutFault, SureShelf, SureSink};
+use fr_base::PutFault;
 use fr_nm::fold;
+use fr_program::{MemoryShelf, MemorySink, SureShelf, SureSink};
 use fr_samples::LATER_REPORT;
 use std::alloc::{AllocError, Global};
 use std::test::Fail;

@@ -2,10 +2,11 @@
 ghost use Rattle.std.specs.Prelude.{◌≡◌, ◌<◌, IsNone};
 
 use fr_answer::play;
-use fr_base::{Channel, Counts, CycleRow, Dev, MemorySink, NodeId, NodeRow, PutFault, Slot, State};
+use fr_base::{Channel, Counts, CycleRow, Dev, NodeId, NodeRow, PutFault, Slot, State};
 use fr_coverage::covered;
 use fr_frame::decode;
 use fr_node::Node;
+use fr_program::MemorySink;
 use fr_report::Report;
 use fr_samples::{
     APART, APART_REPORT, FOUR_ON_A, LATER, LATER_REPORT, ONE, THREE_ON_A, TWO_FACED, TWO_ON_A,

@@ -1,7 +1,7 @@
 ghost use Rattle.std.specs.Prelude.{◌≡◌, ◌≢◌, ℕ, List, [], None, OnOk, OnErr};
 
 use crate::memory_shelf::copy_file;
-use crate::{LoadFault, PutFault, Shelf, Sink};
+use fr_base::{LoadFault, PutFault, Shelf, Sink};
 use std::alloc::{AllocError, Global};
 use std::collections::BTreeMap;
 
@@ -25,7 +25,7 @@ impl Drop for SureShelf {
 }
 
 impl SureShelf {
-    ghost use Rattle.fr_base.specs.SureShelf.{kept_in, sure_state};
+    ghost use Rattle.fr_program.specs.SureShelf.{kept_in, sure_state};
 
     /// A shelf on which every file is empty, and of which none was loaded. It takes no memory.
     pub fn new(alloc: Global) -> SureShelf
@@ -56,7 +56,7 @@ impl SureShelf {
 }
 
 impl Shelf for SureShelf {
-    ghost use Rattle.fr_base.specs.SureShelf.{sure_state};
+    ghost use Rattle.fr_program.specs.SureShelf.{sure_state};
 
     ghost state = { sure_state };
 

@@ -1,6 +1,6 @@
 use Rattle.std.proofs.Common.{arith, rules}
 use Rattle.std.proofs.lemmas.Map.Text.{text_keys}
-use Rattle.fr_base.proofs.memory_shelf.MemoryShelf.count.Goals as goal
+use Rattle.fr_program.proofs.memory_shelf.MemoryShelf.count.Goals as goal
 
 pub returns-in-Some-clause-counts : goal.returns-in-Some-clause-counts
 returns-in-Some-clause-counts c = record {

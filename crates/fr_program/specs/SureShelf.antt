@@ -3,7 +3,7 @@ use Rattle.std.specs.Prelude.{ℕ, List, [], Some, unwrap_or}
 use Rattle.std.specs.Option.{option_map}
 use Rattle.std.specs.BTreeMap.{get_by_text}
 use Rattle.fr_base.specs.Device.{Shelved}
-use Rattle.fr_base.specs.declared.sure.SureShelf.{SureShelf}
+use Rattle.fr_program.specs.declared.sure.SureShelf.{SureShelf}
 
 -- the bytes under a name: those that were put there, else none
 abbrev pub kept_in : SureShelf → List ℕ → List ℕ

@@ -1,5 +1,5 @@
-use Rattle.fr_base.proofs.Transfers.{IsRead}
-use Rattle.fr_base.proofs.adapters.read_whole.Given as goal
+use Rattle.fr_program.proofs.Transfers.{IsRead}
+use Rattle.fr_program.proofs.adapters.read_whole.Given as goal
 
 abbrev pub invariant-turns : goal.invariant-turns
 invariant-turns g l = IsRead 16777216 (g.F.Read.remaining l.fn.file) (g.F.Read.remaining l.file) l.into.items l.turn

@@ -1,6 +1,6 @@
 use Rattle.std.proofs.Common.{arith, rules}
 use Rattle.std.proofs.lemmas.Map.Text.{text_keys}
-use Rattle.fr_base.proofs.memory_shelf.MemoryShelf.hold.Goals as goal
+use Rattle.fr_program.proofs.memory_shelf.MemoryShelf.hold.Goals as goal
 
 pub returns-in-Some-clause-others : goal.returns-in-Some-clause-others
 returns-in-Some-clause-others c = grind (arith, text_keys)

@@ -1,7 +1,7 @@
 -- What a shelf over a file system counts.
 use Rattle.std.specs.Prelude.{ℕ, None}
 use Rattle.fr_base.specs.Device.{Shelved}
-use Rattle.fr_base.specs.declared.adapters.DiskShelf.{DiskShelf}
+use Rattle.fr_program.specs.declared.adapters.DiskShelf.{DiskShelf}
 
 -- how many faults were counted, of all names
 abbrev pub disk_faults : {R F E : Type 0} → DiskShelf R F E → ℕ

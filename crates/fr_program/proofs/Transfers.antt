@@ -3,6 +3,7 @@ use Rattle.std.proofs.Common.{◌≡◌, ℕ, ◌+◌, ◌<◌, ◌≤◌, List,
 use Rattle.std.proofs.lemmas.List.{take_at, nil_from_length}
 use Rattle.std.specs.Io.KnownBytes.{Appends, Keeps, Consumes, IsAtEnd}
 use Rattle.fr_base.specs.Device.{AppendsFront, IsHeld, IsSeen}
+use Rattle.fr_base.proofs.Putting.{Appends-nil, Appends-trans}
 
 -- a reader that had some bytes left has others left, and gave these in so many turns
 pub record IsRead (limit : ℕ) (before now : Option (List ℕ)) (bytes : List ℕ) (turn : ℕ) : Type 0 where
@@ -63,16 +64,6 @@ pub record IsWritten (before now : Option (List ℕ)) (piece rest : List ℕ) (t
   pub split : piece ≡ front ++ rest
   pub appended : Appends before now front
   pub turns : turn + length rest ≤ length piece
-
-pub Appends-nil : (told : Option (List ℕ)) → Appends told told []
-Appends-nil None = tt
-Appends-nil (Some bytes) = sym (append-nil bytes)
-
-pub Appends-trans : (a b c : Option (List ℕ)) (xs ys : List ℕ) → Appends a b xs → Appends b c ys → Appends a c (xs ++ ys)
-Appends-trans None b c xs ys p q = tt
-Appends-trans (Some told) None c xs ys p q = absurd p
-Appends-trans (Some told) (Some next) None xs ys p q = absurd q
-Appends-trans (Some told) (Some next) (Some last) xs ys p q = q ∙ ap (λ (l : List ℕ). l ++ ys) p ∙ append_assoc told xs ys
 
 Appends-kept : (a b c : Option (List ℕ)) (xs : List ℕ) → Appends a b xs → Keeps b c → Appends a c xs
 Appends-kept None b c xs p q = tt

@@ -1,5 +1,5 @@
-use Rattle.fr_base.proofs.Transfers.{more_written, front_written, front_flushed}
-use Rattle.fr_base.proofs.adapters.write_whole.Goals as goal
+use Rattle.fr_program.proofs.Transfers.{more_written, front_written, front_flushed}
+use Rattle.fr_program.proofs.adapters.write_whole.Goals as goal
 
 pub returns-then-is_empty-clause-front : goal.returns-then-is_empty-clause-front
 returns-then-is_empty-clause-front g c = front_flushed c.flushed.result _ _ _ _ _ _ c.turns.invariant c.flushed.ensures

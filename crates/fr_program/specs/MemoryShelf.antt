@@ -4,7 +4,7 @@ use Rattle.std.specs.List.{list_any}
 use Rattle.std.specs.Option.{option_map, option_map_or}
 use Rattle.std.specs.BTreeMap.{get_by_text}
 use Rattle.fr_base.specs.Device.{raised, Shelved}
-use Rattle.fr_base.specs.declared.memory_shelf.MemoryShelf.{MemoryShelf}
+use Rattle.fr_program.specs.declared.memory_shelf.MemoryShelf.{MemoryShelf}
 
 -- the bytes under a name
 abbrev pub held_in : MemoryShelf → List ℕ → Option (List ℕ)

@@ -1,5 +1,5 @@
 use super::{DiskShelf, StreamSink, read_whole};
-use crate::{LoadFault, MAX_FILE, PutFault, Shelf, Sink};
+use fr_base::{LoadFault, MAX_FILE, PutFault, Shelf, Sink};
 use std::io::{ErrorKind, Read, Write};
 use std::test::Fail;
 use std::{fs, io};

@@ -1,7 +1,7 @@
 ghost use Rattle.std.specs.Prelude.{◌≡◌, ◌≢◌, ◌≤◌, ◌↔◌, false, ◌++◌, ◌∷◌, ℕ, [], List, Some, None, OnOk, OnErr, IfErr, IsErrOf, IsTrue, IsSome, IsNone, length};
 ghost use Rattle.fr_base.specs.Device.{IsLoaded, IsOneLoadLater, SeesTooLong, StopsLoad, raised};
 
-use crate::{LoadFault, MAX_FILE, Shelf};
+use fr_base::{LoadFault, MAX_FILE, Shelf};
 use std::alloc::{AllocError, Global};
 use std::collections::BTreeMap;
 
@@ -37,7 +37,7 @@ struct HeldFile {
 }
 
 impl MemoryShelf {
-    ghost use Rattle.fr_base.specs.MemoryShelf.{held_in, failing_loads, refuses, CountsFault, IsNewShelf, KeepsCounts, OnlyCounts};
+    ghost use Rattle.fr_program.specs.MemoryShelf.{held_in, failing_loads, refuses, CountsFault, IsNewShelf, KeepsCounts, OnlyCounts};
 
     /// A shelf that holds no name. It takes no memory.
     pub fn new(alloc: Global) -> MemoryShelf
@@ -107,7 +107,7 @@ impl MemoryShelf {
 }
 
 impl Shelf for MemoryShelf {
-    ghost use Rattle.fr_base.specs.MemoryShelf.{faults_in, failing_loads, refuses, shelved_in, CountsFault};
+    ghost use Rattle.fr_program.specs.MemoryShelf.{faults_in, failing_loads, refuses, shelved_in, CountsFault};
 
     ghost state = { shelved_in };
 

@@ -1,7 +1,7 @@
 -- What a sink over a stream has.
 use Rattle.std.specs.Prelude.{ℕ, None}
 use Rattle.fr_base.specs.Device.{Sunk}
-use Rattle.fr_base.specs.declared.adapters.StreamSink.{StreamSink}
+use Rattle.fr_program.specs.declared.adapters.StreamSink.{StreamSink}
 
 -- the stream
 abbrev pub stream_of : {W : Type 0} → StreamSink W → W

@@ -2,7 +2,7 @@ ghost use Rattle.std.specs.Prelude.{◌≡◌, ◌≤◌, ◌<◌, ◌++◌, [],
 ghost use Rattle.std.specs.Io.KnownBytes.{Appends, Keeps};
 ghost use Rattle.fr_base.specs.Device.{AppendsFront, IsHeld, IsLoaded, IsOneLoadLater, Puts, SeesTooLong, StopsLoad, raised};
 
-use crate::{LoadFault, MAX_FILE, PutFault, Shelf, Sink};
+use fr_base::{LoadFault, MAX_FILE, PutFault, Shelf, Sink};
 use std::fs;
 use std::io::{Read, Write};
 use std::rt::Files;
@@ -20,7 +20,7 @@ pub struct DiskShelf<R: Files + Drop> {
 }
 
 impl<R: Files + Drop> DiskShelf<R> {
-    ghost use Rattle.fr_base.specs.DiskShelf.{disk_faults, disk_loads};
+    ghost use Rattle.fr_program.specs.DiskShelf.{disk_faults, disk_loads};
 
     /// A shelf over the files, with no fault and no load counted.
     pub fn new(files: R) -> DiskShelf<R>
@@ -36,7 +36,7 @@ impl<R: Files + Drop> DiskShelf<R> {
 }
 
 impl<R: Files + Drop> Shelf for DiskShelf<R> {
-    ghost use Rattle.fr_base.specs.DiskShelf.{disk_faults, disk_state};
+    ghost use Rattle.fr_program.specs.DiskShelf.{disk_faults, disk_state};
 
     ghost state = { disk_state };
 
@@ -77,7 +77,7 @@ pub struct StreamSink<W: Write + Drop> {
 }
 
 impl<W: Write + Drop> StreamSink<W> {
-    ghost use Rattle.fr_base.specs.StreamSink.{stream_of, stream_faults};
+    ghost use Rattle.fr_program.specs.StreamSink.{stream_of, stream_faults};
 
     /// A sink over the stream, with no fault counted.
     pub fn new(stream: W) -> StreamSink<W>
@@ -89,7 +89,7 @@ impl<W: Write + Drop> StreamSink<W> {
 }
 
 impl<W: Write + Drop> Sink for StreamSink<W> {
-    ghost use Rattle.fr_base.specs.StreamSink.{stream_of, stream_faults, stream_state};
+    ghost use Rattle.fr_program.specs.StreamSink.{stream_of, stream_faults, stream_state};
 
     ghost state = { stream_state };
 

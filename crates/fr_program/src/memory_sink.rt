@@ -1,7 +1,7 @@
 ghost use Rattle.std.specs.Prelude.{◌≡◌, ◌≤◌, ◌↔◌, ◌++◌, ◌∷◌, [], false, OnOk, OnErr, IfOk, IsTrue, IsOk, vec_len, vec_capacity};
 ghost use Rattle.fr_base.specs.Device.{Puts, raised};
 
-use crate::{PutFault, Sink};
+use fr_base::{PutFault, Sink};
 use std::alloc::{AllocError, Global};
 
 /// A sink in memory, with a room in bytes that is reserved when it is made. A piece that does not fit
@@ -30,7 +30,7 @@ impl Drop for MemorySink {
 }
 
 impl MemorySink {
-    ghost use Rattle.fr_base.specs.MemorySink.{bytes_in, failing_puts, takes, IsNewSink, KeepsSink};
+    ghost use Rattle.fr_program.specs.MemorySink.{bytes_in, failing_puts, takes, IsNewSink, KeepsSink};
 
     /// A sink of no bytes, with room for this many. `AllocError` where memory ran out.
     pub fn new(alloc: Global, room: usize) -> Result<MemorySink, AllocError>
@@ -74,7 +74,7 @@ impl MemorySink {
 }
 
 impl Sink for MemorySink {
-    ghost use Rattle.fr_base.specs.MemorySink.{bytes_in, sink_faults, sunk_in, takes, IsOnePutLater};
+    ghost use Rattle.fr_program.specs.MemorySink.{bytes_in, sink_faults, sunk_in, takes, IsOnePutLater};
 
     ghost state = { sunk_in };
 

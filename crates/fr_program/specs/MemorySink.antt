@@ -2,7 +2,7 @@
 use Rattle.std.specs.Prelude.{◌≡◌, [], ℕ, ◌+◌, List, Bool, ◌==◌, ◌&&◌, length, nat_le, not, Some}
 use Rattle.std.specs.List.{list_any}
 use Rattle.fr_base.specs.Device.{raised, Sunk}
-use Rattle.fr_base.specs.declared.memory_sink.MemorySink.{MemorySink}
+use Rattle.fr_program.specs.declared.memory_sink.MemorySink.{MemorySink}
 
 -- the bytes put so far
 abbrev pub bytes_in : MemorySink → List ℕ
