@@ -1,8 +1,8 @@
 // How a call of a program is tried: what it is given and what it answers are data. Nothing here has a contract.
 use fr_answer::{Status, flexray};
 use fr_base::{MAX_FILE, MemoryShelf, MemorySink};
-use fr_report::flexray_series;
 use fr_samples::{changed, file_of};
+use fr_series::flexray_series;
 use std::alloc::{AllocError, Global};
 
 // Lines to put in the place of those that begin so.
