@@ -3,7 +3,7 @@
 #![tactic(auto)]
 
 use fr_program::{DiskShelf, StreamSink};
-use fr_report::{Status, flexray_series};
+use fr_series::{Status, flexray_series};
 use std::env;
 use std::process::ExitCode;
 

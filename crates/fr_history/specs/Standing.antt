@@ -44,6 +44,11 @@ has_row x h node = has_row_by x h node (x.join node)
 abbrev pub row_nodes : Setting → Cycles → List NodeSpec
 row_nodes x h = filter (λ node. has_row x h node.id) (correct_nodes x)
 
+-- the nodes that had a row in the last cycle; before cycle 0 those that join nobody
+abbrev pub kept_row_nodes : Setting → Cycles → List NodeSpec
+kept_row_nodes x [] = row_nodes x []
+kept_row_nodes x (c ∷ h) = row_nodes x h
+
 -- a follower goes on within a double cycle, and once into the next one where it followed well
 abbrev pub goes_on : Setting → Cycles → ℕ → Join → Bool
 goes_on x [] node join = false

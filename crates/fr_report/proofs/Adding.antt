@@ -11,7 +11,7 @@ use Rattle.fr_history.specs.Unfollowed.{is_none}
 use Rattle.fr_history.proofs.RunsExist.{length-cycles_of}
 use Rattle.fr_history.proofs.FollowedSync.{gathered_counted}
 use Rattle.fr_world.specs.World.{IsLastRowOf, IsRowOf, WorldView, followed_last, setting_after}
-use Rattle.fr_report.specs.Held.{IsRowToAdd, ReportHolds, ReportView, TellsOf}
+use Rattle.fr_lines.specs.Held.{IsRowToAdd, ReportHolds, ReportView, TellsOf}
 
 pub row_is_next : (x : Setting) (report : ReportView) (n : ℕ) (row : CycleRow) → n < 200_000 → IsRowOf x n row → ReportHolds x.params report (cycles_of x n) → IsRowToAdd report row
 row_is_next x report n row in_run is held =

@@ -4,7 +4,7 @@ use Rattle.fr_cluster.specs.Values.{Values}
 use Rattle.fr_coverage.specs.Coverage.{first_gap}
 use Rattle.fr_coverage.specs.Decided.{setting_of}
 use Rattle.fr_drift.specs.View.{DriftView}
-use Rattle.fr_report.specs.Text.{report_of}
+use Rattle.fr_lines.specs.Text.{report_of}
 use Rattle.fr_script.specs.View.{ScriptView}
 use Rattle.fr_generator.specs.Seeds.{OneCluster}
 use Rattle.fr_report.proofs.RunDecided.{OneRun, moved, one_whole}

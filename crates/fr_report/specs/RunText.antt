@@ -13,7 +13,7 @@ use Rattle.fr_skew.specs.declared.peak.Peak.{Peak}
 use Rattle.fr_history.specs.Cycles.{Cycles, told_of}
 use Rattle.fr_history.specs.Next.{cycles_of}
 use Rattle.fr_history.specs.Unfollowed.{IsFirstUnfollowedSync, IsUnfollowedSyncAt, first_unfollowed_sync_of}
-use Rattle.fr_report.specs.Text.{report_of}
+use Rattle.fr_lines.specs.Text.{report_of}
 use Rattle.fr_coverage.specs.Decided.{setting_of}
 use Rattle.fr_promise.specs.Statement.{IsRunOf, KeepsPrecision}
 

@@ -3,14 +3,15 @@ ghost use Rattle.fr_base.specs.Device.{Puts};
 ghost use Rattle.fr_drift.specs.Questions.{doubles_of};
 ghost use Rattle.fr_history.specs.Next.{cycles_of};
 ghost use Rattle.fr_promise.specs.Files.{IsPrecise};
-ghost use Rattle.fr_report.specs.Held.{IsReportOf};
+ghost use Rattle.fr_report.specs.Worlds.{IsReportOf};
 ghost use Rattle.fr_world.specs.World.{setting_after};
 ghost use Rattle.fr_report.specs.RunText.{run_text};
 
-use crate::Report;
+use crate::gathering::{add_next, write_report};
 use crate::run_laws::a_run_is_lawful;
 use fr_base::{PutFault, Sink};
 use fr_coverage::covered;
+use fr_lines::Report;
 use fr_world::World;
 
 /// Runs all cycles of a world that has run none, and writes the report of the run: the greatest skew and its
@@ -30,7 +31,7 @@ pub fn play<O: Sink>(world: &mut World, out: &mut O) -> Result<(), PutFault>
     a_run_is_lawful();
     let report = run_all(world);
     let gap = covered(world.params(), world.drift(), world.script());
-    report.write(world, gap, out)
+    write_report(&report, world, gap, out)
 }
 
 // Runs all cycles, and gathers their report.
@@ -42,7 +43,7 @@ fn run_all(world: &mut World) -> Report
     let mut report = Report::new(world.params());
     let cycles = 2 * world.drift().doubles();
     for _done in 0..cycles {
-        report.add_next(world);
+        add_next(&mut report, world);
     }
     report
 }

@@ -2,8 +2,8 @@
 use fr_answer::{Status, flexray};
 use fr_base::MAX_FILE;
 use fr_program::{MemoryShelf, MemorySink};
-use fr_report::flexray_series;
 use fr_samples::{changed, file_of};
+use fr_series::flexray_series;
 use std::alloc::{AllocError, Global};
 
 // Lines to put in the place of those that begin so.

@@ -7,7 +7,7 @@ use fr_coverage::covered;
 use fr_frame::decode;
 use fr_node::Node;
 use fr_program::MemorySink;
-use fr_report::Report;
+use fr_report::{Report, add_next, write_report};
 use fr_samples::{
     APART, APART_REPORT, FOUR_ON_A, LATER, LATER_REPORT, ONE, THREE_ON_A, TWO_FACED, TWO_ON_A,
     params_of,
@@ -202,11 +202,11 @@ fn tell(world: &mut World, out: &mut MemorySink) -> Result<Told, PutFault>
     let mut greatest = None;
     let cycles = 2 * world.drift().doubles();
     for _done in 0..cycles {
-        report.add_next(world);
+        add_next(&mut report, world);
         greatest = Some(report.greatest());
     }
     let gap = covered(world.params(), world.drift(), world.script());
-    report.write(world, gap, out)?;
+    write_report(&report, world, gap, out)?;
     Ok((greatest, report.synced()))
 }
 

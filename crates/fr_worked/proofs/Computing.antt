@@ -8,10 +8,10 @@ use Rattle.fr_measure.specs.Values.{values_of}
 use Rattle.fr_midpoint.specs.Midpoint.{midpoint_by_ranks}
 use Rattle.fr_coverage.specs.Coverage.{first_gap}
 use Rattle.fr_coverage.specs.First.{first_below, first_in}
-use Rattle.fr_report.specs.Clocks.{last_offset_of}
-use Rattle.fr_report.specs.Sums.{cuts_of, totals_of}
-use Rattle.fr_report.specs.Text.{report_of, told_text, told_lines}
-use Rattle.fr_report.specs.Told.{run_told}
+use Rattle.fr_lines.specs.Clocks.{last_offset_of}
+use Rattle.fr_lines.specs.Sums.{cuts_of, totals_of}
+use Rattle.fr_lines.specs.Text.{report_of, told_text, told_lines}
+use Rattle.fr_lines.specs.Told.{run_told}
 use Rattle.fr_history.proofs.Computing.{on_told}
 
 -- the sums of a history

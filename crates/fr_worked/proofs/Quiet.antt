@@ -15,7 +15,7 @@ use Rattle.fr_history.specs.Skew.{greatest_skew_of}
 use Rattle.fr_history.specs.Next.{cycles_of, next_cycle}
 use Rattle.fr_history.specs.Unfollowed.{first_unfollowed_sync_of}
 use Rattle.fr_history.proofs.Computing.{on_cycles, on_told}
-use Rattle.fr_report.specs.Text.{report_of}
+use Rattle.fr_lines.specs.Text.{report_of}
 use Rattle.fr_worked.proofs.Computing.{on_gaps, on_reports}
 use Rattle.fr_worked.proofs.Gaps.{doubles_decided, joins_decided, nodes_decided}
 use Rattle.fr_worked.specs.Files.{steady_drift}

@@ -15,7 +15,7 @@ use Rattle.fr_skew.specs.declared.peak.Peak.{Peak}
 use Rattle.fr_history.specs.Skew.{greatest_skew_of}
 use Rattle.fr_coverage.specs.Decided.{setting_of}
 use Rattle.fr_runs.specs.Whole.{KeepsTogether}
-use Rattle.fr_report.specs.Text.{report_of}
+use Rattle.fr_lines.specs.Text.{report_of}
 
 -- a cycle in which none follows, by what is told of it, and such cycles
 abbrev pub alone_cycle : Record → Cycle

@@ -5,7 +5,7 @@
 ghost use Rattle.std.specs.Prelude.{◌≡◌, None, false, pos, true};
 ghost use Rattle.fr_history.specs.Next.{cycles_of};
 ghost use Rattle.fr_history.specs.Worked.{joined_run};
-ghost use Rattle.fr_report.specs.Text.{report_of};
+ghost use Rattle.fr_lines.specs.Text.{report_of};
 ghost use Rattle.fr_worked.specs.Joined.{joined_report};
 ghost use Rattle.fr_worked.specs.Positions.{even_positions, odd_positions, positions_of, short_grid};
 ghost use Rattle.fr_worked.specs.Offset.{worked_offset};

@@ -18,12 +18,12 @@ use Rattle.fr_node.specs.Cycle.{corrected_row, corrects, ended, ended_row_of_nod
 use Rattle.fr_node.specs.View.{NodeView, node_row_of}
 use Rattle.fr_history.proofs.Lists.{All-both}
 use Rattle.fr_history.specs.Cycles.{Cycles}
-use Rattle.fr_history.specs.Standing.{has_row, has_row_by, row_nodes}
+use Rattle.fr_history.specs.Standing.{has_row, has_row_by, kept_row_nodes, row_nodes}
 use Rattle.fr_air.specs.Views.{node_of_next}
 use Rattle.fr_air.specs.Cycling.{HaveEnded}
 use Rattle.fr_air.specs.Files.{setting_in}
 use Rattle.fr_air.specs.Listening.{StartsEarly}
-use Rattle.fr_world.specs.Standing.{kept_row_nodes, nodes_kept}
+use Rattle.fr_world.specs.Standing.{nodes_kept}
 use Rattle.fr_air.specs.declared.files.RunInputs.{RunInputs}
 use Rattle.fr_air.proofs.Members.{has_it}
 use Rattle.fr_air.proofs.Step.{begun_node, heard_node}

@@ -8,20 +8,16 @@ use Rattle.fr_time.specs.Cycles.{is_odd}
 use Rattle.fr_node.specs.Listening.{ListenerView}
 use Rattle.fr_node.specs.View.{NodeView}
 use Rattle.fr_history.specs.Cycles.{Cycle, Cycles}
-use Rattle.fr_history.specs.Standing.{following_nodes, row_nodes}
+use Rattle.fr_history.specs.Standing.{following_nodes, kept_row_nodes}
 use Rattle.fr_air.specs.Listeners.{catches_of, listening_nodes}
 use Rattle.fr_air.specs.Views.{listener_with, listeners_of_next, node_of_next, reference_slot}
 
--- the nodes that had a row in the last cycle, and those that followed in it; before cycle 0 the nodes that join nobody
-abbrev pub kept_row_nodes : Setting → Cycles → List NodeSpec
-kept_row_nodes x [] = row_nodes x []
-kept_row_nodes x (c ∷ h) = row_nodes x h
-
+-- the nodes that followed in the last cycle; before cycle 0 there is none
 abbrev pub kept_following_nodes : Setting → Cycles → List NodeSpec
 kept_following_nodes x [] = []
 kept_following_nodes x (c ∷ h) = following_nodes x h
 
--- These nodes of the last cycle as they stand before the next one, in ascending order. Those of the next cycle are
+-- The nodes of the last cycle as they stand before the next one, in ascending order. Those of the next cycle are
 -- `nodes_of_next` of `fr_air`.
 abbrev pub nodes_kept : Setting → Cycles → List NodeView
 nodes_kept x h = map (λ node. node_of_next x h false node.id) (kept_row_nodes x h)

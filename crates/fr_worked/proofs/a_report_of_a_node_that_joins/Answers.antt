@@ -1,6 +1,6 @@
 use Rattle.std.proofs.Common.{None, ap, ◌∙◌}
 use Rattle.fr_history.specs.Worked.{joined_run}
-use Rattle.fr_report.specs.Text.{report_of}
+use Rattle.fr_lines.specs.Text.{report_of}
 use Rattle.fr_worked.proofs.Joined.{joined_report_is}
 use Rattle.fr_worked.proofs.a_report_of_a_node_that_joins.Goals as goal
 

@@ -4,7 +4,7 @@ use Rattle.fr_cluster.specs.Values.{Values}
 use Rattle.fr_history.specs.Cycles.{Cycles}
 use Rattle.fr_history.specs.Next.{cycles_of}
 use Rattle.fr_cluster.specs.Setting.{Setting}
-use Rattle.fr_report.specs.Held.{ReportHolds}
+use Rattle.fr_lines.specs.Held.{ReportHolds}
 use Rattle.fr_world.specs.World.{setting_after, WorldView}
 use Rattle.fr_report.proofs.playing.run_all.Goals as goal
 

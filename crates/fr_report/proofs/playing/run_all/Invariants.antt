@@ -1,5 +1,5 @@
 use Rattle.std.proofs.Common.{◌≡◌}
-use Rattle.fr_report.specs.Held.{IsReportOf}
+use Rattle.fr_report.specs.Worlds.{IsReportOf}
 use Rattle.fr_report.proofs.playing.run_all.Given as goal
 
 abbrev pub invariant-loop-done : goal.invariant-loop-done

@@ -3,7 +3,7 @@ use Rattle.fr_cluster.specs.Values.{Values}
 use Rattle.fr_history.specs.Cycles.{Cycles}
 use Rattle.fr_history.specs.Next.{cycles_of}
 use Rattle.fr_cluster.specs.Setting.{Setting}
-use Rattle.fr_report.specs.Held.{ReportHolds}
+use Rattle.fr_lines.specs.Held.{ReportHolds}
 use Rattle.fr_world.specs.World.{setting_after, WorldView}
 use Rattle.fr_history.proofs.RunsExist.{length-cycles_of}
 use Rattle.fr_history.proofs.FollowedSync.{gathered_counted}
@@ -26,7 +26,7 @@ loop-done-init c =
 pub greatest-requires : goal.greatest-requires
 greatest-requires c =
     let after : WorldView = c.add_next.new.world in
-    let counted = gathered_counted after.params c.add_next.new.self.gauge (cycles_of (setting_after after) after.cycles) c.add_next.ensures.held.gauge in
+    let counted = gathered_counted after.params c.add_next.new.report.gauge (cycles_of (setting_after after) after.cycles) c.add_next.ensures.held.gauge in
     let long = length-cycles_of (setting_after after) after.cycles in
     let ran = ap (λ (w : WorldView). w.cycles) c.add_next.ensures.ran in
     omega (arith, counted, long, ran)

@@ -1,5 +1,5 @@
 use Rattle.std.proofs.Common.{◌≡◌}
-use Rattle.fr_report.specs.Held.{IsReportOf}
+use Rattle.fr_report.specs.Worlds.{IsReportOf}
 use Rattle.fr_run_tests.proofs.world.tell.Given as goal
 
 -- so many cycles are run, which the report holds

@@ -4,7 +4,8 @@ use Rattle.fr_history.specs.Next.{cycles_of}
 use Rattle.fr_node.specs.View.{NodeView}
 use Rattle.fr_world.proofs.NodeIn.{all_between}
 use Rattle.fr_air.specs.Files.{setting_in}
-use Rattle.fr_world.specs.Standing.{kept_row_nodes, nodes_kept}
+use Rattle.fr_history.specs.Standing.{kept_row_nodes}
+use Rattle.fr_world.specs.Standing.{nodes_kept}
 use Rattle.fr_world.specs.World.{setting_after, world_cycles, WorldView}
 use Rattle.fr_world.proofs.world.World.nodes.Goals as goal
 

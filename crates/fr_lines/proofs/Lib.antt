@@ -1,0 +1,4 @@
+pub mod Ended
+pub mod Holding
+pub mod KeySlots
+pub mod Telling

@@ -1,6 +1,0 @@
-use Rattle.std.proofs.Common.{◌∙◌}
-use Rattle.fr_report.proofs.KeySlots.{length-key_slots}
-use Rattle.fr_report.proofs.counting.sync_count.Goals as goal
-
-pub returns : goal.returns
-returns c = c.keyed_count.ensures ∙ length-key_slots c.args.nodes.now

@@ -1,0 +1,52 @@
+use Rattle.std.proofs.Common.{◌≡◌, ◌∙◌, ◌*◌, List, ◌++◌, ℕ, Ok, ap, ap₂, subst, sym, append_assoc, rules}
+use Rattle.std.specs.Prelude.{IsOk}
+use Rattle.fr_base.specs.Device.{Puts}
+use Rattle.fr_base.proofs.Putting.{cut, then}
+use Rattle.fr_drift.specs.Questions.{doubles_of}
+use Rattle.fr_history.specs.Cycles.{Cycles, told_of}
+use Rattle.fr_history.specs.Next.{cycles_of}
+use Rattle.fr_text.specs.Lines.{joined_lines}
+use Rattle.fr_text.specs.Pieces.{line}
+use Rattle.fr_world.specs.World.{setting_after}
+use Rattle.fr_series.specs.Figures.{figures_of}
+use Rattle.fr_series.specs.SeriesText.{series_end, series_head, series_rows, series_of}
+use Rattle.fr_series.proofs.Following.{figures-none}
+use Rattle.fr_series.proofs.writing.write_series.Goals as goal
+
+pub write_rows-requires-clause-none : goal.write_rows-requires-clause-none
+write_rows-requires-clause-none g c = c.none-figures.ensures ∙ sym (figures-none c.args.world.now.params)
+
+pub returns-in_err-put : goal.returns-in_err-put
+unfolding series_of
+returns-in_err-put g c =
+    let w = c.args.world.now in
+    let h : Cycles = cycles_of (setting_after w) (2 * doubles_of w.drift) in
+    let rest = series_rows w.params (told_of h) ++ series_end (figures_of w.params h) in
+    let head : c.bytes.result.now ≡ line series_head = c.bytes.ensures ∙ c.head_line.ensures in
+    let P : List ℕ → Type 0 = λ l. Puts c.from_residual.result (g.O.Sink.state c.args.out.now) (g.O.Sink.state c.put.new.self) l in
+    subst P (ap (λ (l : List ℕ). l ++ rest) head ∙ sym (append_assoc (line series_head) (series_rows w.params (told_of h)) (series_end (figures_of w.params h))))
+    (cut c.from_residual.result rest c.in_err-put.ensures c.from_residual.ensures.0)
+
+pub returns-in_err-write_rows : goal.returns-in_err-write_rows
+unfolding series_of
+returns-in_err-write_rows g c =
+    let w = c.args.world.now in
+    let h : Cycles = cycles_of (setting_after w) (2 * doubles_of w.drift) in
+    let rest = series_end (figures_of w.params h) in
+    let head : c.bytes.result.now ≡ line series_head = c.bytes.ensures ∙ c.head_line.ensures in
+    let both = then _ c.in_ok-put.ensures c.in_err-write_rows.ensures.text in
+    let P : List ℕ → Type 0 = λ l. Puts c.from_residual-in_err-write_rows.result (g.O.Sink.state c.args.out.now) (g.O.Sink.state c.write_rows.new.out) l in
+    subst P (ap (λ (l : List ℕ). (l ++ series_rows w.params (told_of h)) ++ rest) head) (cut c.from_residual-in_err-write_rows.result rest both c.from_residual-in_err-write_rows.ensures.0)
+
+pub returns : goal.returns
+unfolding series_of
+returns g c =
+    let w = c.args.world.now in
+    let h : Cycles = cycles_of (setting_after w) (2 * doubles_of w.drift) in
+    let head : c.bytes.result.now ≡ line series_head = c.bytes.ensures ∙ c.head_line.ensures in
+    let ok : IsOk c.write_rows.result = search rules in
+    let figures : c.write_rows.new.figures ≡ figures_of w.params h = c.write_rows.ensures.figures ok in
+    let ends : joined_lines c.end_lines.result ≡ series_end (figures_of w.params h) = c.end_lines.ensures ∙ ap series_end figures in
+    let P : List ℕ → Type 0 = λ l. Puts c.put_lines.result (g.O.Sink.state c.args.out.now) (g.O.Sink.state c.put_lines.new.out) l in
+    subst P (ap₂ (λ (l m : List ℕ). (l ++ series_rows w.params (told_of h)) ++ m) head ends)
+    (then c.put_lines.result (then (Ok tt) c.in_ok-put.ensures c.in_ok-write_rows.ensures.text) c.put_lines.ensures)
