@@ -2,8 +2,8 @@ ghost use Rattle.std.specs.Prelude.{◌≡◌, [], ◌∷◌};
 ghost use Rattle.fr_generator.specs.Cluster.{made_node, made_slot};
 
 use fr_base::{NodeId, Slot};
-use fr_cluster::{NAMES, NodeSpec, Params, SlotSpec};
-use fr_params::{ParamFault, assemble};
+use fr_cluster::{NodeSpec, Params, SlotSpec};
+use fr_params::{NAMES, ParamFault, assemble};
 use fr_samples::params_of;
 use std::alloc::{AllocError, Global};
 use std::test::Fail;
@@ -57,6 +57,31 @@ fn assembled(alloc: Global) -> Result<Params, ParamFault> {
     assemble(alloc, &NUMBERS, &nodes(), &slots())
 }
 
+fn told_node(alloc: Global, node: Option<&NodeSpec>) -> Result<String, AllocError> {
+    match node {
+        Some(NodeSpec {
+            id,
+            key,
+            on_a,
+            on_b,
+            coldstart,
+        }) => format!(in alloc; "{id:?} {key:?} {on_a} {on_b} {coldstart} "),
+        None => format!(in alloc; "no node "),
+    }
+}
+
+fn told_slot(alloc: Global, slot: Option<&SlotSpec>) -> Result<String, AllocError> {
+    match slot {
+        Some(SlotSpec {
+            slot,
+            node,
+            base,
+            repetition,
+        }) => format!(in alloc; "{slot:?} {node:?} {base} {repetition} "),
+        None => format!(in alloc; "no slot "),
+    }
+}
+
 // Its numbers, and the first nodes and slots.
 fn told(alloc: Global, params: &Params) -> Result<String, AllocError> {
     let mut text = String::new(alloc);
@@ -64,8 +89,8 @@ fn told(alloc: Global, params: &Params) -> Result<String, AllocError> {
         text.push_str(&format!(in alloc; "{} ", params.value(name))?)?;
     }
     for place in 0..3 {
-        let (node, slot) = (params.nodes.get(place), params.slots.get(place));
-        text.push_str(&format!(in alloc; "{node:?} {slot:?} ")?)?;
+        text.push_str(&told_node(alloc, params.nodes.get(place))?)?;
+        text.push_str(&told_slot(alloc, params.slots.get(place))?)?;
     }
     Ok(text)
 }

@@ -4,8 +4,7 @@ use Rattle.std.specs.Prelude.{nat_abs, slice_index_or}
 use mir.Val.{to_z, of_z, SFits}
 use mir.Syntax.{w64}
 use Rattle.std.proofs.lemmas.Int.{to_z-of_z, ints}
-use Rattle.fr_cluster.specs.Names.{greatest}
-use Rattle.fr_cluster.specs.Ranges.{InRange}
+use Rattle.fr_cluster.specs.Ranges.{greatest, InRange}
 use Rattle.fr_cluster.specs.Values.{Values, figure, amount}
 use Rattle.fr_cluster.specs.Numbers.{values_in, number_in, amount_in, AreInRange}
 use Rattle.fr_cluster.specs.Constraints.{Amounts, AllHold, key_slots}
@@ -19,7 +18,7 @@ use Rattle.fr_cluster.specs.declared.nodes.SlotSpec.{SlotSpec}
 greatest-le : (n : ParamName) → greatest n ≤ 10000000
 greatest-le n = search rules
 
-fits : (n : ParamName) (z : ℤ) → InRange n z → SFits w64 z
+pub fits : (n : ParamName) (z : ℤ) → InRange n z → SFits w64 z
 fits n z h = let most = greatest-le n in omega (arith, ints, h.0, h.1)
 
 -- a number in its range is the same as 64 bits hold it

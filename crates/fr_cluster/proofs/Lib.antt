@@ -1,8 +1,6 @@
-pub mod Distinct
 pub mod Figures
+pub mod Kept
 pub mod Found
-pub mod Fourth
 pub mod KeyIndexes
 pub mod KeyNodes
 pub mod Elements
-pub mod Places

@@ -1,5 +1,4 @@
 -- what the public contract cites
-pub mod Names
 pub mod Ranges
 pub mod Values
 pub mod Numbers
@@ -8,5 +7,4 @@ pub mod Sane
 pub mod View
 pub mod Questions
 pub mod Searches
-pub mod Making
 pub mod Setting

@@ -1,9 +1,57 @@
 -- The ranges of the numbers of a cluster's parameters, nodes and further slots.
 use Rattle.std.specs.Prelude.{ℕ, ℤ, ◌≤◌, ◌≤ℤ◌, pos, Bool, ◌==◌, ◌&&◌, ◌||◌, nat_lt, is_none, IfSome}
-use Rattle.fr_cluster.specs.Names.{least, greatest}
 use Rattle.fr_cluster.specs.declared.names.ParamName.{ParamName}
+use Rattle.fr_cluster.specs.declared.names.ParamName.TheVariants as name
 use Rattle.fr_cluster.specs.declared.nodes.NodeSpec.{NodeSpec}
 use Rattle.fr_cluster.specs.declared.nodes.SlotSpec.{SlotSpec}
+
+-- the least value that a parameter may have
+abbrev pub least : ParamName → ℕ
+least name.gMacroPerCycle = 10
+least name.pMicroPerCycle = 10
+least name.gNumberOfStaticSlots = 1
+least name.gdStaticSlot = 2
+least name.gdActionPointOffset = 1
+least name.gdNIT = 1
+least name.gPayloadLengthStatic = 0
+least name.gOffsetCorrectionStart = 1
+least name.gMaxWithoutClockCorrectionPassive = 1
+least name.gMaxWithoutClockCorrectionFatal = 1
+least name.pAllowHaltDueToClock = 0
+least name.pAllowPassiveToActive = 0
+least name.pClusterDriftDamping = 0
+least name.pOffsetCorrectionOut = 1
+least name.pRateCorrectionOut = 1
+least name.pDelayCompensation = 0
+least name.pDelayCompensationA = 0
+least name.pDelayCompensationB = 0
+least name.xRateBound = 0
+least name.xChangeBound = 0
+least name.xDelayError = 0
+
+-- the greatest value that it may have
+abbrev pub greatest : ParamName → ℕ
+greatest name.gMacroPerCycle = 16_000
+greatest name.pMicroPerCycle = 640_000
+greatest name.gNumberOfStaticSlots = 1023
+greatest name.gdStaticSlot = 1000
+greatest name.gdActionPointOffset = 63
+greatest name.gdNIT = 15_999
+greatest name.gPayloadLengthStatic = 127
+greatest name.gOffsetCorrectionStart = 15_999
+greatest name.gMaxWithoutClockCorrectionPassive = 15
+greatest name.gMaxWithoutClockCorrectionFatal = 15
+greatest name.pAllowHaltDueToClock = 1
+greatest name.pAllowPassiveToActive = 31
+greatest name.pClusterDriftDamping = 100
+greatest name.pOffsetCorrectionOut = 16_000
+greatest name.pRateCorrectionOut = 2000
+greatest name.pDelayCompensation = 200
+greatest name.pDelayCompensationA = 200
+greatest name.pDelayCompensationB = 200
+greatest name.xRateBound = 1500
+greatest name.xChangeBound = 1500
+greatest name.xDelayError = 10_000_000
 
 -- a value lies in the range of its parameter
 abbrev pub InRange : ParamName → ℤ → Type 0

@@ -1,7 +1,6 @@
 -- What holds of all parameters.
 use Rattle.std.specs.Prelude.{◌≡◌, ◌<◌, ◌≤◌, true, false, List, length, map, All, AllPairs, Contains}
-use Rattle.fr_cluster.specs.Ranges.{InRange, IsProperNode, IsProperSlot}
-use Rattle.fr_cluster.specs.Ranges.{has_turn, is_keyless_starter}
+use Rattle.fr_cluster.specs.Ranges.{InRange, IsProperNode, IsProperSlot, has_turn, is_keyless_starter}
 use Rattle.fr_cluster.specs.Values.{Values, figure, amount}
 use Rattle.fr_cluster.specs.Constraints.{AllHold, key_slots}
 use Rattle.fr_cluster.specs.declared.names.ParamName.{ParamName}

@@ -1,12 +1,11 @@
-ghost use Rattle.std.specs.Prelude.{◌≡◌, length, IfOk};
+ghost use Rattle.std.specs.Prelude.{◌≡◌, length, map};
+ghost use Rattle.std.specs.List.{range_with_len};
 ghost use Rattle.std.specs.Option.{option_copied};
 ghost use Rattle.std.specs.Slice.{IsItemAt};
-ghost use Rattle.fr_cluster.specs.Searches.{key_index_in, key_node_in, node_in, slot_in};
+ghost use Rattle.fr_cluster.specs.Searches.{AreFound, key_index_in, key_node_in, node_in, slot_in};
 
 use crate::nodes::{NodeSpec, SlotSpec};
-use crate::searches::{indices_by_key, nodes_by_id, nodes_by_key, slots_by_number};
 use fr_base::{NodeId, Slot};
-use std::alloc::{AllocError, Global};
 use std::marker::Model;
 
 /// The nodes of a cluster, seen as a list. That of a `Params` is in ascending order of id.
@@ -44,24 +43,23 @@ impl Drop for NodeList {
 }
 
 impl NodeList {
-    pub(crate) fn of(alloc: Global, nodes: Vec<NodeSpec>) -> Result<NodeList, AllocError>
-        ensures { IfOk result (λ list. list ≡ nodes.items) }
+    /// The list of these nodes, with the node of each number from 0 to 64 and of each key slot from 0 to 1023, and
+    /// the place among the key slots of each that is one.
+    pub fn new(
+        nodes: Vec<NodeSpec>,
+        by_id: Vec<Option<NodeSpec>>,
+        by_key: Vec<Option<NodeSpec>>,
+        indices: Vec<Option<usize>>,
+    ) -> NodeList
+        requires { AreFound nodes.items by_id.items by_key.items indices.items }
+        ensures { result ≡ nodes.items }
     {
-        let by_id = nodes_by_id(alloc, &nodes)?;
-        let by_key = nodes_by_key(alloc, &nodes)?;
-        let indices = indices_by_key(alloc, &nodes)?;
-        Ok(NodeList {
+        NodeList {
             nodes,
             by_id,
             by_key,
             indices,
-        })
-    }
-
-    pub(crate) fn as_slice(&self) -> &[NodeSpec]
-        ensures { result.now ≡ self.now }
-    {
-        self.nodes.as_slice()
+        }
     }
 
     pub(crate) fn with_id(&self, id: NodeId) -> Option<&NodeSpec>
@@ -130,17 +128,12 @@ impl Drop for SlotList {
 }
 
 impl SlotList {
-    pub(crate) fn of(alloc: Global, slots: Vec<SlotSpec>) -> Result<SlotList, AllocError>
-        ensures { IfOk result (λ list. list ≡ slots.items) }
+    /// The list of these slots, with the slot of each number from 0 to 1023.
+    pub fn new(slots: Vec<SlotSpec>, by_number: Vec<Option<SlotSpec>>) -> SlotList
+        requires { by_number.items ≡ map (slot_in slots.items) (range_with_len 0 1024) }
+        ensures { result ≡ slots.items }
     {
-        let by_number = slots_by_number(alloc, &slots)?;
-        Ok(SlotList { slots, by_number })
-    }
-
-    pub(crate) fn as_slice(&self) -> &[SlotSpec]
-        ensures { result.now ≡ self.now }
-    {
-        self.slots.as_slice()
+        SlotList { slots, by_number }
     }
 
     pub(crate) fn with_number(&self, slot: Slot) -> Option<&SlotSpec>

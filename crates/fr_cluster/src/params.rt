@@ -1,11 +1,13 @@
 ghost use Rattle.std.specs.Prelude.{pos, ◌≤ℤ◌, ◌≡◌, ◌≤◌, ◌<◌, ◌+◌, ◌*◌, IfSome};
 ghost use Rattle.std.specs.Option.{option_copied};
-ghost use Rattle.fr_cluster.specs.Names.{greatest, least};
+ghost use Rattle.fr_cluster.specs.Ranges.{greatest, least, InRange, IsProperSlot};
 ghost use Rattle.fr_cluster.specs.Values.{amount, figure};
-ghost use Rattle.fr_cluster.specs.Ranges.{InRange, IsProperSlot};
-ghost use Rattle.fr_cluster.specs.Sane.{IsSane};
+ghost use Rattle.fr_cluster.specs.Numbers.{AreInRange, amount_in, number_in};
+ghost use Rattle.fr_cluster.specs.Constraints.{AllHold, key_slots};
+ghost use Rattle.fr_cluster.specs.Sane.{AreSaneLists, IsSane};
 ghost use Rattle.fr_cluster.specs.Searches.{key_node_in, slot_in};
 ghost use Rattle.fr_cluster.specs.Questions.{compensation_of, has_channel, is_common, key_index_of, node_of, widest_compensation_of};
+ghost use Rattle.fr_cluster.specs.declared.names.ParamName.{ParamName as Name};
 ghost use Rattle.fr_cluster.specs.declared.names.ParamName.TheVariants as name;
 
 use crate::lists::{NodeList, SlotList};
@@ -107,6 +109,43 @@ impl Drop for Params {
 }
 
 impl Params {
+    /// The parameters of these numbers, in the order of the second version's table, of these nodes and further
+    /// slots. A cluster with one delay compensation for both channels has it twice.
+    pub fn new(numbers: &[i64; 20], nodes: NodeList, slots: SlotList) -> Params
+        requires ranged { AreInRange numbers.now }
+        requires constraints { AllHold (amount_in numbers.now) (key_slots nodes) slots }
+        requires lists { AreSaneLists nodes slots }
+        ensures figures { (n : Name) → figure result n ≡ number_in numbers.now n }
+        ensures nodes { result.nodes ≡ nodes }
+        ensures slots { result.slots ≡ slots }
+        ensures sane { IsSane result }
+    {
+        Params {
+            macros: numbers[0],
+            micros: numbers[1],
+            static_slots: numbers[2],
+            slot_macros: numbers[3],
+            action_offset: numbers[4],
+            idle_macros: numbers[5],
+            words: numbers[6],
+            correction: numbers[7],
+            max_passive: numbers[8],
+            max_fatal: numbers[9],
+            halt_allowed: numbers[10],
+            to_active: numbers[11],
+            damping: numbers[12],
+            offset_limit: numbers[13],
+            rate_limit: numbers[14],
+            compensation_a: numbers[15],
+            compensation_b: numbers[16],
+            rate_bound: numbers[17],
+            change_bound: numbers[18],
+            delay_error: numbers[19],
+            nodes,
+            slots,
+        }
+    }
+
     /// The number of a name of the table, which lies in its range; and so do all others.
     pub fn value(&self, name: ParamName) -> i64
         ensures value { result ≡ figure self.now name }

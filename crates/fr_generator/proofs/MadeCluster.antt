@@ -8,7 +8,7 @@ use Rattle.std.proofs.lemmas.List.Kept.{AllPairs-cons}
 use Rattle.fr_base.specs.declared.channel.Channel.{Channel}
 use Rattle.fr_base.specs.declared.channel.Channel.TheVariants as channel
 use Rattle.fr_cluster.specs.Constraints.{key_slots}
-use Rattle.fr_cluster.specs.Making.{IsMadeOf}
+use Rattle.fr_params.specs.Making.{IsMadeOf}
 use Rattle.fr_cluster.specs.Numbers.{number_in}
 use Rattle.fr_cluster.specs.Questions.{is_common, node_of}
 use Rattle.fr_cluster.specs.Ranges.{InRange}

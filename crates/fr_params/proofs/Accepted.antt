@@ -7,17 +7,17 @@ use Rattle.fr_base.specs.declared.reason.Reason.TheVariants as reason
 use Rattle.fr_records.specs.Records.{FileRecord, records_of}
 use Rattle.fr_records.specs.Refusal.{NoneRefused}
 use Rattle.fr_cluster.specs.Constraints.{AllHold, Amounts, key_slots}
-use Rattle.fr_cluster.specs.Making.{IsMadeOf}
-use Rattle.fr_cluster.specs.Names.{place}
+use Rattle.fr_params.specs.Making.{IsMadeOf}
+use Rattle.fr_params.specs.Names.{place}
 use Rattle.fr_cluster.specs.Numbers.{number_in}
 use Rattle.fr_cluster.specs.Ranges.{InRange, has_turn, is_keyless_starter}
 use Rattle.fr_cluster.specs.Sane.{AreSaneLists}
 use Rattle.fr_cluster.specs.Values.{Values, figure}
 use Rattle.fr_cluster.specs.declared.names.ParamName.{ParamName}
 use Rattle.fr_cluster.specs.declared.names.ParamName.TheVariants as name
-use Rattle.fr_cluster.specs.declared.names.Version.TheVariants.{One, Two}
+use Rattle.fr_params.specs.declared.names.Version.TheVariants.{One, Two}
 use Rattle.fr_cluster.proofs.Figures.{amount-same}
-use Rattle.fr_cluster.proofs.Places.{place-lt}
+use Rattle.fr_params.proofs.Places.{place-lt}
 use Rattle.fr_params.specs.Assembling.{Assembles, AssemblesFiles, numbers_of}
 use Rattle.fr_params.specs.Draft.{AreTables, IsParamsDraft, entry}
 use Rattle.fr_params.specs.Files.{IsParamsFile}

@@ -9,9 +9,9 @@ use Rattle.fr_base.specs.declared.reason.Reason.{Reason}
 use Rattle.fr_base.specs.declared.reason.Reason.TheVariants as reason
 use Rattle.fr_records.specs.Fields.{field_of, is_blank, looked_up, or_else, or_reason}
 use Rattle.fr_records.specs.Records.{FileRecord, records_of}
-use Rattle.fr_cluster.specs.Names.{name_of}
+use Rattle.fr_params.specs.Names.{name_of}
 use Rattle.fr_cluster.specs.declared.names.ParamName.{ParamName}
-use Rattle.fr_cluster.specs.declared.names.Version.{Version}
+use Rattle.fr_params.specs.declared.names.Version.{Version}
 use Rattle.fr_cluster.specs.declared.nodes.NodeSpec.{NodeSpec}
 use Rattle.fr_params.specs.Lists.{as_list, listed}
 use Rattle.fr_params.specs.Reasons.{node_at, node_said}

@@ -13,7 +13,7 @@ use Rattle.fr_cluster.specs.Numbers.{values_in}
 use Rattle.fr_cluster.specs.Values.{Values, amount}
 use Rattle.fr_cluster.specs.Constraints.{ConstraintHolds, FirstFails, key_slots}
 use Rattle.fr_cluster.specs.declared.names.ParamName.{ParamName}
-use Rattle.fr_cluster.specs.declared.names.Version.TheVariants.{Two}
+use Rattle.fr_params.specs.declared.names.Version.TheVariants.{Two}
 use Rattle.fr_cluster.proofs.Figures.{figure-values_in}
 use Rattle.fr_params.specs.Reasons.{param_reason_after}
 use Rattle.fr_params.specs.Versions.{name_at, row_name, version_of}

@@ -14,10 +14,10 @@ use Rattle.fr_records.specs.Forms.{number_field, is_no_number, is_number_outside
 use Rattle.fr_records.specs.Least.{GivesLeast, IsLeastReason, row_passes}
 use Rattle.fr_records.proofs.LeastReasons.{least-first}
 use Rattle.fr_records.proofs.FormFacts.{IsFault, IsFormed, IsFormedBy, IsRead, is_overfull, formed-if, formed-read, formed-sized, least-formed, natural-read, never, read-both, within-read}
-use Rattle.fr_cluster.specs.Names.{name_of, place, least, greatest}
-use Rattle.fr_cluster.specs.Ranges.{has_turn, is_keyless_starter}
+use Rattle.fr_params.specs.Names.{name_of, place}
+use Rattle.fr_cluster.specs.Ranges.{least, greatest, has_turn, is_keyless_starter}
 use Rattle.fr_cluster.specs.declared.names.ParamName.{ParamName}
-use Rattle.fr_cluster.specs.declared.names.Version.{Version}
+use Rattle.fr_params.specs.declared.names.Version.{Version}
 use Rattle.fr_params.specs.Rows.{channels_of, key_of, named_row, node_on, param_file_row, param_node_row, param_row, param_row_of, slot_row, slot_with, some_key, version_row}
 use Rattle.fr_params.specs.Reasons.{is_not_first, node_at, param_reason_after, param_row_reason, slot_at, value_at}
 use Rattle.fr_params.specs.Versions.{version_with}

@@ -1,3 +1,6 @@
+pub mod Distinct
+pub mod Fourth
+pub mod Places
 pub mod TableOfTwo
 pub mod Tables
 pub mod Taking

@@ -9,7 +9,7 @@ use Rattle.fr_records.specs.Records.{FileRecord}
 use Rattle.fr_params.specs.Draft.{entry, AreTables}
 use Rattle.fr_params.specs.Lists.{as_list, listed}
 use Rattle.fr_cluster.specs.Sane.{IsSaneNode, IsSaneSlot, AreSaneLists}
-use Rattle.fr_cluster.specs.declared.names.Version.{Version}
+use Rattle.fr_params.specs.declared.names.Version.{Version}
 use Rattle.fr_cluster.specs.declared.nodes.NodeSpec.{NodeSpec}
 use Rattle.fr_cluster.specs.declared.nodes.SlotSpec.{SlotSpec}
 use Rattle.fr_params.specs.declared.draft.Tables.{Tables}

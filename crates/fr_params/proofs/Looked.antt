@@ -6,10 +6,10 @@ use Rattle.fr_base.specs.declared.reason.Reason.{Reason}
 use Rattle.fr_records.proofs.Lookups.{or_else-none}
 use Rattle.fr_records.specs.Fields.{looked_up, or_else}
 use Rattle.fr_records.specs.Records.{FileRecord}
-use Rattle.fr_cluster.specs.Names.{place}
+use Rattle.fr_params.specs.Names.{place}
 use Rattle.fr_cluster.specs.Values.{Values, figure}
 use Rattle.fr_cluster.specs.declared.names.ParamName.{ParamName}
-use Rattle.fr_cluster.specs.declared.names.Version.TheVariants.{Two}
+use Rattle.fr_params.specs.declared.names.Version.TheVariants.{Two}
 use Rattle.fr_cluster.specs.declared.nodes.NodeSpec.{NodeSpec}
 use Rattle.fr_cluster.specs.declared.nodes.SlotSpec.{SlotSpec}
 use Rattle.fr_params.specs.Reasons.{node_at, node_said, slot_at, slot_said, value_at, value_said}

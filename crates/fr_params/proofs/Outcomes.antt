@@ -6,7 +6,7 @@ use borrow.Author.Tests.{ltb-true, ltb-false}
 use Rattle.fr_records.specs.Records.{FileRecord, records_of}
 use Rattle.fr_records.specs.Kind.{HasOneAnswer}
 use Rattle.fr_records.proofs.Cuts.{first-same, refused-none}
-use Rattle.fr_cluster.specs.Names.{place}
+use Rattle.fr_params.specs.Names.{place}
 use Rattle.fr_params.specs.Reasons.{param_reason_after}
 use Rattle.fr_params.specs.Versions.{is_of_version, name_at, row_name, version_of}
 use Rattle.fr_cluster.specs.Values.{Values, figure, amount}
@@ -16,8 +16,8 @@ use Rattle.fr_cluster.specs.declared.names.ParamName.{ParamName}
 use Rattle.fr_cluster.specs.declared.names.ParamName.TheVariants as name
 use Rattle.fr_cluster.specs.declared.nodes.SlotSpec.{SlotSpec}
 use Rattle.fr_params.specs.declared.fault.ParamFault.TheVariants as fault
-use Rattle.fr_cluster.proofs.Places.{place-one}
-use Rattle.fr_cluster.specs.declared.names.Version.TheVariants.{Two}
+use Rattle.fr_params.proofs.Places.{place-one}
+use Rattle.fr_params.specs.declared.names.Version.TheVariants.{Two}
 use Rattle.fr_params.proofs.TableOfTwo.{index, index-lt, row-at, two-at}
 
 some-same : {A : Type 0} (x y : A) → Some x ≡ Some y → x ≡ y

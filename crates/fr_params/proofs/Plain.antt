@@ -1,7 +1,7 @@
 -- The records of an upgraded file are written without quotes.
 use Rattle.std.proofs.Common.{◌≡◌, ◌≤◌, ℕ, Bool, true, false, Option, Some, None, refl, arith}
 use Rattle.std.specs.Prelude.{IfSome}
-use Rattle.fr_cluster.specs.Names.{word_of}
+use Rattle.fr_params.specs.Names.{word_of}
 use Rattle.fr_cluster.specs.Ranges.{InRange, IsProperNode, IsProperSlot}
 use Rattle.fr_cluster.specs.Values.{Values, amount, figure}
 use Rattle.fr_cluster.specs.declared.names.ParamName.{ParamName}

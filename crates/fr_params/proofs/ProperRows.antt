@@ -11,10 +11,10 @@ use Rattle.fr_base.specs.declared.reason.Reason.{Reason}
 use Rattle.fr_base.specs.declared.reason.Reason.TheVariants as reason
 use Rattle.fr_records.specs.Records.{FileRecord}
 use Rattle.fr_records.specs.Fields.{both_of, field_of, is_blank, natural_of, natural_within, or_reason}
-use Rattle.fr_cluster.specs.Names.{greatest, least, name_of}
-use Rattle.fr_cluster.specs.Ranges.{InRange}
+use Rattle.fr_params.specs.Names.{name_of}
+use Rattle.fr_cluster.specs.Ranges.{greatest, least, InRange}
 use Rattle.fr_cluster.specs.declared.names.ParamName.{ParamName}
-use Rattle.fr_cluster.specs.declared.names.Version.{Version}
+use Rattle.fr_params.specs.declared.names.Version.{Version}
 use Rattle.fr_params.specs.Rows.{IsProperParamRow, channels_of, key_of, named_row, node_on, param_node_row, param_row_of, slot_row, slot_with, some_key, version_row}
 use Rattle.fr_params.specs.declared.rows.Row.{Row}
 use Rattle.fr_params.specs.declared.rows.Row.TheVariants as row

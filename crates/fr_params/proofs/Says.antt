@@ -6,13 +6,13 @@ use Rattle.std.proofs.lemmas.Fmt.{decimal_is_IsNumeral}
 use Rattle.std.proofs.lemmas.Int.{ints}
 use Rattle.fr_records.proofs.Written.{natural-decimal, within-signed}
 use Rattle.fr_records.specs.Fields.{is_blank, natural_of}
-use Rattle.fr_cluster.specs.Names.{greatest, least, name_of, word_of}
-use Rattle.fr_cluster.specs.Ranges.{InRange, IsProperSlot}
+use Rattle.fr_params.specs.Names.{name_of, word_of}
+use Rattle.fr_cluster.specs.Ranges.{greatest, least, InRange, IsProperSlot}
 use Rattle.fr_cluster.specs.Sane.{IsSaneNode}
 use Rattle.fr_cluster.specs.Values.{Values, amount, figure}
 use Rattle.fr_cluster.specs.declared.names.ParamName.{ParamName}
 use Rattle.fr_cluster.specs.declared.names.ParamName.TheVariants as name
-use Rattle.fr_cluster.specs.declared.names.Version.TheVariants.{Two}
+use Rattle.fr_params.specs.declared.names.Version.TheVariants.{Two}
 use Rattle.fr_cluster.specs.declared.nodes.NodeSpec.{NodeSpec}
 use Rattle.fr_cluster.specs.declared.nodes.SlotSpec.{SlotSpec}
 use Rattle.fr_params.specs.Rows.{channels_of, key_of, param_row_of}

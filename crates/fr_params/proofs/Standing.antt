@@ -2,7 +2,7 @@
 use Rattle.std.proofs.Common.{◌≡◌, ℕ, ℤ, List, Option, Some, ap, sym, ◌∙◌, arith, subst}
 use Rattle.fr_records.specs.Records.{FileRecord}
 use Rattle.fr_records.specs.Refusal.{NoneRefused}
-use Rattle.fr_cluster.specs.Names.{place}
+use Rattle.fr_params.specs.Names.{place}
 use Rattle.fr_cluster.specs.Values.{Values, figure, amount}
 use Rattle.fr_cluster.specs.Numbers.{number_in, amount_in}
 use Rattle.fr_cluster.specs.Constraints.{Amounts, FirstFails, key_slots}
@@ -13,10 +13,10 @@ use Rattle.fr_params.specs.Lists.{listed}
 use Rattle.fr_params.specs.Files.{IsMissing, IsMissingIn, ParamsStandFor}
 use Rattle.fr_cluster.specs.declared.names.ParamName.{ParamName}
 use Rattle.fr_cluster.specs.declared.nodes.SlotSpec.{SlotSpec}
-use Rattle.fr_cluster.specs.declared.names.Version.{Version}
+use Rattle.fr_params.specs.declared.names.Version.{Version}
 use Rattle.fr_params.specs.declared.draft.Draft.{Draft}
 use Rattle.fr_params.specs.declared.draft.Tables.{Tables}
-use Rattle.fr_cluster.proofs.Places.{place-lt}
+use Rattle.fr_params.proofs.Places.{place-lt}
 use Rattle.fr_cluster.proofs.Figures.{amount-same}
 use Rattle.fr_params.proofs.Listing.{listed-same}
 use Rattle.fr_params.proofs.TableOfTwo.{number-row}

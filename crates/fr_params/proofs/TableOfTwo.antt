@@ -6,15 +6,15 @@ use Rattle.std.specs.List.{range_with_len}
 use Rattle.std.proofs.lemmas.Bool.{cases_eq}
 use Rattle.std.proofs.lemmas.List.{get_or-map, get_or-replicate, get_or-set_other, get_or-set_same}
 use Rattle.std.proofs.lemmas.List.FromFn.{get_or-map-range_with_len}
-use Rattle.fr_cluster.specs.Names.{place}
+use Rattle.fr_params.specs.Names.{place}
 use Rattle.fr_cluster.specs.Numbers.{AreInRange, number_in}
 use Rattle.fr_cluster.specs.Ranges.{InRange}
 use Rattle.fr_cluster.specs.declared.names.ParamName.{ParamName}
 use Rattle.fr_cluster.specs.declared.names.ParamName.TheVariants as name
-use Rattle.fr_cluster.specs.declared.names.Version.{Version}
-use Rattle.fr_cluster.specs.declared.names.Version.TheVariants.{One, Two}
-use Rattle.fr_cluster.specs.declared.names.TheConstants.{NAMES_OF_TWO}
-use Rattle.fr_cluster.proofs.Places.{place-lt}
+use Rattle.fr_params.specs.declared.names.Version.{Version}
+use Rattle.fr_params.specs.declared.names.Version.TheVariants.{One, Two}
+use Rattle.fr_params.specs.declared.names.TheConstants.{NAMES_OF_TWO}
+use Rattle.fr_params.proofs.Places.{place-lt}
 use Rattle.fr_params.specs.Draft.{AreNumbers, AreRanged, entry}
 use Rattle.fr_params.specs.Files.{IsMissingIn}
 use Rattle.fr_params.specs.Versions.{is_of_version, name_at, row_name}

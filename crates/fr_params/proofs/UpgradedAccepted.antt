@@ -9,15 +9,15 @@ use Rattle.fr_base.specs.declared.reason.Reason.{Reason}
 use Rattle.fr_records.proofs.Cuts.{none-empty, none-more}
 use Rattle.fr_records.specs.Records.{FileRecord, records_of}
 use Rattle.fr_records.specs.Refusal.{NoneRefused, Refusing}
-use Rattle.fr_cluster.specs.Names.{place}
+use Rattle.fr_params.specs.Names.{place}
 use Rattle.fr_cluster.specs.Ranges.{has_turn, is_keyless_starter}
 use Rattle.fr_cluster.specs.Sane.{IsSane, IsSaneNode, IsSaneSlot}
 use Rattle.fr_cluster.specs.Values.{Values, figure}
 use Rattle.fr_cluster.specs.declared.names.ParamName.{ParamName}
 use Rattle.fr_cluster.specs.declared.names.ParamName.TheVariants as name
-use Rattle.fr_cluster.specs.declared.names.TheConstants.{NAMES_OF_TWO}
-use Rattle.fr_cluster.specs.declared.names.Version.{Version}
-use Rattle.fr_cluster.specs.declared.names.Version.TheVariants.{Two}
+use Rattle.fr_params.specs.declared.names.TheConstants.{NAMES_OF_TWO}
+use Rattle.fr_params.specs.declared.names.Version.{Version}
+use Rattle.fr_params.specs.declared.names.Version.TheVariants.{Two}
 use Rattle.fr_cluster.specs.declared.nodes.NodeSpec.{NodeSpec}
 use Rattle.fr_cluster.specs.declared.nodes.SlotSpec.{SlotSpec}
 use Rattle.fr_params.specs.Files.{ParamsStandFor}

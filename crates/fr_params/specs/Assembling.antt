@@ -1,11 +1,11 @@
 -- Numbers, nodes and slots from which parameters are assembled.
 use Rattle.std.specs.Prelude.{◌≡◌, ℕ, ℤ, List, length, map, Result, Ok, Err, IfOk}
 use Rattle.fr_cluster.specs.Constraints.{AllHold, key_slots}
-use Rattle.fr_cluster.specs.Making.{IsMadeOf}
+use Rattle.fr_params.specs.Making.{IsMadeOf}
 use Rattle.fr_cluster.specs.Numbers.{AreInRange, amount_in}
 use Rattle.fr_cluster.specs.Sane.{AreSaneLists}
 use Rattle.fr_cluster.specs.Values.{Values, figure}
-use Rattle.fr_cluster.specs.declared.names.TheConstants.{NAMES_OF_TWO}
+use Rattle.fr_params.specs.declared.names.TheConstants.{NAMES_OF_TWO}
 use Rattle.fr_cluster.specs.declared.nodes.NodeSpec.{NodeSpec}
 use Rattle.fr_cluster.specs.declared.nodes.SlotSpec.{SlotSpec}
 use Rattle.fr_params.specs.Files.{IsParamsFile}

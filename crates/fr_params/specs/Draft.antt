@@ -4,16 +4,15 @@ use Rattle.fr_base.specs.declared.reason.Reason.{Reason}
 use Rattle.fr_records.specs.Records.{FileRecord, records_of}
 use Rattle.fr_records.specs.Refusal.{NoneRefused}
 use Rattle.fr_records.specs.Takes.{TakesRow}
-use Rattle.fr_cluster.specs.Names.{place}
-use Rattle.fr_cluster.specs.Ranges.{InRange, IsProperNode, IsProperSlot}
+use Rattle.fr_params.specs.Names.{place}
+use Rattle.fr_cluster.specs.Ranges.{InRange, IsProperNode, IsProperSlot, has_turn, is_keyless_starter}
 use Rattle.fr_params.specs.Reasons.{value_at, node_at, slot_at, param_reason_after, param_row_reason}
 use Rattle.fr_params.specs.Rows.{param_row_of}
 use Rattle.fr_params.specs.Versions.{name_at, row_name, version_by, version_of}
 use Rattle.fr_params.specs.declared.rows.Row.{Row}
-use Rattle.fr_cluster.specs.Ranges.{has_turn, is_keyless_starter}
 use Rattle.fr_cluster.specs.declared.names.ParamName.{ParamName}
-use Rattle.fr_cluster.specs.declared.names.Version.{Version}
-use Rattle.fr_cluster.specs.declared.names.Version.TheVariants.{One}
+use Rattle.fr_params.specs.declared.names.Version.{Version}
+use Rattle.fr_params.specs.declared.names.Version.TheVariants.{One}
 use Rattle.fr_cluster.specs.declared.nodes.NodeSpec.{NodeSpec}
 use Rattle.fr_cluster.specs.declared.nodes.SlotSpec.{SlotSpec}
 use Rattle.fr_params.specs.declared.draft.Draft.{Draft}

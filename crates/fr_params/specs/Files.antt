@@ -3,7 +3,7 @@ use Rattle.std.specs.Prelude.{ℕ, ℤ, ◌≡◌, ◌<◌, List, Option, Some, 
 use Rattle.fr_records.specs.Kind.{Kind}
 use Rattle.fr_records.specs.Records.{FileRecord, records_of}
 use Rattle.fr_records.specs.Refusal.{NoneRefused, FirstRefused}
-use Rattle.fr_cluster.specs.Names.{place}
+use Rattle.fr_params.specs.Names.{place}
 use Rattle.fr_params.specs.Reasons.{value_at, node_at, slot_at, param_reason_after}
 use Rattle.fr_params.specs.Versions.{is_of_version, row_name, version_of}
 use Rattle.fr_params.specs.Lists.{listed}
@@ -12,8 +12,8 @@ use Rattle.fr_cluster.specs.Values.{Values, figure, amount}
 use Rattle.fr_cluster.specs.Sane.{IsSane}
 use Rattle.fr_cluster.specs.Constraints.{AllHold, FirstFails, key_slots}
 use Rattle.fr_cluster.specs.declared.names.ParamName.{ParamName}
-use Rattle.fr_cluster.specs.declared.names.Version.{Version}
-use Rattle.fr_cluster.specs.declared.names.Version.TheVariants.{Two}
+use Rattle.fr_params.specs.declared.names.Version.{Version}
+use Rattle.fr_params.specs.declared.names.Version.TheVariants.{Two}
 use Rattle.fr_cluster.specs.declared.nodes.NodeSpec.{NodeSpec}
 use Rattle.fr_cluster.specs.declared.nodes.SlotSpec.{SlotSpec}
 use Rattle.fr_params.specs.declared.fault.ParamFault.{ParamFault}

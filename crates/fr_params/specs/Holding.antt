@@ -7,13 +7,13 @@ use Rattle.fr_records.specs.Records.{FileRecord}
 use Rattle.fr_records.specs.Fields.{field_of, is_blank}
 use Rattle.fr_records.specs.Forms.{Form, NumberField, number_field, misses_form, has_unknown_name, has_no_number, is_out_of_range, has_bad_channels}
 use Rattle.fr_records.specs.Least.{row_passes}
-use Rattle.fr_cluster.specs.Names.{name_of, place, least, greatest}
-use Rattle.fr_cluster.specs.Ranges.{has_turn, is_keyless_starter}
+use Rattle.fr_params.specs.Names.{name_of, place}
+use Rattle.fr_cluster.specs.Ranges.{least, greatest, has_turn, is_keyless_starter}
 use Rattle.fr_cluster.specs.declared.names.ParamName.{ParamName}
 use Rattle.fr_params.specs.Rows.{channels_of, param_row_of}
 use Rattle.fr_params.specs.Reasons.{is_not_first, value_at, node_at, slot_at}
 use Rattle.fr_params.specs.Versions.{version_with}
-use Rattle.fr_cluster.specs.declared.names.Version.{Version}
+use Rattle.fr_params.specs.declared.names.Version.{Version}
 use Rattle.fr_params.specs.declared.rows.Row.{Row}
 use Rattle.fr_params.specs.declared.rows.Row.TheVariants as row
 

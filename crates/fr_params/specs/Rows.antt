@@ -1,16 +1,16 @@
 -- What a record of a parameter file says by itself.
 use Rattle.std.specs.Prelude.{ℕ, pos, Bool, true, false, not, ◌==◌, ◌||◌, List, length, Option, Some, None, Result, Ok, Err, codes, if◌then◌else◌, ⊤}
 use Rattle.std.specs.Str.{bytes_eq}
-use Rattle.fr_cluster.specs.Ranges.{InRange, IsProperNode, IsProperSlot}
+use Rattle.fr_cluster.specs.Ranges.{InRange, IsProperNode, IsProperSlot, least, greatest}
 use Rattle.fr_base.specs.Number.{number_of, within}
 use Rattle.fr_base.specs.declared.numbers.NumberFault.{NumberFault}
 use Rattle.fr_base.specs.declared.reason.Reason.{Reason}
 use Rattle.fr_base.specs.declared.reason.Reason.TheVariants as reason
 use Rattle.fr_records.specs.Records.{FileRecord}
 use Rattle.fr_records.specs.Fields.{natural_of, both_of, is_blank, or_reason, field_of}
-use Rattle.fr_cluster.specs.Names.{name_of, least, greatest}
+use Rattle.fr_params.specs.Names.{name_of}
 use Rattle.fr_cluster.specs.declared.names.ParamName.{ParamName}
-use Rattle.fr_cluster.specs.declared.names.Version.{Version}
+use Rattle.fr_params.specs.declared.names.Version.{Version}
 use Rattle.fr_params.specs.declared.rows.Row.{Row}
 use Rattle.fr_params.specs.declared.rows.Row.TheVariants as row
 

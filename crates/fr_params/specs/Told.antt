@@ -1,7 +1,7 @@
 -- What is said of a stop at a parameter file.
 use Rattle.std.specs.Prelude.{ℕ, List, ◌++◌, codes}
 use Rattle.std.specs.Fmt.{decimal}
-use Rattle.fr_cluster.specs.Names.{word_of}
+use Rattle.fr_params.specs.Names.{word_of}
 use Rattle.fr_records.specs.Told.{record_text, stop_text}
 use Rattle.fr_records.specs.declared.kind.Stop.{Stop}
 use Rattle.fr_params.specs.declared.fault.ParamFault.{ParamFault}

@@ -3,12 +3,12 @@ use Rattle.std.specs.Prelude.{ℕ, Bool, ◌==◌, List, [], ◌∷◌, ◌++◌
 use Rattle.std.specs.List.{list_any}
 use Rattle.fr_base.specs.declared.reason.Reason.{Reason}
 use Rattle.fr_records.specs.Records.{FileRecord}
-use Rattle.fr_cluster.specs.Names.{names_of, place}
+use Rattle.fr_params.specs.Names.{names_of, place}
 use Rattle.fr_cluster.specs.declared.names.ParamName.{ParamName}
 use Rattle.fr_cluster.specs.declared.names.ParamName.TheVariants as name
-use Rattle.fr_cluster.specs.declared.names.Version.{Version}
-use Rattle.fr_cluster.specs.declared.names.Version.TheVariants.{One, Two}
-use Rattle.fr_cluster.specs.declared.names.TheConstants.{NAMES_OF_TWO}
+use Rattle.fr_params.specs.declared.names.Version.{Version}
+use Rattle.fr_params.specs.declared.names.Version.TheVariants.{One, Two}
+use Rattle.fr_params.specs.declared.names.TheConstants.{NAMES_OF_TWO}
 use Rattle.fr_params.specs.Rows.{param_row_of}
 use Rattle.fr_params.specs.declared.rows.Row.{Row}
 use Rattle.fr_params.specs.declared.rows.Row.TheVariants as row

@@ -1,7 +1,8 @@
 ghost use Rattle.fr_params.specs.Assembling.{AreAccepted, Assembles};
 
 use crate::fault::ParamFault;
-use fr_cluster::{ClusterFault, NodeSpec, Params, SlotSpec};
+use crate::making::{ClusterFault, params_of};
+use fr_cluster::{NodeSpec, Params, SlotSpec};
 use std::alloc::Global;
 
 /// The parameters of these 20 numbers, in the order of the table of version 2, of these nodes and further slots,
@@ -23,7 +24,7 @@ pub fn assemble(
     let Ok(slots) = Vec::from_slice(alloc, slots) else {
         return Err(ParamFault::NoMemory);
     };
-    match Params::of(alloc, &numbers, nodes, slots) {
+    match params_of(alloc, &numbers, nodes, slots) {
         Ok(params) => Ok(params),
         Err(ClusterFault::Constraint(_)) => unreachable!(),
         Err(ClusterFault::NoMemory) => Err(ParamFault::NoMemory),

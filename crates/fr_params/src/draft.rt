@@ -1,17 +1,17 @@
 ghost use Rattle.std.specs.Prelude.{◌≡◌, [], ◌&&◌, ◌≤◌, nat_lt, Some, None, if◌then◌else◌};
 ghost use Rattle.csv.specs.Records.{fields_of};
 ghost use Rattle.fr_base.specs.declared.reason.Reason.TheVariants as reason;
-ghost use Rattle.fr_cluster.specs.Ranges.{InRange, IsProperNode, IsProperSlot};
-ghost use Rattle.fr_cluster.specs.Ranges.{is_keyless_starter, is_repetition};
-ghost use Rattle.fr_cluster.specs.declared.names.Version.{Version as Of};
+ghost use Rattle.fr_cluster.specs.Ranges.{InRange, IsProperNode, IsProperSlot, is_keyless_starter, is_repetition};
+ghost use Rattle.fr_params.specs.declared.names.Version.{Version as Of};
 ghost use Rattle.fr_params.specs.Reasons.{param_reason_after};
 ghost use Rattle.fr_params.specs.Draft.{AreTables, IsParamsDraft, TakesParamRow, version_after, version_told};
 ghost use Rattle.fr_params.specs.declared.rows.Row.TheVariants as said;
 
+use crate::names::{Version, place_of};
 use crate::rows::{Row, read_row, version_by};
 use csv::ByteRecord;
 use fr_base::{NodeId, Reason, Slot};
-use fr_cluster::{NodeSpec, ParamName, SlotSpec, Version};
+use fr_cluster::{NodeSpec, ParamName, SlotSpec};
 use fr_records::Table;
 use std::alloc::AllocError;
 
@@ -77,7 +77,7 @@ impl Tables {
         requires { InRange name value }
         ensures { TakesParamRow self.old self.new (said.Param name value) result }
     {
-        let place = name.place();
+        let place = place_of(name);
         if self.values[place].is_some() {
             return Some(Reason::Repeated);
         }

@@ -1,4 +1,4 @@
-//! The parameter file of a cluster: what a file must hold to be accepted, the parameters that it stands for, and
+//! What the parameters of a cluster are made of, and their file: what a file must hold to be accepted, the parameters that it stands for, and
 //! these as the text of a file of version 2, which `flexray upgrade PARAMS` prints.
 #![tactic(auto)]
 
@@ -7,8 +7,12 @@ mod draft;
 mod fault;
 mod kind;
 mod laws;
+mod limits;
+mod making;
+mod names;
 mod reading;
 mod rows;
+mod searches;
 mod told;
 mod upgrade;
 mod upgrade_laws;
@@ -19,7 +23,13 @@ pub use assembling::assemble;
 pub use fault::ParamFault;
 pub use kind::ParamsFile;
 pub use laws::{
-    an_accepted_file_is_assembled, one_answer, refused_for_the_least_reason, some_answer,
+    an_accepted_file_is_assembled, fourth_constraint_is_signed, no_difference_is_cut, one_answer,
+    refused_for_the_least_reason, some_answer,
+};
+pub use making::{ClusterFault, params_of};
+pub use names::{
+    NAMES, NAMES_OF_ONE, NAMES_OF_TWO, Version, greatest_of, least_of, name_of, names_of, place_of,
+    word_of,
 };
 pub use reading::read;
 pub use upgrade::answer_upgrade;

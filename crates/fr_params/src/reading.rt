@@ -11,12 +11,14 @@ ghost use Rattle.fr_params.specs.Lists.{as_list, listed};
 ghost use Rattle.fr_cluster.specs.Sane.{AreSaneLists, IsSane};
 ghost use Rattle.fr_params.specs.Files.{IsMissingIn, RefusesParams, params_file};
 ghost use Rattle.fr_cluster.specs.declared.names.ParamName.{ParamName as Name};
-ghost use Rattle.fr_cluster.specs.declared.names.Version.TheVariants.{One};
+ghost use Rattle.fr_params.specs.declared.names.Version.TheVariants.{One};
 ghost use Rattle.fr_params.specs.Versions.{name_at, row_name};
 
 use crate::draft::Draft;
 use crate::fault::ParamFault;
-use fr_cluster::{ClusterFault, NAMES_OF_TWO, NodeSpec, ParamName, Params, SlotSpec, Version};
+use crate::making::{ClusterFault, params_of};
+use crate::names::{NAMES_OF_TWO, Version, place_of};
+use fr_cluster::{NodeSpec, ParamName, Params, SlotSpec};
 use fr_records::{RowFault, read_all};
 use std::alloc::{AllocError, Global};
 
@@ -44,7 +46,7 @@ pub fn read(alloc: Global, bytes: &[u8]) -> Result<Params, ParamFault>
     let Ok(slots) = listed_slots(alloc, &draft.tables.slots) else {
         return Err(ParamFault::NoMemory);
     };
-    match Params::of(alloc, &numbers, nodes, slots) {
+    match params_of(alloc, &numbers, nodes, slots) {
         Ok(params) => Ok(params),
         Err(ClusterFault::Constraint(number)) => Err(ParamFault::Constraint(number)),
         Err(ClusterFault::NoMemory) => Err(ParamFault::NoMemory),
@@ -72,7 +74,7 @@ fn all_numbers(version: Version, values: &[Option<i64>; 21]) -> Result<[i64; 20]
     let mut numbers = [0; 20];
     for place in 0..20 {
         let name = row_name(version, NAMES_OF_TWO[place]);
-        match values[name.place()] {
+        match values[place_of(name)] {
             Some(value) => numbers[place] = value,
             None => return Err(name),
         }

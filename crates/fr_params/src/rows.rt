@@ -1,17 +1,17 @@
 ghost use Rattle.std.specs.Prelude.{◌≡◌, ◌<◌, ◌≤◌, ℕ, List, [], length, pos, ◌≤ℤ◌, slice_index_or, codes, IfOk, IfSome};
 ghost use Rattle.csv.specs.Records.{fields_of};
-ghost use Rattle.fr_cluster.specs.Names.{greatest, least};
+ghost use Rattle.fr_cluster.specs.Ranges.{greatest, least, IsProperNode, IsProperSlot};
 ghost use Rattle.fr_params.specs.Rows.{IsProperParamRow, channels_of, key_of, param_file_row, param_node_row, param_row, param_row_of, slot_row, version_row};
 ghost use Rattle.fr_params.specs.Versions.{version_by};
-ghost use Rattle.fr_cluster.specs.Ranges.{IsProperNode, IsProperSlot};
 
+use crate::names::{Version, greatest_of, least_of, name_of};
 use csv::ByteRecord;
 use fr_base::{NodeId, NumberFault, Reason, Slot, number};
-use fr_cluster::{NodeSpec, ParamName, SlotSpec, Version};
+use fr_cluster::{NodeSpec, ParamName, SlotSpec};
 use fr_records::{both, field, natural, reason_of};
 
 /// What a record of a parameter file says by itself.
-#[derive(Clone, Copy, Debug, PartialEq, Eq)]
+#[derive(Clone, Copy)]
 pub enum Row {
     /// That the file is of version 2.
     Version,
@@ -99,10 +99,10 @@ fn read_param(version: Version, word: &[u8], value: &[u8]) -> Result<Row, Reason
     ensures said { result ≡ param_row version word.now value.now }
     ensures proper { IfOk result (λ said. IsProperParamRow said) }
 {
-    let Some(name) = ParamName::named(version, word) else {
+    let Some(name) = name_of(version, word) else {
         return Err(Reason::UnknownName);
     };
-    match number(value, name.least(), name.greatest()) {
+    match number(value, least_of(name), greatest_of(name)) {
         Ok(value) => Ok(Row::Param(name, value)),
         Err(fault) => Err(reason_of(fault)),
     }

@@ -1,4 +1,5 @@
 use crate::fault::ParamFault;
+use crate::names::word_of;
 use fr_records::{Shown, record_line};
 use fr_text::Piece::{Natural, Word};
 use fr_text::{Line, line_of};
@@ -19,7 +20,7 @@ impl Shown for ParamFault {
         match *self {
             ParamFault::Row { number, reason } => record_line(role, number, reason),
             ParamFault::Missing(name) => {
-                line_of(&[Word(role), Word(b": missing "), Word(name.word())])
+                line_of(&[Word(role), Word(b": missing "), Word(word_of(name))])
             }
             ParamFault::Constraint(number) => line_of(&[
                 Word(role),

@@ -4,8 +4,9 @@ ghost use Rattle.fr_text.specs.Pieces.{Spells};
 ghost use Rattle.fr_records.specs.Texts.{line_of_record, text_of_records};
 ghost use Rattle.fr_params.specs.Texts.{channels_text, coldstart_text, key_text, node_record, param_record, slot_record, upgraded_text};
 
+use crate::names::{NAMES_OF_TWO, word_of};
 use fr_base::{PutFault, Sink, Slot};
-use fr_cluster::{NAMES_OF_TWO, NodeList, NodeSpec, ParamName, Params, SlotList, SlotSpec};
+use fr_cluster::{NodeList, NodeSpec, ParamName, Params, SlotList, SlotSpec};
 use fr_text::Piece::{Natural, Word};
 use fr_text::{Line, Piece, row_of};
 
@@ -58,7 +59,7 @@ fn value_line(params: &Params, name: ParamName) -> Line
     row_of(
         b"param",
         &[
-            Word(name.word()),
+            Word(word_of(name)),
             Natural(params.natural(name)),
             Word(b""),
             Word(b""),

@@ -11,7 +11,7 @@ use fr_records::{both, field, natural, reason_of};
 
 /// A deviation that a record says. The channel is None where the field names none: whether the nodes are
 /// known is asked before.
-#[derive(Clone, Copy, Debug, PartialEq, Eq)]
+#[derive(Clone, Copy)]
 pub struct HeardRow {
     /// The cycle.
     pub cycle: u32,
@@ -26,7 +26,7 @@ pub struct HeardRow {
 }
 
 /// What a record of a trace says by itself.
-#[derive(Clone, Copy, Debug, PartialEq, Eq)]
+#[derive(Clone, Copy)]
 pub enum Row {
     /// How many double cycles the trace has.
     Run(u32),

@@ -7,7 +7,6 @@ use fr_cluster::Join;
 use std::marker::Model;
 
 /// What a trace records of one cycle.
-#[derive(Debug)]
 pub struct TracedCycle {
     /// A row for each correct node that takes part, in ascending order of node: of one that joins, from its first row
     /// on. No trace records how many terms were cut, so 0 stands there.
@@ -24,7 +23,7 @@ impl Drop for TracedCycle {
 }
 
 /// That a node joins the running cluster, and how.
-#[derive(Clone, Copy, Debug, PartialEq, Eq)]
+#[derive(Clone, Copy)]
 pub struct TracedJoin {
     /// The node that joins.
     pub node: NodeId,
@@ -34,7 +33,6 @@ pub struct TracedJoin {
 
 /// A recorded trace: contracts see how many double cycles it has, its arbitrary nodes and those that join the running
 /// cluster, each in ascending order, and the history that it records, in which nothing is counted.
-#[derive(Debug)]
 pub struct Trace {
     doubles: u32,
     arbitrary: Vec<NodeId>,

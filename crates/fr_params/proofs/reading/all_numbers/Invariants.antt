@@ -1,5 +1,5 @@
 use Rattle.std.proofs.Common.{◌≡◌, ◌<◌, ℕ, pos, Some, length, get_or}
-use Rattle.fr_cluster.specs.Names.{place}
+use Rattle.fr_params.specs.Names.{place}
 use Rattle.fr_params.specs.Draft.{entry}
 use Rattle.fr_params.specs.Versions.{name_at, row_name}
 use Rattle.fr_params.proofs.reading.all_numbers.Given as goal

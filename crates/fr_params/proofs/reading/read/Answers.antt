@@ -8,12 +8,12 @@ use Rattle.fr_params.proofs.Standing.{fails-of, missing-of, numbers-are, stands-
 use Rattle.fr_params.proofs.TableOfTwo.{rows-ranged}
 use Rattle.fr_params.proofs.reading.read.Goals as goal
 
-pub of-requires-clause-ranged : goal.of-requires-clause-ranged
-of-requires-clause-ranged c =
+pub params_of-requires-clause-ranged : goal.params_of-requires-clause-ranged
+params_of-requires-clause-ranged c =
     rows-ranged c.version_told.result c.in_ok-draft.draft.tables.values c.in-Ok.numbers c.in_ok-draft.ensures.holds.holds.tables.ranged c.in-Ok.ensures.all
 
-pub of-requires-clause-lists : goal.of-requires-clause-lists
-of-requires-clause-lists c =
+pub params_of-requires-clause-lists : goal.params_of-requires-clause-lists
+params_of-requires-clause-lists c =
     sane-lists (version_of (records_of c.args.bytes.now)) c.in_ok-draft.draft.tables (records_of c.args.bytes.now) _ _ c.in_ok-draft.ensures.holds.holds.tables
     c.in-Ok-listed_nodes.ensures c.in-Ok-listed_slots.ensures
 
@@ -40,13 +40,13 @@ returns-in-Err-Constraint-clause-reads c = record {
       refl refl (rw c.in-Err-Constraint.field-0-is at c.in-Err-Constraint.ensures.fails);
 }
 
-pub returns-in-Ok-of-clause-reads : goal.returns-in-Ok-of-clause-reads
-returns-in-Ok-of-clause-reads c = record {
+pub returns-in-Ok-params_of-clause-reads : goal.returns-in-Ok-params_of-clause-reads
+returns-in-Ok-params_of-clause-reads c = record {
   none_refused = c.in_ok-draft.ensures.holds.none;
   stands =
-      stands-of c.in_ok-draft.draft.tables (records_of c.args.bytes.now) c.in-Ok-of.params c.in-Ok.numbers c.in_ok-draft.ensures.holds.holds.tables
+      stands-of c.in_ok-draft.draft.tables (records_of c.args.bytes.now) c.in-Ok-params_of.params c.in-Ok.numbers c.in_ok-draft.ensures.holds.holds.tables
       (numbers-are c.in_ok-draft.draft (records_of c.args.bytes.now) c.version_told.result c.in-Ok.numbers c.in_ok-draft.ensures.holds.holds c.version_told.ensures c.in-Ok.ensures.all)
-      c.in-Ok-of.ensures.made.figures
-      (c.in-Ok-of.ensures.made.nodes_are ∙ c.in-Ok-listed_nodes.ensures) (c.in-Ok-of.ensures.made.slots_are ∙ c.in-Ok-listed_slots.ensures);
-  constraints = c.in-Ok-of.ensures.made.sane.constraints;
+      c.in-Ok-params_of.ensures.made.figures
+      (c.in-Ok-params_of.ensures.made.nodes_are ∙ c.in-Ok-listed_nodes.ensures) (c.in-Ok-params_of.ensures.made.slots_are ∙ c.in-Ok-listed_slots.ensures);
+  constraints = c.in-Ok-params_of.ensures.made.sane.constraints;
 }

@@ -1,5 +1,5 @@
 use Rattle.std.proofs.Common.{refl}
-use Rattle.fr_cluster.specs.declared.names.Version.TheVariants.{One}
+use Rattle.fr_params.specs.declared.names.Version.TheVariants.{One}
 use Rattle.fr_params.proofs.draft.Draft.new.Goals as goal
 
 pub returns : goal.returns

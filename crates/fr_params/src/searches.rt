@@ -4,24 +4,36 @@ ghost use Rattle.std.specs.List.{list_any, range_with_len};
 ghost use Rattle.fr_cluster.specs.Constraints.{key_slots};
 ghost use Rattle.fr_cluster.specs.Searches.{is_key, key_index_in, key_node_in, node_in, slot_in};
 
-use crate::nodes::{NodeSpec, SlotSpec};
+use fr_cluster::{NodeList, NodeSpec, SlotList, SlotSpec};
 use std::alloc::{AllocError, Global};
 
+// The list of these nodes.
+pub(crate) fn node_list(alloc: Global, nodes: Vec<NodeSpec>) -> Result<NodeList, AllocError>
+    ensures { IfOk result (λ list. list ≡ nodes.items) }
+{
+    let by_id = nodes_by_id(alloc, &nodes)?;
+    let by_key = nodes_by_key(alloc, &nodes)?;
+    let indices = indices_by_key(alloc, &nodes)?;
+    Ok(NodeList::new(nodes, by_id, by_key, indices))
+}
+
+// The list of these further slots.
+pub(crate) fn slot_list(alloc: Global, slots: Vec<SlotSpec>) -> Result<SlotList, AllocError>
+    ensures { IfOk result (λ list. list ≡ slots.items) }
+{
+    let by_number = slots_by_number(alloc, &slots)?;
+    Ok(SlotList::new(slots, by_number))
+}
+
 // The node of each number from 0 to 64.
-pub(crate) fn nodes_by_id(
-    alloc: Global,
-    nodes: &[NodeSpec],
-) -> Result<Vec<Option<NodeSpec>>, AllocError>
+fn nodes_by_id(alloc: Global, nodes: &[NodeSpec]) -> Result<Vec<Option<NodeSpec>>, AllocError>
     ensures { IfOk result (λ found. found.items ≡ map (node_in nodes.now) (range_with_len 0 65)) }
 {
     (0..65).map(|id| node_of(nodes, id).copied()).collect(alloc)
 }
 
 // The node of each slot from 0 to 1023 that is a key slot.
-pub(crate) fn nodes_by_key(
-    alloc: Global,
-    nodes: &[NodeSpec],
-) -> Result<Vec<Option<NodeSpec>>, AllocError>
+fn nodes_by_key(alloc: Global, nodes: &[NodeSpec]) -> Result<Vec<Option<NodeSpec>>, AllocError>
     ensures { IfOk result (λ found. found.items ≡ map (key_node_in nodes.now) (range_with_len 0 1024)) }
 {
     (0..1024)
@@ -30,10 +42,7 @@ pub(crate) fn nodes_by_key(
 }
 
 // The place among the key slots of each slot from 0 to 1023 that is one.
-pub(crate) fn indices_by_key(
-    alloc: Global,
-    nodes: &[NodeSpec],
-) -> Result<Vec<Option<usize>>, AllocError>
+fn indices_by_key(alloc: Global, nodes: &[NodeSpec]) -> Result<Vec<Option<usize>>, AllocError>
     ensures { IfOk result (λ found. found.items ≡ map (key_index_in nodes.now) (range_with_len 0 1024)) }
 {
     (0..1024)
@@ -42,10 +51,7 @@ pub(crate) fn indices_by_key(
 }
 
 // The further slot of each number from 0 to 1023.
-pub(crate) fn slots_by_number(
-    alloc: Global,
-    slots: &[SlotSpec],
-) -> Result<Vec<Option<SlotSpec>>, AllocError>
+fn slots_by_number(alloc: Global, slots: &[SlotSpec]) -> Result<Vec<Option<SlotSpec>>, AllocError>
     ensures { IfOk result (λ found. found.items ≡ map (slot_in slots.now) (range_with_len 0 1024)) }
 {
     (0..1024)

@@ -1,11 +1,11 @@
--- The table of parameters: how a file spells each, its place, its range, and the versions of a file that have it.
+-- The table of parameters: how a file spells each, its place, and the versions of a file that have it.
 use Rattle.std.specs.Prelude.{ℕ, List, Option, codes, find}
 use Rattle.std.specs.Str.{bytes_eq}
 use Rattle.fr_cluster.specs.declared.names.ParamName.{ParamName}
 use Rattle.fr_cluster.specs.declared.names.ParamName.TheVariants as name
-use Rattle.fr_cluster.specs.declared.names.Version.{Version}
-use Rattle.fr_cluster.specs.declared.names.Version.TheVariants as version
-use Rattle.fr_cluster.specs.declared.names.TheConstants.{NAMES_OF_ONE, NAMES_OF_TWO}
+use Rattle.fr_params.specs.declared.names.Version.{Version}
+use Rattle.fr_params.specs.declared.names.Version.TheVariants as version
+use Rattle.fr_params.specs.declared.names.TheConstants.{NAMES_OF_ONE, NAMES_OF_TWO}
 
 -- a name as a file spells it
 abbrev pub word_of : ParamName → List ℕ
@@ -64,51 +64,3 @@ place name.pDelayCompensationB = 17
 place name.xRateBound = 18
 place name.xChangeBound = 19
 place name.xDelayError = 20
-
--- the least value that a parameter may have
-abbrev pub least : ParamName → ℕ
-least name.gMacroPerCycle = 10
-least name.pMicroPerCycle = 10
-least name.gNumberOfStaticSlots = 1
-least name.gdStaticSlot = 2
-least name.gdActionPointOffset = 1
-least name.gdNIT = 1
-least name.gPayloadLengthStatic = 0
-least name.gOffsetCorrectionStart = 1
-least name.gMaxWithoutClockCorrectionPassive = 1
-least name.gMaxWithoutClockCorrectionFatal = 1
-least name.pAllowHaltDueToClock = 0
-least name.pAllowPassiveToActive = 0
-least name.pClusterDriftDamping = 0
-least name.pOffsetCorrectionOut = 1
-least name.pRateCorrectionOut = 1
-least name.pDelayCompensation = 0
-least name.pDelayCompensationA = 0
-least name.pDelayCompensationB = 0
-least name.xRateBound = 0
-least name.xChangeBound = 0
-least name.xDelayError = 0
-
--- the greatest value that it may have
-abbrev pub greatest : ParamName → ℕ
-greatest name.gMacroPerCycle = 16_000
-greatest name.pMicroPerCycle = 640_000
-greatest name.gNumberOfStaticSlots = 1023
-greatest name.gdStaticSlot = 1000
-greatest name.gdActionPointOffset = 63
-greatest name.gdNIT = 15_999
-greatest name.gPayloadLengthStatic = 127
-greatest name.gOffsetCorrectionStart = 15_999
-greatest name.gMaxWithoutClockCorrectionPassive = 15
-greatest name.gMaxWithoutClockCorrectionFatal = 15
-greatest name.pAllowHaltDueToClock = 1
-greatest name.pAllowPassiveToActive = 31
-greatest name.pClusterDriftDamping = 100
-greatest name.pOffsetCorrectionOut = 16_000
-greatest name.pRateCorrectionOut = 2000
-greatest name.pDelayCompensation = 200
-greatest name.pDelayCompensationA = 200
-greatest name.pDelayCompensationB = 200
-greatest name.xRateBound = 1500
-greatest name.xChangeBound = 1500
-greatest name.xDelayError = 10_000_000

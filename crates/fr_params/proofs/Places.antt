@@ -1,10 +1,10 @@
 -- Places and names are one to one.
 use Rattle.std.proofs.Common.{◌≡◌, ℕ, ◌<◌, ap, sym, ◌∙◌, rules}
 use Rattle.std.specs.Prelude.{slice_index_or}
-use Rattle.fr_cluster.specs.Names.{place}
+use Rattle.fr_params.specs.Names.{place}
 use Rattle.fr_cluster.specs.declared.names.ParamName.{ParamName}
 use Rattle.fr_cluster.specs.declared.names.ParamName.TheVariants as name
-use Rattle.fr_cluster.specs.declared.names.TheConstants.{NAMES}
+use Rattle.fr_params.specs.declared.names.TheConstants.{NAMES}
 
 named_at : ℕ → ParamName
 named_at k = slice_index_or NAMES k name.gMacroPerCycle

@@ -1,5 +1,5 @@
 use Rattle.fr_cluster.proofs.Figures.{stored, figure-stored, sane-of}
-use Rattle.fr_cluster.proofs.making.params_of.Goals as goal
+use Rattle.fr_cluster.proofs.params.Params.new.Goals as goal
 
 pub invariant_of-result : goal.invariant_of-result
 invariant_of-result c =

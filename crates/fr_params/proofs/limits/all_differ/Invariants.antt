@@ -1,5 +1,5 @@
 use Rattle.std.proofs.Common.{◌≡◌, ◌<◌, ℕ, get_or}
-use Rattle.fr_cluster.proofs.limits.all_differ.Given as goal
+use Rattle.fr_params.proofs.limits.all_differ.Given as goal
 
 -- the keys so far are all different
 abbrev pub invariant-loop-place : goal.invariant-loop-place

@@ -1,8 +1,8 @@
 use Rattle.std.proofs.Common.{take}
 use Rattle.std.specs.Prelude.{Contains}
 use Rattle.std.proofs.lemmas.List.{get_or_read}
-use Rattle.fr_cluster.proofs.Distinct.{differ-more, differ-not}
-use Rattle.fr_cluster.proofs.limits.all_differ.Goals as goal
+use Rattle.fr_params.proofs.Distinct.{differ-more, differ-not}
+use Rattle.fr_params.proofs.limits.all_differ.Goals as goal
 
 pub returns-then-is_among : goal.returns-then-is_among
 returns-then-is_among c =

@@ -7,8 +7,8 @@ use Rattle.fr_cluster.specs.Sane.{IsSane}
 use Rattle.fr_cluster.specs.declared.names.ParamName.{ParamName}
 use Rattle.fr_cluster.specs.declared.nodes.NodeSpec.{NodeSpec}
 use Rattle.fr_cluster.specs.declared.nodes.SlotSpec.{SlotSpec}
-use Rattle.fr_cluster.specs.declared.making.ClusterFault.{ClusterFault}
-use Rattle.fr_cluster.specs.declared.making.ClusterFault.TheVariants as fault
+use Rattle.fr_params.specs.declared.making.ClusterFault.{ClusterFault}
+use Rattle.fr_params.specs.declared.making.ClusterFault.TheVariants as fault
 
 -- the parameters of a cluster: each number stands at the place of its name
 pub record IsMadeOf (p : Values) (numbers : List ℤ) (nodes : List NodeSpec) (slots : List SlotSpec) : Type 0 where

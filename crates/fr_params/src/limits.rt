@@ -1,12 +1,12 @@
 ghost use Rattle.std.specs.Prelude.{◌≡◌, ◌≢◌, ◌<◌, ◌≤◌, ◌↔◌, ℕ, IsTrue, IfSome, IfNone, IfOk, All, AllPairs, Contains};
-ghost use Rattle.fr_cluster.specs.Names.{greatest};
+ghost use Rattle.fr_cluster.specs.Ranges.{greatest};
 ghost use Rattle.fr_cluster.specs.Numbers.{AreInRange, amount_in, number_in};
 ghost use Rattle.fr_cluster.specs.Constraints.{ActsInSlot, AllHold, AreFreeSlots, AreKeySlots, CorrectsAfterSlots, FirstFails, HasSyncNodes, IsPassiveFirst, IsWholeCycle, LeavesMicroticks, key_slots, static_macros};
 ghost use Rattle.fr_cluster.specs.declared.names.ParamName.TheVariants as name;
 
-use crate::names::ParamName;
-use crate::nodes::{NodeSpec, SlotSpec};
+use crate::names::place_of;
 use fr_base::Slot;
+use fr_cluster::{NodeSpec, ParamName, SlotSpec};
 use std::alloc::{AllocError, Global};
 use std::cmp::Ordering;
 
@@ -58,7 +58,7 @@ fn amount(numbers: &[i64; 20], name: ParamName) -> u64
 fn number(numbers: &[i64; 20], name: ParamName) -> i64
     ensures { result ≡ number_in numbers.now name }
 {
-    let place = name.place();
+    let place = place_of(name);
     match place.cmp(&GREATER_COMPENSATION) {
         Ordering::Less => numbers[place],
         Ordering::Equal => numbers[GREATER_COMPENSATION].max(numbers[GREATER_COMPENSATION + 1]),

@@ -1,5 +1,0 @@
-use Rattle.fr_cluster.proofs.Fourth.{no-cut}
-use Rattle.fr_cluster.proofs.laws.no_difference_is_cut.Goals as goal
-
-pub returns : goal.returns
-returns c = no-cut
