@@ -1,2 +1,4 @@
 pub mod Requests
 mod Undone
+pub mod FrameDecided
+pub mod BoundDecided

@@ -11,7 +11,7 @@ use Rattle.fr_base.specs.Channels.{channel_of}
 use Rattle.fr_base.specs.declared.channel.Channel.TheVariants.{A, B}
 use Rattle.fr_base.specs.declared.numbers.NumberFault.{NumberFault}
 use Rattle.fr_bound.specs.Settling.{most_stated}
-use Rattle.fr_records.specs.Fields.{natural_of}
+use Rattle.fr_text.specs.Fields.{natural_of}
 use Rattle.fr_program.specs.Program.{texts}
 use Rattle.fr_answer.specs.Request.{Asked, AsksFor, frame, bound, bound_join, upgrade, settle, run, capture, nm, cold, make, trace, check}
 

@@ -2,13 +2,13 @@
 use Rattle.std.proofs.Common.{◌≡◌, ◌∙◌, ℕ, suc, List, [], ◌∷◌, Ok, Err, inl, inr, ap, sym, arith}
 use Rattle.std.specs.Prelude.{IfErr, ◌≢◌}
 use Rattle.fr_base.specs.Device.{Shelved}
-use Rattle.fr_records.specs.Files.{Files, StopsIn, file, text}
-use Rattle.fr_records.specs.Status.{code_of}
-use Rattle.fr_records.specs.Told.{stop_status}
-use Rattle.fr_records.specs.declared.kind.Stop.{Stop}
-use Rattle.fr_records.specs.declared.kind.Stop.TheVariants as stop
-use Rattle.fr_records.specs.declared.status.Status.TheVariants as status
-use Rattle.fr_records.specs.declared.told.Told.{Told}
+use Rattle.fr_text.specs.Files.{Files, StopsIn, file, text}
+use Rattle.fr_text.specs.Status.{code_of}
+use Rattle.fr_text.specs.Told.{stop_status}
+use Rattle.fr_text.specs.declared.kind.Stop.{Stop}
+use Rattle.fr_text.specs.declared.kind.Stop.TheVariants as stop
+use Rattle.fr_text.specs.declared.status.Status.TheVariants as status
+use Rattle.fr_text.specs.declared.told.Told.{Told}
 use Rattle.fr_program.specs.declared.failure.Failure.TheVariants.{Usage, Stopped, WriteFault}
 use Rattle.fr_program.specs.Around.{Around, Ending}
 use Rattle.fr_program.specs.Command.{Command, CommandEnds}

@@ -3,12 +3,12 @@ use Rattle.std.specs.Prelude.{codes}
 use Rattle.fr_program.specs.Command.{Command}
 use Rattle.fr_program.specs.Program.{Program}
 use Rattle.fr_report.specs.Files.{run_command}
-use Rattle.fr_commands.specs.BoundAnswer.{bound_command, join_command}
-use Rattle.fr_commands.specs.SettleAnswer.{settle_command}
+use Rattle.fr_answer.specs.BoundAnswer.{bound_command, join_command}
+use Rattle.fr_answer.specs.SettleAnswer.{settle_command}
 use Rattle.fr_capture.specs.CaptureAnswer.{capture_command}
 use Rattle.fr_check.specs.CheckAnswer.{check_command}
 use Rattle.fr_cold.specs.ColdAnswer.{cold_command}
-use Rattle.fr_commands.specs.FrameAnswer.{frame_command}
+use Rattle.fr_answer.specs.FrameAnswer.{frame_command}
 use Rattle.fr_nm.specs.NmAnswer.{nm_command}
 use Rattle.fr_report.specs.MakeAnswer.{make_command}
 use Rattle.fr_report.specs.RunText.{IsRunText}

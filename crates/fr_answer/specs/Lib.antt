@@ -1,3 +1,9 @@
 -- what the public contract cites
 pub mod Answer
 pub mod Request
+pub mod FrameAnswer
+pub mod FrameText
+pub mod BoundAnswer
+pub mod BoundText
+pub mod SettleAnswer
+pub mod SettleText

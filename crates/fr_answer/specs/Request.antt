@@ -4,7 +4,7 @@ use Rattle.fr_base.specs.Channels.{letter}
 use Rattle.fr_base.specs.declared.channel.Channel.{Channel}
 use Rattle.fr_bound.specs.Settling.{most_stated}
 use Rattle.fr_generator.specs.Generated.{IsMadeCount}
-use Rattle.fr_records.specs.Fields.{natural_of}
+use Rattle.fr_text.specs.Fields.{natural_of}
 use Rattle.fr_answer.specs.declared.request.Request.{Request}
 use Rattle.fr_report.specs.Names.{RunNames, run_names_of}
 use Rattle.fr_answer.specs.declared.request.Request.TheVariants.{Frame, Bound, BoundJoin, Upgrade, Settle, Run, Capture, Nm, Cold, Make, Trace, Check}

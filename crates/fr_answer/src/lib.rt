@@ -1,10 +1,27 @@
-//! The program's answer as a call: words, a shelf and two sinks in, a status out. The answer to each
-//! command is made in a crate below.
+//! The program's answer as a call: words, a shelf and two sinks in, a status out. What `flexray frame CHANNEL FILE`, `flexray
+//! bound PARAMS`, also with the word `join`, and `flexray settle PARAMS START RATE` answer is made here, the answer to
+//! each other command in the crate of its subject.
 #![tactic(auto)]
 
+mod bound;
+mod bound_laws;
+mod fault_line;
+mod frame;
+mod frame_laws;
+mod frame_line;
+mod join;
 mod request;
+mod settle;
 mod top;
 
-pub use fr_records::Status;
+pub use bound::answer_bound;
+pub use bound_laws::{
+    file_decides_the_bounds, file_decides_the_bounds_of_joining, file_decides_the_settling,
+};
 pub use fr_report::play;
+pub use fr_text::Status;
+pub use frame::answer_frame;
+pub use frame_laws::file_decides_the_line;
+pub use join::answer_bound_join;
+pub use settle::answer_settle;
 pub use top::flexray;

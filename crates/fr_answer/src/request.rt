@@ -5,7 +5,7 @@ ghost use Rattle.fr_answer.specs.Request.{IsInRange, IsRequestOf};
 use fr_base::Channel;
 use fr_check::CheckFiles;
 use fr_cold::ColdFiles;
-use fr_records::natural;
+use fr_text::natural;
 use fr_report::RunFiles;
 
 // The greatest number of ticks that may be stated.

@@ -9,7 +9,7 @@ ghost use Rattle.fr_answer.specs.Request.{IsInRange, asked_of};
 use crate::request::{Request, request_of};
 use fr_base::{Shelf, Sink};
 use fr_program::Failure;
-use fr_records::Status;
+use fr_text::Status;
 use std::alloc::Global;
 
 /// Does what the words ask for, which are those after the program's name: loads the files that they name
@@ -82,14 +82,14 @@ fn carry_out<S: Shelf, O: Sink>(
     ensures unwritten { EndingWritesNothing result → out.new ≡ out.old }
 {
     match request {
-        Request::Frame { channel, file } => fr_commands::answer_frame(
+        Request::Frame { channel, file } => crate::answer_frame(
             alloc, channel, file, shelf, out,
         ),
-        Request::Bound { file } => fr_commands::answer_bound(alloc, file, shelf, out),
-        Request::BoundJoin { file } => fr_commands::answer_bound_join(alloc, file, shelf, out),
+        Request::Bound { file } => crate::answer_bound(alloc, file, shelf, out),
+        Request::BoundJoin { file } => crate::answer_bound_join(alloc, file, shelf, out),
         Request::Upgrade { file } => fr_params::answer_upgrade(alloc, file, shelf, out),
         Request::Settle { file, start, rate } => {
-            fr_commands::answer_settle(alloc, file, start, rate, shelf, out)
+            crate::answer_settle(alloc, file, start, rate, shelf, out)
         }
         Request::Run(files) => fr_report::answer_run(alloc, files, shelf, out),
         Request::Make { seed, doubles } => { fr_report::answer_made(alloc, seed, doubles, out) }

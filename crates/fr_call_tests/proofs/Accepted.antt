@@ -3,10 +3,10 @@ use Rattle.std.proofs.Common.{◌≡◌, pos, negsuc, [], ◌∷◌, None, Resul
 use Rattle.std.proofs.lemmas.Int.{ints}
 use Rattle.fr_base.specs.declared.channel.Channel.TheVariants as channel
 use Rattle.fr_base.specs.declared.reason.Reason.{Reason}
-use Rattle.fr_records.specs.Fields.{looked_up}
-use Rattle.fr_records.specs.Records.{FileRecord}
-use Rattle.fr_records.specs.Refusal.{NoneRefused}
-use Rattle.fr_records.proofs.Cuts.{none-more}
+use Rattle.fr_text.specs.Fields.{looked_up}
+use Rattle.fr_text.specs.Records.{FileRecord}
+use Rattle.fr_text.specs.Refusal.{NoneRefused}
+use Rattle.fr_text.proofs.Cuts.{none-more}
 use Rattle.fr_cluster.specs.Values.{Values}
 use Rattle.fr_drift.specs.Adding.{TakesDriftRecord}
 use Rattle.fr_drift.specs.Files.{DriftStandsFor}

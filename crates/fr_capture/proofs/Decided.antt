@@ -2,9 +2,9 @@
 use Rattle.std.proofs.Common.{◌≡◌, ℕ, List, sym, ◌∙◌}
 use Rattle.fr_base.specs.declared.channel.Channel.{Channel}
 use Rattle.fr_capture.specs.Frames.{AreFrames, Found}
-use Rattle.fr_records.proofs.Commands.{decided}
-use Rattle.fr_records.proofs.Shelves.{any_one}
-use Rattle.fr_records.specs.Files.{IsDecided}
+use Rattle.fr_text.proofs.Commands.{decided}
+use Rattle.fr_text.proofs.Shelves.{any_one}
+use Rattle.fr_text.specs.Files.{IsDecided}
 use Rattle.fr_capture.specs.CaptureAnswer.{IsCaptureText, capture_files}
 use Rattle.fr_capture.specs.CaptureText.{shown_text}
 

@@ -3,8 +3,8 @@ use Rattle.std.specs.Prelude.{◌≡◌, ℕ, List, [], ◌∷◌, codes}
 use Rattle.fr_base.specs.declared.channel.Channel.{Channel}
 use Rattle.fr_capture.specs.Frames.{AreFrames, Found}
 use Rattle.fr_program.specs.Command.{Command}
-use Rattle.fr_records.specs.Files.{Files, IsNeverSaid, file, text}
-use Rattle.fr_records.specs.Loading.{any_file, unread_text}
+use Rattle.fr_text.specs.Files.{Files, IsNeverSaid, file, text}
+use Rattle.fr_text.specs.Loading.{any_file, unread_text}
 use Rattle.fr_capture.specs.CaptureText.{shown_text}
 
 -- the frames of a recording, and what is behind them, are shown by this text

@@ -13,8 +13,7 @@ use crate::feeding::put_frames;
 use crate::lines::end_lines;
 use fr_base::{Channel, MAX_FILE, PutFault, Shelf, Sink};
 use fr_program::Failure;
-use fr_records::loaded;
-use fr_text::put_lines;
+use fr_text::{loaded, put_lines};
 use std::alloc::Global;
 
 /// Writes a line for each frame of the recording in the file, one after the other up to the first byte that no

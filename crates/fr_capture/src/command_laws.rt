@@ -1,5 +1,5 @@
 ghost use Rattle.fr_base.specs.declared.channel.Channel.{Channel};
-ghost use Rattle.fr_records.specs.Files.{IsDecided};
+ghost use Rattle.fr_text.specs.Files.{IsDecided};
 ghost use Rattle.fr_capture.specs.CaptureAnswer.{capture_files};
 
 use crate::one_list_of_frames;

@@ -2,9 +2,9 @@
 use Rattle.std.proofs.Common.{◌≡◌, ℕ, List, Result, Ok, Err, ap, sym, ◌∙◌}
 use Rattle.fr_cluster.specs.Values.{Values}
 use Rattle.fr_params.specs.Files.{params_file}
-use Rattle.fr_records.proofs.Commands.{decided}
-use Rattle.fr_records.specs.Files.{IsDecided, said_of}
-use Rattle.fr_records.specs.Kind.{HasOneAnswer}
+use Rattle.fr_text.proofs.Commands.{decided}
+use Rattle.fr_text.specs.Files.{IsDecided, said_of}
+use Rattle.fr_text.specs.Kind.{HasOneAnswer}
 use Rattle.fr_trace.specs.Files.{trace_file}
 use Rattle.fr_trace.specs.Trace.{TraceView}
 use Rattle.fr_verdict.specs.Answer.{OneAnswer}

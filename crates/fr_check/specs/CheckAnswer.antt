@@ -4,7 +4,7 @@ use Rattle.fr_cluster.specs.Values.{Values}
 use Rattle.fr_params.specs.Files.{params_file}
 use Rattle.fr_params.specs.Told.{params_says}
 use Rattle.fr_program.specs.Command.{Command}
-use Rattle.fr_records.specs.Files.{Files, file, text}
+use Rattle.fr_text.specs.Files.{Files, file, text}
 use Rattle.fr_trace.specs.Files.{trace_file}
 use Rattle.fr_trace.specs.Told.{trace_says}
 use Rattle.fr_trace.specs.Trace.{TraceView}

@@ -2,7 +2,7 @@ ghost use Rattle.std.specs.Prelude.{◌≡◌, ℕ, ◌+◌, ◌≤◌, IfErr, I
 ghost use Rattle.fr_program.specs.Around.{around_of};
 ghost use Rattle.fr_program.specs.Command.{CommandEnds};
 ghost use Rattle.fr_program.specs.Failure.{EndingWritesNothing};
-ghost use Rattle.fr_records.specs.Told.{refusal};
+ghost use Rattle.fr_text.specs.Told.{refusal};
 ghost use Rattle.fr_trace.specs.Fits.{TraceFits};
 ghost use Rattle.fr_verdict.specs.Answer.{IsJudgement};
 ghost use Rattle.fr_verdict.specs.Precision.{KeepsItsPrecision};
@@ -16,7 +16,7 @@ use fr_base::{Shelf, Sink};
 use fr_cluster::Params;
 use fr_params::ParamsFile;
 use fr_program::Failure;
-use fr_records::{Status, Told, accepted};
+use fr_text::{Status, Told, accepted};
 use fr_trace::{Trace, TraceFile};
 use fr_verdict::Verdict;
 use std::alloc::Global;

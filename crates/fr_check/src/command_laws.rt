@@ -1,4 +1,4 @@
-ghost use Rattle.fr_records.specs.Files.{IsDecided, said_of};
+ghost use Rattle.fr_text.specs.Files.{IsDecided, said_of};
 ghost use Rattle.fr_check.specs.CheckAnswer.{check_files};
 
 /// A law: the bytes of the files decide what is written of a trace that passes, and what is said of one that

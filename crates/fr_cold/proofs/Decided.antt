@@ -3,9 +3,9 @@ use Rattle.std.proofs.Common.{sym, ◌∙◌}
 use Rattle.fr_cluster.specs.Values.{Values}
 use Rattle.fr_cold.specs.Files.{power_file}
 use Rattle.fr_params.specs.Files.{params_file}
-use Rattle.fr_records.proofs.Commands.{decided}
-use Rattle.fr_records.specs.Files.{IsDecided}
-use Rattle.fr_records.specs.Kind.{HasOneAnswer}
+use Rattle.fr_text.proofs.Commands.{decided}
+use Rattle.fr_text.specs.Files.{IsDecided}
+use Rattle.fr_text.specs.Kind.{HasOneAnswer}
 use Rattle.fr_cold.specs.ColdAnswer.{cold_files}
 
 pub one_startup : HasOneAnswer params_file → ((p : Values) → HasOneAnswer (power_file p)) → IsDecided cold_files

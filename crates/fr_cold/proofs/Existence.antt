@@ -5,12 +5,12 @@ use Rattle.std.specs.Cmp.{eq_by_cmp_equiv}
 use Rattle.std.specs.FinMap as map
 use Rattle.std.specs.FinMap.{FinMap, get-empty, get-insert}
 use Rattle.fr_base.specs.declared.reason.Reason.{Reason}
-use Rattle.fr_records.specs.Records.{FileRecord, records_of}
-use Rattle.fr_records.specs.Kind.{HasSomeAnswer, Reads}
-use Rattle.fr_records.specs.Refusal.{NoneRefused, FirstRefused}
-use Rattle.fr_records.specs.Fields.{or_else}
-use Rattle.fr_records.proofs.Cuts.{none-or-first-refused}
-use Rattle.fr_records.proofs.Lookups.{or_else-none}
+use Rattle.fr_text.specs.Records.{FileRecord, records_of}
+use Rattle.fr_text.specs.Kind.{HasSomeAnswer, Reads}
+use Rattle.fr_text.specs.Refusal.{NoneRefused, FirstRefused}
+use Rattle.fr_text.specs.Fields.{or_else}
+use Rattle.fr_text.proofs.Cuts.{none-or-first-refused}
+use Rattle.fr_text.proofs.Lookups.{or_else-none}
 use Rattle.fr_cluster.specs.Values.{Values}
 use Rattle.fr_cold.specs.declared.state.Switch.{Switch}
 use Rattle.fr_cold.specs.Keys.{power_cmp, power_key}

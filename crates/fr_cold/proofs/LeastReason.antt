@@ -4,12 +4,12 @@ use Rattle.std.specs.Prelude.{not, ◌==◌, ◌||◌, codes, is_some, if◌then
 use Rattle.std.specs.Str.{bytes_eq}
 use Rattle.fr_base.specs.declared.reason.Reason.{Reason}
 use Rattle.fr_base.specs.declared.reason.Reason.TheVariants as reason
-use Rattle.fr_records.specs.Records.{FileRecord}
-use Rattle.fr_records.specs.Fields.{both_of, field_of, is_blank, natural_of}
-use Rattle.fr_records.specs.Forms.{number_field, misses_form, has_unknown_name, has_no_number, is_out_of_range, has_bad_channels}
-use Rattle.fr_records.specs.Least.{GivesLeast, IsLeastReason, row_passes}
-use Rattle.fr_records.proofs.LeastReasons.{least-first}
-use Rattle.fr_records.proofs.FormFacts.{IsFormed, IsFormedBy, formed-if, formed-one, formed-read, formed-sized, is_overfull, least-formed, natural-read, never, read-both}
+use Rattle.fr_text.specs.Records.{FileRecord}
+use Rattle.fr_text.specs.Fields.{both_of, field_of, is_blank, natural_of}
+use Rattle.fr_text.specs.Forms.{number_field, misses_form, has_unknown_name, has_no_number, is_out_of_range, has_bad_channels}
+use Rattle.fr_text.specs.Least.{GivesLeast, IsLeastReason, row_passes}
+use Rattle.fr_text.proofs.LeastReasons.{least-first}
+use Rattle.fr_text.proofs.FormFacts.{IsFormed, IsFormedBy, formed-if, formed-one, formed-read, formed-sized, is_overfull, least-formed, natural-read, never, read-both}
 use Rattle.fr_cluster.specs.Values.{Values}
 use Rattle.fr_cold.specs.Cluster.{is_starter}
 use Rattle.fr_cold.specs.declared.state.Switch.{Switch}

@@ -12,9 +12,9 @@ use Rattle.std.specs.FinMap as map
 use Rattle.std.specs.FinMap.{FinMap, IsAntisymmetric, entries-from_sorted, find, get-entries, get-from_sorted, is_sorted, same_map}
 use Rattle.std.specs.FinMap.Entries.{below_all}
 use Rattle.std.proofs.lemmas.Cmp.{nat_cmp_total, on_total, then_total}
-use Rattle.fr_records.specs.Records.{FileRecord}
+use Rattle.fr_text.specs.Records.{FileRecord}
 use Rattle.fr_cold.specs.Keys.{power_cmp}
-use Rattle.fr_records.specs.Keys.{found_at}
+use Rattle.fr_text.specs.Keys.{found_at}
 use Rattle.fr_cold.specs.Draft.{IsPowerDraft}
 use Rattle.fr_cold.specs.Files.{PowerStandsFor}
 use Rattle.fr_cold.specs.declared.draft.Draft.{Draft}

@@ -3,9 +3,9 @@ use Rattle.std.proofs.Common.{◌≡◌, ℕ, List, Some, None, Ok, Err, ap, sym
 use Rattle.std.specs.Ordering.{nat_cmp}
 use Rattle.std.specs.FinMap.{IsAntisymmetric}
 use Rattle.std.proofs.lemmas.Map.Lookups.{exact_pairs, exact_unsigned}
-use Rattle.fr_records.specs.Records.{FileRecord, records_of}
-use Rattle.fr_records.specs.Kind.{HasOneAnswer}
-use Rattle.fr_records.proofs.Cuts.{first-same, refused-none}
+use Rattle.fr_text.specs.Records.{FileRecord, records_of}
+use Rattle.fr_text.specs.Kind.{HasOneAnswer}
+use Rattle.fr_text.proofs.Cuts.{first-same, refused-none}
 use Rattle.fr_cluster.specs.Values.{Values}
 use Rattle.fr_cold.specs.Keys.{power_cmp}
 use Rattle.fr_cold.specs.Reasons.{cycles_at, power_reason_after}

@@ -1,7 +1,7 @@
 -- What a record of three fields says.
 use Rattle.std.proofs.Common.{◌≡◌, ℕ, List, [], length, refl}
 use Rattle.std.specs.Prelude.{slice_index_or}
-use Rattle.fr_records.specs.Records.{FileRecord}
+use Rattle.fr_text.specs.Records.{FileRecord}
 use Rattle.fr_cold.specs.Rows.{power_file_row, power_row_of}
 
 pub row_of-three : (fields : FileRecord) → length fields ≡ 3

@@ -7,9 +7,9 @@ use Rattle.std.specs.declared.cmp.Ordering.TheVariants.{Less, Equal, Greater}
 use Rattle.std.specs.BTreeMap.{BTreeMap, IsOrdered, get, is_at}
 use Rattle.std.proofs.lemmas.Bool.Decides.{nat_tests}
 use Rattle.fr_base.specs.declared.reason.Reason.{Reason}
-use Rattle.fr_records.specs.Records.{FileRecord}
-use Rattle.fr_records.specs.Fields.{or_else}
-use Rattle.fr_records.proofs.Lookups.{looked_up-more, looked_up-nil, or_else-none}
+use Rattle.fr_text.specs.Records.{FileRecord}
+use Rattle.fr_text.specs.Fields.{or_else}
+use Rattle.fr_text.proofs.Lookups.{looked_up-more, looked_up-nil, or_else-none}
 use Rattle.fr_cold.specs.declared.state.Switch.{Switch}
 use Rattle.fr_cold.specs.Keys.{power_cmp, power_key}
 use Rattle.fr_cold.specs.Rows.{IsProperCycles, power_row_of}

@@ -7,7 +7,7 @@ use Rattle.fr_cold.specs.View.{PowerView}
 use Rattle.fr_params.specs.Files.{params_file}
 use Rattle.fr_params.specs.Told.{params_says}
 use Rattle.fr_program.specs.Command.{Command}
-use Rattle.fr_records.specs.Files.{Files, IsNeverSaid, file, text}
+use Rattle.fr_text.specs.Files.{Files, IsNeverSaid, file, text}
 use Rattle.fr_cold.specs.ColdText.{IsColdText}
 
 -- the text of the startup of parameters, and of a power file that is accepted against them

@@ -4,8 +4,8 @@ use Rattle.std.specs.declared.cmp.Ordering.{Ordering}
 use Rattle.std.specs.Ordering.{nat_cmp}
 use Rattle.std.specs.BTreeMap.{BTreeMap, IsOrdered, get, is_at}
 use Rattle.fr_base.specs.declared.reason.Reason.{Reason}
-use Rattle.fr_records.specs.Records.{FileRecord}
-use Rattle.fr_records.specs.Takes.{TakesRow}
+use Rattle.fr_text.specs.Records.{FileRecord}
+use Rattle.fr_text.specs.Takes.{TakesRow}
 use Rattle.fr_cluster.specs.Values.{Values}
 use Rattle.fr_cold.specs.Keys.{power_cmp, power_key}
 use Rattle.fr_cold.specs.Reasons.{cycles_at, last_at, power_row_reason, switch_at}

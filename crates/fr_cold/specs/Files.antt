@@ -1,9 +1,9 @@
 -- What a power file stands for, and why it is refused.
 use Rattle.std.specs.Prelude.{ℕ, ◌≡◌, List, true, Some, None, ⊤}
 use Rattle.std.specs.FinMap.{is_sorted}
-use Rattle.fr_records.specs.Kind.{Kind}
-use Rattle.fr_records.specs.Records.{FileRecord, records_of}
-use Rattle.fr_records.specs.Refusal.{NoneRefused, FirstRefused}
+use Rattle.fr_text.specs.Kind.{Kind}
+use Rattle.fr_text.specs.Records.{FileRecord, records_of}
+use Rattle.fr_text.specs.Refusal.{NoneRefused, FirstRefused}
 use Rattle.fr_cluster.specs.Values.{Values}
 use Rattle.fr_cold.specs.Keys.{power_cmp}
 use Rattle.fr_cold.specs.Reasons.{cycles_at, power_reason_after, switch_at}

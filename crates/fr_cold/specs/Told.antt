@@ -1,7 +1,7 @@
 -- What is said of a stop at a power file.
 use Rattle.std.specs.Prelude.{ℕ, List, ◌++◌, codes}
-use Rattle.fr_records.specs.Told.{record_text, stop_text}
-use Rattle.fr_records.specs.declared.kind.Stop.{Stop}
+use Rattle.fr_text.specs.Told.{record_text, stop_text}
+use Rattle.fr_text.specs.declared.kind.Stop.{Stop}
 use Rattle.fr_cold.specs.declared.fault.PowerFault.{PowerFault}
 use Rattle.fr_cold.specs.declared.fault.PowerFault.TheVariants as fault
 

@@ -11,7 +11,7 @@ use crate::printing::print;
 use fr_base::{Shelf, Sink};
 use fr_params::ParamsFile;
 use fr_program::Failure;
-use fr_records::accepted;
+use fr_text::accepted;
 use std::alloc::Global;
 
 /// Reads the two files, one after the other, and writes who leads the startup that they decide. Each file is loaded

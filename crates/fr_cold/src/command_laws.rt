@@ -2,7 +2,7 @@ ghost use Rattle.fr_cluster.specs.Sane.{IsSane};
 ghost use Rattle.fr_cluster.specs.Values.{Values};
 ghost use Rattle.fr_cold.specs.Files.{PowerFits};
 ghost use Rattle.fr_cold.specs.View.{PowerView};
-ghost use Rattle.fr_records.specs.Files.{IsDecided};
+ghost use Rattle.fr_text.specs.Files.{IsDecided};
 ghost use Rattle.fr_cold.specs.ColdAnswer.{cold_files};
 ghost use Rattle.fr_cold.specs.ColdText.{IsColdText, cold_text};
 

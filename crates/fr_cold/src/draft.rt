@@ -6,7 +6,7 @@ ghost use Rattle.fr_cold.specs.Rows.{IsProperCycles};
 ghost use Rattle.fr_cold.specs.Reasons.{is_out_of_turn};
 ghost use Rattle.fr_cluster.specs.Questions.{is_known};
 ghost use Rattle.std.specs.BTreeMap.{IsOrdered};
-ghost use Rattle.fr_records.specs.Records.{FileRecord};
+ghost use Rattle.fr_text.specs.Records.{FileRecord};
 ghost use Rattle.fr_cold.specs.Files.{PowerStandsFor};
 ghost use Rattle.fr_cold.specs.Keys.{power_cmp};
 ghost use Rattle.fr_cold.specs.Draft.{IsEntryPut, IsPowerDraft, TakesPowerRow, TakesPowerRowAtOnce};

@@ -1,6 +1,6 @@
 use crate::{Power, PowerFault, read};
 use fr_cluster::Params;
-use fr_records::FileKind;
+use fr_text::FileKind;
 use std::alloc::Global;
 
 /// The kind of a power file, by the parameters of its cluster.

@@ -5,7 +5,7 @@ ghost use Rattle.fr_cold.specs.Rows.{IsProperPowerRow, cycles_row, power_file_ro
 use crate::Switch;
 use csv::ByteRecord;
 use fr_base::{NodeId, Reason};
-use fr_records::{both, field, natural, reason_of};
+use fr_text::{both, field, natural, reason_of};
 
 /// A node that is switched at a macrotick.
 #[derive(Clone, Copy, Debug, PartialEq, Eq)]

@@ -16,15 +16,15 @@ use Rattle.fr_base.specs.declared.channel.Channel.{Channel}
 use Rattle.fr_base.specs.declared.channel.Channel.TheVariants as channel
 use Rattle.fr_base.specs.declared.reason.Reason.{Reason}
 use Rattle.fr_base.specs.declared.reason.Reason.TheVariants as reason
-use Rattle.fr_records.specs.Records.{FileRecord}
-use Rattle.fr_records.specs.Refusal.{NoneRefused}
-use Rattle.fr_records.proofs.Cuts.{none-empty, none-more}
-use Rattle.fr_records.proofs.Written.{natural-decimal, within-signed}
+use Rattle.fr_text.specs.Records.{FileRecord}
+use Rattle.fr_text.specs.Refusal.{NoneRefused}
+use Rattle.fr_text.proofs.Cuts.{none-empty, none-more}
+use Rattle.fr_text.proofs.Written.{natural-decimal, within-signed}
 use Rattle.fr_cluster.specs.Values.{Values}
 use Rattle.fr_cluster.specs.Questions.{compensation_of, is_common, is_known}
-use Rattle.fr_records.specs.Fields.{looked_up}
+use Rattle.fr_text.specs.Fields.{looked_up}
 use Rattle.fr_drift.specs.Keys.{delay_cmp, delay_key, length_cmp, length_key}
-use Rattle.fr_records.specs.Keys.{found_at}
+use Rattle.fr_text.specs.Keys.{found_at}
 use Rattle.fr_drift.specs.Rows.{IsProperCount, IsProperDelay, IsMicrotickLength, IsProperStart, drift_row_of, rate_in}
 use Rattle.fr_drift.specs.Reasons.{delay_at, delay_reason, doubles_at, drift_reason_after, drift_row_reason, length_reason, length_said_at, start_at, start_reason}
 use Rattle.fr_base.specs.Within.{lies_within}

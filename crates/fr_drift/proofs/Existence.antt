@@ -10,15 +10,15 @@ use Rattle.std.proofs.lemmas.Cmp.{nat_cmp_total}
 use Rattle.fr_base.specs.declared.channel.Channel.{Channel}
 use Rattle.fr_base.specs.declared.channel.Channel.TheVariants as channel
 use Rattle.fr_base.specs.declared.reason.Reason.{Reason}
-use Rattle.fr_records.specs.Records.{FileRecord, records_of}
-use Rattle.fr_records.specs.Kind.{HasSomeAnswer, Reads}
-use Rattle.fr_records.specs.Refusal.{NoneRefused, FirstRefused}
-use Rattle.fr_records.proofs.Cuts.{none-or-first-refused}
+use Rattle.fr_text.specs.Records.{FileRecord, records_of}
+use Rattle.fr_text.specs.Kind.{HasSomeAnswer, Reads}
+use Rattle.fr_text.specs.Refusal.{NoneRefused, FirstRefused}
+use Rattle.fr_text.proofs.Cuts.{none-or-first-refused}
 use Rattle.fr_cluster.specs.Values.{Values}
 use Rattle.fr_cluster.specs.Questions.{compensation_of}
-use Rattle.fr_records.specs.Fields.{is_channel, or_else, looked_up}
+use Rattle.fr_text.specs.Fields.{is_channel, or_else, looked_up}
 use Rattle.fr_drift.specs.Keys.{delay_cmp, delay_key, length_cmp, length_key}
-use Rattle.fr_records.specs.Keys.{found_at}
+use Rattle.fr_text.specs.Keys.{found_at}
 use Rattle.fr_drift.specs.Rows.{drift_row_of}
 use Rattle.fr_drift.specs.Reasons.{drift_reason_after, doubles_at, delay_at, start_in, length_in, delay_in, is_delay_of}
 use Rattle.fr_drift.specs.View.{DriftView, compensation_on, delay_rows}

@@ -6,7 +6,7 @@ use Rattle.std.specs.declared.cmp.Ordering.TheVariants.{Less, Equal, Greater}
 use Rattle.std.specs.Ordering.{nat_cmp, ordering_then, is_gt, is_lt}
 use Rattle.std.proofs.lemmas.Bool.Decides.{nat_tests}
 use Rattle.std.proofs.lemmas.Cmp.{nat_cmp_total, tied_itself}
-use Rattle.fr_records.specs.Fields.{or_else}
+use Rattle.fr_text.specs.Fields.{or_else}
 use Rattle.fr_drift.specs.Keys.{delay_cmp, delay_key, length_cmp, length_key}
 use Rattle.fr_drift.specs.Spans.{IsFromTo, IsLastRow, IsFirstRow}
 use Rattle.fr_drift.specs.Held.{held, IsNextRow}

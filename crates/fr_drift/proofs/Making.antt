@@ -15,11 +15,11 @@ use Rattle.std.specs.FinMap.Entries.{below_all}
 use Rattle.std.proofs.lemmas.Cmp.{nat_cmp_total, on_total, then_total}
 use Rattle.fr_base.specs.declared.channel.Channel.{Channel}
 use Rattle.fr_base.specs.declared.channel.Channel.TheVariants as channel
-use Rattle.fr_records.specs.Records.{FileRecord}
+use Rattle.fr_text.specs.Records.{FileRecord}
 use Rattle.fr_cluster.specs.Values.{Values}
 use Rattle.fr_cluster.specs.Questions.{compensation_of}
 use Rattle.fr_drift.specs.Keys.{delay_cmp, length_cmp}
-use Rattle.fr_records.specs.Keys.{found_at}
+use Rattle.fr_text.specs.Keys.{found_at}
 use Rattle.fr_drift.specs.Rows.{IsProperDelay}
 use Rattle.fr_drift.specs.View.{DriftView, compensation_on, delay_rows, delays_on}
 use Rattle.fr_drift.specs.Sane.{IsDrift, IsProperCompensation}

@@ -5,9 +5,9 @@ use Rattle.std.specs.FinMap.{IsAntisymmetric, nat_cmp-IsAntisymmetric}
 use Rattle.std.proofs.lemmas.Cmp.{nat_cmp_total}
 use Rattle.std.proofs.lemmas.Map.Lookups.{exact_pairs, exact_unsigned}
 use Rattle.fr_base.specs.declared.channel.Channel.TheVariants as channel
-use Rattle.fr_records.specs.Records.{FileRecord, records_of}
-use Rattle.fr_records.specs.Kind.{HasOneAnswer}
-use Rattle.fr_records.proofs.Cuts.{first-same, refused-none}
+use Rattle.fr_text.specs.Records.{FileRecord, records_of}
+use Rattle.fr_text.specs.Kind.{HasOneAnswer}
+use Rattle.fr_text.proofs.Cuts.{first-same, refused-none}
 use Rattle.fr_cluster.specs.Values.{Values}
 use Rattle.fr_drift.specs.Keys.{delay_cmp, length_cmp, length_key}
 use Rattle.fr_drift.specs.Reasons.{drift_reason_after, doubles_at}

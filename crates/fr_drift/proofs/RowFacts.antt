@@ -3,8 +3,8 @@ use Rattle.std.proofs.Common.{◌≡◌, ℕ, List, [], length, refl, Result, Ok
 use Rattle.std.specs.Prelude.{slice_index_or}
 use Rattle.fr_base.specs.declared.numbers.NumberFault.{NumberFault}
 use Rattle.fr_base.specs.declared.numbers.NumberFault.TheVariants as fault
-use Rattle.fr_records.specs.Records.{FileRecord}
-use Rattle.fr_records.specs.Fields.{both_of}
+use Rattle.fr_text.specs.Records.{FileRecord}
+use Rattle.fr_text.specs.Fields.{both_of}
 use Rattle.fr_drift.specs.Rows.{drift_row_of, drift_file_row}
 
 pub row_of-six : (fields : FileRecord) → length fields ≡ 6

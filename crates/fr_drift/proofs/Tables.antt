@@ -9,9 +9,9 @@ use Rattle.std.proofs.lemmas.Bool.Decides.{nat_tests}
 use Rattle.fr_base.specs.declared.channel.Channel.{Channel}
 use Rattle.fr_base.specs.declared.channel.Channel.TheVariants as channel
 use Rattle.fr_base.specs.declared.reason.Reason.{Reason}
-use Rattle.fr_records.specs.Records.{FileRecord}
-use Rattle.fr_records.specs.Fields.{or_else}
-use Rattle.fr_records.proofs.Lookups.{looked_up-more, looked_up-nil, or_else-none}
+use Rattle.fr_text.specs.Records.{FileRecord}
+use Rattle.fr_text.specs.Fields.{or_else}
+use Rattle.fr_text.proofs.Lookups.{looked_up-more, looked_up-nil, or_else-none}
 use Rattle.fr_drift.specs.Keys.{delay_cmp, delay_key, length_cmp, length_key}
 use Rattle.fr_drift.specs.Rows.{IsProperCount, IsProperDelay, IsMicrotickLength, IsProperStart, drift_row_of}
 use Rattle.fr_drift.specs.Reasons.{doubles_in, start_in, length_in, delay_in, doubles_at, start_at, length_said_at, delay_at}

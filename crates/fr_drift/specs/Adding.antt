@@ -2,8 +2,8 @@
 use Rattle.std.specs.Prelude.{◌≡◌, [], ◌∷◌, ◌++◌, List, Result, Ok, Err}
 use Rattle.std.specs.BTreeMap.{BTreeMap}
 use Rattle.std.specs.declared.cmp.Ordering.{Ordering}
-use Rattle.fr_records.specs.Records.{FileRecord}
-use Rattle.fr_records.specs.Refusal.{NoneRefused}
+use Rattle.fr_text.specs.Records.{FileRecord}
+use Rattle.fr_text.specs.Refusal.{NoneRefused}
 use Rattle.fr_cluster.specs.Values.{Values}
 use Rattle.fr_drift.specs.Reasons.{drift_reason_after}
 use Rattle.fr_drift.specs.View.{DriftView}

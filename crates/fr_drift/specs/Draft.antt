@@ -6,8 +6,8 @@ use Rattle.std.specs.BTreeMap.{BTreeMap, IsOrdered, get, is_at}
 use Rattle.fr_base.specs.declared.channel.Channel.{Channel}
 use Rattle.fr_base.specs.declared.channel.Channel.TheVariants as channel
 use Rattle.fr_base.specs.declared.reason.Reason.{Reason}
-use Rattle.fr_records.specs.Records.{FileRecord}
-use Rattle.fr_records.specs.Takes.{TakesRow}
+use Rattle.fr_text.specs.Records.{FileRecord}
+use Rattle.fr_text.specs.Takes.{TakesRow}
 use Rattle.fr_cluster.specs.Values.{Values}
 use Rattle.fr_drift.specs.Keys.{delay_cmp, delay_key, length_cmp, length_key}
 use Rattle.fr_drift.specs.Reasons.{delay_at, doubles_at, drift_row_reason, length_said_at, start_at}

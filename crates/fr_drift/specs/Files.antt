@@ -3,9 +3,9 @@ use Rattle.std.specs.Prelude.{ℕ, ℤ, neg_ℤ, ◌≤ℤ◌, ◌≡◌, List, 
 use Rattle.std.specs.FinMap.{is_sorted}
 use Rattle.std.specs.Ordering.{nat_cmp}
 use Rattle.fr_base.specs.declared.channel.Channel.{Channel}
-use Rattle.fr_records.specs.Kind.{Kind}
-use Rattle.fr_records.specs.Records.{FileRecord, records_of}
-use Rattle.fr_records.specs.Refusal.{NoneRefused, FirstRefused}
+use Rattle.fr_text.specs.Kind.{Kind}
+use Rattle.fr_text.specs.Records.{FileRecord, records_of}
+use Rattle.fr_text.specs.Refusal.{NoneRefused, FirstRefused}
 use Rattle.fr_cluster.specs.Values.{Values}
 use Rattle.fr_cluster.specs.Questions.{compensation_of}
 use Rattle.fr_drift.specs.Keys.{delay_cmp, length_cmp}

@@ -1,6 +1,6 @@
 -- Of rows that stand at cycles, the one that holds in a cycle.
 use Rattle.std.specs.Prelude.{ℕ, zero, suc, ℤ, ◌≡◌, ◌<◌, ◌≤◌, Option, None, IsSome}
-use Rattle.fr_records.specs.Fields.{or_else}
+use Rattle.fr_text.specs.Fields.{or_else}
 
 -- the last row that stands at the cycle or before it
 unfoldable pub held : (ℕ → Option ℤ) → ℕ → Option ℤ

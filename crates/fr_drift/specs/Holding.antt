@@ -5,10 +5,10 @@ use Rattle.std.specs.Str.{bytes_eq}
 use Rattle.fr_base.specs.Channels.{channel_of}
 use Rattle.fr_base.specs.declared.reason.Reason.{Reason}
 use Rattle.fr_base.specs.declared.reason.Reason.TheVariants as reason
-use Rattle.fr_records.specs.Records.{FileRecord}
-use Rattle.fr_records.specs.Fields.{field_of}
-use Rattle.fr_records.specs.Forms.{Form, number_field, misses_form, has_unknown_name, has_no_number, is_out_of_range, has_bad_channels}
-use Rattle.fr_records.specs.Least.{row_passes}
+use Rattle.fr_text.specs.Records.{FileRecord}
+use Rattle.fr_text.specs.Fields.{field_of}
+use Rattle.fr_text.specs.Forms.{Form, number_field, misses_form, has_unknown_name, has_no_number, is_out_of_range, has_bad_channels}
+use Rattle.fr_text.specs.Least.{row_passes}
 use Rattle.fr_cluster.specs.Values.{Values}
 use Rattle.fr_cluster.specs.Questions.{is_common, is_known}
 use Rattle.fr_drift.specs.Rows.{drift_row_of}

@@ -5,9 +5,9 @@ use Rattle.fr_base.specs.declared.channel.Channel.{Channel}
 use Rattle.fr_base.specs.declared.reason.Reason.{Reason}
 use Rattle.fr_base.specs.declared.reason.Reason.TheVariants as reason
 use Rattle.fr_base.specs.Within.{lies_within}
-use Rattle.fr_records.specs.Records.{FileRecord}
+use Rattle.fr_text.specs.Records.{FileRecord}
 use Rattle.fr_cluster.specs.Values.{Values}
-use Rattle.fr_records.specs.Fields.{is_channel, looked_up}
+use Rattle.fr_text.specs.Fields.{is_channel, looked_up}
 use Rattle.fr_cluster.specs.Questions.{is_common, is_known}
 use Rattle.fr_drift.specs.Rows.{drift_row_of}
 use Rattle.fr_drift.specs.declared.rows.Start.{Start}

@@ -6,10 +6,10 @@ use Rattle.fr_base.specs.declared.channel.Channel.{Channel}
 use Rattle.fr_base.specs.declared.numbers.NumberFault.{NumberFault}
 use Rattle.fr_base.specs.declared.reason.Reason.{Reason}
 use Rattle.fr_base.specs.declared.reason.Reason.TheVariants as reason
-use Rattle.fr_records.specs.Records.{FileRecord}
+use Rattle.fr_text.specs.Records.{FileRecord}
 use Rattle.fr_base.specs.Channels.{channel_of}
-use Rattle.fr_records.specs.Fields.{natural_of, both_of}
-use Rattle.fr_records.specs.Fields.{is_blank, or_reason, field_of}
+use Rattle.fr_text.specs.Fields.{natural_of, both_of}
+use Rattle.fr_text.specs.Fields.{is_blank, or_reason, field_of}
 use Rattle.fr_drift.specs.declared.rows.Start.{Start}
 use Rattle.fr_drift.specs.declared.rows.Row.{Row}
 use Rattle.fr_drift.specs.declared.rows.Row.TheVariants as row

@@ -2,7 +2,7 @@
 use Rattle.std.specs.Prelude.{ℕ, ℤ, pos, ◌≤ℤ◌, IfSome}
 use Rattle.fr_base.specs.declared.channel.Channel.{Channel}
 use Rattle.fr_drift.specs.Keys.{delay_cmp, length_cmp}
-use Rattle.fr_records.specs.Keys.{found_at}
+use Rattle.fr_text.specs.Keys.{found_at}
 use Rattle.fr_drift.specs.Rows.{IsProperCount, IsProperDelay, IsMicrotickLength, IsProperStart}
 use Rattle.fr_drift.specs.View.{DriftView, compensation_on, delays_on, start_rows}
 use Rattle.fr_drift.specs.declared.keys.DelayKey.{DelayKey}

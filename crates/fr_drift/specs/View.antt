@@ -5,7 +5,7 @@ use Rattle.std.specs.Coded.{Coded, code_by, coded×, coded_list, coded_ℕ, code
 use Rattle.fr_base.specs.declared.channel.Channel.{Channel}
 use Rattle.fr_base.specs.declared.channel.Channel.TheVariants as channel
 use Rattle.fr_drift.specs.Keys.{coded_delay_key, coded_length_key, delay_cmp, delay_key, length_cmp, length_key}
-use Rattle.fr_records.specs.Keys.{found_at}
+use Rattle.fr_text.specs.Keys.{found_at}
 use Rattle.fr_drift.specs.declared.keys.DelayKey.{DelayKey}
 use Rattle.fr_drift.specs.declared.keys.LengthKey.{LengthKey}
 use Rattle.fr_drift.specs.declared.rows.Start.{Start}

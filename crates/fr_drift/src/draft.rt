@@ -5,7 +5,7 @@ ghost use Rattle.fr_cluster.specs.Values.{Values};
 ghost use Rattle.fr_drift.specs.Rows.{IsProperCount, IsProperDelay, IsMicrotickLength, IsProperStart};
 ghost use Rattle.fr_base.specs.Within.{lies_within};
 ghost use Rattle.fr_cluster.specs.Questions.{is_known};
-ghost use Rattle.fr_records.specs.Records.{FileRecord};
+ghost use Rattle.fr_text.specs.Records.{FileRecord};
 ghost use Rattle.fr_drift.specs.Files.{DriftStandsFor};
 ghost use Rattle.fr_drift.specs.Draft.{AreProper, IsDriftDraft, IsNewEntryPut, TakesDriftRow, TakesDriftRowAtOnce};
 ghost use Rattle.fr_drift.specs.declared.rows.Row.TheVariants as said;

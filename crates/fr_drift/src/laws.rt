@@ -1,7 +1,7 @@
 ghost use Rattle.std.specs.Prelude.{◌*ℤ◌, ℕ, pos};
 ghost use Rattle.fr_base.specs.declared.channel.Channel.{Channel};
-ghost use Rattle.fr_records.specs.Kind.{HasOneAnswer, HasSomeAnswer};
-ghost use Rattle.fr_records.specs.Least.{GivesLeast};
+ghost use Rattle.fr_text.specs.Kind.{HasOneAnswer, HasSomeAnswer};
+ghost use Rattle.fr_text.specs.Least.{GivesLeast};
 ghost use Rattle.fr_cluster.specs.Values.{Values};
 ghost use Rattle.fr_cluster.specs.Sane.{IsSane};
 ghost use Rattle.fr_drift.specs.View.{DriftView, compensation_on, delay_rows, length_rows};

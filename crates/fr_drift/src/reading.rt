@@ -1,5 +1,5 @@
 ghost use Rattle.std.specs.Prelude.{IfOk};
-ghost use Rattle.fr_records.specs.Kind.{Reads};
+ghost use Rattle.fr_text.specs.Kind.{Reads};
 ghost use Rattle.fr_drift.specs.Reasons.{drift_reason_after};
 ghost use Rattle.fr_drift.specs.Draft.{IsDriftDraft};
 ghost use Rattle.fr_drift.specs.Files.{DriftFits, drift_file};
@@ -11,7 +11,7 @@ use crate::rows::{Row, read_row};
 use csv::ByteRecord;
 use fr_base::{Channel, Reason};
 use fr_cluster::Params;
-use fr_records::{RowFault, Table, read_all};
+use fr_text::{RowFault, Table, read_all};
 use std::alloc::{AllocError, Global};
 
 // The tables under construction, with the parameters against which the records are read.

@@ -1,11 +1,11 @@
 ghost use Rattle.std.specs.Prelude.{◌≡◌, ◌≤ℤ◌, ◌&&◌, pos, negsuc, IfOk};
 ghost use Rattle.csv.specs.Records.{fields_of};
-ghost use Rattle.fr_records.specs.Fields.{is_blank};
+ghost use Rattle.fr_text.specs.Fields.{is_blank};
 ghost use Rattle.fr_drift.specs.Rows.{IsProperDriftRow, delay_row, doubles_row, drift_file_row, length_row, rate_in, drift_row_of, start_row};
 
 use csv::ByteRecord;
 use fr_base::{Channel, NodeId, NumberFault, Reason, number};
-use fr_records::{both, field, natural, reason_of};
+use fr_text::{both, field, natural, reason_of};
 
 /// Where a node's clock starts, in ticks, and its first rate term, in microticks.
 #[derive(Clone, Copy, Debug, PartialEq, Eq)]

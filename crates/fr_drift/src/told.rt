@@ -1,7 +1,6 @@
 use crate::fault::DriftFault;
-use fr_records::{Shown, record_line};
+use fr_text::{Line, Shown, line_of, record_line};
 use fr_text::Piece::Word;
-use fr_text::{Line, line_of};
 
 impl Shown for DriftFault {
     ghost use Rattle.std.specs.Prelude.{codes};

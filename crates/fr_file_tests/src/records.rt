@@ -3,7 +3,7 @@ ghost use Rattle.fr_base.specs.declared.reason.Reason.TheVariants as reason;
 
 use csv::ByteRecord;
 use fr_base::{Channel, Reason};
-use fr_records::{RowFault, Table, both, natural, read_all, reason_of};
+use fr_text::{RowFault, Table, both, natural, read_all, reason_of};
 use std::alloc::{AllocError, Global};
 use std::test::Fail;
 

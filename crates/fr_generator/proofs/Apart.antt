@@ -4,7 +4,7 @@ use Rattle.std.specs.Prelude.{◌==◌, ◌&&◌, ◌/◌, ◌%◌, nat_lt, if�
 use Rattle.std.proofs.lemmas.Bool.Decides.{nat_tests}
 use Rattle.fr_base.specs.declared.channel.Channel.{Channel}
 use Rattle.fr_base.specs.declared.channel.Channel.TheVariants as channel
-use Rattle.fr_records.specs.Fields.{is_channel}
+use Rattle.fr_text.specs.Fields.{is_channel}
 use Rattle.fr_generator.specs.Places.{beside, chance_at, channel_at, link_at}
 
 pub untrue : (b : Bool) → (b ≡ true → ⊥) → b ≡ false

@@ -5,10 +5,10 @@ use Rattle.std.proofs.lemmas.Bool.Decides.{nat_tests}
 use Rattle.std.proofs.lemmas.Int.{ints}
 use Rattle.fr_base.specs.declared.channel.Channel.{Channel}
 use Rattle.fr_base.specs.declared.reason.Reason.{Reason}
-use Rattle.fr_records.specs.Records.{FileRecord}
-use Rattle.fr_records.specs.Fields.{is_channel, looked_up, or_else}
-use Rattle.fr_records.specs.Refusal.{NoneRefused}
-use Rattle.fr_records.proofs.Cuts.{none-empty, none-more}
+use Rattle.fr_text.specs.Records.{FileRecord}
+use Rattle.fr_text.specs.Fields.{is_channel, looked_up, or_else}
+use Rattle.fr_text.specs.Refusal.{NoneRefused}
+use Rattle.fr_text.proofs.Cuts.{none-empty, none-more}
 use Rattle.fr_script.specs.Deeds.{passage_of}
 use Rattle.fr_script.specs.Rows.{IsProperSay, farthest, script_row_of}
 use Rattle.fr_script.specs.Reasons.{deed_by, deed_reason, deed_said, is_misplaced, is_named_in, is_same_passage, names, script_reason_after, script_row_reason}

@@ -4,11 +4,11 @@ use Rattle.std.specs.Prelude.{◌==◌, ◌&&◌, ◌/◌, ◌%◌, if◌then◌
 use Rattle.std.proofs.lemmas.Int.{ints}
 use Rattle.fr_base.specs.declared.channel.Channel.{Channel}
 use Rattle.fr_base.specs.declared.reason.Reason.{Reason}
-use Rattle.fr_records.specs.Records.{FileRecord}
-use Rattle.fr_records.specs.Fields.{is_channel, looked_up, or_else}
-use Rattle.fr_records.specs.Refusal.{NoneRefused}
-use Rattle.fr_records.proofs.Cuts.{none-more}
-use Rattle.fr_records.proofs.Lookups.{looked_up-more}
+use Rattle.fr_text.specs.Records.{FileRecord}
+use Rattle.fr_text.specs.Fields.{is_channel, looked_up, or_else}
+use Rattle.fr_text.specs.Refusal.{NoneRefused}
+use Rattle.fr_text.proofs.Cuts.{none-more}
+use Rattle.fr_text.proofs.Lookups.{looked_up-more}
 use Rattle.fr_drift.specs.Rows.{IsProperCount, IsProperDelay, IsMicrotickLength, IsProperStart, drift_row_of}
 use Rattle.fr_drift.specs.Reasons.{delay_at, delay_in, delay_reason, drift_reason_after, drift_row_reason, is_delay_of, length_in, length_reason, length_said_at, start_at, start_in, start_reason}
 use Rattle.fr_drift.specs.Written.{delay_record, doubles_record, length_record, start_record}

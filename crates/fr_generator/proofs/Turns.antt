@@ -1,6 +1,6 @@
 -- A step more, in turn.
 use Rattle.std.proofs.Common.{◌≡◌, ◌+◌, ℕ, suc, List, sym, subst, ap, ◌∙◌, refl, add-one}
-use Rattle.fr_records.specs.Records.{FileRecord}
+use Rattle.fr_text.specs.Records.{FileRecord}
 use Rattle.fr_cluster.specs.Values.{Values}
 use Rattle.fr_drift.specs.View.{DriftView}
 use Rattle.fr_drift.specs.Files.{DriftStandsFor}

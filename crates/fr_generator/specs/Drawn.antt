@@ -2,7 +2,7 @@
 use Rattle.std.specs.Prelude.{ℕ, zero, suc, List, [], ◌∷◌}
 use Rattle.rand_pcg.specs.Lcg.{Lcg, increment_of, started}
 use Rattle.rand_pcg.specs.Pcg.{multiplier_64, pcg32}
-use Rattle.fr_records.specs.Records.{FileRecord}
+use Rattle.fr_text.specs.Records.{FileRecord}
 
 -- the words of a seed: those of PCG's generator of 32-bit words at that state, on the stream 0
 abbrev pub first_words : ℕ → Lcg

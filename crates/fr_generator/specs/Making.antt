@@ -1,7 +1,7 @@
 -- What the steps do to a drift and to a script that stand for records.
 use Rattle.std.specs.Prelude.{◌≡◌, ℕ, List, Result, Ok, Err, ⊤}
-use Rattle.fr_records.specs.Records.{FileRecord}
-use Rattle.fr_records.specs.Refusal.{NoneRefused}
+use Rattle.fr_text.specs.Records.{FileRecord}
+use Rattle.fr_text.specs.Refusal.{NoneRefused}
 use Rattle.fr_cluster.specs.Values.{Values}
 use Rattle.fr_drift.specs.Reasons.{drift_reason_after}
 use Rattle.fr_drift.specs.View.{DriftView}

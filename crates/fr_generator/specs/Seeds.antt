@@ -1,6 +1,6 @@
 -- What a seed decides.
 use Rattle.std.specs.Prelude.{◌≡◌, ℕ}
-use Rattle.fr_records.specs.Refusal.{NoneRefused}
+use Rattle.fr_text.specs.Refusal.{NoneRefused}
 use Rattle.fr_drift.specs.Reasons.{drift_reason_after}
 use Rattle.fr_script.specs.Reasons.{script_reason_after}
 use Rattle.fr_generator.specs.Cluster.{made_values}

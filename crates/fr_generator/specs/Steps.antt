@@ -1,6 +1,6 @@
 -- What is drawn for each clock, each link and each chance.
 use Rattle.std.specs.Prelude.{ℕ, ℤ, pos, ◌-ℤ◌, ◌+◌, ◌%◌, ◌==◌, [], ◌∷◌, ◌++◌, if◌then◌else◌}
-use Rattle.fr_records.specs.Records.{FileRecord}
+use Rattle.fr_text.specs.Records.{FileRecord}
 use Rattle.fr_drift.specs.Written.{delay_record, length_record, start_record}
 use Rattle.fr_script.specs.Written.{say_record}
 use Rattle.fr_generator.specs.Drawn.{Drawn, draw, rest}

@@ -8,10 +8,10 @@ use Rattle.std.specs.FinMap.{FinMap, get-empty, get-insert}
 use Rattle.std.proofs.lemmas.Bool.Decides.{nat_tests}
 use Rattle.std.proofs.lemmas.Cmp.{nat_cmp_total}
 use Rattle.fr_base.specs.declared.reason.Reason.{Reason}
-use Rattle.fr_records.specs.Records.{records_of}
-use Rattle.fr_records.specs.Kind.{HasSomeAnswer, Reads}
-use Rattle.fr_records.specs.Refusal.{NoneRefused, FirstRefused}
-use Rattle.fr_records.proofs.Cuts.{none-or-first-refused}
+use Rattle.fr_text.specs.Records.{records_of}
+use Rattle.fr_text.specs.Kind.{HasSomeAnswer, Reads}
+use Rattle.fr_text.specs.Refusal.{NoneRefused, FirstRefused}
+use Rattle.fr_text.proofs.Cuts.{none-or-first-refused}
 use Rattle.fr_nm.specs.Files.{recording_of, vectors_file}
 use Rattle.fr_nm.specs.Reasons.{vectors_reason_after}
 use Rattle.fr_nm.specs.Vectors.{Recorded, folded, given_to, how_many_count, merged, one_frame, vector_in}

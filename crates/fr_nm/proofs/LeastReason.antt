@@ -7,12 +7,12 @@ use Rattle.fr_base.specs.declared.channel.Channel.{Channel}
 use Rattle.fr_base.specs.declared.numbers.NumberFault.TheVariants as fault
 use Rattle.fr_base.specs.declared.reason.Reason.{Reason}
 use Rattle.fr_base.specs.declared.reason.Reason.TheVariants as reason
-use Rattle.fr_records.specs.Records.{FileRecord}
-use Rattle.fr_records.specs.Fields.{both_of, field_of, hex_digits_in, natural_of}
-use Rattle.fr_records.specs.Forms.{number_field, misses_form, has_no_number, is_out_of_range, has_bad_channels}
-use Rattle.fr_records.specs.Least.{GivesLeast, IsLeastReason, row_passes}
-use Rattle.fr_records.proofs.LeastReasons.{least-first}
-use Rattle.fr_records.proofs.FormFacts.{IsFault, IsFormed, IsFormedBy, IsRead, formed-read, formed-sized, is_overfull, least-formed, natural-read, never, read-both}
+use Rattle.fr_text.specs.Records.{FileRecord}
+use Rattle.fr_text.specs.Fields.{both_of, field_of, hex_digits_in, natural_of}
+use Rattle.fr_text.specs.Forms.{number_field, misses_form, has_no_number, is_out_of_range, has_bad_channels}
+use Rattle.fr_text.specs.Least.{GivesLeast, IsLeastReason, row_passes}
+use Rattle.fr_text.proofs.LeastReasons.{least-first}
+use Rattle.fr_text.proofs.FormFacts.{IsFault, IsFormed, IsFormedBy, IsRead, formed-read, formed-sized, is_overfull, least-formed, natural-read, never, read-both}
 use Rattle.fr_nm.specs.Rows.{said_row, vector_row_with, vectors_row_of}
 use Rattle.fr_nm.specs.Reasons.{field_reason, vectors_reason_after, vectors_row_reason}
 use Rattle.fr_nm.specs.Holding.{are_bytes_not_hex, vectors_form, vectors_holds}

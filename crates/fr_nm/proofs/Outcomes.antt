@@ -10,9 +10,9 @@ use Rattle.std.specs.FinMap as map
 use Rattle.std.specs.FinMap.{FinMap, IsAntisymmetric, entries-from_sorted, find, get-entries, get-from_sorted, is_sorted, same_map}
 use Rattle.std.proofs.lemmas.Cmp.{nat_cmp_total}
 use Rattle.std.proofs.lemmas.Map.Lookups.{exact_unsigned}
-use Rattle.fr_records.specs.Records.{records_of}
-use Rattle.fr_records.specs.Kind.{HasOneAnswer}
-use Rattle.fr_records.proofs.Cuts.{first-same, refused-none}
+use Rattle.fr_text.specs.Records.{records_of}
+use Rattle.fr_text.specs.Kind.{HasOneAnswer}
+use Rattle.fr_text.proofs.Cuts.{first-same, refused-none}
 use Rattle.fr_nm.specs.Files.{vectors_file}
 use Rattle.fr_nm.specs.Reasons.{vectors_reason_after}
 use Rattle.fr_nm.specs.Vectors.{Recorded, folded, how_many_count}

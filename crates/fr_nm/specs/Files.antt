@@ -2,10 +2,10 @@
 use Rattle.std.specs.Prelude.{◌≡◌, ℕ, List, Option, Result, ⊤}
 use Rattle.std.specs.List.{flat_map}
 use Rattle.fr_base.specs.declared.reason.Reason.{Reason}
-use Rattle.fr_records.specs.Kind.{Kind}
-use Rattle.fr_records.specs.Records.{FileRecord, records_of}
-use Rattle.fr_records.specs.Refusal.{NoneRefused, FirstRefused}
-use Rattle.fr_records.specs.Takes.{TakesRow}
+use Rattle.fr_text.specs.Kind.{Kind}
+use Rattle.fr_text.specs.Records.{FileRecord, records_of}
+use Rattle.fr_text.specs.Refusal.{NoneRefused, FirstRefused}
+use Rattle.fr_text.specs.Takes.{TakesRow}
 use Rattle.fr_nm.specs.Rows.{vectors_row_of}
 use Rattle.fr_nm.specs.Reasons.{recorded_in, vectors_reason_after, vectors_row_reason}
 use Rattle.fr_nm.specs.Vectors.{Recorded}

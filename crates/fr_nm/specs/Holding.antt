@@ -3,10 +3,10 @@ use Rattle.std.specs.Prelude.{Bool, true, false, nat_le, List, [], ◌∷◌, le
 use Rattle.fr_base.specs.Channels.{channel_of}
 use Rattle.fr_base.specs.declared.reason.Reason.{Reason}
 use Rattle.fr_base.specs.declared.reason.Reason.TheVariants as reason
-use Rattle.fr_records.specs.Records.{FileRecord}
-use Rattle.fr_records.specs.Fields.{field_of}
-use Rattle.fr_records.specs.Forms.{Form, number_field, misses_form, has_no_number, is_out_of_range, has_bad_channels}
-use Rattle.fr_records.specs.Least.{row_passes}
+use Rattle.fr_text.specs.Records.{FileRecord}
+use Rattle.fr_text.specs.Fields.{field_of}
+use Rattle.fr_text.specs.Forms.{Form, number_field, misses_form, has_no_number, is_out_of_range, has_bad_channels}
+use Rattle.fr_text.specs.Least.{row_passes}
 use Rattle.fr_nm.specs.Rows.{vectors_row_of}
 use Rattle.fr_nm.specs.declared.rows.Row.{Row}
 

@@ -5,7 +5,7 @@ use Rattle.fr_nm.specs.Text.{nm_text}
 use Rattle.fr_nm.specs.Told.{vectors_says}
 use Rattle.fr_nm.specs.View.{VectorsView}
 use Rattle.fr_program.specs.Command.{Command}
-use Rattle.fr_records.specs.Files.{Files, IsNeverSaid, file, text}
+use Rattle.fr_text.specs.Files.{Files, IsNeverSaid, file, text}
 
 -- the lines of the vectors in a file
 abbrev pub nm_files : ℕ → Files

@@ -6,8 +6,8 @@ use Rattle.fr_base.specs.Channels.{channel_of}
 use Rattle.fr_base.specs.declared.numbers.NumberFault.TheVariants as fault
 use Rattle.fr_base.specs.declared.reason.Reason.{Reason}
 use Rattle.fr_base.specs.declared.reason.Reason.TheVariants as reason
-use Rattle.fr_records.specs.Records.{FileRecord}
-use Rattle.fr_records.specs.Fields.{both_of, field_of, hex_digits_in, natural_of, or_reason}
+use Rattle.fr_text.specs.Records.{FileRecord}
+use Rattle.fr_text.specs.Fields.{both_of, field_of, hex_digits_in, natural_of, or_reason}
 use Rattle.fr_nm.specs.declared.rows.Row.{Row}
 
 -- the bytes that a field writes; none where it is not hexadecimal

@@ -1,7 +1,7 @@
 -- What is said of a stop at a recording of vectors.
 use Rattle.std.specs.Prelude.{ℕ, List, ◌++◌, codes}
-use Rattle.fr_records.specs.Told.{record_text, stop_text}
-use Rattle.fr_records.specs.declared.kind.Stop.{Stop}
+use Rattle.fr_text.specs.Told.{record_text, stop_text}
+use Rattle.fr_text.specs.declared.kind.Stop.{Stop}
 use Rattle.fr_nm.specs.declared.fault.FileFault.{FileFault}
 use Rattle.fr_nm.specs.declared.fault.FileFault.TheVariants as fault
 

@@ -7,7 +7,7 @@ ghost use Rattle.fr_nm.specs.NmAnswer.{nm_command};
 use crate::VectorsFile;
 use fr_base::{Shelf, Sink};
 use fr_program::Failure;
-use fr_records::accepted;
+use fr_text::accepted;
 use std::alloc::Global;
 
 /// Writes a line for each cycle of the recording in the file that has a network management vector of so many bytes, 1

@@ -1,11 +1,11 @@
 ghost use Rattle.std.specs.Prelude.{◌≡◌, ◌≤◌, IfOk};
-ghost use Rattle.fr_records.specs.Kind.{Reads};
+ghost use Rattle.fr_text.specs.Kind.{Reads};
 ghost use Rattle.fr_nm.specs.Files.{vectors_file};
 
 use crate::fault::FileFault;
 use crate::reading::Reading;
 use crate::vectors::Vectors;
-use fr_records::{RowFault, read_all};
+use fr_text::{RowFault, read_all};
 use std::alloc::Global;
 
 /// Folds the vectors of a recording, of so many bytes each, 1 to 12. It accepts exactly the files of which no record is

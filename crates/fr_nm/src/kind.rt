@@ -1,7 +1,7 @@
 ghost use Rattle.std.specs.Prelude.{◌≡◌, ◌≤◌};
 
 use crate::{FileFault, Vectors, fold};
-use fr_records::FileKind;
+use fr_text::FileKind;
 use std::alloc::Global;
 use std::marker::Model;
 

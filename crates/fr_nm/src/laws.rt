@@ -1,6 +1,6 @@
 ghost use Rattle.std.specs.Prelude.{◌≡◌, IsPermutation, List, ℕ};
-ghost use Rattle.fr_records.specs.Kind.{HasOneAnswer, HasSomeAnswer};
-ghost use Rattle.fr_records.specs.Least.{GivesLeast};
+ghost use Rattle.fr_text.specs.Kind.{HasOneAnswer, HasSomeAnswer};
+ghost use Rattle.fr_text.specs.Least.{GivesLeast};
 ghost use Rattle.fr_nm.specs.Files.{vectors_file};
 ghost use Rattle.fr_nm.specs.Holding.{vectors_holds};
 ghost use Rattle.fr_nm.specs.Laws.{IsAgain};

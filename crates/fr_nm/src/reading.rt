@@ -6,7 +6,7 @@ use crate::rows::{Row, read_row};
 use crate::vectors::Vectors;
 use csv::ByteRecord;
 use fr_base::Reason;
-use fr_records::Table;
+use fr_text::Table;
 use std::alloc::{AllocError, Global};
 
 // The vectors of the records so far.

@@ -1,11 +1,11 @@
 ghost use Rattle.std.specs.Prelude.{◌≡◌, ◌≤◌, length, IfOk};
 ghost use Rattle.csv.specs.Records.{fields_of};
 ghost use Rattle.fr_nm.specs.Rows.{hex_bytes_in, said_row, vectors_row_of};
-ghost use Rattle.fr_records.specs.Fields.{hex_digits_in};
+ghost use Rattle.fr_text.specs.Fields.{hex_digits_in};
 
 use csv::ByteRecord;
 use fr_base::{Channel, NumberFault, Reason};
-use fr_records::{both, field, natural, reason_of};
+use fr_text::{both, field, natural, reason_of};
 use hex::FromHexError;
 use std::alloc::{AllocError, Global};
 use std::marker::Model;

@@ -4,8 +4,8 @@ use Rattle.std.specs.Prelude.{if◌then◌else◌, is_none, is_some, not, slice_
 use Rattle.std.proofs.lemmas.List.{append-nil}
 use Rattle.fr_base.specs.declared.reason.Reason.{Reason}
 use Rattle.fr_base.specs.declared.reason.Reason.TheVariants as reason
-use Rattle.fr_records.specs.Records.{FileRecord, records_of}
-use Rattle.fr_records.specs.Refusal.{NoneRefused}
+use Rattle.fr_text.specs.Records.{FileRecord, records_of}
+use Rattle.fr_text.specs.Refusal.{NoneRefused}
 use Rattle.fr_cluster.specs.Constraints.{AllHold, Amounts, key_slots}
 use Rattle.fr_params.specs.Making.{IsMadeOf}
 use Rattle.fr_params.specs.Names.{place}

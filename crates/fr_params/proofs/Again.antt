@@ -1,6 +1,6 @@
 -- Upgrading an upgraded file gives the same bytes.
 use Rattle.std.proofs.Common.{◌≡◌, ℕ, List, Result, Ok, ap}
-use Rattle.fr_records.specs.Kind.{HasOneAnswer}
+use Rattle.fr_text.specs.Kind.{HasOneAnswer}
 use Rattle.fr_cluster.specs.Sane.{IsSane}
 use Rattle.fr_cluster.specs.Values.{Values}
 use Rattle.fr_params.specs.Files.{IsParamsFile, params_file}

@@ -6,7 +6,7 @@ use Rattle.std.proofs.lemmas.Bool.Decides.{nat_tests}
 use Rattle.std.proofs.lemmas.List.Elements.{All-head, All-tail}
 use Rattle.fr_cluster.proofs.KeyNodes.{AllPairs-rest, Contains-cons_cases}
 use Rattle.fr_params.specs.Lists.{as_list, listed}
-use Rattle.fr_records.proofs.Lines.{and-left, and-right}
+use Rattle.fr_text.proofs.RecordLines.{and-left, and-right}
 
 -- the numbers ascend, from this one on
 pub Ascend : {X : Type 0} → (X → ℕ) → ℕ → List X → Type 0

@@ -7,8 +7,8 @@ use Rattle.std.proofs.lemmas.List.Elements.{All-nil, All-push}
 use Rattle.fr_base.specs.declared.numbers.NumberFault.{NumberFault}
 use Rattle.fr_base.specs.declared.reason.Reason.{Reason}
 use Rattle.fr_base.specs.declared.reason.Reason.TheVariants as reason
-use Rattle.fr_records.specs.Fields.{field_of, is_blank, looked_up, or_else, or_reason}
-use Rattle.fr_records.specs.Records.{FileRecord, records_of}
+use Rattle.fr_text.specs.Fields.{field_of, is_blank, looked_up, or_else, or_reason}
+use Rattle.fr_text.specs.Records.{FileRecord, records_of}
 use Rattle.fr_params.specs.Names.{name_of}
 use Rattle.fr_cluster.specs.declared.names.ParamName.{ParamName}
 use Rattle.fr_params.specs.declared.names.Version.{Version}

@@ -5,10 +5,10 @@ use Rattle.std.specs.List.{range_with_len}
 use Rattle.std.proofs.lemmas.Bool.{cases_eq}
 use Rattle.std.proofs.lemmas.List.FromFn.{get_or-map-range_with_len}
 use Rattle.fr_base.specs.declared.reason.Reason.{Reason}
-use Rattle.fr_records.specs.Records.{FileRecord, records_of}
-use Rattle.fr_records.specs.Kind.{HasSomeAnswer, Reads}
-use Rattle.fr_records.specs.Refusal.{NoneRefused, FirstRefused}
-use Rattle.fr_records.proofs.Cuts.{none-or-first-refused}
+use Rattle.fr_text.specs.Records.{FileRecord, records_of}
+use Rattle.fr_text.specs.Kind.{HasSomeAnswer, Reads}
+use Rattle.fr_text.specs.Refusal.{NoneRefused, FirstRefused}
+use Rattle.fr_text.proofs.Cuts.{none-or-first-refused}
 use Rattle.fr_cluster.specs.Numbers.{values_in}
 use Rattle.fr_cluster.specs.Values.{Values, amount}
 use Rattle.fr_cluster.specs.Constraints.{ConstraintHolds, FirstFails, key_slots}

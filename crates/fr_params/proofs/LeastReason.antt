@@ -8,12 +8,12 @@ use Rattle.fr_base.specs.declared.numbers.NumberFault.TheVariants as fault
 use Rattle.fr_base.specs.declared.reason.Reason.{Reason}
 use Rattle.fr_base.specs.declared.reason.Reason.TheVariants as reason
 use Rattle.fr_base.specs.Number.{number_of, within}
-use Rattle.fr_records.specs.Records.{FileRecord}
-use Rattle.fr_records.specs.Fields.{both_of, field_of, is_blank, natural_of}
-use Rattle.fr_records.specs.Forms.{number_field, is_no_number, is_number_outside, misses_form, has_unknown_name, has_no_number, is_out_of_range, has_bad_channels}
-use Rattle.fr_records.specs.Least.{GivesLeast, IsLeastReason, row_passes}
-use Rattle.fr_records.proofs.LeastReasons.{least-first}
-use Rattle.fr_records.proofs.FormFacts.{IsFault, IsFormed, IsFormedBy, IsRead, is_overfull, formed-if, formed-read, formed-sized, least-formed, natural-read, never, read-both, within-read}
+use Rattle.fr_text.specs.Records.{FileRecord}
+use Rattle.fr_text.specs.Fields.{both_of, field_of, is_blank, natural_of}
+use Rattle.fr_text.specs.Forms.{number_field, is_no_number, is_number_outside, misses_form, has_unknown_name, has_no_number, is_out_of_range, has_bad_channels}
+use Rattle.fr_text.specs.Least.{GivesLeast, IsLeastReason, row_passes}
+use Rattle.fr_text.proofs.LeastReasons.{least-first}
+use Rattle.fr_text.proofs.FormFacts.{IsFault, IsFormed, IsFormedBy, IsRead, is_overfull, formed-if, formed-read, formed-sized, least-formed, natural-read, never, read-both, within-read}
 use Rattle.fr_params.specs.Names.{name_of, place}
 use Rattle.fr_cluster.specs.Ranges.{least, greatest, has_turn, is_keyless_starter}
 use Rattle.fr_cluster.specs.declared.names.ParamName.{ParamName}

@@ -5,7 +5,7 @@ use Rattle.std.specs.Prelude.{All, AllPairs, Contains, IsSome, get_or}
 use Rattle.std.proofs.lemmas.List.{append-nil, map-append}
 use Rattle.std.proofs.lemmas.List.Elements.{All-nil, All-push, Contains-append_left, Contains-push}
 use Rattle.std.proofs.lemmas.List.Quantifiers.{all_pairs_push}
-use Rattle.fr_records.specs.Records.{FileRecord}
+use Rattle.fr_text.specs.Records.{FileRecord}
 use Rattle.fr_params.specs.Draft.{entry, AreTables}
 use Rattle.fr_params.specs.Lists.{as_list, listed}
 use Rattle.fr_cluster.specs.Sane.{IsSaneNode, IsSaneSlot, AreSaneLists}

@@ -3,9 +3,9 @@ use Rattle.std.proofs.Common.{◌≡◌, ℕ, ℤ, Bool, true, false, List, [], 
 use Rattle.std.specs.Prelude.{All, find, option_map, ◌==◌, if◌then◌else◌}
 use Rattle.std.proofs.lemmas.List.Elements.{All-head, All-tail}
 use Rattle.fr_base.specs.declared.reason.Reason.{Reason}
-use Rattle.fr_records.proofs.Lookups.{or_else-none}
-use Rattle.fr_records.specs.Fields.{looked_up, or_else}
-use Rattle.fr_records.specs.Records.{FileRecord}
+use Rattle.fr_text.proofs.Lookups.{or_else-none}
+use Rattle.fr_text.specs.Fields.{looked_up, or_else}
+use Rattle.fr_text.specs.Records.{FileRecord}
 use Rattle.fr_params.specs.Names.{place}
 use Rattle.fr_cluster.specs.Values.{Values, figure}
 use Rattle.fr_cluster.specs.declared.names.ParamName.{ParamName}

@@ -3,9 +3,9 @@ use Rattle.std.proofs.Common.{◌≡◌, ℕ, ℤ, zero, suc, ◌<◌, List, Opt
 use Rattle.std.specs.Prelude.{IsSome, nat_lt}
 use Rattle.std.proofs.lemmas.Bool.{cases_eq}
 use borrow.Author.Tests.{ltb-true, ltb-false}
-use Rattle.fr_records.specs.Records.{FileRecord, records_of}
-use Rattle.fr_records.specs.Kind.{HasOneAnswer}
-use Rattle.fr_records.proofs.Cuts.{first-same, refused-none}
+use Rattle.fr_text.specs.Records.{FileRecord, records_of}
+use Rattle.fr_text.specs.Kind.{HasOneAnswer}
+use Rattle.fr_text.proofs.Cuts.{first-same, refused-none}
 use Rattle.fr_params.specs.Names.{place}
 use Rattle.fr_params.specs.Reasons.{param_reason_after}
 use Rattle.fr_params.specs.Versions.{is_of_version, name_at, row_name, version_of}

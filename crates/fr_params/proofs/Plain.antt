@@ -8,8 +8,8 @@ use Rattle.fr_cluster.specs.declared.names.ParamName.{ParamName}
 use Rattle.fr_cluster.specs.declared.names.ParamName.TheVariants as name
 use Rattle.fr_cluster.specs.declared.nodes.NodeSpec.{NodeSpec}
 use Rattle.fr_cluster.specs.declared.nodes.SlotSpec.{SlotSpec}
-use Rattle.fr_records.proofs.Plain.{decimal-plain}
-use Rattle.fr_records.specs.Texts.{is_plain_field, is_plain_record}
+use Rattle.fr_text.proofs.Plain.{decimal-plain}
+use Rattle.fr_text.specs.Texts.{is_plain_field, is_plain_record}
 use Rattle.fr_params.proofs.Says.{amount-below}
 use Rattle.fr_params.specs.Texts.{channels_text, coldstart_text, key_text, node_record, param_record, slot_record, version_record}
 

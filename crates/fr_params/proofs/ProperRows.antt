@@ -9,8 +9,8 @@ use Rattle.fr_base.specs.declared.numbers.NumberFault.{NumberFault}
 use Rattle.fr_base.specs.declared.numbers.NumberFault.TheVariants as fault
 use Rattle.fr_base.specs.declared.reason.Reason.{Reason}
 use Rattle.fr_base.specs.declared.reason.Reason.TheVariants as reason
-use Rattle.fr_records.specs.Records.{FileRecord}
-use Rattle.fr_records.specs.Fields.{both_of, field_of, is_blank, natural_of, natural_within, or_reason}
+use Rattle.fr_text.specs.Records.{FileRecord}
+use Rattle.fr_text.specs.Fields.{both_of, field_of, is_blank, natural_of, natural_within, or_reason}
 use Rattle.fr_params.specs.Names.{name_of}
 use Rattle.fr_cluster.specs.Ranges.{greatest, least, InRange}
 use Rattle.fr_cluster.specs.declared.names.ParamName.{ParamName}

@@ -3,10 +3,10 @@ use Rattle.std.proofs.Common.{◌≡◌, ◌+◌, ◌<◌, ◌≤◌, ℕ, List,
 use Rattle.std.specs.Prelude.{get_or, slice_get}
 use Rattle.std.proofs.lemmas.List.{drop_all, drop_more}
 use Rattle.std.proofs.lemmas.Option.{get_or_from_slice_get}
-use Rattle.fr_records.specs.Records.{FileRecord}
+use Rattle.fr_text.specs.Records.{FileRecord}
 use Rattle.fr_cluster.specs.Values.{Values}
 use Rattle.fr_params.specs.declared.names.TheConstants.{NAMES_OF_TWO}
-use Rattle.fr_records.specs.Texts.{line_of_record, text_of_records}
+use Rattle.fr_text.specs.Texts.{line_of_record, text_of_records}
 use Rattle.fr_params.specs.Texts.{node_record, param_record, slot_record, upgraded_text, version_record}
 
 text-append : (xs ys : List FileRecord) → text_of_records (xs ++ ys) ≡ text_of_records xs ++ text_of_records ys

@@ -4,8 +4,8 @@ use Rattle.std.specs.Prelude.{◌==◌, ◌||◌, IfSome, nat_abs, codes}
 use Rattle.std.specs.Fmt.{decimal}
 use Rattle.std.proofs.lemmas.Fmt.{decimal_is_IsNumeral}
 use Rattle.std.proofs.lemmas.Int.{ints}
-use Rattle.fr_records.proofs.Written.{natural-decimal, within-signed}
-use Rattle.fr_records.specs.Fields.{is_blank, natural_of}
+use Rattle.fr_text.proofs.Written.{natural-decimal, within-signed}
+use Rattle.fr_text.specs.Fields.{is_blank, natural_of}
 use Rattle.fr_params.specs.Names.{name_of, word_of}
 use Rattle.fr_cluster.specs.Ranges.{greatest, least, InRange, IsProperSlot}
 use Rattle.fr_cluster.specs.Sane.{IsSaneNode}

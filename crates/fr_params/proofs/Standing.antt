@@ -1,7 +1,7 @@
 -- Parameters that are made of what the tables hold.
 use Rattle.std.proofs.Common.{◌≡◌, ℕ, ℤ, List, Option, Some, ap, sym, ◌∙◌, arith, subst}
-use Rattle.fr_records.specs.Records.{FileRecord}
-use Rattle.fr_records.specs.Refusal.{NoneRefused}
+use Rattle.fr_text.specs.Records.{FileRecord}
+use Rattle.fr_text.specs.Refusal.{NoneRefused}
 use Rattle.fr_params.specs.Names.{place}
 use Rattle.fr_cluster.specs.Values.{Values, figure, amount}
 use Rattle.fr_cluster.specs.Numbers.{number_in, amount_in}

@@ -7,11 +7,11 @@ use Rattle.std.specs.Prelude.{nat_lt as ltb}
 use borrow.Author.Tests.{ltb-true, ltb-false}
 use Rattle.std.proofs.lemmas.List.{get_or-replicate, length-replicate, get_or-set_same, get_or-set_other, length-set, get_or_default, get_or_past}
 use Rattle.fr_base.specs.declared.reason.Reason.{Reason}
-use Rattle.fr_records.specs.Records.{FileRecord}
+use Rattle.fr_text.specs.Records.{FileRecord}
 use Rattle.fr_params.specs.Names.{place}
 use Rattle.fr_params.specs.Rows.{param_row_of, param_file_row}
 use Rattle.fr_cluster.specs.Ranges.{InRange, IsProperNode, IsProperSlot, has_turn, is_keyless_starter}
-use Rattle.fr_records.specs.Fields.{or_else}
+use Rattle.fr_text.specs.Fields.{or_else}
 use Rattle.fr_params.specs.Reasons.{value_said, node_said, slot_said, value_at, node_at, slot_at}
 use Rattle.fr_params.specs.Draft.{entry, Shows, IsNodeAt, IsSlotAt, AreTables}
 use Rattle.fr_cluster.specs.declared.names.ParamName.{ParamName}
@@ -21,7 +21,7 @@ use Rattle.fr_params.specs.declared.rows.Row.{Row}
 use Rattle.fr_params.specs.declared.rows.Row.TheVariants as row
 use Rattle.fr_params.specs.declared.draft.Tables.{Tables}
 use Rattle.fr_params.specs.declared.names.Version.{Version}
-use Rattle.fr_records.proofs.Lookups.{looked_up-more, looked_up-nil, or_else-none}
+use Rattle.fr_text.proofs.Lookups.{looked_up-more, looked_up-nil, or_else-none}
 use Rattle.fr_params.proofs.Places.{place-one, place-lt}
 
 -- what a record of five fields says

@@ -4,8 +4,8 @@ use Rattle.std.specs.Prelude.{if◌then◌else◌, is_none, not}
 use Rattle.std.specs.declared.alloc.AllocError.{AllocError}
 use Rattle.fr_base.specs.declared.reason.Reason.{Reason}
 use Rattle.fr_base.specs.declared.reason.Reason.TheVariants as reason
-use Rattle.fr_records.specs.Records.{FileRecord}
-use Rattle.fr_records.specs.Takes.{TakesRecord}
+use Rattle.fr_text.specs.Records.{FileRecord}
+use Rattle.fr_text.specs.Takes.{TakesRecord}
 use Rattle.fr_params.specs.declared.names.Version.{Version}
 use Rattle.fr_params.specs.Rows.{param_row_of}
 use Rattle.fr_params.specs.Versions.{version_by, version_of, version_with}

@@ -4,7 +4,7 @@ use Rattle.fr_base.specs.Device.{Shelved}
 use Rattle.fr_cluster.specs.Values.{Values}
 use Rattle.fr_params.proofs.Outcomes.{reads-same}
 use Rattle.fr_params.specs.Files.{params_file}
-use Rattle.fr_records.specs.Kind.{Has}
+use Rattle.fr_text.specs.Kind.{Has}
 use Rattle.fr_params.proofs.Again.{files-upgraded}
 use Rattle.fr_params.specs.Texts.{upgraded_text}
 use Rattle.fr_params.specs.UpgradeAnswer.{IsUpgrade}

@@ -6,9 +6,9 @@ use Rattle.std.proofs.lemmas.List.{map-append}
 use Rattle.std.proofs.lemmas.List.Elements.{All-head, All-tail, All-nil, All-cons}
 use Rattle.std.proofs.lemmas.List.Folds.{list_all-append}
 use Rattle.fr_base.specs.declared.reason.Reason.{Reason}
-use Rattle.fr_records.proofs.Cuts.{none-empty, none-more}
-use Rattle.fr_records.specs.Records.{FileRecord, records_of}
-use Rattle.fr_records.specs.Refusal.{NoneRefused, Refusing}
+use Rattle.fr_text.proofs.Cuts.{none-empty, none-more}
+use Rattle.fr_text.specs.Records.{FileRecord, records_of}
+use Rattle.fr_text.specs.Refusal.{NoneRefused, Refusing}
 use Rattle.fr_params.specs.Names.{place}
 use Rattle.fr_cluster.specs.Ranges.{has_turn, is_keyless_starter}
 use Rattle.fr_cluster.specs.Sane.{IsSane, IsSaneNode, IsSaneSlot}
@@ -27,8 +27,8 @@ use Rattle.fr_params.specs.Rows.{param_row_of}
 use Rattle.fr_params.specs.Versions.{is_of_version}
 use Rattle.fr_params.specs.declared.rows.Row.{Row}
 use Rattle.fr_params.specs.declared.rows.Row.TheVariants as row
-use Rattle.fr_records.proofs.Lines.{and-left, and-right, records-read-back}
-use Rattle.fr_records.specs.Texts.{is_plain_record}
+use Rattle.fr_text.proofs.RecordLines.{and-left, and-right, records-read-back}
+use Rattle.fr_text.specs.Texts.{is_plain_record}
 use Rattle.fr_params.proofs.Ascending.{Ascend, ascend, ascend-tested, at_number, listed-back, none-before, some-found}
 use Rattle.fr_params.proofs.Looked.{Say, SaysNode, SaysSlot, SaysValue, node-in, slot-in, value-in}
 use Rattle.fr_params.proofs.Plain.{node-plain, param-plain, slot-plain}

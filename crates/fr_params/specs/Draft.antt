@@ -1,9 +1,9 @@
 -- What the tables under construction hold of the records so far.
 use Rattle.std.specs.Prelude.{ℕ, ℤ, pos, ◌≡◌, ◌<◌, true, false, List, [], ◌∷◌, length, Option, Some, None, IsSome, Result, Ok, slice_index_or}
 use Rattle.fr_base.specs.declared.reason.Reason.{Reason}
-use Rattle.fr_records.specs.Records.{FileRecord, records_of}
-use Rattle.fr_records.specs.Refusal.{NoneRefused}
-use Rattle.fr_records.specs.Takes.{TakesRow}
+use Rattle.fr_text.specs.Records.{FileRecord, records_of}
+use Rattle.fr_text.specs.Refusal.{NoneRefused}
+use Rattle.fr_text.specs.Takes.{TakesRow}
 use Rattle.fr_params.specs.Names.{place}
 use Rattle.fr_cluster.specs.Ranges.{InRange, IsProperNode, IsProperSlot, has_turn, is_keyless_starter}
 use Rattle.fr_params.specs.Reasons.{value_at, node_at, slot_at, param_reason_after, param_row_reason}

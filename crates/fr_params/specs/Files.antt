@@ -1,8 +1,8 @@
 -- What a parameter file stands for, and why it is refused.
 use Rattle.std.specs.Prelude.{ℕ, ℤ, ◌≡◌, ◌<◌, List, Option, Some, None, IsSome, true, ⊤}
-use Rattle.fr_records.specs.Kind.{Kind}
-use Rattle.fr_records.specs.Records.{FileRecord, records_of}
-use Rattle.fr_records.specs.Refusal.{NoneRefused, FirstRefused}
+use Rattle.fr_text.specs.Kind.{Kind}
+use Rattle.fr_text.specs.Records.{FileRecord, records_of}
+use Rattle.fr_text.specs.Refusal.{NoneRefused, FirstRefused}
 use Rattle.fr_params.specs.Names.{place}
 use Rattle.fr_params.specs.Reasons.{value_at, node_at, slot_at, param_reason_after}
 use Rattle.fr_params.specs.Versions.{is_of_version, row_name, version_of}

@@ -1,11 +1,11 @@
 -- Why a record of a parameter file is refused after the records before it: what the earlier records say
 -- is looked up in their list.
 use Rattle.std.specs.Prelude.{ℕ, ℤ, Bool, true, false, not, ◌==◌, List, [], ◌∷◌, Option, Some, None, is_some, is_none, Result, Ok, Err, if◌then◌else◌}
-use Rattle.fr_records.specs.Fields.{looked_up}
+use Rattle.fr_text.specs.Fields.{looked_up}
 use Rattle.fr_cluster.specs.Ranges.{has_turn, is_keyless_starter}
 use Rattle.fr_base.specs.declared.reason.Reason.{Reason}
 use Rattle.fr_base.specs.declared.reason.Reason.TheVariants as reason
-use Rattle.fr_records.specs.Records.{FileRecord}
+use Rattle.fr_text.specs.Records.{FileRecord}
 use Rattle.fr_params.specs.Names.{place}
 use Rattle.fr_params.specs.Rows.{param_row_of}
 use Rattle.fr_params.specs.Versions.{version_with}

@@ -6,8 +6,8 @@ use Rattle.fr_base.specs.Number.{number_of, within}
 use Rattle.fr_base.specs.declared.numbers.NumberFault.{NumberFault}
 use Rattle.fr_base.specs.declared.reason.Reason.{Reason}
 use Rattle.fr_base.specs.declared.reason.Reason.TheVariants as reason
-use Rattle.fr_records.specs.Records.{FileRecord}
-use Rattle.fr_records.specs.Fields.{natural_of, both_of, is_blank, or_reason, field_of}
+use Rattle.fr_text.specs.Records.{FileRecord}
+use Rattle.fr_text.specs.Fields.{natural_of, both_of, is_blank, or_reason, field_of}
 use Rattle.fr_params.specs.Names.{name_of}
 use Rattle.fr_cluster.specs.declared.names.ParamName.{ParamName}
 use Rattle.fr_params.specs.declared.names.Version.{Version}

@@ -1,14 +1,14 @@
 -- The text of parameters as a file of version 2: numbers without leading zeros, and empty the fields that a form leaves empty.
 use Rattle.std.specs.Prelude.{ℕ, Bool, true, false, List, [], ◌∷◌, ◌++◌, Option, Some, None, codes, map}
 use Rattle.std.specs.Fmt.{decimal}
-use Rattle.fr_records.specs.Records.{FileRecord}
+use Rattle.fr_text.specs.Records.{FileRecord}
 use Rattle.fr_params.specs.Names.{word_of}
 use Rattle.fr_cluster.specs.Values.{Values, amount}
 use Rattle.fr_cluster.specs.declared.names.ParamName.{ParamName}
 use Rattle.fr_params.specs.declared.names.TheConstants.{NAMES_OF_TWO}
 use Rattle.fr_cluster.specs.declared.nodes.NodeSpec.{NodeSpec}
 use Rattle.fr_cluster.specs.declared.nodes.SlotSpec.{SlotSpec}
-use Rattle.fr_records.specs.Texts.{text_of_records}
+use Rattle.fr_text.specs.Texts.{text_of_records}
 
 -- `version,2,,,`
 abbrev pub version_record : FileRecord

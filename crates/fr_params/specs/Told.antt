@@ -2,8 +2,8 @@
 use Rattle.std.specs.Prelude.{ℕ, List, ◌++◌, codes}
 use Rattle.std.specs.Fmt.{decimal}
 use Rattle.fr_params.specs.Names.{word_of}
-use Rattle.fr_records.specs.Told.{record_text, stop_text}
-use Rattle.fr_records.specs.declared.kind.Stop.{Stop}
+use Rattle.fr_text.specs.Told.{record_text, stop_text}
+use Rattle.fr_text.specs.declared.kind.Stop.{Stop}
 use Rattle.fr_params.specs.declared.fault.ParamFault.{ParamFault}
 use Rattle.fr_params.specs.declared.fault.ParamFault.TheVariants as fault
 

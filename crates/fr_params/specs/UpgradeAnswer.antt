@@ -4,7 +4,7 @@ use Rattle.fr_cluster.specs.Values.{Values}
 use Rattle.fr_params.specs.Files.{params_file}
 use Rattle.fr_params.specs.Told.{params_says}
 use Rattle.fr_program.specs.Command.{Command}
-use Rattle.fr_records.specs.Files.{Files, IsNeverSaid, file, text}
+use Rattle.fr_text.specs.Files.{Files, IsNeverSaid, file, text}
 use Rattle.fr_params.specs.Texts.{upgraded_text}
 use Rattle.fr_params.specs.Upgrades.{IsUpgraded}
 

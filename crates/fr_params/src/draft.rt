@@ -12,7 +12,7 @@ use crate::rows::{Row, read_row, version_by};
 use csv::ByteRecord;
 use fr_base::{NodeId, Reason, Slot};
 use fr_cluster::{NodeSpec, ParamName, SlotSpec};
-use fr_records::Table;
+use fr_text::Table;
 use std::alloc::AllocError;
 
 // What the records so far say: the version that the first of them says, none before it, and the tables.

@@ -1,7 +1,7 @@
 ghost use Rattle.std.specs.Prelude.{◌≡◌, ◌<◌, ◌++◌, ℕ, pos, Some, IfOk, IfErr, OnOk, slice_index_or};
-ghost use Rattle.fr_records.specs.Records.{records_of};
-ghost use Rattle.fr_records.specs.Refusal.{NoneRefused};
-ghost use Rattle.fr_records.specs.Kind.{Reads};
+ghost use Rattle.fr_text.specs.Records.{records_of};
+ghost use Rattle.fr_text.specs.Refusal.{NoneRefused};
+ghost use Rattle.fr_text.specs.Kind.{Reads};
 ghost use Rattle.fr_params.specs.Reasons.{param_reason_after};
 ghost use Rattle.fr_cluster.specs.Values.{figure};
 ghost use Rattle.fr_cluster.specs.Numbers.{AreInRange, amount_in, number_in};
@@ -19,7 +19,7 @@ use crate::fault::ParamFault;
 use crate::making::{ClusterFault, params_of};
 use crate::names::{NAMES_OF_TWO, Version, place_of};
 use fr_cluster::{NodeSpec, ParamName, Params, SlotSpec};
-use fr_records::{RowFault, read_all};
+use fr_text::{RowFault, read_all};
 use std::alloc::{AllocError, Global};
 
 /// Reads a parameter file. A file whose first record is `version,2,,,` is of version 2, any other of version 1:

@@ -8,7 +8,7 @@ use crate::names::{Version, greatest_of, least_of, name_of};
 use csv::ByteRecord;
 use fr_base::{NodeId, NumberFault, Reason, Slot, number};
 use fr_cluster::{NodeSpec, ParamName, SlotSpec};
-use fr_records::{both, field, natural, reason_of};
+use fr_text::{both, field, natural, reason_of};
 
 /// What a record of a parameter file says by itself.
 #[derive(Clone, Copy)]

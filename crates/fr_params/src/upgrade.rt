@@ -7,7 +7,7 @@ ghost use Rattle.fr_program.specs.Failure.{EndingWritesNothing};
 use crate::{ParamsFile, write};
 use fr_base::{Shelf, Sink};
 use fr_program::Failure;
-use fr_records::accepted;
+use fr_text::accepted;
 use std::alloc::Global;
 
 /// Reads the parameters in the file, and writes them as a file of version 2, each record in one put. The text is

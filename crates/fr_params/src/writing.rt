@@ -1,7 +1,7 @@
 ghost use Rattle.std.specs.Prelude.{◌≡◌, ◌<◌, ◌++◌, Some, drop, length, map, slice_get};
 ghost use Rattle.fr_base.specs.Device.{Puts};
 ghost use Rattle.fr_text.specs.Pieces.{Spells};
-ghost use Rattle.fr_records.specs.Texts.{line_of_record, text_of_records};
+ghost use Rattle.fr_text.specs.Texts.{line_of_record, text_of_records};
 ghost use Rattle.fr_params.specs.Texts.{channels_text, coldstart_text, key_text, node_record, param_record, slot_record, upgraded_text};
 
 use crate::names::{NAMES_OF_TWO, word_of};

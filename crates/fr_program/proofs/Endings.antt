@@ -2,10 +2,10 @@
 use Rattle.std.proofs.Common.{◌≡◌, ℕ, List, Ok, Err, ap, sym, subst, arith}
 use Rattle.fr_base.specs.Device.{Puts, Sunk}
 use Rattle.fr_base.specs.declared.sink.PutFault.{PutFault}
-use Rattle.fr_records.proofs.Commands.{never_usage, stopped, written}
-use Rattle.fr_records.specs.Status.{code_of}
-use Rattle.fr_records.specs.declared.status.Status.TheVariants as status
-use Rattle.fr_records.specs.declared.told.Told.{Told}
+use Rattle.fr_text.proofs.Commands.{never_usage, stopped, written}
+use Rattle.fr_text.specs.Status.{code_of}
+use Rattle.fr_text.specs.declared.status.Status.TheVariants as status
+use Rattle.fr_text.specs.declared.told.Told.{Told}
 use Rattle.fr_program.specs.declared.failure.Failure.TheVariants.{Usage, Stopped, WriteFault}
 use Rattle.fr_program.specs.Around.{Around, Ending, IsCutShort, IsWritten, TextEnds}
 use Rattle.fr_program.specs.Command.{Command, CommandEnds, IsComplete}

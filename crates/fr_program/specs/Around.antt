@@ -3,7 +3,7 @@ use Rattle.std.specs.Prelude.{ℕ, List, Result, Ok, Err}
 use Rattle.std.specs.Io.KnownBytes.{Appends}
 use Rattle.fr_base.specs.Device.{AppendsFront, Puts, Rose, Shelved, Sunk}
 use Rattle.fr_base.specs.declared.sink.PutFault.{PutFault}
-use Rattle.fr_records.specs.declared.told.Told.{Told}
+use Rattle.fr_text.specs.declared.told.Told.{Told}
 use Rattle.fr_program.specs.declared.failure.Failure.{Failure}
 use Rattle.fr_program.specs.declared.failure.Failure.TheVariants.{Usage, Stopped, WriteFault}
 

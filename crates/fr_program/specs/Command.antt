@@ -1,8 +1,8 @@
 -- A command: files by their names. How it ends, and the status that their bytes define.
 use Rattle.std.specs.Prelude.{◌≡◌, ℕ, suc, ◌+◌, ◌≤◌, List, [], ◌∷◌, length}
 use Rattle.fr_base.specs.Device.{Rose, Shelved}
-use Rattle.fr_records.specs.Files.{AreFaultless, AreTold, Files, IsStatusOf, IsTextOf, StopsIn}
-use Rattle.fr_records.specs.declared.status.Status.{Status}
+use Rattle.fr_text.specs.Files.{AreFaultless, AreTold, Files, IsStatusOf, IsTextOf, StopsIn}
+use Rattle.fr_text.specs.declared.status.Status.{Status}
 use Rattle.fr_program.specs.Around.{Around, Ending, TextEnds}
 
 -- the names of its files, and what it reads under them

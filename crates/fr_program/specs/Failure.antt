@@ -1,8 +1,8 @@
 -- What an ending is called, by its status and its line.
 use Rattle.std.specs.Prelude.{ℕ, List, Ok, Err, codes}
 use Rattle.fr_base.specs.Device.{Sunk}
-use Rattle.fr_records.specs.declared.status.Status.{Status}
-use Rattle.fr_records.specs.declared.status.Status.TheVariants as status
+use Rattle.fr_text.specs.declared.status.Status.{Status}
+use Rattle.fr_text.specs.declared.status.Status.TheVariants as status
 use Rattle.fr_text.specs.Pieces.{line}
 use Rattle.fr_program.specs.declared.failure.Failure.{Failure}
 use Rattle.fr_program.specs.declared.failure.Failure.TheVariants.{Usage, Stopped, WriteFault}

@@ -3,7 +3,7 @@ use Rattle.std.specs.Prelude.{◌≡◌, ℕ, List, map, String, Err}
 use Rattle.std.specs.String.{string_bytes}
 use Rattle.std.specs.declared.alloc.Global.{Global}
 use Rattle.fr_base.specs.Device.{Sunk}
-use Rattle.fr_records.specs.declared.status.Status.{Status}
+use Rattle.fr_text.specs.declared.status.Status.{Status}
 use Rattle.fr_program.specs.declared.failure.Failure.TheVariants.{Usage}
 use Rattle.fr_program.specs.Around.{Around, Ending}
 use Rattle.fr_program.specs.Command.{AreLoads, Command, CommandEnds, IsComplete}

@@ -4,9 +4,8 @@ ghost use Rattle.fr_program.specs.Failure.{failure_line, status_of};
 ghost use Rattle.fr_program.specs.declared.failure.Failure.TheVariants as failure;
 
 use fr_base::{PutFault, Sink};
-use fr_records::{Shown, Status, Stop, Told, stop_told};
+use fr_text::{Shown, Status, Stop, Told, line_of, stop_told};
 use fr_text::Piece::Word;
-use fr_text::line_of;
 
 /// Why a call did not end in `Done`.
 #[derive(Drop)]
@@ -46,7 +45,7 @@ impl Failure {
 }
 
 impl<F: Shown + Drop> From<Stop<F>> for Failure {
-    ghost use Rattle.fr_records.specs.Told.{stop_text, stop_told};
+    ghost use Rattle.fr_text.specs.Told.{stop_text, stop_told};
 
     ghost from_gives = { λ stop made. made ≡ failure.Stopped (stop_told (stop_text F.called F.words) stop) };
 

@@ -9,8 +9,8 @@ use Rattle.fr_base.specs.declared.numbers.NumberFault.{NumberFault}
 use Rattle.fr_base.specs.declared.numbers.NumberFault.TheVariants as fault
 use Rattle.fr_base.specs.declared.reason.Reason.{Reason}
 use Rattle.fr_base.specs.declared.reason.Reason.TheVariants as reason
-use Rattle.fr_records.specs.Records.{FileRecord}
-use Rattle.fr_records.specs.Fields.{both_of, field_of, is_blank, natural_of, or_else, or_reason, looked_up}
+use Rattle.fr_text.specs.Records.{FileRecord}
+use Rattle.fr_text.specs.Fields.{both_of, field_of, is_blank, natural_of, or_else, or_reason, looked_up}
 use Rattle.fr_drift.specs.Questions.{start_of}
 use Rattle.fr_drift.specs.Reasons.{start_in}
 use Rattle.fr_drift.specs.Rows.{delay_row, doubles_row, drift_file_row, drift_row_of, length_row, rate_in, short_row, start_row, start_with}

@@ -10,9 +10,9 @@ use Rattle.fr_history.specs.Cycles.{Cycles}
 use Rattle.fr_history.specs.Lawful.{IsLawful}
 use Rattle.fr_history.specs.Next.{cycles_of}
 use Rattle.fr_params.specs.Files.{params_file}
-use Rattle.fr_records.proofs.Commands.{decided}
-use Rattle.fr_records.specs.Files.{IsDecided}
-use Rattle.fr_records.specs.Kind.{HasOneAnswer}
+use Rattle.fr_text.proofs.Commands.{decided}
+use Rattle.fr_text.specs.Files.{IsDecided}
+use Rattle.fr_text.specs.Kind.{HasOneAnswer}
 use Rattle.fr_script.specs.Files.{script_file}
 use Rattle.fr_script.specs.View.{ScriptView}
 use Rattle.fr_report.specs.Files.{run_files}

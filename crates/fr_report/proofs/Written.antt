@@ -5,7 +5,7 @@ use Rattle.fr_base.specs.declared.sink.PutFault.{PutFault}
 use Rattle.fr_cluster.specs.Values.{Values}
 use Rattle.fr_drift.specs.View.{DriftView}
 use Rattle.fr_program.specs.Around.{IsCutShort, IsWritten}
-use Rattle.fr_records.specs.Files.{IsTextOf}
+use Rattle.fr_text.specs.Files.{IsTextOf}
 use Rattle.fr_script.specs.View.{ScriptView}
 use Rattle.fr_report.specs.Files.{HaveFiles, run_files}
 use Rattle.fr_report.specs.Names.{RunNames, names_in}

@@ -8,8 +8,8 @@ use Rattle.fr_drift.specs.View.{DriftView}
 use Rattle.fr_params.specs.Files.{params_file}
 use Rattle.fr_params.specs.Told.{params_says}
 use Rattle.fr_program.specs.Command.{Command}
-use Rattle.fr_records.specs.Files.{Files, IsNeverSaid, file, text}
-use Rattle.fr_records.specs.Kind.{Has}
+use Rattle.fr_text.specs.Files.{Files, IsNeverSaid, file, text}
+use Rattle.fr_text.specs.Kind.{Has}
 use Rattle.fr_script.specs.Files.{script_file}
 use Rattle.fr_script.specs.Told.{script_says}
 use Rattle.fr_script.specs.View.{ScriptView}

@@ -5,7 +5,7 @@ use Rattle.fr_drift.specs.View.{DriftView}
 use Rattle.fr_script.specs.View.{ScriptView}
 use Rattle.fr_generator.specs.Generated.{IsGenerated}
 use Rattle.fr_program.specs.Command.{Command}
-use Rattle.fr_records.specs.Files.{Files, IsNeverSaid, text}
+use Rattle.fr_text.specs.Files.{Files, IsNeverSaid, text}
 use Rattle.fr_report.specs.RunText.{IsRunText}
 
 -- the cluster of a seed, and the report of the one lawful run that it decides

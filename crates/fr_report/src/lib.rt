@@ -14,7 +14,7 @@ mod world;
 
 pub use files::RunFiles;
 pub use fr_lines::{Clock, ClockList, Report, Told};
-pub use fr_records::Status;
+pub use fr_text::Status;
 pub use gathering::{add_next, told_of, write_report};
 pub use making::answer_made;
 pub use playing::play;

@@ -4,7 +4,7 @@ ghost use Rattle.fr_base.specs.Device.{Shelved};
 ghost use Rattle.fr_program.specs.Around.{around_of};
 ghost use Rattle.fr_program.specs.Command.{CommandEnds};
 ghost use Rattle.fr_program.specs.Failure.{EndingWritesNothing};
-ghost use Rattle.fr_records.specs.Told.{no_memory};
+ghost use Rattle.fr_text.specs.Told.{no_memory};
 ghost use Rattle.fr_report.specs.MakeAnswer.{make_command};
 ghost use Rattle.fr_report.specs.RunText.{IsRunText, run_text};
 
@@ -13,7 +13,7 @@ use crate::run_laws::a_run_is_lawful;
 use fr_base::Sink;
 use fr_generator::{Generated, generate};
 use fr_program::Failure;
-use fr_records::Told;
+use fr_text::Told;
 use fr_world::{BuildFault, World};
 use std::alloc::Global;
 

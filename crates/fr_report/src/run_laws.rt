@@ -9,7 +9,7 @@ ghost use Rattle.fr_coverage.specs.Decided.{setting_of};
 ghost use Rattle.fr_drift.specs.Questions.{doubles_of};
 ghost use Rattle.fr_history.specs.Next.{cycles_of};
 ghost use Rattle.fr_promise.specs.Files.{IsPrecise};
-ghost use Rattle.fr_records.specs.Files.{IsDecided};
+ghost use Rattle.fr_text.specs.Files.{IsDecided};
 ghost use Rattle.fr_report.specs.MakeAnswer.{OneMadeReport};
 ghost use Rattle.fr_report.specs.Files.{run_files};
 ghost use Rattle.fr_report.specs.RunText.{IsRunText, run_text};

@@ -3,7 +3,7 @@ ghost use Rattle.fr_cluster.specs.Values.{Values};
 ghost use Rattle.fr_drift.specs.Files.{DriftFits};
 ghost use Rattle.fr_drift.specs.View.{DriftView};
 ghost use Rattle.fr_script.specs.View.{IsScript, ScriptView};
-ghost use Rattle.fr_records.specs.Files.{IsDecided};
+ghost use Rattle.fr_text.specs.Files.{IsDecided};
 ghost use Rattle.fr_report.specs.Files.{run_files};
 ghost use Rattle.fr_report.specs.TraceAnswer.{IsTraceText, trace_text};
 

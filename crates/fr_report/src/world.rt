@@ -1,5 +1,5 @@
 ghost use Rattle.std.specs.Prelude.{◌≡◌, ◌+◌, ◌≤◌, IfOk, IfErr};
-ghost use Rattle.fr_records.specs.Files.{StopsIn};
+ghost use Rattle.fr_text.specs.Files.{StopsIn};
 ghost use Rattle.fr_report.specs.Files.{HaveFiles, IsAnyText, run_files};
 ghost use Rattle.fr_report.specs.Names.{names_in, run_names_of};
 
@@ -7,7 +7,7 @@ use crate::files::RunFiles;
 use fr_base::Shelf;
 use fr_drift::DriftFile;
 use fr_params::ParamsFile;
-use fr_records::{Told, accepted};
+use fr_text::{Told, accepted};
 use fr_script::ScriptFile;
 use fr_world::{BuildFault, World};
 use std::alloc::Global;

@@ -8,10 +8,10 @@ use Rattle.fr_base.specs.declared.channel.Channel.{Channel}
 use Rattle.fr_base.specs.declared.channel.Channel.TheVariants as channel
 use Rattle.fr_base.specs.declared.reason.Reason.{Reason}
 use Rattle.fr_base.specs.declared.reason.Reason.TheVariants as reason
-use Rattle.fr_records.specs.Records.{FileRecord}
-use Rattle.fr_records.proofs.Cuts.{none-empty}
-use Rattle.fr_records.proofs.Lookups.{looked_up-nil, or_else-none}
-use Rattle.fr_records.proofs.Written.{natural-decimal, within-signed}
+use Rattle.fr_text.specs.Records.{FileRecord}
+use Rattle.fr_text.proofs.Cuts.{none-empty}
+use Rattle.fr_text.proofs.Lookups.{looked_up-nil, or_else-none}
+use Rattle.fr_text.proofs.Written.{natural-decimal, within-signed}
 use Rattle.fr_cluster.specs.Values.{Values}
 use Rattle.fr_cluster.specs.Questions.{is_common}
 use Rattle.fr_script.specs.Deeds.{deed_in, passage_of, DeedsAscend}

@@ -7,8 +7,8 @@ use Rattle.std.specs.FinMap.{get-entries, get-from_entries, len-entries, len-emp
 use Rattle.std.specs.Map.{lookup}
 use Rattle.std.proofs.lemmas.Bool.{cases_lt}
 use Rattle.std.proofs.lemmas.Bool.Decides.{nat_tests}
-use Rattle.fr_records.specs.Fields.{or_else}
-use Rattle.fr_records.proofs.Lookups.{or_else-none}
+use Rattle.fr_text.specs.Fields.{or_else}
+use Rattle.fr_text.proofs.Lookups.{or_else-none}
 use Rattle.fr_script.specs.declared.deeds.Passage.{Passage}
 use Rattle.fr_script.specs.declared.deeds.Deed.{Deed}
 use Rattle.fr_script.specs.Deeds.{asked_cmp, deed_in, in_order, passage_cmp, passage_of, DeedsAscend, IsDeedPut, IsNextCycle}

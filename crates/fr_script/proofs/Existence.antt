@@ -14,12 +14,12 @@ use Rattle.std.specs.FinMap.Entries.{below_all}
 use Rattle.fr_base.specs.declared.channel.Channel.{Channel}
 use Rattle.fr_base.specs.declared.channel.Channel.TheVariants as channel
 use Rattle.fr_base.specs.declared.reason.Reason.{Reason}
-use Rattle.fr_records.specs.Records.{FileRecord, records_of}
-use Rattle.fr_records.specs.Kind.{HasSomeAnswer, Reads}
-use Rattle.fr_records.specs.Refusal.{NoneRefused, FirstRefused}
-use Rattle.fr_records.proofs.Cuts.{none-or-first-refused}
+use Rattle.fr_text.specs.Records.{FileRecord, records_of}
+use Rattle.fr_text.specs.Kind.{HasSomeAnswer, Reads}
+use Rattle.fr_text.specs.Refusal.{NoneRefused, FirstRefused}
+use Rattle.fr_text.proofs.Cuts.{none-or-first-refused}
 use Rattle.fr_cluster.specs.Values.{Values}
-use Rattle.fr_records.specs.Fields.{is_channel, or_else, looked_up}
+use Rattle.fr_text.specs.Fields.{is_channel, or_else, looked_up}
 use Rattle.fr_script.specs.Deeds.{DeedsAscend, deed_in, passage_cmp}
 use Rattle.fr_script.specs.Rows.{script_row_of}
 use Rattle.fr_script.specs.Reasons.{deed_by, deed_said, is_named_in, is_same_passage, join_by, script_reason_after}

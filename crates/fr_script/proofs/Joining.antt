@@ -12,10 +12,10 @@ use Rattle.fr_base.specs.declared.numbers.NumberFault.{NumberFault}
 use Rattle.fr_base.specs.declared.numbers.NumberFault.TheVariants as fault
 use Rattle.fr_base.specs.declared.reason.Reason.{Reason}
 use Rattle.fr_base.specs.declared.reason.Reason.TheVariants as reason
-use Rattle.fr_records.specs.Records.{FileRecord}
-use Rattle.fr_records.specs.Refusal.{NoneRefused}
-use Rattle.fr_records.specs.Fields.{both_of, field_of, hex_digits_in, is_blank, natural_of, natural_within, or_else, or_reason}
-use Rattle.fr_records.proofs.Lookups.{looked_up-nil, or_else-none}
+use Rattle.fr_text.specs.Records.{FileRecord}
+use Rattle.fr_text.specs.Refusal.{NoneRefused}
+use Rattle.fr_text.specs.Fields.{both_of, field_of, hex_digits_in, is_blank, natural_of, natural_within, or_else, or_reason}
+use Rattle.fr_text.proofs.Lookups.{looked_up-nil, or_else-none}
 use Rattle.fr_cluster.specs.Values.{Values}
 use Rattle.fr_cluster.specs.Questions.{is_common, node_of, own_key}
 use Rattle.fr_cluster.specs.declared.join.Join.{Join}

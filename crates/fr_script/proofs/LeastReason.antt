@@ -11,12 +11,12 @@ use Rattle.fr_base.specs.declared.numbers.NumberFault.{NumberFault}
 use Rattle.fr_base.specs.declared.numbers.NumberFault.TheVariants as fault
 use Rattle.fr_base.specs.declared.reason.Reason.{Reason}
 use Rattle.fr_base.specs.declared.reason.Reason.TheVariants as reason
-use Rattle.fr_records.specs.Records.{FileRecord}
-use Rattle.fr_records.specs.Fields.{both_of, field_of, hex_digits_in, is_blank, natural_of, natural_within, or_reason}
-use Rattle.fr_records.specs.Forms.{NumberField, number_field, misses_form, has_unknown_name, has_no_number, is_out_of_range, has_bad_channels}
-use Rattle.fr_records.specs.Least.{GivesLeast, IsLeastReason, row_passes}
-use Rattle.fr_records.proofs.LeastReasons.{least-first}
-use Rattle.fr_records.proofs.FormFacts.{IsFault, IsFormed, IsFormedBy, IsRead, formed-five, formed-if, formed-one, formed-read, formed-sized, formed-two, is_overfull, least-formed, natural-read, never, read-both, within-read}
+use Rattle.fr_text.specs.Records.{FileRecord}
+use Rattle.fr_text.specs.Fields.{both_of, field_of, hex_digits_in, is_blank, natural_of, natural_within, or_reason}
+use Rattle.fr_text.specs.Forms.{NumberField, number_field, misses_form, has_unknown_name, has_no_number, is_out_of_range, has_bad_channels}
+use Rattle.fr_text.specs.Least.{GivesLeast, IsLeastReason, row_passes}
+use Rattle.fr_text.proofs.LeastReasons.{least-first}
+use Rattle.fr_text.proofs.FormFacts.{IsFault, IsFormed, IsFormedBy, IsRead, formed-five, formed-if, formed-one, formed-read, formed-sized, formed-two, is_overfull, least-formed, natural-read, never, read-both, within-read}
 use Rattle.fr_cluster.specs.Values.{Values, amount}
 use Rattle.fr_cluster.specs.Sane.{IsSane}
 use Rattle.fr_cluster.specs.Questions.{is_common, node_of, own_key}

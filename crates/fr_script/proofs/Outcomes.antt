@@ -19,12 +19,12 @@ use Rattle.fr_base.specs.declared.channel.Channel.{Channel}
 use Rattle.fr_base.specs.declared.channel.Channel.TheVariants as channel
 use Rattle.fr_base.specs.declared.reason.Reason.{Reason}
 use Rattle.fr_base.specs.declared.reason.Reason.TheVariants as reason
-use Rattle.fr_records.specs.Records.{FileRecord, records_of}
-use Rattle.fr_records.specs.Kind.{HasOneAnswer}
-use Rattle.fr_records.proofs.Cuts.{first-same, refused-none}
+use Rattle.fr_text.specs.Records.{FileRecord, records_of}
+use Rattle.fr_text.specs.Kind.{HasOneAnswer}
+use Rattle.fr_text.proofs.Cuts.{first-same, refused-none}
 use Rattle.fr_cluster.specs.Values.{Values}
 use Rattle.fr_cluster.specs.Questions.{node_of, own_key}
-use Rattle.fr_records.specs.Fields.{is_channel, or_else, looked_up}
+use Rattle.fr_text.specs.Fields.{is_channel, or_else, looked_up}
 use Rattle.fr_script.specs.Deeds.{deed_in, passage_cmp, DeedsAscend, passage_of}
 use Rattle.fr_script.specs.Rows.{script_row_of}
 use Rattle.fr_script.specs.Reasons.{names, is_named_in, has_acted, node_reason, script_row_reason, script_reason_after, bits_of, deed_said, is_same_passage, is_after_frame}

@@ -2,7 +2,7 @@
 use Rattle.std.proofs.Common.{◌≡◌, List}
 use Rattle.fr_base.specs.declared.channel.Channel.{Channel}
 use Rattle.fr_base.specs.declared.channel.Channel.TheVariants as channel
-use Rattle.fr_records.specs.Records.{FileRecord}
+use Rattle.fr_text.specs.Records.{FileRecord}
 use Rattle.fr_script.specs.Deeds.{deed_in, DeedsAscend}
 use Rattle.fr_script.specs.Reasons.{deed_by}
 use Rattle.fr_script.specs.View.{ScriptView, is_arbitrary, join_of, deeds_on}

@@ -11,10 +11,10 @@ use Rattle.fr_base.specs.declared.channel.Channel.{Channel}
 use Rattle.fr_base.specs.declared.channel.Channel.TheVariants as channel
 use Rattle.fr_base.specs.declared.reason.Reason.{Reason}
 use Rattle.fr_base.specs.declared.reason.Reason.TheVariants as reason
-use Rattle.fr_records.specs.Records.{FileRecord}
+use Rattle.fr_text.specs.Records.{FileRecord}
 use Rattle.fr_cluster.specs.declared.join.Join.{Join}
-use Rattle.fr_records.specs.Fields.{is_channel, or_else, looked_up}
-use Rattle.fr_records.proofs.Lookups.{looked_up-more, looked_up-nil, or_else-none}
+use Rattle.fr_text.specs.Fields.{is_channel, or_else, looked_up}
+use Rattle.fr_text.proofs.Lookups.{looked_up-more, looked_up-nil, or_else-none}
 use Rattle.fr_script.specs.Deeds.{deed_in, passage_cmp, DeedsAscend}
 use Rattle.fr_script.specs.Rows.{script_row_of, IsProperDeed}
 use Rattle.fr_script.specs.Reasons.{names, is_deed_or_join, is_same_passage, deed_said, is_named_in, is_reference, has_acted, deed_by, join_by, join_said, refers}

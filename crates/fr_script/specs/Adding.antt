@@ -1,7 +1,7 @@
 -- What a call does that adds one record to a script.
 use Rattle.std.specs.Prelude.{◌≡◌, [], ◌∷◌, ◌++◌, List, Result, Ok, Err}
-use Rattle.fr_records.specs.Records.{FileRecord}
-use Rattle.fr_records.specs.Refusal.{NoneRefused}
+use Rattle.fr_text.specs.Records.{FileRecord}
+use Rattle.fr_text.specs.Refusal.{NoneRefused}
 use Rattle.fr_cluster.specs.Values.{Values}
 use Rattle.fr_script.specs.Deeds.{DeedsAscend, IsDeedPut}
 use Rattle.fr_script.specs.Reasons.{script_reason_after}

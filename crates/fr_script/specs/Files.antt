@@ -1,9 +1,9 @@
 -- What a script file stands for, and why it is refused.
 use Rattle.std.specs.Prelude.{ℕ, ◌≡◌, ◌≤◌, List, length, ⊤}
 use Rattle.fr_base.specs.declared.channel.Channel.{Channel}
-use Rattle.fr_records.specs.Kind.{Kind}
-use Rattle.fr_records.specs.Records.{FileRecord, records_of}
-use Rattle.fr_records.specs.Refusal.{NoneRefused, FirstRefused}
+use Rattle.fr_text.specs.Kind.{Kind}
+use Rattle.fr_text.specs.Records.{FileRecord, records_of}
+use Rattle.fr_text.specs.Refusal.{NoneRefused, FirstRefused}
 use Rattle.fr_cluster.specs.Values.{Values}
 use Rattle.fr_script.specs.Deeds.{deed_in, DeedsAscend}
 use Rattle.fr_script.specs.Reasons.{is_named_in, deed_by, join_by, script_reason_after}

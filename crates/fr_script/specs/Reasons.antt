@@ -6,11 +6,11 @@ use Rattle.fr_base.specs.declared.channel.Channel.{Channel}
 use Rattle.fr_base.specs.declared.channel.Channel.TheVariants as channel
 use Rattle.fr_base.specs.declared.reason.Reason.{Reason}
 use Rattle.fr_base.specs.declared.reason.Reason.TheVariants as reason
-use Rattle.fr_records.specs.Records.{FileRecord}
+use Rattle.fr_text.specs.Records.{FileRecord}
 use Rattle.fr_cluster.specs.Values.{Values, amount}
 use Rattle.fr_cluster.specs.declared.join.Join.{Join}
 use Rattle.fr_cluster.specs.Questions.{is_common, node_of, own_key}
-use Rattle.fr_records.specs.Fields.{is_channel, looked_up}
+use Rattle.fr_text.specs.Fields.{is_channel, looked_up}
 use Rattle.fr_cluster.specs.declared.names.ParamName.TheVariants as name
 use Rattle.fr_script.specs.Rows.{script_row_of}
 use Rattle.fr_script.specs.declared.deeds.Passage.{Passage}

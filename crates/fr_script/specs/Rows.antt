@@ -8,10 +8,10 @@ use Rattle.fr_base.specs.declared.numbers.NumberFault.{NumberFault}
 use Rattle.fr_base.specs.declared.numbers.NumberFault.TheVariants as fault
 use Rattle.fr_base.specs.declared.reason.Reason.{Reason}
 use Rattle.fr_base.specs.declared.reason.Reason.TheVariants as reason
-use Rattle.fr_records.specs.Records.{FileRecord}
+use Rattle.fr_text.specs.Records.{FileRecord}
 use Rattle.fr_base.specs.Channels.{channel_of}
-use Rattle.fr_records.specs.Fields.{both_of, hex_digits_in, natural_of}
-use Rattle.fr_records.specs.Fields.{is_blank, or_reason, field_of}
+use Rattle.fr_text.specs.Fields.{both_of, hex_digits_in, natural_of}
+use Rattle.fr_text.specs.Fields.{is_blank, or_reason, field_of}
 use Rattle.fr_script.specs.Deeds.{passage_of}
 use Rattle.fr_script.specs.Said.{AreSaidBytes}
 use Rattle.fr_script.specs.declared.deeds.Passage.{Passage}

@@ -3,7 +3,7 @@ use Rattle.std.specs.Prelude.{ℕ, ℤ, [], ◌∷◌, codes}
 use Rattle.std.specs.Fmt.{decimal, signed_decimal}
 use Rattle.fr_base.specs.Channels.{letter}
 use Rattle.fr_base.specs.declared.channel.Channel.{Channel}
-use Rattle.fr_records.specs.Records.{FileRecord}
+use Rattle.fr_text.specs.Records.{FileRecord}
 
 -- `arbitrary,NODE,,,,,`
 abbrev pub arbitrary_record : ℕ → FileRecord

@@ -1,5 +1,5 @@
 ghost use Rattle.std.specs.Prelude.{◌≡◌, ◌≤◌, ◌*◌, [], List, IfOk, IfErr, IfSome, None, Some, slice_set, true, if◌then◌else◌};
-ghost use Rattle.fr_records.specs.Records.{FileRecord};
+ghost use Rattle.fr_text.specs.Records.{FileRecord};
 ghost use Rattle.fr_cluster.specs.Questions.{is_common};
 ghost use Rattle.fr_script.specs.Rows.{IsProperDeed, IsProperScriptRow};
 ghost use Rattle.fr_base.specs.declared.reason.Reason.TheVariants as reason;
@@ -14,7 +14,7 @@ use crate::script::Script;
 use csv::ByteRecord;
 use fr_base::{Channel, NodeId, Reason};
 use fr_cluster::{Join, Params};
-use fr_records::Table;
+use fr_text::Table;
 use std::alloc::{AllocError, Global};
 
 // What the records so far say: which nodes are arbitrary, which join and which are their references, by their number,

@@ -1,5 +1,5 @@
 ghost use Rattle.std.specs.Prelude.{◌≡◌, ◌≤◌, List, None, Some, is_none, is_some, slice_index_or, slice_set};
-ghost use Rattle.fr_records.specs.Records.{FileRecord};
+ghost use Rattle.fr_text.specs.Records.{FileRecord};
 ghost use Rattle.fr_cluster.specs.Questions.{own_key};
 ghost use Rattle.fr_script.specs.Reasons.{is_reference, join_by, join_reason, knows_joining, may_not_join, share_channel};
 ghost use Rattle.fr_script.specs.Draft.{IsScriptDraft, TakesScriptRowAtOnce};

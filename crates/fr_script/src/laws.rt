@@ -1,6 +1,6 @@
 ghost use Rattle.std.specs.Prelude.{List, ℕ};
-ghost use Rattle.fr_records.specs.Kind.{HasOneAnswer, HasSomeAnswer};
-ghost use Rattle.fr_records.specs.Least.{GivesLeast};
+ghost use Rattle.fr_text.specs.Kind.{HasOneAnswer, HasSomeAnswer};
+ghost use Rattle.fr_text.specs.Least.{GivesLeast};
 ghost use Rattle.fr_cluster.specs.Values.{Values};
 ghost use Rattle.fr_cluster.specs.Sane.{IsSane};
 ghost use Rattle.fr_script.specs.Reasons.{script_reason_after};

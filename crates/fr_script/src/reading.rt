@@ -1,12 +1,12 @@
 ghost use Rattle.std.specs.Prelude.{IfOk};
-ghost use Rattle.fr_records.specs.Kind.{Reads};
+ghost use Rattle.fr_text.specs.Kind.{Reads};
 ghost use Rattle.fr_script.specs.Files.{IsSoundScript, script_file};
 
 use crate::draft::Draft;
 use crate::fault::ScriptFault;
 use crate::script::Script;
 use fr_cluster::Params;
-use fr_records::{RowFault, read_all};
+use fr_text::{RowFault, read_all};
 use std::alloc::Global;
 
 /// Reads the fault script of a cluster with these parameters: which nodes are arbitrary and which join the running

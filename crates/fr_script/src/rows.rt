@@ -1,6 +1,6 @@
 ghost use Rattle.std.specs.Prelude.{◌≡◌, ◌≤◌, ◌<◌, length, IfOk, IfSome, pos, neg_ℤ, ◌≤ℤ◌};
 ghost use Rattle.csv.specs.Records.{fields_of};
-ghost use Rattle.fr_records.specs.Fields.{field_of, hex_digits_in, is_blank};
+ghost use Rattle.fr_text.specs.Fields.{field_of, hex_digits_in, is_blank};
 ghost use Rattle.fr_script.specs.Said.{AreSaidBytes};
 ghost use Rattle.fr_script.specs.Rows.{IsProperDeed, IsProperScriptRow, arbitrary_row, deed_row, farthest, flip_row, is_channel_last, is_node_alone, is_reference_last, join_in, join_row, script_file_row, lose_row, passage_in, script_row_of, said_in, say_deed, say_row, shift_in};
 
@@ -8,7 +8,7 @@ use crate::deeds::{Deed, Passage, SaidBytes};
 use csv::ByteRecord;
 use fr_base::{Channel, NodeId, NumberFault, Reason, number};
 use fr_cluster::Join;
-use fr_records::{both, field, natural, reason_of};
+use fr_text::{both, field, natural, reason_of};
 use hex::FromHexError;
 use std::alloc::{AllocError, Global};
 

@@ -11,7 +11,7 @@ ghost use Rattle.fr_script.specs.View.{IsScript, ScriptView};
 ghost use Rattle.fr_history.specs.Cycles.{Cycles};
 ghost use Rattle.fr_history.specs.Lawful.{IsLawful};
 ghost use Rattle.fr_history.specs.Unfollowed.{IsUnfollowedSyncAt};
-ghost use Rattle.fr_records.specs.Files.{IsDecided};
+ghost use Rattle.fr_text.specs.Files.{IsDecided};
 ghost use Rattle.fr_report.specs.Files.{run_files};
 ghost use Rattle.fr_series.specs.SeriesText.{series_text};
 ghost use Rattle.fr_series.specs.SeriesAnswer.{IsSeriesText, TellsInSync};

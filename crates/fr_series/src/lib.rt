@@ -11,7 +11,7 @@ mod top;
 mod writing;
 
 pub use figures::Figures;
-pub use fr_records::Status;
+pub use fr_text::Status;
 pub use laws::{a_covered_run_stays_in_sync, a_series_is_lawful, files_decide_the_series};
 pub use scale::Scale;
 pub use series::answer_series;

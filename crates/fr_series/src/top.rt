@@ -7,7 +7,7 @@ ghost use Rattle.fr_series.specs.Request.{AreFilesOf, series_program};
 use crate::series;
 use fr_base::{Shelf, Sink};
 use fr_program::Failure;
-use fr_records::Status;
+use fr_text::Status;
 use fr_report::RunFiles;
 use std::alloc::Global;
 

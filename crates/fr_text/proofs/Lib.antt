@@ -1,3 +1,13 @@
 pub mod Decimals
 pub mod Hexadecimals
 pub mod Joining
+pub mod Cuts
+pub mod Left
+pub mod LeastReasons
+pub mod FormFacts
+pub mod Lookups
+pub mod Written
+pub mod Shelves
+pub mod Commands
+pub mod Plain
+pub mod RecordLines

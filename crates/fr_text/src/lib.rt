@@ -1,15 +1,38 @@
-//! Text as the program prints it: a line is a list of pieces, words and numbers, and a text is a list of lines,
-//! each of which is one put.
+//! Text that is read and written. A line is a list of pieces, words and numbers, and a text is a list of lines, each of which
+//! is one put. A file is a list of records: the reader over `csv`, what the fields of a record say, and the one loop that
+//! fills a table with the records of a file or names the first that is refused. A kind of file has one way from a shelf
+//! to its value. And how a command reads files one after the other: what it may write of them, why it stops, and what is
+//! told of that.
 #![tactic(auto)]
 
+mod fields;
+mod kind;
+mod laws;
 mod line;
 mod lines;
+mod loading;
+mod numbers;
 mod piece;
 mod putting;
+mod reader;
+mod records;
+mod status;
+mod table;
+mod told;
 mod words;
 
+pub use fields::{both, field, natural, reason_of};
+pub use kind::{FileKind, Stop, accepted};
+pub use laws::{first_refused_excludes_none, one_first_refused, refused_or_none};
 pub use line::Line;
 pub use lines::{line_of, row_of};
+pub use loading::loaded;
+pub use numbers::{fields_are_plain, numbers_are_read_back};
 pub use piece::Piece;
 pub use putting::put_lines;
+pub use reader::Records;
+pub use records::{records_are_read_back, rows_are_records};
+pub use status::Status;
+pub use table::{RowFault, Table, read_all};
+pub use told::{Shown, Told, record_line, stop_told};
 pub use words::{letter_of, state_of};

@@ -3,10 +3,10 @@ use Rattle.std.proofs.Common.{◌≡◌, ◌≢◌, ◌⊎◌, inl, inr, ℕ, �
 use Rattle.std.specs.Prelude.{IfOk, min}
 use Rattle.fr_base.specs.declared.reason.Reason.{Reason}
 use Rattle.fr_cluster.specs.Values.{Values}
-use Rattle.fr_records.specs.Kind.{HasOneAnswer, HasSomeAnswer, Reads}
-use Rattle.fr_records.specs.Records.{FileRecord, records_of}
-use Rattle.fr_records.specs.Refusal.{FirstRefused, NoneRefused}
-use Rattle.fr_records.proofs.Cuts.{first-same, none-or-first-refused, refused-none}
+use Rattle.fr_text.specs.Kind.{HasOneAnswer, HasSomeAnswer, Reads}
+use Rattle.fr_text.specs.Records.{FileRecord, records_of}
+use Rattle.fr_text.specs.Refusal.{FirstRefused, NoneRefused}
+use Rattle.fr_text.proofs.Cuts.{first-same, none-or-first-refused, refused-none}
 use Rattle.fr_trace.specs.Draft.{AnswersFor}
 use Rattle.fr_trace.specs.Fits.{TraceFits}
 use Rattle.fr_trace.specs.Files.{TraceStandsFor, is_whole, is_whole_by, trace_file}

@@ -10,8 +10,8 @@ use Rattle.fr_base.specs.declared.numbers.NumberFault.TheVariants as fault
 use Rattle.fr_base.specs.declared.reason.Reason.{Reason}
 use Rattle.fr_base.specs.declared.reason.Reason.TheVariants as reason
 use Rattle.fr_base.specs.declared.state.State.{State}
-use Rattle.fr_records.specs.Fields.{both_of, field_of, is_blank, natural_of, natural_within, or_reason}
-use Rattle.fr_records.specs.Records.{FileRecord}
+use Rattle.fr_text.specs.Fields.{both_of, field_of, is_blank, natural_of, natural_within, or_reason}
+use Rattle.fr_text.specs.Records.{FileRecord}
 use Rattle.fr_trace.specs.Rows.{are_blank, traced_arbitrary_row, clock_named, clock_with, dev_row, heard_row, traced_join_row, join_with, run_row, span_in, state_of, terms_in, trace_file_row, trace_row_of, value_in}
 use Rattle.fr_trace.specs.declared.rows.Row.{Row}
 use Rattle.fr_trace.specs.declared.rows.Row.TheVariants as row

@@ -9,7 +9,7 @@ use Rattle.fr_cluster.specs.Sane.{IsSane}
 use Rattle.fr_cluster.specs.Values.{Values}
 use Rattle.fr_cluster.specs.declared.nodes.NodeSpec.{NodeSpec}
 use Rattle.fr_history.specs.History.{History, Record}
-use Rattle.fr_records.specs.Records.{FileRecord}
+use Rattle.fr_text.specs.Records.{FileRecord}
 use Rattle.fr_trace.specs.Draft.{AreOver, AreSaid, CanEnd, HasEnded, HasFilled, IsAtLast, IsAtTurn, IsBeforeCycles, IsNodeNumber, IsOver, IsProperHead, IsTraceDraft, IsWholeDraft, over_of, part_of}
 use Rattle.fr_trace.specs.Files.{is_whole, is_whole_by}
 use Rattle.fr_trace.specs.Fits.{HistoryFits, TraceFits}

@@ -13,10 +13,10 @@ use Rattle.fr_base.specs.declared.reason.Reason.{Reason}
 use Rattle.fr_base.specs.declared.reason.Reason.TheVariants as reason
 use Rattle.fr_cluster.specs.Values.{Values}
 use Rattle.fr_history.specs.History.{History, Record}
-use Rattle.fr_records.specs.Fields.{or_else}
-use Rattle.fr_records.proofs.Lookups.{looked_up-nil, or_else-none}
-use Rattle.fr_records.specs.Records.{FileRecord, records_of}
-use Rattle.fr_records.specs.Refusal.{NoneRefused}
+use Rattle.fr_text.specs.Fields.{or_else}
+use Rattle.fr_text.proofs.Lookups.{looked_up-nil, or_else-none}
+use Rattle.fr_text.specs.Records.{FileRecord, records_of}
+use Rattle.fr_text.specs.Refusal.{NoneRefused}
 use Rattle.fr_trace.specs.Draft.{AreSaid, over_with, part_with}
 use Rattle.fr_trace.specs.Items.{items_in}
 use Rattle.fr_trace.specs.Order.{before_at, clock_turn, doubles_or_0, heard_turn, here_at, stands_after, may_begin, may_come_next, may_go_on, may_join, may_open, may_stand, may_stand_after, may_turn, next_due, is_up_to}

@@ -2,7 +2,7 @@
 use Rattle.std.proofs.Common.{◌≡◌, ℕ, zero, suc, List, [], ◌∷◌, ◌++◌, length, map, Some, Result, Ok, refl, ap, sym, ◌∙◌, arith, append_assoc, length-append}
 use Rattle.std.proofs.lemmas.List.{length-map, map-append}
 use Rattle.fr_base.specs.declared.reason.Reason.{Reason}
-use Rattle.fr_records.specs.Records.{FileRecord, records_of}
+use Rattle.fr_text.specs.Records.{FileRecord, records_of}
 use Rattle.fr_trace.specs.Items.{Item, item_in, items_in}
 use Rattle.fr_trace.specs.Rows.{trace_row_of}
 use Rattle.fr_trace.specs.declared.rows.Row.{Row}

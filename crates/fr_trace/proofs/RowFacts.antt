@@ -1,7 +1,7 @@
 -- What a record of eight fields says.
 use Rattle.std.proofs.Common.{◌≡◌, ℕ, List, [], length, refl}
 use Rattle.std.specs.Prelude.{slice_index_or}
-use Rattle.fr_records.specs.Records.{FileRecord}
+use Rattle.fr_text.specs.Records.{FileRecord}
 use Rattle.fr_trace.specs.Rows.{trace_row_of, trace_file_row}
 
 pub row_of-eight : (fields : FileRecord) → length fields ≡ 8

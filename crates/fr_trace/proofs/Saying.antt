@@ -8,9 +8,9 @@ use Rattle.std.proofs.lemmas.List.Concat.{flat_map-append}
 use Rattle.fr_base.specs.Counts.{no_counts}
 use Rattle.fr_base.specs.declared.reason.Reason.{Reason}
 use Rattle.fr_history.specs.History.{History, Record}
-use Rattle.fr_records.specs.Fields.{or_else}
-use Rattle.fr_records.specs.Records.{FileRecord}
-use Rattle.fr_records.proofs.Lookups.{looked_up-more}
+use Rattle.fr_text.specs.Fields.{or_else}
+use Rattle.fr_text.specs.Records.{FileRecord}
+use Rattle.fr_text.proofs.Lookups.{looked_up-more}
 use Rattle.fr_base.specs.declared.node_row.NodeRow.{NodeRow}
 use Rattle.fr_trace.specs.Draft.{AreSaid, over_with, part_with}
 use Rattle.fr_trace.specs.Said.{clocks_in, dev_on, devs_in, history_said, joins_at, last_row_at, named_at, named_in, no_record, record_said, said_trace_row, traced_doubles_at, traced_doubles_in, traced_joins_in}

@@ -10,8 +10,8 @@ use Rattle.fr_cluster.specs.Questions.{is_known, own_key}
 use Rattle.fr_cluster.specs.Searches.{key_node_in}
 use Rattle.fr_cluster.specs.Values.{Values}
 use Rattle.fr_history.specs.History.{History, Record}
-use Rattle.fr_records.specs.Fields.{or_else}
-use Rattle.fr_records.proofs.Lookups.{or_else-none}
+use Rattle.fr_text.specs.Fields.{or_else}
+use Rattle.fr_text.proofs.Lookups.{or_else-none}
 use Rattle.fr_trace.specs.Draft.{AreOver, IsAtLast, IsAtTurn, IsBeforeCycles, IsCycleUnderWay, IsDraftSound, IsNodeNumber, IsOver, IsProperHead, JoinsUpTo, NamesUpTo, doubles_with, over_with, part_with}
 use Rattle.fr_trace.specs.Fits.{TracedJoinIsProper}
 use Rattle.fr_trace.specs.Joins.{latest_rows}

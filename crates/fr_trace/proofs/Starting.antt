@@ -3,7 +3,7 @@ use Rattle.std.proofs.Common.{◌≡◌, ℕ, [], length, refl, ap, sym, ◌∙�
 use Rattle.fr_base.specs.Counts.{no_counts}
 use Rattle.fr_cluster.specs.Values.{Values}
 use Rattle.fr_history.specs.History.{History}
-use Rattle.fr_records.proofs.Lookups.{looked_up-nil}
+use Rattle.fr_text.proofs.Lookups.{looked_up-nil}
 use Rattle.fr_trace.specs.Cycles.{history_by}
 use Rattle.fr_trace.specs.Draft.{AreOver, IsTraceDraft, over_of, part_of}
 use Rattle.fr_trace.specs.Said.{history_said, joins_at, last_row_at, named_at, no_record, record_said, traced_doubles_in}

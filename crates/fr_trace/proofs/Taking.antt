@@ -6,8 +6,8 @@ use Rattle.fr_base.specs.declared.reason.Reason.{Reason}
 use Rattle.fr_cluster.specs.Sane.{IsSane, IsSaneNode}
 use Rattle.fr_cluster.specs.Values.{Values}
 use Rattle.fr_history.specs.History.{History, Record}
-use Rattle.fr_records.specs.Fields.{or_else}
-use Rattle.fr_records.specs.Records.{FileRecord}
+use Rattle.fr_text.specs.Fields.{or_else}
+use Rattle.fr_text.specs.Records.{FileRecord}
 use Rattle.fr_trace.specs.Draft.{AreSaid, HasPut, IsAtLast, IsDraftSound, IsTraceDraft, over_of, over_with, part_of}
 use Rattle.fr_trace.specs.Joins.{latest_rows}
 use Rattle.fr_trace.specs.Order.{before_at, cycle_of, doubles_or_0, here_at, may_come, may_come_next}

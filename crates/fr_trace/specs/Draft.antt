@@ -10,9 +10,9 @@ use Rattle.fr_cluster.specs.Questions.{is_known, own_key}
 use Rattle.fr_cluster.specs.Sane.{IsSane}
 use Rattle.fr_cluster.specs.Values.{Values}
 use Rattle.fr_history.specs.History.{History, Record, row_of}
-use Rattle.fr_records.specs.Records.{FileRecord}
-use Rattle.fr_records.specs.Refusal.{Refusing}
-use Rattle.fr_records.specs.Takes.{TakesRow}
+use Rattle.fr_text.specs.Records.{FileRecord}
+use Rattle.fr_text.specs.Refusal.{Refusing}
+use Rattle.fr_text.specs.Takes.{TakesRow}
 use Rattle.fr_trace.specs.Cycles.{history_by}
 use Rattle.fr_trace.specs.Files.{TraceStandsFor, is_whole}
 use Rattle.fr_trace.specs.Fits.{IsAboutOther, TraceFits, TracedJoinIsProper}

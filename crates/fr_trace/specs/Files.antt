@@ -1,9 +1,9 @@
 -- What a trace stands for, and why a file is refused.
 use Rattle.std.specs.Prelude.{◌≡◌, ℕ, ◌*◌, Bool, true, false, List, length, Option, Some, None, ⊤}
 use Rattle.fr_cluster.specs.Values.{Values}
-use Rattle.fr_records.specs.Kind.{Kind}
-use Rattle.fr_records.specs.Records.{FileRecord, records_of}
-use Rattle.fr_records.specs.Refusal.{FirstRefused, NoneRefused}
+use Rattle.fr_text.specs.Kind.{Kind}
+use Rattle.fr_text.specs.Records.{FileRecord, records_of}
+use Rattle.fr_text.specs.Refusal.{FirstRefused, NoneRefused}
 use Rattle.fr_trace.specs.Fits.{TraceFits}
 use Rattle.fr_trace.specs.Order.{before_at, ends_with}
 use Rattle.fr_trace.specs.Reasons.{trace_reason_after}

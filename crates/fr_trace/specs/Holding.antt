@@ -8,10 +8,10 @@ use Rattle.fr_base.specs.declared.reason.Reason.{Reason}
 use Rattle.fr_base.specs.declared.reason.Reason.TheVariants as reason
 use Rattle.fr_cluster.specs.Questions.{is_known, own_key}
 use Rattle.fr_cluster.specs.Values.{Values}
-use Rattle.fr_records.specs.Fields.{field_of}
-use Rattle.fr_records.specs.Forms.{Form, NumberField, number_field, misses_form, has_unknown_name, has_no_number, is_out_of_range, has_bad_channels}
-use Rattle.fr_records.specs.Least.{row_passes}
-use Rattle.fr_records.specs.Records.{FileRecord}
+use Rattle.fr_text.specs.Fields.{field_of}
+use Rattle.fr_text.specs.Forms.{Form, NumberField, number_field, misses_form, has_unknown_name, has_no_number, is_out_of_range, has_bad_channels}
+use Rattle.fr_text.specs.Least.{row_passes}
+use Rattle.fr_text.specs.Records.{FileRecord}
 use Rattle.fr_trace.specs.Order.{may_come}
 use Rattle.fr_trace.specs.Reasons.{have_common, is_linked, is_of_other, joins_wrongly, knows_node_and_reference}
 use Rattle.fr_trace.specs.Rows.{state_of, trace_row_of}

@@ -2,7 +2,7 @@
 use Rattle.std.specs.Prelude.{◌≡◌, ℕ, ◌+◌, List, ◌∷◌, ◌++◌, length, map, Some, Result, Ok}
 use Rattle.fr_base.specs.declared.reason.Reason.{Reason}
 use Rattle.fr_cluster.specs.Values.{Values}
-use Rattle.fr_records.specs.Records.{FileRecord, records_of}
+use Rattle.fr_text.specs.Records.{FileRecord, records_of}
 use Rattle.fr_trace.specs.Files.{IsTraceFile}
 use Rattle.fr_trace.specs.Items.{IsAt, Item, Line, items_in, line_of}
 use Rattle.fr_trace.specs.Rows.{trace_row_of}

@@ -10,7 +10,7 @@ use Rattle.fr_cluster.specs.Values.{Values}
 use Rattle.fr_cluster.specs.declared.join.Join.{Join}
 use Rattle.fr_cluster.specs.declared.nodes.NodeSpec.{NodeSpec}
 use Rattle.fr_history.specs.History.{row_of}
-use Rattle.fr_records.specs.Records.{FileRecord}
+use Rattle.fr_text.specs.Records.{FileRecord}
 use Rattle.fr_trace.specs.Joins.{first_cycle, is_among, join_among, latest_rows}
 use Rattle.fr_trace.specs.Said.{history_said, joins_at, last_row_at, named_at, record_said, traced_doubles_at}
 use Rattle.fr_trace.specs.declared.order.Turn.{Turn}

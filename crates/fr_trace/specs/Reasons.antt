@@ -11,7 +11,7 @@ use Rattle.fr_base.specs.Within.{lies_within}
 use Rattle.fr_cluster.specs.Questions.{is_common, is_known, own_key}
 use Rattle.fr_cluster.specs.Searches.{key_node_in}
 use Rattle.fr_cluster.specs.Values.{Values}
-use Rattle.fr_records.specs.Records.{FileRecord}
+use Rattle.fr_text.specs.Records.{FileRecord}
 use Rattle.fr_trace.specs.Joins.{is_among, join_among}
 use Rattle.fr_trace.specs.Order.{may_come}
 use Rattle.fr_trace.specs.Rows.{trace_row_of}

@@ -11,8 +11,8 @@ use Rattle.fr_base.specs.declared.reason.Reason.{Reason}
 use Rattle.fr_base.specs.declared.reason.Reason.TheVariants as reason
 use Rattle.fr_base.specs.declared.state.State.{State}
 use Rattle.fr_base.specs.declared.state.State.TheVariants.{Active, Passive, Halt}
-use Rattle.fr_records.specs.Fields.{both_of, field_of, is_blank, natural_of, or_reason}
-use Rattle.fr_records.specs.Records.{FileRecord}
+use Rattle.fr_text.specs.Fields.{both_of, field_of, is_blank, natural_of, or_reason}
+use Rattle.fr_text.specs.Records.{FileRecord}
 use Rattle.fr_trace.specs.declared.rows.HeardRow.{HeardRow}
 use Rattle.fr_trace.specs.declared.rows.Row.{Row}
 use Rattle.fr_trace.specs.declared.rows.Row.TheVariants as row

@@ -9,8 +9,8 @@ use Rattle.fr_base.specs.declared.dev.Dev.{Dev}
 use Rattle.fr_base.specs.declared.node_row.NodeRow.{NodeRow}
 use Rattle.fr_base.specs.declared.reason.Reason.{Reason}
 use Rattle.fr_history.specs.History.{History, Record}
-use Rattle.fr_records.specs.Fields.{looked_up, or_else}
-use Rattle.fr_records.specs.Records.{FileRecord}
+use Rattle.fr_text.specs.Fields.{looked_up, or_else}
+use Rattle.fr_text.specs.Records.{FileRecord}
 use Rattle.fr_trace.specs.Rows.{trace_row_of}
 use Rattle.fr_trace.specs.declared.rows.HeardRow.{HeardRow}
 use Rattle.fr_trace.specs.declared.rows.Row.{Row}

@@ -1,8 +1,8 @@
 -- What is said of a stop at a trace.
 use Rattle.std.specs.Prelude.{ℕ, List, ◌++◌, codes}
 use Rattle.std.specs.Fmt.{decimal}
-use Rattle.fr_records.specs.Told.{record_text, stop_text}
-use Rattle.fr_records.specs.declared.kind.Stop.{Stop}
+use Rattle.fr_text.specs.Told.{record_text, stop_text}
+use Rattle.fr_text.specs.declared.kind.Stop.{Stop}
 use Rattle.fr_trace.specs.declared.fault.TraceFault.{TraceFault}
 use Rattle.fr_trace.specs.declared.fault.TraceFault.TheVariants as fault
 

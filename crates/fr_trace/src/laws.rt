@@ -1,5 +1,5 @@
-ghost use Rattle.fr_records.specs.Kind.{HasOneAnswer, HasSomeAnswer};
-ghost use Rattle.fr_records.specs.Least.{GivesLeast};
+ghost use Rattle.fr_text.specs.Kind.{HasOneAnswer, HasSomeAnswer};
+ghost use Rattle.fr_text.specs.Least.{GivesLeast};
 ghost use Rattle.fr_cluster.specs.Sane.{IsSane};
 ghost use Rattle.fr_cluster.specs.Values.{Values};
 ghost use Rattle.fr_trace.specs.Files.{trace_file};

@@ -1,6 +1,6 @@
 ghost use Rattle.std.specs.Prelude.{◌≡◌, List, Some, IfOk};
-ghost use Rattle.fr_records.specs.Kind.{Reads};
-ghost use Rattle.fr_records.specs.Records.{FileRecord};
+ghost use Rattle.fr_text.specs.Kind.{Reads};
+ghost use Rattle.fr_text.specs.Records.{FileRecord};
 ghost use Rattle.fr_trace.specs.Draft.{AnswersFor, HoldsTrace, IsTraceDraft, IsWholeDraft};
 ghost use Rattle.fr_trace.specs.Files.{is_whole, trace_file};
 ghost use Rattle.fr_trace.specs.Fits.{TraceFits};
@@ -14,7 +14,7 @@ use crate::trace::Trace;
 use csv::ByteRecord;
 use fr_base::Reason;
 use fr_cluster::Params;
-use fr_records::{RowFault, Table, read_all};
+use fr_text::{RowFault, Table, read_all};
 use std::alloc::{AllocError, Global};
 
 // The trace under construction, with the parameters against which the records are read.

@@ -1,13 +1,13 @@
 ghost use Rattle.std.specs.Prelude.{◌≡◌, ◌≤ℤ◌, ◌&&◌, pos, negsuc, IfOk, IfSome};
 ghost use Rattle.csv.specs.Records.{fields_of};
-ghost use Rattle.fr_records.specs.Fields.{is_blank};
+ghost use Rattle.fr_text.specs.Fields.{is_blank};
 ghost use Rattle.fr_trace.specs.Rows.{IsProperTraceRow, traced_arbitrary_row, are_blank, traced_join_row, AreProperTerms, IsProperSpan, clock_in, clock_row, heard_row, offset_in, traced_rate_in, run_row, span_in, state_of, terms_in, trace_file_row, trace_row_of, value_in};
 
 use crate::trace::TracedJoin;
 use csv::ByteRecord;
 use fr_base::{Channel, NodeId, NodeRow, NumberFault, Reason, Slot, State, number};
 use fr_cluster::Join;
-use fr_records::{both, field, natural, reason_of};
+use fr_text::{both, field, natural, reason_of};
 
 /// A deviation that a record says. The channel is None where the field names none: whether the nodes are
 /// known is asked before.

@@ -13,12 +13,12 @@ use Rattle.fr_base.specs.declared.channel.Channel.{Channel}
 use Rattle.fr_base.specs.declared.channel.Channel.TheVariants.{A, B}
 use Rattle.fr_drift.specs.Held.{held}
 use Rattle.fr_drift.specs.Keys.{length_cmp}
-use Rattle.fr_records.specs.Keys.{found_at}
+use Rattle.fr_text.specs.Keys.{found_at}
 use Rattle.fr_drift.specs.Questions.{delay_of, doubles_of, length_of, rate_of, start_of}
 use Rattle.fr_drift.specs.View.{DriftView}
 use Rattle.fr_drift.specs.declared.keys.LengthKey.{LengthKey}
 use Rattle.fr_drift.specs.declared.rows.Start.{Start}
-use Rattle.fr_records.specs.Fields.{or_else}
+use Rattle.fr_text.specs.Fields.{or_else}
 use Rattle.fr_script.specs.Deeds.{deed_in, passage_cmp, passage_of}
 use Rattle.fr_script.specs.Events.{event_by, event_of}
 use Rattle.fr_script.specs.View.{ScriptView, deed_of, is_arbitrary, join_of}

@@ -5,10 +5,10 @@ use Rattle.fr_cluster.specs.Values.{Values}
 use Rattle.fr_params.specs.Files.{params_file}
 use Rattle.fr_params.specs.Told.{params_says}
 use Rattle.fr_program.proofs.Endings.{cut_short, whole}
-use Rattle.fr_records.proofs.Commands.{refused_behind, stops_first, stops_next}
-use Rattle.fr_records.proofs.Shelves.{has_earlier}
-use Rattle.fr_records.specs.Files.{Files, StopsIn, file, text}
-use Rattle.fr_records.specs.declared.told.Told.{Told}
+use Rattle.fr_text.proofs.Commands.{refused_behind, stops_first, stops_next}
+use Rattle.fr_text.proofs.Shelves.{has_earlier}
+use Rattle.fr_text.specs.Files.{Files, StopsIn, file, text}
+use Rattle.fr_text.specs.declared.told.Told.{Told}
 use Rattle.fr_trace.specs.Files.{trace_file}
 use Rattle.fr_trace.specs.Told.{trace_says}
 use Rattle.fr_trace.specs.Trace.{TraceView}

@@ -7,9 +7,9 @@ use Rattle.fr_cold.specs.View.{PowerView}
 use Rattle.fr_params.specs.Files.{params_file}
 use Rattle.fr_params.specs.Told.{params_says}
 use Rattle.fr_program.proofs.Endings.{cut_short, whole}
-use Rattle.fr_records.proofs.Commands.{stops_first, stops_next}
-use Rattle.fr_records.proofs.Shelves.{has_earlier}
-use Rattle.fr_records.specs.Files.{Files, IsNeverSaid, file, text}
+use Rattle.fr_text.proofs.Commands.{stops_first, stops_next}
+use Rattle.fr_text.proofs.Shelves.{has_earlier}
+use Rattle.fr_text.specs.Files.{Files, IsNeverSaid, file, text}
 use Rattle.fr_cold.specs.ColdText.{IsColdText}
 use Rattle.fr_cold.proofs.answering.answer_cold.Goals as goal
 

@@ -1,5 +1,5 @@
 use Rattle.std.proofs.Common.{◌∙◌, refl}
-use Rattle.fr_records.specs.Records.{records_of}
+use Rattle.fr_text.specs.Records.{records_of}
 use Rattle.fr_cluster.specs.Numbers.{values_in}
 use Rattle.fr_cluster.proofs.Figures.{figure-values_in}
 use Rattle.fr_params.specs.Versions.{version_of}

@@ -5,8 +5,8 @@ use Rattle.fr_params.specs.Files.{params_file}
 use Rattle.fr_params.specs.Told.{params_says}
 use Rattle.fr_program.proofs.Endings.{ends_cut_short, whole}
 use Rattle.fr_program.specs.declared.failure.Failure.TheVariants.{WriteFault}
-use Rattle.fr_records.proofs.Commands.{stops_first}
-use Rattle.fr_records.specs.Files.{Files, IsNeverSaid, text}
+use Rattle.fr_text.proofs.Commands.{stops_first}
+use Rattle.fr_text.specs.Files.{Files, IsNeverSaid, text}
 use Rattle.fr_params.specs.UpgradeAnswer.{IsUpgrade}
 use Rattle.fr_params.proofs.Upgraded.{upgrade_of}
 use Rattle.fr_params.proofs.upgrade.answer_upgrade.Goals as goal

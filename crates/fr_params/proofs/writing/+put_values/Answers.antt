@@ -1,7 +1,7 @@
 use Rattle.std.proofs.Common.{◌≡◌, List, ◌∷◌, ◌++◌, map, ap, rules}
 use Rattle.fr_base.proofs.Putting.{cut, then}
 use Rattle.fr_cluster.specs.declared.names.ParamName.{ParamName}
-use Rattle.fr_records.specs.Texts.{line_of_record, text_of_records}
+use Rattle.fr_text.specs.Texts.{line_of_record, text_of_records}
 use Rattle.fr_params.specs.Texts.{param_record}
 use Rattle.fr_params.proofs.writing.+put_values.Goals as goal
 

@@ -4,7 +4,7 @@ use Rattle.fr_base.specs.Device.{Puts}
 use Rattle.fr_cluster.specs.Values.{Values}
 use Rattle.fr_params.proofs.Putting.{whole-text}
 use Rattle.fr_params.specs.Texts.{node_record, slot_record}
-use Rattle.fr_records.specs.Texts.{text_of_records}
+use Rattle.fr_text.specs.Texts.{text_of_records}
 use Rattle.fr_params.proofs.writing.write.Goals as goal
 
 pub returns-in_err-put : goal.returns-in_err-put

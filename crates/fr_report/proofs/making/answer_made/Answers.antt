@@ -1,9 +1,9 @@
 use Rattle.std.proofs.Common.{◌≡◌, [], Err, rules}
 use Rattle.fr_program.proofs.Endings.{cut_short, ends_stopped, whole}
 use Rattle.fr_program.specs.declared.failure.Failure.TheVariants.{Stopped}
-use Rattle.fr_records.proofs.Commands.{stops_behind}
-use Rattle.fr_records.specs.Files.{IsNeverSaid}
-use Rattle.fr_records.specs.Told.{no_memory}
+use Rattle.fr_text.proofs.Commands.{stops_behind}
+use Rattle.fr_text.specs.Files.{IsNeverSaid}
+use Rattle.fr_text.specs.Told.{no_memory}
 use Rattle.fr_report.specs.MakeAnswer.{IsMadeReport}
 use Rattle.fr_report.specs.RunText.{run_text}
 use Rattle.fr_report.proofs.making.answer_made.Goals as goal

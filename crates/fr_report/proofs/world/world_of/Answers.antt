@@ -7,11 +7,11 @@ use Rattle.fr_drift.specs.Told.{drift_says}
 use Rattle.fr_drift.specs.View.{DriftView}
 use Rattle.fr_params.specs.Files.{params_file}
 use Rattle.fr_params.specs.Told.{params_says}
-use Rattle.fr_records.proofs.Commands.{stops_behind, stops_first, stops_next}
-use Rattle.fr_records.proofs.Shelves.{has_earlier}
-use Rattle.fr_records.specs.Files.{Files, IsNeverSaid, StopsIn, file, text}
-use Rattle.fr_records.specs.Kind.{Has}
-use Rattle.fr_records.specs.declared.told.Told.{Told}
+use Rattle.fr_text.proofs.Commands.{stops_behind, stops_first, stops_next}
+use Rattle.fr_text.proofs.Shelves.{has_earlier}
+use Rattle.fr_text.specs.Files.{Files, IsNeverSaid, StopsIn, file, text}
+use Rattle.fr_text.specs.Kind.{Has}
+use Rattle.fr_text.specs.declared.told.Told.{Told}
 use Rattle.fr_script.specs.Files.{script_file}
 use Rattle.fr_script.specs.Told.{script_says}
 use Rattle.fr_script.specs.View.{ScriptView}

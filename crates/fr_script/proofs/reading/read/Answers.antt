@@ -1,4 +1,4 @@
-use Rattle.fr_records.specs.Records.{records_of}
+use Rattle.fr_text.specs.Records.{records_of}
 use Rattle.fr_script.proofs.Standing.{stands-of}
 use Rattle.fr_script.proofs.reading.read.Goals as goal
 

@@ -3,7 +3,7 @@ use Rattle.fr_program.proofs.Endings.{complete}
 use Rattle.fr_program.specs.Around.{Around, around_of}
 use Rattle.fr_program.specs.Command.{IsComplete}
 use Rattle.fr_program.specs.Failure.{ending_status}
-use Rattle.fr_records.specs.declared.status.Status.{Status}
+use Rattle.fr_text.specs.declared.status.Status.{Status}
 use Rattle.fr_report.specs.Files.{run_command}
 use Rattle.fr_series.specs.SeriesAnswer.{IsSeriesText}
 use Rattle.fr_series.proofs.top.flexray_series.Goals as goal

@@ -1,7 +1,7 @@
 use Rattle.std.proofs.Common.{◌≤◌, ◌-◌, ◌^◌, length, sym, subst, arith}
 use Rattle.fr_cluster.specs.Sane.{IsSane}
-use Rattle.fr_records.specs.Records.{records_of}
-use Rattle.fr_records.proofs.Left.{records_of-few}
+use Rattle.fr_text.specs.Records.{records_of}
+use Rattle.fr_text.proofs.Left.{records_of-few}
 use Rattle.fr_trace.proofs.Answering.{answers-fit, answers-read}
 use Rattle.fr_trace.proofs.reading.read.Goals as goal
 

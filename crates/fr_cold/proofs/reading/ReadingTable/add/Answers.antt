@@ -1,6 +1,6 @@
 use Rattle.std.proofs.Common.{◌≡◌, ◌∙◌, ap, sym, Ok}
 use Rattle.csv.specs.Records.{fields_of}
-use Rattle.fr_records.proofs.Lookups.{takes-said}
+use Rattle.fr_text.proofs.Lookups.{takes-said}
 use Rattle.fr_cold.specs.Rows.{power_row_of}
 use Rattle.fr_cold.specs.Reasons.{power_row_reason}
 use Rattle.fr_cold.specs.Draft.{IsPowerDraft}

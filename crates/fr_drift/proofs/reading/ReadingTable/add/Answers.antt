@@ -1,6 +1,6 @@
 use Rattle.std.proofs.Common.{◌≡◌, ◌∙◌, ap, sym, Ok}
 use Rattle.csv.specs.Records.{fields_of}
-use Rattle.fr_records.proofs.Lookups.{takes-said}
+use Rattle.fr_text.proofs.Lookups.{takes-said}
 use Rattle.fr_drift.specs.Rows.{drift_row_of}
 use Rattle.fr_drift.specs.Reasons.{drift_row_reason}
 use Rattle.fr_drift.specs.Draft.{IsDriftDraft}

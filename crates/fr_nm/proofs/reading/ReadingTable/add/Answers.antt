@@ -1,6 +1,6 @@
 use Rattle.std.proofs.Common.{◌≡◌, ◌∙◌, sym, Ok}
 use Rattle.csv.specs.Records.{fields_of}
-use Rattle.fr_records.proofs.Lookups.{takes-said}
+use Rattle.fr_text.proofs.Lookups.{takes-said}
 use Rattle.fr_nm.specs.Rows.{vectors_row_of}
 use Rattle.fr_nm.specs.Reasons.{vectors_row_reason}
 use Rattle.fr_nm.specs.Files.{HoldsEntries}

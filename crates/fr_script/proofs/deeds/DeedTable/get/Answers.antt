@@ -1,6 +1,6 @@
 use Rattle.std.proofs.Common.{◌≡◌, ◌∙◌, List, Option, None, Some, ap, sym}
 use Rattle.std.specs.Option.{option_copied}
-use Rattle.fr_records.specs.Fields.{or_else}
+use Rattle.fr_text.specs.Fields.{or_else}
 use Rattle.fr_script.specs.Deeds.{deed_in}
 use Rattle.fr_script.specs.declared.deeds.Deed.{Deed}
 use Rattle.fr_script.specs.declared.deeds.Passage.{Passage}

@@ -1,6 +1,6 @@
 use Rattle.std.proofs.Common.{◌≡◌, ◌≤◌, ◌⊎◌, ◌∙◌, ◌++◌, ap, sym, length, List, Option, None, false, inl, inr, arith, rules}
 use Rattle.std.specs.Prelude.{◌&&◌, is_none, is_some, not, slice_index_or}
-use Rattle.fr_records.specs.Fields.{or_else}
+use Rattle.fr_text.specs.Fields.{or_else}
 use Rattle.fr_script.specs.Deeds.{IsDeedPut, deed_in}
 use Rattle.fr_script.specs.declared.deeds.Deed.{Deed}
 use Rattle.fr_script.specs.declared.deeds.Passage.{Passage}

@@ -1,5 +1,5 @@
 use Rattle.std.proofs.Common.{◌≡◌, rules, ◌∙◌, ap, sym, Ok, List}
-use Rattle.fr_records.specs.Records.{FileRecord}
+use Rattle.fr_text.specs.Records.{FileRecord}
 use Rattle.fr_script.specs.Draft.{repeated, IsScriptDraft}
 use Rattle.fr_script.specs.Reasons.{deed_by}
 use Rattle.fr_script.specs.declared.rows.DeedRow.{DeedRow}

@@ -1,6 +1,6 @@
 use Rattle.std.proofs.Common.{◌≡◌, rules, ◌++◌, ◌∷◌, [], Bool, true, List, Option, None, Some, slice_set, subst, sym}
 use Rattle.fr_cluster.specs.declared.join.Join.{Join}
-use Rattle.fr_records.specs.Records.{FileRecord}
+use Rattle.fr_text.specs.Records.{FileRecord}
 use Rattle.fr_script.specs.Draft.{IsScriptDraft}
 use Rattle.fr_script.specs.Reasons.{join_reason}
 use Rattle.fr_script.proofs.Joining.{joins-first}

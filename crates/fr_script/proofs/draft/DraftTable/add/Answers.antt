@@ -1,6 +1,6 @@
 use Rattle.std.proofs.Common.{◌≡◌, ◌∙◌, sym, Ok}
 use Rattle.csv.specs.Records.{fields_of}
-use Rattle.fr_records.proofs.Lookups.{takes-said}
+use Rattle.fr_text.proofs.Lookups.{takes-said}
 use Rattle.fr_script.specs.Rows.{script_row_of}
 use Rattle.fr_script.specs.Reasons.{script_row_reason}
 use Rattle.fr_script.specs.Draft.{IsScriptDraft}

@@ -4,7 +4,7 @@ use mir.Syntax.{w64}
 use Rattle.std.proofs.lemmas.Int.{to_z-of_z}
 use Rattle.fr_base.specs.declared.channel.Channel.{Channel}
 use Rattle.fr_base.specs.declared.channel.Channel.TheVariants as channel
-use Rattle.fr_records.specs.Records.{FileRecord}
+use Rattle.fr_text.specs.Records.{FileRecord}
 use Rattle.fr_script.specs.Rows.{script_row_of}
 use Rattle.fr_script.specs.View.{ScriptView}
 use Rattle.fr_script.specs.Fields.{seen_of}

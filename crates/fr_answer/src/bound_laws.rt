@@ -1,0 +1,29 @@
+ghost use Rattle.std.specs.Prelude.{ℕ};
+ghost use Rattle.fr_text.specs.Files.{IsDecided};
+ghost use Rattle.fr_answer.specs.BoundAnswer.{bound_files, join_files};
+ghost use Rattle.fr_answer.specs.SettleAnswer.{settle_files};
+
+use fr_bound::one_settling;
+
+/// A law: the bytes of the file decide what is written. Two texts that the answer's clause allows for files of
+/// the same bytes are the same.
+pub fn file_decides_the_bounds()
+    ensures { IsDecided bound_files }
+{
+    fr_params::one_answer();
+}
+
+/// A law: so they do with the lines of a cluster that nodes join.
+pub fn file_decides_the_bounds_of_joining()
+    ensures { IsDecided join_files }
+{
+    fr_params::one_answer();
+}
+
+/// A law: so do the bytes of the file and the two numbers decide how long until in sync.
+pub fn file_decides_the_settling()
+    ensures { (start rate : ℕ) → IsDecided (settle_files start rate) }
+{
+    one_settling();
+    fr_params::one_answer();
+}

@@ -1,2 +1,0 @@
-pub mod FrameDecided
-pub mod BoundDecided

@@ -1,5 +1,0 @@
-use Rattle.fr_commands.proofs.BoundDecided.{one_bounds}
-use Rattle.fr_commands.proofs.bound_laws.file_decides_the_bounds.Goals as goal
-
-pub returns : goal.returns
-returns c = one_bounds c.one_answer.ensures

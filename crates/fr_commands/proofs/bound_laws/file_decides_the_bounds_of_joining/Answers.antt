@@ -1,5 +1,0 @@
-use Rattle.fr_commands.proofs.BoundDecided.{one_join_bounds}
-use Rattle.fr_commands.proofs.bound_laws.file_decides_the_bounds_of_joining.Goals as goal
-
-pub returns : goal.returns
-returns c = one_join_bounds c.one_answer.ensures

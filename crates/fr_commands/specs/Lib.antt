@@ -1,7 +1,0 @@
--- what the public contract cites
-pub mod FrameAnswer
-pub mod FrameText
-pub mod BoundAnswer
-pub mod BoundText
-pub mod SettleAnswer
-pub mod SettleText

@@ -1,5 +1,0 @@
-use Rattle.fr_records.proofs.Cuts.{first-same}
-use Rattle.fr_records.proofs.laws.one_first_refused.Goals as goal
-
-pub returns : goal.returns
-returns c = first-same
