@@ -1,9 +1,10 @@
 -- What a listener catches in a turn of its reference's key slot.
-use Rattle.std.proofs.Common.{◌≡◌, ◌≢◌, ◌∙◌, ℕ, ◌+◌, ◌*◌, ◌≤◌, ◌==◌, ◌&&◌, ◌||◌, not, Bool, true, false, cond, ℤ, pos, List, Option, Some, None, IsSome, refl, ap, sym, subst, arith}
+use Rattle.std.proofs.Common.{◌≡◌, ◌≢◌, ◌∙◌, ℕ, ◌+◌, ◌*◌, ◌≤◌, ◌==◌, ◌&&◌, ◌||◌, not, Bool, true, false, cond, ℤ, pos, List, Option, Some, None, IsSome, FitsSigned, w64, to_z, of_z, refl, ap, sym, subst, arith}
 use Rattle.std.specs.Prelude.{Contains, option_and_then}
 use Rattle.std.specs.Option.{option_map}
 use Rattle.std.proofs.lemmas.Bool.{cond_both, eqb-true}
-use Rattle.std.proofs.lemmas.Int.{ints}
+use Rattle.std.proofs.lemmas.Int.{ints, to_z-of_z}
+use Rattle.fr_base.specs.Event.{Event}
 use Rattle.fr_base.specs.States.{is_active}
 use Rattle.fr_base.specs.Within.{IsBetween}
 use Rattle.fr_base.specs.declared.channel.Channel.{Channel}
@@ -25,15 +26,15 @@ use Rattle.fr_reception.specs.Offers.{Offer}
 use Rattle.fr_reception.specs.Regular.{regular_frame}
 use Rattle.fr_node.specs.Listening.{ListenerView, with_arrival}
 use Rattle.fr_history.specs.History.{row_of as row_in}
-use Rattle.fr_history.specs.Offers.{active_offer, is_on, sent_offer}
+use Rattle.fr_history.specs.Offers.{active_offer, arrived_of, is_on, sent_offer}
 use Rattle.fr_time.proofs.Keys.{key_index_is, key_slot_within}
 use Rattle.fr_history.specs.Catching.{caught_arrival, listener_offer, listening_row, sender_offers}
 use Rattle.fr_script.specs.View.{is_arbitrary, join_of}
 use Rattle.fr_air.proofs.Listening.{find-holds, own_key-sender}
 use Rattle.fr_air.proofs.Among.{found-among}
 use Rattle.fr_air.specs.Files.{setting_in}
-use Rattle.fr_air.specs.Listening.{after_catch, heard_by_listener, offer_caught, with_caught, CanBeHeard, CatchesTurn, IsListener, StartsEarly}
-use Rattle.fr_air.specs.Sending.{sending_row_by, sending_row_in}
+use Rattle.fr_air.specs.Listening.{after_catch, after_frame, frame_with, heard_by_listener, offer_caught, with_caught, CanBeHeard, CatchesTurn, IsListener, StartsEarly}
+use Rattle.fr_air.specs.Sending.{offer_at, sending_row_by, sending_row_in, sent_instant, sent_with}
 use Rattle.fr_air.specs.Turns.{frame_of_turn}
 use Rattle.fr_air.specs.declared.files.RunInputs.{RunInputs}
 use Rattle.fr_air.specs.declared.turn.Turn.{Turn}
@@ -183,3 +184,23 @@ catches f turn rows before after is heard =
 pub off-channel : (b : Bool) → (b && b) ≡ false → b ≡ false
 off-channel true both = both
 off-channel false both = both
+
+-- what a listener catches at an instant that was computed is what comes to it
+module _ (x : Setting) (turn : Turn) (sender : NodeRow) (frame : List ℕ) (listener : ListenerView) (one other : ℕ) (event : Event) (first : one ≡ listener.id) (second : other ≡ listener.id)
+    (is : event ≡ x.event turn.cycle sender.node other turn.channel) where
+  event_is : event ≡ x.event turn.cycle sender.node listener.id turn.channel
+  event_is = is ∙ ap (λ (receiver : ℕ). x.event turn.cycle sender.node receiver turn.channel) second
+
+  pub caught-sent : (arrival : ℤ) (bit : Option ℕ) (after : ListenerView) → FitsSigned w64 arrival → arrival ≡ sent_instant x turn sender one → arrived_of event frame ≡ Some (frame_with bit frame) →
+      after ≡ after_frame turn (to_z w64 (of_z w64 arrival)) bit frame listener → after ≡ after_catch turn (sent_with x turn sender frame listener.id) listener
+  caught-sent arrival bit after fits at arrives catches =
+      let instant : arrival ≡ sent_instant x turn sender listener.id = at ∙ ap (sent_instant x turn sender) first in
+      catches
+      ∙ ap (λ (a : ℤ). after_frame turn a bit frame listener) (to_z-of_z w64 arrival fits ∙ instant)
+      ∙ ap (λ (o : Option (List ℕ)). after_catch turn (option_map (offer_at turn (sent_instant x turn sender listener.id)) o) listener)
+      (sym arrives ∙ ap (λ (e : Event). arrived_of e frame) event_is)
+
+  pub nothing-sent : arrived_of event frame ≡ None → listener ≡ after_catch turn (sent_with x turn sender frame listener.id) listener
+  nothing-sent none =
+      ap (λ (o : Option (List ℕ)). after_catch turn (option_map (offer_at turn (sent_instant x turn sender listener.id)) o) listener)
+      (sym none ∙ ap (λ (e : Event). arrived_of e frame) event_is)

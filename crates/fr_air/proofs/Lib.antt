@@ -1,3 +1,4 @@
+pub mod Fitting
 pub mod Placing
 pub mod NextStanding
 pub mod Listeners

@@ -1,7 +1,7 @@
 -- A frame that stands in a cell stays there while other cells are taken, written and given back.
-use Rattle.std.proofs.Common.{◌≡◌, ◌≢◌, ℕ, ◌<◌, ◌-◌, ◌/◌, ◌%◌, ◌^◌, bit_xor, Bool, true, false, List, [], length, take, drop, get_or, ◌++◌, set, Some, refl, ap, sym, subst, ◌∙◌, arith}
+use Rattle.std.proofs.Common.{◌≡◌, ◌≢◌, ℕ, ◌<◌, ◌≤◌, ◌-◌, ◌/◌, ◌%◌, ◌^◌, bit_xor, Bool, true, false, List, [], length, take, drop, get_or, ◌++◌, set, Some, refl, ap, sym, subst, ◌∙◌, arith}
 use Rattle.std.specs.Prelude.{slice_get}
-use Rattle.std.proofs.lemmas.List.{get_or-set_other, get_or-set_same, length-set, set-set, take_at}
+use Rattle.std.proofs.lemmas.List.{get_or-set_other, get_or-set_same, length-set, length-take-le, set-set, take_at}
 use Rattle.std.proofs.lemmas.Option.{get_or_from_slice_get, slice_get-get_or, slice_get_within}
 use Rattle.fr_pool.specs.Pool.{PoolView, IsOut, Takes, copied_in, given_back, taken_out, written_in}
 use Rattle.fr_reception.specs.Offers.{flipped}
@@ -58,6 +58,21 @@ read-back old taken cell front rest got takes whole is =
     let lt : cell < length taken.bytes = omega (arith, whole, inside, long) in
     ap (take (length front)) (sym (get_or_from_slice_get (set taken.bytes cell (front ++ rest)) cell got [] is) ∙ get_or-set_same taken.bytes cell (front ++ rest) [] lt)
     ∙ take_at front rest (length front) refl
+
+-- so few bytes have room in a cell
+pub few-bytes : (count : ℕ) (cell : List ℕ) → count ≤ 262 → length cell ≡ 264 → count ≤ length cell
+few-bytes count cell few whole = omega (arith, few, whole)
+
+-- what is read at the front of a cell
+pub front-long : (count : ℕ) (cell : List ℕ) → count ≤ 262 → length cell ≡ 264 → count ≡ length (take count cell)
+front-long count cell few whole = sym (length-take-le count cell (few-bytes count cell few whole))
+
+-- what was written in a cell is read of one
+pub all-read : (count : ℕ) (written got : List ℕ) → count ≤ length written → length written ≡ 264 → length got ≡ 264 → count ≡ length (take count got)
+all-read count written got within one other = sym (length-take-le count got (omega (arith, within, one, other)))
+
+pub front-read : (pool : PoolView) (cell bytes : ℕ) (got : List ℕ) → slice_get pool.bytes cell ≡ Some got → take bytes got ≡ frame_at pool cell bytes
+front-read pool cell bytes got is = ap (take bytes) (sym (get_or_from_slice_get pool.bytes cell got [] is))
 
 -- a cell that was out still is once another is taken
 pub out-kept : (old taken : PoolView) (cell other : ℕ) → Takes old cell taken → IsOut old other → IsOut taken other
