@@ -14,8 +14,8 @@ use fr_bound::{CheckSides, bounds, side};
 use fr_cluster::Params;
 use fr_params::ParamsFile;
 use fr_program::Failure;
-use fr_text::{Line, accepted, line_of, put_lines};
 use fr_text::Piece::{Natural, Word};
+use fr_text::{Line, accepted, line_of, put_lines};
 use std::alloc::Global;
 
 /// Reads the parameters in the file, and writes their bounds and checks, each line in one put. It loads the file

@@ -5,8 +5,8 @@ ghost use Rattle.fr_frame.specs.declared.fault.FrameFault.TheVariants.{FrameCrc}
 ghost use Rattle.fr_answer.specs.FrameText.{fault_text};
 
 use fr_frame::FrameFault;
-use fr_text::{Line, Status, Told, line_of};
 use fr_text::Piece::{Hex, Natural, Word};
+use fr_text::{Line, Status, Told, line_of};
 
 // What is told of bytes that are no frame, by their first fault.
 pub(crate) fn no_frame(fault: FrameFault) -> Told

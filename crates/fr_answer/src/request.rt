@@ -5,8 +5,8 @@ ghost use Rattle.fr_answer.specs.Request.{IsInRange, IsRequestOf};
 use fr_base::Channel;
 use fr_check::CheckFiles;
 use fr_cold::ColdFiles;
-use fr_text::natural;
 use fr_report::RunFiles;
+use fr_text::natural;
 
 // The greatest number of ticks that may be stated.
 const MOST_STATED: u64 = 1_000_000_000_000;

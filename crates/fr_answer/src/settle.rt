@@ -13,8 +13,8 @@ use fr_bound::{Settling, settle};
 use fr_cluster::Params;
 use fr_params::ParamsFile;
 use fr_program::Failure;
-use fr_text::{Line, accepted, line_of, put_lines};
 use fr_text::Piece::{Natural, Signed, Word};
+use fr_text::{Line, accepted, line_of, put_lines};
 use std::alloc::Global;
 
 /// Reads the parameters in the file, and writes how long clocks take until they are in sync that begin at most `start`

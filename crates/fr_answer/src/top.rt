@@ -82,9 +82,7 @@ fn carry_out<S: Shelf, O: Sink>(
     ensures unwritten { EndingWritesNothing result → out.new ≡ out.old }
 {
     match request {
-        Request::Frame { channel, file } => crate::answer_frame(
-            alloc, channel, file, shelf, out,
-        ),
+        Request::Frame { channel, file } => crate::answer_frame(alloc, channel, file, shelf, out),
         Request::Bound { file } => crate::answer_bound(alloc, file, shelf, out),
         Request::BoundJoin { file } => crate::answer_bound_join(alloc, file, shelf, out),
         Request::Upgrade { file } => fr_params::answer_upgrade(alloc, file, shelf, out),

@@ -59,25 +59,29 @@ fn assembled(alloc: Global) -> Result<Params, ParamFault> {
 
 fn told_node(alloc: Global, node: Option<&NodeSpec>) -> Result<String, AllocError> {
     match node {
-        Some(NodeSpec {
-            id,
-            key,
-            on_a,
-            on_b,
-            coldstart,
-        }) => format!(in alloc; "{id:?} {key:?} {on_a} {on_b} {coldstart} "),
+        Some(
+            NodeSpec {
+                id,
+                key,
+                on_a,
+                on_b,
+                coldstart,
+            },
+        ) => format!(in alloc; "{id:?} {key:?} {on_a} {on_b} {coldstart} "),
         None => format!(in alloc; "no node "),
     }
 }
 
 fn told_slot(alloc: Global, slot: Option<&SlotSpec>) -> Result<String, AllocError> {
     match slot {
-        Some(SlotSpec {
-            slot,
-            node,
-            base,
-            repetition,
-        }) => format!(in alloc; "{slot:?} {node:?} {base} {repetition} "),
+        Some(
+            SlotSpec {
+                slot,
+                node,
+                base,
+                repetition,
+            },
+        ) => format!(in alloc; "{slot:?} {node:?} {base} {repetition} "),
         None => format!(in alloc; "no slot "),
     }
 }

@@ -1,6 +1,6 @@
 use crate::fault::DriftFault;
-use fr_text::{Line, Shown, line_of, record_line};
 use fr_text::Piece::Word;
+use fr_text::{Line, Shown, line_of, record_line};
 
 impl Shown for DriftFault {
     ghost use Rattle.std.specs.Prelude.{codes};

@@ -1,7 +1,7 @@
 use crate::fault::ParamFault;
 use crate::names::word_of;
-use fr_text::{Line, Shown, line_of, record_line};
 use fr_text::Piece::{Natural, Word};
+use fr_text::{Line, Shown, line_of, record_line};
 
 impl Shown for ParamFault {
     ghost use Rattle.std.specs.Prelude.{codes};

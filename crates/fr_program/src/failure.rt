@@ -4,8 +4,8 @@ ghost use Rattle.fr_program.specs.Failure.{failure_line, status_of};
 ghost use Rattle.fr_program.specs.declared.failure.Failure.TheVariants as failure;
 
 use fr_base::{PutFault, Sink};
-use fr_text::{Shown, Status, Stop, Told, line_of, stop_told};
 use fr_text::Piece::Word;
+use fr_text::{Shown, Status, Stop, Told, line_of, stop_told};
 
 /// Why a call did not end in `Done`.
 #[derive(Drop)]

@@ -7,8 +7,8 @@ use crate::files::RunFiles;
 use fr_base::Shelf;
 use fr_drift::DriftFile;
 use fr_params::ParamsFile;
-use fr_text::{Told, accepted};
 use fr_script::ScriptFile;
+use fr_text::{Told, accepted};
 use fr_world::{BuildFault, World};
 use std::alloc::Global;
 

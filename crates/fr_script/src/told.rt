@@ -1,6 +1,6 @@
 use crate::fault::ScriptFault;
-use fr_text::{Line, Shown, line_of, record_line};
 use fr_text::Piece::Word;
+use fr_text::{Line, Shown, line_of, record_line};
 
 impl Shown for ScriptFault {
     ghost use Rattle.std.specs.Prelude.{codes};

@@ -7,8 +7,8 @@ ghost use Rattle.fr_series.specs.Request.{AreFilesOf, series_program};
 use crate::series;
 use fr_base::{Shelf, Sink};
 use fr_program::Failure;
-use fr_text::Status;
 use fr_report::RunFiles;
+use fr_text::Status;
 use std::alloc::Global;
 
 /// Does what the words ask for, which are those after the program's name, the names of three files: loads these from

@@ -3,11 +3,11 @@ ghost use Rattle.fr_base.specs.Device.{IsOneLoadLater};
 ghost use Rattle.fr_text.specs.Kind.{Has};
 ghost use Rattle.fr_text.specs.Loading.{IsUnread, any_file};
 
+use crate::Piece::Word;
+use crate::line_of;
 use crate::status::Status;
 use crate::told::Told;
 use fr_base::{LoadFault, MAX_FILE, Shelf};
-use crate::Piece::Word;
-use crate::line_of;
 use std::alloc::Global;
 
 /// Loads a file of which all bytes are accepted, once; `role` is what it is called where that fails.

@@ -2,11 +2,11 @@ ghost use Rattle.std.specs.Prelude.{◌≡◌, ◌≤◌, ◌++◌, ℕ, List, c
 ghost use Rattle.fr_text.specs.Pieces.{line};
 ghost use Rattle.fr_text.specs.Told.{no_memory, record_text, stop_status, stop_text, stop_told};
 
+use crate::Piece::{Natural, Word};
 use crate::kind::Stop;
 use crate::status::Status;
-use fr_base::Reason;
-use crate::Piece::{Natural, Word};
 use crate::{Line, line_of};
+use fr_base::Reason;
 
 /// What is told of a request that did not end in `Done`.
 #[derive(Drop)]

@@ -1,6 +1,6 @@
 use crate::fault::TraceFault;
-use fr_text::{Line, Shown, line_of, record_line};
 use fr_text::Piece::{Natural, Word};
+use fr_text::{Line, Shown, line_of, record_line};
 
 impl Shown for TraceFault {
     ghost use Rattle.std.specs.Prelude.{codes};
