@@ -20,3 +20,4 @@ pub mod SharpWorked
 pub mod SharpSlow
 pub mod OlderWorked
 pub mod SharpLists
+pub mod RunFlutter

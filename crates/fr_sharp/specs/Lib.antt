@@ -1,5 +1,6 @@
 -- what the public contract cites
 pub mod Ends
+pub mod Flutter
 pub mod Hearing
 pub mod Lengths
 pub mod Nearness
