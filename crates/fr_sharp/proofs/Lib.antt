@@ -21,3 +21,5 @@ pub mod SharpSlow
 pub mod OlderWorked
 pub mod SharpLists
 pub mod RunFlutter
+pub mod FramesCounted
+pub mod RowsSupplied

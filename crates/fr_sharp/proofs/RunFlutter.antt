@@ -1,5 +1,5 @@
 -- What flutter stated delays have.
-use Rattle.std.proofs.Common.{ℕ, suc, ◌*◌, ◌<◌, arith}
+use Rattle.std.proofs.Common.{suc, ◌*◌, arith}
 use Rattle.fr_sharp.specs.Flutter.{StatedDelaysFlutter}
 use Rattle.fr_sharp.proofs.SteadyLemmas.{delays_flutter_little}
 

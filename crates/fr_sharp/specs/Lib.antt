@@ -12,3 +12,4 @@ pub mod SharpRun
 pub mod SharpSettling
 pub mod SharpStep
 pub mod Steady
+pub mod SteadyRuns

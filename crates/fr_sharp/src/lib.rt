@@ -12,6 +12,7 @@ mod nearness;
 mod runs_flutter;
 mod settling;
 mod steady;
+mod steady_runs;
 mod step;
 
 pub use bounds::{sharp_bounds_are_below, sharp_checks_suffice, walks_are_bounded};
@@ -24,4 +25,5 @@ pub use nearness::nodes_lie_near;
 pub use runs_flutter::stated_delays_flutter;
 pub use settling::sharp_spreads_settle;
 pub use steady::{pairs_are_steady, steady_values_place};
+pub use steady_runs::runs_hear_steadily;
 pub use step::{sharp_spreads_shrink, sharp_sync_is_kept};
