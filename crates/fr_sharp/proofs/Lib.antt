@@ -23,3 +23,5 @@ pub mod SharpLists
 pub mod RunFlutter
 pub mod FramesCounted
 pub mod RowsSupplied
+pub mod RunDoubles
+pub mod RunSync

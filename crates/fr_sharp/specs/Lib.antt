@@ -7,6 +7,7 @@ pub mod Nearness
 pub mod Said
 pub mod SharpBounds
 pub mod SharpChecks
+pub mod SharpHistories
 pub mod SharpRound
 pub mod SharpRun
 pub mod SharpSettling
