@@ -22,6 +22,7 @@ pub mod OlderWorked
 pub mod SharpLists
 pub mod RunFlutter
 pub mod FramesCounted
+pub mod RateRange
 pub mod RowsSupplied
 pub mod RunDoubles
 pub mod RunSync

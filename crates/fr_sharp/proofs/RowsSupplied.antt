@@ -27,6 +27,7 @@ use Rattle.fr_time.specs.Senders.{key_node_of}
 use Rattle.fr_time.specs.Slots.{action_point_of}
 use Rattle.fr_time.proofs.Keys.{key_node_among, key_node_is, key_slot_has}
 use Rattle.fr_bound.specs.Bounds.{longest_micro, shortest_micro}
+use Rattle.fr_bound.specs.Sync.{cycle_length_of}
 use Rattle.fr_precision.specs.Deviations.{counted_of}
 use Rattle.fr_precision.specs.Instants.{gap_of, row_in}
 use Rattle.fr_precision.specs.Offsets.{IsDeviation}
@@ -52,16 +53,17 @@ use Rattle.fr_runs.proofs.Going.{is_row_node, rows_ascend}
 use Rattle.fr_runs.proofs.Hearing.{delayed, looked}
 use Rattle.fr_runs.proofs.Lawful.{lawful_cycles_run}
 use Rattle.fr_runs.proofs.Nodes.{IsKeySlot, correct_node, key_slot_there}
-use Rattle.fr_runs.proofs.Rates.{rates_stay_within}
 use Rattle.fr_runs.proofs.Receivers.{is_correct_node, no_less}
 use Rattle.fr_runs.proofs.Reception.{absent_is_not_recorded, recorded_is_placed, regular_is_recorded}
-use Rattle.fr_runs.proofs.Rows.{contains_map, each_row, map_contains}
+use Rattle.fr_runs.proofs.Rows.{all_rows, contains_map, each_row, map_contains}
 use Rattle.fr_runs.proofs.RowsHeard.{RowLink, before_in, cycle_of}
 use Rattle.fr_runs.proofs.Standing.{has_stays, is_none as none_there, told_has}
 use Rattle.fr_runs.proofs.Succeeding.{followers_stay, rows_stay}
 use Rattle.fr_runs.proofs.Whole.{double_runs}
 use Rattle.fr_sharp.specs.Hearing.{AllowsArbitrary, AreSteadyPairs}
+use Rattle.fr_sharp.specs.Lengths.{IsAboutCycle}
 use Rattle.fr_sharp.specs.SharpBounds.{last_action}
+use Rattle.fr_sharp.specs.SharpChecks.{RateSuffices}
 use Rattle.fr_sharp.specs.SharpRound.{as_member, IsRoundInReach, IsSteadilySupplied}
 use Rattle.fr_sharp.specs.SharpStep.{IsSharpDouble}
 use Rattle.fr_sharp.specs.Steady.{IsSteadyPair}
@@ -69,9 +71,10 @@ use Rattle.fr_sharp.specs.SteadyRuns.{row_hearers, row_members, AreRowsInReach, 
 use Rattle.fr_sharp.proofs.Arriving.{frames_are_steady}
 use Rattle.fr_sharp.proofs.BoundLemmas.{key_slots_act_early}
 use Rattle.fr_sharp.proofs.FramesCounted.{link_in, recorded_is_counted, IsCounted}
+use Rattle.fr_sharp.proofs.RateRange.{rate_in_limit}
 use Rattle.fr_sharp.proofs.RoundLemmas.{rounds_in_reach_are_sharp}
 
--- a double cycle of a run in which the clocks run by their laws, with rates within their limit
+-- a double cycle of a run in which the clocks run by their laws
 pub record LawfulRows (x : Setting) (flutter : ℕ) (h : Cycles) (even odd : Cycle) (double : ℕ) : Type 0 where
   pub covered : IsSteadySetting x flutter
   pub counted : length h ≡ 2 * double
@@ -81,8 +84,6 @@ pub record LawfulRows (x : Setting) (flutter : ℕ) (h : Cycles) (even odd : Cyc
   pub even_runs : CycleRuns x h even
   pub odd_runs : CycleRuns x (even ∷ h) odd
   pub two : RunTwo x h even odd
-  pub rates :
-      (node : NodeSpec) → Contains (row_nodes x h) node → IsWithin x.params.rate_limit (row_for even.told.rows node.id).rate
 
 pub double_within : (h : Cycles) (double doubles : ℕ) (earlier : Cycles) (even odd : Cycle) → IsDoubleOf h double earlier even odd → length h ≤ 2 * doubles → double < doubles
 double_within h double doubles earlier even odd d within =
@@ -106,9 +107,6 @@ lawful_rows x flutter h w double earlier even odd d =
       even_runs = runs.1.0;
       odd_runs = runs.0;
       two = run_two x earlier even odd runs.1.0 runs.0 (rows_stay x earlier even double d.counted runs.1.0) (followers_stay x earlier even double d.counted runs.1.0);
-      rates = λ node among.
-          each_row (row_nodes x earlier) even.told.rows (λ row. IsWithin x.params.rate_limit row.rate) node runs.1.0.rows.nodes among
-          (rates_stay_within x earlier even w.covered.sane w.rates runs.1).0;
     }
 
 -- ---- a run that is covered in the older sense
@@ -170,6 +168,21 @@ few_in x flutter h covered =
 -- ---- their rows
 
 module _ (x : Setting) (flutter : ℕ) (h : Cycles) (even odd : Cycle) (double : ℕ) (s : LawfulRows x flutter h even odd double) where
+  -- rates are within their limit where lengths lie no further beyond their range than it can follow
+  pub rates_in_limit : (beyond : ℤ) → RateSuffices x.params beyond → All (λ row. IsAboutCycle x.params beyond (cycle_length_of x.params row)) even.told.rows
+      → All (λ row. IsWithin x.params.rate_limit row.rate) even.told.rows
+  rates_in_limit beyond suffices about =
+      all_rows (row_nodes x h) even.told.rows (λ row. IsWithin x.params.rate_limit row.rate) (rows_ascend x h s.covered.sane) s.two.even_rows.nodes
+      (λ node among.
+      let counted = s.counted in
+      let within = s.within in
+      let less : length h < 2 * x.doubles = omega (arith, counted, within) in
+      let at = row_two x h even odd node s.two (even_length (length h) double counted) among in
+      let micro = proper_in x flutter node (length h) (row_for even.told.rows node.id).length s.covered (is_correct_row x h node among) less at.even_length in
+      rate_in_limit x.params beyond (row_for even.told.rows node.id) s.covered.sane suffices (record { least = micro.0; most = micro.1 })
+      (each_row (row_nodes x h) even.told.rows (λ row. IsAboutCycle x.params beyond (cycle_length_of x.params row)) node s.two.even_rows.nodes among about))
+
+module _ (x : Setting) (flutter : ℕ) (h : Cycles) (even odd : Cycle) (double : ℕ) (s : LawfulRows x flutter h even odd double) (rates : All (λ row. IsWithin x.params.rate_limit row.rate) even.told.rows) where
   pub row_regular : (node : NodeSpec) → Contains (row_nodes x h) node → IsRegular x.params (row_for even.told.rows node.id) (row_for odd.told.rows node.id)
   row_regular node among =
       let counted = s.counted in
@@ -183,7 +196,7 @@ module _ (x : Setting) (flutter : ℕ) (h : Cycles) (even odd : Cycle) (double :
       let second = proper_in x flutter node (suc (length h)) next.length s.covered correct less at.odd_length in
       record {
         double = at.double;
-        rate_within = s.rates node among;
+        rate_within = each_row (row_nodes x h) even.told.rows (λ row. IsWithin x.params.rate_limit row.rate) node s.two.even_rows.nodes among rates;
         even_micro = record { least = first.0; most = first.1 };
         odd_micro = record { least = second.0; most = second.1 };
         steady = steady_in x flutter node (length h) row.length next.length s.covered correct less at.even_length at.odd_length;
@@ -239,8 +252,8 @@ module _ (x : Setting) (flutter : ℕ) (h : Cycles) (even odd : Cycle) (double :
     counted = s.counted;
     within = (let c = s.counted in let l = s.within in omega (arith, c, l));
     active = r.active_even;
-    rate = s.rates;
-    micro = λ node among. (row_regular x flutter h even odd double s node among).even_micro;
+    rate = λ node among. (row_regular x flutter h even odd double s r.rates node among).rate_within;
+    micro = λ node among. (row_regular x flutter h even odd double s r.rates node among).even_micro;
     reached = λ node sender action here there from to. row_reached node sender false action here there from to;
   }
   cycle_is true = record {
@@ -250,9 +263,9 @@ module _ (x : Setting) (flutter : ℕ) (h : Cycles) (even odd : Cycle) (double :
     within = (let c = s.counted in let l = s.within in omega (arith, c, l));
     active = r.active_odd;
     rate = λ node among.
-        let regular = row_regular x flutter h even odd double s node among in
+        let regular = row_regular x flutter h even odd double s r.rates node among in
         subst (IsWithin x.params.rate_limit) (sym regular.double.same_rate) regular.rate_within;
-    micro = λ node among. (row_regular x flutter h even odd double s node among).odd_micro;
+    micro = λ node among. (row_regular x flutter h even odd double s r.rates node among).odd_micro;
     reached = λ node sender action here there from to. row_reached node sender true action here there from to;
   }
 
@@ -367,7 +380,7 @@ module _ (x : Setting) (flutter : ℕ) (h : Cycles) (even odd : Cycle) (double :
       subst Late (sym second.counted)
       (
       frames_are_steady p flutter slot channel (row_for even.told.rows receiver.id) (row_for odd.told.rows receiver.id) (row_for even.told.rows sender.id) (row_for odd.told.rows sender.id)
-      (delay (length h)) (delay (suc (length h))) reach sane r.room r.limit (row_regular x flutter h even odd double s receiver link.hears) key.from key.to
+      (delay (length h)) (delay (suc (length h))) reach sane r.room r.limit (row_regular x flutter h even odd double s r.rates receiver link.hears) key.from key.to
       (r.acts false (at sender) (at receiver) (pos (action_point_of p slot)) (member_there sender link.sends) (member_there receiver link.hears) (no_less (action_point_of p slot)) (acts_early sender slot link.sends link.key))
       (s.covered.delays sender receiver slot channel (length h) linked first.share (cycle_is false).within)
       (subst Flutters (sym s.counted) (s.covered.flutters sender receiver slot channel double linked first.share s.within))
@@ -447,7 +460,7 @@ module _ (x : Setting) (flutter : ℕ) (h : Cycles) (even odd : Cycle) (double :
 
   pub supplied_at : (node : NodeSpec) → Contains (row_nodes x h) node → IsSteadilySupplied (round_at x h even odd) flutter (row_hearer x even odd node.id)
   supplied_at node among = record {
-    regular = row_regular x flutter h even odd double s node among;
+    regular = row_regular x flutter h even odd double s r.rates node among;
     applied = row_applied x h even odd node s.two (odd_length (length h) double s.counted) among (odd_active node among);
     hears = rows_hear node among;
     steady = pairs_steady node among;
@@ -466,7 +479,7 @@ module _ (x : Setting) (flutter : ℕ) (h : Cycles) (even odd : Cycle) (double :
         round = record {
           sane = sane;
           few = few_in x flutter h s.covered;
-          regular = λ node there has. row_regular x flutter h even odd double s node (is_row_node x h node there has);
+          regular = λ node there has. row_regular x flutter h even odd double s r.rates node (is_row_node x h node there has);
         };
         arbitrary = allows beside may;
         suffices = r.limit;

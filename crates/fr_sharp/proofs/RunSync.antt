@@ -15,6 +15,7 @@ use Rattle.fr_cluster.specs.declared.names.ParamName.TheVariants as name
 use Rattle.fr_time.specs.Cycles.{odd_cycle}
 use Rattle.fr_time.specs.Position.{grid_for}
 use Rattle.fr_bound.specs.Checks.{holds_of}
+use Rattle.fr_bound.specs.Sync.{cycle_length_of}
 use Rattle.fr_precision.specs.Instants.{gap_of, row_in}
 use Rattle.fr_precision.specs.Offsets.{LimitSuffices}
 use Rattle.fr_precision.specs.Placement.{IsRegular}
@@ -33,7 +34,7 @@ use Rattle.fr_runs.proofs.Parts.{double_at, even_is, odd_is, told_at, DoubleAt}
 use Rattle.fr_runs.proofs.Receivers.{no_less}
 use Rattle.fr_runs.proofs.Spread.{macrotick_within, spread_within}
 use Rattle.fr_runs.proofs.Whole.{prior_of}
-use Rattle.fr_sharp.specs.Lengths.{walked_after}
+use Rattle.fr_sharp.specs.Lengths.{walked_after, IsAboutCycle}
 use Rattle.fr_sharp.specs.SharpBounds.{last_action, near_by, rate_walk, sharp_lambda, sharp_near, sharp_pi, sharp_precision}
 use Rattle.fr_sharp.specs.SharpChecks.{SharpChecksHold}
 use Rattle.fr_sharp.specs.SharpHistories.{members_at, senders_at, BeginsActive, HistoriesAreSharpDoubles, HistoriesKeepSharpSync, IsInSharpSyncAt, IsSteadyRun, KeepsApart, StaysInSharpSyncAt}
@@ -42,7 +43,8 @@ use Rattle.fr_sharp.specs.SharpStep.{ActInReach, ComeSharply, IsInSharpSync, IsS
 use Rattle.fr_sharp.specs.SteadyRuns.{row_members, AreRowsInReach, IsSteadyPart}
 use Rattle.fr_sharp.proofs.BoundLemmas.{key_slots_act_early, sharp_checks_suffice_lem, walk_is_held}
 use Rattle.fr_sharp.proofs.LastingLemmas.{near_fits, sharp_sync_lasts_lem, up_to}
-use Rattle.fr_sharp.proofs.RowsSupplied.{double_is_sharp, lawful_rows, members_regular, LawfulRows}
+use Rattle.fr_sharp.proofs.RateRange.{walked_suffices}
+use Rattle.fr_sharp.proofs.RowsSupplied.{double_is_sharp, lawful_rows, members_regular, rates_in_limit, LawfulRows}
 use Rattle.fr_sharp.proofs.RunDoubles.{ends_well, evens_are, members_found, next_double, odds_are, rows_lie, senders_found}
 use Rattle.fr_sharp.proofs.StepLemmas.{nodes_near, reached_by}
 
@@ -58,7 +60,7 @@ none_cuts p starts lengths next nodes come =
 
 module _ (beside : Bool) (x : Setting) (flutter : ℕ) (h : Cycles) (w : IsSteadyRun beside x flutter h) where
   part : IsSteadyPart x flutter h
-  part = record { covered = w.covered; rates = w.rates; lawful = w.lawful; within = (let whole = w.whole in omega (arith, whole)) }
+  part = record { covered = w.covered; lawful = w.lawful; within = (let whole = w.whole in omega (arith, whole)) }
 
   -- a double cycle of the run, and its rows
   pub found_at : (double : ℕ) → double < x.doubles → DoubleAt h double
@@ -75,11 +77,24 @@ module _ (beside : Bool) (x : Setting) (flutter : ℕ) (h : Cycles) (w : IsStead
   odds_at double earlier even odd d =
       ap (map (λ (node : Member). node.odd)) (members_found x h double earlier even odd d) ∙ odds_are x flutter earlier even odd double (rows_at double earlier even odd d)
 
-  pub regular_at : (double : ℕ) → double < x.doubles → (node : Member) → Contains (members_at x h double) node → IsRegular x.params node.even node.odd
-  regular_at double within node here =
+  -- while the walk lasts, rates are within their limit, and so rows are regular
+  pub rates_at : (double passed : ℕ) → holds_of 2 x.params ≡ true → WalkLastsAfter x.params flutter passed
+      → All (λ row. IsAboutCycle x.params (walked_after x.params flutter passed) (cycle_length_of x.params row)) (map (λ (node : Member). node.even) (members_at x h double)) → (earlier : Cycles) (even odd : Cycle)
+      → IsDoubleOf h double earlier even odd → All (λ row. IsWithin x.params.rate_limit row.rate) even.told.rows
+  rates_at double passed second before about earlier even odd d =
+      let p : Values = x.params in
+      let About : List NodeRow → Type 0 = λ rows. All (λ row. IsAboutCycle p (walked_after p flutter passed) (cycle_length_of p row)) rows in
+      rates_in_limit x flutter earlier even odd double (rows_at double earlier even odd d) (walked_after p flutter passed) (walked_suffices p flutter passed w.covered.sane second before)
+      (subst About (evens_at double earlier even odd d) about)
+
+  pub regular_at : (double passed : ℕ) → double < x.doubles → holds_of 2 x.params ≡ true → WalkLastsAfter x.params flutter passed
+      → All (λ row. IsAboutCycle x.params (walked_after x.params flutter passed) (cycle_length_of x.params row)) (map (λ (node : Member). node.even) (members_at x h double))
+      → (node : Member) → Contains (members_at x h double) node → IsRegular x.params node.even node.odd
+  regular_at double passed within second before about node here =
       let d = found_at double within in
       let Has : List Member → Type 0 = λ nodes. Contains nodes node in
-      members_regular x flutter d.earlier d.even d.odd double (rows_at double d.earlier d.even d.odd d.is) node (subst Has (members_found x h double d.earlier d.even d.odd d.is) here)
+      members_regular x flutter d.earlier d.even d.odd double (rows_at double d.earlier d.even d.odd d.is) (rates_at double passed second before about d.earlier d.even d.odd d.is) node
+      (subst Has (members_found x h double d.earlier d.even d.odd d.is) here)
 
   -- ---- what a double cycle comes to in the history
 
@@ -160,6 +175,7 @@ module _ (beside : Bool) (x : Setting) (flutter : ℕ) (h : Cycles) (w : IsStead
           let r : AreRowsInReach x f.earlier f.even f.odd reach = record {
             active_even = both.0;
             active_odd = both.1;
+            rates = rates_at (double + k) k second before begin.sharp.about f.earlier f.even f.odd f.is;
             limit = limit;
             room = room;
             acts = subst Acts same (acting k short before begin);
@@ -207,7 +223,7 @@ module _ (beside : Bool) (x : Setting) (flutter : ℕ) (h : Cycles) (w : IsStead
   acting_by double starts lengths reach k second limit fits short before begin is_odd one other action here there from to =
       let p : Values = x.params in
       let sane : IsSane p = w.covered.sane in
-      let regular = regular_at (double + k) short in
+      let regular = regular_at (double + k) k short second before begin.sharp.about in
       reached_by p flutter (starts k) (lengths k) (walked_after p flutter k) (rate_walk p flutter) (pos reach) (pos (last_action p)) action is_odd one.even one.odd other.even other.odd
       (record {
         sane = sane;

@@ -5,6 +5,7 @@ pub mod Hearing
 pub mod Lengths
 pub mod Nearness
 pub mod Said
+pub mod SettlingHistories
 pub mod SharpBounds
 pub mod SharpChecks
 pub mod SharpHistories

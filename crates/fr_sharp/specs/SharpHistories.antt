@@ -21,7 +21,7 @@ use Rattle.fr_history.specs.Terms.{status_in}
 use Rattle.fr_runs.specs.Gathered.{round_at}
 use Rattle.fr_runs.specs.Links.{cycle_in}
 use Rattle.fr_runs.specs.Numbers.{offset_term_told, rate_term_told}
-use Rattle.fr_runs.specs.Rounds.{IsDoubleOf, RatesBegin}
+use Rattle.fr_runs.specs.Rounds.{IsDoubleOf}
 use Rattle.fr_sharp.specs.Lengths.{walked_after}
 use Rattle.fr_sharp.specs.SharpBounds.{last_action, near_by, sharp_near, sharp_precision}
 use Rattle.fr_sharp.specs.SharpChecks.{SharpChecksHold}
@@ -29,13 +29,12 @@ use Rattle.fr_sharp.specs.SharpRun.{AreSharpDoubles, WalkLastsAfter, WalkLastsUp
 use Rattle.fr_sharp.specs.SharpStep.{IsInSharpSync}
 use Rattle.fr_sharp.specs.SteadyRuns.{row_members, IsSteadySetting, MayHaveArbitrary}
 
--- a whole lawful history of a run that no node joins, with or without arbitrary sync nodes, whose rates begin within their limit,
--- in microticks, and what is stated of the run besides its checks
+-- a whole lawful history of a run that no node joins, with or without arbitrary sync nodes, and what is stated of the run besides
+-- its checks
 pub record IsSteadyRun (beside : Bool) (x : Setting) (flutter : ℕ) (h : Cycles) : Type 0 where
   pub covered : IsSteadySetting x flutter
   pub arbitrary : MayHaveArbitrary beside x
   pub none_joins : some_joins x ≡ false
-  pub rates : RatesBegin x
   pub lawful : IsLawful x h
   pub whole : length h ≡ 2 * x.doubles
 

@@ -19,7 +19,7 @@ use Rattle.fr_history.specs.Lawful.{IsLawful}
 use Rattle.fr_history.specs.Standing.{row_nodes}
 use Rattle.fr_runs.specs.Gathered.{round_at, row_hearer}
 use Rattle.fr_runs.specs.Links.{IsCarried, IsLinked}
-use Rattle.fr_runs.specs.Rounds.{IsDoubleOf, RatesBegin}
+use Rattle.fr_runs.specs.Rounds.{IsDoubleOf}
 use Rattle.fr_runs.specs.Supplied.{IsCoveredByFiles, stays_on}
 use Rattle.fr_sharp.specs.Flutter.{DelaysAreStated, FluttersWithin}
 use Rattle.fr_sharp.specs.SharpBounds.{last_action}
@@ -54,11 +54,9 @@ abbrev pub CoveredRunsAreSteady : Type 0
 CoveredRunsAreSteady =
     (x : Setting) (flutter : ℕ) → IsCoveredByFiles x → FluttersWithin x flutter → IsSteadySetting x flutter
 
--- lawful cycles of such a run that begins with rates within their limit, in microticks: all that it has, or those up to one of
--- them
+-- lawful cycles of such a run: all that it has, or those up to one of them
 pub record IsSteadyPart (x : Setting) (flutter : ℕ) (h : Cycles) : Type 0 where
   pub covered : IsSteadySetting x flutter
-  pub rates : RatesBegin x
   pub lawful : IsLawful x h
   pub within : length h ≤ 2 * x.doubles
 
@@ -69,11 +67,12 @@ row_hearers x h even odd = map (λ node. row_hearer x even odd node.id) (row_nod
 abbrev pub row_members : Setting → Cycles → Cycle → Cycle → List Member
 row_members x h even odd = map (as_member x.params) (row_hearers x h even odd)
 
--- they are active in it, and the action points of any two of them lie within a reach, in ticks, for which the offset limit
--- suffices and slots leave room, whatever it is that says so
+-- they are active in it, with rates within their limit, in microticks, and the action points of any two of them lie within a
+-- reach, in ticks, for which the offset limit suffices and slots leave room, whatever it is that says so
 pub record AreRowsInReach (x : Setting) (h : Cycles) (even odd : Cycle) (reach : ℤ) : Type 0 where
   pub active_even : All (λ row. row.state ≡ Active) even.told.rows
   pub active_odd : All (λ row. row.state ≡ Active) odd.told.rows
+  pub rates : All (λ row. IsWithin x.params.rate_limit row.rate) even.told.rows
   pub limit : LimitSuffices x.params reach
   pub room : LeavesRoom x.params reach
   pub acts : ActInReach x.params reach (pos (last_action x.params)) (row_members x h even odd)
