@@ -26,3 +26,4 @@ pub mod RateRange
 pub mod RowsSupplied
 pub mod RunDoubles
 pub mod RunSync
+pub mod RunSettles

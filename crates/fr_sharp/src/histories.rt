@@ -1,3 +1,4 @@
+ghost use Rattle.fr_sharp.specs.SettlingHistories.{HistoriesBeginActive, HistoriesKeepToSpreads, HistoriesReachSharpSync, OlderHistoriesSettle};
 ghost use Rattle.fr_sharp.specs.SharpHistories.{HistoriesAreSharpDoubles, HistoriesKeepSharpSync};
 
 /// The law of histories: in a lawful history of a run that no node joins and whose delays flutter little, from a double
@@ -7,4 +8,15 @@ ghost use Rattle.fr_sharp.specs.SharpHistories.{HistoriesAreSharpDoubles, Histor
 pub fn histories_keep_sharp_sync()
     ensures double { HistoriesAreSharpDoubles }
     ensures keep { HistoriesKeepSharpSync }
+{}
+
+/// A law: from stated numbers for starts and even lengths, in ticks, such a history keeps to the spreads by double cycle,
+/// under the checks with a reach for the whole way, and is in sharp sync when these have come to rest; its nodes are active
+/// from the first double cycle on. So it is from sync in the older sense, under the older checks, where delays flutter by
+/// no more than twice the error of an arrival, with no macroticks further apart than the older precision on the way.
+pub fn histories_come_into_sharp_sync()
+    ensures active { HistoriesBeginActive }
+    ensures spreads { HistoriesKeepToSpreads }
+    ensures reached { HistoriesReachSharpSync }
+    ensures older { OlderHistoriesSettle }
 {}
