@@ -27,3 +27,4 @@ pub mod RowsSupplied
 pub mod RunDoubles
 pub mod RunSync
 pub mod RunSettles
+pub mod RunCycles

@@ -1,5 +1,5 @@
 -- A lawful history that no node joins comes into sharp sync, from stated numbers and from sync in the older sense.
-use Rattle.std.proofs.Common.{◌≡◌, ℕ, zero, suc, ◌+◌, ◌-◌, ◌*◌, ◌<◌, Bool, true, ℤ, pos, Option, Some, None, IfSome, List, All, [], ◌∷◌, length, map, refl, ap, sym, ◌∙◌, subst, lit≤, arith}
+use Rattle.std.proofs.Common.{◌≡◌, ℕ, zero, suc, ◌+◌, ◌-◌, ◌*◌, ◌<◌, Bool, true, ℤ, pos, Some, List, All, [], ◌∷◌, length, map, refl, ap, sym, ◌∙◌, subst, lit≤, arith}
 use Rattle.std.specs.Prelude.{◌≤ℤ◌, Contains}
 use Rattle.std.proofs.lemmas.Int.{ints}
 use Rattle.fr_base.specs.Within.{IsWithin}
@@ -30,14 +30,14 @@ use Rattle.fr_runs.proofs.Outcomes.{begun_active}
 use Rattle.fr_runs.proofs.Parts.{even_is, odd_is}
 use Rattle.fr_sharp.specs.Lengths.{walked_after}
 use Rattle.fr_sharp.specs.SettlingHistories.{BeginsSharply, HistoriesBeginActive, HistoriesKeepToSpreads, HistoriesReachSharpSync, IsOlderRun, KeepsToSpreadsAt, OlderHistoriesSettle, SettlesFromSync}
-use Rattle.fr_sharp.specs.SharpBounds.{last_action, walk_lasts}
+use Rattle.fr_sharp.specs.SharpBounds.{last_action}
 use Rattle.fr_sharp.specs.SharpHistories.{members_at, senders_at, BeginsActive, IsSteadyRun, KeepsApart}
 use Rattle.fr_sharp.specs.SharpRun.{lengths_from, starts_from, BeginInSync, BeginSharp, BeginWithin, KeepsFromSync, KeepsToSpreads, WalkLastsAfter}
 use Rattle.fr_sharp.specs.SharpSettling.{sharp_spread_after, sharply_apart_in}
 use Rattle.fr_sharp.specs.SharpStep.{ActInReach, AreSharp}
 use Rattle.fr_sharp.proofs.BoundLemmas.{key_slots_act_early, sharp_checks_suffice_lem}
 use Rattle.fr_sharp.proofs.LastingLemmas.{sharp_spreads_keep, sharp_sync_is_reached, up_to}
-use Rattle.fr_sharp.proofs.OlderLemmas.{older_sync_settles}
+use Rattle.fr_sharp.proofs.OlderLemmas.{lasts_on, older_sync_settles}
 use Rattle.fr_sharp.proofs.RowsSupplied.{covered_runs_are_steady}
 use Rattle.fr_sharp.proofs.RunSync.{acting_by, active_by, are_doubles, doubles_in_reach, evens_at, found_at, keeps_apart, none_cuts, odds_at, regular_at, rows_at, stays_at}
 use Rattle.fr_sharp.proofs.SettlingLemmas.{older_way_fits}
@@ -158,9 +158,6 @@ histories_reach_sharp_sync beside x flutter start rate reach h double rest b fro
     )
 
 -- ---- from sync in the older sense
-
-lasts_on : (p : Values) (flutter k : ℕ) → walk_lasts p flutter ≡ None → WalkLastsAfter p flutter k
-lasts_on p flutter k still = subst (λ (o : Option ℕ). IfSome o (λ lasts. k < lasts)) (sym still) tt
 
 module _ (beside : Bool) (x : Setting) (flutter : ℕ) (h : Cycles) (double : ℕ) (o : IsOlderRun beside x flutter h double) (within : double < x.doubles) where
   run : IsSteadyRun beside x flutter h

@@ -244,7 +244,7 @@ module _ (beside : Bool) (x : Setting) (flutter : ℕ) (h : Cycles) (w : IsStead
   -- ---- sharp sync
 
   -- the cycles of a double cycle are those that are found
-  sync_in : (double : ℕ) (beyond : ℤ) → IsInSharpSyncAt beside x.params flutter beyond h double → (earlier : Cycles) (even odd : Cycle) → IsDoubleOf h double earlier even odd
+  pub sync_in : (double : ℕ) (beyond : ℤ) → IsInSharpSyncAt beside x.params flutter beyond h double → (earlier : Cycles) (even odd : Cycle) → IsDoubleOf h double earlier even odd
       → IsInSharpSync beside x.params flutter beyond even.told.rows odd.told.rows
   sync_in double beyond s earlier even odd d =
       let late : odd_cycle double ≡ suc (2 * double) = omega arith in

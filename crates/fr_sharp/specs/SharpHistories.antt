@@ -3,7 +3,7 @@
 use Rattle.std.specs.Prelude.{◌≡◌, ◌<◌, ◌≤◌, ◌+◌, ◌-◌, ◌*◌, ℕ, ℤ, pos, ◌≤ℤ◌, nat_le, if◌then◌else◌, Bool, true, false, List, [], ◌∷◌, length, All, Contains, Some}
 use Rattle.fr_base.specs.declared.state.Outcome.TheVariants.{Within}
 use Rattle.fr_base.specs.declared.state.State.TheVariants.{Active}
-use Rattle.fr_cluster.specs.Setting.{Setting, correct_nodes}
+use Rattle.fr_cluster.specs.Setting.{IsSetting, Setting, correct_nodes}
 use Rattle.fr_cluster.specs.Values.{Values, amount}
 use Rattle.fr_cluster.specs.declared.names.ParamName.TheVariants as name
 use Rattle.fr_cluster.specs.declared.nodes.NodeSpec.{NodeSpec}
@@ -22,9 +22,10 @@ use Rattle.fr_runs.specs.Gathered.{round_at}
 use Rattle.fr_runs.specs.Links.{cycle_in}
 use Rattle.fr_runs.specs.Numbers.{offset_term_told, rate_term_told}
 use Rattle.fr_runs.specs.Rounds.{IsDoubleOf}
+use Rattle.fr_runs.specs.Stated.{all_cycles}
 use Rattle.fr_sharp.specs.Lengths.{walked_after}
 use Rattle.fr_sharp.specs.SharpBounds.{last_action, near_by, sharp_near, sharp_precision}
-use Rattle.fr_sharp.specs.SharpChecks.{SharpChecksHold}
+use Rattle.fr_sharp.specs.SharpChecks.{sharp_holds_of, SharpChecksHold}
 use Rattle.fr_sharp.specs.SharpRun.{AreSharpDoubles, WalkLastsAfter, WalkLastsUpTo}
 use Rattle.fr_sharp.specs.SharpStep.{IsInSharpSync}
 use Rattle.fr_sharp.specs.SteadyRuns.{row_members, IsSteadySetting, MayHaveArbitrary}
@@ -125,3 +126,32 @@ HistoriesKeepSharpSync =
     → IsSteadyRun beside x flutter h → SharpChecksHold flutter (sharp_near beside x.params flutter) x.params
     → IsInSharpSyncAt beside x.params flutter (pos 0) h double
     → (passed : ℕ) → double + passed < x.doubles → StaysInSharpSyncAt beside x flutter h double passed
+
+-- ---- the same by the cycle, where lengths do not walk
+
+-- from a double cycle on no corresponding macroticks lie further apart than this, in ticks; each node is active in each cycle, and
+-- behind the last one; and no row tells a cut
+pub record CyclesKeepApart (x : Setting) (h : Cycles) (double apart : ℕ) : Type 0 where
+  pub skew :
+      (cycle macrotick : ℕ) → 2 * double ≤ cycle → cycle < length h → macrotick < amount x.params name.gMacroPerCycle
+      → skew_at x.params (told_of h) cycle macrotick ≤ℤ pos apart
+  pub active :
+      (cycle : ℕ) (c : Cycle) → 2 * double ≤ cycle → cycle_at h cycle ≡ Some c → All (λ row. row.state ≡ Active) c.told.rows
+  pub uncut : (cycle : ℕ) (c : Cycle) → 2 * double ≤ cycle → cycle_at h cycle ≡ Some c → All (λ row. row.cut ≡ 0) c.told.rows
+  pub after : (node : NodeSpec) → Contains (correct_nodes x) node → (status_in x.params (told_of h) node.id).state ≡ Active
+
+-- under all five checks it is so with the sharper precision, from a double cycle in sharp sync on to the end
+abbrev pub HistoriesKeepSharpPrecision : Type 0
+HistoriesKeepSharpPrecision =
+    (beside : Bool) (x : Setting) (flutter : ℕ) (h : Cycles) (double : ℕ)
+    → IsSteadyRun beside x flutter h
+    → ((k : ℕ) → 1 ≤ k → k ≤ 5 → sharp_holds_of k flutter (sharp_near beside x.params flutter) x.params ≡ true)
+    → IsInSharpSyncAt beside x.params flutter (pos 0) h double
+    → CyclesKeepApart x h double (sharp_precision beside x.params flutter)
+
+-- all cycles of a run that is stated so are such a history
+abbrev pub StatedRunsAreSteady : Type 0
+StatedRunsAreSteady =
+    (beside : Bool) (x : Setting) (flutter : ℕ)
+    → IsSetting x → IsSteadySetting x flutter → MayHaveArbitrary beside x → some_joins x ≡ false
+    → IsSteadyRun beside x flutter (all_cycles x)

@@ -1,14 +1,25 @@
 ghost use Rattle.fr_sharp.specs.SettlingHistories.{HistoriesBeginActive, HistoriesKeepToSpreads, HistoriesReachSharpSync, OlderHistoriesSettle};
-ghost use Rattle.fr_sharp.specs.SharpHistories.{HistoriesAreSharpDoubles, HistoriesKeepSharpSync};
+ghost use Rattle.fr_sharp.specs.SharpHistories.{HistoriesAreSharpDoubles, HistoriesKeepSharpPrecision, HistoriesKeepSharpSync, StatedRunsAreSteady};
+
+use fr_history::one_lawful_run;
 
 /// The law of histories: in a lawful history of a run that no node joins and whose delays flutter little, from a double
 /// cycle in sharp sync on the nodes are in sharp sync in each double cycle, for as many as the rate limit holds the walk:
 /// no term is cut or missing, each node is active, behind the last cycle too, and no corresponding macroticks lie further
-/// apart than the sharper precision, in ticks. Its double cycles are as the law of many double cycles asks for.
+/// apart than the sharper precision, in ticks. Its double cycles are as the law of many double cycles asks for; and where
+/// all five checks hold, it is so in each cycle to the end.
 pub fn histories_keep_sharp_sync()
     ensures double { HistoriesAreSharpDoubles }
     ensures keep { HistoriesKeepSharpSync }
+    ensures precise { HistoriesKeepSharpPrecision }
 {}
+
+/// A law: the cycles that a run has by what is stated of it are such a history, where no node joins.
+pub fn stated_runs_are_steady()
+    ensures { StatedRunsAreSteady }
+{
+    one_lawful_run();
+}
 
 /// A law: from stated numbers for starts and even lengths, in ticks, such a history keeps to the spreads by double cycle,
 /// under the checks with a reach for the whole way, and is in sharp sync when these have come to rest; its nodes are active

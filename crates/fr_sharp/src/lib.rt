@@ -19,7 +19,9 @@ mod step;
 pub use bounds::{sharp_bounds_are_below, sharp_checks_suffice, walks_are_bounded};
 pub use ends::ends_come_near;
 pub use hearing::rounds_are_heard_steadily;
-pub use histories::{histories_come_into_sharp_sync, histories_keep_sharp_sync};
+pub use histories::{
+    histories_come_into_sharp_sync, histories_keep_sharp_sync, stated_runs_are_steady,
+};
 pub use lasting::sharp_sync_lasts;
 pub use lengths::{lengths_come_near, ranges_walk};
 pub use midpoints::midpoints_agree;
