@@ -28,3 +28,4 @@ pub mod RunDoubles
 pub mod RunSync
 pub mod RunSettles
 pub mod RunCycles
+pub mod RunStated

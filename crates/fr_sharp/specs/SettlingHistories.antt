@@ -1,16 +1,18 @@
 -- How a lawful history of a run that no node joins comes into sharp sync: from stated numbers, and from sync in the older sense.
-use Rattle.std.specs.Prelude.{◌≡◌, ◌<◌, ◌≤◌, ◌+◌, ◌*◌, ℕ, pos, Bool, false, length, None, Some}
-use Rattle.fr_cluster.specs.Setting.{Setting}
+use Rattle.std.specs.Prelude.{◌≡◌, ◌<◌, ◌≤◌, ◌+◌, ◌*◌, ◌+ℤ◌, ◌-ℤ◌, ◌*ℤ◌, ℕ, ℤ, pos, Bool, false, length, Contains, None, Some}
+use Rattle.fr_base.specs.Within.{IsWithin}
+use Rattle.fr_cluster.specs.Setting.{Setting, correct_nodes}
+use Rattle.fr_cluster.specs.declared.nodes.NodeSpec.{NodeSpec}
 use Rattle.fr_bound.specs.Bounds.{arrival_error, lambda_of, pi_of, precision_of}
 use Rattle.fr_history.specs.Cycles.{Cycle, Cycles, cycle_at, some_joins}
 use Rattle.fr_history.specs.Lawful.{IsLawful}
 use Rattle.fr_history.specs.Unfollowed.{RowsAreInSyncAt}
 use Rattle.fr_runs.specs.Supplied.{IsCoveredByFiles}
 use Rattle.fr_sharp.specs.Flutter.{FluttersWithin}
-use Rattle.fr_sharp.specs.Lengths.{walked_after}
-use Rattle.fr_sharp.specs.SharpBounds.{walk_lasts}
+use Rattle.fr_sharp.specs.Lengths.{walked_after, IsAboutCycle}
+use Rattle.fr_sharp.specs.SharpBounds.{sharp_lambda, sharp_pi, walk_lasts}
 use Rattle.fr_sharp.specs.SharpChecks.{SharpChecksHold}
-use Rattle.fr_sharp.specs.SharpHistories.{BeginsActive, IsSteadyRun, KeepsApart, StaysInSharpSyncAt}
+use Rattle.fr_sharp.specs.SharpHistories.{BeginsActive, IsInSharpSyncAt, IsSteadyRun, KeepsApart, StaysInSharpSyncAt}
 use Rattle.fr_sharp.specs.SharpRun.{lengths_from, starts_from, WalkLastsAfter, WalkLastsUpTo}
 use Rattle.fr_sharp.specs.SharpSettling.{sharp_spread_after, sharply_apart_in, sharply_near_in, IsSharplySettled}
 use Rattle.fr_sharp.specs.SharpStep.{AreSharp}
@@ -55,6 +57,36 @@ HistoriesReachSharpSync =
 -- the nodes of such a history are active in the first double cycle
 abbrev pub HistoriesBeginActive : Type 0
 HistoriesBeginActive = (beside : Bool) (x : Setting) (flutter : ℕ) (h : Cycles) → IsSteadyRun beside x flutter h → BeginsActive h 0
+
+-- ---- what is stated of cycle 0
+
+-- the length of a node's cycle 0, in ticks
+abbrev pub first_length : Setting → ℕ → ℤ
+first_length x node = (x.params.micros +ℤ x.rate node) *ℤ x.microtick node 0
+
+-- the starts of correct nodes lie within stated numbers, in ticks, and so do the lengths of their cycle 0, each in its range
+pub record AreStatedNear (x : Setting) (start rate : ℕ) : Type 0 where
+  pub starts :
+      (one other : NodeSpec) → Contains (correct_nodes x) one → Contains (correct_nodes x) other
+      → IsWithin (pos start) (x.start one.id -ℤ x.start other.id)
+  pub lengths :
+      (one other : NodeSpec) → Contains (correct_nodes x) one → Contains (correct_nodes x) other
+      → IsWithin (pos rate) (first_length x one.id -ℤ first_length x other.id)
+  pub about : (node : NodeSpec) → Contains (correct_nodes x) node → IsAboutCycle x.params (pos 0) (first_length x node.id)
+
+-- then the rows of cycle 0 do
+abbrev pub StatedStartsAreSharp : Type 0
+StatedStartsAreSharp =
+    (beside : Bool) (x : Setting) (flutter start rate : ℕ) (h : Cycles) (even : Cycle)
+    → IsSteadyRun beside x flutter h → AreStatedNear x start rate → cycle_at h 0 ≡ Some even
+    → AreSharp x.params start rate (pos 0) even.told.rows
+
+-- and with the sharper pi and lambda for these numbers a history that has a double cycle is in sharp sync in the first one
+abbrev pub StatedRunsBeginInSharpSync : Type 0
+StatedRunsBeginInSharpSync =
+    (beside : Bool) (x : Setting) (flutter : ℕ) (h : Cycles)
+    → IsSteadyRun beside x flutter h → AreStatedNear x (sharp_pi beside x.params flutter) (sharp_lambda beside x.params flutter)
+    → 1 ≤ x.doubles → IsInSharpSyncAt beside x.params flutter (pos 0) h 0
 
 -- ---- from sync in the older sense
 

@@ -1,4 +1,4 @@
-ghost use Rattle.fr_sharp.specs.SettlingHistories.{HistoriesBeginActive, HistoriesKeepToSpreads, HistoriesReachSharpSync, OlderHistoriesSettle};
+ghost use Rattle.fr_sharp.specs.SettlingHistories.{HistoriesBeginActive, HistoriesKeepToSpreads, HistoriesReachSharpSync, OlderHistoriesSettle, StatedRunsBeginInSharpSync, StatedStartsAreSharp};
 ghost use Rattle.fr_sharp.specs.SharpHistories.{HistoriesAreSharpDoubles, HistoriesKeepSharpPrecision, HistoriesKeepSharpSync, StatedRunsAreSteady};
 
 use fr_history::one_lawful_run;
@@ -14,9 +14,12 @@ pub fn histories_keep_sharp_sync()
     ensures precise { HistoriesKeepSharpPrecision }
 {}
 
-/// A law: the cycles that a run has by what is stated of it are such a history, where no node joins.
+/// A law: the cycles that a run has by what is stated of it are such a history, where no node joins. Its cycle 0 lies
+/// within what is stated of starts and lengths, in ticks; so it may be in sharp sync from the first double cycle on.
 pub fn stated_runs_are_steady()
-    ensures { StatedRunsAreSteady }
+    ensures steady { StatedRunsAreSteady }
+    ensures starts { StatedStartsAreSharp }
+    ensures synced { StatedRunsBeginInSharpSync }
 {
     one_lawful_run();
 }
