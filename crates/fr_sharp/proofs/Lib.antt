@@ -29,3 +29,4 @@ pub mod RunSync
 pub mod RunSettles
 pub mod RunCycles
 pub mod RunStated
+pub mod RunWorked
