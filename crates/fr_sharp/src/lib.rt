@@ -1,5 +1,6 @@
 //! Why clocks keep a sharper precision where delays change little from one cycle of a double cycle to the next: laws over
-//! rows and values, without arbitrary nodes and beside them. Nothing here runs.
+//! rows and values, and over the lawful histories of runs that no node joins, without arbitrary nodes and beside them.
+//! Nothing here runs.
 #![tactic(auto)]
 
 mod bounds;
