@@ -15,3 +15,4 @@ pub mod SharpSettling
 pub mod SharpStep
 pub mod Steady
 pub mod SteadyRuns
+pub mod WorkedRun

@@ -16,6 +16,7 @@ mod settling;
 mod steady;
 mod steady_runs;
 mod step;
+mod worked_run;
 
 pub use bounds::{sharp_bounds_are_below, sharp_checks_suffice, walks_are_bounded};
 pub use ends::ends_come_near;
@@ -32,3 +33,4 @@ pub use settling::sharp_spreads_settle;
 pub use steady::{pairs_are_steady, steady_values_place};
 pub use steady_runs::runs_hear_steadily;
 pub use step::{sharp_spreads_shrink, sharp_sync_is_kept};
+pub use worked_run::a_steady_run;
