@@ -29,7 +29,7 @@ use Rattle.fr_sharp.specs.SharpBounds.{sharp_lambda, sharp_near, sharp_pi, sharp
 use Rattle.fr_sharp.specs.SharpChecks.{sharp_holds_of}
 use Rattle.fr_sharp.specs.SharpHistories.{CyclesKeepApart, IsInSharpSyncAt, IsSteadyRun, StaysInSharpSyncAt}
 use Rattle.fr_sharp.specs.SteadyRuns.{IsSteadySetting, MayHaveArbitrary}
-use Rattle.fr_sharp.specs.WorkedRun.{delay_by, micro_by, start_by, steady_cluster, steady_run, OfBytes, OlderChecksFail, Said, SteadyPrecisions, SteadyRunKeepsPrecision}
+use Rattle.fr_sharp.specs.WorkedRun.{delay_in_turn, micro_by, start_by, steady_cluster, steady_run, OfBytes, OlderChecksFail, Said, SteadyPrecisions, SteadyRunKeepsPrecision}
 use Rattle.fr_sharp.proofs.RunCycles.{histories_keep_sharp_precision, stated_runs_are_steady}
 use Rattle.fr_sharp.proofs.RunStated.{stated_runs_begin_in_sharp_sync}
 use Rattle.fr_sharp.proofs.RunSync.{histories_keep_sharp_sync_lem}
@@ -59,7 +59,7 @@ most_micro false false = record { le = tt }
 itself : (a : ℤ) → IsWithin (pos 0) (a -ℤ a)
 itself a = record { low = omega (arith, ints); high = omega (arith, ints) }
 
-stated_delay : (channel : Channel) (early : Bool) → IsDelay steady_cluster channel (delay_by early)
+stated_delay : (channel : Channel) (early : Bool) → IsDelay steady_cluster channel (delay_in_turn early)
 stated_delay A true = record { low = record { le = tt }; high = record { le = tt } }
 stated_delay A false = record { low = record { le = tt }; high = record { le = tt } }
 stated_delay B true = record { low = record { le = tt }; high = record { le = tt } }
@@ -70,8 +70,8 @@ same_double double = omega arith
 
 flutters : (said : Said) (beside : Bool) → FluttersWithin (steady_run said beside) 0
 flutters said beside sender receiver slot channel double linked share within =
-    let At : ℕ → Type 0 = λ half. IsWithin (pos 0) (delay_by (half % 2 == 0) -ℤ delay_by (2 * double / 2 % 2 == 0)) in
-    subst At (sym (same_double double)) (itself (delay_by (2 * double / 2 % 2 == 0)))
+    let At : ℕ → Type 0 = λ half. IsWithin (pos 0) (delay_in_turn (half % 2 == 0) -ℤ delay_in_turn (2 * double / 2 % 2 == 0)) in
+    subst At (sym (same_double double)) (itself (delay_in_turn (2 * double / 2 % 2 == 0)))
 
 -- a correct node's frames come as they are
 regular : (said : Said) (beside : Bool) (sender : NodeSpec) (cycle receiver : ℕ) → Contains (correct_nodes (steady_run said beside)) sender → (steady_run said beside).event cycle sender.id receiver A ≡ Regular

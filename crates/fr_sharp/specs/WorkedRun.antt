@@ -52,9 +52,9 @@ micro_by false true = pos 999_990
 micro_by false false = pos 1_000_000
 
 -- in every second double cycle, and in the others: the delay
-abbrev pub delay_by : Bool → ℤ
-delay_by true = pos 2_000_000
-delay_by false = pos 12_000_000
+abbrev pub delay_in_turn : Bool → ℤ
+delay_in_turn true = pos 2_000_000
+delay_in_turn false = pos 12_000_000
 
 -- what node 4 says where it is arbitrary, by cycle, sender, receiver and channel: any bytes
 abbrev pub Said : Type 0
@@ -71,7 +71,7 @@ steady_run said beside = record {
   start = λ id. start_by (id == 1) (id == 2);
   rate = λ _. pos 0;
   microtick = λ id cycle. micro_by (id == 1) (id == 2);
-  delay = λ sender receiver channel cycle. delay_by (cycle / 2 % 2 == 0);
+  delay = λ sender receiver channel cycle. delay_in_turn (cycle / 2 % 2 == 0);
   is_arbitrary = λ id. beside && (id == 4);
   event =
       λ cycle sender receiver channel.
