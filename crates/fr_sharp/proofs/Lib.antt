@@ -20,3 +20,13 @@ pub mod SharpWorked
 pub mod SharpSlow
 pub mod OlderWorked
 pub mod SharpLists
+pub mod RunFlutter
+pub mod FramesCounted
+pub mod RateRange
+pub mod RowsSupplied
+pub mod RunDoubles
+pub mod RunSync
+pub mod RunSettles
+pub mod RunCycles
+pub mod RunStated
+pub mod RunWorked

@@ -27,7 +27,7 @@ use Rattle.fr_sharp.proofs.StepLemmas.{act_in_reach, in_sync_is_sharp, macrotick
 use Rattle.fr_sharp.proofs.LastingLemmas.{all_regular, doubles_draw, first_spread_is, keeps_to_spreads, near_fits, nothing, spread_draws, stays_at_rest, up_to}
 
 -- where the lengths do not walk, they never do
-does_not_walk : (p : Values) (flutter : ℕ) → rate_walk p flutter ≤ℤ pos 0 → walk_lasts p flutter ≡ None
+pub does_not_walk : (p : Values) (flutter : ℕ) → rate_walk p flutter ≤ℤ pos 0 → walk_lasts p flutter ≡ None
 does_not_walk p flutter still =
     let lasts : Option ℕ = Some (rate_room p / nat_abs (rate_walk p flutter)) in
     subst (λ (stops : Bool). (if stops then None else lasts) ≡ None) (sym (stops (rate_walk p flutter) still)) refl
@@ -35,7 +35,7 @@ does_not_walk p flutter still =
     stops : (w : ℤ) → w ≤ℤ pos 0 → int_le w (pos 0) ≡ true
     stops w le = grind (arith, ints)
 
-lasts_on : (p : Values) (flutter k : ℕ) → walk_lasts p flutter ≡ None → WalkLastsAfter p flutter k
+pub lasts_on : (p : Values) (flutter k : ℕ) → walk_lasts p flutter ≡ None → WalkLastsAfter p flutter k
 lasts_on p flutter k still = subst (λ (o : Option ℕ). IfSome o (λ lasts. k < lasts)) (sym still) tt
 
 module _ (beside : Bool) (p : Values) (flutter doubles : ℕ) (senders : ℕ → List Sender) (nodes : ℕ → List Member) (b : BeginInSync beside p flutter doubles senders nodes) where

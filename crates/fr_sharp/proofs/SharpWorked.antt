@@ -83,7 +83,7 @@ one_by_one P a is = All-cons P a [] is (All-nil P)
 pub three : {X : Type 0} (P : X → Type 0) (a b c : X) → P a → P b → P c → All P (a ∷ b ∷ c ∷ [])
 three P a b c first second third = All-cons P a (b ∷ c ∷ []) first (All-cons P b (c ∷ []) second (one_by_one P c third))
 
-four : {X : Type 0} (P : X → Type 0) (a b c d : X) → P a → P b → P c → P d → All P (a ∷ b ∷ c ∷ d ∷ [])
+pub four : {X : Type 0} (P : X → Type 0) (a b c d : X) → P a → P b → P c → P d → All P (a ∷ b ∷ c ∷ d ∷ [])
 four P a b c d first second third fourth = All-cons P a (b ∷ c ∷ d ∷ []) first (three P b c d second third fourth)
 
 none : {X : Type 0} (R : X → X → Type 0) → AllPairs R []
@@ -302,7 +302,7 @@ third_round = record {
 
 -- ---- the checks, beside the arbitrary node and without
 
-checks : (beside : Bool) → SharpChecksHold 0 (sharp_near beside cluster 0) cluster
+pub checks : (beside : Bool) → SharpChecksHold 0 (sharp_near beside cluster 0) cluster
 unfolding last_of
 checks beside zero from to = absurd (omega (arith, from))
 checks beside (suc zero) from to = absurd (omega (arith, from))

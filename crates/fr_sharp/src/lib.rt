@@ -1,25 +1,36 @@
 //! Why clocks keep a sharper precision where delays change little from one cycle of a double cycle to the next: laws over
-//! rows and values, without arbitrary nodes and beside them. Nothing here runs.
+//! rows and values, and over the lawful histories of runs that no node joins, without arbitrary nodes and beside them.
+//! Nothing here runs.
 #![tactic(auto)]
 
 mod bounds;
 mod ends;
 mod hearing;
+mod histories;
 mod lasting;
 mod lengths;
 mod midpoints;
 mod nearness;
+mod runs_flutter;
 mod settling;
 mod steady;
+mod steady_runs;
 mod step;
+mod worked_run;
 
 pub use bounds::{sharp_bounds_are_below, sharp_checks_suffice, walks_are_bounded};
 pub use ends::ends_come_near;
 pub use hearing::rounds_are_heard_steadily;
+pub use histories::{
+    histories_come_into_sharp_sync, histories_keep_sharp_sync, stated_runs_are_steady,
+};
 pub use lasting::sharp_sync_lasts;
 pub use lengths::{lengths_come_near, ranges_walk};
 pub use midpoints::midpoints_agree;
 pub use nearness::nodes_lie_near;
+pub use runs_flutter::stated_delays_flutter;
 pub use settling::sharp_spreads_settle;
 pub use steady::{pairs_are_steady, steady_values_place};
+pub use steady_runs::runs_hear_steadily;
 pub use step::{sharp_spreads_shrink, sharp_sync_is_kept};
+pub use worked_run::a_steady_run;

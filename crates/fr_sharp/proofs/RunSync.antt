@@ -1,0 +1,335 @@
+-- The double cycles of a lawful history that no node joins are as the law of many double cycles asks for, so a history in sharp
+-- sync stays so.
+use Rattle.std.proofs.Common.{◌≡◌, ℕ, zero, suc, ◌+◌, ◌-◌, ◌*◌, ◌<◌, ◌≤◌, Bool, true, false, ℤ, pos, Option, Some, List, All, [], ◌∷◌, map, refl, ap, sym, ◌∙◌, subst, lit≤, arith}
+use Rattle.std.specs.Prelude.{◌≤ℤ◌, Contains}
+use Rattle.std.specs.Option.{option_map, option_map_or}
+use Rattle.std.proofs.lemmas.List.Elements.{All-contains_itself}
+use Rattle.fr_base.specs.Within.{IsWithin}
+use Rattle.fr_base.specs.declared.node_row.NodeRow.{NodeRow}
+use Rattle.fr_base.specs.declared.state.Outcome.TheVariants.{Within}
+use Rattle.fr_base.specs.declared.state.State.TheVariants.{Active}
+use Rattle.fr_cluster.specs.Sane.{IsSane}
+use Rattle.fr_cluster.specs.Setting.{Setting}
+use Rattle.fr_cluster.specs.Values.{Values, amount}
+use Rattle.fr_cluster.specs.declared.names.ParamName.TheVariants as name
+use Rattle.fr_time.specs.Cycles.{odd_cycle}
+use Rattle.fr_time.specs.Position.{grid_for}
+use Rattle.fr_bound.specs.Checks.{holds_of}
+use Rattle.fr_bound.specs.Sync.{cycle_length_of}
+use Rattle.fr_precision.specs.Instants.{gap_of, row_in}
+use Rattle.fr_precision.specs.Offsets.{LimitSuffices}
+use Rattle.fr_precision.specs.Placement.{IsRegular}
+use Rattle.fr_precision.specs.Reception.{LeavesRoom}
+use Rattle.fr_precision.specs.Rows.{Sender}
+use Rattle.fr_precision.specs.Step.{Member}
+use Rattle.fr_precision.proofs.Senders.{All-along}
+use Rattle.fr_skew.specs.Spreads.{spread_at}
+use Rattle.fr_history.specs.Cycles.{Cycle, Cycles, cycle_at, told_of}
+use Rattle.fr_history.specs.History.{Record, record_at}
+use Rattle.fr_history.specs.Skew.{skew_at}
+use Rattle.fr_runs.specs.Links.{cycle_in}
+use Rattle.fr_runs.specs.Rounds.{IsDoubleOf}
+use Rattle.fr_runs.proofs.Doubles.{even_length, odd_length}
+use Rattle.fr_runs.proofs.Parts.{double_at, even_is, odd_is, told_at, DoubleAt}
+use Rattle.fr_runs.proofs.Receivers.{no_less}
+use Rattle.fr_runs.proofs.Spread.{macrotick_within, spread_within}
+use Rattle.fr_runs.proofs.Whole.{prior_of}
+use Rattle.fr_sharp.specs.Lengths.{walked_after, IsAboutCycle}
+use Rattle.fr_sharp.specs.SharpBounds.{last_action, near_by, rate_walk, sharp_lambda, sharp_near, sharp_pi, sharp_precision}
+use Rattle.fr_sharp.specs.SharpChecks.{SharpChecksHold}
+use Rattle.fr_sharp.specs.SharpHistories.{members_at, senders_at, BeginsActive, HistoriesAreSharpDoubles, HistoriesKeepSharpSync, IsInSharpSyncAt, IsSteadyRun, KeepsApart, StaysInSharpSyncAt}
+use Rattle.fr_sharp.specs.SharpRun.{AllUncut, AreSharpDoubles, BeginSharp, IsNextDouble, StaysInSharpSync, WalkLastsAfter}
+use Rattle.fr_sharp.specs.SharpStep.{ActInReach, ComeSharply, IsInSharpSync, IsSharpDouble}
+use Rattle.fr_sharp.specs.SteadyRuns.{row_members, AreRowsInReach, IsSteadyPart}
+use Rattle.fr_sharp.proofs.BoundLemmas.{key_slots_act_early, sharp_checks_suffice_lem, walk_is_held}
+use Rattle.fr_sharp.proofs.LastingLemmas.{near_fits, sharp_sync_lasts_lem, up_to}
+use Rattle.fr_sharp.proofs.RateRange.{walked_suffices}
+use Rattle.fr_sharp.proofs.RowsSupplied.{double_is_sharp, lawful_rows, members_regular, rates_in_limit, LawfulRows}
+use Rattle.fr_sharp.proofs.RunDoubles.{ends_well, evens_are, members_found, next_double, odds_are, rows_lie, senders_found}
+use Rattle.fr_sharp.proofs.StepLemmas.{nodes_near, reached_by}
+
+Active_in : List NodeRow → Type 0
+Active_in rows = All (λ (row : NodeRow). row.state ≡ Active) rows
+
+-- where any two come together, none cuts a term
+pub none_cuts : (p : Values) (starts lengths : ℕ) (next : ℤ) (nodes : List Member) → ((one other : Member) → Contains nodes one → Contains nodes other → ComeSharply p starts lengths next one other)
+    → AllUncut nodes
+none_cuts p starts lengths next nodes come =
+    All-along (Contains nodes) (λ (node : Member). (node.offset_term.outcome ≡ Within) × (node.rate_term.outcome ≡ Within)) nodes
+    (λ node here. let both = come node node here here in (both.uncut, both.range.uncut)) (All-contains_itself nodes)
+
+module _ (beside : Bool) (x : Setting) (flutter : ℕ) (h : Cycles) (w : IsSteadyRun beside x flutter h) where
+  part : IsSteadyPart x flutter h
+  part = record { covered = w.covered; lawful = w.lawful; within = (let whole = w.whole in omega (arith, whole)) }
+
+  -- a double cycle of the run, and its rows
+  pub found_at : (double : ℕ) → double < x.doubles → DoubleAt h double
+  found_at double within = let whole = w.whole in double_at h double (omega (arith, whole, within))
+
+  pub rows_at : (double : ℕ) (earlier : Cycles) (even odd : Cycle) → IsDoubleOf h double earlier even odd → LawfulRows x flutter earlier even odd double
+  rows_at double earlier even odd d = lawful_rows x flutter h part double earlier even odd d
+
+  pub evens_at : (double : ℕ) (earlier : Cycles) (even odd : Cycle) → IsDoubleOf h double earlier even odd → map (λ (node : Member). node.even) (members_at x h double) ≡ even.told.rows
+  evens_at double earlier even odd d =
+      ap (map (λ (node : Member). node.even)) (members_found x h double earlier even odd d) ∙ evens_are x flutter earlier even odd double (rows_at double earlier even odd d)
+
+  pub odds_at : (double : ℕ) (earlier : Cycles) (even odd : Cycle) → IsDoubleOf h double earlier even odd → map (λ (node : Member). node.odd) (members_at x h double) ≡ odd.told.rows
+  odds_at double earlier even odd d =
+      ap (map (λ (node : Member). node.odd)) (members_found x h double earlier even odd d) ∙ odds_are x flutter earlier even odd double (rows_at double earlier even odd d)
+
+  -- while the walk lasts, rates are within their limit, and so rows are regular
+  pub rates_at : (double passed : ℕ) → holds_of 2 x.params ≡ true → WalkLastsAfter x.params flutter passed
+      → All (λ row. IsAboutCycle x.params (walked_after x.params flutter passed) (cycle_length_of x.params row)) (map (λ (node : Member). node.even) (members_at x h double)) → (earlier : Cycles) (even odd : Cycle)
+      → IsDoubleOf h double earlier even odd → All (λ row. IsWithin x.params.rate_limit row.rate) even.told.rows
+  rates_at double passed second before about earlier even odd d =
+      let p : Values = x.params in
+      let About : List NodeRow → Type 0 = λ rows. All (λ row. IsAboutCycle p (walked_after p flutter passed) (cycle_length_of p row)) rows in
+      rates_in_limit x flutter earlier even odd double (rows_at double earlier even odd d) (walked_after p flutter passed) (walked_suffices p flutter passed w.covered.sane second before)
+      (subst About (evens_at double earlier even odd d) about)
+
+  pub regular_at : (double passed : ℕ) → double < x.doubles → holds_of 2 x.params ≡ true → WalkLastsAfter x.params flutter passed
+      → All (λ row. IsAboutCycle x.params (walked_after x.params flutter passed) (cycle_length_of x.params row)) (map (λ (node : Member). node.even) (members_at x h double))
+      → (node : Member) → Contains (members_at x h double) node → IsRegular x.params node.even node.odd
+  regular_at double passed within second before about node here =
+      let d = found_at double within in
+      let Has : List Member → Type 0 = λ nodes. Contains nodes node in
+      members_regular x flutter d.earlier d.even d.odd double (rows_at double d.earlier d.even d.odd d.is) (rates_at double passed second before about d.earlier d.even d.odd d.is) node
+      (subst Has (members_found x h double d.earlier d.even d.odd d.is) here)
+
+  -- ---- what a double cycle comes to in the history
+
+  spread_in : (double apart : ℕ) (earlier : Cycles) (even odd : Cycle) → IsDoubleOf h double earlier even odd
+      → ((one other : Member) (macrotick : ℤ) (is_odd : Bool) → Contains (members_at x h double) one → Contains (members_at x h double) other → pos 0 ≤ℤ macrotick → macrotick ≤ℤ x.params.macros
+      → IsWithin (pos apart) (gap_of x.params is_odd macrotick (row_in is_odd one.even one.odd) (row_in is_odd other.even other.odd)))
+      → (macrotick : ℕ) (is_odd : Bool) → macrotick < amount x.params name.gMacroPerCycle → skew_at x.params (told_of h) (cycle_in is_odd double) macrotick ≤ℤ pos apart
+  spread_in double apart earlier even odd d near macrotick is_odd less =
+      let p : Values = x.params in
+      let sane : IsSane p = w.covered.sane in
+      let s = rows_at double earlier even odd d in
+      let Has : Member → List Member → Type 0 = λ node nodes. Contains nodes node in
+      let same = sym (members_found x h double earlier even odd d) in
+      let lie =
+      rows_lie x flutter earlier even odd double s (pos apart) macrotick
+      (λ is_odd one other here there. near one other (pos macrotick) is_odd (subst (Has one) same here) (subst (Has other) same there) (no_less macrotick) (macrotick_within p macrotick sane less)) in
+      by is_odd lie.0 lie.1
+    where
+      Most : ℕ → Option Record → Type 0
+      Most cycle o = option_map_or (λ r. spread_at (grid_for x.params) cycle r.rows macrotick) o (pos 0) ≤ℤ pos apart
+
+      by : (is_odd : Bool) → All (λ one. All (λ other. IsWithin (pos apart) (gap_of x.params false (pos macrotick) one other)) even.told.rows) even.told.rows
+          → All (λ one. All (λ other. IsWithin (pos apart) (gap_of x.params true (pos macrotick) one other)) odd.told.rows) odd.told.rows
+          → skew_at x.params (told_of h) (cycle_in is_odd double) macrotick ≤ℤ pos apart
+      by false early late =
+          let told : record_at (told_of h) (2 * double) ≡ Some even.told = told_at h (2 * double) ∙ ap (option_map (λ (c : Cycle). c.told)) (even_is h double earlier even odd d) in
+          subst (Most (2 * double)) (sym told) (spread_within x.params (2 * double) (pos apart) even.told.rows macrotick false (even_length (2 * double) double refl) (no_less apart) early)
+      by true early late =
+          let told : record_at (told_of h) (suc (2 * double)) ≡ Some odd.told = told_at h (suc (2 * double)) ∙ ap (option_map (λ (c : Cycle). c.told)) (odd_is h double earlier even odd d) in
+          subst (Most (suc (2 * double))) (sym told) (spread_within x.params (suc (2 * double)) (pos apart) odd.told.rows macrotick true (odd_length (2 * double) double refl) (no_less apart) late)
+
+  pub keeps_apart : (double apart : ℕ) → double < x.doubles → BeginsActive h double → AllUncut (members_at x h double)
+      → ((one other : Member) (macrotick : ℤ) (is_odd : Bool) → Contains (members_at x h double) one → Contains (members_at x h double) other → pos 0 ≤ℤ macrotick → macrotick ≤ℤ x.params.macros
+      → IsWithin (pos apart) (gap_of x.params is_odd macrotick (row_in is_odd one.even one.odd) (row_in is_odd other.even other.odd)))
+      → KeepsApart x h double apart
+  keeps_apart double apart within active uncut near =
+      let f = found_at double within in
+      record {
+        skew = spread_in double apart f.earlier f.even f.odd f.is near;
+        ends = λ earlier even odd d.
+            let both = active earlier even odd d in
+            ends_well x flutter earlier even odd double (rows_at double earlier even odd d) both.0 both.1
+            (subst AllUncut (members_found x h double earlier even odd d) uncut) w.none_joins;
+      }
+
+  -- ---- they are as the law of many double cycles asks for
+
+  module _ (double : ℕ) (second : holds_of 2 x.params ≡ true) (starts lengths : ℕ → ℕ) (reach : ℤ) (limit : LimitSuffices x.params reach) (room : LeavesRoom x.params reach) (active : BeginsActive h double) where
+    abbrev nodes : ℕ → List Member
+    nodes k = members_at x h (double + k)
+
+    abbrev senders : ℕ → List Sender
+    senders k = senders_at x h (double + k)
+
+    shorter : (k : ℕ) → k < x.doubles - double → double + k < x.doubles
+    shorter k short = omega (arith, short)
+
+    -- those of a later one are active as it begins
+    pub active_by : (k : ℕ) → BeginSharp x.params flutter starts lengths nodes k → BeginsActive h (double + k)
+    active_by zero begin earlier even odd d =
+        let At : ℕ → Type 0 = λ m. IsDoubleOf h m earlier even odd in
+        let same : double + 0 ≡ double = omega arith in
+        active earlier even odd (subst At same d)
+    active_by (suc k) begin earlier even odd d =
+        let Are : List NodeRow → Type 0 = λ rows. All (λ (row : NodeRow). row.state ≡ Active) rows in
+        (subst Are (evens_at (double + suc k) earlier even odd d) begin.active.0, subst Are (odds_at (double + suc k) earlier even odd d) begin.active.1)
+
+    module _ (acting : (k : ℕ) → double + k < x.doubles → WalkLastsAfter x.params flutter k → BeginSharp x.params flutter starts lengths nodes k → ActInReach x.params reach (pos (last_action x.params)) (nodes k)) where
+      heard_at : (k : ℕ) → double + k < x.doubles → WalkLastsAfter x.params flutter k → BeginSharp x.params flutter starts lengths nodes k
+          → IsSharpDouble beside x.params flutter (senders k) (nodes k) (pos (last_action x.params))
+      heard_at k short before begin =
+          let p : Values = x.params in
+          let last = pos (last_action p) in
+          let f = found_at (double + k) short in
+          let both = active_by k begin f.earlier f.even f.odd f.is in
+          let same = members_found x h (double + k) f.earlier f.even f.odd f.is in
+          let Acts : List Member → Type 0 = λ some. ActInReach p reach last some in
+          let r : AreRowsInReach x f.earlier f.even f.odd reach = record {
+            active_even = both.0;
+            active_odd = both.1;
+            rates = rates_at (double + k) k second before begin.sharp.about f.earlier f.even f.odd f.is;
+            limit = limit;
+            room = room;
+            acts = subst Acts same (acting k short before begin);
+          } in
+          let own = double_is_sharp x flutter f.earlier f.even f.odd (double + k) reach (rows_at (double + k) f.earlier f.even f.odd f.is) r beside w.arbitrary in
+          let Nodes : List Member → Type 0 = λ some. IsSharpDouble beside p flutter (senders k) some last in
+          let Senders : List Sender → Type 0 = λ some. IsSharpDouble beside p flutter some (row_members x f.earlier f.even f.odd) last in
+          subst Nodes (sym same) (subst Senders (sym (senders_found x h (double + k) f.earlier f.even f.odd f.is)) own)
+
+      follow : (k : ℕ) → BeginSharp x.params flutter starts lengths nodes k → AllUncut (nodes k) → (earlier : Cycles) (even odd : Cycle) → IsDoubleOf h (suc (double + k)) earlier even odd
+          → IsNextDouble x.params (nodes k) (members_at x h (suc (double + k)))
+      follow k begin uncut [] even odd d = let counted : 0 ≡ 2 * suc (double + k) = d.counted in absurd (omega (arith, counted))
+      follow k begin uncut (o ∷ []) even odd d = let counted : 1 ≡ 2 * suc (double + k) = d.counted in absurd (omega (arith, counted))
+      follow k begin uncut (o ∷ e ∷ earlier) even odd d =
+          let before = prior_of h (double + k) earlier e o even odd d in
+          let both = active_by k begin earlier e o before in
+          let same = members_found x h (double + k) earlier e o before in
+          let next = members_found x h (suc (double + k)) (o ∷ e ∷ earlier) even odd d in
+          let t = rows_at (suc (double + k)) (o ∷ e ∷ earlier) even odd d in
+          let own =
+          next_double x flutter earlier e o (double + k) (rows_at (double + k) earlier e o before) even odd t w.none_joins both.0 both.1 (subst AllUncut same uncut)
+          (evens_are x flutter (o ∷ e ∷ earlier) even odd (suc (double + k)) t) (odds_are x flutter (o ∷ e ∷ earlier) even odd (suc (double + k)) t) in
+          let First : List Member → Type 0 = λ some. IsNextDouble x.params some (members_at x h (suc (double + k))) in
+          let Second : List Member → Type 0 = λ some. IsNextDouble x.params (row_members x earlier e o) some in
+          subst First (sym same) (subst Second (sym next) own)
+
+      pub are_doubles : AreSharpDoubles beside x.params flutter (x.doubles - double) starts lengths senders nodes (pos (last_action x.params))
+      are_doubles = record {
+        sane = w.covered.sane;
+        second = second;
+        heard = λ k short before begin. heard_at k (shorter k short) before begin;
+        follows = λ k short before begin uncut.
+            let one : suc (double + k) ≡ double + suc k = omega arith in
+            let later : suc (double + k) < x.doubles = omega (arith, short) in
+            let f = found_at (suc (double + k)) later in
+            let At : ℕ → Type 0 = λ m. IsNextDouble x.params (nodes k) (members_at x h m) in
+            subst At one (follow k begin uncut f.earlier f.even f.odd f.is);
+      }
+
+  -- ---- where a reach takes in the numbers
+
+  pub acting_by : (double : ℕ) (starts lengths : ℕ → ℕ) (reach k : ℕ) → holds_of 2 x.params ≡ true → LimitSuffices x.params (pos reach) → near_by x.params (starts k) (lengths k) ≤ reach → double + k < x.doubles
+      → WalkLastsAfter x.params flutter k → BeginSharp x.params flutter starts lengths (λ k. members_at x h (double + k)) k
+      → ActInReach x.params (pos reach) (pos (last_action x.params)) (members_at x h (double + k))
+  acting_by double starts lengths reach k second limit fits short before begin is_odd one other action here there from to =
+      let p : Values = x.params in
+      let sane : IsSane p = w.covered.sane in
+      let regular = regular_at (double + k) k short second before begin.sharp.about in
+      reached_by p flutter (starts k) (lengths k) (walked_after p flutter k) (rate_walk p flutter) (pos reach) (pos (last_action p)) action is_odd one.even one.odd other.even other.odd
+      (record {
+        sane = sane;
+        walks = (walk_is_held p flutter k sane second before).0;
+        suffices = limit;
+        early = (key_slots_act_early p sane).1;
+        fits = near_fits p (starts k) (lengths k) reach sane fits;
+      })
+      (regular one here) (regular other there)
+      (nodes_near p (starts k) (lengths k) (walked_after p flutter k) (members_at x h (double + k)) (record { sane = sane; sharp = begin.sharp; regular = regular }) one other here there) from to
+
+  pub doubles_in_reach : (double : ℕ) (starts lengths : ℕ → ℕ) (reach : ℕ) → holds_of 2 x.params ≡ true → LimitSuffices x.params (pos reach) → LeavesRoom x.params (pos reach)
+      → ((k : ℕ) → double + k < x.doubles → near_by x.params (starts k) (lengths k) ≤ reach) → BeginsActive h double
+      → AreSharpDoubles beside x.params flutter (x.doubles - double) starts lengths (λ k. senders_at x h (double + k)) (λ k. members_at x h (double + k)) (pos (last_action x.params))
+  doubles_in_reach double starts lengths reach second limit room fits active =
+      are_doubles double second starts lengths (pos reach) limit room active (λ k short before begin. acting_by double starts lengths reach k second limit (fits k short) short before begin)
+
+  -- ---- sharp sync
+
+  -- the cycles of a double cycle are those that are found
+  pub sync_in : (double : ℕ) (beyond : ℤ) → IsInSharpSyncAt beside x.params flutter beyond h double → (earlier : Cycles) (even odd : Cycle) → IsDoubleOf h double earlier even odd
+      → IsInSharpSync beside x.params flutter beyond even.told.rows odd.told.rows
+  sync_in double beyond s earlier even odd d =
+      let late : odd_cycle double ≡ suc (2 * double) = omega arith in
+      let first : Some s.even ≡ Some even = sym s.has_even ∙ even_is h double earlier even odd d in
+      let second : Some s.odd ≡ Some odd = sym s.has_odd ∙ ap (cycle_at h) late ∙ odd_is h double earlier even odd d in
+      let same_even : s.even ≡ even = cc in
+      let same_odd : s.odd ≡ odd = cc in
+      let Even : Cycle → Type 0 = λ c. IsInSharpSync beside x.params flutter beyond c.told.rows odd.told.rows in
+      let Odd : Cycle → Type 0 = λ c. IsInSharpSync beside x.params flutter beyond s.even.told.rows c.told.rows in
+      subst Even same_even (subst Odd same_odd s.in_sync)
+
+  pub sync_at : (double : ℕ) (beyond : ℤ) → double < x.doubles
+      → IsInSharpSync beside x.params flutter beyond (map (λ (node : Member). node.even) (members_at x h double)) (map (λ (node : Member). node.odd) (members_at x h double))
+      → IsInSharpSyncAt beside x.params flutter beyond h double
+  sync_at double beyond within sync =
+      let f = found_at double within in
+      let late : odd_cycle double ≡ suc (2 * double) = omega arith in
+      let Even : List NodeRow → Type 0 = λ rows. IsInSharpSync beside x.params flutter beyond rows (map (λ (node : Member). node.odd) (members_at x h double)) in
+      let Odd : List NodeRow → Type 0 = λ rows. IsInSharpSync beside x.params flutter beyond f.even.told.rows rows in
+      record {
+        even = f.even;
+        odd = f.odd;
+        has_even = even_is h double f.earlier f.even f.odd f.is;
+        has_odd = ap (cycle_at h) late ∙ odd_is h double f.earlier f.even f.odd f.is;
+        in_sync = subst Odd (odds_at double f.earlier f.even f.odd f.is) (subst Even (evens_at double f.earlier f.even f.odd f.is) sync);
+      }
+
+  sync_of_members : (double : ℕ) (beyond : ℤ) → double < x.doubles → IsInSharpSyncAt beside x.params flutter beyond h double
+      → IsInSharpSync beside x.params flutter beyond (map (λ (node : Member). node.even) (members_at x h double)) (map (λ (node : Member). node.odd) (members_at x h double))
+  sync_of_members double beyond within s =
+      let f = found_at double within in
+      let Even : List NodeRow → Type 0 = λ rows. IsInSharpSync beside x.params flutter beyond rows (map (λ (node : Member). node.odd) (members_at x h double)) in
+      let Odd : List NodeRow → Type 0 = λ rows. IsInSharpSync beside x.params flutter beyond f.even.told.rows rows in
+      subst Even (sym (evens_at double f.earlier f.even f.odd f.is)) (subst Odd (sym (odds_at double f.earlier f.even f.odd f.is)) (sync_in double beyond s f.earlier f.even f.odd f.is))
+
+  sync_active : (double : ℕ) (beyond : ℤ)
+      → IsInSharpSync beside x.params flutter beyond (map (λ (node : Member). node.even) (members_at x h double)) (map (λ (node : Member). node.odd) (members_at x h double)) → BeginsActive h double
+  sync_active double beyond sync earlier even odd d =
+      let Are : List NodeRow → Type 0 = λ rows. All (λ (row : NodeRow). row.state ≡ Active) rows in
+      (subst Are (evens_at double earlier even odd d) sync.active_even, subst Are (odds_at double earlier even odd d) sync.active_odd)
+
+  -- what the law of many double cycles says of one, in the history
+  pub stays_at : (double passed : ℕ) → double + passed < x.doubles → StaysInSharpSync beside x.params flutter (λ k. members_at x h (double + k)) passed
+      → StaysInSharpSyncAt beside x flutter h double passed
+  stays_at double passed within stays = record {
+    synced = λ before. sync_at (double + passed) (walked_after x.params flutter passed) within (stays.sync before);
+    keeps = λ before.
+        keeps_apart (double + passed) (sharp_precision beside x.params flutter) within
+        (sync_active (double + passed) (walked_after x.params flutter passed) (stays.sync (up_to x.params flutter passed before)))
+        (
+        none_cuts x.params (sharp_pi beside x.params flutter) (sharp_lambda beside x.params flutter) (walked_after x.params flutter (suc passed)) (members_at x h (double + passed))
+        (λ one other here there. (stays.stay before one other here there).come)
+        )
+        (λ one other macrotick is_odd here there from to. (stays.stay before one other here there).precise macrotick is_odd from to);
+  }
+
+  pub keeps_sync : (double : ℕ) → SharpChecksHold flutter (sharp_near beside x.params flutter) x.params → IsInSharpSyncAt beside x.params flutter (pos 0) h double → (passed : ℕ) → double + passed < x.doubles
+      → StaysInSharpSyncAt beside x flutter h double passed
+  keeps_sync double checks sync passed within =
+      let p : Values = x.params in
+      let sane : IsSane p = w.covered.sane in
+      let near = sharp_near beside p flutter in
+      let starts : ℕ → ℕ = λ k. sharp_pi beside p flutter in
+      let lengths : ℕ → ℕ = λ k. sharp_lambda beside p flutter in
+      let suffice = sharp_checks_suffice_lem p flutter near sane checks in
+      let second : holds_of 2 p ≡ true = checks 2 (lit≤ tt) (lit≤ tt) in
+      let active : BeginsActive h double = λ earlier even odd d. let own = sync_in double (pos 0) sync earlier even odd d in (own.active_even, own.active_odd) in
+      let are = doubles_in_reach double starts lengths near second suffice.0 suffice.1 (λ k short. le_itself near) active in
+      let same : double ≡ double + 0 = omega arith in
+      let Sync : ℕ → Type 0 = λ m.
+      IsInSharpSync beside p flutter (pos 0) (map (λ (node : Member). node.even) (members_at x h m)) (map (λ (node : Member). node.odd) (members_at x h m)) in
+      let first = subst Sync same (sync_of_members double (pos 0) (omega (arith, within)) sync) in
+      stays_at double passed within
+      (
+      sharp_sync_lasts_lem beside p flutter (x.doubles - double) (λ k. senders_at x h (double + k)) (λ k. members_at x h (double + k)) are checks first passed (omega (arith, within))
+      )
+    where
+      le_itself : (n : ℕ) → n ≤ n
+      le_itself n = omega arith
+
+-- ---- the laws
+
+pub histories_are_sharp_doubles : HistoriesAreSharpDoubles
+histories_are_sharp_doubles beside x flutter h double starts lengths reach w second limit room fits active =
+    doubles_in_reach beside x flutter h w double starts lengths reach second limit room fits active
+
+pub histories_keep_sharp_sync_lem : HistoriesKeepSharpSync
+histories_keep_sharp_sync_lem beside x flutter h double w checks sync passed within = keeps_sync beside x flutter h w double checks sync passed within
