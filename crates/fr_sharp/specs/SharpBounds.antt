@@ -1,6 +1,7 @@
 -- The sharper bounds of a cluster, in ticks, where delays flutter by no more than so many ticks: the delay of a correct
--- node's frames at another one, on a channel, differs by no more than the flutter between the two cycles of a double cycle.
--- There are two sets of them: of a cluster without arbitrary sync nodes, and beside arbitrary sync nodes.
+-- sync node's frames at another correct node, on a channel that both have, differs by no more than the flutter between the
+-- two cycles of a double cycle. There are two sets of them: of a cluster without arbitrary sync nodes, and beside arbitrary
+-- sync nodes.
 use Rattle.std.specs.Prelude.{ℕ, ◌+◌, ◌-◌, ◌*◌, ◌/◌, ◌≤◌, max, nat_abs, ℤ, pos, ◌+ℤ◌, ◌-ℤ◌, ◌*ℤ◌, int_le, int_lt, Bool, true, false, if◌then◌else◌, Option, Some, None, List, [], ◌∷◌}
 use Rattle.fr_cluster.specs.Values.{Values, amount}
 use Rattle.fr_cluster.specs.Sane.{IsSane}

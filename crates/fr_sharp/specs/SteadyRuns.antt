@@ -77,7 +77,7 @@ pub record AreRowsInReach (x : Setting) (h : Cycles) (even odd : Cycle) (reach :
   pub room : LeavesRoom x.params reach
   pub acts : ActInReach x.params reach (pos (last_action x.params)) (row_members x h even odd)
 
--- then each of them has its deviations of every other one, and those of one channel are a steady pair
+-- then each of them has its deviations of every other sender among them, and those of one channel are a steady pair
 abbrev pub RowsHearSteadily : Type 0
 RowsHearSteadily =
     (x : Setting) (flutter : ℕ) (h earlier : Cycles) (even odd : Cycle) (double : ℕ) (reach : ℤ) (node : NodeSpec)

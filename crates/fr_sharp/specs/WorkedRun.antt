@@ -1,5 +1,5 @@
--- A worked run whose older checks fail: its oscillators lie 20 ppm apart, its starts 18,000,000 ticks; the delay of every frame is
--- the least one that is stated in one double cycle, and the greatest in the next.
+-- A worked run, three of whose older checks fail: its oscillators lie 20 ppm apart, its starts 18,000,000 ticks; the delay of every
+-- frame is the least one that is stated in one double cycle, and the greatest in the next.
 use Rattle.std.specs.Prelude.{◌≡◌, ℕ, ◌/◌, ◌%◌, ◌==◌, ℤ, pos, Bool, true, false, ◌&&◌, if◌then◌else◌, [], ◌∷◌, None}
 use Rattle.fr_base.specs.Event.{Event}
 use Rattle.fr_base.specs.Event.Event.{Regular}

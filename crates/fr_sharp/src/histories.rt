@@ -4,10 +4,10 @@ ghost use Rattle.fr_sharp.specs.SharpHistories.{HistoriesAreSharpDoubles, Histor
 use fr_history::one_lawful_run;
 
 /// The law of histories: in a lawful history of a run that no node joins and whose delays flutter little, from a double
-/// cycle in sharp sync on the nodes are in sharp sync in each double cycle, for as many as the rate limit holds the walk:
-/// no term is cut or missing, each node is active, behind the last cycle too, and no corresponding macroticks lie further
-/// apart than the sharper precision, in ticks. Its double cycles are as the law of many double cycles asks for; and where
-/// all five checks hold, it is so in each cycle to the end.
+/// cycle in sharp sync on, with lengths in their range and under the checks but the first, the nodes are in sharp sync in
+/// each double cycle, for as many as the rate limit holds the walk: no term is cut or missing, each node is active, behind
+/// the last cycle too, and no corresponding macroticks lie further apart than the sharper precision, in ticks. Its double
+/// cycles are as the law of many double cycles asks for; and where all five checks hold, it is so in each cycle to the end.
 pub fn histories_keep_sharp_sync()
     ensures double { HistoriesAreSharpDoubles }
     ensures keep { HistoriesKeepSharpSync }
@@ -15,7 +15,8 @@ pub fn histories_keep_sharp_sync()
 {}
 
 /// A law: the cycles that a run has by what is stated of it are such a history, where no node joins. Its cycle 0 lies
-/// within what is stated of starts and lengths, in ticks; so it may be in sharp sync from the first double cycle on.
+/// within what is stated of starts and lengths, in ticks; so, with pi and lambda for these numbers, it is in sharp sync in
+/// the first double cycle.
 pub fn stated_runs_are_steady()
     ensures steady { StatedRunsAreSteady }
     ensures starts { StatedStartsAreSharp }
@@ -24,10 +25,11 @@ pub fn stated_runs_are_steady()
     one_lawful_run();
 }
 
-/// A law: from stated numbers for starts and even lengths, in ticks, such a history keeps to the spreads by double cycle,
-/// under the checks with a reach for the whole way, and is in sharp sync when these have come to rest; its nodes are active
-/// from the first double cycle on. So it is from sync in the older sense, under the older checks, where delays flutter by
-/// no more than twice the error of an arrival, with no macroticks further apart than the older precision on the way.
+/// A law: from stated numbers for starts and even lengths, in ticks, each length in its range, such a history keeps to the
+/// spreads by double cycle, under the checks with a reach for the whole way, and is in sharp sync when these have come to
+/// rest, as long as the walk lasts; its nodes are active in the first double cycle. So it is from sync in the older sense,
+/// under the older checks, where delays flutter by no more than twice the error of an arrival, with no macroticks further
+/// apart than the older precision on the way.
 pub fn histories_come_into_sharp_sync()
     ensures active { HistoriesBeginActive }
     ensures spreads { HistoriesKeepToSpreads }
