@@ -246,16 +246,24 @@ settled_after beside p flutter start rate rest k settled le =
     let same : rest + (k - rest) ≡ k = omega (arith, le) in
     subst (λ (n : ℕ). IsSharplySettled beside p flutter (sharp_spread_after beside p flutter start rate n)) same (settled_further beside p flutter start rate rest (k - rest) settled)
 
+-- all of some nodes are active in both cycles
+abbrev pub AllActive : List Member → Type 0
+AllActive nodes = All (λ (row : NodeRow). row.state ≡ Active) (map (λ (node : Member). node.even) nodes) × All (λ (row : NodeRow). row.state ≡ Active) (map (λ (node : Member). node.odd) nodes)
+
+-- as they are behind the first double cycle
+pub active_later : (p : Values) (flutter : ℕ) (starts lengths : ℕ → ℕ) (nodes : ℕ → List Member) (rest k : ℕ) → 1 ≤ rest → rest ≤ k → BeginSharp p flutter starts lengths nodes k → AllActive (nodes k)
+active_later p flutter starts lengths nodes rest zero from le begin = absurd (omega (arith, from, le))
+active_later p flutter starts lengths nodes rest (suc k) from le begin = begin.active
+
 -- a spread at rest is that of sharp sync
-sync_at : (beside : Bool) (p : Values) (flutter start rate : ℕ) (nodes : ℕ → List Member) (k : ℕ) → 1 ≤ k → IsSharplySettled beside p flutter (sharp_spread_after beside p flutter start rate k)
+sync_at : (beside : Bool) (p : Values) (flutter start rate : ℕ) (nodes : ℕ → List Member) (k : ℕ) → AllActive (nodes k) → IsSharplySettled beside p flutter (sharp_spread_after beside p flutter start rate k)
     → BeginSharp p flutter (starts_from beside p flutter start rate) (lengths_from beside p flutter start rate) nodes k
     → IsInSharpSync beside p flutter (walked_after p flutter k) (map (λ (node : Member). node.even) (nodes k)) (map (λ (node : Member). node.odd) (nodes k))
-sync_at beside p flutter start rate nodes zero from settled begin = absurd (omega (arith, from))
-sync_at beside p flutter start rate nodes (suc k) from settled begin =
-    let evens = map (λ (node : Member). node.even) (nodes (suc k)) in
-    let Starts : ℕ → Type 0 = λ n. AreSharp p n (lengths_from beside p flutter start rate (suc k)) (walked_after p flutter (suc k)) evens in
-    let Lengths : ℕ → Type 0 = λ n. AreSharp p (sharp_pi beside p flutter) n (walked_after p flutter (suc k)) evens in
-    record { active_even = begin.active.0; active_odd = begin.active.1; rows = subst Lengths settled.0 (subst Starts settled.1 begin.sharp) }
+sync_at beside p flutter start rate nodes k active settled begin =
+    let evens = map (λ (node : Member). node.even) (nodes k) in
+    let Starts : ℕ → Type 0 = λ n. AreSharp p n (lengths_from beside p flutter start rate k) (walked_after p flutter k) evens in
+    let Lengths : ℕ → Type 0 = λ n. AreSharp p (sharp_pi beside p flutter) n (walked_after p flutter k) evens in
+    record { active_even = active.0; active_odd = active.1; rows = subst Lengths settled.0 (subst Starts settled.1 begin.sharp) }
 
 stay_at : (beside : Bool) (p : Values) (flutter start rate k : ℕ) (next : ℤ) (one other : Member) → IsSharplySettled beside p flutter (sharp_spread_after beside p flutter start rate k)
     → IsSharplySettled beside p flutter (sharp_spread_after beside p flutter start rate (suc k))
@@ -276,13 +284,14 @@ stay_at beside p flutter start rate k next one other settled later come precise 
           subst Second settled.0 (subst First settled.1 (precise macrotick is_odd from to));
     }
 
-pub stays_at_rest : (beside : Bool) (p : Values) (flutter start rate rest : ℕ) (nodes : ℕ → List Member) (k : ℕ) → 1 ≤ rest → IsSharplySettled beside p flutter (sharp_spread_after beside p flutter start rate rest) → rest ≤ k
-    → KeepsToSpreads beside p flutter start rate nodes k → StaysInSharpSync beside p flutter nodes k
-stays_at_rest beside p flutter start rate rest nodes k from settled le kept =
+pub stays_at_rest : (beside : Bool) (p : Values) (flutter start rate rest : ℕ) (nodes : ℕ → List Member) (k : ℕ)
+    → (BeginSharp p flutter (starts_from beside p flutter start rate) (lengths_from beside p flutter start rate) nodes k → AllActive (nodes k))
+    → IsSharplySettled beside p flutter (sharp_spread_after beside p flutter start rate rest) → rest ≤ k → KeepsToSpreads beside p flutter start rate nodes k → StaysInSharpSync beside p flutter nodes k
+stays_at_rest beside p flutter start rate rest nodes k active settled le kept =
     let now = settled_after beside p flutter start rate rest k settled le in
     let later = settled_after beside p flutter start rate rest (suc k) settled (more rest k le) in
     record {
-      sync = λ before. sync_at beside p flutter start rate nodes k (no_less rest k from le) now (kept.keeps.begins before);
+      sync = λ before. let begin = kept.keeps.begins before in sync_at beside p flutter start rate nodes k (active begin) now begin;
       stay =
           λ before one other here there.
           stay_at beside p flutter start rate k (walked_after p flutter (suc k)) one other now later (kept.keeps.come before one other here there)
@@ -292,9 +301,7 @@ stays_at_rest beside p flutter start rate rest nodes k from settled le kept =
     more : (a b : ℕ) → a ≤ b → a ≤ suc b
     more a b le = omega (arith, le)
 
-    no_less : (a b : ℕ) → 1 ≤ a → a ≤ b → 1 ≤ b
-    no_less a b from le = omega (arith, from, le)
-
 pub sharp_sync_is_reached : SharpSyncIsReached
 sharp_sync_is_reached beside p flutter start rate reach doubles rest senders nodes begin from settled k le short =
-    stays_at_rest beside p flutter start rate rest nodes k from settled le (sharp_spreads_keep beside p flutter start rate reach doubles senders nodes begin k short)
+    stays_at_rest beside p flutter start rate rest nodes k (active_later p flutter (starts_from beside p flutter start rate) (lengths_from beside p flutter start rate) nodes rest k from le) settled le
+    (sharp_spreads_keep beside p flutter start rate reach doubles senders nodes begin k short)

@@ -24,16 +24,22 @@ use Rattle.fr_sharp.proofs.BoundLemmas.{first_check_stops_walk, key_slots_act_ea
 use Rattle.fr_sharp.proofs.NearLemmas.{macroticks_lie_in_reach}
 use Rattle.fr_sharp.proofs.SettlingLemmas.{older_way_fits}
 use Rattle.fr_sharp.proofs.StepLemmas.{act_in_reach, in_sync_is_sharp, macroticks_stay_sharp, runs_of, sharp_is_wider}
-use Rattle.fr_sharp.proofs.LastingLemmas.{all_regular, doubles_draw, first_spread_is, keeps_to_spreads, near_fits, nothing, spread_draws, stays_at_rest, up_to}
+use Rattle.fr_sharp.proofs.LastingLemmas.{active_later, all_regular, doubles_draw, first_spread_is, keeps_to_spreads, near_fits, nothing, spread_draws, stays_at_rest, up_to}
+
+stops : (w : ℤ) → w ≤ℤ pos 0 → int_le w (pos 0) ≡ true
+stops w le = grind (arith, ints)
 
 -- where the lengths do not walk, they never do
 pub does_not_walk : (p : Values) (flutter : ℕ) → rate_walk p flutter ≤ℤ pos 0 → walk_lasts p flutter ≡ None
 does_not_walk p flutter still =
     let lasts : Option ℕ = Some (rate_room p / nat_abs (rate_walk p flutter)) in
     subst (λ (stops : Bool). (if stops then None else lasts) ≡ None) (sym (stops (rate_walk p flutter) still)) refl
-  where
-    stops : (w : ℤ) → w ≤ℤ pos 0 → int_le w (pos 0) ≡ true
-    stops w le = grind (arith, ints)
+
+-- and stay in their range
+pub stays_in_range : (p : Values) (flutter passed : ℕ) → rate_walk p flutter ≤ℤ pos 0 → walked_after p flutter passed ≡ pos 0
+stays_in_range p flutter passed still =
+    let walked : ℤ = pos passed *ℤ rate_walk p flutter in
+    subst (λ (stops : Bool). (if stops then pos 0 else walked) ≡ pos 0) (sym (stops (rate_walk p flutter) still)) refl
 
 pub lasts_on : (p : Values) (flutter k : ℕ) → walk_lasts p flutter ≡ None → WalkLastsAfter p flutter k
 lasts_on p flutter k still = subst (λ (o : Option ℕ). IfSome o (λ lasts. k < lasts)) (sym still) tt
@@ -131,5 +137,7 @@ older_sync_settles beside p flutter doubles senders nodes b k short =
       still = still beside p flutter doubles senders nodes b;
       spreads = spreads;
       older = older beside p flutter doubles senders nodes b k short;
-      reached = λ rest from le settled. stays_at_rest beside p flutter (pi_of p) (lambda_of p) rest nodes k from settled le spreads;
+      reached = λ rest from le settled.
+          stays_at_rest beside p flutter (pi_of p) (lambda_of p) rest nodes k
+          (active_later p flutter (starts_from beside p flutter (pi_of p) (lambda_of p)) (lengths_from beside p flutter (pi_of p) (lambda_of p)) nodes rest k from le) settled le spreads;
     }

@@ -1,6 +1,6 @@
 -- From a double cycle in sharp sync on a lawful history that no node joins keeps the sharper precision in each cycle, where
 -- lengths do not walk.
-use Rattle.std.proofs.Common.{◌≡◌, ℕ, suc, ◌+◌, ◌-◌, ◌*◌, ◌<◌, ◌≤◌, true, false, pos, Some, None, All, [], ◌∷◌, length, refl, ap, sym, subst, lit≤, arith}
+use Rattle.std.proofs.Common.{◌≡◌, ℕ, suc, ◌+◌, ◌-◌, ◌*◌, ◌<◌, ◌≤◌, Bool, true, false, ℤ, pos, Some, All, [], ◌∷◌, length, refl, ap, subst, lit≤, arith}
 use Rattle.std.specs.Prelude.{◌≤ℤ◌, Contains}
 use Rattle.fr_base.specs.declared.node_row.NodeRow.{NodeRow}
 use Rattle.fr_base.specs.declared.state.State.TheVariants.{Active}
@@ -15,12 +15,13 @@ use Rattle.fr_history.specs.Skew.{skew_at}
 use Rattle.fr_history.specs.Terms.{status_in}
 use Rattle.fr_runs.specs.Rounds.{IsDoubleOf}
 use Rattle.fr_runs.proofs.Parts.{cycle_found, cycle_within, each_cycle}
-use Rattle.fr_sharp.specs.SharpBounds.{sharp_near, sharp_precision, walk_lasts}
-use Rattle.fr_sharp.specs.SharpChecks.{SharpChecksHold}
-use Rattle.fr_sharp.specs.SharpHistories.{BeginsActive, CyclesKeepApart, HistoriesKeepSharpPrecision, KeepsApart, StatedRunsAreSteady}
+use Rattle.fr_sharp.specs.SharpBounds.{rate_walk, sharp_near, sharp_precision}
+use Rattle.fr_sharp.specs.SharpChecks.{sharp_holds_of, SharpChecksHold}
+use Rattle.fr_sharp.specs.SharpHistories.{BeginsActive, CyclesKeepApart, HistoriesKeepSharpPrecision, IsInSharpSyncAt, IsSteadyRun, KeepsApart, KeepsSharpPrecision, StatedRunsAreSteady, StaysInSharpSyncAt}
+use Rattle.fr_sharp.specs.SharpRun.{WalkLastsAfter}
 use Rattle.fr_sharp.proofs.BoundLemmas.{first_check_stops_walk}
 use Rattle.fr_sharp.proofs.LastingLemmas.{up_to}
-use Rattle.fr_sharp.proofs.OlderLemmas.{does_not_walk, lasts_on}
+use Rattle.fr_sharp.proofs.OlderLemmas.{does_not_walk, lasts_on, stays_in_range}
 use Rattle.fr_sharp.proofs.RunSync.{keeps_sync, sync_in}
 
 -- ---- each cycle
@@ -72,26 +73,46 @@ module _ (x : Setting) (h : Cycles) (whole : length h ≡ 2 * x.doubles) (double
 
 -- ---- under all checks
 
+module _ (beside : Bool) (x : Setting) (flutter : ℕ) (h : Cycles) (double : ℕ) (w : IsSteadyRun beside x flutter h)
+    (checks : (k : ℕ) → 1 ≤ k → k ≤ 5 → sharp_holds_of k flutter (sharp_near beside x.params flutter) x.params ≡ true) (sync : IsInSharpSyncAt beside x.params flutter (pos 0) h double) where
+  still : rate_walk x.params flutter ≤ℤ pos 0
+  still = (first_check_stops_walk x.params flutter (sharp_near beside x.params flutter) w.covered.sane).0 (checks 1 (lit≤ tt) (lit≤ tt))
+
+  lasts : (passed : ℕ) → WalkLastsAfter x.params flutter passed
+  lasts passed = lasts_on x.params flutter passed (does_not_walk x.params flutter still)
+
+  stays : (k : ℕ) → double ≤ k → k < x.doubles → StaysInSharpSyncAt beside x flutter h double (k - double)
+  stays k from within =
+      let rest : SharpChecksHold flutter (sharp_near beside x.params flutter) x.params = λ m from to. checks m (omega (arith, from)) to in
+      keeps_sync beside x flutter h w double rest sync (k - double) (omega (arith, from, within))
+
+  synced_at : (k : ℕ) → double ≤ k → k < x.doubles → IsInSharpSyncAt beside x.params flutter (pos 0) h k
+  synced_at k from within =
+      let same : double + (k - double) ≡ k = omega (arith, from) in
+      let At : ℕ → Type 0 = λ m. IsInSharpSyncAt beside x.params flutter (pos 0) h m in
+      let Beyond : ℤ → Type 0 = λ beyond. IsInSharpSyncAt beside x.params flutter beyond h (double + (k - double)) in
+      subst At same (subst Beyond (stays_in_range x.params flutter (k - double) still) ((stays k from within).synced (up_to x.params flutter (k - double) (lasts (k - double)))))
+
+  keeps_at : (k : ℕ) → double ≤ k → k < x.doubles → KeepsApart x h k (sharp_precision beside x.params flutter)
+  keeps_at k from within =
+      let same : double + (k - double) ≡ k = omega (arith, from) in
+      let At : ℕ → Type 0 = λ m. KeepsApart x h m (sharp_precision beside x.params flutter) in
+      subst At same ((stays k from within).keeps (lasts (k - double)))
+
+  pub keeps_precision : KeepsSharpPrecision beside x flutter h double
+  keeps_precision =
+      let whole : length h ≡ 2 * x.doubles = w.whole in
+      let below : 2 * double < length h = cycle_within h (2 * double) sync.even sync.has_even in
+      record {
+        synced = synced_at;
+        ends = λ k earlier even odd from within d. (keeps_at k from within).ends earlier even odd d;
+        cycles =
+            cycles_keep_apart x h whole double (sharp_precision beside x.params flutter) (omega (arith, whole, below))
+            (λ k from within earlier even odd d. let own = sync_in beside x flutter h w k (pos 0) (synced_at k from within) earlier even odd d in (own.active_even, own.active_odd)) keeps_at;
+      }
+
 pub histories_keep_sharp_precision : HistoriesKeepSharpPrecision
-histories_keep_sharp_precision beside x flutter h double w checks sync =
-    let whole : length h ≡ 2 * x.doubles = w.whole in
-    let below : 2 * double < length h = cycle_within h (2 * double) sync.even sync.has_even in
-    let rest : SharpChecksHold flutter (sharp_near beside x.params flutter) x.params = λ k from to. checks k (omega (arith, from)) to in
-    let still : walk_lasts x.params flutter ≡ None =
-    does_not_walk x.params flutter ((first_check_stops_walk x.params flutter (sharp_near beside x.params flutter) w.covered.sane).0 (checks 1 (lit≤ tt) (lit≤ tt))) in
-    let stays = λ (k : ℕ) (from : double ≤ k) (within : k < x.doubles). keeps_sync beside x flutter h w double rest sync (k - double) (omega (arith, from, within)) in
-    cycles_keep_apart x h whole double (sharp_precision beside x.params flutter) (omega (arith, whole, below))
-    (λ k from within earlier even odd d.
-    let same : double + (k - double) ≡ k = omega (arith, from) in
-    let before = lasts_on x.params flutter (k - double) still in
-    let there = (stays k from within).synced (up_to x.params flutter (k - double) before) in
-    let At : ℕ → Type 0 = λ m. IsDoubleOf h m earlier even odd in
-    let own = sync_in beside x flutter h w (double + (k - double)) _ there earlier even odd (subst At (sym same) d) in
-    (own.active_even, own.active_odd))
-    (λ k from within.
-    let same : double + (k - double) ≡ k = omega (arith, from) in
-    let At : ℕ → Type 0 = λ m. KeepsApart x h m (sharp_precision beside x.params flutter) in
-    subst At same ((stays k from within).keeps (lasts_on x.params flutter (k - double) still)))
+histories_keep_sharp_precision beside x flutter h double w checks sync = keeps_precision beside x flutter h double w checks sync
 
 pub stated_runs_are_steady : ((x : Setting) (n : ℕ) → IsSetting x → IsLawful x (cycles_of x n)) → ((x : Setting) (n : ℕ) → length (cycles_of x n) ≡ n) → StatedRunsAreSteady
 stated_runs_are_steady lawful long beside x flutter setting covered may none = record {

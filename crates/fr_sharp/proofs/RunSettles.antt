@@ -36,7 +36,7 @@ use Rattle.fr_sharp.specs.SharpRun.{lengths_from, starts_from, BeginInSync, Begi
 use Rattle.fr_sharp.specs.SharpSettling.{sharp_spread_after, sharply_apart_in}
 use Rattle.fr_sharp.specs.SharpStep.{ActInReach, AreSharp}
 use Rattle.fr_sharp.proofs.BoundLemmas.{key_slots_act_early, sharp_checks_suffice_lem}
-use Rattle.fr_sharp.proofs.LastingLemmas.{sharp_spreads_keep, sharp_sync_is_reached, up_to}
+use Rattle.fr_sharp.proofs.LastingLemmas.{sharp_spreads_keep, stays_at_rest, up_to, AllActive}
 use Rattle.fr_sharp.proofs.OlderLemmas.{lasts_on, older_sync_settles}
 use Rattle.fr_sharp.proofs.RowsSupplied.{covered_runs_are_steady}
 use Rattle.fr_sharp.proofs.RunSync.{acting_by, active_by, are_doubles, doubles_in_reach, evens_at, found_at, keeps_apart, none_cuts, odds_at, regular_at, rows_at, stays_at}
@@ -68,6 +68,15 @@ histories_begin_active beside x flutter h w (c ∷ earlier) even odd d =
 module _ (beside : Bool) (x : Setting) (flutter : ℕ) (h : Cycles) (w : IsSteadyRun beside x flutter h) (double : ℕ) (start rate : ℕ) where
   abbrev nodes : ℕ → List Member
   nodes k = members_at x h (double + k)
+
+  members_active : (passed : ℕ) → double + passed < x.doubles → BeginsActive h (double + passed) → AllActive (nodes passed)
+  members_active passed within active =
+      let f = found_at beside x flutter h w (double + passed) within in
+      let both = active f.earlier f.even f.odd f.is in
+      let Are : List NodeRow → Type 0 = λ rows. All (λ (row : NodeRow). row.state ≡ Active) rows in (
+        subst Are (sym (evens_at beside x flutter h w (double + passed) f.earlier f.even f.odd f.is)) both.0,
+        subst Are (sym (odds_at beside x flutter h w (double + passed) f.earlier f.even f.odd f.is)) both.1,
+      )
 
   apart_at : (passed apart : ℕ) → double + passed < x.doubles
       → (BeginSharp x.params flutter (starts_from beside x.params flutter start rate) (lengths_from beside x.params flutter start rate) nodes passed → BeginsActive h (double + passed))
@@ -150,11 +159,15 @@ pub histories_keep_to_spreads : HistoriesKeepToSpreads
 histories_keep_to_spreads beside x flutter start rate reach h double b passed within = keeps_spreads beside x flutter start rate reach h double b passed within
 
 pub histories_reach_sharp_sync : HistoriesReachSharpSync
-histories_reach_sharp_sync beside x flutter start rate reach h double rest b from settled passed le within =
+histories_reach_sharp_sync beside x flutter start rate reach h double rest b settled passed le within =
     stays_at beside x flutter h b.run double passed within
     (
-    sharp_sync_is_reached beside x.params flutter start rate reach (x.doubles - double) rest (λ k. senders_at x h (double + k)) (λ k. members_at x h (double + k))
-    (begin beside x flutter start rate reach h double b (omega (arith, within))) from settled passed le (omega (arith, within))
+    stays_at_rest beside x.params flutter start rate rest (λ k. members_at x h (double + k)) passed
+    (λ begins. members_active beside x flutter h b.run double start rate passed within (active_at beside x flutter start rate reach h double b passed begins)) settled le
+    (
+    sharp_spreads_keep beside x.params flutter start rate reach (x.doubles - double) (λ k. senders_at x h (double + k)) (λ k. members_at x h (double + k))
+    (begin beside x flutter start rate reach h double b (omega (arith, within))) passed (omega (arith, within))
+    )
     )
 
 -- ---- from sync in the older sense
@@ -255,7 +268,12 @@ module _ (beside : Bool) (x : Setting) (flutter : ℕ) (h : Cycles) (double : �
         still = kept.still;
         spreads = spreads_at beside x flutter h run double (pi_of x.params) (lambda_of x.params) passed short active kept.spreads;
         older = apart_at beside x flutter h run double (pi_of x.params) (lambda_of x.params) passed (precision_of x.params) short active kept.spreads before kept.older;
-        reached = λ rest from le settled. stays_at beside x flutter h run double passed short (kept.reached rest from le settled);
+        reached = λ rest le settled.
+            stays_at beside x flutter h run double passed short
+            (
+            stays_at_rest beside x.params flutter (pi_of x.params) (lambda_of x.params) rest members passed
+            (λ begins. members_active beside x flutter h run double (pi_of x.params) (lambda_of x.params) passed short (active begins)) settled le kept.spreads
+            );
       }
 
 pub older_histories_settle : OlderHistoriesSettle

@@ -1,7 +1,7 @@
 -- The double cycles of a lawful history that no node joins are as the law of many double cycles asks for, so a history in sharp
 -- sync stays so.
-use Rattle.std.proofs.Common.{◌≡◌, ℕ, zero, suc, ◌+◌, ◌-◌, ◌*◌, ◌<◌, ◌≤◌, Bool, true, false, ℤ, pos, Option, Some, List, All, [], ◌∷◌, map, refl, ap, sym, ◌∙◌, subst, lit≤, arith}
-use Rattle.std.specs.Prelude.{◌≤ℤ◌, Contains}
+use Rattle.std.proofs.Common.{◌≡◌, ℕ, zero, suc, ◌+◌, ◌-◌, ◌*◌, ◌<◌, ◌≤◌, Bool, true, false, ℤ, pos, Option, Some, List, All, [], ◌∷◌, length, map, refl, ap, sym, ◌∙◌, subst, lit≤, arith}
+use Rattle.std.specs.Prelude.{◌+ℤ◌, ◌≤ℤ◌, Contains}
 use Rattle.std.specs.Option.{option_map, option_map_or}
 use Rattle.std.proofs.lemmas.List.Elements.{All-contains_itself}
 use Rattle.fr_base.specs.Within.{IsWithin}
@@ -30,23 +30,23 @@ use Rattle.fr_history.specs.Skew.{skew_at}
 use Rattle.fr_runs.specs.Links.{cycle_in}
 use Rattle.fr_runs.specs.Rounds.{IsDoubleOf}
 use Rattle.fr_runs.proofs.Doubles.{even_length, odd_length}
-use Rattle.fr_runs.proofs.Parts.{double_at, even_is, odd_is, told_at, DoubleAt}
+use Rattle.fr_runs.proofs.Parts.{cycle_within, double_at, even_is, odd_is, told_at, DoubleAt}
 use Rattle.fr_runs.proofs.Receivers.{no_less}
 use Rattle.fr_runs.proofs.Spread.{macrotick_within, spread_within}
 use Rattle.fr_runs.proofs.Whole.{prior_of}
-use Rattle.fr_sharp.specs.Lengths.{walked_after, IsAboutCycle}
+use Rattle.fr_sharp.specs.Lengths.{walked_after, CanWalk, IsAboutCycle}
 use Rattle.fr_sharp.specs.SharpBounds.{last_action, near_by, rate_walk, sharp_lambda, sharp_near, sharp_pi, sharp_precision}
-use Rattle.fr_sharp.specs.SharpChecks.{SharpChecksHold}
-use Rattle.fr_sharp.specs.SharpHistories.{members_at, senders_at, BeginsActive, HistoriesAreSharpDoubles, HistoriesKeepSharpSync, IsInSharpSyncAt, IsSteadyRun, KeepsApart, StaysInSharpSyncAt}
+use Rattle.fr_sharp.specs.SharpChecks.{RateSuffices, SharpChecksHold}
+use Rattle.fr_sharp.specs.SharpHistories.{members_at, senders_at, BeginsActive, HistoriesAreSharpDoubles, HistoriesHaveMembers, HistoriesKeepSharpSync, HistoriesStepSharply, IsInSharpSyncAt, IsSteadyRun, KeepsApart, StaysInSharpSyncAt}
 use Rattle.fr_sharp.specs.SharpRun.{AllUncut, AreSharpDoubles, BeginSharp, IsNextDouble, StaysInSharpSync, WalkLastsAfter}
-use Rattle.fr_sharp.specs.SharpStep.{ActInReach, ComeSharply, IsInSharpSync, IsSharpDouble}
+use Rattle.fr_sharp.specs.SharpStep.{ActInReach, AreSharp, ComeSharply, IsInSharpSync, IsSharpDouble, StaySharp}
 use Rattle.fr_sharp.specs.SteadyRuns.{row_members, AreRowsInReach, IsSteadyPart}
-use Rattle.fr_sharp.proofs.BoundLemmas.{key_slots_act_early, sharp_checks_suffice_lem, walk_is_held}
+use Rattle.fr_sharp.proofs.BoundLemmas.{key_slots_act_early, sharp_checks_suffice_lem, walk_is_bounded, walk_is_held}
 use Rattle.fr_sharp.proofs.LastingLemmas.{near_fits, sharp_sync_lasts_lem, up_to}
 use Rattle.fr_sharp.proofs.RateRange.{walked_suffices}
 use Rattle.fr_sharp.proofs.RowsSupplied.{double_is_sharp, lawful_rows, members_regular, rates_in_limit, LawfulRows}
 use Rattle.fr_sharp.proofs.RunDoubles.{ends_well, evens_are, members_found, next_double, odds_are, rows_lie, senders_found}
-use Rattle.fr_sharp.proofs.StepLemmas.{nodes_near, reached_by}
+use Rattle.fr_sharp.proofs.StepLemmas.{next_is_in_sharp_sync, nodes_near, reached_by, sharp_sync_is_kept_lem}
 
 Active_in : List NodeRow → Type 0
 Active_in rows = All (λ (row : NodeRow). row.state ≡ Active) rows
@@ -77,24 +77,30 @@ module _ (beside : Bool) (x : Setting) (flutter : ℕ) (h : Cycles) (w : IsStead
   odds_at double earlier even odd d =
       ap (map (λ (node : Member). node.odd)) (members_found x h double earlier even odd d) ∙ odds_are x flutter earlier even odd double (rows_at double earlier even odd d)
 
-  -- while the walk lasts, rates are within their limit, and so rows are regular
-  pub rates_at : (double passed : ℕ) → holds_of 2 x.params ≡ true → WalkLastsAfter x.params flutter passed
-      → All (λ row. IsAboutCycle x.params (walked_after x.params flutter passed) (cycle_length_of x.params row)) (map (λ (node : Member). node.even) (members_at x h double)) → (earlier : Cycles) (even odd : Cycle)
-      → IsDoubleOf h double earlier even odd → All (λ row. IsWithin x.params.rate_limit row.rate) even.told.rows
-  rates_at double passed second before about earlier even odd d =
-      let p : Values = x.params in
-      let About : List NodeRow → Type 0 = λ rows. All (λ row. IsAboutCycle p (walked_after p flutter passed) (cycle_length_of p row)) rows in
-      rates_in_limit x flutter earlier even odd double (rows_at double earlier even odd d) (walked_after p flutter passed) (walked_suffices p flutter passed w.covered.sane second before)
-      (subst About (evens_at double earlier even odd d) about)
+  -- lengths lie no further beyond their range than so
+  abbrev About : ℤ → List NodeRow → Type 0
+  About beyond rows = All (λ row. IsAboutCycle x.params beyond (cycle_length_of x.params row)) rows
 
+  -- where the rate limit suffices for that, rates are within it, and so rows are regular
+  rates_at : (double : ℕ) (beyond : ℤ) → RateSuffices x.params beyond → About beyond (map (λ (node : Member). node.even) (members_at x h double)) → (earlier : Cycles) (even odd : Cycle)
+      → IsDoubleOf h double earlier even odd → All (λ row. IsWithin x.params.rate_limit row.rate) even.told.rows
+  rates_at double beyond suffices about earlier even odd d =
+      rates_in_limit x flutter earlier even odd double (rows_at double earlier even odd d) beyond suffices (subst (About beyond) (evens_at double earlier even odd d) about)
+
+  regular_with : (double : ℕ) (beyond : ℤ) → double < x.doubles → RateSuffices x.params beyond → About beyond (map (λ (node : Member). node.even) (members_at x h double)) → (node : Member)
+      → Contains (members_at x h double) node → IsRegular x.params node.even node.odd
+  regular_with double beyond within suffices about node here =
+      let d = found_at double within in
+      let Has : List Member → Type 0 = λ nodes. Contains nodes node in
+      members_regular x flutter d.earlier d.even d.odd double (rows_at double d.earlier d.even d.odd d.is) (rates_at double beyond suffices about d.earlier d.even d.odd d.is) node
+      (subst Has (members_found x h double d.earlier d.even d.odd d.is) here)
+
+  -- as it does while the walk lasts
   pub regular_at : (double passed : ℕ) → double < x.doubles → holds_of 2 x.params ≡ true → WalkLastsAfter x.params flutter passed
       → All (λ row. IsAboutCycle x.params (walked_after x.params flutter passed) (cycle_length_of x.params row)) (map (λ (node : Member). node.even) (members_at x h double))
       → (node : Member) → Contains (members_at x h double) node → IsRegular x.params node.even node.odd
   regular_at double passed within second before about node here =
-      let d = found_at double within in
-      let Has : List Member → Type 0 = λ nodes. Contains nodes node in
-      members_regular x flutter d.earlier d.even d.odd double (rows_at double d.earlier d.even d.odd d.is) (rates_at double passed second before about d.earlier d.even d.odd d.is) node
-      (subst Has (members_found x h double d.earlier d.even d.odd d.is) here)
+      regular_with double (walked_after x.params flutter passed) within (walked_suffices x.params flutter passed w.covered.sane second before) about node here
 
   -- ---- what a double cycle comes to in the history
 
@@ -140,6 +146,46 @@ module _ (beside : Bool) (x : Setting) (flutter : ℕ) (h : Cycles) (w : IsStead
             (subst AllUncut (members_found x h double earlier even odd d) uncut) w.none_joins;
       }
 
+  -- ---- one of them, and the next
+
+  heard_with : (double : ℕ) (beyond reach : ℤ) → double < x.doubles → LimitSuffices x.params reach → LeavesRoom x.params reach → RateSuffices x.params beyond → BeginsActive h double
+      → About beyond (map (λ (node : Member). node.even) (members_at x h double)) → ActInReach x.params reach (pos (last_action x.params)) (members_at x h double)
+      → IsSharpDouble beside x.params flutter (senders_at x h double) (members_at x h double) (pos (last_action x.params))
+  heard_with double beyond reach short limit room suffices active about acts =
+      let p : Values = x.params in
+      let last = pos (last_action p) in
+      let f = found_at double short in
+      let both = active f.earlier f.even f.odd f.is in
+      let same = members_found x h double f.earlier f.even f.odd f.is in
+      let Acts : List Member → Type 0 = λ some. ActInReach p reach last some in
+      let r : AreRowsInReach x f.earlier f.even f.odd reach = record {
+        active_even = both.0;
+        active_odd = both.1;
+        rates = rates_at double beyond suffices about f.earlier f.even f.odd f.is;
+        limit = limit;
+        room = room;
+        acts = subst Acts same acts;
+      } in
+      let own = double_is_sharp x flutter f.earlier f.even f.odd double reach (rows_at double f.earlier f.even f.odd f.is) r beside w.arbitrary in
+      let Nodes : List Member → Type 0 = λ some. IsSharpDouble beside p flutter (senders_at x h double) some last in
+      let Senders : List Sender → Type 0 = λ some. IsSharpDouble beside p flutter some (row_members x f.earlier f.even f.odd) last in
+      subst Nodes (sym same) (subst Senders (sym (senders_found x h double f.earlier f.even f.odd f.is)) own)
+
+  next_at : (double : ℕ) → BeginsActive h double → AllUncut (members_at x h double) → (earlier : Cycles) (even odd : Cycle) → IsDoubleOf h (suc double) earlier even odd
+      → IsNextDouble x.params (members_at x h double) (members_at x h (suc double))
+  next_at double active uncut [] even odd d = let counted : 0 ≡ 2 * suc double = d.counted in absurd (omega (arith, counted))
+  next_at double active uncut (o ∷ []) even odd d = let counted : 1 ≡ 2 * suc double = d.counted in absurd (omega (arith, counted))
+  next_at double active uncut (o ∷ e ∷ earlier) even odd d =
+      let before = prior_of h double earlier e o even odd d in
+      let both = active earlier e o before in
+      let same = members_found x h double earlier e o before in
+      let next = members_found x h (suc double) (o ∷ e ∷ earlier) even odd d in
+      let t = rows_at (suc double) (o ∷ e ∷ earlier) even odd d in
+      let own = next_double x flutter earlier e o double (rows_at double earlier e o before) even odd t w.none_joins both.0 both.1 (subst AllUncut same uncut) (evens_are x flutter (o ∷ e ∷ earlier) even odd (suc double) t) (odds_are x flutter (o ∷ e ∷ earlier) even odd (suc double) t) in
+      let First : List Member → Type 0 = λ some. IsNextDouble x.params some (members_at x h (suc double)) in
+      let Second : List Member → Type 0 = λ some. IsNextDouble x.params (row_members x earlier e o) some in
+      subst First (sym same) (subst Second (sym next) own)
+
   -- ---- they are as the law of many double cycles asks for
 
   module _ (double : ℕ) (second : holds_of 2 x.params ≡ true) (starts lengths : ℕ → ℕ) (reach : ℤ) (limit : LimitSuffices x.params reach) (room : LeavesRoom x.params reach) (active : BeginsActive h double) where
@@ -166,41 +212,8 @@ module _ (beside : Bool) (x : Setting) (flutter : ℕ) (h : Cycles) (w : IsStead
       heard_at : (k : ℕ) → double + k < x.doubles → WalkLastsAfter x.params flutter k → BeginSharp x.params flutter starts lengths nodes k
           → IsSharpDouble beside x.params flutter (senders k) (nodes k) (pos (last_action x.params))
       heard_at k short before begin =
-          let p : Values = x.params in
-          let last = pos (last_action p) in
-          let f = found_at (double + k) short in
-          let both = active_by k begin f.earlier f.even f.odd f.is in
-          let same = members_found x h (double + k) f.earlier f.even f.odd f.is in
-          let Acts : List Member → Type 0 = λ some. ActInReach p reach last some in
-          let r : AreRowsInReach x f.earlier f.even f.odd reach = record {
-            active_even = both.0;
-            active_odd = both.1;
-            rates = rates_at (double + k) k second before begin.sharp.about f.earlier f.even f.odd f.is;
-            limit = limit;
-            room = room;
-            acts = subst Acts same (acting k short before begin);
-          } in
-          let own = double_is_sharp x flutter f.earlier f.even f.odd (double + k) reach (rows_at (double + k) f.earlier f.even f.odd f.is) r beside w.arbitrary in
-          let Nodes : List Member → Type 0 = λ some. IsSharpDouble beside p flutter (senders k) some last in
-          let Senders : List Sender → Type 0 = λ some. IsSharpDouble beside p flutter some (row_members x f.earlier f.even f.odd) last in
-          subst Nodes (sym same) (subst Senders (sym (senders_found x h (double + k) f.earlier f.even f.odd f.is)) own)
-
-      follow : (k : ℕ) → BeginSharp x.params flutter starts lengths nodes k → AllUncut (nodes k) → (earlier : Cycles) (even odd : Cycle) → IsDoubleOf h (suc (double + k)) earlier even odd
-          → IsNextDouble x.params (nodes k) (members_at x h (suc (double + k)))
-      follow k begin uncut [] even odd d = let counted : 0 ≡ 2 * suc (double + k) = d.counted in absurd (omega (arith, counted))
-      follow k begin uncut (o ∷ []) even odd d = let counted : 1 ≡ 2 * suc (double + k) = d.counted in absurd (omega (arith, counted))
-      follow k begin uncut (o ∷ e ∷ earlier) even odd d =
-          let before = prior_of h (double + k) earlier e o even odd d in
-          let both = active_by k begin earlier e o before in
-          let same = members_found x h (double + k) earlier e o before in
-          let next = members_found x h (suc (double + k)) (o ∷ e ∷ earlier) even odd d in
-          let t = rows_at (suc (double + k)) (o ∷ e ∷ earlier) even odd d in
-          let own =
-          next_double x flutter earlier e o (double + k) (rows_at (double + k) earlier e o before) even odd t w.none_joins both.0 both.1 (subst AllUncut same uncut)
-          (evens_are x flutter (o ∷ e ∷ earlier) even odd (suc (double + k)) t) (odds_are x flutter (o ∷ e ∷ earlier) even odd (suc (double + k)) t) in
-          let First : List Member → Type 0 = λ some. IsNextDouble x.params some (members_at x h (suc (double + k))) in
-          let Second : List Member → Type 0 = λ some. IsNextDouble x.params (row_members x earlier e o) some in
-          subst First (sym same) (subst Second (sym next) own)
+          heard_with (double + k) (walked_after x.params flutter k) reach short limit room (walked_suffices x.params flutter k w.covered.sane second before) (active_by k begin) begin.sharp.about
+          (acting k short before begin)
 
       pub are_doubles : AreSharpDoubles beside x.params flutter (x.doubles - double) starts lengths senders nodes (pos (last_action x.params))
       are_doubles = record {
@@ -212,28 +225,35 @@ module _ (beside : Bool) (x : Setting) (flutter : ℕ) (h : Cycles) (w : IsStead
             let later : suc (double + k) < x.doubles = omega (arith, short) in
             let f = found_at (suc (double + k)) later in
             let At : ℕ → Type 0 = λ m. IsNextDouble x.params (nodes k) (members_at x h m) in
-            subst At one (follow k begin uncut f.earlier f.even f.odd f.is);
+            subst At one (next_at (double + k) (active_by k begin) uncut f.earlier f.even f.odd f.is);
       }
 
   -- ---- where a reach takes in the numbers
 
+  acting_with : (double starts lengths : ℕ) (beyond : ℤ) (reach : ℕ) → double < x.doubles → CanWalk x.params flutter beyond (rate_walk x.params flutter) → RateSuffices x.params beyond
+      → LimitSuffices x.params (pos reach) → near_by x.params starts lengths ≤ reach → AreSharp x.params starts lengths beyond (map (λ (node : Member). node.even) (members_at x h double))
+      → ActInReach x.params (pos reach) (pos (last_action x.params)) (members_at x h double)
+  acting_with double starts lengths beyond reach short walks suffices limit fits sharp is_odd one other action here there from to =
+      let p : Values = x.params in
+      let sane : IsSane p = w.covered.sane in
+      let regular = regular_with double beyond short suffices sharp.about in
+      reached_by p flutter starts lengths beyond (rate_walk p flutter) (pos reach) (pos (last_action p)) action is_odd one.even one.odd other.even other.odd
+      (record {
+        sane = sane;
+        walks = walks;
+        suffices = limit;
+        early = (key_slots_act_early p sane).1;
+        fits = near_fits p starts lengths reach sane fits;
+      })
+      (regular one here) (regular other there) (nodes_near p starts lengths beyond (members_at x h double) (record { sane = sane; sharp = sharp; regular = regular }) one other here there) from to
+
   pub acting_by : (double : ℕ) (starts lengths : ℕ → ℕ) (reach k : ℕ) → holds_of 2 x.params ≡ true → LimitSuffices x.params (pos reach) → near_by x.params (starts k) (lengths k) ≤ reach → double + k < x.doubles
       → WalkLastsAfter x.params flutter k → BeginSharp x.params flutter starts lengths (λ k. members_at x h (double + k)) k
       → ActInReach x.params (pos reach) (pos (last_action x.params)) (members_at x h (double + k))
-  acting_by double starts lengths reach k second limit fits short before begin is_odd one other action here there from to =
-      let p : Values = x.params in
-      let sane : IsSane p = w.covered.sane in
-      let regular = regular_at (double + k) k short second before begin.sharp.about in
-      reached_by p flutter (starts k) (lengths k) (walked_after p flutter k) (rate_walk p flutter) (pos reach) (pos (last_action p)) action is_odd one.even one.odd other.even other.odd
-      (record {
-        sane = sane;
-        walks = (walk_is_held p flutter k sane second before).0;
-        suffices = limit;
-        early = (key_slots_act_early p sane).1;
-        fits = near_fits p (starts k) (lengths k) reach sane fits;
-      })
-      (regular one here) (regular other there)
-      (nodes_near p (starts k) (lengths k) (walked_after p flutter k) (members_at x h (double + k)) (record { sane = sane; sharp = begin.sharp; regular = regular }) one other here there) from to
+  acting_by double starts lengths reach k second limit fits short before begin =
+      let sane : IsSane x.params = w.covered.sane in
+      acting_with (double + k) (starts k) (lengths k) (walked_after x.params flutter k) reach short (walk_is_held x.params flutter k sane second before).0
+      (walked_suffices x.params flutter k sane second before) limit fits begin.sharp
 
   pub doubles_in_reach : (double : ℕ) (starts lengths : ℕ → ℕ) (reach : ℕ) → holds_of 2 x.params ≡ true → LimitSuffices x.params (pos reach) → LeavesRoom x.params (pos reach)
       → ((k : ℕ) → double + k < x.doubles → near_by x.params (starts k) (lengths k) ≤ reach) → BeginsActive h double
@@ -325,7 +345,73 @@ module _ (beside : Bool) (x : Setting) (flutter : ℕ) (h : Cycles) (w : IsStead
       le_itself : (n : ℕ) → n ≤ n
       le_itself n = omega arith
 
+-- ---- one step
+
+module _ (beside : Bool) (x : Setting) (flutter : ℕ) (h : Cycles) (w : IsSteadyRun beside x flutter h) (double : ℕ) (beyond next : ℤ) (checks : SharpChecksHold flutter (sharp_near beside x.params flutter) x.params)
+    (suffices : RateSuffices x.params beyond) (walks : RateSuffices x.params (beyond +ℤ rate_walk x.params flutter)) (from : pos 0 ≤ℤ next) (takes : (beyond +ℤ rate_walk x.params flutter) ≤ℤ next)
+    (sync : IsInSharpSyncAt beside x.params flutter beyond h double) where
+  abbrev near : ℕ
+  near = sharp_near beside x.params flutter
+
+  within : double < x.doubles
+  within =
+      let below : 2 * double < length h = cycle_within h (2 * double) sync.even sync.has_even in
+      let whole : length h ≡ 2 * x.doubles = w.whole in
+      omega (arith, below, whole)
+
+  can_walk : CanWalk x.params flutter beyond (rate_walk x.params flutter)
+  can_walk = record { bounds = walk_is_bounded x.params flutter w.covered.sane; suffices = walks }
+
+  own_sync : IsInSharpSync beside x.params flutter beyond (map (λ (node : Member). node.even) (members_at x h double)) (map (λ (node : Member). node.odd) (members_at x h double))
+  own_sync = sync_of_members beside x flutter h w double beyond within sync
+
+  active : BeginsActive h double
+  active = sync_active beside x flutter h w double beyond own_sync
+
+  heard : IsSharpDouble beside x.params flutter (senders_at x h double) (members_at x h double) (pos (last_action x.params))
+  heard =
+      let suffice = sharp_checks_suffice_lem x.params flutter near w.covered.sane checks in
+      heard_with beside x flutter h w double beyond (pos near) within suffice.0 suffice.1 suffices active own_sync.rows.about
+      (acting_with beside x flutter h w double (sharp_pi beside x.params flutter) (sharp_lambda beside x.params flutter) beyond near within can_walk suffices suffice.0 (le_itself near) own_sync.rows)
+    where
+      le_itself : (n : ℕ) → n ≤ n
+      le_itself n = omega arith
+
+  stay : (one other : Member) → Contains (members_at x h double) one → Contains (members_at x h double) other → StaySharp beside x.params flutter next one other
+  stay =
+      sharp_sync_is_kept_lem beside x.params flutter (senders_at x h double) (members_at x h double) beyond (rate_walk x.params flutter) next w.covered.sane checks can_walk from takes own_sync heard
+
+  uncut : AllUncut (members_at x h double)
+  uncut =
+      none_cuts x.params (sharp_pi beside x.params flutter) (sharp_lambda beside x.params flutter) next (members_at x h double) (λ one other here there. (stay one other here there).come)
+
+  pub step_keeps_apart : KeepsApart x h double (sharp_precision beside x.params flutter)
+  step_keeps_apart =
+      keeps_apart beside x flutter h w double (sharp_precision beside x.params flutter) within active uncut
+      (λ one other macrotick is_odd here there first last. (stay one other here there).precise macrotick is_odd first last)
+
+  pub step_comes_to : suc double < x.doubles → IsInSharpSyncAt beside x.params flutter next h (suc double)
+  step_comes_to later =
+      let f = found_at beside x flutter h w (suc double) later in
+      let goes = next_at beside x flutter h w double active uncut f.earlier f.even f.odd f.is in
+      let is =
+      next_is_in_sharp_sync beside x.params flutter (senders_at x h double) (members_at x h double) beyond (rate_walk x.params flutter) next goes.next_even goes.next_odd w.covered.sane checks can_walk from takes
+      own_sync heard goes.followed in
+      let Even : List NodeRow → Type 0 = λ rows. IsInSharpSync beside x.params flutter next rows (map goes.next_odd (members_at x h double)) in
+      let Odd : List NodeRow → Type 0 = λ rows. IsInSharpSync beside x.params flutter next (map (λ (node : Member). node.even) (members_at x h (suc double))) rows in
+      sync_at beside x flutter h w (suc double) next later (subst Odd (sym goes.odds) (subst Even (sym goes.evens) is))
+
 -- ---- the laws
+
+pub histories_step_sharply : HistoriesStepSharply
+histories_step_sharply beside x flutter h double beyond next w checks suffices walks from takes sync = (
+  step_keeps_apart beside x flutter h w double beyond next checks suffices walks from takes sync,
+  step_comes_to beside x flutter h w double beyond next checks suffices walks from takes sync,
+)
+
+pub histories_have_members : HistoriesHaveMembers
+histories_have_members beside x flutter h double earlier even odd w d =
+    (evens_at beside x flutter h w double earlier even odd d, odds_at beside x flutter h w double earlier even odd d, senders_found x h double earlier even odd d)
 
 pub histories_are_sharp_doubles : HistoriesAreSharpDoubles
 histories_are_sharp_doubles beside x flutter h double starts lengths reach w second limit room fits active =

@@ -1,6 +1,6 @@
 -- The premises of the laws of histories are met by the worked run, without an arbitrary node and beside node 4 as one, whatever that
 -- says.
-use Rattle.std.proofs.Common.{◌≡◌, ℕ, zero, suc, ◌*◌, ◌/◌, ◌%◌, ◌≤◌, ◌==◌, Bool, true, false, ◌&&◌, ℤ, pos, Some, length, refl, sym, subst, inl, inr, lit≤, lit<, arith, if◌then◌else◌}
+use Rattle.std.proofs.Common.{◌≡◌, ℕ, zero, suc, ◌+◌, ◌*◌, ◌/◌, ◌%◌, ◌<◌, ◌≤◌, ◌==◌, Bool, true, false, ◌&&◌, ℤ, pos, Some, length, refl, sym, subst, inl, inr, lit≤, arith, if◌then◌else◌}
 use Rattle.std.specs.Prelude.{◌-ℤ◌, ◌*ℤ◌, ◌≤ℤ◌, Contains}
 use Rattle.std.proofs.lemmas.Int.{ints}
 use Rattle.std.proofs.lemmas.List.Elements.{All-contains}
@@ -25,11 +25,11 @@ use Rattle.fr_runs.proofs.Nodes.{correct_node}
 use Rattle.fr_sharp.specs.Flutter.{FluttersWithin}
 use Rattle.fr_sharp.specs.Lengths.{IsAboutCycle}
 use Rattle.fr_sharp.specs.SettlingHistories.{AreStatedNear}
-use Rattle.fr_sharp.specs.SharpBounds.{sharp_lambda, sharp_near, sharp_pi, sharp_precision}
-use Rattle.fr_sharp.specs.SharpChecks.{sharp_holds_of}
+use Rattle.fr_sharp.specs.SharpBounds.{last_of, sharp_lambda, sharp_near, sharp_pi, sharp_precision}
+use Rattle.fr_sharp.specs.SharpChecks.{sharp_holds_of, SharpChecksHold}
 use Rattle.fr_sharp.specs.SharpHistories.{CyclesKeepApart, IsInSharpSyncAt, IsSteadyRun, StaysInSharpSyncAt}
 use Rattle.fr_sharp.specs.SteadyRuns.{IsSteadySetting, MayHaveArbitrary}
-use Rattle.fr_sharp.specs.WorkedRun.{delay_in_turn, micro_by, start_by, steady_cluster, steady_run, OfBytes, OlderChecksFail, Said, SteadyPrecisions, SteadyRunKeepsPrecision}
+use Rattle.fr_sharp.specs.WorkedRun.{delay_in_turn, micro_by, start_by, steady_cluster, steady_run, walking_run, OfBytes, OlderChecksFail, Said, SteadyPrecisions, SteadyRunKeepsPrecision, SteadyRunMeetsPremises, WalkingRunStaysInSharpSync}
 use Rattle.fr_sharp.proofs.RunCycles.{histories_keep_sharp_precision, stated_runs_are_steady}
 use Rattle.fr_sharp.proofs.RunStated.{stated_runs_begin_in_sharp_sync}
 use Rattle.fr_sharp.proofs.RunSync.{histories_keep_sharp_sync_lem}
@@ -177,7 +177,7 @@ pub older_checks_fail : OlderChecksFail
 older_checks_fail = (refl, refl, refl)
 
 pub steady_precisions : SteadyPrecisions
-steady_precisions = (refl, refl)
+steady_precisions = (refl, refl, refl)
 
 module _ (said : Said) (bytes : OfBytes said) (lawful : (x : Setting) (n : ℕ) → IsSetting x → IsLawful x (cycles_of x n)) (long : (x : Setting) (n : ℕ) → length (cycles_of x n) ≡ n) where
   steady : (beside : Bool) → IsSteadyRun beside (steady_run said beside) 0 (all_cycles (steady_run said beside))
@@ -187,10 +187,85 @@ module _ (said : Said) (bytes : OfBytes said) (lawful : (x : Setting) (n : ℕ) 
   in_sync beside = stated_runs_begin_in_sharp_sync beside (steady_run said beside) 0 (all_cycles (steady_run said beside)) (steady beside) (stated_near said beside) (lit≤ tt)
 
   kept : (beside : Bool) → CyclesKeepApart (steady_run said beside) (all_cycles (steady_run said beside)) 0 (sharp_precision beside steady_cluster 0)
-  kept beside = histories_keep_sharp_precision beside (steady_run said beside) 0 (all_cycles (steady_run said beside)) 0 (steady beside) (five_checks beside) (in_sync beside)
+  kept beside = (histories_keep_sharp_precision beside (steady_run said beside) 0 (all_cycles (steady_run said beside)) 0 (steady beside) (five_checks beside) (in_sync beside)).cycles
 
-  last_stays : (beside : Bool) → StaysInSharpSyncAt beside (steady_run said beside) 0 (all_cycles (steady_run said beside)) 0 2
-  last_stays beside = histories_keep_sharp_sync_lem beside (steady_run said beside) 0 (all_cycles (steady_run said beside)) 0 (steady beside) (checks beside) (in_sync beside) 2 (lit< tt)
+  stays : (beside : Bool) (passed : ℕ) → passed < 3 → StaysInSharpSyncAt beside (steady_run said beside) 0 (all_cycles (steady_run said beside)) 0 passed
+  stays beside passed within =
+      let short : 0 + passed < 3 = omega (arith, within) in
+      histories_keep_sharp_sync_lem beside (steady_run said beside) 0 (all_cycles (steady_run said beside)) 0 (steady beside) (checks beside) (in_sync beside) passed short
 
 pub steady_run_keeps_precision : ((x : Setting) (n : ℕ) → IsSetting x → IsLawful x (cycles_of x n)) → ((x : Setting) (n : ℕ) → length (cycles_of x n) ≡ n) → SteadyRunKeepsPrecision
 steady_run_keeps_precision lawful long said beside bytes = (in_sync said bytes lawful long beside, kept said bytes lawful long beside)
+
+pub steady_run_meets_premises : ((x : Setting) (n : ℕ) → IsSetting x → IsLawful x (cycles_of x n)) → ((x : Setting) (n : ℕ) → length (cycles_of x n) ≡ n) → SteadyRunMeetsPremises
+steady_run_meets_premises lawful long said beside bytes = (steady said bytes lawful long beside, five_checks beside, stays said bytes lawful long beside)
+
+-- ---- the run that walks
+
+turns : (double : ℕ) → (2 * double % 2 ≡ 0) × (suc (2 * double) % 2 ≡ 1)
+turns double = (omega arith, omega arith)
+
+walking_flutters : FluttersWithin walking_run 10_000_000
+walking_flutters sender receiver slot channel double linked share within =
+    let At : ℕ → ℕ → Type 0 = λ late early. IsWithin (pos 10_000_000) (delay_in_turn (late == 0) -ℤ delay_in_turn (early == 0)) in
+    subst (λ (late : ℕ). At late (2 * double % 2)) (sym (turns double).1) (subst (At 1) (sym (turns double).0) (record { low = record { le = tt }; high = record { le = tt } }))
+
+walking_on_a : (some : NodeSpec) → Contains (correct_nodes walking_run) some → has_channel (Some some) A ≡ true
+walking_on_a some there =
+    All-contains (λ (n : NodeSpec). has_channel (Some n) A ≡ true) steady_cluster.nodes some
+    (four (λ (n : NodeSpec). has_channel (Some n) A ≡ true) (spec 1) (spec 2) (spec 3) (spec 4) refl refl refl refl) (correct_node walking_run some there).there
+
+walking_covered : IsSteadySetting walking_run 10_000_000
+walking_covered = record {
+  sane = is_sane;
+  few = inl (refl, lit≤ tt);
+  least = λ some cycle there within. least_micro (some.id == 1) (some.id == 2);
+  most = λ some cycle there within. most_micro (some.id == 1) (some.id == 2);
+  changes = λ some cycle there within. itself (micro_by (some.id == 1) (some.id == 2));
+  delays = λ sender receiver slot channel cycle linked share within. stated_delay channel (cycle % 2 == 0);
+  links = λ sender receiver slot double linked within. record {
+    channel = A;
+    share = record { by_sender = walking_on_a sender linked.sends; by_receiver = walking_on_a receiver linked.hears };
+    even = refl;
+    odd = refl;
+  };
+  flutters = walking_flutters;
+}
+
+walking_setting : IsSetting walking_run
+walking_setting = record { sane = is_sane; bytes = λ cycle sender receiver channel. tt }
+
+walking_near : AreStatedNear walking_run (sharp_pi false steady_cluster 10_000_000) (sharp_lambda false steady_cluster 10_000_000)
+walking_near = record {
+  starts = λ one other here there.
+      wider_than 18_000_000 (sharp_pi false steady_cluster 10_000_000) (start_by (one.id == 1) (one.id == 2) -ℤ start_by (other.id == 1) (other.id == 2)) (lit≤ tt)
+      (near_starts (one.id == 1) (one.id == 2) (other.id == 1) (other.id == 2));
+  lengths = λ one other here there.
+      wider_than 4_000_000 (sharp_lambda false steady_cluster 10_000_000) (length_by (one.id == 1) (one.id == 2) -ℤ length_by (other.id == 1) (other.id == 2)) (lit≤ tt)
+      (near_lengths (one.id == 1) (one.id == 2) (other.id == 1) (other.id == 2));
+  about = λ some there. in_its_range (some.id == 1) (some.id == 2);
+}
+
+walking_checks : SharpChecksHold 10_000_000 (sharp_near false steady_cluster 10_000_000) steady_cluster
+unfolding last_of
+walking_checks zero from to = absurd (omega (arith, from))
+walking_checks (suc zero) from to = absurd (omega (arith, from))
+walking_checks (suc (suc zero)) from to = refl
+walking_checks (suc (suc (suc zero))) from to = refl
+walking_checks (suc (suc (suc (suc zero)))) from to = refl
+walking_checks (suc (suc (suc (suc (suc zero))))) from to = refl
+walking_checks (suc (suc (suc (suc (suc (suc k)))))) from to = absurd (omega (arith, to))
+
+module _ (lawful : (x : Setting) (n : ℕ) → IsSetting x → IsLawful x (cycles_of x n)) (long : (x : Setting) (n : ℕ) → length (cycles_of x n) ≡ n) where
+  walks_steadily : IsSteadyRun false walking_run 10_000_000 (all_cycles walking_run)
+  walks_steadily = stated_runs_are_steady lawful long false walking_run 10_000_000 walking_setting walking_covered refl refl
+
+  walks_in_sync : (passed : ℕ) → passed < 3 → StaysInSharpSyncAt false walking_run 10_000_000 (all_cycles walking_run) 0 passed
+  walks_in_sync passed within =
+      let short : 0 + passed < 3 = omega (arith, within) in
+      let first = stated_runs_begin_in_sharp_sync false walking_run 10_000_000 (all_cycles walking_run) walks_steadily walking_near (lit≤ tt) in
+      histories_keep_sharp_sync_lem false walking_run 10_000_000 (all_cycles walking_run) 0 walks_steadily walking_checks first passed short
+
+pub walking_run_stays_in_sharp_sync : ((x : Setting) (n : ℕ) → IsSetting x → IsLawful x (cycles_of x n)) → ((x : Setting) (n : ℕ) → length (cycles_of x n) ≡ n) → WalkingRunStaysInSharpSync
+unfolding last_of
+walking_run_stays_in_sharp_sync lawful long = (refl, refl, walks_steadily lawful long, walks_in_sync lawful long)

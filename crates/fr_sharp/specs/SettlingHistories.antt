@@ -46,12 +46,12 @@ HistoriesKeepToSpreads =
     → BeginsSharply beside x flutter start rate reach h double
     → (passed : ℕ) → double + passed < x.doubles → KeepsToSpreadsAt beside x flutter start rate h double passed
 
--- and from the double cycle on in which the spreads have come to rest, not the first, it is in sharp sync
+-- and from the double cycle on in which the spreads have come to rest it is in sharp sync
 abbrev pub HistoriesReachSharpSync : Type 0
 HistoriesReachSharpSync =
     (beside : Bool) (x : Setting) (flutter start rate reach : ℕ) (h : Cycles) (double rest : ℕ)
     → BeginsSharply beside x flutter start rate reach h double
-    → 1 ≤ rest → IsSharplySettled beside x.params flutter (sharp_spread_after beside x.params flutter start rate rest)
+    → IsSharplySettled beside x.params flutter (sharp_spread_after beside x.params flutter start rate rest)
     → (passed : ℕ) → rest ≤ passed → double + passed < x.doubles → StaysInSharpSyncAt beside x flutter h double passed
 
 -- the nodes of such a history are active in the first double cycle
@@ -109,7 +109,7 @@ pub record SettlesFromSync (beside : Bool) (x : Setting) (flutter : ℕ) (h : Cy
   pub spreads : KeepsToSpreadsAt beside x flutter (pi_of x.params) (lambda_of x.params) h double passed
   pub older : KeepsApart x h (double + passed) (precision_of x.params)
   pub reached :
-      (rest : ℕ) → 1 ≤ rest → rest ≤ passed
+      (rest : ℕ) → rest ≤ passed
       → IsSharplySettled beside x.params flutter (sharp_spread_after beside x.params flutter (pi_of x.params) (lambda_of x.params) rest)
       → StaysInSharpSyncAt beside x flutter h double passed
 

@@ -1,6 +1,6 @@
 -- A lawful history of a run that no node joins and whose delays flutter little: where it is in sharp sync it stays so, for as
 -- many double cycles as the rate limit holds the walk.
-use Rattle.std.specs.Prelude.{◌≡◌, ◌<◌, ◌≤◌, ◌+◌, ◌-◌, ◌*◌, ℕ, ℤ, pos, ◌≤ℤ◌, nat_le, if◌then◌else◌, Bool, true, false, List, [], ◌∷◌, length, All, Contains, Some}
+use Rattle.std.specs.Prelude.{◌≡◌, ◌<◌, ◌≤◌, ◌+◌, ◌-◌, ◌*◌, ℕ, suc, ℤ, pos, ◌+ℤ◌, ◌≤ℤ◌, nat_le, if◌then◌else◌, Bool, true, false, List, [], ◌∷◌, length, map, All, Contains, Some}
 use Rattle.fr_base.specs.declared.state.Outcome.TheVariants.{Within}
 use Rattle.fr_base.specs.declared.state.State.TheVariants.{Active}
 use Rattle.fr_cluster.specs.Setting.{IsSetting, Setting, correct_nodes}
@@ -24,8 +24,8 @@ use Rattle.fr_runs.specs.Numbers.{offset_term_told, rate_term_told}
 use Rattle.fr_runs.specs.Rounds.{IsDoubleOf}
 use Rattle.fr_runs.specs.Stated.{all_cycles}
 use Rattle.fr_sharp.specs.Lengths.{walked_after}
-use Rattle.fr_sharp.specs.SharpBounds.{last_action, near_by, sharp_near, sharp_precision}
-use Rattle.fr_sharp.specs.SharpChecks.{sharp_holds_of, SharpChecksHold}
+use Rattle.fr_sharp.specs.SharpBounds.{last_action, near_by, rate_walk, sharp_near, sharp_precision}
+use Rattle.fr_sharp.specs.SharpChecks.{sharp_holds_of, RateSuffices, SharpChecksHold}
 use Rattle.fr_sharp.specs.SharpRun.{AreSharpDoubles, WalkLastsAfter, WalkLastsUpTo}
 use Rattle.fr_sharp.specs.SharpStep.{IsInSharpSync}
 use Rattle.fr_sharp.specs.SteadyRuns.{row_members, IsSteadySetting, MayHaveArbitrary}
@@ -63,6 +63,15 @@ members_at x h double = last_members x (first_cycles h (2 * double + 2))
 
 abbrev pub senders_at : Setting → Cycles → ℕ → List Sender
 senders_at x h double = last_senders x (first_cycles h (2 * double + 2))
+
+-- the nodes have its rows, and the senders are those of its round
+abbrev pub HistoriesHaveMembers : Type 0
+HistoriesHaveMembers =
+    (beside : Bool) (x : Setting) (flutter : ℕ) (h : Cycles) (double : ℕ) (earlier : Cycles) (even odd : Cycle)
+    → IsSteadyRun beside x flutter h → IsDoubleOf h double earlier even odd
+    → (map (λ node. node.even) (members_at x h double) ≡ even.told.rows)
+    × (map (λ node. node.odd) (members_at x h double) ≡ odd.told.rows)
+    × (senders_at x h double ≡ senders_of (round_at x earlier even odd))
 
 -- all nodes are active in both cycles of a double cycle
 abbrev pub BeginsActive : Cycles → ℕ → Type 0
@@ -111,6 +120,18 @@ pub record KeepsApart (x : Setting) (h : Cycles) (double apart : ℕ) : Type 0 w
       → skew_at x.params (told_of h) (cycle_in is_odd double) macrotick ≤ℤ pos apart
   pub ends : (earlier : Cycles) (even odd : Cycle) → IsDoubleOf h double earlier even odd → EndsWell x earlier even odd
 
+-- under the checks but the first, and where the rate limit suffices for how far lengths lie beyond their range, before the walk of
+-- a double cycle and after it: one in sharp sync keeps within the sharper precision and ends well, and the next one is in sharp
+-- sync, with lengths no further beyond than the walk takes them
+abbrev pub HistoriesStepSharply : Type 0
+HistoriesStepSharply =
+    (beside : Bool) (x : Setting) (flutter : ℕ) (h : Cycles) (double : ℕ) (beyond next : ℤ)
+    → IsSteadyRun beside x flutter h → SharpChecksHold flutter (sharp_near beside x.params flutter) x.params
+    → RateSuffices x.params beyond → RateSuffices x.params (beyond +ℤ rate_walk x.params flutter)
+    → pos 0 ≤ℤ next → (beyond +ℤ rate_walk x.params flutter) ≤ℤ next → IsInSharpSyncAt beside x.params flutter beyond h double
+    → KeepsApart x h double (sharp_precision beside x.params flutter)
+    × (suc double < x.doubles → IsInSharpSyncAt beside x.params flutter next h (suc double))
+
 -- so many double cycles after one a history is in sharp sync, behind the last in which the walk lasts too; and while it lasts,
 -- no macroticks lie further apart than the sharper precision
 pub record StaysInSharpSyncAt (beside : Bool) (x : Setting) (flutter : ℕ) (h : Cycles) (double passed : ℕ) : Type 0 where
@@ -140,14 +161,22 @@ pub record CyclesKeepApart (x : Setting) (h : Cycles) (double apart : ℕ) : Typ
   pub uncut : (cycle : ℕ) (c : Cycle) → 2 * double ≤ cycle → cycle_at h cycle ≡ Some c → All (λ row. row.cut ≡ 0) c.told.rows
   pub after : (node : NodeSpec) → Contains (correct_nodes x) node → (status_in x.params (told_of h) node.id).state ≡ Active
 
--- under all five checks it is so with the sharper precision, from a double cycle in sharp sync on to the end
+-- from a double cycle on a history is in sharp sync in each one to the end, with lengths in their range, and each ends well; and no
+-- macroticks lie further apart than the sharper precision
+pub record KeepsSharpPrecision (beside : Bool) (x : Setting) (flutter : ℕ) (h : Cycles) (double : ℕ) : Type 0 where
+  pub synced : (k : ℕ) → double ≤ k → k < x.doubles → IsInSharpSyncAt beside x.params flutter (pos 0) h k
+  pub ends :
+      (k : ℕ) (earlier : Cycles) (even odd : Cycle) → double ≤ k → k < x.doubles → IsDoubleOf h k earlier even odd
+      → EndsWell x earlier even odd
+  pub cycles : CyclesKeepApart x h double (sharp_precision beside x.params flutter)
+
+-- under all five checks it is so from a double cycle in sharp sync on
 abbrev pub HistoriesKeepSharpPrecision : Type 0
 HistoriesKeepSharpPrecision =
     (beside : Bool) (x : Setting) (flutter : ℕ) (h : Cycles) (double : ℕ)
     → IsSteadyRun beside x flutter h
     → ((k : ℕ) → 1 ≤ k → k ≤ 5 → sharp_holds_of k flutter (sharp_near beside x.params flutter) x.params ≡ true)
-    → IsInSharpSyncAt beside x.params flutter (pos 0) h double
-    → CyclesKeepApart x h double (sharp_precision beside x.params flutter)
+    → IsInSharpSyncAt beside x.params flutter (pos 0) h double → KeepsSharpPrecision beside x flutter h double
 
 -- all cycles of a run that is stated so are such a history
 abbrev pub StatedRunsAreSteady : Type 0

@@ -1,16 +1,18 @@
 -- A worked run, three of whose older checks fail: its oscillators lie 20 ppm apart, its starts 18,000,000 ticks; the delay of every
 -- frame is the least one that is stated in one double cycle, and the greatest in the next.
-use Rattle.std.specs.Prelude.{◌≡◌, ℕ, ◌/◌, ◌%◌, ◌==◌, ℤ, pos, Bool, true, false, ◌&&◌, if◌then◌else◌, [], ◌∷◌, None}
+use Rattle.std.specs.Prelude.{◌≡◌, ◌<◌, ◌≤◌, ℕ, ◌/◌, ◌%◌, ◌==◌, ℤ, pos, Bool, true, false, ◌&&◌, if◌then◌else◌, [], ◌∷◌, Some, None}
 use Rattle.fr_base.specs.Event.{Event}
 use Rattle.fr_base.specs.Event.Event.{Regular}
 use Rattle.fr_base.specs.declared.channel.Channel.{Channel}
 use Rattle.fr_cluster.specs.Setting.{SaysBytes, Setting}
 use Rattle.fr_cluster.specs.Values.{Values}
+use Rattle.fr_bound.specs.Bounds.{precision_of}
 use Rattle.fr_bound.specs.Checks.{holds_of}
 use Rattle.fr_history.specs.Worked.{on_a}
 use Rattle.fr_runs.specs.Stated.{all_cycles}
-use Rattle.fr_sharp.specs.SharpBounds.{sharp_precision}
-use Rattle.fr_sharp.specs.SharpHistories.{CyclesKeepApart, IsInSharpSyncAt}
+use Rattle.fr_sharp.specs.SharpBounds.{sharp_near, sharp_precision, walk_lasts}
+use Rattle.fr_sharp.specs.SharpChecks.{sharp_holds_of}
+use Rattle.fr_sharp.specs.SharpHistories.{CyclesKeepApart, IsInSharpSyncAt, IsSteadyRun, StaysInSharpSyncAt}
 
 -- a cluster of four nodes on channel A with key slots 1 to 4: a cycle of 5 ms at a microtick of 25 ns, damping 2, oscillators within
 -- 100 ppm, and delays of 50 to 300 ns
@@ -90,6 +92,40 @@ SteadyRunKeepsPrecision =
     → IsInSharpSyncAt beside steady_cluster 0 (pos 0) (all_cycles (steady_run said beside)) 0
     × CyclesKeepApart (steady_run said beside) (all_cycles (steady_run said beside)) 0 (sharp_precision beside steady_cluster 0)
 
--- in ticks: 0.90 microseconds, and 2.48 beside an arbitrary node
+-- it meets what these laws ask for, all five checks too; and it is in sharp sync in each of its double cycles
+abbrev pub SteadyRunMeetsPremises : Type 0
+SteadyRunMeetsPremises =
+    (said : Said) (beside : Bool) → OfBytes said
+    → IsSteadyRun beside (steady_run said beside) 0 (all_cycles (steady_run said beside))
+    × ((k : ℕ) → 1 ≤ k → k ≤ 5 → sharp_holds_of k 0 (sharp_near beside steady_cluster 0) steady_cluster ≡ true)
+    × ((passed : ℕ) → passed < 3 → StaysInSharpSyncAt beside (steady_run said beside) 0 (all_cycles (steady_run said beside)) 0 passed)
+
+-- in ticks: 0.90 microseconds, and 2.48 beside an arbitrary node; the older one is 12.35
 abbrev pub SteadyPrecisions : Type 0
-SteadyPrecisions = (sharp_precision false steady_cluster 0 ≡ 36_003_994) × (sharp_precision true steady_cluster 0 ≡ 99_010_680)
+SteadyPrecisions =
+    (sharp_precision false steady_cluster 0 ≡ 36_003_994) × (sharp_precision true steady_cluster 0 ≡ 99_010_680)
+    × (precision_of steady_cluster ≡ 494_063_000)
+
+-- ---- and a run whose lengths may walk
+
+-- the same run without an arbitrary node, but for the delay: the least one in even cycles, and the greatest in odd ones
+abbrev pub walking_run : Setting
+walking_run = record {
+  params = steady_cluster;
+  doubles = 3;
+  start = λ id. start_by (id == 1) (id == 2);
+  rate = λ _. pos 0;
+  microtick = λ id cycle. micro_by (id == 1) (id == 2);
+  delay = λ sender receiver channel cycle. delay_in_turn (cycle % 2 == 0);
+  is_arbitrary = λ id. false;
+  event = λ cycle sender receiver channel. Regular;
+  join = λ _. None;
+}
+
+-- the first check fails, the rate limit holds the walk for 62 double cycles, and so it is in sharp sync in each of its three
+abbrev pub WalkingRunStaysInSharpSync : Type 0
+WalkingRunStaysInSharpSync =
+    (sharp_holds_of 1 10_000_000 (sharp_near false steady_cluster 10_000_000) steady_cluster ≡ false)
+    × (walk_lasts steady_cluster 10_000_000 ≡ Some 62)
+    × IsSteadyRun false walking_run 10_000_000 (all_cycles walking_run)
+    × ((passed : ℕ) → passed < 3 → StaysInSharpSyncAt false walking_run 10_000_000 (all_cycles walking_run) 0 passed)

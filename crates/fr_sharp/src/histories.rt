@@ -1,5 +1,5 @@
 ghost use Rattle.fr_sharp.specs.SettlingHistories.{HistoriesBeginActive, HistoriesKeepToSpreads, HistoriesReachSharpSync, OlderHistoriesSettle, StatedRunsBeginInSharpSync, StatedStartsAreSharp};
-ghost use Rattle.fr_sharp.specs.SharpHistories.{HistoriesAreSharpDoubles, HistoriesKeepSharpPrecision, HistoriesKeepSharpSync, StatedRunsAreSteady};
+ghost use Rattle.fr_sharp.specs.SharpHistories.{HistoriesAreSharpDoubles, HistoriesHaveMembers, HistoriesKeepSharpPrecision, HistoriesKeepSharpSync, HistoriesStepSharply, StatedRunsAreSteady};
 
 use fr_history::one_lawful_run;
 
@@ -7,9 +7,13 @@ use fr_history::one_lawful_run;
 /// cycle in sharp sync on, with lengths in their range and under the checks but the first, the nodes are in sharp sync in
 /// each double cycle, for as many as the rate limit holds the walk: no term is cut or missing, each node is active, behind
 /// the last cycle too, and no corresponding macroticks lie further apart than the sharper precision, in ticks. Its double
-/// cycles are as the law of many double cycles asks for; and where all five checks hold, it is so in each cycle to the end.
+/// cycles, by the rows of their nodes and the senders of their rounds, are as the law of many double cycles asks for; and
+/// where all five checks hold, all that is so in each cycle to the end, with each length in its range. One step of it is
+/// with any number for how far lengths lie beyond their range.
 pub fn histories_keep_sharp_sync()
+    ensures members { HistoriesHaveMembers }
     ensures double { HistoriesAreSharpDoubles }
+    ensures step { HistoriesStepSharply }
     ensures keep { HistoriesKeepSharpSync }
     ensures precise { HistoriesKeepSharpPrecision }
 {}

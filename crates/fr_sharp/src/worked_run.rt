@@ -1,13 +1,16 @@
-ghost use Rattle.fr_sharp.specs.WorkedRun.{OlderChecksFail, SteadyPrecisions, SteadyRunKeepsPrecision};
+ghost use Rattle.fr_sharp.specs.WorkedRun.{OlderChecksFail, SteadyPrecisions, SteadyRunKeepsPrecision, SteadyRunMeetsPremises, WalkingRunStaysInSharpSync};
 
 use fr_history::one_lawful_run;
 
 /// A law: a worked run, three of whose older checks fail, is in sharp sync from the start on and keeps the sharper
-/// precision, in ticks, without an arbitrary node and beside one, whatever that says.
+/// precision, in ticks, without an arbitrary node and beside one, whatever that says. It meets all that the laws of
+/// histories ask for. Another one, whose delays flutter so that lengths may walk, stays in sharp sync too.
 pub fn a_steady_run()
     ensures older { OlderChecksFail }
     ensures keeps { SteadyRunKeepsPrecision }
+    ensures meets { SteadyRunMeetsPremises }
     ensures precisions { SteadyPrecisions }
+    ensures walks { WalkingRunStaysInSharpSync }
 {
     one_lawful_run();
 }
