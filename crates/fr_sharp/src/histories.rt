@@ -9,7 +9,7 @@ use fr_history::one_lawful_run;
 /// the last cycle too, and no corresponding macroticks lie further apart than the sharper precision, in ticks. Its double
 /// cycles, by the rows of their nodes and the senders of their rounds, are as the law of many double cycles asks for; and
 /// where all five checks hold, all that is so in each cycle to the end, with each length in its range. One step of it is
-/// with any number for how far lengths lie beyond their range.
+/// with any number for how far lengths lie beyond their range for which the rate limit suffices.
 pub fn histories_keep_sharp_sync()
     ensures members { HistoriesHaveMembers }
     ensures double { HistoriesAreSharpDoubles }
