@@ -4,17 +4,18 @@
 #![tactic(auto)]
 
 mod bound;
+mod bound_join;
 mod bound_laws;
 mod fault_line;
 mod frame;
 mod frame_laws;
 mod frame_line;
-mod join;
 mod request;
 mod settle;
 mod top;
 
 pub use bound::answer_bound;
+pub use bound_join::answer_bound_join;
 pub use bound_laws::{
     file_decides_the_bounds, file_decides_the_bounds_of_joining, file_decides_the_settling,
 };
@@ -22,6 +23,5 @@ pub use fr_report::play;
 pub use fr_text::Status;
 pub use frame::answer_frame;
 pub use frame_laws::file_decides_the_line;
-pub use join::answer_bound_join;
 pub use settle::answer_settle;
 pub use top::flexray;

@@ -1,6 +1,6 @@
-//! What every crate of the cluster speaks of: channels, identifiers and states, exact numbers and the
-//! reasons for which records are refused, and what is promised of the two devices, a shelf that files are
-//! loaded from and a sink that text is put into.
+//! What every crate of the cluster speaks of: channels, identifiers and states; the rows, deviations and
+//! counts of a cycle; exact numbers and the reasons for which records are refused; and what is promised of
+//! the two devices, a shelf that files are loaded from and a sink that text is put into.
 #![tactic(auto)]
 
 mod channel;

@@ -42,16 +42,16 @@ pub fn reach(params: &Params) -> i64
     ticks_of_reach(params) as i64
 }
 
-// The longest microtick.
-pub(crate) fn longest(params: &Params) -> u64
+/// The longest microtick that oscillators within the rate bound have, in ticks.
+pub fn longest_microtick(params: &Params) -> u64
     ensures value { result ≡ longest_micro params.now }
     ensures most { result ≤ 1_001_500 }
 {
     NOMINAL + params.natural(ParamName::xRateBound)
 }
 
-// The shortest microtick.
-pub(crate) fn shortest(params: &Params) -> u64
+/// The shortest microtick that they have, in ticks.
+pub fn shortest_microtick(params: &Params) -> u64
     ensures value { result ≡ shortest_micro params.now }
     ensures most { result ≤ 1_000_000 }
 {
@@ -66,7 +66,8 @@ pub(crate) fn compensation(params: &Params) -> u64
     params.widest_compensation() as u64
 }
 
-pub(crate) fn arrival_error(params: &Params) -> u64
+/// The error of an arrival, in ticks: that of its delay, and that of the compensation in microticks of another length.
+pub fn arrival_error(params: &Params) -> u64
     ensures value { result ≡ arrival_error params.now }
     ensures most { result ≤ 10_300_000 }
 {
@@ -74,7 +75,8 @@ pub(crate) fn arrival_error(params: &Params) -> u64
         + compensation(params) * params.natural(ParamName::xRateBound)
 }
 
-pub(crate) fn change(params: &Params) -> u64
+/// By how much a cycle changes from one to the next, in ticks, since the microtick changes.
+pub fn cycle_change(params: &Params) -> u64
     ensures value { result ≡ cycle_change params.now }
     ensures most { result ≤ 963_000_000 }
 {
@@ -87,29 +89,29 @@ pub(crate) fn y1(params: &Params) -> u64
     ensures value { result ≡ y1_of params.now }
     ensures most { result ≤ 3_000_000_000 }
 {
-    2 * arrival_error(params) + 2 * longest(params) + 3 * change(params)
+    2 * arrival_error(params) + 2 * longest_microtick(params) + 3 * cycle_change(params)
 }
 
 pub(crate) fn lambda(params: &Params) -> u64
     ensures value { result ≡ lambda_of params.now }
     ensures most { result ≤ 21_000_000_000 }
 {
-    let damped = params.natural(ParamName::pClusterDriftDamping) * longest(params);
-    4 * y1(params) + 2 * longest(params) + 4 * damped + 8 * change(params)
+    let damped = params.natural(ParamName::pClusterDriftDamping) * longest_microtick(params);
+    4 * y1(params) + 2 * longest_microtick(params) + 4 * damped + 8 * cycle_change(params)
 }
 
 pub(crate) fn pi(params: &Params) -> u64
     ensures value { result ≡ pi_of params.now }
     ensures most { result ≤ 130_000_000_000 }
 {
-    6 * lambda(params) + 4 * arrival_error(params) + 8 * longest(params)
+    6 * lambda(params) + 4 * arrival_error(params) + 8 * longest_microtick(params)
 }
 
 pub(crate) fn precision(params: &Params) -> u64
     ensures value { result ≡ precision_of params.now }
     ensures most { result ≤ 180_000_000_000 }
 {
-    pi(params) + 2 * lambda(params) + 2 * longest(params)
+    pi(params) + 2 * lambda(params) + 2 * longest_microtick(params)
 }
 
 // How far the lengths of a node that begins to follow may lie from its reference's odd one.
@@ -117,7 +119,7 @@ pub(crate) fn follower_error(params: &Params) -> u64
     ensures value { result ≡ follower_error params.now }
     ensures most { result ≤ 7_000_000_000 }
 {
-    y1(params) + 4 * change(params)
+    y1(params) + 4 * cycle_change(params)
 }
 
 pub(crate) fn ticks_of_reach(params: &Params) -> u64
@@ -128,5 +130,5 @@ pub(crate) fn ticks_of_reach(params: &Params) -> u64
         + 8 * lambda(params)
         + 4 * follower_error(params)
         + 4 * arrival_error(params)
-        + 8 * longest(params)
+        + 8 * longest_microtick(params)
 }

@@ -3,8 +3,8 @@ ghost use Rattle.fr_bound.specs.Checks.{back_need_of, clear_micros, front_need_o
 ghost use Rattle.fr_bound.specs.Checks.{AllChecksHold, AllJoinChecksHold, AreSides, FirstFailing, FirstFailingToJoin, IsCheck, IsCheckOf};
 
 use crate::bounding::{
-    NOMINAL, arrival_error, change, compensation, follower_error, longest, precision, shortest,
-    ticks_of_reach, y1,
+    NOMINAL, arrival_error, compensation, cycle_change, follower_error, longest_microtick,
+    precision, shortest_microtick, ticks_of_reach, y1,
 };
 use fr_cluster::{ParamName, Params};
 
@@ -87,8 +87,8 @@ fn damping_sides(params: &Params) -> (u64, u64)
     ensures { AreSides 1 params.now result.0 result.1 }
 {
     (
-        params.natural(ParamName::pClusterDriftDamping) * shortest(params),
-        y1(params) + 2 * change(params),
+        params.natural(ParamName::pClusterDriftDamping) * shortest_microtick(params),
+        y1(params) + 2 * cycle_change(params),
     )
 }
 
@@ -98,7 +98,7 @@ fn rate_sides(params: &Params) -> (u64, u64)
 {
     let drift = params.natural(ParamName::pMicroPerCycle) * params.natural(ParamName::xRateBound);
     (
-        params.natural(ParamName::pRateCorrectionOut) * shortest(params),
+        params.natural(ParamName::pRateCorrectionOut) * shortest_microtick(params),
         2 * drift,
     )
 }
@@ -108,8 +108,8 @@ fn offset_sides(params: &Params) -> (u64, u64)
     ensures { AreSides 3 params.now result.0 result.1 }
 {
     (
-        params.natural(ParamName::pOffsetCorrectionOut) * shortest(params),
-        precision(params) + arrival_error(params) + longest(params),
+        params.natural(ParamName::pOffsetCorrectionOut) * shortest_microtick(params),
+        precision(params) + arrival_error(params) + longest_microtick(params),
     )
 }
 
@@ -119,7 +119,7 @@ fn front_sides(params: &Params) -> (u64, u64)
 {
     let front = params.natural(ParamName::gdActionPointOffset);
     (
-        clear(params, front) * shortest(params),
+        clear(params, front) * shortest_microtick(params),
         front_need(params, precision(params)),
     )
 }
@@ -131,7 +131,7 @@ fn back_sides(params: &Params) -> (u64, u64)
     let slot = params.natural(ParamName::gdStaticSlot);
     let back = slot.saturating_sub(params.natural(ParamName::gdActionPointOffset));
     (
-        clear(params, back) * shortest(params),
+        clear(params, back) * shortest_microtick(params),
         back_need(params, precision(params)),
     )
 }
@@ -142,7 +142,7 @@ fn first_rate_sides(params: &Params) -> (u64, u64)
 {
     let drift = params.natural(ParamName::pMicroPerCycle) * params.natural(ParamName::xRateBound);
     (
-        params.natural(ParamName::pRateCorrectionOut) * shortest(params),
+        params.natural(ParamName::pRateCorrectionOut) * shortest_microtick(params),
         2 * drift + follower_error(params),
     )
 }
@@ -152,8 +152,8 @@ fn reach_sides(params: &Params) -> (u64, u64)
     ensures { AreSides 7 params.now result.0 result.1 }
 {
     (
-        params.natural(ParamName::pOffsetCorrectionOut) * shortest(params),
-        ticks_of_reach(params) + arrival_error(params) + longest(params),
+        params.natural(ParamName::pOffsetCorrectionOut) * shortest_microtick(params),
+        ticks_of_reach(params) + arrival_error(params) + longest_microtick(params),
     )
 }
 

@@ -7,9 +7,11 @@ mod checking;
 mod laws;
 mod settling;
 
-pub use bounding::{BoundValues, bounds, reach};
+pub use bounding::{
+    BoundValues, arrival_error, bounds, cycle_change, longest_microtick, reach, shortest_microtick,
+};
 pub use checking::{CheckSides, checks, join_checks, side};
 pub use laws::{
     in_sync_is_tested, nothing_is_cut, one_first_failing, one_first_failing_to_join, one_settling,
 };
-pub use settling::{Settling, Spread, settle};
+pub use settling::{Settling, Spread, settle, side_within};

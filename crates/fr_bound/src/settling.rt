@@ -2,7 +2,7 @@ ghost use Rattle.std.specs.Prelude.{◌≡◌, ◌≤◌, ◌≤ℤ◌, ℕ, pos
 ghost use Rattle.fr_bound.specs.Settling.{IsPeakTo, IsSettleCheck, IsSettleCheckOf, IsSettleVerdict, IsSettled};
 ghost use Rattle.fr_bound.specs.Settling.{SettlesAt, apart_in, first_spread, most_stated, next_spread, settle_right_of};
 
-use crate::bounding::{arrival_error, lambda, longest, pi};
+use crate::bounding::{arrival_error, lambda, longest_microtick, pi};
 use crate::checking::{CheckSides, back_need, front_need, sides};
 use fr_cluster::Params;
 
@@ -87,7 +87,7 @@ fn next(params: &Params, spread: Spread) -> Spread
     ensures starts { result.starts ≤ 6_100_000_000_000 }
     ensures lengths { result.lengths ≤ most_stated }
 {
-    let more = 4 * arrival_error(params) + 8 * longest(params);
+    let more = 4 * arrival_error(params) + 8 * longest_microtick(params);
     Spread {
         starts: (spread.starts + 6 * spread.lengths + more) / 2,
         lengths: (spread.lengths + lambda(params)) / 2,
@@ -107,7 +107,7 @@ fn apart(params: &Params, spread: Spread) -> u64
     ensures value { result ≡ apart_in params.now spread }
     ensures most { result ≤ 8_200_000_000_000 }
 {
-    spread.starts + 2 * spread.lengths + 2 * longest(params)
+    spread.starts + 2 * spread.lengths + 2 * longest_microtick(params)
 }
 
 // The first check for the way that fails, with both sides.
@@ -116,7 +116,7 @@ fn first_failing(params: &Params, peak: u64) -> Option<(u8, i64, i64)>
     ensures { IsSettleVerdict params.now peak result }
 {
     for number in 1..6 {
-        let CheckSides { left, right, holds } = settle_side(params, number, peak);
+        let CheckSides { left, right, holds } = side_within(params, number, peak);
         if !holds {
             return Some((number, left, right));
         }
@@ -124,7 +124,9 @@ fn first_failing(params: &Params, peak: u64) -> Option<(u8, i64, i64)>
     None
 }
 
-fn settle_side(params: &Params, number: u8, peak: u64) -> CheckSides
+/// The sides of the check of this number, 1 to 5, where macroticks may lie so many ticks apart on the way: from the third
+/// one on with that in place of the precision.
+pub fn side_within(params: &Params, number: u8, peak: u64) -> CheckSides
     requires number { IsSettleCheck number }
     requires peak { peak ≤ 8_200_000_000_000 }
     ensures { IsSettleCheckOf number peak params.now result }
@@ -150,7 +152,7 @@ fn need(params: &Params, number: u8, peak: u64) -> u64
     ensures most { result ≤ 1_000_000_000_000_000_000 }
 {
     match number {
-        3 => peak + arrival_error(params) + longest(params),
+        3 => peak + arrival_error(params) + longest_microtick(params),
         4 => front_need(params, peak),
         5 => back_need(params, peak),
         _ => sides(params, number).1,

@@ -1,4 +1,5 @@
-//! The parameters of a cluster as a value: its numbers by name, its nodes and slots, and what holds of them.
+//! The parameters of a cluster as a value: its numbers by name, its nodes and slots, and what holds of them; a
+//! node that joins, and, for specs alone, the setting of a run: its parameters and the nodes that join.
 #![tactic(auto)]
 
 mod join;

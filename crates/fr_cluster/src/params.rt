@@ -146,7 +146,7 @@ impl Params {
         }
     }
 
-    /// The number of a name of the table, which lies in its range; and so do all others.
+    /// The number of a name, which lies in its range; and so do all others.
     pub fn value(&self, name: ParamName) -> i64
         ensures value { result ≡ figure self.now name }
         ensures range { InRange name result }

@@ -13,8 +13,8 @@ use Rattle.fr_drift.specs.Questions.{doubles_of, length_of, delay_of}
 use Rattle.fr_script.specs.View.{ScriptView, is_arbitrary}
 use Rattle.fr_coverage.specs.First.{first_below, first_in}
 use Rattle.fr_coverage.specs.Links.{is_link, shares, is_carried, link_gap}
-use Rattle.fr_coverage.specs.Coverage.{asked_checks, how_many_cycles, check_gap, count_of, outweighs, count_gap, is_off, length_gap, lengths_gap, has_jumped, change_gap, changes_gap, is_wrong, delay_gap, channel_gap, delays_gap, links_gap, first_of_nodes, first_of_pairs, first_gap}
-use Rattle.fr_coverage.specs.Order.{place_of_gap, IsEarlierGap, IsFailingCheck, IsRunCheckGap, IsCountGap, IsLengthGap, IsChangeGap, IsDelayGap, IsLinkGap, IsGap, IsFirstGap}
+use Rattle.fr_coverage.specs.Coverage.{asked_checks, how_many_cycles, check_gap, count_of, outweighs, count_gap, is_off, length_gap, lengths_gap, has_jumped, change_gap, changes_gap, is_wrong, delay_gap, channel_gap, delays_gap, links_gap, first_of_nodes, first_of_pairs, gap_of_run, first_gap}
+use Rattle.fr_coverage.specs.Order.{place_of_gap, IsEarlierGap, IsFailingCheck, IsRunCheckGap, IsCountGap, IsLengthGap, IsChangeGap, IsDelayGap, IsLinkGap, IsGap, IsGapOfRun, IsFirstGap, IsFirstGapOfRun, FindsGapOfRun}
 use Rattle.fr_coverage.specs.declared.gap.Gap.{Gap}
 use Rattle.fr_coverage.specs.declared.gap.Gap.TheVariants as gap
 use Rattle.fr_coverage.proofs.Least.{IsLeast, AreApart, Below, Among, least-same, least-or, least-if, least-unless, least-where, least-where-not, least-below, least-in, in-order, later, under, at-places}
@@ -309,7 +309,7 @@ abbrev pub FromLength : Values → DriftView → ScriptView → Gap → Type 0
 FromLength p d s g = IsLengthGap p d s g ⊎ FromChange p d s g
 
 abbrev pub FromCount : Values → DriftView → ScriptView → Gap → Type 0
-FromCount p d s g = IsCountGap p s g ⊎ FromLength p d s g
+FromCount p d s g = IsGapOfRun p d s g
 
 pub from_delay : (p : Values) (d : DriftView) (s : ScriptView) (g : Gap) → FromDelay p d s g → 4 < kind_of g
 from_delay p d s g (inl r) = let kind = ap kind_of r.told in omega arith
@@ -328,18 +328,21 @@ from_count p d s g (inl r) = let kind = ap kind_of r.told in omega arith
 from_count p d s g (inr r) = let kind = from_length p d s g r in omega arith
 
 -- what is found is the first gap, and nothing is only where there is none
-pub gaps-least : (p : Values) (d : DriftView) (s : ScriptView) → AllPairs (λ a b. a.id < b.id) p.nodes → IsLeast (IsGap p d s) (first_gap p d s)
-unfolding first_gap
-gaps-least p d s ascend =
-    least-or (IsRunCheckGap p s) (FromCount p d s) _ _ (checks-least p (asked_checks p s))
-    (least-or (IsCountGap p s) (FromLength p d s) _ _ (count-least p s)
+gaps-of-run-least : (p : Values) (d : DriftView) (s : ScriptView) → AllPairs (λ a b. a.id < b.id) p.nodes → IsLeast (IsGapOfRun p d s) (gap_of_run p d s)
+gaps-of-run-least p d s ascend =
+    least-or (IsCountGap p s) (FromLength p d s) _ _ (count-least p s)
     (least-or (IsLengthGap p d s) (FromChange p d s) _ _ (lengths-least p d s ascend)
     (least-or (IsChangeGap p d s) (FromDelay p d s) _ _ (changes-least p d s ascend)
     (least-or (IsDelayGap p d s) (IsLinkGap p d s) _ _ (delays-least p d s ascend) (links-least p d s ascend)
     (λ g h w x before. kinds-apart g h (let a = ap kind_of w.told in let b = ap kind_of x.told in omega arith) before))
     (λ g h w x before. kinds-apart g h (let a = ap kind_of w.told in let b = from_delay p d s h x in omega arith) before))
     (λ g h w x before. kinds-apart g h (let a = ap kind_of w.told in let b = from_change p d s h x in omega arith) before))
-    (λ g h w x before. kinds-apart g h (let a = ap kind_of w.told in let b = from_length p d s h x in omega arith) before))
+    (λ g h w x before. kinds-apart g h (let a = ap kind_of w.told in let b = from_length p d s h x in omega arith) before)
+
+pub gaps-least : (p : Values) (d : DriftView) (s : ScriptView) → AllPairs (λ a b. a.id < b.id) p.nodes → IsLeast (IsGap p d s) (first_gap p d s)
+unfolding first_gap
+gaps-least p d s ascend =
+    least-or (IsRunCheckGap p s) (FromCount p d s) _ _ (checks-least p (asked_checks p s)) (gaps-of-run-least p d s ascend)
     (λ g h w x before. kinds-apart g h (let a = ap kind_of w.told in let b = from_count p d s h x in omega arith) before)
 
 pub found-first : (p : Values) (d : DriftView) (s : ScriptView) (g : Gap) → IsSane p → first_gap p d s ≡ Some g → IsFirstGap p d s g
@@ -349,3 +352,8 @@ found-first p d s g sane e =
 
 pub found-none : (p : Values) (d : DriftView) (s : ScriptView) (g : Gap) → IsSane p → first_gap p d s ≡ None → IsGap p d s g → ⊥
 found-none p d s g sane e w = let l = gaps-least p d s sane.lists.nodes_ascend in l.none e g w
+
+pub found-of-run : (p : Values) (d : DriftView) (s : ScriptView) → IsSane p → FindsGapOfRun p d s
+found-of-run p d s sane =
+    let l = gaps-of-run-least p d s sane.lists.nodes_ascend in
+    (λ e g w. l.none e g w, λ g e. record { is_gap = l.some g e; first = λ h w before. l.least g h e w before })

@@ -124,10 +124,13 @@ first_of_pairs p what = first_in (λ a. first_in (what a) p.nodes) p.nodes
 abbrev pub pairs_gap : Values → DriftView → ScriptView → Option Gap
 pairs_gap p d s = option_or (first_of_pairs p (delays_gap p d s)) (first_of_pairs p (links_gap d s))
 
--- the first gap in the stated order, if there is one: checks, counts, lengths, changes, delays, links
-unfoldable pub first_gap : Values → DriftView → ScriptView → Option Gap
-first_gap p d s =
-    option_or (run_checks_gap p s)
-    (option_or (count_gap p s)
+-- the first gap of the run itself, whatever the checks of its parameters say: counts, lengths, changes, delays, links
+abbrev pub gap_of_run : Values → DriftView → ScriptView → Option Gap
+gap_of_run p d s =
+    option_or (count_gap p s)
     (option_or (first_of_nodes p (lengths_gap p d s))
-    (option_or (first_of_nodes p (changes_gap p d s)) (pairs_gap p d s))))
+    (option_or (first_of_nodes p (changes_gap p d s)) (pairs_gap p d s)))
+
+-- the first gap in the stated order, if there is one: checks, and then those of the run itself
+unfoldable pub first_gap : Values → DriftView → ScriptView → Option Gap
+first_gap p d s = option_or (run_checks_gap p s) (gap_of_run p d s)

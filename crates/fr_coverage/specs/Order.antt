@@ -1,5 +1,5 @@
 -- What a gap is, and the order in which gaps are looked for: facts about the files, beside the function that finds the first.
-use Rattle.std.specs.Prelude.{ℕ, pos, ◌-ℤ◌, ◌≡◌, ◌<◌, ◌≤◌, ◌-◌, ◌⊎◌, true, false, List, [], ◌∷◌, Some, Contains}
+use Rattle.std.specs.Prelude.{ℕ, pos, ◌-ℤ◌, ◌≡◌, ◌<◌, ◌≤◌, ◌-◌, ◌⊎◌, true, false, List, [], ◌∷◌, Some, None, Contains}
 use Rattle.std.specs.declared.cmp.Ordering.TheVariants.{Less}
 use Rattle.std.specs.Ordering.{nat_cmp}
 use Rattle.std.specs.Cmp.Lexicographic.{slice_cmp}
@@ -12,7 +12,7 @@ use Rattle.fr_drift.specs.View.{DriftView}
 use Rattle.fr_drift.specs.Questions.{doubles_of, length_of, delay_of}
 use Rattle.fr_script.specs.View.{ScriptView, is_arbitrary}
 use Rattle.fr_coverage.specs.Links.{is_link, shares, is_carried}
-use Rattle.fr_coverage.specs.Coverage.{asked_checks, how_many_cycles, count_of, outweighs, is_off, has_jumped, is_wrong, first_gap}
+use Rattle.fr_coverage.specs.Coverage.{asked_checks, how_many_cycles, count_of, outweighs, is_off, has_jumped, is_wrong, first_gap, gap_of_run}
 use Rattle.fr_coverage.specs.declared.gap.Gap.{Gap}
 use Rattle.fr_coverage.specs.declared.gap.Gap.TheVariants as gap
 
@@ -97,9 +97,13 @@ pub record IsLinkGap (p : Values) (d : DriftView) (s : ScriptView) (g : Gap) : T
   pub broken : is_carried s sender receiver double ≡ false
   pub told : g ≡ gap.Link sender.id receiver.id double
 
--- a gap of a run
+-- a gap of the run itself, whatever the checks of its parameters say
+abbrev pub IsGapOfRun : Values → DriftView → ScriptView → Gap → Type 0
+IsGapOfRun p d s g = IsCountGap p s g ⊎ (IsLengthGap p d s g ⊎ (IsChangeGap p d s g ⊎ (IsDelayGap p d s g ⊎ IsLinkGap p d s g)))
+
+-- a gap
 abbrev pub IsGap : Values → DriftView → ScriptView → Gap → Type 0
-IsGap p d s g = IsRunCheckGap p s g ⊎ (IsCountGap p s g ⊎ (IsLengthGap p d s g ⊎ (IsChangeGap p d s g ⊎ (IsDelayGap p d s g ⊎ IsLinkGap p d s g))))
+IsGap p d s g = IsRunCheckGap p s g ⊎ IsGapOfRun p d s g
 
 -- it is one, and none is looked for before it
 pub record IsFirstGap (p : Values) (d : DriftView) (s : ScriptView) (g : Gap) : Type 0 where
@@ -115,3 +119,15 @@ FirstIsFound p d s = (g : Gap) → IsFirstGap p d s g → first_gap p d s ≡ So
 
 abbrev pub HasNoGap : Values → DriftView → ScriptView → Type 0
 HasNoGap p d s = (g : Gap) → IsGap p d s g → ⊥
+
+-- and so of those of the run itself
+pub record IsFirstGapOfRun (p : Values) (d : DriftView) (s : ScriptView) (g : Gap) : Type 0 where
+  pub is_gap : IsGapOfRun p d s g
+  pub first : (h : Gap) → IsGapOfRun p d s h → IsEarlierGap h g → ⊥
+
+abbrev pub HasNoGapOfRun : Values → DriftView → ScriptView → Type 0
+HasNoGapOfRun p d s = (g : Gap) → IsGapOfRun p d s g → ⊥
+
+abbrev pub FindsGapOfRun : Values → DriftView → ScriptView → Type 0
+FindsGapOfRun p d s =
+    (gap_of_run p d s ≡ None → HasNoGapOfRun p d s) × ((g : Gap) → gap_of_run p d s ≡ Some g → IsFirstGapOfRun p d s g)

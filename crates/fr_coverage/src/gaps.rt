@@ -2,7 +2,7 @@ ghost use Rattle.std.specs.Prelude.{◌≡◌, ◌≤◌, ◌+◌, pos, Some, No
 ghost use Rattle.fr_bound.specs.Checks.{AllChecksHold, IsCheck, left_of, right_of};
 ghost use Rattle.fr_coverage.specs.First.{first_below, first_in};
 ghost use Rattle.fr_coverage.specs.declared.gap.Gap.TheVariants as gap;
-ghost use Rattle.fr_coverage.specs.Coverage.{asked_where, channel_gap, changes_gap, check_gap, count_of, delays_gap, first_gap, lengths_gap, links_gap, outweighs, pairs_gap, weighed};
+ghost use Rattle.fr_coverage.specs.Coverage.{asked_where, channel_gap, changes_gap, check_gap, count_of, delays_gap, first_gap, gap_of_run, lengths_gap, links_gap, outweighs, pairs_gap, weighed};
 
 use crate::gap::Gap;
 use crate::joining::{is_counted, some_join};
@@ -38,6 +38,23 @@ pub fn covered(params: &Params, drift: &Drift, script: &Script) -> Result<(), Ga
     }
 }
 
+/// Whether a run is covered whatever the checks of its parameters say: whether there is none of the other gaps,
+/// which are looked for in the same order, or else the first.
+pub fn run_covered(params: &Params, drift: &Drift, script: &Script) -> Result<(), Gap>
+    ensures whole { OnOk result (gap_of_run params.now drift.now script.now ≡ None) }
+    ensures gap { IfErr result (λ gap. gap_of_run params.now drift.now script.now ≡ Some gap) }
+{
+    let run = Run {
+        params,
+        drift,
+        script,
+    };
+    match gap_of_run(run) {
+        Some(gap) => Err(gap),
+        None => Ok(()),
+    }
+}
+
 #[tactic(auto, unfolding(crate::specs::Coverage::first_gap))]
 fn first_gap(params: &Params, drift: &Drift, script: &Script) -> Option<Gap>
     ensures { result ≡ first_gap params.now drift.now script.now }
@@ -51,7 +68,16 @@ fn first_gap(params: &Params, drift: &Drift, script: &Script) -> Option<Gap>
     if let Some(gap) = failing_check(params, some_join(nodes, script)) {
         return Some(gap);
     }
-    if let Some(gap) = outweighed(nodes, script) {
+    gap_of_run(run)
+}
+
+// The first gap of the run itself.
+fn gap_of_run(run: Run<'_>) -> Option<Gap>
+    ensures { result ≡ gap_of_run run.entry.params.now run.entry.drift.now run.entry.script.now }
+{
+    let params = run.params;
+    let nodes = &params.nodes;
+    if let Some(gap) = outweighed(nodes, run.script) {
         return Some(gap);
     }
     if let Some(gap) = first_among(nodes, &Lengths(run)) {

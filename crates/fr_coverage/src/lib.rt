@@ -15,5 +15,8 @@ mod spans;
 pub use clocks::{precision_line, skew_line, sync_line};
 pub use gap::Gap;
 pub use gap_words::gap_line;
-pub use gaps::covered;
-pub use laws::{covered_run_has_no_gap, first_gap_is_found, found_gap_is_first};
+pub use gaps::{covered, run_covered};
+pub use laws::{
+    covered_run_has_no_gap, first_gap_is_found, found_gap_is_first, found_gap_of_run_is_first,
+};
+pub use linking::{is_link, shares};

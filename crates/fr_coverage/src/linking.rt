@@ -9,8 +9,8 @@ use fr_base::Channel;
 use fr_cluster::NodeSpec;
 use fr_script::{Event, Script};
 
-// Whether the sender is correct and has a key slot, and the receiver is another correct node.
-pub(crate) fn is_link(script: &Script, sender: &NodeSpec, receiver: &NodeSpec) -> bool
+/// Whether the sender is correct and has a key slot, and the receiver is another correct node.
+pub fn is_link(script: &Script, sender: &NodeSpec, receiver: &NodeSpec) -> bool
     ensures { result ≡ is_link script.now sender.now receiver.now }
 {
     sender.key.is_some()
@@ -19,8 +19,8 @@ pub(crate) fn is_link(script: &Script, sender: &NodeSpec, receiver: &NodeSpec) -
         && sender.id != receiver.id
 }
 
-// Whether both nodes have the channel.
-pub(crate) fn shares(a: &NodeSpec, b: &NodeSpec, channel: Channel) -> bool
+/// Whether both nodes have the channel.
+pub fn shares(a: &NodeSpec, b: &NodeSpec, channel: Channel) -> bool
     ensures { result ≡ shares a.now b.now channel }
 {
     match channel {

@@ -36,9 +36,9 @@ clock_of_next x h node = record {
 abbrev pub AreClocksBehind : Setting → Cycles → List Clock → Type 0
 AreClocksBehind x h clocks = clocks ≡ map (clock_of_next x h) (kept_row_nodes x h)
 
--- the same by its state, its start and its rate term, and the rows of the last odd cycle
-abbrev pub clock_with : List NodeRow → ℕ → State → ℤ → ℤ → Clock
-clock_with odd node state start rate = record {
+-- a node by its state, its start and its rate term, and the rows of the last odd cycle, which have its offset term
+abbrev pub clock_behind : List NodeRow → ℕ → State → ℤ → ℤ → Clock
+clock_behind odd node state start rate = record {
   node = node;
   state = state;
   start = start;

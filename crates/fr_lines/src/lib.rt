@@ -1,4 +1,5 @@
-//! What is told of a run, gathered cycle by cycle from rows; as a value, and as the lines of its report.
+//! What is told of a run, gathered cycle by cycle from rows: as a value, and as the lines of its report. It needs no
+//! world: whoever has rows can gather them.
 #![tactic(auto)]
 
 ghost use Rattle.std.specs.Prelude.{Option};

@@ -3,7 +3,7 @@ ghost use Rattle.std.specs.Result.{result_err};
 ghost use Rattle.fr_cluster.specs.Values.{Values};
 ghost use Rattle.fr_coverage.specs.Decided.{setting_of};
 ghost use Rattle.fr_history.specs.Cycles.{Cycle, Cycles};
-ghost use Rattle.fr_lines.specs.Clocks.{AreClocksBehind, clock_with};
+ghost use Rattle.fr_lines.specs.Clocks.{AreClocksBehind, clock_behind};
 ghost use Rattle.fr_lines.specs.Held.{with_cycle, IsGreatestTold, IsRowToAdd, IsSyncTold, ReportHolds, TellsOf};
 ghost use Rattle.fr_lines.specs.Told.{run_told};
 
@@ -75,7 +75,7 @@ impl Report {
     /// The clock of a node between cycles, by its state, its start in ticks and its rate term in microticks for the cycle
     /// that comes next: its offset term is that of the last odd cycle.
     pub fn clock(&self, node: NodeId, state: State, start: i64, rate: i32) -> Clock
-        ensures { result ≡ clock_with self.now.odd node state start rate }
+        ensures { result ≡ clock_behind self.now.odd node state start rate }
     {
         Clock {
             node,

@@ -1,5 +1,6 @@
-//! What the parameters of a cluster are made of, and their file: what a file must hold to be accepted, the parameters that it stands for, and
-//! these as the text of a file of version 2, which `flexray upgrade PARAMS` prints.
+//! What the parameters of a cluster are made of, and their file: the table of parameter names with their ranges; the
+//! constraints, checked in order by `params_of`, and `assemble`; what a file must hold to be accepted and the parameters
+//! that it stands for; and these as the text of a file of version 2, which `flexray upgrade PARAMS` prints.
 #![tactic(auto)]
 
 mod assembling;

@@ -1,6 +1,6 @@
 //! A program's answer to its words: how a command may end, its status and its line, and what an ending says of the files
-//! and of the sinks. Each command stands on it. Besides, the shelves and sinks that a program runs over: the file system
-//! and the streams, and what stands in memory.
+//! and of the sinks. Each command stands on it. Besides, the shelves and sinks that a program runs over, the file system
+//! and the streams, and those in memory, which tests and callers without files run over.
 #![tactic(auto)]
 
 mod adapters;

@@ -22,7 +22,7 @@ use Rattle.fr_drift.specs.Questions.{delay_of, doubles_of, length_of}
 use Rattle.fr_drift.specs.View.{DriftView}
 use Rattle.fr_coverage.specs.Coverage.{asked_checks, asked_where, count_of, expected_delay, has_jumped, is_off, is_wrong, outweighs, some_join}
 use Rattle.fr_script.specs.Events.{event_of}
-use Rattle.fr_coverage.specs.Order.{HasNoGap}
+use Rattle.fr_coverage.specs.Order.{HasNoGap, HasNoGapOfRun}
 use Rattle.fr_coverage.specs.Links.{is_carried, is_carried_on, is_free, is_link, is_regular, shares}
 use Rattle.fr_script.specs.View.{ScriptView}
 use Rattle.fr_coverage.specs.declared.gap.Gap.TheVariants as gap
@@ -35,6 +35,14 @@ use Rattle.fr_coverage.specs.Decided.{setting_of}
 pub record HaveNoGap (p : Values) (d : DriftView) (s : ScriptView) : Type 0 where
   pub sane : IsSane p
   pub none : HasNoGap p d s
+
+-- the same, whatever their checks say
+pub record HaveNoGapOfRun (p : Values) (d : DriftView) (s : ScriptView) : Type 0 where
+  pub sane : IsSane p
+  pub none : HasNoGapOfRun p d s
+
+pub whatever_checks : (p : Values) (d : DriftView) (s : ScriptView) → HaveNoGap p d s → HaveNoGapOfRun p d s
+whatever_checks p d s w = record { sane = w.sane; none = λ g is. w.none g (inr is) }
 
 -- ---- checks and counts
 
@@ -71,24 +79,24 @@ few_if correct arbitrary is = elim (or_cases (((arbitrary == 0) && nat_le 1 corr
       let parts : ((arbitrary == count) ≡ true) × (nat_le least correct ≡ true) = and_parts (arbitrary == count) (nat_le least correct) is in
       (eqb-true arbitrary count parts.0, nat_le-true least correct parts.1)
 
-pub few_nodes : (p : Values) (d : DriftView) (s : ScriptView) → HaveNoGap p d s → AreFew (count_of s false p.nodes) (count_of s true p.nodes)
+pub few_nodes : (p : Values) (d : DriftView) (s : ScriptView) → HaveNoGapOfRun p d s → AreFew (count_of s false p.nodes) (count_of s true p.nodes)
 few_nodes p d s w = few_if (count_of s false p.nodes) (count_of s true p.nodes) (by_test (outweighs (count_of s false p.nodes) (count_of s true p.nodes)) refl)
   where
     by_test : (b : Bool) → outweighs (count_of s false p.nodes) (count_of s true p.nodes) ≡ b → b ≡ true
     by_test true holds = refl
     by_test false fails =
-        absurd (w.none (gap.Count (count_of s false p.nodes) (count_of s true p.nodes)) (inr (inl (record { few = fails; told = refl }))))
+        absurd (w.none (gap.Count (count_of s false p.nodes) (count_of s true p.nodes)) (inl (record { few = fails; told = refl })))
 
 -- ---- microticks
 
-proper_micro : (p : Values) (d : DriftView) (s : ScriptView) (node : NodeSpec) (cycle : ℕ) → HaveNoGap p d s → IsCorrectNode (setting_of p d s) node → cycle < 2 * doubles_of d → is_off p (length_of d node.id cycle) ≡ false
+proper_micro : (p : Values) (d : DriftView) (s : ScriptView) (node : NodeSpec) (cycle : ℕ) → HaveNoGapOfRun p d s → IsCorrectNode (setting_of p d s) node → cycle < 2 * doubles_of d → is_off p (length_of d node.id cycle) ≡ false
 proper_micro p d s node cycle w is within = by_test (is_off p (length_of d node.id cycle)) refl
   where
     by_test : (b : Bool) → is_off p (length_of d node.id cycle) ≡ b → b ≡ false
     by_test false fits = refl
     by_test true off =
         absurd (w.none (gap.Length node.id cycle (length_of d node.id cycle))
-        (inr (inr (inl (record { node = node; there = is.there; correct = is.correct; cycle = cycle; within = within; off = off; told = refl })))))
+        (inr (inl (record { node = node; there = is.there; correct = is.correct; cycle = cycle; within = within; off = off; told = refl }))))
 
 not_off : (p : Values) (ticks : ℤ) → is_off p ticks ≡ false → (pos (shortest_micro p) ≤ℤ ticks) × (ticks ≤ℤ pos (longest_micro p))
 not_off p ticks is =
@@ -98,7 +106,7 @@ not_off p ticks is =
     from : (a b : ℤ) → int_lt a b ≡ false → b ≤ℤ a
     from a b told = grind (arith, ints)
 
-steady_micro : (p : Values) (d : DriftView) (s : ScriptView) (node : NodeSpec) (cycle : ℕ) → HaveNoGap p d s → IsCorrectNode (setting_of p d s) node → suc cycle < 2 * doubles_of d
+steady_micro : (p : Values) (d : DriftView) (s : ScriptView) (node : NodeSpec) (cycle : ℕ) → HaveNoGapOfRun p d s → IsCorrectNode (setting_of p d s) node → suc cycle < 2 * doubles_of d
     → has_jumped p (length_of d node.id cycle) (length_of d node.id (suc cycle)) ≡ false
 steady_micro p d s node cycle w is within =
     let e : suc cycle - 1 ≡ cycle = omega arith in
@@ -109,7 +117,7 @@ steady_micro p d s node cycle w is within =
     by_test false fits = refl
     by_test true jumped =
         absurd (w.none (gap.Change node.id (suc cycle) (length_of d node.id (suc cycle) -ℤ length_of d node.id (suc cycle - 1)))
-        (inr (inr (inr (inl (record { node = node; there = is.there; correct = is.correct; cycle = suc cycle; later = omega arith; within = within; jumped = jumped; told = refl }))))))
+        (inr (inr (inl (record { node = node; there = is.there; correct = is.correct; cycle = suc cycle; later = omega arith; within = within; jumped = jumped; told = refl })))))
 
 -- a number that lies within a bound of another
 near : (bound one other : ℤ) → (int_lt (one +ℤ bound) other || int_lt (other +ℤ bound) one) ≡ false → IsWithin bound (other -ℤ one)
@@ -134,7 +142,7 @@ link_is p d s sender receiver slot link =
     let hears : IsCorrectNode (setting_of p d s) receiver = correct_node (setting_of p d s) receiver link.hears in
     rw (link.key, sends.correct, hears.correct, ne_eqb sender.id receiver.id link.other) refl
 
-proper_delay : (p : Values) (d : DriftView) (s : ScriptView) (sender receiver : NodeSpec) (slot : ℕ) (ch : Channel) (cycle : ℕ) → HaveNoGap p d s → IsLinked (setting_of p d s) sender receiver slot
+proper_delay : (p : Values) (d : DriftView) (s : ScriptView) (sender receiver : NodeSpec) (slot : ℕ) (ch : Channel) (cycle : ℕ) → HaveNoGapOfRun p d s → IsLinked (setting_of p d s) sender receiver slot
     → Share sender receiver ch → cycle < 2 * doubles_of d → is_wrong p ch (delay_of d sender.id receiver.id ch cycle) ≡ false
 proper_delay p d s sender receiver slot ch cycle w link share within = by_test (is_wrong p ch (delay_of d sender.id receiver.id ch cycle)) refl
   where
@@ -145,7 +153,7 @@ proper_delay p d s sender receiver slot ch cycle w link share within = by_test (
     by_test false fits = refl
     by_test true wrong =
         absurd (w.none (gap.Delay sender.id receiver.id ch cycle (delay_of d sender.id receiver.id ch cycle))
-        (inr (inr (inr (inr (inl (record {
+        (inr (inr (inr (inl (record {
           sender = sender;
           receiver = receiver;
           sender_there = (correct_node (setting_of p d s) sender link.sends).there;
@@ -157,7 +165,7 @@ proper_delay p d s sender receiver slot ch cycle w link share within = by_test (
           within = within;
           wrong = wrong;
           told = refl;
-        })))))))
+        }))))))
 
 delay_near : (p : Values) (ch : Channel) (ticks : ℤ) → is_wrong p ch ticks ≡ false → IsDelay p ch ticks
 delay_near p ch ticks is = turned (expected_delay p ch) ticks (pos (amount p name.xDelayError)) is
@@ -187,7 +195,7 @@ carried_on p d s sender receiver double ch is =
       odd = ap (λ (n : ℕ). event_of s n sender.id receiver.id ch) (sym (add-one (2 * double))) ∙ regular_event (event_of s (2 * double + 1) sender.id receiver.id ch) parts.1;
     }
 
-carried : (p : Values) (d : DriftView) (s : ScriptView) (sender receiver : NodeSpec) (slot double : ℕ) → HaveNoGap p d s → IsLinked (setting_of p d s) sender receiver slot → double < doubles_of d
+carried : (p : Values) (d : DriftView) (s : ScriptView) (sender receiver : NodeSpec) (slot double : ℕ) → HaveNoGapOfRun p d s → IsLinked (setting_of p d s) sender receiver slot → double < doubles_of d
     → IsCarried (setting_of p d s) sender receiver double
 carried p d s sender receiver slot double w link within =
     elim (or_cases (is_carried_on s sender receiver double channel.A) (is_carried_on s sender receiver double channel.B) (by_test (is_carried s sender receiver double) refl)) [
@@ -199,7 +207,7 @@ carried p d s sender receiver slot double w link within =
     by_test true holds = refl
     by_test false broken =
         absurd (w.none (gap.Link sender.id receiver.id double)
-        (inr (inr (inr (inr (inr (record {
+        (inr (inr (inr (inr (record {
           sender = sender;
           receiver = receiver;
           sender_there = (correct_node (setting_of p d s) sender link.sends).there;
@@ -209,7 +217,7 @@ carried p d s sender receiver slot double w link within =
           within = within;
           broken = broken;
           told = refl;
-        })))))))
+        }))))))
 
 -- ---- all of it
 
@@ -232,7 +240,7 @@ pub record KeepWithin (x : Setting) : Type 0 where
       (sender receiver : NodeSpec) (slot double : ℕ)
       → IsLinked x sender receiver slot → double < x.doubles → IsCarried x sender receiver double
 
-pub nodes_keep_within : (p : Values) (d : DriftView) (s : ScriptView) → HaveNoGap p d s → KeepWithin (setting_of p d s)
+pub nodes_keep_within : (p : Values) (d : DriftView) (s : ScriptView) → HaveNoGapOfRun p d s → KeepWithin (setting_of p d s)
 nodes_keep_within p d s w = record {
   least = λ node cycle is within. (not_off p (length_of d node.id cycle) (proper_micro p d s node cycle w (correct_node (setting_of p d s) node is) within)).0;
   most = λ node cycle is within. (not_off p (length_of d node.id cycle) (proper_micro p d s node cycle w (correct_node (setting_of p d s) node is) within)).1;

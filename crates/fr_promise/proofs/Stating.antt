@@ -30,7 +30,7 @@ use Rattle.fr_runs.proofs.Nodes.{correct_node, node_there}
 use Rattle.fr_runs.specs.Supplied.{IsCoveredByFiles, StartsBegin}
 use Rattle.fr_runs.proofs.Exchanged.{on_channel}
 use Rattle.fr_promise.specs.Files.{CoveredFilesAreStated}
-use Rattle.fr_promise.proofs.Covering.{HaveNoGap, few_nodes, first_checks, joining_checks, nodes_keep_within}
+use Rattle.fr_promise.proofs.Covering.{HaveNoGap, few_nodes, first_checks, joining_checks, nodes_keep_within, whatever_checks}
 use Rattle.fr_promise.proofs.Drifts.{rates_are_within}
 use Rattle.fr_promise.proofs.Starts.{starts_are_natural}
 
@@ -66,12 +66,12 @@ CorrectJoinProperly p d s = (node : NodeSpec) (join : Join) → Contains (correc
 
 pub covered_as_stated : (p : Values) (d : DriftView) (s : ScriptView) → HaveNoGap p d s → CorrectJoinProperly p d s → IsCoveredByFiles (setting_of p d s)
 covered_as_stated p d s w proper =
-    let c = nodes_keep_within p d s w in
+    let c = nodes_keep_within p d s (whatever_checks p d s w) in
     record {
       sane = w.sane;
       checks = λ number from to. first_checks p d s number w from to;
       join_checks = λ joins number from to. joining_checks p d s number w joins from to;
-      few = few_nodes p d s w;
+      few = few_nodes p d s (whatever_checks p d s w);
       least = c.least;
       most = c.most;
       changes = c.changes;

@@ -4,7 +4,7 @@ use Rattle.fr_base.specs.declared.node_row.NodeRow.{NodeRow}
 use Rattle.fr_coverage.specs.Coverage.{first_gap}
 use Rattle.fr_node.specs.View.{NodeView, state_of_node}
 use Rattle.fr_world.specs.World.{WorldView, setting_after, world_cycles}
-use Rattle.fr_lines.specs.Clocks.{clock_with}
+use Rattle.fr_lines.specs.Clocks.{clock_behind}
 use Rattle.fr_lines.specs.Held.{ReportHolds, ReportView}
 use Rattle.fr_lines.specs.Text.{report_of}
 use Rattle.fr_lines.specs.declared.clocks.Clock.{Clock}
@@ -15,7 +15,7 @@ IsReportOf w report = ReportHolds w.params report (world_cycles w)
 
 -- a node between cycles, by the rows of the last odd cycle
 abbrev pub clock_between : List NodeRow → NodeView → Clock
-clock_between odd node = clock_with odd node.id (state_of_node node) node.start node.rate
+clock_between odd node = clock_behind odd node.id (state_of_node node) node.start node.rate
 
 -- the report of a world's files after as many cycles as it has run, with their first gap
 abbrev pub world_text : WorldView → List ℕ

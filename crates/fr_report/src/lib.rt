@@ -1,4 +1,5 @@
-//! The report of a run, and what prints it: the commands `flexray run`, `flexray make` and `flexray trace`.
+//! The commands that play a run: `flexray run` and `flexray make`, which print its report, and `flexray trace`, which
+//! prints its rows.
 #![tactic(auto)]
 
 mod clocks;

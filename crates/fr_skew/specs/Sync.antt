@@ -42,3 +42,8 @@ are_synced bounds rows =
 unfoldable pub are_in_sync : SyncBounds → List NodeRow → List NodeRow → Bool
 are_in_sync bounds even odd =
     are_synced bounds even && are_synced bounds odd && int_le (spread_of (map (λ row. row.start) even)) bounds.pi
+
+-- the same by the even cycle alone: in the odd one they are active, however long it is
+unfoldable pub are_in_sync_by_even : SyncBounds → List NodeRow → List NodeRow → Bool
+are_in_sync_by_even bounds even odd =
+    are_synced bounds even && list_all (λ row. is_active row.state) odd && int_le (spread_of (map (λ row. row.start) even)) bounds.pi

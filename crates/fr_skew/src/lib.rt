@@ -17,4 +17,4 @@ pub use gauge::Gauge;
 pub use laws::{a_spread_is_the_greatest_difference, in_sync_by_spreads, macroticks_lie_near};
 pub use peak::{Peak, macroticks, swept, swept_through};
 pub use spread::spread_at;
-pub use sync::{SyncBounds, in_sync, in_sync_within, sync_bounds};
+pub use sync::{SyncBounds, in_sync, in_sync_by_even, in_sync_within, sync_bounds};

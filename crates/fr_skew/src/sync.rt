@@ -2,12 +2,13 @@ ghost use Rattle.std.specs.Prelude.{◌≡◌, ◌*◌, ◌*ℤ◌, ◌+ℤ◌, 
 ghost use Rattle.std.specs.List.{list_all};
 ghost use Rattle.fr_bound.specs.Bounds.{longest_micro, shortest_micro};
 ghost use Rattle.fr_bound.specs.Sync.{is_in_sync};
+ghost use Rattle.fr_base.specs.States.{is_active};
 ghost use Rattle.fr_base.specs.Timed.{IsTimed};
 ghost use Rattle.fr_base.specs.Within.{IsBetween, IsWithin};
 ghost use Rattle.fr_cluster.specs.Values.{amount};
 ghost use Rattle.fr_cluster.specs.declared.names.ParamName.TheVariants as name;
 ghost use Rattle.fr_skew.specs.Extents.{IsInstant};
-ghost use Rattle.fr_skew.specs.Sync.{are_in_sync, are_synced, cycle_length_by, is_synced_row, sync_bounds_of, IsSyncBounds};
+ghost use Rattle.fr_skew.specs.Sync.{are_in_sync, are_in_sync_by_even, are_synced, cycle_length_by, is_synced_row, sync_bounds_of, IsSyncBounds};
 
 use crate::spread::{lengths_spread, starts_spread};
 use fr_base::{NodeRow, RowList, ticks_of};
@@ -103,6 +104,23 @@ pub fn in_sync_within(bounds: &SyncBounds, even: &[NodeRow], odd: &[NodeRow]) ->
     ensures { result ≡ are_in_sync bounds.now even.now odd.now }
 {
     are_synced(bounds, even) && are_synced(bounds, odd) && starts_spread(even) <= bounds.pi
+}
+
+/// Whether they are in sync by the even cycle alone: all nodes are active in both cycles, and in the even one any two
+/// starts lie at most pi apart, any two lengths at most lambda, and each length is proper, however long the odd cycle is.
+#[tactic(auto, unfolding(crate::specs::Sync::are_in_sync_by_even))]
+pub fn in_sync_by_even(bounds: &SyncBounds, even: &[NodeRow], odd: &[NodeRow]) -> bool
+    requires bounds { IsSyncBounds bounds.now }
+    requires even { All IsTimed even.now }
+    ensures { result ≡ are_in_sync_by_even bounds.now even.now odd.now }
+{
+    are_synced(bounds, even) && are_active(odd) && starts_spread(even) <= bounds.pi
+}
+
+fn are_active(rows: &[NodeRow]) -> bool
+    ensures { result ≡ list_all (λ row. is_active row.state) rows.now }
+{
+    rows.iter().all(|row| row.state.is_active())
 }
 
 // Whether the nodes of a cycle are active, and their cycles proper and of about one length.

@@ -1,3 +1,4 @@
+// Laws: numbers that are written read back.
 ghost use Rattle.fr_text.specs.ReadBack.{HexadecimalsArePlain, NaturalsArePlain, NaturalsAreReadBack, NumbersAreReadBack, SignedArePlain, SignedAreReadBack};
 
 /// A law: a number of at most 18 digits that is written in decimal reads as itself, also where a range is asked for.

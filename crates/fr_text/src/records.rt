@@ -1,3 +1,4 @@
+// Laws: records that are written read back.
 ghost use Rattle.fr_text.specs.ReadBack.{RecordsAreReadBack, RowsAreRecords};
 
 /// A law: the text of records, their fields with commas between them and a line feed after each record, holds exactly

@@ -1,6 +1,6 @@
 use Rattle.fr_base.proofs.Putting.{cut, then}
 use Rattle.fr_answer.specs.BoundText.{reach_text, with_join_text}
-use Rattle.fr_answer.proofs.join.print_with_join.Goals as goal
+use Rattle.fr_answer.proofs.bound_join.print_with_join.Goals as goal
 
 pub returns-in_err-print : goal.returns-in_err-print
 unfolding with_join_text
