@@ -1,7 +1,7 @@
 -- The run that files decide is a steady one where it has no gap but of the checks, and keeps the sharper precision where it is
 -- sharply covered.
-use Rattle.std.proofs.Common.{◌≡◌, ℕ, suc, ◌+◌, ◌*◌, ◌-◌, ◌<◌, ◌≤◌, ◌==◌, ℤ, pos, Bool, true, false, ◌&&◌, not, Option, Some, None, List, [], ◌∷◌, refl, ap, sym, ◌∙◌, subst, ◌⊎◌, inl, inr, arith}
-use Rattle.std.specs.Prelude.{◌≢◌, ◌-ℤ◌, ◌≤ℤ◌, ◌/◌, nat_abs, int_le, Contains, count_by, is_some}
+use Rattle.std.proofs.Common.{◌≡◌, ℕ, suc, ◌+◌, ◌*◌, ◌-◌, ◌<◌, ◌≤◌, ◌==◌, ℤ, pos, Bool, true, false, ◌&&◌, not, Option, Some, None, List, [], ◌∷◌, refl, sym, ◌∙◌, subst, ◌⊎◌, inl, inr, arith}
+use Rattle.std.specs.Prelude.{◌-ℤ◌, ◌≤ℤ◌, ◌/◌, nat_abs, int_le, Contains, count_by, is_some}
 use Rattle.std.specs.List.{list_any}
 use Rattle.std.proofs.lemmas.Bool.{and_parts, cases_eq, eq-eqb, ne_eqb, not-true, or_parts}
 use Rattle.std.proofs.lemmas.Int.{ints}
@@ -9,8 +9,7 @@ use Rattle.fr_base.specs.Within.{IsWithin}
 use Rattle.fr_base.specs.declared.channel.Channel.{Channel}
 use Rattle.fr_cluster.proofs.Elements.{kept_filtered}
 use Rattle.fr_cluster.specs.Questions.{has_channel}
-use Rattle.fr_cluster.specs.Sane.{IsSane}
-use Rattle.fr_cluster.specs.Setting.{correct_nodes, is_correct}
+use Rattle.fr_cluster.specs.Setting.{is_correct}
 use Rattle.fr_cluster.specs.Values.{Values}
 use Rattle.fr_cluster.specs.declared.nodes.NodeSpec.{NodeSpec}
 use Rattle.fr_midpoint.proofs.Counts.{count_by-cons_no}
@@ -20,12 +19,10 @@ use Rattle.fr_script.specs.View.{ScriptView, is_arbitrary}
 use Rattle.fr_coverage.specs.Decided.{setting_of}
 use Rattle.fr_coverage.specs.Flutter.{flutter_of, FluttersBy}
 use Rattle.fr_coverage.specs.Links.{is_link, is_sync, shares}
-use Rattle.fr_coverage.specs.Order.{HasNoGapOfRun}
 use Rattle.fr_coverage.proofs.Flutters.{flutter_is_greatest}
-use Rattle.fr_history.specs.Cycles.{Cycles, some_joins}
+use Rattle.fr_history.specs.Cycles.{Cycles}
 use Rattle.fr_runs.specs.Links.{IsLinked, Share}
 use Rattle.fr_runs.proofs.Nodes.{correct_node}
-use Rattle.fr_promise.specs.Statement.{IsRunOf}
 use Rattle.fr_promise.proofs.Covering.{few_nodes, nodes_keep_within, HaveNoGapOfRun}
 use Rattle.fr_sharp.specs.Flutter.{FluttersWithin}
 use Rattle.fr_sharp.specs.Lengths.{walked_after}
@@ -33,9 +30,8 @@ use Rattle.fr_sharp.specs.SharpBounds.{rate_room, rate_walk, sharp_near, sharp_p
 use Rattle.fr_sharp.specs.SharpChecks.{sharp_holds_of, SharpChecksHold}
 use Rattle.fr_sharp.specs.SharpFiles.{ArbitraryIsTold, CoveredFilesKeepSharply, FilesAreSteady, FilesFlutter, FilesGiveSteadyRuns, FirstCheckLastsOn}
 use Rattle.fr_sharp.specs.SharpHistories.{IsInSharpSyncAt, IsSteadyRun, KeepsApart, StaysInSharpSyncAt}
-use Rattle.fr_sharp.specs.SharpRun.{WalkLastsAfter, WalkLastsUpTo}
-use Rattle.fr_sharp.specs.SharpStatement.{has_arbitrary, FilesKeepSharpPrecision, IsSharplyCovered, KeepsSharply}
-use Rattle.fr_sharp.specs.SteadyRuns.{IsSteadySetting, MayHaveArbitrary}
+use Rattle.fr_sharp.specs.SharpStatement.{has_arbitrary, FilesKeepSharpPrecision, KeepsSharply}
+use Rattle.fr_sharp.specs.SteadyRuns.{MayHaveArbitrary}
 use Rattle.fr_sharp.proofs.BoundLemmas.{first_check_stops_walk}
 use Rattle.fr_sharp.proofs.OlderLemmas.{does_not_walk}
 use Rattle.fr_sharp.proofs.RunCycles.{histories_keep_sharp_precision}
