@@ -30,3 +30,4 @@ pub mod RunSettles
 pub mod RunCycles
 pub mod RunStated
 pub mod RunWorked
+pub mod FromFiles

@@ -5,6 +5,7 @@
 
 mod bounds;
 mod ends;
+mod files;
 mod hearing;
 mod histories;
 mod lasting;
@@ -20,6 +21,7 @@ mod worked_run;
 
 pub use bounds::{sharp_bounds_are_below, sharp_checks_suffice, walks_are_bounded};
 pub use ends::ends_come_near;
+pub use files::{covered_files_keep_sharply, files_are_steady, files_keep_sharp_precision};
 pub use hearing::rounds_are_heard_steadily;
 pub use histories::{
     histories_come_into_sharp_sync, histories_keep_sharp_sync, stated_runs_are_steady,
