@@ -3,6 +3,7 @@ pub mod Signed
 pub mod Walks
 pub mod Zips
 pub mod BoundLemmas
+pub mod Computed
 pub mod SteadyLemmas
 pub mod Arriving
 pub mod LengthLemmas
