@@ -30,3 +30,5 @@ pub mod RunSettles
 pub mod RunCycles
 pub mod RunStated
 pub mod RunWorked
+pub mod TestedLemmas
+pub mod FreeLemmas

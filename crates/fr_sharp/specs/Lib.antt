@@ -13,6 +13,7 @@ pub mod SharpRound
 pub mod SharpRun
 pub mod SharpSettling
 pub mod SharpStep
+pub mod SharpTested
 pub mod Steady
 pub mod SteadyRuns
 pub mod WorkedRun
