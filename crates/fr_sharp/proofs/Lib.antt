@@ -32,3 +32,5 @@ pub mod RunCycles
 pub mod RunStated
 pub mod RunWorked
 pub mod FromFiles
+pub mod TestedLemmas
+pub mod FreeLemmas

@@ -15,6 +15,7 @@ pub mod SharpRun
 pub mod SharpSettling
 pub mod SharpStatement
 pub mod SharpStep
+pub mod SharpTested
 pub mod Steady
 pub mod SteadyRuns
 pub mod WorkedRun

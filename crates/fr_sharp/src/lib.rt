@@ -19,6 +19,7 @@ mod settling;
 mod steady;
 mod steady_runs;
 mod step;
+mod tested;
 mod worked_run;
 
 pub use bounding::{SharpValues, sharp_bounds, sharp_lasts};
@@ -39,4 +40,5 @@ pub use settling::sharp_spreads_settle;
 pub use steady::{pairs_are_steady, steady_values_place};
 pub use steady_runs::runs_hear_steadily;
 pub use step::{sharp_spreads_shrink, sharp_sync_is_kept};
+pub use tested::{one_first_sharp_sync, sharp_sync_is_tested};
 pub use worked_run::a_steady_run;
