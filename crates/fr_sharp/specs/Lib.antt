@@ -13,6 +13,8 @@ pub mod SharpRound
 pub mod SharpRun
 pub mod SharpSettling
 pub mod SharpStep
+pub mod SharpWay
 pub mod Steady
 pub mod SteadyRuns
+pub mod WayHistories
 pub mod WorkedRun
