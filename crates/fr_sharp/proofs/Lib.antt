@@ -14,6 +14,7 @@ pub mod HearingLemmas
 pub mod StepLemmas
 pub mod RoundLemmas
 pub mod SettlingLemmas
+pub mod WayLemmas
 pub mod LastingLemmas
 pub mod OlderLemmas
 pub mod SharpRows
@@ -28,6 +29,7 @@ pub mod RowsSupplied
 pub mod RunDoubles
 pub mod RunSync
 pub mod RunSettles
+pub mod RunWay
 pub mod RunCycles
 pub mod RunStated
 pub mod RunWorked

@@ -16,6 +16,8 @@ pub mod SharpSettling
 pub mod SharpStatement
 pub mod SharpStep
 pub mod SharpTested
+pub mod SharpWay
 pub mod Steady
 pub mod SteadyRuns
+pub mod WayHistories
 pub mod WorkedRun

@@ -20,6 +20,7 @@ mod steady;
 mod steady_runs;
 mod step;
 mod tested;
+mod way;
 mod worked_run;
 
 pub use bounding::{SharpValues, sharp_bounds, sharp_lasts};
@@ -29,7 +30,8 @@ pub use ends::ends_come_near;
 pub use files::{covered_files_keep_sharply, files_are_steady, files_keep_sharp_precision};
 pub use hearing::rounds_are_heard_steadily;
 pub use histories::{
-    histories_come_into_sharp_sync, histories_keep_sharp_sync, stated_runs_are_steady,
+    histories_come_into_sharp_sync, histories_keep_sharp_sync, histories_settle_sharply,
+    stated_runs_are_steady,
 };
 pub use lasting::sharp_sync_lasts;
 pub use lengths::{lengths_come_near, ranges_walk};
@@ -41,4 +43,5 @@ pub use steady::{pairs_are_steady, steady_values_place};
 pub use steady_runs::runs_hear_steadily;
 pub use step::{sharp_spreads_shrink, sharp_sync_is_kept};
 pub use tested::{one_first_sharp_sync, sharp_sync_is_tested};
+pub use way::{SharpWay, sharp_settle};
 pub use worked_run::a_steady_run;
