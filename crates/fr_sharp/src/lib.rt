@@ -1,8 +1,9 @@
 //! Why clocks keep a sharper precision where delays change little from one cycle of a double cycle to the next: laws over
-//! rows and values, and over the lawful histories of runs that no node joins, without arbitrary nodes and beside them.
-//! Nothing here runs.
+//! rows and values, over the lawful histories of runs that no node joins, without arbitrary nodes and beside them, and of
+//! what the files of such a run promise. What runs says which of the two a run is.
 #![tactic(auto)]
 
+mod arbitrary;
 mod bounds;
 mod ends;
 mod files;
@@ -19,6 +20,7 @@ mod steady_runs;
 mod step;
 mod worked_run;
 
+pub use arbitrary::has_arbitrary;
 pub use bounds::{sharp_bounds_are_below, sharp_checks_suffice, walks_are_bounded};
 pub use ends::ends_come_near;
 pub use files::{covered_files_keep_sharply, files_are_steady, files_keep_sharp_precision};
