@@ -7,3 +7,5 @@ pub mod BoundAnswer
 pub mod BoundText
 pub mod SettleAnswer
 pub mod SettleText
+pub mod SharpText
+pub mod SharpSettleText
