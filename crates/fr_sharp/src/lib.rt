@@ -41,7 +41,7 @@ pub use lengths::{lengths_come_near, ranges_walk};
 pub use midpoints::midpoints_agree;
 pub use nearness::nodes_lie_near;
 pub use runs_flutter::stated_delays_flutter;
-pub use settling::sharp_spreads_settle;
+pub use settling::{one_sharp_way, sharp_spreads_settle};
 pub use steady::{pairs_are_steady, steady_values_place};
 pub use steady_runs::runs_hear_steadily;
 pub use step::{sharp_spreads_shrink, sharp_sync_is_kept};
