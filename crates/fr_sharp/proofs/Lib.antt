@@ -3,6 +3,7 @@ pub mod Signed
 pub mod Walks
 pub mod Zips
 pub mod BoundLemmas
+pub mod Computed
 pub mod SteadyLemmas
 pub mod Arriving
 pub mod LengthLemmas
@@ -30,5 +31,6 @@ pub mod RunSettles
 pub mod RunCycles
 pub mod RunStated
 pub mod RunWorked
+pub mod FromFiles
 pub mod TestedLemmas
 pub mod FreeLemmas

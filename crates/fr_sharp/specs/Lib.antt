@@ -8,10 +8,12 @@ pub mod Said
 pub mod SettlingHistories
 pub mod SharpBounds
 pub mod SharpChecks
+pub mod SharpFiles
 pub mod SharpHistories
 pub mod SharpRound
 pub mod SharpRun
 pub mod SharpSettling
+pub mod SharpStatement
 pub mod SharpStep
 pub mod SharpTested
 pub mod Steady
