@@ -6,20 +6,20 @@ use Rattle.std.specs.String.{string_bytes}
 use Rattle.std.specs.declared.alloc.Global.{Global}
 use Rattle.std.proofs.lemmas.List.{length-map}
 use Rattle.fr_program.specs.Program.{texts}
-use Rattle.fr_series.specs.Request.{Asked, AsksFor, series, sharp_series}
+use Rattle.fr_series.specs.Request.{SeriesAsked, AsksSeries, series, sharp_series}
 
 -- they are three or four
-asks_length : (words : List (List ℕ)) (asked : Asked) → AsksFor words asked → (3 ≤ length words) × (length words ≤ 4)
+asks_length : (words : List (List ℕ)) (asked : SeriesAsked) → AsksSeries words asked → (3 ≤ length words) × (length words ≤ 4)
 asks_length words (series names) asks = let long : length words ≡ 3 = ap length asks in (omega (arith, long), omega (arith, long))
 asks_length words (sharp_series names) asks = let long : length words ≡ 4 = ap length asks in (omega (arith, long), omega (arith, long))
 
-pub asks_not_short : (words : List (String Global)) (asked : Asked) → AsksFor (texts words) asked → length words < 3 → ⊥
+pub asks_not_short : (words : List (String Global)) (asked : SeriesAsked) → AsksSeries (texts words) asked → length words < 3 → ⊥
 asks_not_short words asked asks short =
     let long = asks_length (texts words) asked asks in
     let same : length (texts words) ≡ length words = length-map words string_bytes in
     absurd (omega (arith, long.0, same, short))
 
-pub asks_not_long : (words : List (String Global)) (asked : Asked) → AsksFor (texts words) asked → 4 < length words → ⊥
+pub asks_not_long : (words : List (String Global)) (asked : SeriesAsked) → AsksSeries (texts words) asked → 4 < length words → ⊥
 asks_not_long words asked asks more =
     let long = asks_length (texts words) asked asks in
     let same : length (texts words) ≡ length words = length-map words string_bytes in
@@ -55,15 +55,15 @@ four_texts (w ∷ x ∷ y ∷ z ∷ []) a b c d one two three four more less is_
 four_texts (v ∷ w ∷ x ∷ y ∷ z ∷ words) a b c d one two three four more less is_a is_b is_c is_d first second third last = absurd (omega (arith, less))
 
 -- what words ask for, read back by their number
-abbrev asked_in : List (List ℕ) → Option Asked
+abbrev asked_in : List (List ℕ) → Option SeriesAsked
 asked_in (params ∷ drift ∷ script ∷ []) = Some (series (record { params = params; drift = drift; script = script }))
 asked_in (params ∷ drift ∷ script ∷ word ∷ []) =
     if bytes_eq word (codes "sharp") then Some (sharp_series (record { params = params; drift = drift; script = script })) else None
 asked_in other = None
 
-asked_again : (words : List (List ℕ)) (asked : Asked) → AsksFor words asked → asked_in words ≡ Some asked
+asked_again : (words : List (List ℕ)) (asked : SeriesAsked) → AsksSeries words asked → asked_in words ≡ Some asked
 asked_again words (series names) asks = ap asked_in asks
 asked_again words (sharp_series names) asks = ap asked_in asks
 
-pub one_asked : (words : List (List ℕ)) (asked other : Asked) → AsksFor words asked → AsksFor words other → asked ≡ other
-one_asked words asked other one two = ap (λ (found : Option Asked). unwrap_or found asked) (sym (asked_again words asked one) ∙ asked_again words other two)
+pub one_asked : (words : List (List ℕ)) (asked other : SeriesAsked) → AsksSeries words asked → AsksSeries words other → asked ≡ other
+one_asked words asked other one two = ap (λ (found : Option SeriesAsked). unwrap_or found asked) (sym (asked_again words asked one) ∙ asked_again words other two)

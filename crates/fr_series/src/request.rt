@@ -1,6 +1,6 @@
 ghost use Rattle.std.specs.Prelude.{◌∷◌, []};
 ghost use Rattle.fr_program.specs.Program.{texts};
-ghost use Rattle.fr_series.specs.Request.{IsRequestOf};
+ghost use Rattle.fr_series.specs.Request.{IsSeriesRequest};
 
 use fr_report::RunFiles;
 
@@ -16,7 +16,7 @@ pub enum Request<'a> {
 /// Reads the words by position. It takes no memory.
 #[tactic(auto, using(crate::proofs::Requests::asks_not_short, crate::proofs::Requests::asks_not_long))]
 pub fn request_of(words: &[String]) -> Option<Request<'_>>
-    ensures { IsRequestOf (texts words.now) result }
+    ensures { IsSeriesRequest (texts words.now) result }
 {
     match words {
         [params, drift, script] => {
@@ -33,7 +33,7 @@ pub fn request_of(words: &[String]) -> Option<Request<'_>>
 }
 
 fn request_of_three<'a>(params: &'a str, drift: &'a str, script: &'a str) -> Option<Request<'a>>
-    ensures { IsRequestOf (params.now ∷ drift.now ∷ script.now ∷ []) result }
+    ensures { IsSeriesRequest (params.now ∷ drift.now ∷ script.now ∷ []) result }
 {
     Some(Request::Series(RunFiles {
         params,
@@ -48,7 +48,7 @@ fn request_of_four<'a>(
     script: &'a str,
     word: &str,
 ) -> Option<Request<'a>>
-    ensures { IsRequestOf (params.now ∷ drift.now ∷ script.now ∷ word.now ∷ []) result }
+    ensures { IsSeriesRequest (params.now ∷ drift.now ∷ script.now ∷ word.now ∷ []) result }
 {
     match word {
         "sharp" => Some(Request::SharpSeries(RunFiles {

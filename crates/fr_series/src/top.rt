@@ -3,7 +3,7 @@ ghost use Rattle.fr_program.specs.Around.{around_of};
 ghost use Rattle.fr_program.specs.Failure.{EndingWritesNothing, WritesNothing, ending_status};
 ghost use Rattle.fr_program.specs.Program.{IsNoRequest, IsProgramAnswer, IsProgramComplete, WordsEnd, texts};
 ghost use Rattle.fr_program.specs.Command.{AreLoads, CommandEnds};
-ghost use Rattle.fr_series.specs.Request.{asked_of, command_of, series_program};
+ghost use Rattle.fr_series.specs.Request.{series_asked, series_command, series_program};
 
 use crate::request::{Request, request_of};
 use fr_base::{Shelf, Sink};
@@ -73,9 +73,10 @@ fn carry_out<S: Shelf, O: Sink>(
     shelf: &mut S,
     out: &mut O,
 ) -> Result<(), Failure>
-    ensures ends { CommandEnds (command_of (asked_of request.entry))
+    ensures ends { CommandEnds (series_command (series_asked request.entry))
         (around_of (S.state shelf.old) (S.state shelf.new) (O.state out.old) (O.state out.new)) result }
-    ensures loads { AreLoads (command_of (asked_of request.entry)).names (S.state shelf.old) (S.state shelf.new) }
+    ensures loads { AreLoads (series_command (series_asked request.entry)).names
+        (S.state shelf.old) (S.state shelf.new) }
     ensures unwritten { EndingWritesNothing result → out.new ≡ out.old }
 {
     match request {
