@@ -1,0 +1,115 @@
+ghost use Rattle.std.specs.Prelude.{◌≡◌, ◌≤◌, ◌&&◌, None, Some, is_some, length, not};
+ghost use Rattle.fr_bound.specs.Settling.{IsSettleCheck};
+ghost use Rattle.fr_coverage.specs.Coverage.{some_join_in};
+ghost use Rattle.fr_coverage.specs.Links.{is_sync};
+ghost use Rattle.fr_script.specs.View.{is_arbitrary, join_of};
+ghost use Rattle.fr_sharp.specs.SharpBounds.{most_flutter};
+ghost use Rattle.fr_sharp.specs.SharpStatement.{has_arbitrary};
+ghost use Rattle.fr_series.specs.SharpCovered.{failed_sharp, first_sharp_gap, has_arbitrary_in, sharp_checks_gap};
+
+use crate::sharp_gap::SharpGap;
+use fr_cluster::{NodeList, NodeSpec, Params};
+use fr_coverage::{Gap, run_covered};
+use fr_drift::Drift;
+use fr_script::Script;
+use fr_sharp::{sharp_checks, sharp_side};
+
+// The first gap for which a run is not sharply covered, where its delays flutter by so many ticks.
+pub(crate) fn first_sharp_gap(
+    params: &Params,
+    drift: &Drift,
+    script: &Script,
+    flutter: u64,
+) -> Option<SharpGap>
+    requires { flutter ≤ most_flutter }
+    ensures { result ≡ first_sharp_gap params.now drift.now script.now flutter }
+{
+    if some_join(&params.nodes, script) {
+        return Some(SharpGap::Join);
+    }
+    match failing_check(params, has_arbitrary(params, script), flutter) {
+        Some(gap) => Some(SharpGap::Other(gap)),
+        None => match run_covered(params, drift, script) {
+            Ok(()) => None,
+            Err(gap) => Some(SharpGap::Other(gap)),
+        },
+    }
+}
+
+// The first sharper check that fails, from the second on.
+fn failing_check(params: &Params, beside: bool, flutter: u64) -> Option<Gap>
+    requires { flutter ≤ most_flutter }
+    ensures { result ≡ sharp_checks_gap beside params.now flutter }
+{
+    match sharp_checks(params, beside, flutter) {
+        Ok(()) => None,
+        Err(number) => Some(failed(params, beside, flutter, number)),
+    }
+}
+
+fn failed(params: &Params, beside: bool, flutter: u64, number: u8) -> Gap
+    requires number { IsSettleCheck number }
+    requires flutter { flutter ≤ most_flutter }
+    ensures { result ≡ failed_sharp beside params.now flutter number }
+{
+    let sides = sharp_side(params, beside, flutter, number);
+    Gap::Check {
+        number,
+        left: sides.left,
+        right: sides.right,
+    }
+}
+
+// Whether some node with a key slot is arbitrary.
+pub(crate) fn has_arbitrary(params: &Params, script: &Script) -> bool
+    ensures { result ≡ has_arbitrary params.now script.now }
+{
+    any_arbitrary(&params.nodes, script)
+}
+
+fn any_arbitrary(nodes: &NodeList, script: &Script) -> bool
+    ensures { result ≡ has_arbitrary_in nodes.now script.now }
+{
+    let mut found = false;
+    for place in 0..nodes.len() {
+        match nodes.get(place) {
+            Some(node) => {
+                if is_arbitrary_sync(script, node) {
+                    found = true;
+                }
+            }
+            None => {}
+        }
+    }
+    found
+}
+
+fn is_arbitrary_sync(script: &Script, node: &NodeSpec) -> bool
+    ensures { result ≡ (is_sync node.now && is_arbitrary script.now node.now.id) }
+{
+    node.key.is_some() && script.arbitrary(node.id)
+}
+
+// Whether some correct node joins the running cluster.
+fn some_join(nodes: &NodeList, script: &Script) -> bool
+    ensures { result ≡ some_join_in nodes.now script.now }
+{
+    let mut found = false;
+    for place in 0..nodes.len() {
+        match nodes.get(place) {
+            Some(node) => {
+                if joins(script, node) {
+                    found = true;
+                }
+            }
+            None => {}
+        }
+    }
+    found
+}
+
+fn joins(script: &Script, node: &NodeSpec) -> bool
+    ensures { result ≡ (not (is_arbitrary script.now node.now.id) && is_some (join_of script.now node.now.id)) }
+{
+    !script.arbitrary(node.id) && script.join(node.id).is_some()
+}
