@@ -31,3 +31,4 @@ pub mod RunCycles
 pub mod RunStated
 pub mod RunWorked
 pub mod FromFiles
+pub mod FilesWorked

@@ -17,4 +17,5 @@ pub mod SharpStatement
 pub mod SharpStep
 pub mod Steady
 pub mod SteadyRuns
+pub mod WorkedFiles
 pub mod WorkedRun

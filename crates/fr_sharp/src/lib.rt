@@ -37,4 +37,4 @@ pub use settling::sharp_spreads_settle;
 pub use steady::{pairs_are_steady, steady_values_place};
 pub use steady_runs::runs_hear_steadily;
 pub use step::{sharp_spreads_shrink, sharp_sync_is_kept};
-pub use worked_run::a_steady_run;
+pub use worked_run::{a_steady_run, files_that_flutter};
