@@ -37,3 +37,4 @@ pub mod RunWorked
 pub mod FromFiles
 pub mod TestedLemmas
 pub mod FreeLemmas
+pub mod FilesWorked

@@ -47,4 +47,4 @@ pub use steady_runs::runs_hear_steadily;
 pub use step::{sharp_spreads_shrink, sharp_sync_is_kept};
 pub use tested::{one_first_sharp_sync, sharp_sync_is_tested};
 pub use way::{SharpWay, sharp_settle};
-pub use worked_run::a_steady_run;
+pub use worked_run::{a_steady_run, files_that_flutter};
