@@ -1,27 +1,20 @@
 -- Whether a run is sharply covered: the first gap in the order in which they are looked for. A correct node joins; a sharper check
 -- from the second on fails, the one with the least number; and then the gaps of the run itself. Its flutter is its own, so that it
 -- is no gap.
-use Rattle.std.specs.Prelude.{ℕ, ◌+◌, ◌&&◌, pos, Bool, List, Option, Some, None, if◌then◌else◌}
-use Rattle.std.specs.List.{list_any}
+use Rattle.std.specs.Prelude.{ℕ, ◌+◌, pos, Bool, Option, Some, None, if◌then◌else◌}
 use Rattle.std.specs.Option.{option_map, option_or}
 use Rattle.fr_cluster.specs.Values.{Values}
-use Rattle.fr_cluster.specs.declared.nodes.NodeSpec.{NodeSpec}
 use Rattle.fr_coverage.specs.Coverage.{gap_of_run, some_join}
 use Rattle.fr_coverage.specs.First.{first_below}
-use Rattle.fr_coverage.specs.Links.{is_sync}
 use Rattle.fr_coverage.specs.declared.gap.Gap.{Gap}
 use Rattle.fr_coverage.specs.declared.gap.Gap.TheVariants as gap
 use Rattle.fr_drift.specs.View.{DriftView}
-use Rattle.fr_script.specs.View.{ScriptView, is_arbitrary}
+use Rattle.fr_script.specs.View.{ScriptView}
 use Rattle.fr_sharp.specs.SharpBounds.{sharp_near}
 use Rattle.fr_sharp.specs.SharpChecks.{sharp_holds_of, sharp_left_of, sharp_right_of}
 use Rattle.fr_sharp.specs.SharpStatement.{has_arbitrary}
 use Rattle.fr_series.specs.declared.sharp_gap.SharpGap.{SharpGap}
 use Rattle.fr_series.specs.declared.sharp_gap.SharpGap.TheVariants.{Join, Other}
-
--- whether some node with a key slot is arbitrary
-abbrev pub has_arbitrary_in : List NodeSpec → ScriptView → Bool
-has_arbitrary_in nodes s = list_any (λ node. is_sync node && is_arbitrary s node.id) nodes
 
 -- the check of a number fails, with its two sides
 abbrev pub failed_sharp : Bool → Values → ℕ → ℕ → Gap

@@ -5,13 +5,13 @@ ghost use Rattle.fr_sharp.specs.SharpBounds.{most_flutter};
 ghost use Rattle.fr_time.specs.Position.{grid_for};
 
 use crate::scale::Scale;
-use crate::sharp_covered::{first_sharp_gap, has_arbitrary};
+use crate::sharp_covered::first_sharp_gap;
 use crate::sharp_gap::SharpGap;
 use fr_cluster::Params;
 use fr_coverage::flutter;
 use fr_drift::Drift;
 use fr_script::Script;
-use fr_sharp::{sharp_bounds, sharp_lasts};
+use fr_sharp::{has_arbitrary, sharp_bounds, sharp_lasts};
 use fr_skew::{SyncBounds, sync_bounds};
 use fr_time::grid_of;
 

@@ -1,18 +1,16 @@
 ghost use Rattle.std.specs.Prelude.{◌≡◌, ◌≤◌, ◌&&◌, None, Some, is_some, length, not};
 ghost use Rattle.fr_bound.specs.Settling.{IsSettleCheck};
 ghost use Rattle.fr_coverage.specs.Coverage.{some_join_in};
-ghost use Rattle.fr_coverage.specs.Links.{is_sync};
 ghost use Rattle.fr_script.specs.View.{is_arbitrary, join_of};
 ghost use Rattle.fr_sharp.specs.SharpBounds.{most_flutter};
-ghost use Rattle.fr_sharp.specs.SharpStatement.{has_arbitrary};
-ghost use Rattle.fr_series.specs.SharpCovered.{failed_sharp, first_sharp_gap, has_arbitrary_in, sharp_checks_gap};
+ghost use Rattle.fr_series.specs.SharpCovered.{failed_sharp, first_sharp_gap, sharp_checks_gap};
 
 use crate::sharp_gap::SharpGap;
 use fr_cluster::{NodeList, NodeSpec, Params};
 use fr_coverage::{Gap, run_covered};
 use fr_drift::Drift;
 use fr_script::Script;
-use fr_sharp::{sharp_checks, sharp_side};
+use fr_sharp::{has_arbitrary, sharp_checks, sharp_side};
 
 // The first gap for which a run is not sharply covered, where its delays flutter by so many ticks.
 pub(crate) fn first_sharp_gap(
@@ -58,36 +56,6 @@ fn failed(params: &Params, beside: bool, flutter: u64, number: u8) -> Gap
         left: sides.left,
         right: sides.right,
     }
-}
-
-// Whether some node with a key slot is arbitrary.
-pub(crate) fn has_arbitrary(params: &Params, script: &Script) -> bool
-    ensures { result ≡ has_arbitrary params.now script.now }
-{
-    any_arbitrary(&params.nodes, script)
-}
-
-fn any_arbitrary(nodes: &NodeList, script: &Script) -> bool
-    ensures { result ≡ has_arbitrary_in nodes.now script.now }
-{
-    let mut found = false;
-    for place in 0..nodes.len() {
-        match nodes.get(place) {
-            Some(node) => {
-                if is_arbitrary_sync(script, node) {
-                    found = true;
-                }
-            }
-            None => {}
-        }
-    }
-    found
-}
-
-fn is_arbitrary_sync(script: &Script, node: &NodeSpec) -> bool
-    ensures { result ≡ (is_sync node.now && is_arbitrary script.now node.now.id) }
-{
-    node.key.is_some() && script.arbitrary(node.id)
 }
 
 // Whether some correct node joins the running cluster.

@@ -119,13 +119,13 @@ fn put_sharp_double<O: Sink>(
     let scale = &scales.older;
     let in_sync = are_in_sync(scale, even, odd);
     let sharp = are_in_sharp_sync(&scales.sharp, even, odd);
+    let Tally {
+        older,
+        sharp: sharper,
+    } = *tally;
     *tally = Tally {
-        older: tally
-            .older
-            .followed(scale, double, even, odd, in_sync, following),
-        sharp: tally
-            .sharp
-            .followed(&scales.sharp, double, even, odd, sharp, following),
+        older: older.followed(scale, double, even, odd, in_sync, following),
+        sharp: sharper.followed(&scales.sharp, double, even, odd, sharp, following),
     };
     let cycle = 2 * double;
     out.put(sharp_cycle_line(cycle, in_sync, sharp, scale.peak(cycle, even)).bytes())?;
