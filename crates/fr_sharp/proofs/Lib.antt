@@ -31,6 +31,7 @@ pub mod RunSettles
 pub mod RunCycles
 pub mod RunStated
 pub mod RunWorked
+pub mod RunReached
 pub mod FromFiles
 pub mod TestedLemmas
 pub mod FreeLemmas

@@ -4,6 +4,7 @@ pub mod Flutter
 pub mod Hearing
 pub mod Lengths
 pub mod Nearness
+pub mod ReachedRun
 pub mod Said
 pub mod SettlingHistories
 pub mod SharpBounds
