@@ -32,6 +32,7 @@ pub mod RunCycles
 pub mod RunStated
 pub mod RunWorked
 pub mod RunReached
+pub mod RunHalting
 pub mod FromFiles
 pub mod TestedLemmas
 pub mod FreeLemmas

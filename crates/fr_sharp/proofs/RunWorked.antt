@@ -202,7 +202,7 @@ steady_run_meets_premises lawful long said beside bytes = (steady said bytes law
 
 -- ---- the run that walks
 
-turns : (double : ℕ) → (2 * double % 2 ≡ 0) × (suc (2 * double) % 2 ≡ 1)
+pub turns : (double : ℕ) → (2 * double % 2 ≡ 0) × (suc (2 * double) % 2 ≡ 1)
 turns double = (omega arith, omega arith)
 
 walking_flutters : FluttersWithin walking_run 10_000_000

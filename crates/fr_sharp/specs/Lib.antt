@@ -1,6 +1,7 @@
 -- what the public contract cites
 pub mod Ends
 pub mod Flutter
+pub mod HaltingRun
 pub mod Hearing
 pub mod Lengths
 pub mod Nearness

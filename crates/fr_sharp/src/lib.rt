@@ -8,6 +8,7 @@ mod bounds;
 mod checking;
 mod ends;
 mod files;
+mod halting_run;
 mod hearing;
 mod histories;
 mod lasting;
@@ -28,6 +29,7 @@ pub use bounds::{sharp_bounds_are_below, sharp_checks_suffice, walks_are_bounded
 pub use checking::{sharp_checks, sharp_side};
 pub use ends::ends_come_near;
 pub use files::{covered_files_keep_sharply, files_are_steady, files_keep_sharp_precision};
+pub use halting_run::the_first_sharp_check_is_needed;
 pub use hearing::rounds_are_heard_steadily;
 pub use histories::{
     histories_come_into_sharp_sync, histories_keep_sharp_sync, stated_runs_are_steady,
