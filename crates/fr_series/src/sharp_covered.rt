@@ -1,13 +1,11 @@
-ghost use Rattle.std.specs.Prelude.{◌≡◌, ◌≤◌, ◌&&◌, None, Some, is_some, length, not};
+ghost use Rattle.std.specs.Prelude.{◌≡◌, ◌≤◌};
 ghost use Rattle.fr_bound.specs.Settling.{IsSettleCheck};
-ghost use Rattle.fr_coverage.specs.Coverage.{some_join_in};
-ghost use Rattle.fr_script.specs.View.{is_arbitrary, join_of};
 ghost use Rattle.fr_sharp.specs.SharpBounds.{most_flutter};
 ghost use Rattle.fr_series.specs.SharpCovered.{failed_sharp, first_sharp_gap, sharp_checks_gap};
 
 use crate::sharp_gap::SharpGap;
-use fr_cluster::{NodeList, NodeSpec, Params};
-use fr_coverage::{Gap, run_covered};
+use fr_cluster::Params;
+use fr_coverage::{Gap, run_covered, some_join};
 use fr_drift::Drift;
 use fr_script::Script;
 use fr_sharp::{has_arbitrary, sharp_checks, sharp_side};
@@ -56,28 +54,4 @@ fn failed(params: &Params, beside: bool, flutter: u64, number: u8) -> Gap
         left: sides.left,
         right: sides.right,
     }
-}
-
-// Whether some correct node joins the running cluster.
-fn some_join(nodes: &NodeList, script: &Script) -> bool
-    ensures { result ≡ some_join_in nodes.now script.now }
-{
-    let mut found = false;
-    for place in 0..nodes.len() {
-        match nodes.get(place) {
-            Some(node) => {
-                if joins(script, node) {
-                    found = true;
-                }
-            }
-            None => {}
-        }
-    }
-    found
-}
-
-fn joins(script: &Script, node: &NodeSpec) -> bool
-    ensures { result ≡ (not (is_arbitrary script.now node.now.id) && is_some (join_of script.now node.now.id)) }
-{
-    !script.arbitrary(node.id) && script.join(node.id).is_some()
 }

@@ -34,6 +34,9 @@ pub mod RunWay
 pub mod RunCycles
 pub mod RunStated
 pub mod RunWorked
+pub mod RunReached
+pub mod RunHalting
 pub mod FromFiles
 pub mod TestedLemmas
 pub mod FreeLemmas
+pub mod FilesWorked

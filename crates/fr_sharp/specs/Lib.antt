@@ -1,9 +1,11 @@
 -- what the public contract cites
 pub mod Ends
 pub mod Flutter
+pub mod HaltingRun
 pub mod Hearing
 pub mod Lengths
 pub mod Nearness
+pub mod ReachedRun
 pub mod Said
 pub mod SettlingHistories
 pub mod SharpBounds
@@ -20,4 +22,5 @@ pub mod SharpWay
 pub mod Steady
 pub mod SteadyRuns
 pub mod WayHistories
+pub mod WorkedFiles
 pub mod WorkedRun

@@ -10,12 +10,14 @@ mod bounds;
 mod checking;
 mod ends;
 mod files;
+mod halting_run;
 mod hearing;
 mod histories;
 mod lasting;
 mod lengths;
 mod midpoints;
 mod nearness;
+mod reached_run;
 mod runs_flutter;
 mod settling;
 mod steady;
@@ -31,6 +33,7 @@ pub use bounds::{sharp_bounds_are_below, sharp_checks_suffice, walks_are_bounded
 pub use checking::{sharp_checks, sharp_side};
 pub use ends::ends_come_near;
 pub use files::{covered_files_keep_sharply, files_are_steady, files_keep_sharp_precision};
+pub use halting_run::the_first_sharp_check_is_needed;
 pub use hearing::rounds_are_heard_steadily;
 pub use histories::{
     histories_come_into_sharp_sync, histories_keep_sharp_sync, histories_settle_sharply,
@@ -40,6 +43,7 @@ pub use lasting::sharp_sync_lasts;
 pub use lengths::{lengths_come_near, ranges_walk};
 pub use midpoints::midpoints_agree;
 pub use nearness::nodes_lie_near;
+pub use reached_run::the_sharper_precision_is_reached;
 pub use runs_flutter::stated_delays_flutter;
 pub use settling::{one_sharp_way, sharp_spreads_settle};
 pub use steady::{pairs_are_steady, steady_values_place};
@@ -47,4 +51,4 @@ pub use steady_runs::runs_hear_steadily;
 pub use step::{sharp_spreads_shrink, sharp_sync_is_kept};
 pub use tested::{one_first_sharp_sync, sharp_sync_is_tested};
 pub use way::{SharpWay, sharp_settle};
-pub use worked_run::a_steady_run;
+pub use worked_run::{a_steady_run, files_that_flutter};
