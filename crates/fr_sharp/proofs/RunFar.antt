@@ -42,7 +42,7 @@ use Rattle.fr_runs.proofs.Courses.{row_two}
 use Rattle.fr_runs.proofs.Nodes.{correct_node}
 use Rattle.fr_runs.proofs.Parts.{odd_is, told_at}
 use Rattle.fr_runs.proofs.Rows.{contains_map, has_row, row_runs_by}
-use Rattle.fr_sharp.specs.FarRun.{correction_place, far_run, far_skew, Far, FarRunReaches, FarRunsReach, IsFar}
+use Rattle.fr_sharp.specs.FarRun.{correction_place, far_run, far_skew, Far, FarRunsReachSharply, HasTwo, IsFar}
 use Rattle.fr_sharp.specs.Lengths.{IsAboutCycle}
 use Rattle.fr_sharp.specs.SettlingHistories.{AreStatedNear}
 use Rattle.fr_sharp.specs.SharpBounds.{sharp_lambda, sharp_pi}
@@ -87,7 +87,7 @@ none_by : (nodes : List NodeSpec) → list_any (λ (node : NodeSpec). false) nod
 none_by [] = refl
 none_by (node ∷ nodes) = none_by nodes
 
-module _ (beside : Bool) (f : Far) (is : IsFar beside f) where
+module _ (f : Far) (starts lengths : ℕ) (is : IsFar f starts lengths) where
   regular : (sender : NodeSpec) (cycle receiver : ℕ) (channel : Channel) → Contains (correct_nodes (far_run f)) sender → (far_run f).event cycle sender.id receiver channel ≡ Regular
   regular sender cycle receiver channel there = let correct = (correct_node (far_run f) sender there).correct in rw correct refl
 
@@ -126,22 +126,22 @@ module _ (beside : Bool) (f : Far) (is : IsFar beside f) where
   in_order : (f.params.micros *ℤ f.short) ≤ℤ (f.params.micros *ℤ f.long)
   in_order = mulz-lez_left f.short f.long f.params.micros is.order micros_from
 
-  stated_near : AreStatedNear (far_run f) (sharp_pi beside f.params 0) (sharp_lambda beside f.params 0)
+  stated_near : AreStatedNear (far_run f) starts lengths
   stated_near =
-      let Near : ℤ → ℤ → Type 0 = λ a b. IsWithin (pos (sharp_lambda beside f.params 0)) (a -ℤ b) in
+      let Near : ℤ → ℤ → Type 0 = λ a b. IsWithin (pos lengths) (a -ℤ b) in
       let shortest : pos (amount f.params name.pMicroPerCycle * shortest_micro f.params) ≡ f.params.micros *ℤ pos (shortest_micro f.params) = times_natural f.params.micros (shortest_micro f.params) micros_from in
       let longest : pos (amount f.params name.pMicroPerCycle * longest_micro f.params) ≡ f.params.micros *ℤ pos (longest_micro f.params) = times_natural f.params.micros (longest_micro f.params) micros_from in
       let low = mulz-lez_left (pos (shortest_micro f.params)) f.short f.params.micros is.least micros_from in
       let high = mulz-lez_left f.long (pos (longest_micro f.params)) f.params.micros is.most micros_from in
       record {
-        starts = λ one other here there. let most = is.starts in apart (sharp_pi beside f.params 0) (pos 0) (pos f.later) (one.id == f.first) (other.id == f.first) (natural_from f.later) (fits f.later (sharp_pi beside f.params 0) most);
+        starts = λ one other here there. let most = is.starts_fit in apart starts (pos 0) (pos f.later) (one.id == f.first) (other.id == f.first) (natural_from f.later) (fits f.later starts most);
         lengths = λ one other here there.
             let a = one.id == f.first in
             let b = other.id == f.first in
             let One : ℤ → Type 0 = λ z. Near z ((f.params.micros +ℤ pos 0) *ℤ (if b then f.short else f.long)) in
             let Other : ℤ → Type 0 = λ z. Near (if a then f.params.micros *ℤ f.short else f.params.micros *ℤ f.long) z in
             subst One (sym (first_is a))
-            (subst Other (sym (first_is b)) (apart (sharp_lambda beside f.params 0) (f.params.micros *ℤ f.short) (f.params.micros *ℤ f.long) a b in_order is.lengths));
+            (subst Other (sym (first_is b)) (apart lengths (f.params.micros *ℤ f.short) (f.params.micros *ℤ f.long) a b in_order is.lengths_fit));
         about = λ some there.
             let a = some.id == f.first in
             subst (IsAboutCycle f.params (pos 0)) (sym (first_is a))
@@ -220,7 +220,7 @@ starts_other own first a b differ = by (own == first) refl
     by false is = refl
     by true is = absurd (differ (grind arith))
 
-module _ (beside : Bool) (f : Far) (is : IsFar beside f) (h : Cycles) (w : IsSteadyRun beside (far_run f) 0 h) where
+module _ (beside : Bool) (f : Far) (h : Cycles) (w : IsSteadyRun beside (far_run f) 0 h) where
   -- a correct node's row of the second cycle, by its start and its microtick
   second_row : (even odd : Cycle) → IsDoubleOf h 0 [] even odd → (node : NodeSpec) → Contains (correct_nodes (far_run f)) node → (start micro : ℤ)
       → (far_run f).start node.id ≡ start → (far_run f).microtick node.id 0 ≡ micro → (macrotick : ℕ) → pos macrotick ≡ f.params.correction
@@ -269,16 +269,20 @@ module _ (beside : Bool) (f : Far) (is : IsFar beside f) (h : Cycles) (w : IsSte
       let counted : suc (length earlier) ≡ 2 * 0 = d.counted in
       absurd (omega (arith, counted))
 
-pub far_runs_reach_lem : ((x : Setting) (n : ℕ) → IsSetting x → IsLawful x (cycles_of x n)) → ((x : Setting) (n : ℕ) → length (cycles_of x n) ≡ n) → FarRunsReach
-far_runs_reach_lem lawful long beside f one other is here there first differ =
+-- the skew where the offset correction starts
+reaches : (beside : Bool) (f : Far) → (h : Cycles) → IsSteadyRun beside (far_run f) 0 h → IsSane f.params → HasTwo f
+    → far_skew f ≤ℤ skew_at f.params (told_of h) 1 (amount f.params name.gOffsetCorrectionStart)
+reaches beside f h w sane two =
+    let d = found_at beside (far_run f) 0 h w 0 (lit≤ tt) in
+    let grid = is_grid_lem f.params sane in
+    let at : pos (amount f.params name.gOffsetCorrectionStart) ≡ f.params.correction = sym (natural f.params.correction (let from = grid.correction_from in omega (arith, ints, from))) in
+    far_reached beside f h w d.earlier d.even d.odd d.is two.one two.other two.here two.there two.first two.differ (amount f.params name.gOffsetCorrectionStart) at
+
+pub far_runs_reach_sharply : ((x : Setting) (n : ℕ) → IsSetting x → IsLawful x (cycles_of x n)) → ((x : Setting) (n : ℕ) → length (cycles_of x n) ≡ n) → FarRunsReachSharply
+far_runs_reach_sharply lawful long beside f is arbitrary two =
     let x : Setting = far_run f in
     let h : Cycles = all_cycles x in
-    let w = stated_runs_are_steady lawful long beside x 0 (setting beside f is) (covered beside f is) is.arbitrary (none_by (correct_nodes x)) in
-    let d = found_at beside x 0 h w 0 (lit≤ tt) in
-    let grid = is_grid_lem f.params is.sane in
-    let at : pos (amount f.params name.gOffsetCorrectionStart) ≡ f.params.correction = sym (natural f.params.correction (let from = grid.correction_from in omega (arith, ints, from))) in
-    record {
-      run = w;
-      in_sync = stated_runs_begin_in_sharp_sync beside x 0 h w (stated_near beside f is) (lit≤ tt);
-      reached = far_reached beside f is h w d.earlier d.even d.odd d.is one other here there first differ (amount f.params name.gOffsetCorrectionStart) at;
-    }
+    let pi = sharp_pi beside f.params 0 in
+    let lambda = sharp_lambda beside f.params 0 in
+    let w = stated_runs_are_steady lawful long beside x 0 (setting f pi lambda is) (covered f pi lambda is) arbitrary (none_by (correct_nodes x)) in
+    (w, stated_runs_begin_in_sharp_sync beside x 0 h w (stated_near f pi lambda is) (lit≤ tt), reaches beside f h w is.sane two)
