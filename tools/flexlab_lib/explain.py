@@ -24,8 +24,10 @@ ROLES = {
     "capture": {"capture": 2}, "cold": {"params": 1, "power": 2}, "make": {}, "check": {"params": 1, "trace": 2},
 }
 USAGE = {
-    "frame": "frame A FILE or frame B FILE", "bound": "bound PARAMS or bound PARAMS join",
-    "upgrade": "upgrade PARAMS", "settle": "settle PARAMS START RATE",
+    "frame": "frame A FILE or frame B FILE", "bound": "bound PARAMS, bound PARAMS join or bound PARAMS sharp "
+                                                      "FLUTTER",
+    "upgrade": "upgrade PARAMS", "settle": "settle PARAMS START RATE or settle PARAMS START RATE "
+                                                        "sharp FLUTTER",
     "nm": "nm WIDTH FILE", "run": "run PARAMS DRIFT SCRIPT", "trace": "trace PARAMS DRIFT SCRIPT",
     "check": "check PARAMS TRACE", "make": "make SEED DOUBLES", "capture": "capture A FILE or capture B "
                                                                            "FILE", "cold": "cold PARAMS POWER",

@@ -36,6 +36,8 @@ pub mod RunStated
 pub mod RunWorked
 pub mod RunReached
 pub mod RunHalting
+pub mod FarNumbers
+pub mod RunFar
 pub mod FromFiles
 pub mod TestedLemmas
 pub mod FreeLemmas

@@ -1,5 +1,6 @@
 -- what the public contract cites
 pub mod Ends
+pub mod FarRun
 pub mod Flutter
 pub mod HaltingRun
 pub mod Hearing
