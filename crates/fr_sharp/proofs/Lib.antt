@@ -35,6 +35,7 @@ pub mod RunReached
 pub mod RunHalting
 pub mod FarNumbers
 pub mod RunFar
+pub mod RunFarOlder
 pub mod FromFiles
 pub mod TestedLemmas
 pub mod FreeLemmas

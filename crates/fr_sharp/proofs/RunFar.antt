@@ -1,6 +1,6 @@
 -- The runs of any cluster that reach nearly all of the sharper precision: what is stated of them, and their skew.
-use Rattle.std.proofs.Common.{◌≡◌, ◌≢◌, ℕ, suc, ◌+◌, ◌*◌, ◌<◌, ◌≤◌, ◌==◌, Bool, true, false, not, ◌&&◌, ℤ, pos, Option, Some, None, List, All, [], ◌∷◌, length, map, refl, ap, sym, ◌∙◌, subst, lit≤, lit<, arith, if◌then◌else◌}
-use Rattle.std.specs.Prelude.{◌-ℤ◌, ◌*ℤ◌, ◌≤ℤ◌, ◌<ℤ◌, ◌+ℤ◌, Contains, int_lt}
+use Rattle.std.proofs.Common.{◌≡◌, ◌≢◌, ℕ, suc, ◌*◌, ◌≤◌, ◌==◌, Bool, true, false, not, ℤ, pos, Option, Some, List, All, [], ◌∷◌, length, map, refl, ap, sym, ◌∙◌, subst, lit≤, arith, if◌then◌else◌}
+use Rattle.std.specs.Prelude.{◌-ℤ◌, ◌*ℤ◌, ◌≤ℤ◌, ◌+ℤ◌, Contains, int_lt}
 use Rattle.std.specs.Option.{option_map, option_map_or}
 use Rattle.std.specs.List.{list_any}
 use Rattle.std.proofs.lemmas.Int.{ints}
@@ -46,7 +46,7 @@ use Rattle.fr_sharp.specs.FarRun.{correction_place, far_run, far_skew, Far, FarR
 use Rattle.fr_sharp.specs.Lengths.{IsAboutCycle}
 use Rattle.fr_sharp.specs.SettlingHistories.{AreStatedNear}
 use Rattle.fr_sharp.specs.SharpBounds.{sharp_lambda, sharp_pi}
-use Rattle.fr_sharp.specs.SharpHistories.{IsInSharpSyncAt, IsSteadyRun}
+use Rattle.fr_sharp.specs.SharpHistories.{IsSteadyRun}
 use Rattle.fr_sharp.specs.SteadyRuns.{IsSteadySetting}
 use Rattle.fr_sharp.proofs.RunCycles.{stated_runs_are_steady}
 use Rattle.fr_sharp.proofs.RunSettles.{histories_begin_active}
@@ -57,7 +57,7 @@ use Rattle.fr_sharp.proofs.Signed.{signed_of}
 
 -- ---- numbers of two kinds, by whether they are those of the first node
 
-itself : (n : ℕ) (a : ℤ) → IsWithin (pos n) (a -ℤ a)
+pub itself : (n : ℕ) (a : ℤ) → IsWithin (pos n) (a -ℤ a)
 itself n a = record { low = omega (arith, ints); high = omega (arith, ints) }
 
 no_less : (bound : ℤ) (a b : ℤ) (first : Bool) → bound ≤ℤ a → a ≤ℤ b → bound ≤ℤ (if first then a else b)
@@ -83,7 +83,7 @@ no_rate n = omega (arith, ints)
 
 -- ---- what is stated of such a run
 
-none_by : (nodes : List NodeSpec) → list_any (λ (node : NodeSpec). false) nodes ≡ false
+pub none_by : (nodes : List NodeSpec) → list_any (λ (node : NodeSpec). false) nodes ≡ false
 none_by [] = refl
 none_by (node ∷ nodes) = none_by nodes
 
@@ -91,7 +91,7 @@ module _ (f : Far) (starts lengths : ℕ) (is : IsFar f starts lengths) where
   regular : (sender : NodeSpec) (cycle receiver : ℕ) (channel : Channel) → Contains (correct_nodes (far_run f)) sender → (far_run f).event cycle sender.id receiver channel ≡ Regular
   regular sender cycle receiver channel there = let correct = (correct_node (far_run f) sender there).correct in rw correct refl
 
-  covered : IsSteadySetting (far_run f) 0
+  pub covered : IsSteadySetting (far_run f) 0
   covered = record {
     sane = is.sane;
     few = is.few;
@@ -110,7 +110,7 @@ module _ (f : Far) (starts lengths : ℕ) (is : IsFar f starts lengths) where
     flutters = λ sender receiver slot channel double linked share within. itself 0 (compensation_of f.params channel *ℤ pos nominal);
   }
 
-  setting : IsSetting (far_run f)
+  pub setting : IsSetting (far_run f)
   setting = record {
     sane = is.sane;
     bytes = λ cycle sender receiver channel. of_bytes (f.is_arbitrary sender) (f.said cycle sender receiver channel) (is.bytes cycle sender receiver channel);
@@ -126,7 +126,7 @@ module _ (f : Far) (starts lengths : ℕ) (is : IsFar f starts lengths) where
   in_order : (f.params.micros *ℤ f.short) ≤ℤ (f.params.micros *ℤ f.long)
   in_order = mulz-lez_left f.short f.long f.params.micros is.order micros_from
 
-  stated_near : AreStatedNear (far_run f) starts lengths
+  pub stated_near : AreStatedNear (far_run f) starts lengths
   stated_near =
       let Near : ℤ → ℤ → Type 0 = λ a b. IsWithin (pos lengths) (a -ℤ b) in
       let shortest : pos (amount f.params name.pMicroPerCycle * shortest_micro f.params) ≡ f.params.micros *ℤ pos (shortest_micro f.params) = times_natural f.params.micros (shortest_micro f.params) micros_from in
@@ -270,7 +270,7 @@ module _ (beside : Bool) (f : Far) (h : Cycles) (w : IsSteadyRun beside (far_run
       absurd (omega (arith, counted))
 
 -- the skew where the offset correction starts
-reaches : (beside : Bool) (f : Far) → (h : Cycles) → IsSteadyRun beside (far_run f) 0 h → IsSane f.params → HasTwo f
+pub reaches : (beside : Bool) (f : Far) → (h : Cycles) → IsSteadyRun beside (far_run f) 0 h → IsSane f.params → HasTwo f
     → far_skew f ≤ℤ skew_at f.params (told_of h) 1 (amount f.params name.gOffsetCorrectionStart)
 reaches beside f h w sane two =
     let d = found_at beside (far_run f) 0 h w 0 (lit≤ tt) in

@@ -1,6 +1,6 @@
 -- Of any cluster a run that reaches nearly all of the sharper precision in its first double cycle: one node begins first and is fast, and
 -- all others begin later and are slow.
-use Rattle.std.specs.Prelude.{◌≡◌, ◌≢◌, ◌==◌, ◌+◌, ◌*◌, ◌<◌, ◌≤◌, ◌≤ℤ◌, ◌+ℤ◌, ◌-ℤ◌, ◌*ℤ◌, ℕ, ℤ, pos, Bool, ◌&&◌, if◌then◌else◌, Contains, None}
+use Rattle.std.specs.Prelude.{◌≡◌, ◌≢◌, ◌==◌, ◌+◌, ◌*◌, ◌≤◌, ◌≤ℤ◌, ◌+ℤ◌, ◌-ℤ◌, ◌*ℤ◌, ℕ, ℤ, pos, Bool, ◌&&◌, if◌then◌else◌, Contains, None}
 use Rattle.fr_base.specs.Event.Event.{Regular}
 use Rattle.fr_base.specs.declared.channel.Channel.{Channel}
 use Rattle.fr_cluster.specs.Questions.{compensation_of}

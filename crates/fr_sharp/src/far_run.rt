@@ -8,6 +8,7 @@ use fr_history::one_lawful_run;
 /// the numbers of that. It is near the precision where the offset correction starts late.
 pub fn far_runs_reach()
     ensures sharply { FarRunsReachSharply }
+    ensures older { FarRunsReach }
     ensures near { FarSkewsAreNear }
 {
     one_lawful_run();
