@@ -23,7 +23,7 @@ use Rattle.fr_runs.specs.Supplied.{stays_on}
 use Rattle.fr_sharp.specs.SharpBounds.{sharp_lambda, sharp_pi}
 use Rattle.fr_sharp.specs.SharpHistories.{IsInSharpSyncAt, IsSteadyRun}
 use Rattle.fr_sharp.specs.SteadyRuns.{MayHaveArbitrary}
-use Rattle.fr_sharp.specs.WorkedRun.{OfBytes, Said}
+use Rattle.fr_sharp.specs.WorkedRun.{steady_cluster, OfBytes, Said}
 
 -- the cluster, which nodes are arbitrary, and what these say; the node that begins first; by how many ticks all others begin later;
 -- and the microticks of that node and of the others, in ticks
@@ -120,3 +120,24 @@ FarSkewsAreNear =
     ((f.params.macros *ℤ far_skew f) +ℤ ((f.params.macros -ℤ f.params.correction) *ℤ pos lengths))
     +ℤ (f.params.macros *ℤ ((f.params.micros +ℤ f.params.micros) +ℤ pos more))
     )
+
+-- ---- worked: the steady cluster, without an arbitrary node and beside node 4 as one
+
+abbrev pub worked_far : Said → Bool → Far
+worked_far said beside = record {
+  params = steady_cluster;
+  is_arbitrary = λ id. beside && (id == 4);
+  said = said;
+  first = 1;
+  later = if beside then 69_007_688 else 20_002_398;
+  short = pos 999_900;
+  long = if beside then pos 999_970 else pos 999_935;
+}
+
+-- it is such a run, of 93 and 97 hundredths of the sharper precision
+abbrev pub WorkedFarRuns : Type 0
+WorkedFarRuns =
+    (said : Said) (beside : Bool) → OfBytes said
+    → IsFar (worked_far said beside) (sharp_pi beside steady_cluster 0) (sharp_lambda beside steady_cluster 0)
+    × MayHaveArbitrary beside (far_run (worked_far said beside)) × HasTwo (worked_far said beside)
+    × (far_skew (worked_far said beside) ≡ (if beside then pos 96_622_618 else pos 33_809_863))
