@@ -1,10 +1,9 @@
 -- The worked run that reaches nearly all of the sharper precision is as the law asks.
-use Rattle.std.proofs.Common.{◌≡◌, ℕ, ◌==◌, Bool, true, false, ◌&&◌, pos, [], ◌∷◌, refl, lit≤, arith, if◌then◌else◌}
+use Rattle.std.proofs.Common.{Bool, true, false, [], ◌∷◌, refl, lit≤, arith}
 use Rattle.fr_base.specs.declared.channel.Channel.TheVariants.{A}
-use Rattle.fr_cluster.specs.Setting.{correct_nodes}
 use Rattle.fr_cluster.proofs.Elements.{Contains-here, Contains-there}
 use Rattle.fr_history.specs.Worked.{on_a as spec}
-use Rattle.fr_sharp.specs.FarRun.{far_run, worked_far, HasTwo, IsFar, WorkedFarRuns}
+use Rattle.fr_sharp.specs.FarRun.{far_apart_run, worked_far, HasTwo, IsFar, WorkedFarRuns}
 use Rattle.fr_sharp.specs.SharpBounds.{sharp_lambda, sharp_pi}
 use Rattle.fr_sharp.specs.SteadyRuns.{MayHaveArbitrary}
 use Rattle.fr_sharp.specs.WorkedRun.{steady_cluster, OfBytes, Said}
@@ -36,7 +35,7 @@ module _ (said : Said) (bytes : OfBytes said) where
     lengths_fit = record { le = tt };
   }
 
-  may : (beside : Bool) → MayHaveArbitrary beside (far_run (worked_far said beside))
+  may : (beside : Bool) → MayHaveArbitrary beside (far_apart_run (worked_far said beside))
   may false = refl
   may true = tt
 

@@ -26,7 +26,7 @@ use Rattle.fr_runs.proofs.Courses.{is_correct_row, row_two}
 use Rattle.fr_runs.proofs.Going.{rows_ascend}
 use Rattle.fr_runs.proofs.Parts.{even_is, odd_is}
 use Rattle.fr_runs.proofs.Rows.{all_rows, row_runs_by}
-use Rattle.fr_sharp.specs.FarRun.{far_run, Far, FarRunsReach, IsFar}
+use Rattle.fr_sharp.specs.FarRun.{far_apart_run, Far, FarRunsReach, IsFar}
 use Rattle.fr_sharp.specs.Lengths.{IsAboutCycle}
 use Rattle.fr_sharp.specs.SettlingHistories.{first_length}
 use Rattle.fr_sharp.specs.SharpHistories.{IsSteadyRun}
@@ -51,7 +51,7 @@ apart : (bound a b c e : ℤ) → a ≡ c → b ≡ e → IsWithin bound (c -ℤ
 apart bound a b c e first second near = let high = near.high in omega (arith, ints, first, second, high)
 
 module _ (f : Far) (is : IsFar f (pi_of f.params) (lambda_of f.params)) where
-  is_covered : ((joins : some_joins (far_run f) ≡ true) → ⊥) → AllChecksHold f.params → IsCoveredRun (far_run f)
+  is_covered : ((joins : some_joins (far_apart_run f) ≡ true) → ⊥) → AllChecksHold f.params → IsCoveredRun (far_apart_run f)
   is_covered none checks =
       let steady = covered f (pi_of f.params) (lambda_of f.params) is in
       record {
@@ -75,10 +75,10 @@ module _ (f : Far) (is : IsFar f (pi_of f.params) (lambda_of f.params)) where
         starts = λ joins. absurd (none joins);
       }
 
-  module _ (h : Cycles) (w : IsSteadyRun true (far_run f) 0 h) where
+  module _ (h : Cycles) (w : IsSteadyRun true (far_apart_run f) 0 h) where
     in_sync : (earlier : Cycles) (even odd : Cycle) → IsDoubleOf h 0 earlier even odd → IsInSync f.params even.told.rows odd.told.rows
     in_sync [] even odd d =
-        let x : Setting = far_run f in
+        let x : Setting = far_apart_run f in
         let p : Values = f.params in
         let nodes = row_nodes x [] in
         let s = rows_at true x 0 h w 0 [] even odd d in
@@ -119,7 +119,7 @@ module _ (f : Far) (is : IsFar f (pi_of f.params) (lambda_of f.params)) where
 
 pub far_runs_reach_older : ((x : Setting) (n : ℕ) → IsSetting x → IsLawful x (cycles_of x n)) → ((x : Setting) (n : ℕ) → length (cycles_of x n) ≡ n) → FarRunsReach
 far_runs_reach_older lawful long f is checks two =
-    let x : Setting = far_run f in
+    let x : Setting = far_apart_run f in
     let h : Cycles = all_cycles x in
     let pi = pi_of f.params in
     let lambda = lambda_of f.params in
