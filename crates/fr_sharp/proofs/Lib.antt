@@ -39,6 +39,8 @@ pub mod RunReached
 pub mod RunHalting
 pub mod FarNumbers
 pub mod RunFar
+pub mod RunFarOlder
+pub mod FarWorked
 pub mod FromFiles
 pub mod TestedLemmas
 pub mod FreeLemmas
