@@ -1,5 +1,6 @@
 """The first gap in coverage that a report names, in words, and what closes it."""
-from .advice import OR, WAY_OR, WAY_WHY, WHY, advise, also
+from .advice import OR, SHARP_OR, SHARP_WHY, WAY_OR, WAY_WHY, WHY, advise, also
+from .least import sharp_advise
 from .units import microseconds, ppm_of, signed
 
 
@@ -14,6 +15,16 @@ def check_words(number, left, right, parameters, way=False):
     return found + ([more] if more else [])
 
 
+def sharp_check_words(number, left, right, parameters, kind):
+    """A failing check of the sharper bounds in words."""
+    name, now, value = sharp_advise(number, parameters, kind)
+    asks = f"C{number} asks for {value} at least" if value is not None else f"none of its range meets C{number}"
+    found = [f"check C{number} fails: {left} against {right}; {SHARP_WHY[number]}",
+             f"turn {name}: it is {now}, and with all else as it is {asks}; or {SHARP_OR[number]}"]
+    more = also(number, parameters, value) if value is not None else None
+    return found + ([more] if more else [])
+
+
 def gap_words(gap, cluster):
     """Lines in words of the words behind `covered no`."""
     kind, numbers = gap[0], [int(word) for word in gap[1:] if word not in ("A", "B")]
@@ -21,6 +32,8 @@ def gap_words(gap, cluster):
     parameters, unit = cluster.parameters, cluster.microtick_ns
     if kind == "check":
         return check_words(*numbers, parameters)
+    if kind == "join":
+        return ["nodes join it, and the sharper precision is proved of runs that no node joins"]
     if kind == "count":
         return [f"{numbers[0]} correct sync nodes do not outweigh {numbers[1]} arbitrary ones: none needs 1, "
                 "one needs 3, two need 6 (nodes that join do not count)"]
