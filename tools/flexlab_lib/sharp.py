@@ -81,7 +81,7 @@ def gap_of(run):
     if sharp.bounds.gap:
         return True, sharp.bounds.gap
     gap = run.report.gap
-    return (gap is None or gap[0] != "check"), gap
+    return (False, None) if gap and gap[0] == "check" else (True, gap)
 
 
 def is_covered(run):

@@ -43,8 +43,9 @@ class Ways:
 
 
 class OlderChecks:
-    """The checks of flexray bound, those for nodes that join too where some do."""
-    name = "Precision"
+    """The checks of flexray bound, those for nodes that join too where some do. Delays count much in them, so that the
+    compensation amid the delays is tried at once."""
+    name, amid = "Precision", (True,)
 
     def __init__(self, run):
         self.words = ["join"] if run.cluster.joins else []
@@ -70,8 +71,9 @@ class OlderChecks:
 
 
 class SharpChecks:
-    """The checks of the sharper bounds of the kind that the script has, for the flutter of the run."""
-    name = "Sharp precision"
+    """The checks of the sharper bounds of the kind that the script has, for the flutter of the run. Another compensation is
+    tried where there is no way without."""
+    name, amid = "Sharp precision", (False, True)
 
     def __init__(self, run):
         self.kind = kind_of(run.cluster, run.sharp.flutter)
@@ -79,9 +81,10 @@ class SharpChecks:
         self.failing = {check[0] for check in run.sharp.bounds.failing}
 
     def least(self, parameters):
-        """With the damping as it is, and with the least by which the walk does not end."""
-        own = parameters["pClusterDriftDamping"]
-        for damping in dict.fromkeys((own, least_sharp_damping(parameters, self.kind))):
+        """With the damping as it is, and with the least by which the walk does not end; where nothing else fails the damping
+        has to suffice."""
+        own, least = parameters["pClusterDriftDamping"], least_sharp_damping(parameters, self.kind)
+        for damping in (max(own, least),) if self.failing == {1} else dict.fromkeys((own, least)):
             yield least_sharp(parameters, self.kind, damping)
 
     def read(self, text):
@@ -159,14 +162,14 @@ def passed(cluster, need):
     return found
 
 
-def starting_points(cluster, failing):
+def starting_points(cluster, failing, with_amid=True):
     """(limits, sentences) to begin from: as they are stated, or as far as this run goes beyond them, and lower, as far
     as this run allows for it. How far oscillators are off matters where the rate limit is too small alone."""
     p, need, unit = cluster.parameters, needs(cluster), cluster.microtick_ns
     stated = {name: max(p[name], need[name]) for name in LIMITS}
     beyond = passed(cluster, need)
     found = [(stated, beyond)]
-    middle = amid(cluster)
+    middle = amid(cluster) if with_amid else None
     delay = None
     if middle and middle[1] < stated["xDelayError"]:
         delays = delays_of(cluster)
@@ -188,10 +191,9 @@ def starting_points(cluster, failing):
     return found
 
 
-def candidates(cluster, checks):
+def candidates(cluster, checks, with_amid, seen):
     """(parameters or None, why none, sentences), each set of parameters once, and none as they are."""
-    seen = [cluster.parameters]
-    for limits, told in starting_points(cluster, checks.failing):
+    for limits, told in starting_points(cluster, checks.failing, with_amid):
         for found, why in checks.least(dict(cluster.parameters, **limits)):
             if (found or why) not in seen:
                 seen.append(found or why)
@@ -214,12 +216,14 @@ def weigh(run, program, run_cluster):
                  span=f"from cycle {begin} " + ("on" if whole else f"to {2 * doubles - 1}"))
     shutil.rmtree(os.path.join(run.folder, "advised"), ignore_errors=True)
     tries = Tries(run, program, run_cluster, begin, doubles)
-    for parameters, why, told in candidates(cluster, checks) if wanted else ():
-        way, why = tries.tried(checks, parameters, why, told, str(len(found.held) + 1))
-        if way:
-            found.held.append(way)
-        else:
-            found.refused.append((why, told))
+    seen = [cluster.parameters]
+    for with_amid in checks.amid if wanted else ():
+        for parameters, why, told in () if found.held else candidates(cluster, checks, with_amid, seen):
+            way, why = tries.tried(checks, parameters, why, told, str(len(found.held) + 1))
+            if way:
+                found.held.append(way)
+            else:
+                found.refused.append((why, told))
     # A run that is never in sync has no later skew to go by.
     found.held.sort(key=lambda way: (checks.gap(way.run)[1] is not None, checks.first(way.run) is None, way.skew))
     if isinstance(checks, SharpChecks) and run.bounds.failing:
@@ -315,9 +319,10 @@ def way_words(way, ways, cluster):
     text = "; ".join(way.first) + ": " if way.first else ""
     text += "all checks hold" if not getattr(way.bounds, "failing", None) else "all checks but C1 hold"
     text += f" with {values_words(way.changed, cluster)}. {ways.checks.name} {microseconds(way.bounds.precision, unit)}"
-    text += lasting_words(way, cluster) + "; "
-    text += ("covered yes" if gap is None else f"covered no ({' '.join(gap)})") if known else "covered not known"
-    text += f"; {skew_words(way, ways, unit)}"
+    text += lasting_words(way, cluster)
+    if known:
+        text += "; covered yes" if gap is None else f"; covered no ({' '.join(gap)})"
+    text += f"; {skew_words(way, ways, unit)}" + ("" if ways.checks.first(way.run) is not None else "; never in sync")
     ends = way.run.report.ends
     still = sum(end[2] == 0 for end in ends.values())
     if still and way.changed.get("pClusterDriftDamping", 0) > cluster.parameters["pClusterDriftDamping"]:
@@ -363,8 +368,8 @@ def older_lines(run, field_):
     if ways is None or ways.older is None:
         return field_("Older checks", text + (f". No values are found with which they hold: {ways.no_older}" if ways else ""))
     way, besides = ways.older, " besides the first way" if ways.held else " besides"
-    text += (f". They ask for {values_words(way.changed, run.cluster)}{besides}; the older bound is then "
-             f"{microseconds(way.bounds.precision, unit)}, and {skew_words(way, ways, unit)}")
+    asks = f"They ask for {values_words(way.changed, run.cluster)}{besides}" if way.changed else "They hold with the first way too"
+    text += f". {asks}; the older bound is then {microseconds(way.bounds.precision, unit)}, and {skew_words(way, ways, unit)}"
     damped = way.changed.get("pClusterDriftDamping", 0) > run.cluster.parameters["pClusterDriftDamping"]
     if damped and way.skew > ways.skew:
         text += ": that makes the clocks worse, since damping is taken off each rate term (docs/PRECISION.md)"
