@@ -2,3 +2,4 @@ pub mod Requests
 mod Undone
 pub mod FrameDecided
 pub mod BoundDecided
+pub mod KeptRuns

@@ -4,6 +4,7 @@ use Rattle.fr_program.specs.Command.{Command}
 use Rattle.fr_program.specs.Program.{Program}
 use Rattle.fr_report.specs.Files.{run_command}
 use Rattle.fr_answer.specs.BoundAnswer.{bound_command, join_command}
+use Rattle.fr_answer.specs.RunAnswer.{kept_run_command}
 use Rattle.fr_answer.specs.SettleAnswer.{settle_command}
 use Rattle.fr_capture.specs.CaptureAnswer.{capture_command}
 use Rattle.fr_check.specs.CheckAnswer.{check_command}
@@ -11,7 +12,6 @@ use Rattle.fr_cold.specs.ColdAnswer.{cold_command}
 use Rattle.fr_answer.specs.FrameAnswer.{frame_command}
 use Rattle.fr_nm.specs.NmAnswer.{nm_command}
 use Rattle.fr_report.specs.MakeAnswer.{make_command}
-use Rattle.fr_report.specs.RunText.{IsRunText}
 use Rattle.fr_report.specs.TraceAnswer.{IsTraceText}
 use Rattle.fr_params.specs.UpgradeAnswer.{upgrade_command}
 use Rattle.fr_answer.specs.Request.{Asked, AsksFor, frame, bound, bound_join, upgrade, settle, run, capture, nm, cold, make, trace, check}
@@ -23,7 +23,7 @@ command_of (bound file) = bound_command file
 command_of (bound_join file) = join_command file
 command_of (upgrade file) = upgrade_command file
 command_of (settle file start rate) = settle_command file start rate
-command_of (run names) = run_command IsRunText names
+command_of (run names) = kept_run_command names
 command_of (make seed doubles) = make_command seed doubles
 command_of (capture channel file) = capture_command channel file
 command_of (nm width file) = nm_command width file

@@ -7,3 +7,4 @@ pub mod BoundAnswer
 pub mod BoundText
 pub mod SettleAnswer
 pub mod SettleText
+pub mod RunAnswer

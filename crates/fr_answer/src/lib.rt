@@ -1,6 +1,6 @@
 //! The program's answer as a call: words, a shelf and two sinks in, a status out. What `flexray frame CHANNEL FILE`, `flexray
 //! bound PARAMS`, also with the word `join`, and `flexray settle PARAMS START RATE` answer is made here, the answer to
-//! each other command in the crate of its subject.
+//! each other command in the crate of its subject; of a run it says here what the sharper promise says of it.
 #![tactic(auto)]
 
 mod bound;
@@ -11,6 +11,7 @@ mod frame;
 mod frame_laws;
 mod frame_line;
 mod request;
+mod run;
 mod settle;
 mod top;
 
@@ -23,5 +24,6 @@ pub use fr_report::play;
 pub use fr_text::Status;
 pub use frame::answer_frame;
 pub use frame_laws::file_decides_the_line;
+pub use run::answer_kept_run;
 pub use settle::answer_settle;
 pub use top::flexray;

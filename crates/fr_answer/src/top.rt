@@ -89,7 +89,7 @@ fn carry_out<S: Shelf, O: Sink>(
         Request::Settle { file, start, rate } => {
             crate::answer_settle(alloc, file, start, rate, shelf, out)
         }
-        Request::Run(files) => fr_report::answer_run(alloc, files, shelf, out),
+        Request::Run(files) => crate::answer_kept_run(alloc, files, shelf, out),
         Request::Make { seed, doubles } => { fr_report::answer_made(alloc, seed, doubles, out) }
         Request::Capture { channel, file } => fr_capture::answer_capture(
             alloc, channel, file, shelf, out,

@@ -6,3 +6,5 @@ pub mod Pairs
 pub mod Least
 pub mod GapParts
 pub mod OneGap
+pub mod Greatest
+pub mod Flutters

@@ -4,4 +4,5 @@ pub mod Links
 pub mod Coverage
 pub mod Order
 pub mod Decided
+pub mod Flutter
 pub mod Phrases

@@ -185,10 +185,10 @@ fn count(nodes: &NodeList, script: &Script, arbitrary: bool) -> u32
 
 // What a run is made of.
 #[derive(Clone, Copy)]
-struct Run<'a> {
-    params: &'a Params,
-    drift: &'a Drift,
-    script: &'a Script,
+pub(crate) struct Run<'a> {
+    pub(crate) params: &'a Params,
+    pub(crate) drift: &'a Drift,
+    pub(crate) script: &'a Script,
 }
 
 // Looks for lengths.

@@ -4,6 +4,7 @@ ghost use Rattle.fr_cluster.specs.Sane.{IsSane};
 ghost use Rattle.fr_drift.specs.View.{DriftView};
 ghost use Rattle.fr_script.specs.View.{ScriptView};
 ghost use Rattle.fr_coverage.specs.Coverage.{first_gap};
+ghost use Rattle.fr_coverage.specs.Flutter.{FlutterGapsAreFound, FlutterIsGreatest, HasOneFlutter};
 ghost use Rattle.fr_coverage.specs.Order.{FindsFirst, FindsGapOfRun, FirstIsFound, HasNoGap};
 
 /// What is found of a run is its first gap: it is a gap of the run, and none is looked for before it.
@@ -25,4 +26,14 @@ pub fn covered_run_has_no_gap()
 /// where none is found it has none.
 pub fn found_gap_of_run_is_first()
     ensures { (p : Values) (d : DriftView) (s : ScriptView) → IsSane p → FindsGapOfRun p d s }
+{}
+
+/// What is found as the flutter of a run is the greatest: no delay of a correct node's sync frames at another correct node, on a
+/// channel that both have, differs by more ticks between the two cycles of a double cycle of the run, and some differs by
+/// as many, or it is 0; so it is of one number only. Where delays are stated to flutter by no more than so many ticks, this is
+/// so of all of them exactly where the flutter of the run is no more.
+pub fn flutter_is_the_greatest()
+    ensures greatest { FlutterIsGreatest }
+    ensures one { HasOneFlutter }
+    ensures gap { FlutterGapsAreFound }
 {}

@@ -3,6 +3,7 @@
 #![tactic(auto)]
 
 mod clocks;
+mod fluttering;
 mod gap;
 mod gap_words;
 mod gaps;
@@ -13,10 +14,12 @@ mod search;
 mod spans;
 
 pub use clocks::{precision_line, skew_line, sync_line};
+pub use fluttering::flutter;
 pub use gap::Gap;
 pub use gap_words::gap_line;
 pub use gaps::{covered, run_covered};
 pub use laws::{
-    covered_run_has_no_gap, first_gap_is_found, found_gap_is_first, found_gap_of_run_is_first,
+    covered_run_has_no_gap, first_gap_is_found, flutter_is_the_greatest, found_gap_is_first,
+    found_gap_of_run_is_first,
 };
 pub use linking::{is_link, shares};

@@ -79,7 +79,8 @@ pub(crate) fn first_delay(
     None
 }
 
-fn cycles(drift: &Drift) -> u32
+// The cycles of a run.
+pub(crate) fn cycles(drift: &Drift) -> u32
     ensures value { result ≡ how_many_cycles drift.now }
     ensures few { result ≤ 200_000 }
 {

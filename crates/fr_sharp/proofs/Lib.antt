@@ -3,6 +3,7 @@ pub mod Signed
 pub mod Walks
 pub mod Zips
 pub mod BoundLemmas
+pub mod Computed
 pub mod SteadyLemmas
 pub mod Arriving
 pub mod LengthLemmas
@@ -13,6 +14,7 @@ pub mod HearingLemmas
 pub mod StepLemmas
 pub mod RoundLemmas
 pub mod SettlingLemmas
+pub mod WayLemmas
 pub mod LastingLemmas
 pub mod OlderLemmas
 pub mod SharpRows
@@ -27,6 +29,10 @@ pub mod RowsSupplied
 pub mod RunDoubles
 pub mod RunSync
 pub mod RunSettles
+pub mod RunWay
 pub mod RunCycles
 pub mod RunStated
 pub mod RunWorked
+pub mod FromFiles
+pub mod TestedLemmas
+pub mod FreeLemmas

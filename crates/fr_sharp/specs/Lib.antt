@@ -8,11 +8,16 @@ pub mod Said
 pub mod SettlingHistories
 pub mod SharpBounds
 pub mod SharpChecks
+pub mod SharpFiles
 pub mod SharpHistories
 pub mod SharpRound
 pub mod SharpRun
 pub mod SharpSettling
+pub mod SharpStatement
 pub mod SharpStep
+pub mod SharpTested
+pub mod SharpWay
 pub mod Steady
 pub mod SteadyRuns
+pub mod WayHistories
 pub mod WorkedRun

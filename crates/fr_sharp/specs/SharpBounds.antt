@@ -10,6 +10,10 @@ use Rattle.fr_cluster.specs.declared.names.ParamName.TheVariants as name
 use Rattle.fr_time.specs.Slots.{action_point_of}
 use Rattle.fr_bound.specs.Bounds.{arrival_error, cycle_change, lambda_of, longest_micro, pi_of, precision_of, shortest_micro}
 
+-- two delays of a drift file differ by no more, in ticks
+abbrev pub most_flutter : ℕ
+most_flutter = 1_000_000_000
+
 -- by how much as many microticks change from one cycle to the next as may lie between a frame's arrival in the one and its
 -- sender's action point in the other, and one more
 abbrev pub wide_change : Values → ℕ

@@ -1,12 +1,13 @@
 -- The checks under which the sharper bounds hold, with a reach: how far action points may lie apart. The first one tells
 -- whether they hold for ever, or for as many double cycles as the rate limit holds the walk.
-use Rattle.std.specs.Prelude.{ℕ, zero, suc, ◌+◌, ◌*◌, ◌≤◌, ◌≡◌, ◌↔◌, ℤ, pos, ◌+ℤ◌, ◌-ℤ◌, ◌*ℤ◌, ◌≤ℤ◌, Bool, true, nat_le}
+use Rattle.std.specs.Prelude.{ℕ, zero, suc, ◌+◌, ◌*◌, ◌<◌, ◌≤◌, ◌≡◌, ◌↔◌, ℤ, pos, ◌+ℤ◌, ◌-ℤ◌, ◌*ℤ◌, ◌≤ℤ◌, Bool, true, false, nat_le}
 use Rattle.fr_cluster.specs.Values.{Values, amount}
 use Rattle.fr_cluster.specs.Sane.{IsSane}
 use Rattle.fr_cluster.specs.declared.names.ParamName.TheVariants as name
 use Rattle.fr_bound.specs.Bounds.{arrival_error, cycle_change, longest_micro, shortest_micro}
 use Rattle.fr_bound.specs.Checks.{holds_of, left_of}
 use Rattle.fr_bound.specs.Settling.{settle_holds_of, settle_right_of}
+use Rattle.fr_bound.specs.declared.checking.CheckSides.{CheckSides}
 use Rattle.fr_precision.specs.Offsets.{LimitSuffices}
 use Rattle.fr_precision.specs.Reception.{LeavesRoom}
 use Rattle.fr_sharp.specs.SharpBounds.{rate_walk, sharp_near, wide_change}
@@ -26,9 +27,27 @@ abbrev pub sharp_holds_of : ℕ → ℕ → ℕ → Values → Bool
 sharp_holds_of (suc zero) flutter reach p = nat_le (sharp_right_of 1 flutter reach p) (sharp_left_of 1 p)
 sharp_holds_of other flutter reach p = settle_holds_of other reach p
 
+-- both sides of a check, and whether it holds
+pub record IsSharpCheckFor (number flutter reach : ℕ) (p : Values) (sides : CheckSides) : Type 0 where
+  pub left : sides.left ≡ pos (sharp_left_of number p)
+  pub right : sides.right ≡ pos (sharp_right_of number flutter reach p)
+  pub holds : sides.holds ≡ sharp_holds_of number flutter reach p
+
+-- with how far action points lie apart in sharp sync for the reach
+abbrev pub IsSharpCheckOf : ℕ → Bool → ℕ → Values → CheckSides → Type 0
+IsSharpCheckOf number beside flutter p sides = IsSharpCheckFor number flutter (sharp_near beside p flutter) p sides
+
 -- all but the first hold
 abbrev pub SharpChecksHold : ℕ → ℕ → Values → Type 0
 SharpChecksHold flutter reach p = (k : ℕ) → 2 ≤ k → k ≤ 5 → sharp_holds_of k flutter reach p ≡ true
+
+-- the one of this number fails, and those from the second to the one before it hold
+pub record FirstSharpFailing (number : ℕ) (beside : Bool) (flutter : ℕ) (p : Values) : Type 0 where
+  pub from : 2 ≤ number
+  pub to : number ≤ 5
+  pub fails : sharp_holds_of number flutter (sharp_near beside p flutter) p ≡ false
+  pub earlier :
+      (k : ℕ) → 2 ≤ k → k < number → sharp_holds_of k flutter (sharp_near beside p flutter) p ≡ true
 
 -- in a double cycle the lengths leave their range by no more than this, whatever the microtick of a receiver: the flutter,
 -- the changes and what arrivals are rounded by, less the damping in microticks

@@ -1,10 +1,13 @@
 //! Why clocks keep a sharper precision where delays change little from one cycle of a double cycle to the next: laws over
 //! rows and values, and over the lawful histories of runs that no node joins, without arbitrary nodes and beside them.
-//! Nothing here runs.
+//! The bounds, the checks and how long they hold are computed here too.
 #![tactic(auto)]
 
+mod bounding;
 mod bounds;
+mod checking;
 mod ends;
+mod files;
 mod hearing;
 mod histories;
 mod lasting;
@@ -16,13 +19,19 @@ mod settling;
 mod steady;
 mod steady_runs;
 mod step;
+mod tested;
+mod way;
 mod worked_run;
 
+pub use bounding::{SharpValues, sharp_bounds, sharp_lasts};
 pub use bounds::{sharp_bounds_are_below, sharp_checks_suffice, walks_are_bounded};
+pub use checking::{sharp_checks, sharp_side};
 pub use ends::ends_come_near;
+pub use files::{covered_files_keep_sharply, files_are_steady, files_keep_sharp_precision};
 pub use hearing::rounds_are_heard_steadily;
 pub use histories::{
-    histories_come_into_sharp_sync, histories_keep_sharp_sync, stated_runs_are_steady,
+    histories_come_into_sharp_sync, histories_keep_sharp_sync, histories_settle_sharply,
+    stated_runs_are_steady,
 };
 pub use lasting::sharp_sync_lasts;
 pub use lengths::{lengths_come_near, ranges_walk};
@@ -33,4 +42,6 @@ pub use settling::sharp_spreads_settle;
 pub use steady::{pairs_are_steady, steady_values_place};
 pub use steady_runs::runs_hear_steadily;
 pub use step::{sharp_spreads_shrink, sharp_sync_is_kept};
+pub use tested::{one_first_sharp_sync, sharp_sync_is_tested};
+pub use way::{SharpWay, sharp_settle};
 pub use worked_run::a_steady_run;

@@ -1,0 +1,24 @@
+-- What a request for the report of a run reads, and writes: what is kept of the run, in the older sense and in the sharper one.
+use Rattle.std.specs.Prelude.{ℕ, pos, List}
+use Rattle.fr_cluster.specs.Values.{Values}
+use Rattle.fr_coverage.specs.Decided.{setting_of}
+use Rattle.fr_drift.specs.View.{DriftView}
+use Rattle.fr_program.specs.Command.{Command}
+use Rattle.fr_report.specs.Files.{run_command}
+use Rattle.fr_report.specs.Names.{RunNames}
+use Rattle.fr_report.specs.RunText.{IsRunText}
+use Rattle.fr_script.specs.View.{ScriptView}
+use Rattle.fr_sharp.specs.SharpHistories.{IsInSharpSyncAt}
+use Rattle.fr_sharp.specs.SharpStatement.{has_arbitrary, IsSharplyCovered, KeepsSharply}
+
+-- a text is the report of the run that the files decide, with the promise of it; and where they are sharply covered, with any
+-- flutter in ticks, the same run keeps the sharper precision from each double cycle in sharp sync on
+pub record IsKeptRunText (params : Values) (drift : DriftView) (script : ScriptView) (text : List ℕ) : Type 0 where
+  pub report : IsRunText params drift script text
+  pub sharply :
+      (flutter double : ℕ) → IsSharplyCovered params drift script flutter
+      → IsInSharpSyncAt (has_arbitrary params script) params flutter (pos 0) report.cycles double
+      → KeepsSharply (has_arbitrary params script) (setting_of params drift script) flutter report.cycles double
+
+abbrev pub kept_run_command : RunNames → Command
+kept_run_command names = run_command IsKeptRunText names

@@ -1,0 +1,199 @@
+-- The run that files decide is a steady one where it has no gap but of the checks, and keeps the sharper precision where it is
+-- sharply covered.
+use Rattle.std.proofs.Common.{◌≡◌, ℕ, suc, ◌+◌, ◌*◌, ◌-◌, ◌<◌, ◌≤◌, ◌==◌, ℤ, pos, Bool, true, false, ◌&&◌, not, Option, Some, None, List, [], ◌∷◌, refl, sym, ◌∙◌, subst, ◌⊎◌, inl, inr, arith}
+use Rattle.std.specs.Prelude.{◌-ℤ◌, ◌≤ℤ◌, ◌/◌, nat_abs, int_le, Contains, count_by, is_some}
+use Rattle.std.specs.List.{list_any}
+use Rattle.std.proofs.lemmas.Bool.{and_parts, cases_eq, eq-eqb, ne_eqb, not-true, or_parts}
+use Rattle.std.proofs.lemmas.Int.{ints}
+use Rattle.fr_base.specs.Within.{IsWithin}
+use Rattle.fr_base.specs.declared.channel.Channel.{Channel}
+use Rattle.fr_cluster.proofs.Elements.{kept_filtered}
+use Rattle.fr_cluster.specs.Questions.{has_channel}
+use Rattle.fr_cluster.specs.Setting.{is_correct}
+use Rattle.fr_cluster.specs.Values.{Values}
+use Rattle.fr_cluster.specs.declared.nodes.NodeSpec.{NodeSpec}
+use Rattle.fr_midpoint.proofs.Counts.{count_by-cons_no}
+use Rattle.fr_drift.specs.Questions.{delay_of, doubles_of}
+use Rattle.fr_drift.specs.View.{DriftView}
+use Rattle.fr_script.specs.View.{ScriptView, is_arbitrary}
+use Rattle.fr_coverage.specs.Decided.{setting_of}
+use Rattle.fr_coverage.specs.Flutter.{flutter_of, FluttersBy}
+use Rattle.fr_coverage.specs.Links.{is_link, is_sync, shares}
+use Rattle.fr_coverage.proofs.Flutters.{flutter_is_greatest}
+use Rattle.fr_history.specs.Cycles.{Cycles}
+use Rattle.fr_runs.specs.Links.{IsLinked, Share}
+use Rattle.fr_runs.proofs.Nodes.{correct_node}
+use Rattle.fr_promise.proofs.Covering.{few_nodes, nodes_keep_within, HaveNoGapOfRun}
+use Rattle.fr_sharp.specs.Flutter.{FluttersWithin}
+use Rattle.fr_sharp.specs.Lengths.{walked_after}
+use Rattle.fr_sharp.specs.SharpBounds.{rate_room, rate_walk, sharp_near, sharp_precision, walk_lasts}
+use Rattle.fr_sharp.specs.SharpChecks.{sharp_holds_of, SharpChecksHold}
+use Rattle.fr_sharp.specs.SharpFiles.{ArbitraryIsTold, CoveredFilesKeepSharply, FilesAreSteady, FilesFlutter, FilesGiveSteadyRuns, FirstCheckLastsOn}
+use Rattle.fr_sharp.specs.SharpHistories.{IsInSharpSyncAt, IsSteadyRun, KeepsApart, StaysInSharpSyncAt}
+use Rattle.fr_sharp.specs.SharpStatement.{has_arbitrary, FilesKeepSharpPrecision, KeepsSharply}
+use Rattle.fr_sharp.specs.SteadyRuns.{MayHaveArbitrary}
+use Rattle.fr_sharp.proofs.BoundLemmas.{first_check_stops_walk}
+use Rattle.fr_sharp.proofs.OlderLemmas.{does_not_walk}
+use Rattle.fr_sharp.proofs.RunCycles.{histories_keep_sharp_precision}
+use Rattle.fr_sharp.proofs.RunSync.{histories_keep_sharp_sync_lem}
+
+-- ---- flutter
+
+within_if : (z : ℤ) (bound : ℕ) → nat_abs z ≤ bound → IsWithin (pos bound) z
+within_if z bound le = record { low = omega (arith, ints); high = omega (arith, ints) }
+
+amount_within : (z : ℤ) (bound : ℕ) → IsWithin (pos bound) z → nat_abs z ≤ bound
+amount_within z bound w = let low = w.low in let high = w.high in omega (arith, ints)
+
+module _ (p : Values) (d : DriftView) (s : ScriptView) where
+  -- a frame that counts, with the difference of its delays
+  flutters_by : (sender receiver : NodeSpec) (slot : ℕ) (ch : Channel) (double : ℕ) → IsLinked (setting_of p d s) sender receiver slot → Share sender receiver ch → double < doubles_of d
+      → FluttersBy p d s (nat_abs (delay_of d sender.id receiver.id ch (suc (2 * double)) -ℤ delay_of d sender.id receiver.id ch (2 * double)))
+  flutters_by sender receiver slot ch double link share within =
+      let sends = correct_node (setting_of p d s) sender link.sends in
+      let hears = correct_node (setting_of p d s) receiver link.hears in
+      let is : is_link s sender receiver ≡ true = rw (link.key, sends.correct, hears.correct, ne_eqb sender.id receiver.id link.other) refl in
+      let both : shares sender receiver ch ≡ true = rw (share.by_sender, share.by_receiver) refl in
+      record {
+        sender = sender;
+        receiver = receiver;
+        sender_there = sends.there;
+        receiver_there = hears.there;
+        link = is;
+        ch = ch;
+        shared = both;
+        double = double;
+        within = within;
+        differs = refl;
+      }
+
+  -- and the other way round
+  keyed : (o : Option ℕ) → is_some o ≡ true → (slot : ℕ) × (o ≡ Some slot)
+  keyed None is = absurd (cc)
+  keyed (Some slot) is = (slot, refl)
+
+  linked : (sender receiver : NodeSpec) → Contains p.nodes sender → Contains p.nodes receiver → is_link s sender receiver ≡ true → (slot : ℕ) × IsLinked (setting_of p d s) sender receiver slot
+  linked sender receiver first second is =
+      let last = and_parts (is_sync sender && not (is_arbitrary s sender.id) && not (is_arbitrary s receiver.id)) (not (sender.id == receiver.id)) is in
+      let hears = and_parts (is_sync sender && not (is_arbitrary s sender.id)) (not (is_arbitrary s receiver.id)) last.0 in
+      let sends = and_parts (is_sync sender) (not (is_arbitrary s sender.id)) hears.0 in
+      let slot = keyed sender.key sends.0 in
+      let apart : (sender.id == receiver.id) ≡ false = not-true (sender.id == receiver.id) last.1 in (
+        slot.0,
+        record {
+          sends = kept_filtered (λ (n : NodeSpec). is_correct (setting_of p d s) n.id) p.nodes sender first sends.1;
+          hears = kept_filtered (λ (n : NodeSpec). is_correct (setting_of p d s) n.id) p.nodes receiver second hears.1;
+          key = slot.1;
+          other = λ same. let e = sym (eq-eqb sender.id receiver.id same) ∙ apart in absurd (cc);
+        },
+      )
+
+  flutter_within : (flutter : ℕ) → flutter_of p d s ≤ flutter → FluttersWithin (setting_of p d s) flutter
+  flutter_within flutter le sender receiver slot ch double link share within =
+      let apart = delay_of d sender.id receiver.id ch (suc (2 * double)) -ℤ delay_of d sender.id receiver.id ch (2 * double) in
+      let most : nat_abs apart ≤ flutter_of p d s = (flutter_is_greatest p d s).most (nat_abs apart) (flutters_by sender receiver slot ch double link share within) in
+      within_if apart flutter (omega (arith, most, le))
+
+  within_flutter : (flutter : ℕ) → FluttersWithin (setting_of p d s) flutter → flutter_of p d s ≤ flutter
+  within_flutter flutter w = by (flutter_is_greatest p d s).reached
+    where
+      by : (flutter_of p d s ≡ 0) ⊎ FluttersBy p d s (flutter_of p d s) → flutter_of p d s ≤ flutter
+      by (inl none) = omega (arith, none)
+      by (inr f) =
+          let on = linked f.sender f.receiver f.sender_there f.receiver_there f.link in
+          let both = and_parts (has_channel (Some f.sender) f.ch) (has_channel (Some f.receiver) f.ch) f.shared in
+          let apart = delay_of d f.sender.id f.receiver.id f.ch (suc (2 * f.double)) -ℤ delay_of d f.sender.id f.receiver.id f.ch (2 * f.double) in
+          let near : IsWithin (pos flutter) apart = w f.sender f.receiver on.0 f.ch f.double on.1 (record { by_sender = both.0; by_receiver = both.1 }) f.within in
+          subst (λ (n : ℕ). n ≤ flutter) f.differs (amount_within apart flutter near)
+
+pub files_flutter : FilesFlutter
+files_flutter p d s flutter = (λ w. within_flutter p d s flutter w, λ le. flutter_within p d s flutter le)
+
+-- ---- steady runs
+
+pub files_are_steady : FilesAreSteady
+files_are_steady p d s flutter sane none le =
+    let w : HaveNoGapOfRun p d s = record { sane = sane; none = none } in
+    let within = nodes_keep_within p d s w in
+    record {
+      sane = sane;
+      few = few_nodes p d s w;
+      least = within.least;
+      most = within.most;
+      changes = within.changes;
+      delays = within.delays;
+      links = within.links;
+      flutters = flutter_within p d s flutter le;
+    }
+
+none_counted : {X : Type 0} (test : X → Bool) (xs : List X) → list_any test xs ≡ false → count_by test xs ≡ 0
+none_counted test [] is = refl
+none_counted test (x ∷ xs) is =
+    let parts = or_parts (test x) (list_any test xs) is in
+    count_by-cons_no test x xs parts.0 ∙ none_counted test xs parts.1
+
+pub arbitrary_is_told : ArbitraryIsTold
+arbitrary_is_told p d s = by (has_arbitrary p s) refl
+  where
+    by : (b : Bool) → has_arbitrary p s ≡ b → MayHaveArbitrary b (setting_of p d s)
+    by true is = tt
+    by false is = none_counted (λ (node : NodeSpec). is_sync node && is_arbitrary s node.id) p.nodes is
+
+pub files_give_steady_runs : FilesGiveSteadyRuns
+files_give_steady_runs p d s flutter h sane none le alone run = record {
+  covered = files_are_steady p d s flutter sane none le;
+  arbitrary = arbitrary_is_told p d s;
+  none_joins = alone;
+  lawful = run.lawful;
+  whole = run.whole;
+}
+
+-- ---- what they keep
+
+pub first_check_lasts_on : FirstCheckLastsOn
+first_check_lasts_on p flutter reach sane = (λ holds. does_not_walk p flutter ((first_check_stops_walk p flutter reach sane).0 holds), λ still. (first_check_stops_walk p flutter reach sane).1 (stands p flutter still))
+  where
+    stands : (p : Values) (flutter : ℕ) → walk_lasts p flutter ≡ None → rate_walk p flutter ≤ℤ pos 0
+    stands p flutter still = by (int_le (rate_walk p flutter) (pos 0)) refl
+      where
+        by : (b : Bool) → int_le (rate_walk p flutter) (pos 0) ≡ b → rate_walk p flutter ≤ℤ pos 0
+        by true is = grind (arith, ints)
+        by false is =
+            let some : walk_lasts p flutter ≡ Some (rate_room p / nat_abs (rate_walk p flutter)) = rw is refl in
+            let e = sym some ∙ still in absurd (cc)
+
+module _ (beside : Bool) (p : Values) (d : DriftView) (s : ScriptView) (flutter : ℕ) (h : Cycles) (double : ℕ) (run : IsSteadyRun beside (setting_of p d s) flutter h)
+    (checks : SharpChecksHold flutter (sharp_near beside p flutter) p) (sync : IsInSharpSyncAt beside p flutter (pos 0) h double) where
+  stays : (k : ℕ) → double ≤ k → k < doubles_of d → StaysInSharpSyncAt beside (setting_of p d s) flutter h double (k - double)
+  stays k from within = histories_keep_sharp_sync_lem beside (setting_of p d s) flutter h double run checks sync (k - double) (omega (arith, from, within))
+
+  all_checks : sharp_holds_of 1 flutter (sharp_near beside p flutter) p ≡ true → (k : ℕ) → 1 ≤ k → k ≤ 5 → sharp_holds_of k flutter (sharp_near beside p flutter) p ≡ true
+  all_checks first k from to = by (cases_eq k 1)
+    where
+      by : (k ≡ 1) ⊎ (k ≡ 1 → ⊥) → sharp_holds_of k flutter (sharp_near beside p flutter) p ≡ true
+      by (inl one) = let Holds : ℕ → Type 0 = λ n. sharp_holds_of n flutter (sharp_near beside p flutter) p ≡ true in subst Holds (sym one) first
+      by (inr more) = checks k (omega (arith, from, more)) to
+
+  pub keeps_sharply : KeepsSharply beside (setting_of p d s) flutter h double
+  keeps_sharply = record {
+    keeps =
+        λ k from within lasts.
+        let same : double + (k - double) ≡ k = omega (arith, from) in
+        let At : ℕ → Type 0 = λ m. KeepsApart (setting_of p d s) h m (sharp_precision beside p flutter) in
+        subst At same ((stays k from within).keeps lasts);
+    synced =
+        λ k from within lasts.
+        let same : double + (k - double) ≡ k = omega (arith, from) in
+        let At : ℕ → Type 0 = λ m. IsInSharpSyncAt beside p flutter (walked_after p flutter (k - double)) h m in
+        subst At same ((stays k from within).synced lasts);
+    always = λ first. histories_keep_sharp_precision beside (setting_of p d s) flutter h double run (all_checks first) sync;
+  }
+
+pub covered_files_keep_sharply : CoveredFilesKeepSharply
+covered_files_keep_sharply p d s flutter h double sane covered run sync =
+    keeps_sharply (has_arbitrary p s) p d s flutter h double
+    (files_give_steady_runs p d s flutter h sane covered.none covered.flutters covered.none_joins run) covered.checks sync
+
+pub files_keep_sharp_precision : FilesKeepSharpPrecision
+files_keep_sharp_precision p d s drift script flutter h double sane drift_file script_file covered run sync =
+    covered_files_keep_sharply p d s flutter h double sane covered run sync

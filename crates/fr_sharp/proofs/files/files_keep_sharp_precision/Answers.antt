@@ -1,0 +1,5 @@
+use Rattle.fr_sharp.proofs.FromFiles.{files_keep_sharp_precision as files_keep_sharp_precision_lem}
+use Rattle.fr_sharp.proofs.files.files_keep_sharp_precision.Goals as goal
+
+pub returns : goal.returns
+returns c = files_keep_sharp_precision_lem

@@ -1,0 +1,51 @@
+-- What the sharper promise rests on, whatever the bytes of the files are: a run that is sharply covered is a steady one.
+use Rattle.std.specs.Prelude.{◌≡◌, ◌↔◌, ◌≤◌, ℕ, pos, true, false, None}
+use Rattle.fr_cluster.specs.Values.{Values}
+use Rattle.fr_cluster.specs.Sane.{IsSane}
+use Rattle.fr_drift.specs.View.{DriftView}
+use Rattle.fr_script.specs.View.{ScriptView}
+use Rattle.fr_coverage.specs.Decided.{setting_of}
+use Rattle.fr_coverage.specs.Flutter.{flutter_of}
+use Rattle.fr_coverage.specs.Order.{HasNoGapOfRun}
+use Rattle.fr_history.specs.Cycles.{Cycles, some_joins}
+use Rattle.fr_promise.specs.Statement.{IsRunOf}
+use Rattle.fr_sharp.specs.Flutter.{FluttersWithin}
+use Rattle.fr_sharp.specs.SharpBounds.{walk_lasts}
+use Rattle.fr_sharp.specs.SharpChecks.{sharp_holds_of}
+use Rattle.fr_sharp.specs.SharpHistories.{IsInSharpSyncAt, IsSteadyRun}
+use Rattle.fr_sharp.specs.SharpStatement.{has_arbitrary, IsSharplyCovered, KeepsSharply}
+use Rattle.fr_sharp.specs.SteadyRuns.{IsSteadySetting, MayHaveArbitrary}
+
+-- the delays of the run that files decide flutter by no more than a number, in ticks, exactly where its flutter is no more
+abbrev pub FilesFlutter : Type 0
+FilesFlutter =
+    (p : Values) (d : DriftView) (s : ScriptView) (flutter : ℕ) → FluttersWithin (setting_of p d s) flutter ↔ (flutter_of p d s ≤ flutter)
+
+-- where sane parameters, a drift and a script have no gap but of the checks, and the flutter is no more than this, the run is a
+-- steady one; without an arbitrary sync node where the script has none
+abbrev pub FilesAreSteady : Type 0
+FilesAreSteady =
+    (p : Values) (d : DriftView) (s : ScriptView) (flutter : ℕ)
+    → IsSane p → HasNoGapOfRun p d s → flutter_of p d s ≤ flutter → IsSteadySetting (setting_of p d s) flutter
+
+abbrev pub ArbitraryIsTold : Type 0
+ArbitraryIsTold = (p : Values) (d : DriftView) (s : ScriptView) → MayHaveArbitrary (has_arbitrary p s) (setting_of p d s)
+
+abbrev pub FilesGiveSteadyRuns : Type 0
+FilesGiveSteadyRuns =
+    (p : Values) (d : DriftView) (s : ScriptView) (flutter : ℕ) (h : Cycles)
+    → IsSane p → HasNoGapOfRun p d s → flutter_of p d s ≤ flutter → some_joins (setting_of p d s) ≡ false
+    → IsRunOf (setting_of p d s) h → IsSteadyRun (has_arbitrary p s) (setting_of p d s) flutter h
+
+-- so it keeps the sharper precision from each double cycle in sharp sync on, if it is sharply covered
+abbrev pub CoveredFilesKeepSharply : Type 0
+CoveredFilesKeepSharply =
+    (p : Values) (d : DriftView) (s : ScriptView) (flutter : ℕ) (h : Cycles) (double : ℕ)
+    → IsSane p → IsSharplyCovered p d s flutter → IsRunOf (setting_of p d s) h
+    → IsInSharpSyncAt (has_arbitrary p s) p flutter (pos 0) h double
+    → KeepsSharply (has_arbitrary p s) (setting_of p d s) flutter h double
+
+-- the walk lasts on and on exactly where the first of the sharper checks holds
+abbrev pub FirstCheckLastsOn : Type 0
+FirstCheckLastsOn =
+    (p : Values) (flutter reach : ℕ) → IsSane p → (sharp_holds_of 1 flutter reach p ≡ true) ↔ (walk_lasts p flutter ≡ None)

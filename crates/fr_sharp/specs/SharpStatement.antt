@@ -1,0 +1,59 @@
+-- What `sharp covered yes` and `sharp synced DOUBLE` promise. The words of it, from the top: `IsLawful` (what a run is),
+-- `IsSharplyCovered` (what is asked of the files), `sharp_precision`, `IsInSharpSyncAt`, `walk_lasts`, `KeepsApart`.
+use Rattle.std.specs.Prelude.{◌≡◌, ◌<◌, ◌≤◌, ◌-◌, ℕ, pos, Bool, true, false, ◌&&◌, List}
+use Rattle.std.specs.List.{list_any}
+use Rattle.fr_cluster.specs.Sane.{IsSane}
+use Rattle.fr_cluster.specs.Setting.{Setting}
+use Rattle.fr_cluster.specs.Values.{Values}
+use Rattle.fr_drift.specs.Files.{IsDriftFile}
+use Rattle.fr_drift.specs.View.{DriftView}
+use Rattle.fr_script.specs.Files.{IsScriptFile}
+use Rattle.fr_script.specs.View.{ScriptView, is_arbitrary}
+use Rattle.fr_coverage.specs.Coverage.{some_join}
+use Rattle.fr_coverage.specs.Decided.{setting_of}
+use Rattle.fr_coverage.specs.Flutter.{flutter_of}
+use Rattle.fr_coverage.specs.Links.{is_sync}
+use Rattle.fr_coverage.specs.Order.{HasNoGapOfRun}
+use Rattle.fr_history.specs.Cycles.{Cycles}
+use Rattle.fr_promise.specs.Statement.{IsRunOf}
+use Rattle.fr_sharp.specs.Lengths.{walked_after}
+use Rattle.fr_sharp.specs.SharpBounds.{sharp_near, sharp_precision}
+use Rattle.fr_sharp.specs.SharpChecks.{sharp_holds_of, SharpChecksHold}
+use Rattle.fr_sharp.specs.SharpHistories.{IsInSharpSyncAt, KeepsApart, KeepsSharpPrecision}
+use Rattle.fr_sharp.specs.SharpRun.{WalkLastsAfter, WalkLastsUpTo}
+
+-- whether some node with a key slot is arbitrary
+abbrev pub has_arbitrary : Values → ScriptView → Bool
+has_arbitrary p s = list_any (λ node. is_sync node && is_arbitrary s node.id) p.nodes
+
+-- of the sharper checks those from 2 to 5 hold, with action points no further apart than in sharp sync; no correct node joins; the
+-- run itself has no gap; and its delays flutter by no more than so many ticks
+pub record IsSharplyCovered (p : Values) (d : DriftView) (s : ScriptView) (flutter : ℕ) : Type 0 where
+  pub checks : SharpChecksHold flutter (sharp_near (has_arbitrary p s) p flutter) p
+  pub none_joins : some_join p s ≡ false
+  pub none : HasNoGapOfRun p d s
+  pub flutters : flutter_of p d s ≤ flutter
+
+-- what is kept from a double cycle on
+pub record KeepsSharply (beside : Bool) (x : Setting) (flutter : ℕ) (h : Cycles) (double : ℕ) : Type 0 where
+  -- in each double cycle of the run, as long as the rate limit holds the walk since then (on and on where it lasts without a
+  -- number), no corresponding macroticks lie further apart than the sharper precision, in ticks, no term is cut or missing, and
+  -- each correct node is active behind it
+  pub keeps :
+      (k : ℕ) → double ≤ k → k < x.doubles → WalkLastsAfter x.params flutter (k - double)
+      → KeepsApart x h k (sharp_precision beside x.params flutter)
+  -- and each is in sharp sync, behind the last of those too
+  pub synced :
+      (k : ℕ) → double ≤ k → k < x.doubles → WalkLastsUpTo x.params flutter (k - double)
+      → IsInSharpSyncAt beside x.params flutter (walked_after x.params flutter (k - double)) h k
+  -- where the first of the sharper checks holds too it is so by the cycle, to the end of the run
+  pub always :
+      sharp_holds_of 1 flutter (sharp_near beside x.params flutter) x.params ≡ true → KeepsSharpPrecision beside x flutter h double
+
+-- the promise: of three accepted files that are sharply covered, from each double cycle in sharp sync on
+abbrev pub FilesKeepSharpPrecision : Type 0
+FilesKeepSharpPrecision =
+    (p : Values) (d : DriftView) (s : ScriptView) (drift script : List ℕ) (flutter : ℕ) (h : Cycles) (double : ℕ)
+    → IsSane p → IsDriftFile p d drift → IsScriptFile p s script → IsSharplyCovered p d s flutter → IsRunOf (setting_of p d s) h
+    → IsInSharpSyncAt (has_arbitrary p s) p flutter (pos 0) h double
+    → KeepsSharply (has_arbitrary p s) (setting_of p d s) flutter h double

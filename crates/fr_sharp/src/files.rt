@@ -1,0 +1,26 @@
+ghost use Rattle.fr_sharp.specs.SharpFiles.{ArbitraryIsTold, CoveredFilesKeepSharply, FilesAreSteady, FilesFlutter, FilesGiveSteadyRuns, FirstCheckLastsOn};
+ghost use Rattle.fr_sharp.specs.SharpStatement.{FilesKeepSharpPrecision};
+
+/// The promise: the run that three accepted files decide, where they are sharply covered, keeps the sharper precision from
+/// each double cycle in sharp sync on, for as many double cycles as the rate limit holds the walk, and to the end of the run
+/// where the first of the sharper checks holds: no corresponding macroticks lie further apart, in ticks, no term is cut or
+/// missing, and every correct node is active.
+pub fn files_keep_sharp_precision()
+    ensures { FilesKeepSharpPrecision }
+{}
+
+/// A law: so it is of any sane parameters, drift and script that are sharply covered.
+pub fn covered_files_keep_sharply()
+    ensures keep { CoveredFilesKeepSharply }
+    ensures lasts { FirstCheckLastsOn }
+{}
+
+/// A law: where sane parameters, a drift and a script have no gap but of the checks, the run is a steady one for any flutter,
+/// in ticks, that is not below its own; it has no arbitrary sync node where the script has none. Its delays flutter by no
+/// more than a number exactly where its own flutter is no more.
+pub fn files_are_steady()
+    ensures flutter { FilesFlutter }
+    ensures setting { FilesAreSteady }
+    ensures arbitrary { ArbitraryIsTold }
+    ensures run { FilesGiveSteadyRuns }
+{}
