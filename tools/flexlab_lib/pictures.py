@@ -85,18 +85,13 @@ def sharp_cycle(run):
     return None if first is None else 2 * first
 
 
-def begins(run):
-    """(first cycle, what is so from it on) of what the picture marks: sharp sync where its precision is drawn."""
-    if sharp_cycle(run) is not None:
-        return sharp_cycle(run), "in sharp sync"
-    return (None, "") if run.report.in_sync is None else (2 * run.report.in_sync, "in sync")
-
-
-def marked_skew(run):
-    """(name, (skew, cycle, macrotick)) of the dot."""
-    if sharp_cycle(run) is not None:
-        return "in sharp sync", skew_of(run)
-    return ("in sync" if run.lost is None else "since sync"), run.in_sync_skew
+def marks(run):
+    """(first cycle, what is so from it on, the dot as (skew, cycle, macrotick), what it is in): sharp sync where the sharper
+    precision alone is drawn, else sync."""
+    if sharp_cycle(run) is not None and run.report.gap is not None:
+        return sharp_cycle(run), "in sharp sync", skew_of(run), "in sharp sync"
+    first = None if run.report.in_sync is None else 2 * run.report.in_sync
+    return first, "in sync", run.in_sync_skew, "in sync" if run.lost is None else "since sync"
 
 
 def skew_script(run):
@@ -116,7 +111,7 @@ def skew_script(run):
              "set x2tics nomirror\nset x2label 'milliseconds'\nset border 7\nset lmargin 9",
              "set logscale y" if wide else f"set yrange [0:{decimal(top, 6)}]",
              UPPER]
-    first, what_begins = begins(run)
+    first, what_begins, dot, name = marks(run)
     if first is not None:
         lines += [f"set object 1 rectangle from graph 0, graph 0 to first {first}, graph 1 fillcolor '#f3e9d8' "
                   "fillstyle solid noborder behind" if first else "",
@@ -135,7 +130,6 @@ def skew_script(run):
     plots = [*(f"$bound{at} using 1:2 title '{name}, {decimal(value, 3)} us' with lines linewidth 2 linecolor '{colour}'"
                for at, (name, value, _, colour) in enumerate(bounds)),
              f"$skew using 1:2 title '{what}' with lines linewidth 1.5 linecolor '#0072b2'"]
-    name, dot = marked_skew(run)
     if dot:
         skew, cycle, _ = dot
         value = us_of_ticks(skew, unit)

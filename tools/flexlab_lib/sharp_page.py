@@ -38,6 +38,10 @@ def sync_words(run, ms_of_cycle):
 
     if lost is None:
         return f"yes, from double cycle {first} on ({place(first)}), and still so at the end"
+    # What is proved of a walk leaves lengths within their range out alone.
+    if gap_of(run) == (True, None) and lost < (ends_of(run) or run.report.doubles):
+        return (f"yes, from double cycle {first} on ({place(first)}), but for lengths that leave their range from double cycle "
+                f"{lost} on ({place(lost)})")
     return f"NOT ALL THE WAY: from double cycle {first} on ({place(first)}) at first; lost in double cycle {lost} ({place(lost)})"
 
 

@@ -427,7 +427,8 @@ def summary(folder, plan, lines):
     if not order:
         return
     covered, sharply_covered = (sum(line.get(name) == "yes" for line in order) for name in ("covered", "sharply_covered"))
-    both = f"{covered} of them covered" + (f", {sharply_covered} sharply" if any(line.get("sharply_covered") for line in order) else "")
+    both = f"{covered} of them covered"
+    both += f", {sharply_covered} sharply" if any(line.get("sharply_covered") for line in order) else ""
     name = next(name for name in WORST if order[0].get(name))
     values = sorted(worth(line) for line in order)
     most = values[-(-99 * len(values) // 100) - 1]
