@@ -143,10 +143,10 @@ class Pages(Bench):
                 self.assertIn(told, page)
 
     def test_advice_is_tried_and_holds(self):
-        page = self.page(edited(("pClusterDriftDamping = 5", "pClusterDriftDamping = 4"),
-                                ("pOffsetCorrectionOut = 320", "pOffsetCorrectionOut = 254")))
+        page = self.page(edited(("pClusterDriftDamping = 5", "pClusterDriftDamping = 1"),
+                                ("pOffsetCorrectionOut = 320", "pOffsetCorrectionOut = 60")))
         self.assertIn("check C1 fails:", page)
-        self.assertIn("turn pClusterDriftDamping: it is 4, and with all else as it is C1 asks for 5 at least", page)
+        self.assertIn("turn pClusterDriftDamping: it is 1, and with all else as it is C1 asks for 2 at least", page)
         found = re.search(r"all checks hold with ((?:\w+ = \d+(?:, )?)+)", page)
         self.assertIsNotNone(found, page)
         text, values = EXAMPLE, dict(re.findall(r"(\w+) = (\d+)", found[1]))
@@ -164,20 +164,20 @@ class Pages(Bench):
         page = self.page(edited(*late))
         told = re.search(r"asks for an earlier gOffsetCorrectionStart, (\d+) at most", page)
         self.assertIsNotNone(told, page)
-        self.assertIn(f"all checks hold with gOffsetCorrectionStart = {told[1]}, pOffsetCorrectionOut = 318. ", page)
+        self.assertIn(f"all checks hold with gOffsetCorrectionStart = {told[1]}, pOffsetCorrectionOut = 125. ", page)
         for start, status in ((int(told[1]), 0), (int(told[1]) + 1, 1)):
-            self.write("a.toml", edited(("pOffsetCorrectionOut = 320", "pOffsetCorrectionOut = 318"),
+            self.write("a.toml", edited(("pOffsetCorrectionOut = 320", "pOffsetCorrectionOut = 125"),
                                         ("gOffsetCorrectionStart = 4900", f"gOffsetCorrectionStart = {start}")))
             self.flexlab("run", "a.toml", status=status)
 
     def test_each_check_has_its_parameter(self):
         for old, new, told in (
-                ("pClusterDriftDamping = 5", "pClusterDriftDamping = 3", "C1 fails"),
+                ("pClusterDriftDamping = 5", "pClusterDriftDamping = 1", "C1 fails"),
                 ("pRateCorrectionOut = 81", "pRateCorrectionOut = 70", "turn pRateCorrectionOut: it is 70"),
-                ("pOffsetCorrectionOut = 320", "pOffsetCorrectionOut = 300", "turn pOffsetCorrectionOut: it is 300"),
-                ("gdActionPointOffset = 10", "gdActionPointOffset = 5", "turn gdActionPointOffset: it is 5"),
-                ("gdActionPointOffset = 10", "gdActionPointOffset = 45", "turn gdStaticSlot: it is 50, and with "
-                                                                         "all else as it is C5 asks for 53 at least")):
+                ("pOffsetCorrectionOut = 320", "pOffsetCorrectionOut = 100", "turn pOffsetCorrectionOut: it is 100"),
+                ("gdActionPointOffset = 10", "gdActionPointOffset = 2", "turn gdActionPointOffset: it is 2"),
+                ("gdActionPointOffset = 10", "gdActionPointOffset = 48", "turn gdStaticSlot: it is 50, and with "
+                                                                         "all else as it is C5 asks for 52 at least")):
             with self.subTest(new=new):
                 self.assertIn(told, self.page(edited((old, new))))
 
