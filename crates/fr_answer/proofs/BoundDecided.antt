@@ -1,5 +1,5 @@
 -- The bytes of a file decide its bounds.
-use Rattle.std.proofs.Common.{◌≡◌, ℕ, ℤ, pos, Option, ap, sym, ◌∙◌, subst, arith}
+use Rattle.std.proofs.Common.{◌≡◌, ℕ, ℤ, true, false, pos, Option, ap, sym, ◌∙◌, subst, arith}
 use Rattle.std.specs.Prelude.{◌≤ℤ◌, nat_abs}
 use Rattle.std.proofs.lemmas.Int.{ints}
 use Rattle.fr_cluster.specs.Values.{Values}
@@ -7,18 +7,24 @@ use Rattle.fr_bound.specs.Settling.{IsPeakTo, IsSettleVerdict}
 use Rattle.fr_bound.specs.declared.settling.Settling.{Settling}
 use Rattle.fr_bound.proofs.Settled.{one_double, one_peak, one_verdict}
 use Rattle.fr_params.specs.Files.{params_file}
+use Rattle.fr_sharp.specs.declared.way.SharpWay.{SharpWay}
+use Rattle.fr_sharp.specs.SharpWay.{OneSharpWay}
 use Rattle.fr_text.specs.Kind.{HasOneAnswer}
 use Rattle.fr_text.specs.Files.{IsDecided}
 use Rattle.fr_text.proofs.Commands.{decided}
-use Rattle.fr_answer.specs.BoundAnswer.{bound_files, join_files}
-use Rattle.fr_answer.specs.SettleAnswer.{IsSettlingFor, settle_files}
+use Rattle.fr_answer.specs.BoundAnswer.{bound_files, join_files, sharp_files}
+use Rattle.fr_answer.specs.SettleAnswer.{IsSettlingFor, settle_files, sharp_settle_files}
 use Rattle.fr_answer.specs.SettleText.{settle_text}
+use Rattle.fr_answer.specs.SharpSettleText.{sharp_settle_text}
 
 pub one_bounds : HasOneAnswer params_file → IsDecided bound_files
 one_bounds one = decided bound_files (one, λ p written again is more. is ∙ sym more)
 
 pub one_join_bounds : HasOneAnswer params_file → IsDecided join_files
 one_join_bounds one = decided join_files (one, λ p written again is more. is ∙ sym more)
+
+pub one_sharp_bounds : HasOneAnswer params_file → (flutter : ℕ) → IsDecided (sharp_files flutter)
+one_sharp_bounds one flutter = decided (sharp_files flutter) (one, λ p written again is more. is ∙ sym more)
 
 -- numbers that are not negative are the same where their amounts are
 same_amount : (a b : ℤ) → pos 0 ≤ℤ a → pos 0 ≤ℤ b → nat_abs a ≡ nat_abs b → a ≡ b
@@ -40,3 +46,18 @@ one_settling_for p start rate one other here there =
 pub one_way : HasOneAnswer params_file → (start rate : ℕ) → IsDecided (settle_files start rate)
 one_way one start rate =
     decided (settle_files start rate) (one, λ p written again is more. is.shown ∙ ap (settle_text start rate) (one_settling_for p start rate is.settling more.settling is.is more.is) ∙ sym more.shown)
+
+same_ways : (one other : SharpWay × SharpWay) → one.0 ≡ other.0 → one.1 ≡ other.1 → one ≡ other
+same_ways one other alone beside =
+    let made : SharpWay → SharpWay → SharpWay × SharpWay = λ a b. (a, b) in
+    ap (λ (a : SharpWay). made a one.1) alone ∙ ap (made other.0) beside
+
+pub one_sharper_way : HasOneAnswer params_file → OneSharpWay → (start rate flutter : ℕ) → IsDecided (sharp_settle_files start rate flutter)
+one_sharper_way one way start rate flutter =
+    decided (sharp_settle_files start rate flutter) (
+      one,
+      λ p written again is more.
+          let ways : is.ways ≡ more.ways =
+          same_ways is.ways more.ways (way false p flutter start rate is.ways.0 more.ways.0 is.are.alone more.are.alone) (way true p flutter start rate is.ways.1 more.ways.1 is.are.beside more.are.beside) in
+          is.shown ∙ ap (sharp_settle_text start rate flutter) ways ∙ sym more.shown,
+    )

@@ -6,6 +6,7 @@ use Rattle.fr_params.specs.Told.{params_says}
 use Rattle.fr_program.specs.Command.{Command}
 use Rattle.fr_text.specs.Files.{Files, IsNeverSaid, file, text}
 use Rattle.fr_answer.specs.BoundText.{bound_text, with_join_text}
+use Rattle.fr_answer.specs.SharpText.{sharp_text}
 
 -- the lines of the parameters in a file
 abbrev pub bound_files : Files
@@ -20,3 +21,10 @@ join_files = file params_file params_says (λ (p : Values). text (λ (written : 
 
 abbrev pub join_command : List ℕ → Command
 join_command name = record { names = name ∷ []; files = join_files }
+
+-- the sharper bounds and checks, where delays flutter by no more than so many ticks
+abbrev pub sharp_files : ℕ → Files
+sharp_files flutter = file params_file params_says (λ (p : Values). text (λ (written : List ℕ). written ≡ sharp_text p flutter) IsNeverSaid)
+
+abbrev pub sharp_command : List ℕ → ℕ → Command
+sharp_command name flutter = record { names = name ∷ []; files = sharp_files flutter }

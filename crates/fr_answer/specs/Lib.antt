@@ -8,3 +8,5 @@ pub mod BoundText
 pub mod SettleAnswer
 pub mod SettleText
 pub mod RunAnswer
+pub mod SharpText
+pub mod SharpSettleText

@@ -8,6 +8,9 @@ use fr_cold::ColdFiles;
 use fr_report::RunFiles;
 use fr_text::natural;
 
+// The greatest flutter that may be stated, in ticks.
+const MOST_FLUTTER: u64 = 20_000_000;
+
 // The greatest number of ticks that may be stated.
 const MOST_STATED: u64 = 1_000_000_000_000;
 
@@ -27,6 +30,11 @@ pub enum Request<'a> {
     BoundJoin {
         file: &'a str,
     },
+    /// Print the sharper bounds and checks, where delays flutter by no more than so many ticks.
+    BoundSharp {
+        file: &'a str,
+        flutter: u64,
+    },
     /// Print the parameters in the file as a file of version 2.
     Upgrade {
         file: &'a str,
@@ -37,6 +45,13 @@ pub enum Request<'a> {
         file: &'a str,
         start: u64,
         rate: u64,
+    },
+    /// Print how long they take until they are in sharp sync, where delays flutter by no more than so many ticks.
+    SettleSharp {
+        file: &'a str,
+        start: u64,
+        rate: u64,
+        flutter: u64,
     },
     /// Run the cluster that the files decide, and print the report.
     Run(RunFiles<'a>),
@@ -64,7 +79,7 @@ pub enum Request<'a> {
 }
 
 /// Reads the words by position. It takes no memory.
-#[tactic(auto, using(crate::proofs::Requests::asks_not_short, crate::proofs::Requests::asks_not_long))]
+#[tactic(auto, using(crate::proofs::Requests::asks_not_short, crate::proofs::Requests::asks_not_five, crate::proofs::Requests::asks_not_long))]
 pub fn request_of(words: &[String]) -> Option<Request<'_>>
     ensures asks { IsRequestOf (texts words.now) result }
     ensures range { IfSome result IsInRange }
@@ -79,6 +94,14 @@ pub fn request_of(words: &[String]) -> Option<Request<'_>>
             first.as_str(),
             second.as_str(),
             third.as_str(),
+        ),
+        [command, first, second, third, fourth, fifth] => request_of_six(
+            command.as_str(),
+            first.as_str(),
+            second.as_str(),
+            third.as_str(),
+            fourth.as_str(),
+            fifth.as_str(),
         ),
         _ => None,
     }
@@ -172,6 +195,19 @@ fn bound_join_request<'a>(file: &'a str, word: &str) -> Option<Request<'a>>
     }
 }
 
+fn bound_sharp_request<'a>(file: &'a str, word: &str, flutter: &str) -> Option<Request<'a>>
+    ensures asks { IsRequestOf (codes "bound" ∷ file.now ∷ word.now ∷ flutter.now ∷ []) result }
+    ensures range { IfSome result IsInRange }
+{
+    match word {
+        "sharp" => match natural(flutter.as_bytes(), 0, MOST_FLUTTER) {
+            Ok(flutter) => Some(Request::BoundSharp { file, flutter }),
+            Err(_) => None,
+        },
+        _ => None,
+    }
+}
+
 fn request_of_four<'a>(
     command: &str,
     first: &'a str,
@@ -193,6 +229,7 @@ fn request_of_four<'a>(
             script: third,
         })),
         "settle" => settle_request(first, second, third),
+        "bound" => bound_sharp_request(first, second, third),
         _ => None,
     }
 }
@@ -204,6 +241,68 @@ fn settle_request<'a>(file: &'a str, start: &str, rate: &str) -> Option<Request<
     match natural(start.as_bytes(), 0, MOST_STATED) {
         Ok(start) => match natural(rate.as_bytes(), 0, MOST_STATED) {
             Ok(rate) => Some(Request::Settle { file, start, rate }),
+            Err(_) => None,
+        },
+        Err(_) => None,
+    }
+}
+
+fn request_of_six<'a>(
+    command: &str,
+    first: &'a str,
+    second: &str,
+    third: &str,
+    fourth: &str,
+    fifth: &str,
+) -> Option<Request<'a>>
+    ensures asks { IsRequestOf
+        (command.now ∷ first.now ∷ second.now ∷ third.now ∷ fourth.now ∷ fifth.now ∷ []) result }
+    ensures range { IfSome result IsInRange }
+{
+    match command {
+        "settle" => settle_by_word(first, second, third, fourth, fifth),
+        _ => None,
+    }
+}
+
+fn settle_by_word<'a>(
+    file: &'a str,
+    start: &str,
+    rate: &str,
+    word: &str,
+    flutter: &str,
+) -> Option<Request<'a>>
+    ensures asks { IsRequestOf
+        (codes "settle" ∷ file.now ∷ start.now ∷ rate.now ∷ word.now ∷ flutter.now ∷ []) result }
+    ensures range { IfSome result IsInRange }
+{
+    match word {
+        "sharp" => settle_sharp_request(file, start, rate, flutter),
+        _ => None,
+    }
+}
+
+fn settle_sharp_request<'a>(
+    file: &'a str,
+    start: &str,
+    rate: &str,
+    flutter: &str,
+) -> Option<Request<'a>>
+    ensures asks { IsRequestOf
+        (codes "settle" ∷ file.now ∷ start.now ∷ rate.now ∷ codes "sharp" ∷ flutter.now ∷ []) result }
+    ensures range { IfSome result IsInRange }
+{
+    match natural(start.as_bytes(), 0, MOST_STATED) {
+        Ok(start) => match natural(rate.as_bytes(), 0, MOST_STATED) {
+            Ok(rate) => match natural(flutter.as_bytes(), 0, MOST_FLUTTER) {
+                Ok(flutter) => Some(Request::SettleSharp {
+                    file,
+                    start,
+                    rate,
+                    flutter,
+                }),
+                Err(_) => None,
+            },
             Err(_) => None,
         },
         Err(_) => None,

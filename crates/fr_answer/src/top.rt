@@ -85,10 +85,19 @@ fn carry_out<S: Shelf, O: Sink>(
         Request::Frame { channel, file } => crate::answer_frame(alloc, channel, file, shelf, out),
         Request::Bound { file } => crate::answer_bound(alloc, file, shelf, out),
         Request::BoundJoin { file } => crate::answer_bound_join(alloc, file, shelf, out),
+        Request::BoundSharp { file, flutter } => {
+            crate::answer_bound_sharp(alloc, file, flutter, shelf, out)
+        }
         Request::Upgrade { file } => fr_params::answer_upgrade(alloc, file, shelf, out),
         Request::Settle { file, start, rate } => {
             crate::answer_settle(alloc, file, start, rate, shelf, out)
         }
+        Request::SettleSharp {
+            file,
+            start,
+            rate,
+            flutter,
+        } => crate::answer_settle_sharp(alloc, file, start, rate, flutter, shelf, out),
         Request::Run(files) => crate::answer_kept_run(alloc, files, shelf, out),
         Request::Make { seed, doubles } => { fr_report::answer_made(alloc, seed, doubles, out) }
         Request::Capture { channel, file } => fr_capture::answer_capture(

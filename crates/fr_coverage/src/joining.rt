@@ -5,8 +5,8 @@ ghost use Rattle.fr_coverage.specs.Coverage.{is_counted, is_counted_on, some_joi
 use fr_cluster::{NodeList, NodeSpec};
 use fr_script::Script;
 
-// Whether some correct node joins the running cluster.
-pub(crate) fn some_join(nodes: &NodeList, script: &Script) -> bool
+/// Whether some correct node of these joins the running cluster.
+pub fn some_join(nodes: &NodeList, script: &Script) -> bool
     ensures { result ≡ some_join_in nodes.now script.now }
 {
     let mut found = false;

@@ -18,6 +18,7 @@ pub use fluttering::flutter;
 pub use gap::Gap;
 pub use gap_words::gap_line;
 pub use gaps::{covered, run_covered};
+pub use joining::some_join;
 pub use laws::{
     covered_run_has_no_gap, first_gap_is_found, flutter_is_the_greatest, found_gap_is_first,
     found_gap_of_run_is_first,

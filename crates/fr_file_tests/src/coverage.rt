@@ -1,10 +1,10 @@
-// The first gap of the longest run of the largest cluster, which is too long a run for the program. What else a gap is told of
-// is tried through it.
+// The first gap of the longest run of the largest cluster, which is too long a run for the program, and its flutter. What else
+// a gap is told of is tried through it.
 use crate::drift::drift_of;
 use crate::params::params_of;
 use crate::script::script_of;
 use fr_cluster::Params;
-use fr_coverage::{covered, gap_line};
+use fr_coverage::{covered, flutter, gap_line};
 use fr_drift::Drift;
 use fr_script::Script;
 use std::alloc::Global;
@@ -23,6 +23,35 @@ const LARGEST: &[(&str, &str, &str)] = &[
         "lose,199999,15,64,A,,\nlose,199998,15,64,B,,",
         "length 64 199999 1000201\n",
     ),
+];
+
+// Rows of a drift file and a script, and the flutter of the run in ticks. Nothing is taken off a delay, so it is 0 where no row
+// says it.
+const FLUTTERS: &[(&str, &str, u64)] = &[
+    ("doubles,100000,,,,\n", "", 0),
+    (
+        "doubles,100000,,,,\ndelay,15,64,B,199999,1000000000",
+        "",
+        1_000_000_000,
+    ),
+    ("doubles,100000,,,,\ndelay,15,64,B,199998,7", "", 0),
+    ("doubles,99999,,,,\ndelay,15,64,B,199999,7", "", 0),
+    (
+        "doubles,5,,,,\ndelay,2,1,A,5,300\ndelay,2,1,A,7,100\ndelay,15,64,B,9,50",
+        "",
+        300,
+    ),
+    (
+        "doubles,5,,,,\ndelay,2,1,A,5,300\ndelay,2,1,A,7,100\ndelay,15,64,B,9,50",
+        "arbitrary,1,,,,,",
+        50,
+    ),
+    (
+        "doubles,5,,,,\ndelay,2,1,A,5,300\ndelay,2,1,A,7,100\ndelay,15,64,B,9,50",
+        "arbitrary,2,,,,,",
+        50,
+    ),
+    ("doubles,5,,,,\ndelay,16,1,A,5,300", "", 0),
 ];
 
 // As many nodes as a cluster may have, each on both channels, those from 1 to 15 with a key slot.
@@ -59,8 +88,27 @@ fn first_wrong(alloc: Global) -> Result<Option<usize>, Fail> {
     Ok(None)
 }
 
+// The place of the first row of which another flutter is told.
+fn first_wrong_flutter(alloc: Global) -> Result<Option<usize>, Fail> {
+    let params = params_of(alloc, &[], NODES, &[])?;
+    for (place, (rows, script, ticks)) in FLUTTERS.iter().enumerate() {
+        let drift = drift_of(alloc, &params, rows)?;
+        let script = script_of(alloc, &params, script)?;
+        if flutter(&params, &drift, &script) != *ticks {
+            return Ok(Some(place));
+        }
+    }
+    Ok(None)
+}
+
 #[test]
 fn finds_the_first_gap_of_the_longest_run(rt: HostRuntime) -> Result<(), Fail> {
     assert_eq!(rt; first_wrong(rt.alloc())?, None);
+    Ok(())
+}
+
+#[test]
+fn tells_the_flutter_of_a_run(rt: HostRuntime) -> Result<(), Fail> {
+    assert_eq!(rt; first_wrong_flutter(rt.alloc())?, None);
     Ok(())
 }

@@ -3,5 +3,11 @@ pub mod Requests
 pub mod Staying
 pub mod Above
 pub mod Following
+pub mod Doubles
 pub mod SeriesRows
 pub mod Worlds
+pub mod SharpCovering
+pub mod SharpDecided
+pub mod SharpFollowing
+pub mod SharpStaying
+pub mod SharpWorlds

@@ -1,10 +1,9 @@
 -- A covered run that comes into sync stays in sync, and within its precision.
-use Rattle.std.proofs.Common.{◌≡◌, ℕ, zero, suc, ◌+◌, ◌*◌, ◌/◌, ◌==◌, ◌<◌, ◌≤◌, ℤ, pos, Bool, true, false, [], ◌∷◌, length, Option, Some, None, refl, ap, sym, ◌∙◌, subst, arith}
+use Rattle.std.proofs.Common.{◌≡◌, ℕ, zero, suc, ◌+◌, ◌*◌, ◌/◌, ◌<◌, ◌≤◌, ℤ, pos, Bool, true, false, [], ◌∷◌, length, Option, Some, None, refl, ap, sym, ◌∙◌, subst, arith}
 use Rattle.std.specs.Prelude.{◌≤ℤ◌, nat_lt}
 use Rattle.std.proofs.lemmas.List.{length-map}
-use Rattle.fr_base.specs.declared.node_row.NodeRow.{NodeRow}
 use Rattle.fr_bound.specs.Bounds.{precision_of}
-use Rattle.fr_bound.specs.Sync.{IsInSync}
+use Rattle.fr_bound.specs.Sync.{IsInSync, is_in_sync}
 use Rattle.fr_bound.proofs.Sync.{to_in_sync}
 use Rattle.fr_cluster.specs.Sane.{IsSane}
 use Rattle.fr_cluster.specs.Values.{Values, amount}
@@ -29,8 +28,8 @@ use Rattle.fr_promise.specs.Files.{FilesKeepPrecision}
 use Rattle.fr_promise.specs.Statement.{KeepsPrecision}
 use Rattle.fr_time.specs.Position.{grid_for}
 use Rattle.fr_skew.specs.Spreads.{spread_at}
-use Rattle.fr_series.specs.Figures.{above_from, figures_of, lost_of}
-use Rattle.fr_series.specs.Scale.{first_above}
+use Rattle.fr_series.specs.Figures.{above_from, figures_of, lost_by}
+use Rattle.fr_series.specs.Scale.{first_above, scale_of}
 use Rattle.fr_series.proofs.Above.{none_above}
 use Rattle.fr_series.specs.SeriesAnswer.{TellsInSync}
 
@@ -60,13 +59,13 @@ below_here p from r h below low =
 not_less : (a b : ℕ) → nat_lt a b ≡ false → b ≤ a
 not_less a b is = grind arith
 
-below_by : (p : Values) (from : ℕ) (r : Record) (h : History) (early : Bool) → nat_lt (length h) from ≡ early → IsBelow p from (r ∷ h) → above_from p from h ≡ None
-    → above_from p from (r ∷ h) ≡ None
+below_by : (p : Values) (from : ℕ) (r : Record) (h : History) (early : Bool) → nat_lt (length h) from ≡ early → IsBelow p from (r ∷ h) → above_from (scale_of p) from h ≡ None
+    → above_from (scale_of p) from (r ∷ h) ≡ None
 unfolding above_from
 below_by p from r h true is below before = rw is refl
 below_by p from r h false is below before = rw (is, before, below_here p from r h below (not_less (length h) from is)) refl
 
-all_below : (p : Values) (from : ℕ) (h : History) → IsBelow p from h → above_from p from h ≡ None
+all_below : (p : Values) (from : ℕ) (h : History) → IsBelow p from h → above_from (scale_of p) from h ≡ None
 unfolding above_from
 all_below p from [] below = refl
 all_below p from (r ∷ h) below = below_by p from r h (nat_lt (length h) from) refl below (all_below p from h (below_before p from r h below))
@@ -77,8 +76,8 @@ some_is : (r q : Record) → Some r ≡ Some q → r ≡ q
 some_is r q is = cc
 
 -- where the last double cycle is in sync, none is lost
-last_synced : (p : Values) (h : History) (last : ℕ) → length h ≡ 2 * suc last → IsInSyncAt p h last → lost_of p h ≡ None
-unfolding lost_of
+last_synced : (p : Values) (h : History) (last : ℕ) → length h ≡ 2 * suc last → IsInSyncAt p h last → lost_by (is_in_sync p) h ≡ None
+unfolding lost_by
 last_synced p [] last whole sync = refl
 last_synced p (r ∷ []) last whole sync = absurd (omega (arith, whole))
 last_synced p (odd ∷ even ∷ t) last whole sync =
@@ -112,8 +111,8 @@ stays_by keeps p d s h double sane fits script none lawful whole sync (Some firs
     let long : length (told_of h) ≡ length h = length-map h (λ (c : Cycle). c.told) in
     let whole_by : length (told_of h) ≡ 2 * suc last.0 = long ∙ whole ∙ ap (λ (n : ℕ). 2 * n) last.1 in
     let synced : IsInSyncAt p (told_of h) last.0 = (let e = last.1 in kept.synced last.0 (omega (arith, less, whole, e)) (omega (arith, e))) in
-    let lost : lost_of p (told_of h) ≡ None = last_synced p (told_of h) last.0 whole_by synced in
-    let above : above_from p (2 * first) (told_of h) ≡ None =
+    let lost : lost_by (is_in_sync p) (told_of h) ≡ None = last_synced p (told_of h) last.0 whole_by synced in
+    let above : above_from (scale_of p) (2 * first) (told_of h) ≡ None =
     all_below p (2 * first) (told_of h) (λ cycle macrotick low high in_cycle. kept.skew cycle macrotick low (omega (arith, high, long)) in_cycle) in
     record { synced = rw lost refl; within = rw (is, above) refl }
 

@@ -1,7 +1,6 @@
 -- A world that has run so many double cycles, and its next one.
-use Rattle.std.proofs.Common.{◌≡◌, ◌∙◌, ℕ, ◌+◌, ◌*◌, Bool, ◌||◌, List, [], ◌++◌, refl, sym, ap, add-one, arith}
+use Rattle.std.proofs.Common.{◌≡◌, ◌∙◌, ℕ, ◌+◌, ◌*◌, Bool, ◌||◌, List, [], ◌++◌, sym, ap, add-one, arith}
 use Rattle.fr_base.specs.declared.node_row.NodeRow.{NodeRow}
-use Rattle.fr_cluster.specs.Setting.{Setting}
 use Rattle.fr_history.specs.Next.{cycles_of}
 use Rattle.fr_world.specs.World.{WorldView, followed_last, setting_after, world_cycles}
 use Rattle.fr_series.specs.Figures.{figures_of}
@@ -9,22 +8,19 @@ use Rattle.fr_series.specs.Scale.{followed, scale_of}
 use Rattle.fr_series.specs.Writing.{is_double_followed, is_followed, rows_of, text_of_double}
 use Rattle.fr_series.specs.declared.figures.Figures.{Figures}
 use Rattle.fr_series.specs.declared.scale.Scale.{Scale}
-use Rattle.fr_series.proofs.SeriesRows.{figures-at, followed_at, rows-next, rows_at, text_upto, text_at}
-
-no_cycles : (x : Setting) → cycles_of x (2 * 0) ≡ []
-unfolding cycles_of
-no_cycles x = refl
+use Rattle.fr_series.proofs.Doubles.{followed_at, no_cycles, rows_at}
+use Rattle.fr_series.proofs.SeriesRows.{figures-at, rows-next, text_upto, text_at}
 
 pub figures-first : (w : WorldView) (figures : Figures) → figures ≡ figures_of w.params [] → figures ≡ figures_of w.params (cycles_of (setting_after w) (2 * 0))
 figures-first w figures is = is ∙ ap (figures_of w.params) (sym (no_cycles (setting_after w)))
 
-even-rows : (w v : WorldView) (n : ℕ) → v ≡ record w { cycles = 2 * n } → rows_of v v.cycles ≡ rows_at (setting_after w) (2 * n)
+pub even-rows : (w v : WorldView) (n : ℕ) → v ≡ record w { cycles = 2 * n } → rows_of v v.cycles ≡ rows_at (setting_after w) (2 * n)
 even-rows w v n at = ap (λ (u : WorldView). rows_of u u.cycles) at
 
-odd-rows : (w v : WorldView) (n : ℕ) → v ≡ record w { cycles = 2 * n } → rows_of v (v.cycles + 1) ≡ rows_at (setting_after w) (2 * n + 1)
+pub odd-rows : (w v : WorldView) (n : ℕ) → v ≡ record w { cycles = 2 * n } → rows_of v (v.cycles + 1) ≡ rows_at (setting_after w) (2 * n + 1)
 odd-rows w v n at = ap (λ (u : WorldView). rows_of u (u.cycles + 1)) at
 
-both-followed : (w v : WorldView) (n : ℕ) → v ≡ record w { cycles = 2 * n }
+pub both-followed : (w v : WorldView) (n : ℕ) → v ≡ record w { cycles = 2 * n }
     → is_double_followed v v.cycles ≡ (followed_at (setting_after w) (2 * n) || followed_at (setting_after w) (2 * n + 1))
 both-followed w v n at = ap (λ (u : WorldView). is_double_followed u u.cycles) at
 

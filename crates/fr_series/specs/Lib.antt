@@ -5,3 +5,7 @@ pub mod Figures
 pub mod Scale
 pub mod SeriesText
 pub mod Writing
+pub mod Basis
+pub mod SharpAnswer
+pub mod SharpCovered
+pub mod SharpText

@@ -4,9 +4,11 @@ use Rattle.fr_base.specs.declared.node_row.NodeRow.{NodeRow}
 use Rattle.fr_drift.specs.Questions.{doubles_of}
 use Rattle.fr_history.specs.Next.{cycles_of, next_cycle}
 use Rattle.fr_history.specs.Unfollowed.{is_none}
-use Rattle.fr_skew.specs.Sync.{are_in_sync}
+use Rattle.fr_skew.specs.Sync.{are_in_sync, are_in_sync_by_even}
 use Rattle.fr_world.specs.World.{WorldView, setting_after}
 use Rattle.fr_series.specs.SeriesText.{double_by}
+use Rattle.fr_series.specs.SharpText.{sharp_double_by}
+use Rattle.fr_series.specs.declared.basis.Scales.{Scales}
 use Rattle.fr_series.specs.declared.scale.Scale.{Scale}
 
 -- a world has run all cycles before a double cycle, and that one is still to be run; its number is small
@@ -29,3 +31,9 @@ is_double_followed w cycle = is_followed w cycle || is_followed w (cycle + 1)
 -- the text of a double cycle, by the rows of its two cycles
 abbrev pub text_of_double : Scale → ℕ → List NodeRow → List NodeRow → List ℕ
 text_of_double scale double even odd = double_by scale.grid (are_in_sync scale.bounds even odd) (2 * double) even odd
+
+-- that of a sharper series
+abbrev pub sharp_text_of_double : Scales → ℕ → List NodeRow → List NodeRow → List ℕ
+sharp_text_of_double scales double even odd =
+    sharp_double_by scales.older.grid (are_in_sync scales.older.bounds even odd) (are_in_sync_by_even scales.sharp.bounds even odd)
+    (2 * double) even odd

@@ -1,19 +1,38 @@
-//! What is printed of a run cycle by cycle: its series, and the command `flexray-series`.
+//! What is printed of a run cycle by cycle: its series, its sharper series, and the command `flexray-series`.
 #![tactic(auto)]
 
+mod basis;
 mod figures;
 mod laws;
 mod lines;
+mod request;
 mod scale;
 mod series;
+mod sharp_covered;
+mod sharp_gap;
+mod sharp_laws;
+mod sharp_lines;
+mod sharp_series;
+mod sharp_writing;
 mod spread;
+mod tally;
 mod top;
 mod writing;
 
+pub use basis::{Basis, Scales};
 pub use figures::Figures;
 pub use fr_text::Status;
 pub use laws::{a_covered_run_stays_in_sync, a_series_is_lawful, files_decide_the_series};
+pub use request::{Request, request_of};
 pub use scale::Scale;
 pub use series::answer_series;
+pub use sharp_gap::SharpGap;
+pub use sharp_laws::{
+    a_covered_run_stays_in_sharp_sync, a_gap_is_told, a_sharp_series_is_lawful,
+    files_decide_the_sharp_series,
+};
+pub use sharp_series::answer_sharp_series;
+pub use sharp_writing::write_sharp_series;
+pub use tally::Tally;
 pub use top::flexray_series;
 pub use writing::write_series;

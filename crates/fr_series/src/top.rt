@@ -1,19 +1,19 @@
-ghost use Rattle.std.specs.Prelude.{◌≡◌, ◌↔◌, Err, None, Some};
+ghost use Rattle.std.specs.Prelude.{◌≡◌, ◌↔◌};
 ghost use Rattle.fr_program.specs.Around.{around_of};
 ghost use Rattle.fr_program.specs.Failure.{EndingWritesNothing, WritesNothing, ending_status};
 ghost use Rattle.fr_program.specs.Program.{IsNoRequest, IsProgramAnswer, IsProgramComplete, WordsEnd, texts};
-ghost use Rattle.fr_series.specs.Request.{AreFilesOf, series_program};
+ghost use Rattle.fr_program.specs.Command.{AreLoads, CommandEnds};
+ghost use Rattle.fr_series.specs.Request.{series_asked, series_command, series_program};
 
-use crate::series;
+use crate::request::{Request, request_of};
 use fr_base::{Shelf, Sink};
 use fr_program::Failure;
-use fr_report::RunFiles;
 use fr_text::Status;
 use std::alloc::Global;
 
-/// Does what the words ask for, which are those after the program's name, the names of three files: loads these from
-/// the shelf, each once, puts the series of their run into `out`, and where the answer is not `Done` one line into
-/// `err`. Nothing is put into `out` before every file was accepted.
+/// Does what the words ask for, which are those after the program's name: the names of three files, and `sharp` behind them
+/// where the sharper series is asked for. It loads the files from the shelf, each once, puts the series of their run into
+/// `out`, and where the answer is not `Done` one line into `err`. Nothing is put into `out` before every file was accepted.
 pub fn flexray_series<S: Shelf, O: Sink, E: Sink>(
     alloc: Global,
     words: &[String],
@@ -61,23 +61,26 @@ fn answer<S: Shelf, O: Sink>(
         (around_of (S.state shelf.old) (S.state shelf.new) (O.state out.old) (O.state out.new)) result }
     ensures unwritten { EndingWritesNothing result → out.new ≡ out.old }
 {
-    match files_of(words) {
-        Some(files) => series::answer_series(alloc, files, shelf, out),
+    match request_of(words) {
+        Some(request) => carry_out(alloc, request, shelf, out),
         None => Err(Failure::Usage),
     }
 }
 
-// Reads the words by position. It takes no memory.
-#[tactic(auto, using(crate::proofs::Requests::asks_not_short, crate::proofs::Requests::asks_not_long))]
-fn files_of(words: &[String]) -> Option<RunFiles<'_>>
-    ensures { AreFilesOf (texts words.now) result }
+fn carry_out<S: Shelf, O: Sink>(
+    alloc: Global,
+    request: Request<'_>,
+    shelf: &mut S,
+    out: &mut O,
+) -> Result<(), Failure>
+    ensures ends { CommandEnds (series_command (series_asked request.entry))
+        (around_of (S.state shelf.old) (S.state shelf.new) (O.state out.old) (O.state out.new)) result }
+    ensures loads { AreLoads (series_command (series_asked request.entry)).names
+        (S.state shelf.old) (S.state shelf.new) }
+    ensures unwritten { EndingWritesNothing result → out.new ≡ out.old }
 {
-    match words {
-        [params, drift, script] => Some(RunFiles {
-            params: params.as_str(),
-            drift: drift.as_str(),
-            script: script.as_str(),
-        }),
-        _ => None,
+    match request {
+        Request::Series(files) => crate::answer_series(alloc, files, shelf, out),
+        Request::SharpSeries(files) => crate::answer_sharp_series(alloc, files, shelf, out),
     }
 }

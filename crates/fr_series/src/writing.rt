@@ -92,7 +92,7 @@ fn write_double<O: Sink>(
 }
 
 // Runs the next cycle, and keeps its rows; whether a node follows in it.
-fn next_rows(world: &mut World, rows: &mut RowList) -> bool
+pub(crate) fn next_rows(world: &mut World, rows: &mut RowList) -> bool
     requires { world.old.cycles < 2 * doubles_of world.old.drift }
     ensures ran { world.new ≡ record world.old { cycles = world.old.cycles + 1 } }
     ensures rows { rows.new ≡ rows_of world.old world.old.cycles }
@@ -133,7 +133,7 @@ fn put_double<O: Sink>(
 }
 
 // Whether the clocks are in sync in a double cycle.
-fn are_in_sync(scale: &Scale, even: &[NodeRow], odd: &[NodeRow]) -> bool
+pub(crate) fn are_in_sync(scale: &Scale, even: &[NodeRow], odd: &[NodeRow]) -> bool
     requires scale { IsScale scale.now }
     requires even { All (IsPlacedRow scale.now.grid) even.now }
     requires odd { All (IsPlacedRow scale.now.grid) odd.now }

@@ -15,6 +15,7 @@ pub mod StepLemmas
 pub mod RoundLemmas
 pub mod SettlingLemmas
 pub mod WayLemmas
+pub mod OneWay
 pub mod LastingLemmas
 pub mod OlderLemmas
 pub mod SharpRows
@@ -36,3 +37,4 @@ pub mod RunWorked
 pub mod FromFiles
 pub mod TestedLemmas
 pub mod FreeLemmas
+pub mod FilesWorked

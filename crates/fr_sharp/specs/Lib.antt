@@ -20,4 +20,5 @@ pub mod SharpWay
 pub mod Steady
 pub mod SteadyRuns
 pub mod WayHistories
+pub mod WorkedFiles
 pub mod WorkedRun

@@ -5,6 +5,7 @@ use Rattle.std.specs.List.{list_any}
 use Rattle.fr_cluster.specs.Sane.{IsSane}
 use Rattle.fr_cluster.specs.Setting.{Setting}
 use Rattle.fr_cluster.specs.Values.{Values}
+use Rattle.fr_cluster.specs.declared.nodes.NodeSpec.{NodeSpec}
 use Rattle.fr_drift.specs.Files.{IsDriftFile}
 use Rattle.fr_drift.specs.View.{DriftView}
 use Rattle.fr_script.specs.Files.{IsScriptFile}
@@ -23,8 +24,11 @@ use Rattle.fr_sharp.specs.SharpHistories.{IsInSharpSyncAt, KeepsApart, KeepsShar
 use Rattle.fr_sharp.specs.SharpRun.{WalkLastsAfter, WalkLastsUpTo}
 
 -- whether some node with a key slot is arbitrary
+abbrev pub has_arbitrary_in : List NodeSpec → ScriptView → Bool
+has_arbitrary_in nodes s = list_any (λ node. is_sync node && is_arbitrary s node.id) nodes
+
 abbrev pub has_arbitrary : Values → ScriptView → Bool
-has_arbitrary p s = list_any (λ node. is_sync node && is_arbitrary s node.id) p.nodes
+has_arbitrary p s = has_arbitrary_in p.nodes s
 
 -- of the sharper checks those from 2 to 5 hold, with action points no further apart than in sharp sync; no correct node joins; the
 -- run itself has no gap; and its delays flutter by no more than so many ticks

@@ -81,3 +81,9 @@ IsWayVerdict p flutter doubles reach (Some failed) = FailsOnTheWay p flutter dou
 pub record IsSharpWay (beside : Bool) (p : Values) (flutter start rate : ℕ) (way : SharpWay) : Type 0 where
   pub leads : LeadsTo beside p flutter start rate way.doubles way.peak way.reach
   pub verdict : IsWayVerdict p flutter way.doubles way.reach way.failed
+
+-- it is one
+abbrev pub OneSharpWay : Type 0
+OneSharpWay =
+    (beside : Bool) (p : Values) (flutter start rate : ℕ) (one other : SharpWay)
+    → IsSharpWay beside p flutter start rate one → IsSharpWay beside p flutter start rate other → one ≡ other

@@ -1,8 +1,10 @@
 //! Why clocks keep a sharper precision where delays change little from one cycle of a double cycle to the next: laws over
-//! rows and values, and over the lawful histories of runs that no node joins, without arbitrary nodes and beside them.
-//! The bounds, the checks and how long they hold are computed here too.
+//! rows and values, over the lawful histories of runs that no node joins, without arbitrary nodes and beside them, and of
+//! what the files of such a run promise. The bounds, the checks and how long they hold are computed here too, and which of
+//! the two a run is.
 #![tactic(auto)]
 
+mod arbitrary;
 mod bounding;
 mod bounds;
 mod checking;
@@ -23,6 +25,7 @@ mod tested;
 mod way;
 mod worked_run;
 
+pub use arbitrary::has_arbitrary;
 pub use bounding::{SharpValues, sharp_bounds, sharp_lasts};
 pub use bounds::{sharp_bounds_are_below, sharp_checks_suffice, walks_are_bounded};
 pub use checking::{sharp_checks, sharp_side};
@@ -38,10 +41,10 @@ pub use lengths::{lengths_come_near, ranges_walk};
 pub use midpoints::midpoints_agree;
 pub use nearness::nodes_lie_near;
 pub use runs_flutter::stated_delays_flutter;
-pub use settling::sharp_spreads_settle;
+pub use settling::{one_sharp_way, sharp_spreads_settle};
 pub use steady::{pairs_are_steady, steady_values_place};
 pub use steady_runs::runs_hear_steadily;
 pub use step::{sharp_spreads_shrink, sharp_sync_is_kept};
 pub use tested::{one_first_sharp_sync, sharp_sync_is_tested};
 pub use way::{SharpWay, sharp_settle};
-pub use worked_run::a_steady_run;
+pub use worked_run::{a_steady_run, files_that_flutter};

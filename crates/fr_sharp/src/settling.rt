@@ -1,4 +1,5 @@
 ghost use Rattle.fr_sharp.specs.SharpSettling.{AloneSettlesSoon, BesideSettlesSoon, NextSpreadDraws, NextStartsFit, OlderWayFits, SettledStays};
+ghost use Rattle.fr_sharp.specs.SharpWay.{OneSharpWay};
 
 /// The law of settling: how far starts and even lengths may lie apart, in ticks, draws together from one double cycle
 /// to the next as the step does, and comes to rest in sharp sync: after two double cycles without arbitrary nodes,
@@ -11,4 +12,9 @@ pub fn sharp_spreads_settle()
     ensures alone { AloneSettlesSoon }
     ensures beside { BesideSettlesSoon }
     ensures older { OlderWayFits }
+{}
+
+/// A law: what is told of the way to sharp sync is one answer.
+pub fn one_sharp_way()
+    ensures { OneSharpWay }
 {}

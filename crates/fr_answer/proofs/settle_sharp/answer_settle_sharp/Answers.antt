@@ -1,0 +1,14 @@
+use Rattle.std.proofs.Common.{◌≡◌, Err, refl, rules}
+use Rattle.fr_program.proofs.Endings.{ends_cut_short}
+use Rattle.fr_program.specs.declared.failure.Failure.TheVariants.{WriteFault}
+use Rattle.fr_answer.specs.SettleAnswer.{IsSharpSettling}
+use Rattle.fr_answer.specs.SharpSettleText.{sharp_settle_text}
+use Rattle.fr_answer.proofs.settle_sharp.answer_settle_sharp.Goals as goal
+
+pub returns-in_err-print_ways-clause-ends : goal.returns-in_err-print_ways-clause-ends
+returns-in_err-print_ways-clause-ends g c =
+    let is : c.from_residual-in_err-print_ways.result ≡ Err WriteFault = search rules in
+    let a = c.args in
+    let settling : IsSharpSettling c.in_ok-params.params a.start a.rate a.flutter (sharp_settle_text a.start a.rate a.flutter c.ways_of-ways.result) =
+    record { ways = c.ways_of-ways.result; are = c.ways_of-ways.ensures; shown = refl } in
+    ends_cut_short _ _ _ _ _ _ is (c.in_ok-params.params, c.in_ok-params.ensures.accepted, settling) c.in_err-print_ways.ensures

@@ -1,0 +1,47 @@
+-- The sharper text and figures of a world that has run so many double cycles, and of its next one.
+use Rattle.std.proofs.Common.{◌≡◌, ◌∙◌, ℕ, ◌+◌, ◌*◌, Bool, ◌||◌, List, [], ◌++◌, sym, ap}
+use Rattle.fr_base.specs.declared.node_row.NodeRow.{NodeRow}
+use Rattle.fr_history.specs.Next.{cycles_of}
+use Rattle.fr_world.specs.World.{WorldView, setting_after}
+use Rattle.fr_series.specs.Basis.{scales_of, tallied, tally_of}
+use Rattle.fr_series.specs.SharpText.{sharp_rows}
+use Rattle.fr_series.specs.Writing.{is_double_followed, rows_of, sharp_text_of_double}
+use Rattle.fr_series.specs.declared.basis.Scales.{Scales}
+use Rattle.fr_series.specs.declared.tally.Tally.{Tally}
+use Rattle.fr_series.proofs.Doubles.{followed_at, no_cycles, rows_at, told-next, told_upto}
+use Rattle.fr_series.proofs.SharpFollowing.{sharp_double, sharp_grows, tally-at}
+use Rattle.fr_series.proofs.Worlds.{both-followed, even-rows, odd-rows}
+
+-- the sharper text of so many double cycles
+abbrev pub sharp_upto : Bool → ℕ → WorldView → ℕ → List ℕ
+sharp_upto beside flutter w double = told_upto (sharp_rows beside w.params flutter) (setting_after w) (2 * double)
+
+pub tally-first : (beside : Bool) (flutter : ℕ) (w : WorldView) (tally : Tally) → tally ≡ tally_of beside w.params flutter []
+    → tally ≡ tally_of beside w.params flutter (cycles_of (setting_after w) (2 * 0))
+tally-first beside flutter w tally is = is ∙ ap (tally_of beside w.params flutter) (sym (no_cycles (setting_after w)))
+
+pub sharp-text-more : (beside : Bool) (flutter : ℕ) (w v : WorldView) (n : ℕ) (scales : Scales) → v ≡ record w { cycles = 2 * n } → scales ≡ scales_of beside w.params flutter
+    → sharp_upto beside flutter w n ++ sharp_text_of_double scales n (rows_of v v.cycles) (rows_of v (v.cycles + 1)) ≡ sharp_upto beside flutter w (n + 1)
+sharp-text-more beside flutter w v n scales at is =
+    let front : List ℕ = sharp_upto beside flutter w n in
+    let x = setting_after w in
+    let numbers : Scales = scales_of beside w.params flutter in
+    ap (λ (s : Scales). front ++ sharp_text_of_double s n (rows_of v v.cycles) (rows_of v (v.cycles + 1))) is
+    ∙ ap (λ (even : List NodeRow). front ++ sharp_text_of_double numbers n even (rows_of v (v.cycles + 1))) (even-rows w v n at)
+    ∙ ap (λ (odd : List NodeRow). front ++ sharp_text_of_double numbers n (rows_at x (2 * n)) odd) (odd-rows w v n at)
+    ∙ sym (told-next (sharp_rows beside w.params flutter) (sharp_double beside w.params flutter) (sharp_grows beside w.params flutter) x n)
+
+pub tally-more : (beside : Bool) (flutter : ℕ) (w v : WorldView) (n : ℕ) (scales : Scales) (old new : Tally) → v ≡ record w { cycles = 2 * n } → scales ≡ scales_of beside w.params flutter
+    → old ≡ tally_of beside w.params flutter (cycles_of (setting_after w) (2 * n)) → new ≡ tallied scales n (rows_of v v.cycles) (rows_of v (v.cycles + 1)) (is_double_followed v v.cycles) old
+    → new ≡ tally_of beside w.params flutter (cycles_of (setting_after w) (2 * (n + 1)))
+tally-more beside flutter w v n scales old new at is held next =
+    let x = setting_after w in
+    let numbers : Scales = scales_of beside w.params flutter in
+    let following : Bool = is_double_followed v v.cycles in
+    next
+    ∙ ap (λ (s : Scales). tallied s n (rows_of v v.cycles) (rows_of v (v.cycles + 1)) following old) is
+    ∙ ap (λ (even : List NodeRow). tallied numbers n even (rows_of v (v.cycles + 1)) following old) (even-rows w v n at)
+    ∙ ap (λ (odd : List NodeRow). tallied numbers n (rows_at x (2 * n)) odd following old) (odd-rows w v n at)
+    ∙ ap (λ (follow : Bool). tallied numbers n (rows_at x (2 * n)) (rows_at x (2 * n + 1)) follow old) (both-followed w v n at)
+    ∙ ap (tallied numbers n (rows_at x (2 * n)) (rows_at x (2 * n + 1)) (followed_at x (2 * n) || followed_at x (2 * n + 1))) held
+    ∙ sym (tally-at beside flutter x n)

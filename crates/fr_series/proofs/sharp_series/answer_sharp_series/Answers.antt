@@ -1,0 +1,23 @@
+use Rattle.std.proofs.lemmas.Result.{err_from_is_err_and}
+use Rattle.fr_world.specs.World.{WorldView}
+use Rattle.fr_report.proofs.Written.{cut_short, whole}
+use Rattle.fr_series.proofs.sharp_series.answer_sharp_series.Goals as goal
+
+pub returns-in_err-world-clause-ends : goal.returns-in_err-world-clause-ends
+returns-in_err-world-clause-ends g c =
+    let e = err_from_is_err_and c.from_residual.result c.from_residual.ensures.1 in
+    rw (e.1, e.2) c.in_err-world.ensures.stops
+
+pub returns-in-Ok-clause-ends : goal.returns-in-Ok-clause-ends
+returns-in-Ok-clause-ends g c =
+    let world : WorldView = c.in_ok-world.world in
+    let files = c.in_ok-world.ensures.files in
+    let shown = c.a_sharp_series_is_lawful.ensures world.params world.drift world.script files.has_params.sound files.has_script.sound.proper in
+    whole files shown c.in-Ok.ensures
+
+pub returns-clause-ends : goal.returns-clause-ends
+returns-clause-ends g c =
+    let world : WorldView = c.in_ok-world.world in
+    let files = c.in_ok-world.ensures.files in
+    let shown = c.a_sharp_series_is_lawful.ensures world.params world.drift world.script files.has_params.sound files.has_script.sound.proper in
+    cut_short files shown c.in-Err.ensures

@@ -1,0 +1,118 @@
+-- The sharper series of a run as a text, line by line.
+use Rattle.std.specs.Prelude.{ℕ, ℤ, ◌+◌, ◌*◌, Bool, true, false, List, [], ◌∷◌, ◌++◌, codes, length, Option, Some, None}
+use Rattle.std.specs.Fmt.{decimal, signed_decimal}
+use Rattle.fr_base.specs.declared.node_row.NodeRow.{NodeRow}
+use Rattle.fr_bound.specs.Sync.{is_in_sync}
+use Rattle.fr_cluster.specs.Values.{Values}
+use Rattle.fr_coverage.specs.Decided.{setting_of}
+use Rattle.fr_coverage.specs.Phrases.{gap_text}
+use Rattle.fr_drift.specs.Questions.{doubles_of}
+use Rattle.fr_drift.specs.View.{DriftView}
+use Rattle.fr_script.specs.View.{ScriptView}
+use Rattle.fr_time.specs.Position.{grid_for}
+use Rattle.fr_time.specs.declared.grid.Grid.{Grid}
+use Rattle.fr_skew.specs.declared.peak.Peak.{Peak}
+use Rattle.fr_history.specs.History.{History, Record}
+use Rattle.fr_history.specs.Cycles.{Cycles, told_of}
+use Rattle.fr_history.specs.Next.{cycles_of}
+use Rattle.fr_text.specs.Pieces.{line}
+use Rattle.fr_sharp.specs.SharpTested.{is_in_sharp_sync}
+use Rattle.fr_series.specs.Basis.{basis_of, tally_of}
+use Rattle.fr_series.specs.Scale.{peak_by}
+use Rattle.fr_series.specs.SeriesText.{above_text, greatest_text, series_head, series_row, synced_text, within_text, yes_or_no}
+use Rattle.fr_series.specs.declared.basis.Basis.{Basis}
+use Rattle.fr_series.specs.declared.sharp_gap.SharpGap.{SharpGap}
+use Rattle.fr_series.specs.declared.sharp_gap.SharpGap.TheVariants.{Join, Other}
+use Rattle.fr_series.specs.declared.tally.Tally.{Tally}
+
+-- ---- the cycles: as in a series, with one column more
+
+abbrev pub sharp_head : List ℕ
+sharp_head = series_head ++ codes ",sharp"
+
+-- whether the double cycle of a cycle is in sharp sync
+abbrev pub sharp_row : ℕ → Bool → Bool → Option Peak → List ℕ
+sharp_row cycle in_sync sharp peak = series_row cycle in_sync peak ++ codes "," ++ yes_or_no sharp
+
+abbrev pub sharp_double_by : Grid → Bool → Bool → ℕ → List NodeRow → List NodeRow → List ℕ
+sharp_double_by grid in_sync sharp cycle even odd =
+    line (sharp_row cycle in_sync sharp (peak_by grid cycle even))
+    ++ line (sharp_row (cycle + 1) in_sync sharp (peak_by grid (cycle + 1) odd))
+
+abbrev pub sharp_double_text : Bool → Values → ℕ → ℕ → Record → Record → List ℕ
+sharp_double_text beside p flutter cycle even odd =
+    sharp_double_by (grid_for p) (is_in_sync p even.rows odd.rows) (is_in_sharp_sync beside p flutter even.rows odd.rows) cycle even.rows odd.rows
+
+-- the cycles of a history of whole double cycles
+unfoldable pub sharp_rows : Bool → Values → ℕ → History → List ℕ
+sharp_rows beside p flutter [] = []
+sharp_rows beside p flutter (r ∷ []) = []
+sharp_rows beside p flutter (odd ∷ even ∷ h) =
+    sharp_rows beside p flutter h ++ sharp_double_text beside p flutter (length h) even odd
+
+-- ---- the lines at the end
+
+-- the flutter of the run, in ticks
+abbrev pub flutter_text : ℕ → List ℕ
+flutter_text flutter = codes "flutter," ++ decimal flutter ++ codes ",,,"
+
+-- the sharper precision, in ticks, and whether it is that beside arbitrary sync nodes
+abbrev pub kind_text : Bool → List ℕ
+kind_text false = codes "alone"
+kind_text true = codes "beside"
+
+abbrev pub sharp_precision_text : ℤ → Bool → List ℕ
+sharp_precision_text precision beside = codes "sharp," ++ signed_decimal precision ++ codes "," ++ kind_text beside ++ codes ",,"
+
+-- whether the run is sharply covered, or why it is not
+abbrev pub sharp_covered_text : Option SharpGap → List ℕ
+sharp_covered_text None = codes "sharp covered,yes,,,"
+sharp_covered_text (Some Join) = codes "sharp covered,no,,,join"
+sharp_covered_text (Some (Other gap)) = gap_text (codes "sharp covered,no,,,") gap
+
+-- the first double cycle in sharp sync in which no node follows, and for how many the rate limit holds the walk since then
+abbrev pub lasts_text : Option ℕ → List ℕ
+lasts_text None = codes "on"
+lasts_text (Some doubles) = decimal doubles
+
+abbrev pub sharp_synced_text : Option ℕ → Option ℕ → List ℕ
+sharp_synced_text None lasts = codes "sharp synced,-,,,"
+sharp_synced_text (Some double) lasts = codes "sharp synced," ++ decimal double ++ codes "," ++ lasts_text lasts ++ codes ",,"
+
+-- the greatest skew since then, and whether none was above the sharper precision, or the first place where one was
+abbrev pub sharp_greatest_text : Option Peak → List ℕ
+sharp_greatest_text peak = codes "sharp " ++ greatest_text peak ++ codes ","
+
+abbrev pub sharp_above_text : Option Peak → List ℕ
+sharp_above_text above = codes "sharp " ++ above_text above ++ codes ","
+
+abbrev pub sharp_within_text : Option ℕ → Option Peak → List ℕ
+sharp_within_text synced above = codes "sharp " ++ within_text synced above ++ codes ","
+
+-- those of a series
+unfoldable pub older_end : Tally → List ℕ
+older_end tally =
+    line (greatest_text tally.older.greatest ++ codes ",")
+    ++ line (synced_text tally.older.lost ++ codes ",")
+    ++ line (within_text tally.older.synced tally.older.above ++ codes ",")
+
+unfoldable pub sharp_end : Basis → Tally → List ℕ
+sharp_end basis tally =
+    line (flutter_text basis.flutter)
+    ++ line (sharp_precision_text basis.scales.sharp.precision basis.beside)
+    ++ line (sharp_covered_text basis.gap)
+    ++ line (sharp_synced_text tally.sharp.synced basis.lasts)
+    ++ line (sharp_greatest_text tally.sharp.greatest)
+    ++ line (sharp_within_text tally.sharp.synced tally.sharp.above)
+
+-- the sharper series of some cycles
+unfoldable pub sharp_series_by : Values → Basis → Cycles → List ℕ
+sharp_series_by p basis h =
+    line sharp_head
+    ++ sharp_rows basis.beside p basis.flutter (told_of h)
+    ++ older_end (tally_of basis.beside p basis.flutter h)
+    ++ sharp_end basis (tally_of basis.beside p basis.flutter h)
+
+-- that of the run of some parameters, a drift and a script, over all its cycles
+abbrev pub sharp_series_text : Values → DriftView → ScriptView → List ℕ
+sharp_series_text p d s = sharp_series_by p (basis_of p d s) (cycles_of (setting_of p d s) (2 * doubles_of d))

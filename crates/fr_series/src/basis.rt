@@ -1,0 +1,89 @@
+ghost use Rattle.std.specs.Prelude.{◌≡◌, ◌≤◌};
+ghost use Rattle.fr_series.specs.Basis.{basis_of, scales_of, sharp_scale_of, AreScales};
+ghost use Rattle.fr_series.specs.Scale.{IsScale};
+ghost use Rattle.fr_sharp.specs.SharpBounds.{most_flutter};
+ghost use Rattle.fr_time.specs.Position.{grid_for};
+
+use crate::scale::Scale;
+use crate::sharp_covered::first_sharp_gap;
+use crate::sharp_gap::SharpGap;
+use fr_cluster::Params;
+use fr_coverage::flutter;
+use fr_drift::Drift;
+use fr_script::Script;
+use fr_sharp::{has_arbitrary, sharp_bounds, sharp_lasts};
+use fr_skew::{SyncBounds, sync_bounds};
+use fr_time::grid_of;
+
+/// The numbers of a cluster, and the sharper ones.
+#[derive(Clone, Copy, Debug, PartialEq, Eq)]
+pub struct Scales {
+    /// Those of the series.
+    pub older: Scale,
+    /// The sharper ones, beside arbitrary sync nodes or without, for the flutter of a run.
+    pub sharp: Scale,
+}
+
+/// What a sharper series rests on, besides the cycles of its run.
+#[derive(Clone, Copy, Debug, PartialEq, Eq)]
+pub struct Basis {
+    /// How far delays differ between the two cycles of a double cycle of the run, in ticks, 0 to 1,000,000,000.
+    pub flutter: u64,
+    /// Whether some sync node is arbitrary.
+    pub beside: bool,
+    /// For how many double cycles the rate limit holds the walk of lengths; None where it does on and on.
+    pub lasts: Option<u64>,
+    /// Why the run is not sharply covered; None where it is.
+    pub gap: Option<SharpGap>,
+    /// What its double cycles and skews are held against.
+    pub scales: Scales,
+}
+
+impl Basis {
+    /// That of the run of some files.
+    pub fn of(params: &Params, drift: &Drift, script: &Script) -> Basis
+        ensures value { result ≡ basis_of params.now drift.now script.now }
+        ensures proper { AreScales (grid_for params.now) result.scales }
+    {
+        let flutter = flutter(params, drift, script);
+        let beside = has_arbitrary(params, script);
+        Basis {
+            flutter,
+            beside,
+            lasts: sharp_lasts(params, flutter),
+            gap: first_sharp_gap(params, drift, script, flutter),
+            scales: scales_for(params, beside, flutter),
+        }
+    }
+}
+
+fn scales_for(params: &Params, beside: bool, flutter: u64) -> Scales
+    requires { flutter ≤ most_flutter }
+    ensures value { result ≡ scales_of beside params.now flutter }
+    ensures proper { AreScales (grid_for params.now) result }
+{
+    Scales {
+        older: Scale::of(params),
+        sharp: sharp_scale(params, beside, flutter),
+    }
+}
+
+fn sharp_scale(params: &Params, beside: bool, flutter: u64) -> Scale
+    requires { flutter ≤ most_flutter }
+    ensures value { result ≡ sharp_scale_of beside params.now flutter }
+    ensures proper { IsScale result }
+{
+    let sharp = sharp_bounds(params, beside, flutter);
+    let older = sync_bounds(params);
+    Scale {
+        grid: grid_of(params),
+        bounds: SyncBounds {
+            pi: sharp.pi,
+            lambda: sharp.lambda,
+            shortest: older.shortest,
+            longest: older.longest,
+            micros: older.micros,
+        },
+        precision: sharp.precision,
+    }
+}

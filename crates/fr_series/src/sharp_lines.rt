@@ -1,0 +1,228 @@
+ghost use Rattle.std.specs.Prelude.{◌≡◌, ◌++◌, ◌≤◌, codes};
+ghost use Rattle.fr_series.specs.SeriesText.{above_text, greatest_text, synced_text, within_text};
+ghost use Rattle.fr_series.specs.SharpText.{flutter_text, kind_text, lasts_text, older_end, sharp_covered_text, sharp_end};
+ghost use Rattle.fr_series.specs.SharpText.{sharp_above_text, sharp_greatest_text, sharp_head, sharp_precision_text, sharp_row, sharp_synced_text, sharp_within_text};
+ghost use Rattle.fr_text.specs.Lines.{joined_lines};
+ghost use Rattle.fr_text.specs.Pieces.{Spells, line};
+
+use crate::basis::Basis;
+use crate::lines::yes_or_no;
+use crate::sharp_gap::SharpGap;
+use crate::tally::Tally;
+use fr_coverage::gap_line;
+use fr_skew::Peak;
+use fr_text::Piece::{Natural, Signed, Word};
+use fr_text::{Line, Piece, line_of};
+
+pub(crate) fn sharp_head_line() -> Line
+    ensures { result ≡ line sharp_head }
+{
+    line_of(&[Word(b"cycle,in_sync,skew,macrotick,sharp")])
+}
+
+pub(crate) fn sharp_cycle_line(cycle: u32, in_sync: bool, sharp: bool, peak: Option<Peak>) -> Line
+    ensures { result ≡ line (sharp_row cycle in_sync sharp peak) }
+{
+    match peak {
+        None => line_of(&[
+            Natural(u64::from(cycle)),
+            Word(b","),
+            yes_or_no(in_sync),
+            Word(b",-,-,"),
+            yes_or_no(sharp),
+        ]),
+        Some(peak) => line_of(&[
+            Natural(u64::from(cycle)),
+            Word(b","),
+            yes_or_no(in_sync),
+            Word(b","),
+            Signed(peak.skew),
+            Word(b","),
+            Natural(u64::from(peak.macrotick)),
+            Word(b","),
+            yes_or_no(sharp),
+        ]),
+    }
+}
+
+// The lines of a series at its end, with one column more.
+#[tactic(auto, unfolding(crate::specs::SharpText::older_end))]
+pub(crate) fn older_lines(tally: &Tally) -> [Option<Line>; 3]
+    ensures { joined_lines result ≡ older_end tally.now }
+{
+    let figures = tally.older;
+    [
+        Some(greatest_line(figures.greatest)),
+        Some(synced_line(figures.lost)),
+        Some(within_line(figures.synced, figures.above)),
+    ]
+}
+
+// Those of sharp sync.
+#[tactic(auto, unfolding(crate::specs::SharpText::sharp_end))]
+pub(crate) fn sharp_lines(basis: &Basis, tally: &Tally) -> [Option<Line>; 6]
+    ensures { joined_lines result ≡ sharp_end basis.now tally.now }
+{
+    let figures = tally.sharp;
+    [
+        Some(flutter_line(basis.flutter)),
+        Some(precision_line(basis.scales.sharp.precision, basis.beside)),
+        Some(covered_line(basis.gap)),
+        Some(sharp_synced_line(figures.synced, basis.lasts)),
+        Some(sharp_greatest_line(figures.greatest)),
+        Some(sharp_within_line(figures.synced, figures.above)),
+    ]
+}
+
+fn greatest_line(greatest: Option<Peak>) -> Line
+    ensures { result ≡ line (greatest_text greatest ++ codes ",") }
+{
+    match greatest {
+        None => line_of(&[Word(b"greatest,-,-,-,")]),
+        Some(peak) => line_of(&[
+            Word(b"greatest,"),
+            Signed(peak.skew),
+            Word(b","),
+            Natural(u64::from(peak.cycle)),
+            Word(b","),
+            Natural(u64::from(peak.macrotick)),
+            Word(b","),
+        ]),
+    }
+}
+
+fn synced_line(lost: Option<u32>) -> Line
+    ensures { result ≡ line (synced_text lost ++ codes ",") }
+{
+    match lost {
+        None => line_of(&[Word(b"synced,yes,,,")]),
+        Some(double) => line_of(&[Word(b"synced,no,"), Natural(u64::from(double)), Word(b",,")]),
+    }
+}
+
+fn within_line(synced: Option<u32>, above: Option<Peak>) -> Line
+    ensures { result ≡ line (within_text synced above ++ codes ",") }
+{
+    match synced {
+        None => line_of(&[Word(b"within,-,,,")]),
+        Some(_) => above_line(above),
+    }
+}
+
+fn above_line(above: Option<Peak>) -> Line
+    ensures { result ≡ line (above_text above ++ codes ",") }
+{
+    match above {
+        None => line_of(&[Word(b"within,yes,,,")]),
+        Some(peak) => line_of(&[
+            Word(b"within,no,"),
+            Natural(u64::from(peak.cycle)),
+            Word(b","),
+            Natural(u64::from(peak.macrotick)),
+            Word(b","),
+        ]),
+    }
+}
+
+fn flutter_line(flutter: u64) -> Line
+    ensures { result ≡ line (flutter_text flutter) }
+{
+    line_of(&[Word(b"flutter,"), Natural(flutter), Word(b",,,")])
+}
+
+fn precision_line(precision: i64, beside: bool) -> Line
+    ensures { result ≡ line (sharp_precision_text precision beside) }
+{
+    line_of(&[
+        Word(b"sharp,"),
+        Signed(precision),
+        Word(b","),
+        kind(beside),
+        Word(b",,"),
+    ])
+}
+
+fn kind(beside: bool) -> Piece<'static>
+    ensures { Spells result (kind_text beside) 6 }
+{
+    if beside {
+        Word(b"beside")
+    } else {
+        Word(b"alone")
+    }
+}
+
+fn covered_line(gap: Option<SharpGap>) -> Line
+    ensures { result ≡ line (sharp_covered_text gap) }
+{
+    match gap {
+        None => line_of(&[Word(b"sharp covered,yes,,,")]),
+        Some(SharpGap::Join) => line_of(&[Word(b"sharp covered,no,,,join")]),
+        Some(SharpGap::Other(gap)) => gap_line(b"sharp covered,no,,,", gap),
+    }
+}
+
+fn sharp_synced_line(synced: Option<u32>, lasts: Option<u64>) -> Line
+    ensures { result ≡ line (sharp_synced_text synced lasts) }
+{
+    match synced {
+        None => line_of(&[Word(b"sharp synced,-,,,")]),
+        Some(double) => line_of(&[
+            Word(b"sharp synced,"),
+            Natural(u64::from(double)),
+            Word(b","),
+            lasts_piece(lasts),
+            Word(b",,"),
+        ]),
+    }
+}
+
+fn lasts_piece(lasts: Option<u64>) -> Piece<'static>
+    ensures { Spells result (lasts_text lasts) 20 }
+{
+    match lasts {
+        None => Word(b"on"),
+        Some(doubles) => Natural(doubles),
+    }
+}
+
+fn sharp_greatest_line(greatest: Option<Peak>) -> Line
+    ensures { result ≡ line (sharp_greatest_text greatest) }
+{
+    match greatest {
+        None => line_of(&[Word(b"sharp greatest,-,-,-,")]),
+        Some(peak) => line_of(&[
+            Word(b"sharp greatest,"),
+            Signed(peak.skew),
+            Word(b","),
+            Natural(u64::from(peak.cycle)),
+            Word(b","),
+            Natural(u64::from(peak.macrotick)),
+            Word(b","),
+        ]),
+    }
+}
+
+fn sharp_within_line(synced: Option<u32>, above: Option<Peak>) -> Line
+    ensures { result ≡ line (sharp_within_text synced above) }
+{
+    match synced {
+        None => line_of(&[Word(b"sharp within,-,,,")]),
+        Some(_) => sharp_above_line(above),
+    }
+}
+
+fn sharp_above_line(above: Option<Peak>) -> Line
+    ensures { result ≡ line (sharp_above_text above) }
+{
+    match above {
+        None => line_of(&[Word(b"sharp within,yes,,,")]),
+        Some(peak) => line_of(&[
+            Word(b"sharp within,no,"),
+            Natural(u64::from(peak.cycle)),
+            Word(b","),
+            Natural(u64::from(peak.macrotick)),
+            Word(b","),
+        ]),
+    }
+}

@@ -1,0 +1,8 @@
+use Rattle.fr_sharp.proofs.FilesWorked.{fluttering_files_are_covered, fluttering_files_keep_sharply}
+use Rattle.fr_sharp.proofs.worked_run.files_that_flutter.Goals as goal
+
+pub returns-clause-covered : goal.returns-clause-covered
+returns-clause-covered c = fluttering_files_are_covered
+
+pub returns-clause-keeps : goal.returns-clause-keeps
+returns-clause-keeps c = fluttering_files_keep_sharply

@@ -1,0 +1,39 @@
+ghost use Rattle.std.specs.Prelude.{◌≡◌, ◌&&◌};
+ghost use Rattle.fr_script.specs.View.{is_arbitrary};
+ghost use Rattle.fr_coverage.specs.Links.{is_sync};
+ghost use Rattle.fr_sharp.specs.SharpStatement.{has_arbitrary, has_arbitrary_in};
+
+use fr_cluster::{NodeList, NodeSpec, Params};
+use fr_script::Script;
+
+/// Whether some node with a key slot is arbitrary: then the bounds beside arbitrary nodes are those of the run, else those
+/// without.
+pub fn has_arbitrary(params: &Params, script: &Script) -> bool
+    ensures { result ≡ has_arbitrary params.now script.now }
+{
+    let nodes = &params.nodes;
+    some_arbitrary(nodes, script)
+}
+
+fn some_arbitrary(nodes: &NodeList, script: &Script) -> bool
+    ensures { result ≡ has_arbitrary_in nodes.now script.now }
+{
+    let mut found = false;
+    for place in 0..nodes.len() {
+        match nodes.get(place) {
+            Some(node) => {
+                if is_arbitrary_sync(node, script) {
+                    found = true;
+                }
+            }
+            None => {}
+        }
+    }
+    found
+}
+
+fn is_arbitrary_sync(node: &NodeSpec, script: &Script) -> bool
+    ensures { result ≡ (is_sync node.now && is_arbitrary script.now node.now.id) }
+{
+    node.key.is_some() && script.arbitrary(node.id)
+}
