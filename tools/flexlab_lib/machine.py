@@ -52,8 +52,6 @@ def sync_object(first, lost, cluster):
 
 def sharp_object(run):
     """The sharper side of a run; of one that nodes join only that it is not covered."""
-    if run.sharp is None:
-        return None
     cluster, bounds, (known, gap) = run.cluster, run.sharp.bounds, gap_of(run)
     found = {"covered": gap is None if known else None, "gap": gap and " ".join(gap)}
     if cluster.joins:
@@ -154,7 +152,7 @@ def wanted(text):
 
 def sharp_verdict(run):
     """Why a run is not sharply covered, or is not proved to be to its end from the first double cycle in sharp sync on."""
-    known, gap = gap_of(run) if run.sharp else (False, None)
+    known, gap = gap_of(run)
     if not known or gap:
         return "sharp covered no " + " ".join(gap) if known else "whether it is sharply covered is not known"
     if first_of(run) is None:

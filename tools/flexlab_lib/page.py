@@ -164,7 +164,7 @@ def window_lines(run):
 
 
 def check_lines(run):
-    if run.sharp and not run.cluster.joins:
+    if not run.cluster.joins:
         return sharp_check_lines(run, field) + older_lines(run, field)
     found = []
     for number, _, left, right in run.bounds.failing:

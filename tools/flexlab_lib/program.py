@@ -1,10 +1,9 @@
 """Finding and calling other programs: flexray, and those of Debian's packages."""
-import functools
 import os
 import shutil
 import subprocess
 
-from .ending import MISSING, PROGRAM, USAGE, Stop
+from .ending import MISSING, PROGRAM, Stop
 
 PACKAGES = {"gnuplot": "gnuplot-nox", "parallel": "parallel", "tshark": "tshark"}
 HERE = os.path.dirname(os.path.realpath(__file__))
@@ -57,12 +56,6 @@ def helper(name):
         raise Stop(MISSING, f"{name} is missing: install the Debian package {PACKAGES[name]} "
                             f"(apt-get install {PACKAGES[name]})")
     return found
-
-
-@functools.cache
-def has_sharp(program, words):
-    """Whether a program has these words of the sharper bounds: one of before says Usage, and then all is as it was."""
-    return call(program, words)[0] != USAGE
 
 
 def call(program, words, out=None):

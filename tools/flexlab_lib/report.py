@@ -167,7 +167,7 @@ class Series:
     greatest: tuple | None = None
     synced: bool = False
     within: tuple | None = None
-    sharp: SharpSeries | None = None
+    sharp: SharpSeries = field(default_factory=SharpSeries)
 
 
 def within_of(words, numbers):
@@ -175,29 +175,26 @@ def within_of(words, numbers):
 
 
 def read_series(text):
-    """The skew of a cycle without running nodes is None, as is what is not told since no cycle is in sync. With the sharper
-    bounds each line has five fields."""
+    """What `flexray-series .. sharp` printed. The skew of a cycle without running nodes is None, as is what is not told since
+    no cycle is in sync."""
     found = Series()
     for line in text.splitlines():
         words = line.split(",")
         numbers = [int(word) if word.isdigit() else None for word in words]
         if line == "cycle,in_sync,skew,macrotick,sharp":
-            found.sharp = SharpSeries()
-        if line.startswith("cycle,in_sync,skew,macrotick"):
             continue
-        if len(words) != (5 if found.sharp else 4):
+        if len(words) != 5:
             raise strange("series", line)
         if numbers[0] is not None and words[1] in ("yes", "no"):
             found.rows.append((numbers[0], words[1] == "yes", numbers[2], numbers[3]))
-            if found.sharp:
-                found.sharp.rows.append(words[4] == "yes")
+            found.sharp.rows.append(words[4] == "yes")
         elif words[0] == "greatest":
             found.greatest = tuple(numbers[1:4]) if numbers[1] is not None else None
         elif words[0] == "synced":
             found.synced = words[1] == "yes"
         elif words[0] == "within":
             found.within = within_of(words, numbers)
-        elif not found.sharp or not read_sharp(found.sharp, words, numbers):
+        elif not read_sharp(found.sharp, words, numbers):
             raise strange("series", line)
     return found
 

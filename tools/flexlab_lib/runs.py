@@ -105,7 +105,7 @@ def run_cluster(cluster, folder, program, begin=None):
     if run.series and synced != [row[1] for row in run.series.rows[::2]] and cycles:
         raise Stop(PROGRAM, "flexray-series says of a double cycle that it is in sync, and the trace does not, or back")
     run.in_sync_skew = find_skew(run, program)
-    if run.series and run.series.sharp and run.sharp:
+    if run.series:
         why = unlike(run.sharp, run.series.sharp, bool(cycles))
         if why:
             raise Stop(PROGRAM, why)
@@ -114,8 +114,6 @@ def run_cluster(cluster, folder, program, begin=None):
 
 
 def call_sharp(run, program):
-    if not programs.has_sharp(program, ("bound", "", "sharp", "0")):
-        return None
     flutter = flutter_of(run.cluster)
     text = answer(program, sharp_words(run.files[0], flutter))
     keep(run.folder, "sharp.txt", text)
@@ -126,8 +124,7 @@ def call_series(program, paths, folder):
     second = programs.series(program)
     if not second:
         return None
-    sharp = ["sharp"] if programs.has_sharp(second, ("", "", "", "sharp")) else []
-    text = answer(second, [*paths, *sharp])
+    text = answer(second, [*paths, "sharp"])
     keep(folder, "series.csv", text)
     return read_series(text)
 

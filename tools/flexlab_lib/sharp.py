@@ -86,7 +86,7 @@ def gap_of(run):
 
 def is_covered(run):
     """Whether a run is known to be sharply covered."""
-    return run.sharp is not None and gap_of(run) == (True, None)
+    return gap_of(run) == (True, None)
 
 
 def first_of(run):

@@ -75,8 +75,6 @@ def skew_lines(run, field):
 
 def sharp_lines(run, field, ms_of_cycle):
     """The lines of the page; of a run that nodes join only why there are none."""
-    if run.sharp is None:
-        return []
     found = field("Sharply covered", *covered_words(run))
     if run.cluster.joins:
         return found

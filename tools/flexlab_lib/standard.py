@@ -55,9 +55,9 @@ def flutter_asked(text, run):
 
 
 def sharp_for(run, program, flutter):
-    """The sharper bounds of both kinds for this flutter, or None where the program has none."""
-    if not run.sharp or flutter == run.sharp.flutter:
-        return run.sharp and run.sharp.both
+    """The sharper bounds of both kinds for this flutter."""
+    if flutter == run.sharp.flutter:
+        return run.sharp.both
     return read_sharp_bounds(answer(program, sharp.sharp_words(run.files[0], flutter)))
 
 
@@ -69,7 +69,7 @@ def simulated(run):
     found = []
     if run.in_sync_skew:
         found.append(Row("simulated, in sync", run.in_sync_skew[0], f"the greatest skew, in cycle {run.in_sync_skew[1]}"))
-    skew = sharp.skew_of(run) if run.sharp and not run.cluster.joins else None
+    skew = None if run.cluster.joins else sharp.skew_of(run)
     if skew:
         found.append(Row("simulated, sharp sync", skew[0], f"the greatest skew, in cycle {skew[1]}"))
     figures = later(run, run.begin)
@@ -87,13 +87,14 @@ def rows(run, both, worst=WORST):
                  f"({BEST} + {BEST_DAMPING} damping) microticks + the greatest delay"),
              Row("the standard, worst case", by_formula(p, worst, WORST_DAMPING, WORST_DELAYS),
                  f"({worst} + {WORST_DAMPING} damping) microticks + {WORST_DELAYS} greatest delays")]
-    for kind, bounds in (both or {}).items():
+    for kind, bounds in both.items():
         mine = kind == run.sharp.bounds.kind and not run.cluster.joins
         found.append(Row(f"sharp, {'no' if kind == 'alone' else 'beside'} arbitrary", bounds.precision,
                          "from sharp sync on" + ("; that of this cluster" if mine else ""), failing(bounds),
                          "on" if bounds.lasts is None else str(bounds.lasts)))
     found.append(Row("the older bound", run.report.precision, "from `in sync` on", failing(run.bounds)))
-    return found + simulated(run), both[run.sharp.bounds.kind].precision if both and not run.cluster.joins else run.report.precision
+    own = run.report.precision if run.cluster.joins else both[run.sharp.bounds.kind].precision
+    return found + simulated(run), own
 
 
 def compared(run, program, worst=WORST, flutter_ns=None):
@@ -104,18 +105,16 @@ def compared(run, program, worst=WORST, flutter_ns=None):
     lines = field("Cluster", f"a cycle of {decimal(ms_of_cycle(1, cluster), 3)} ms, damping {p['pClusterDriftDamping']}, "
                              f"oscillators within {p['xRateBound']} ticks (about ppm), frames travel "
                              f"{microseconds(greatest_delay(p), unit)} at most, by the parameters")
-    if both:
-        lines += field("Flutter", f"{microseconds(flutter, unit)}: how far a delay may differ between the two cycles of a double "
-                                  f"cycle; {'the greatest of this run' if flutter_ns is None else 'as asked'}")
+    lines += field("Flutter", f"{microseconds(flutter, unit)}: how far a delay may differ between the two cycles of a double "
+                              f"cycle; {'the greatest of this run' if flutter_ns is None else 'as asked'}")
     table, own = rows(run, both, worst)
     lines += ["", f"{'precision':<26}{'us':>9}{'microticks':>12}{'fails':>13}{'lasts':>9}{'part':>10}"]
     for row in table:
         lines.append(f"{row.name:<26}{decimal(us_of_ticks(row.ticks, unit), 3):>9}{decimal(Fraction(row.ticks, TICKS), 1):>12}"
                      f"{row.fails:>13}{row.lasts:>9}{percent(row.ticks, own):>10}  {row.what}")
     lines += ["", *field("", "fails: which of its checks do. lasts: for how many double cycles it holds, on: on and on. part: of "
-                             + ("the sharp number of this cluster." if own != run.report.precision else "the older bound."))]
-    if both:
-        lines += field("Sharp", sharp_words(run, both[run.sharp.bounds.kind], flutter))
+                             + ("the older bound." if cluster.joins else "the sharp number of this cluster."))]
+    lines += field("Sharp", sharp_words(run, both[run.sharp.bounds.kind], flutter))
     return "\n".join(lines + field("Older", older_words(run)) + closing_lines(worst)) + "\n"
 
 

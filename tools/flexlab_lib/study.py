@@ -204,8 +204,6 @@ def measured(run_report, unit, in_sync_skew, at_end, later=None):
 
 def sharply(run, unit):
     """The columns of the sharper bounds; of a run that nodes join only that it is not covered."""
-    if run.sharp is None:
-        return {}
     known, gap = sharp.gap_of(run)
     found = {"sharply_covered": ("yes" if gap is None else "no") if known else "", "sharp_gap": " ".join(gap or [])}
     if run.cluster.joins:

@@ -204,7 +204,7 @@ def weigh(run, program, run_cluster):
     """The ways to a covered run, each run, the one with the least skew first, by the sharper checks where no node joins; and
     what the older ones would ask besides. None where neither is wanted."""
     cluster = run.cluster
-    checks = SharpChecks(run) if run.sharp and not cluster.joins else OlderChecks(run)
+    checks = OlderChecks(run) if cluster.joins else SharpChecks(run)
     wanted = bool(checks.failing or passed(cluster, needs(cluster)))
     if not wanted and not run.bounds.failing:
         return None

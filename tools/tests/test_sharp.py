@@ -8,6 +8,7 @@ import unittest
 from bench import EXAMPLE, REPOSITORY, SERIES, Bench, edited, needs_series
 from flexlab_lib import least, ranges, report, sharp
 from flexlab_lib.cluster import read_cluster
+from flexlab_lib.ending import Stop
 
 with open(os.path.join(REPOSITORY, "examples", "sharp", "sharp.toml"), encoding="utf-8") as file:
     PRODUCTION = file.read()
@@ -350,6 +351,16 @@ class Reading(unittest.TestCase):
         told = report.read_series(text + "sharp covered,yes,,,\nsharp synced,-,,,\nsharp greatest,-,-,-,\nsharp within,-,,,\n").sharp
         self.assertEqual((told.gap, told.synced, told.lasts, told.greatest, told.within), (None,) * 5)
         self.assertIsNone(report.read_series(text + "sharp synced,1,on,,\n").sharp.lasts)
+
+    def test_a_run_that_is_never_in_sync(self):
+        found = report.read_series("0,no,-,-,no\n1,no,0,0,no\ngreatest,-,-,-,\nsynced,no,0,,\nwithin,-,,,\n")
+        self.assertEqual((found.rows[0], found.greatest, found.synced, found.within),
+                         ((0, False, None, None), None, False, None))
+
+    def test_what_is_not_understood(self):
+        for line in ("0,no,1,2", "within,maybe", "flutter,-,,,", "sharp,1,both,,", "sharp inside,yes,,,"):
+            with self.subTest(line=line), self.assertRaises(Stop):
+                report.read_series(line + "\n")
 
 
 if __name__ == "__main__":
