@@ -27,8 +27,8 @@ ROLES = {
 }
 USAGE = {
     "frame": "frame A FILE or frame B FILE",
-    "bound": "bound PARAMS, bound PARAMS join or bound PARAMS sharp FLUTTER",
-    "upgrade": "upgrade PARAMS", "settle": "settle PARAMS START RATE",
+    "bound": "bound PARAMS, bound PARAMS join or bound PARAMS sharp FLUTTER", "upgrade": "upgrade PARAMS",
+    "settle": "settle PARAMS START RATE or settle PARAMS START RATE sharp FLUTTER",
     "nm": "nm WIDTH FILE", "run": "run PARAMS DRIFT SCRIPT", "trace": "trace PARAMS DRIFT SCRIPT",
     "check": "check PARAMS TRACE", "make": "make SEED DOUBLES", "capture": "capture A FILE or capture B "
                                                                            "FILE", "cold": "cold PARAMS POWER",

@@ -34,6 +34,10 @@ pub mod RunWay
 pub mod RunCycles
 pub mod RunStated
 pub mod RunWorked
+pub mod RunReached
+pub mod RunHalting
+pub mod FarNumbers
+pub mod RunFar
 pub mod FromFiles
 pub mod TestedLemmas
 pub mod FreeLemmas

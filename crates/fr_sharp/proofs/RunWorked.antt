@@ -37,12 +37,12 @@ use Rattle.fr_sharp.proofs.SharpWorked.{checks, four, is_sane}
 
 -- ---- what is stated of it
 
-on_a : (said : Said) (beside : Bool) (some : NodeSpec) → Contains (correct_nodes (steady_run said beside)) some → has_channel (Some some) A ≡ true
+pub on_a : (said : Said) (beside : Bool) (some : NodeSpec) → Contains (correct_nodes (steady_run said beside)) some → has_channel (Some some) A ≡ true
 on_a said beside some there =
     All-contains (λ (n : NodeSpec). has_channel (Some n) A ≡ true) steady_cluster.nodes some
     (four (λ (n : NodeSpec). has_channel (Some n) A ≡ true) (spec 1) (spec 2) (spec 3) (spec 4) refl refl refl refl) (correct_node (steady_run said beside) some there).there
 
-few : (said : Said) (beside : Bool) → AreFew (sync_count steady_cluster (λ id. is_correct (steady_run said beside) id && stays_on (steady_run said beside) id)) (sync_count steady_cluster (steady_run said beside).is_arbitrary)
+pub few : (said : Said) (beside : Bool) → AreFew (sync_count steady_cluster (λ id. is_correct (steady_run said beside) id && stays_on (steady_run said beside) id)) (sync_count steady_cluster (steady_run said beside).is_arbitrary)
 few said false = inl (refl, lit≤ tt)
 few said true = inr (inl (refl, lit≤ tt))
 
@@ -56,7 +56,7 @@ most_micro true two = record { le = tt }
 most_micro false true = record { le = tt }
 most_micro false false = record { le = tt }
 
-itself : (a : ℤ) → IsWithin (pos 0) (a -ℤ a)
+pub itself : (a : ℤ) → IsWithin (pos 0) (a -ℤ a)
 itself a = record { low = omega (arith, ints); high = omega (arith, ints) }
 
 stated_delay : (channel : Channel) (early : Bool) → IsDelay steady_cluster channel (delay_in_turn early)
@@ -74,7 +74,7 @@ flutters said beside sender receiver slot channel double linked share within =
     subst At (sym (same_double double)) (itself (delay_in_turn (2 * double / 2 % 2 == 0)))
 
 -- a correct node's frames come as they are
-regular : (said : Said) (beside : Bool) (sender : NodeSpec) (cycle receiver : ℕ) → Contains (correct_nodes (steady_run said beside)) sender → (steady_run said beside).event cycle sender.id receiver A ≡ Regular
+pub regular : (said : Said) (beside : Bool) (sender : NodeSpec) (cycle receiver : ℕ) → Contains (correct_nodes (steady_run said beside)) sender → (steady_run said beside).event cycle sender.id receiver A ≡ Regular
 regular said beside sender cycle receiver there = let correct = (correct_node (steady_run said beside) sender there).correct in rw correct refl
 
 covered : (said : Said) (beside : Bool) → IsSteadySetting (steady_run said beside) 0
@@ -98,7 +98,7 @@ may : (said : Said) (beside : Bool) → MayHaveArbitrary beside (steady_run said
 may said false = refl
 may said true = tt
 
-none_joins : (said : Said) (beside : Bool) → some_joins (steady_run said beside) ≡ false
+pub none_joins : (said : Said) (beside : Bool) → some_joins (steady_run said beside) ≡ false
 none_joins said false = refl
 none_joins said true = refl
 
@@ -158,12 +158,12 @@ stated_near said beside = record {
 
 -- ---- what comes of it
 
-five_checks : (beside : Bool) (k : ℕ) → 1 ≤ k → k ≤ 5 → sharp_holds_of k 0 (sharp_near beside steady_cluster 0) steady_cluster ≡ true
+pub five_checks : (beside : Bool) (k : ℕ) → 1 ≤ k → k ≤ 5 → sharp_holds_of k 0 (sharp_near beside steady_cluster 0) steady_cluster ≡ true
 five_checks beside zero from to = absurd (omega (arith, from))
 five_checks beside (suc zero) from to = refl
 five_checks beside (suc (suc k)) from to = checks beside (suc (suc k)) (omega arith) to
 
-of_bytes : (says : Bool) (event : Event) → SaysBytes event → SaysBytes (if says then event else Regular)
+pub of_bytes : (says : Bool) (event : Event) → SaysBytes event → SaysBytes (if says then event else Regular)
 of_bytes true event is = is
 of_bytes false event is = tt
 
@@ -202,7 +202,7 @@ steady_run_meets_premises lawful long said beside bytes = (steady said bytes law
 
 -- ---- the run that walks
 
-turns : (double : ℕ) → (2 * double % 2 ≡ 0) × (suc (2 * double) % 2 ≡ 1)
+pub turns : (double : ℕ) → (2 * double % 2 ≡ 0) × (suc (2 * double) % 2 ≡ 1)
 turns double = (omega arith, omega arith)
 
 walking_flutters : FluttersWithin walking_run 10_000_000

@@ -1,9 +1,12 @@
 -- what the public contract cites
 pub mod Ends
+pub mod FarRun
 pub mod Flutter
+pub mod HaltingRun
 pub mod Hearing
 pub mod Lengths
 pub mod Nearness
+pub mod ReachedRun
 pub mod Said
 pub mod SettlingHistories
 pub mod SharpBounds

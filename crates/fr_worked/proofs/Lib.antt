@@ -19,3 +19,4 @@ pub mod UnevenComes
 pub mod UnevenKept
 pub mod FarComes
 pub mod LateBegins
+pub mod EdgeReached

@@ -2,7 +2,6 @@
 use Rattle.std.specs.Prelude.{ℕ, pos, true, List, [], Some}
 use Rattle.fr_cluster.specs.Values.{Values}
 use Rattle.fr_cluster.specs.declared.nodes.NodeSpec.{NodeSpec}
-use Rattle.fr_history.specs.Worked.{on_a}
 
 -- the same on both channels
 abbrev pub on_both : ℕ → NodeSpec

@@ -15,3 +15,4 @@ pub mod Uneven
 pub mod UnevenCycles
 pub mod FarCycles
 pub mod Late
+pub mod Edge

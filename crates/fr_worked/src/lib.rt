@@ -16,11 +16,13 @@ ghost use Rattle.fr_worked.specs.Quiet.{worked_quiet};
 ghost use Rattle.fr_worked.specs.Lost.{worked_lost, worked_flipped, worked_lost_on_one};
 ghost use Rattle.fr_worked.specs.Working.{IsAsWritten, WorkedRunKeepsPrecision};
 
+mod edge;
 mod far;
 mod late;
 mod laws;
 mod uneven;
 
+pub use edge::the_precision_is_reached;
 pub use far::a_far_follower;
 use fr_history::{a_joined_run, one_lawful_run};
 pub use late::the_promise_begins_in_sync;
