@@ -76,6 +76,13 @@ SHARP_OR = {
     4: "lower these (as for C3), or make a macrotick longer",
     5: "lower these (as for C3), or gdActionPointOffset",
 }
+# Those for the way to sharp sync have how far action points lie apart on it; the first one is asked where the walk does not
+# last so long.
+SHARP_WAY_WHY = {number: WHY[number] if number != 3 else "the offset limit has to suffice for how far action points lie apart on "
+                 "the way" for number in (3, 4, 5)}
+SHARP_WAY_FORMULA = {number: text.replace("near", "reach") for number, text in SHARP_FORMULA.items()}
+SHARP_WAY_LETTERS = SHARP_LETTERS.replace("near is how far action points lie apart in sharp sync",
+                                          "reach is how far action points lie apart on the way to sharp sync")
 TURNS = {1: "pClusterDriftDamping", 2: "pRateCorrectionOut", 3: "pOffsetCorrectionOut",
          4: "gdActionPointOffset", 5: "gdStaticSlot", 6: "pRateCorrectionOut", 7: "pOffsetCorrectionOut",
          8: "gdActionPointOffset", 9: "gdStaticSlot"}

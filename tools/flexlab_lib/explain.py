@@ -4,12 +4,13 @@ import re
 from fractions import Fraction
 from types import SimpleNamespace
 
-from .advice import FORMULA, LETTERS, SHARP_FORMULA, SHARP_LETTERS, TURNS, WAY_FORMULA, advise
+from .advice import (FORMULA, LETTERS, SHARP_FORMULA, SHARP_LETTERS, SHARP_WAY_FORMULA, SHARP_WAY_LETTERS, TURNS, WAY_FORMULA,
+                     advise)
 from .constraints import broken, explain_constraint
 from .ending import USAGE as WORDS
 from .ending import DONE, FILE, NO, Stop
 from .forms import FORMS
-from .gaps import check_words, gap_words, sharp_check_words
+from .gaps import check_words, gap_words, sharp_check_words, sharp_way_words
 from .known import Known, version_of
 from .least import Kind
 from .ranges import FILE_BYTES, NAMES, table
@@ -102,6 +103,7 @@ def explain_line(line, words):
 WORD = {
     ("settle", 2): ("START", 0, 1000000000000, "ticks by which the first starts may differ, 1000000 in a microtick"),
     ("settle", 3): ("RATE", 0, 1000000000000, "ticks by which the first lengths of cycles may differ"),
+    ("settle", 5): ("FLUTTER", 0, MOST, "ticks by which a delay may differ between the two cycles of a double cycle"),
     ("bound", 3): ("FLUTTER", 0, MOST, "ticks by which a delay may differ between the two cycles of a double cycle"),
     ("make", 1): ("SEED", 0, 4294967295, ""), ("make", 2): ("DOUBLES", 1, 10000, "double cycles"),
     ("nm", 1): ("WIDTH", 1, 12, "bytes"),
@@ -250,23 +252,25 @@ def explain_check(number, left, right, words, way=False):
 
 
 def explain_sharp_check(name, number, left, right, words):
-    """A failing check of the sharper bounds, of a kind by its name, as `bound PARAMS sharp FLUTTER` tells it."""
-    known = known_of(words)
+    """A failing check of the sharper bounds, of a kind by its name, as `bound .. sharp FLUTTER` and `settle .. sharp FLUTTER` tell
+    it."""
+    known, way = known_of(words), words[0] == "settle"
     parameters = {name: value for name, (value, _) in known.values.items()}
-    kind = Kind(name == "beside", int(words[3]), max(key for _, key, _ in known.keys()))
-    told = sharp_check_words(number, left, right, parameters, kind)
+    kind = Kind(name == "beside", int(words[-1]), max(key for _, key, _ in known.keys()))
+    told = (sharp_way_words if way else sharp_check_words)(number, left, right, parameters, kind)
+    formula, letters = (SHARP_WAY_FORMULA, SHARP_WAY_LETTERS) if way else (SHARP_FORMULA, SHARP_LETTERS)
     turned = TURNS[number]
-    return [f"it asks: {SHARP_FORMULA[number]}", f"with {SHARP_LETTERS}", *told[1:],
-            f"{turned} stands on line {known.line(turned)}"]
+    return [f"it asks: {formula[number]}", f"with {letters}", *told[1:], f"{turned} stands on line {known.line(turned)}"]
 
 
 def explain_answer(text, words):
     """What an accepted request's text says that needs explanation: failing checks, and the first gap."""
     found = []
     for line in text.splitlines():
-        sharp = re.fullmatch(r"(alone |beside |)C([1-5]) fails (\d+) (\d+)", line) if words[2:3] == ["sharp"] else None
-        if sharp:
-            told = explain_sharp_check(sharp[1].strip(), *map(int, sharp.groups()[1:]), words)
+        sharp = re.fullmatch(r"(alone |beside |)(?:C([1-5]) fails|settles no check ([1-5])) (\d+) (\d+)", line)
+        if sharp and words[-2:-1] == ["sharp"]:
+            numbers = int(sharp[2] or sharp[3]), int(sharp[4]), int(sharp[5])
+            told = explain_sharp_check(sharp[1].strip(), *numbers, words)
             found += [line, *("  " + part for part in told)]
             continue
         check = re.fullmatch(r"(?:C([1-9]) fails|covered no check ([1-9])|settles no check ([1-5])) (\d+) (\d+)", line)

@@ -1,5 +1,5 @@
 """The first gap in coverage that a report names, in words, and what closes it."""
-from .advice import OR, SHARP_OR, SHARP_WHY, WAY_OR, WAY_WHY, WHY, advise, also
+from .advice import OR, SHARP_OR, SHARP_WAY_WHY, SHARP_WHY, WAY_OR, WAY_WHY, WHY, advise, also
 from .least import sharp_advise
 from .units import microseconds, ppm_of, signed
 
@@ -23,6 +23,17 @@ def sharp_check_words(number, left, right, parameters, kind):
              f"turn {name}: it is {now}, and with all else as it is {asks}; or {SHARP_OR[number]}"]
     more = also(number, parameters, value) if value is not None else None
     return found + ([more] if more else [])
+
+
+def sharp_way_words(number, left, right, parameters, kind):
+    """A failing check for the way to sharp sync in words."""
+    if number in (1, 2):
+        return sharp_check_words(number, left, right, parameters, kind)
+    name, now, value, fits = advise(number, right, parameters)
+    return [f"check C{number} for the way fails: {left} against {right}; {SHARP_WAY_WHY[number]}",
+            f"turn {name}: it is {now}, and with all else as it is C{number} asks for {value} at least"
+            + ("" if fits else ", which is beyond its range") + "; or let clocks begin nearer together, so give a lower START or "
+            f"RATE, or {SHARP_OR[number]}"]
 
 
 def gap_words(gap, cluster):
