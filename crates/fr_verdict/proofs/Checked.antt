@@ -7,7 +7,6 @@ use Rattle.std.proofs.lemmas.Int.{ints}
 use Rattle.std.proofs.lemmas.List.Kept.{AllPairs-filter}
 use Rattle.fr_base.specs.Within.{IsWithin}
 use Rattle.fr_base.specs.declared.node_row.NodeRow.{NodeRow}
-use Rattle.fr_base.specs.declared.state.Outcome.{Outcome}
 use Rattle.fr_base.specs.declared.state.Outcome.TheVariants.{Within}
 use Rattle.fr_base.specs.declared.state.State.TheVariants.{Active}
 use Rattle.fr_bound.specs.Bounds.{precision_of}
@@ -19,9 +18,9 @@ use Rattle.fr_cluster.specs.Values.{Values, amount}
 use Rattle.fr_cluster.specs.declared.names.ParamName.TheVariants as name
 use Rattle.fr_cluster.specs.declared.nodes.NodeSpec.{NodeSpec}
 use Rattle.fr_history.specs.History.{AreRowsOf, History, Record, record_at, row_for, row_of}
-use Rattle.fr_runs.proofs.Doubles.{even_length, odd_is_corrected, odd_length, status_even}
+use Rattle.fr_runs.proofs.Doubles.{even_length, odd_length}
 use Rattle.fr_runs.proofs.Receivers.{no_less, same_mapped}
-use Rattle.fr_runs.proofs.Rows.{Ascend, HasRow, all_rows, contains_map, each_row, has_row as row_there, map_contains, rows_are}
+use Rattle.fr_runs.proofs.Rows.{Ascend, HasRow, all_rows, contains_map, has_row as row_there, map_contains, rows_are}
 use Rattle.fr_runs.proofs.Spread.{RowsLie, macrotick_within, spread_within}
 use Rattle.fr_correct.specs.declared.term.Term.{Term}
 use Rattle.fr_coverage.specs.Coverage.{outweighs}
@@ -58,9 +57,10 @@ use Rattle.fr_verdict.specs.declared.unlawful.Unlawful.TheVariants as unlawful
 use Rattle.fr_verdict.proofs.Heard.{double_within, heard_in, pairs_heard, hearer_in, round_in, sends_in}
 use Rattle.fr_verdict.proofs.Items.{Unbroken, row_there as row_item, unbroken}
 use Rattle.fr_verdict.proofs.Doubles.{Part, each_record, part_at}
-use Rattle.fr_verdict.proofs.Recorded.{IsDouble, Passes, Rows, even_at, even_parted, node_two, odd_at, rate_follows, rate_term_is, regular_in, rows_in, start_follows, state_is, stays_active, steady, window}
+use Rattle.fr_verdict.proofs.Recorded.{IsDouble, Passes, Rows, even_at, even_parted, node_two, odd_at, regular_in, rows_in, window}
 use Rattle.fr_verdict.proofs.Standing.{AreTwo, Comes, comes_or_stays, has_row, lasting_has, nodes_in, nodes_stay}
 use Rattle.fr_verdict.proofs.Syncing.{early_not, is_in_sync_at}
+use Rattle.fr_verdict.proofs.Turning.{behind_active, goes_on, late_active, offset_applied, offset_told, rate_told}
 
 -- ---- what coverage says of the cluster
 
@@ -151,24 +151,16 @@ hearers p t even odd = record { rows = map (hearer_in p t even odd) (nodes_in p 
 
 odd_active : (p : Values) (t : TraceView) (h : History) (even odd : Record) (double k : ℕ) (node : NodeSpec) → IsSynced p t h even odd double k → Contains (nodes_in p even) node
     → (row_for odd.rows node.id).state ≡ Active
-odd_active p t h even odd double k node s among =
-    let rows = rows_in p t h even odd k s.passes s.is_double in
-    each_row (nodes_in p even) odd.rows (λ row. row.state ≡ Active) node rows.odd_rows among s.in_sync.active_odd
+odd_active p t h even odd double k node s among = late_active p t h even odd k s.passes s.is_double node s.in_sync.active_odd among
 
 supplied : (p : Values) (t : TraceView) (h : History) (even odd : Record) (double k : ℕ) (node : NodeSpec) → IsSynced p t h even odd double k → Contains (nodes_in p even) node
     → IsSupplied (round_in p t even odd) (hearer_in p t even odd node)
 supplied p t h even odd double k node s among =
     let w = s.passes in
     let d = s.is_double in
-    let two = node_two p t h even odd k node w d among in
-    let is = (rows_in p t h even odd k w d).odd_is node among in
-    let row = row_for odd.rows node.id in
     record {
-      regular = regular_in p t h even odd node two;
-      applied =
-          is.offset
-          ∙ ap (λ b. if b then (offset_term_in p (even ∷ h) odd.devs row.node).value else pos 0) (odd_is_corrected (even ∷ h) row (odd_length (length h) k d.counted) (odd_active p t h even odd double k node s among))
-          ∙ ap (λ n. (offset_term_in p (even ∷ h) odd.devs n).value) two.has_odd.number;
+      regular = regular_in p t h even odd node (node_two p t h even odd k node w d among);
+      applied = offset_applied p t h even odd k w d node (odd_active p t h even odd double k node s among) among;
       hears =
           heard_in p t h even odd k node w
           (pairs_heard p t double k (λ g is. s.covered g (inr (inr (inr (inr is))))) s.first s.from (double_within t h even odd k w.trace d)) d among;
@@ -252,16 +244,13 @@ offset_within : (p : Values) (t : TraceView) (h : History) (even odd : Record) (
     → (offset_term_in p (even ∷ h) odd.devs (row_for odd.rows node.id).node).outcome ≡ Within
 unfolding member_in
 offset_within p t h even odd double k node s among =
-    let two = node_two p t h even odd k node s.passes s.is_double among in
-    ap (λ n. (offset_term_in p (even ∷ h) odd.devs n).outcome) two.has_odd.number
+    ap (λ (term : Term). term.outcome) (offset_told p t h even odd k s.passes s.is_double node among)
     ∙ (kept p t h even odd double k s).uncut (member_in p t even odd node) (inl (inl (is_member p t even odd node among)))
 
 rate_is : (p : Values) (t : TraceView) (h : History) (even odd : Record) (double k : ℕ) (node : NodeSpec) → IsSynced p t h even odd double k → Contains (nodes_in p even) node
     → rate_term_in p (even ∷ h) odd.devs (row_for odd.rows node.id) ≡ (member_in p t even odd node).rate_term
 unfolding member_in
-rate_is p t h even odd double k node s among =
-    let two = node_two p t h even odd k node s.passes s.is_double among in
-    rate_term_is p (even ∷ h) odd node.id two.has_odd
+rate_is p t h even odd double k node s among = rate_told p t h even odd k s.passes s.is_double node among
 
 rate_within : (p : Values) (t : TraceView) (h : History) (even odd : Record) (double k : ℕ) (node : NodeSpec) → IsSynced p t h even odd double k → Contains (nodes_in p even) node
     → (rate_term_in p (even ∷ h) odd.devs (row_for odd.rows node.id)).outcome ≡ Within
@@ -272,14 +261,7 @@ rate_within p t h even odd double k node s among =
 active_behind : (p : Values) (t : TraceView) (h : History) (even odd : Record) (double k : ℕ) (node : NodeSpec) → IsSynced p t h even odd double k → Contains (nodes_in p even) node
     → (status_in p (odd ∷ even ∷ h) node.id).state ≡ Active
 active_behind p t h even odd double k node s among =
-    let w = s.passes in
-    let d = s.is_double in
-    let rows = rows_in p t h even odd k w d in
-    let two = node_two p t h even odd k node w d among in
-    let before : (status_in p h node.id).state ≡ Active =
-    sym (state_is p h even node.id two.has_even (rows.even_is node among)) ∙ each_row (nodes_in p even) even.rows (λ row. row.state ≡ Active) node rows.even_rows among s.in_sync.active_even in
-    stays_active p t h even odd k node.id (row_for odd.rows node.id) d.counted two.has_odd.is before
-    (ap₂ (λ (a b : Outcome). (a, b)) (offset_within p t h even odd double k node s among) (rate_within p t h even odd double k node s among))
+    behind_active p t h even odd k s.passes s.is_double node s.in_sync.active_even (offset_within p t h even odd double k node s among) (rate_within p t h even odd double k node s among) among
 
 -- ---- how far apart its clocks lie
 
@@ -317,34 +299,7 @@ followed : (p : Values) (t : TraceView) (h : History) (even odd even2 odd2 : Rec
 unfolding member_in
 followed p t h even odd even2 odd2 double k node step among among2 =
     let s = step.synced in
-    let w = s.passes in
-    let after = odd ∷ even ∷ h in
-    let one = node_two p t h even odd k node w s.is_double among in
-    let two = node_two p t after even2 odd2 (suc k) node w step.next among2 in
-    let rows = rows_in p t after even2 odd2 (suc k) w step.next in
-    let row = row_for odd.rows node.id in
-    let corrected = odd_is_corrected (even ∷ h) row (odd_length (length h) k s.is_double.counted) (odd_active p t h even odd double k node s among) in
-    let rate =
-    rate_follows p (even ∷ h) odd even2 node.id true one.has_odd two.has_even (rows.even_is node among2) corrected
-    ∙ ap (λ (term : Term). term.value) (rate_is p t h even odd double k node s among) in
-    let count : 2 * suc k ≡ suc (suc (2 * k)) = omega arith in
-    let next_at : record_at t.history (suc (suc (2 * k))) ≡ Some even2 = ap (record_at t.history) (sym count) ∙ even_at t after even2 odd2 (suc k) step.next in
-    let active = active_behind p t h even odd double k node s among in
-    record {
-      start = start_follows p (even ∷ h) odd even2 node.id one.has_odd two.has_even (rows.even_is node among2);
-      next = record {
-        even_rate = rate;
-        odd_rate = two.double.same_rate ∙ rate;
-        even_micro = two.even_micro;
-        odd_micro = two.odd_micro;
-        even_steady = steady p t node (suc (2 * k)) odd even2 w.changes one.there (odd_at t h even odd k s.is_double) next_at one.has_odd two.has_even;
-        odd_steady = two.steady;
-      };
-      active_even = state_is p after even2 node.id two.has_even (rows.even_is node among2) ∙ active;
-      active_odd =
-          state_is p (even2 ∷ after) odd2 node.id two.has_odd (rows.odd_is node among2)
-          ∙ status_even (window p t even) after even2 node.id (even_length (length after) (suc k) step.next.counted) ∙ active;
-    }
+    goes_on p t h even odd k s.passes s.is_double node even2 odd2 step.next (odd_active p t h even odd double k node s among) (active_behind p t h even odd double k node s among) among among2
 
 -- the row of a member in a later record
 next_row : Record → Member → NodeRow
@@ -501,7 +456,7 @@ synced_from p t double k h even odd w covered first d from = record { passes = w
 
 -- ---- and the whole trace keeps its precision
 
-of_part : (t : TraceView) (k : ℕ) (part : Part t.history k) → IsDouble t part.earlier part.even part.odd k
+pub of_part : (t : TraceView) (k : ℕ) (part : Part t.history k) → IsDouble t part.earlier part.even part.odd k
 of_part t k part = record { later = part.later; parted = part.parted; counted = part.counted }
 
 synced_at : (p : Values) (t : TraceView) (double : ℕ) → Passes p t → IsCoveredTrace p t → IsFirstSynced p t double → (k : ℕ) → Part t.history k → double ≤ k → IsInSyncAt p t.history k
@@ -531,7 +486,7 @@ skews p t double w covered first k part from =
       λ macrotick less. spread_within p (suc (2 * k)) (pos bound) part.odd.rows macrotick true (odd_length (2 * k) k refl) (no_less bound) (lie macrotick less).1,
     )
 
-there_is : {A : Type 0} (o : Option A) → IsSome o → (x : A) × (o ≡ Some x)
+pub there_is : {A : Type 0} (o : Option A) → IsSome o → (x : A) × (o ≡ Some x)
 there_is None is = absurd (cc)
 there_is (Some x) is = (x, refl)
 
