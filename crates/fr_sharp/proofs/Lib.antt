@@ -40,3 +40,4 @@ pub mod FreeLemmas
 pub mod FilesWorked
 pub mod TraceRows
 pub mod TraceSync
+pub mod TraceCycles

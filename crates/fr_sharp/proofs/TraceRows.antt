@@ -1,12 +1,10 @@
 -- The nodes with rows in a double cycle of a recorded trace, as receivers of its round: they have all senders, and two deviations of
 -- one sender on one channel are a steady pair.
-use Rattle.std.proofs.Common.{◌≡◌, ℕ, ◌*◌, ◌≤◌, ◌<◌, Bool, true, false, All, Some, ◌∷◌, length, List, map, ℤ, pos, refl, ap, subst, sym, ◌∙◌, arith}
+use Rattle.std.proofs.Common.{◌≡◌, ℕ, ◌≤◌, Bool, true, false, All, List, map, ℤ, pos, refl, subst, ◌∙◌, arith}
 use Rattle.std.specs.Prelude.{◌≤ℤ◌, Contains}
 use Rattle.std.proofs.lemmas.Int.{ints}
 use Rattle.fr_base.specs.Within.{IsWithin}
-use Rattle.fr_base.specs.declared.node_row.NodeRow.{NodeRow}
 use Rattle.fr_base.specs.declared.state.State.TheVariants.{Active}
-use Rattle.fr_bound.specs.Bounds.{arrival_error}
 use Rattle.fr_cluster.specs.Values.{Values}
 use Rattle.fr_cluster.specs.declared.nodes.NodeSpec.{NodeSpec}
 use Rattle.fr_cluster.proofs.KeyNodes.{key_among}

@@ -1,6 +1,6 @@
 -- A steady trace in sharp sync keeps the sharper precision, double cycle by double cycle, for as many as the rate limit holds the
 -- walk.
-use Rattle.std.proofs.Common.{◌≡◌, ◌⊎◌, ℕ, zero, suc, ◌+◌, ◌*◌, ◌<◌, ◌≤◌, Bool, true, false, All, Option, Some, List, [], ◌∷◌, ◌++◌, length, map, ℤ, pos, append_assoc, refl, ap, sym, ◌∙◌, subst, inl, inr, arith}
+use Rattle.std.proofs.Common.{◌≡◌, ℕ, zero, suc, ◌+◌, ◌*◌, ◌<◌, ◌≤◌, Bool, true, false, Option, Some, List, [], ◌∷◌, ◌++◌, length, map, ℤ, pos, append_assoc, refl, ap, sym, ◌∙◌, subst, inl, inr, arith}
 use Rattle.std.specs.Prelude.{◌+ℤ◌, ◌≤ℤ◌, Contains}
 use Rattle.std.specs.Option.{option_map_or}
 use Rattle.std.proofs.lemmas.Int.{ints}
@@ -10,12 +10,10 @@ use Rattle.fr_base.specs.declared.node_row.NodeRow.{NodeRow}
 use Rattle.fr_base.specs.declared.state.Outcome.TheVariants.{Within}
 use Rattle.fr_base.specs.declared.state.State.TheVariants.{Active}
 use Rattle.fr_bound.specs.Checks.{holds_of}
-use Rattle.fr_cluster.specs.Sane.{IsSane}
 use Rattle.fr_cluster.specs.Values.{Values, amount}
 use Rattle.fr_cluster.specs.declared.names.ParamName.TheVariants as name
 use Rattle.fr_cluster.specs.declared.nodes.NodeSpec.{NodeSpec}
 use Rattle.fr_correct.specs.declared.term.Term.{Term}
-use Rattle.fr_coverage.specs.declared.gap.Gap.{Gap}
 use Rattle.fr_coverage.specs.declared.gap.Gap.TheVariants as gap
 use Rattle.fr_history.specs.History.{AreRowsOf, History, Record, record_at, row_for}
 use Rattle.fr_history.specs.Skew.{skew_at}
@@ -36,7 +34,7 @@ use Rattle.fr_skew.specs.Spreads.{spread_at}
 use Rattle.fr_time.specs.Cycles.{odd_cycle}
 use Rattle.fr_time.specs.Position.{grid_for}
 use Rattle.fr_trace.specs.Trace.{TraceView, is_named}
-use Rattle.fr_verdict.specs.Gaps.{is_lasting, IsTraceGap, IsTracedCheckGap}
+use Rattle.fr_verdict.specs.Gaps.{is_lasting}
 use Rattle.fr_verdict.specs.Precision.{AreTermsWithin}
 use Rattle.fr_verdict.proofs.Checked.{ascend_in, few_nodes, of_part}
 use Rattle.fr_verdict.proofs.Doubles.{Part, part_at}
@@ -49,7 +47,7 @@ use Rattle.fr_sharp.specs.SharpBounds.{last_action, rate_walk, sharp_lambda, sha
 use Rattle.fr_sharp.specs.SharpRun.{WalkLastsAfter, WalkLastsUpTo}
 use Rattle.fr_sharp.specs.SharpRound.{as_member}
 use Rattle.fr_sharp.specs.SharpStep.{ActInReach, AreSharp, ComeSharply, IsInSharpSync, IsSharpDouble}
-use Rattle.fr_sharp.specs.SharpTraces.{recorded_flutter, CheckedTracesAreSteady, IsRecordedInSharpSync, IsSteadyTrace, RecordsEndWell, RecordsKeepApart, StaysRecordedInSharpSync, TracedChecksHold, TracesKeepSharpSync}
+use Rattle.fr_sharp.specs.SharpTraces.{recorded_flutter, CheckedTracesAreSteady, IsRecordedInSharpSync, IsSteadyTrace, RecordsEndWell, RecordsKeepApart, TracedChecksHold, TracesKeepSharpSync}
 use Rattle.fr_sharp.proofs.BoundLemmas.{key_slots_act_early, third_check_suffices, walk_is_held, walked_none}
 use Rattle.fr_sharp.proofs.LastingLemmas.{earlier, near_fits, up_to}
 use Rattle.fr_sharp.proofs.StepLemmas.{actions_lie_in_reach, ends_fit, macroticks_stay_sharp, next_is_near, sharp_sync_draws, spreads_shrink_in_reach}

@@ -1,7 +1,7 @@
 -- A recorded trace that no node joins: its deviations flutter by no more than both errors of an arrival, so from a double cycle in
 -- sharp sync on it keeps the sharper precision, for as many double cycles as the rate limit holds the walk. Frames are not asked
 -- to come within their slots: the fourth and the fifth check are not used.
-use Rattle.std.specs.Prelude.{◌≡◌, ◌<◌, ◌≤◌, ◌+◌, ◌*◌, ℕ, ℤ, pos, ◌≤ℤ◌, Bool, true, false, List, [], ◌∷◌, ◌++◌, length, All, Contains, Some}
+use Rattle.std.specs.Prelude.{◌≡◌, ◌<◌, ◌≤◌, ◌+◌, ◌*◌, ℕ, ℤ, pos, ◌≤ℤ◌, Bool, true, false, [], ◌∷◌, ◌++◌, length, All, Contains, Some}
 use Rattle.fr_base.specs.declared.state.State.TheVariants.{Active}
 use Rattle.fr_cluster.specs.Sane.{IsSane}
 use Rattle.fr_cluster.specs.Values.{Values, amount}
@@ -110,3 +110,27 @@ TracesKeepSharpSync =
     (beside : Bool) (p : Values) (t : TraceView) (double : ℕ)
     → IsSteadyTrace beside p t double → TracedChecksHold beside p → IsRecordedInSharpSync beside p (pos 0) t.history double
     → (passed : ℕ) → double + passed < t.doubles → StaysRecordedInSharpSync beside p t double passed
+
+-- ---- by the cycle, where lengths do not walk
+
+-- from a double cycle on a trace is in sharp sync in each one to its end, with lengths in their range, and each ends well; no
+-- corresponding macroticks lie further apart than the sharper precision, in ticks, and each node with a row is active
+pub record KeepsSharpClocks (beside : Bool) (p : Values) (t : TraceView) (double : ℕ) : Type 0 where
+  pub synced : (k : ℕ) → double ≤ k → k < t.doubles → IsRecordedInSharpSync beside p (pos 0) t.history k
+  pub skew :
+      (cycle macrotick : ℕ) → 2 * double ≤ cycle → cycle < length t.history → macrotick < amount p name.gMacroPerCycle
+      → skew_at p t.history cycle macrotick ≤ℤ pos (sharp_precision beside p (recorded_flutter p))
+  pub active :
+      (cycle : ℕ) (r : Record) → 2 * double ≤ cycle → record_at t.history cycle ≡ Some r
+      → All (λ row. row.state ≡ Active) r.rows
+  pub ends :
+      (k : ℕ) (later h : History) (even odd : Record) → double ≤ k → t.history ≡ later ++ odd ∷ even ∷ h → length h ≡ 2 * k
+      → RecordsEndWell p h even odd
+
+-- where the first check holds too it is so from a double cycle in sharp sync on
+abbrev pub TracesKeepSharpPrecision : Type 0
+TracesKeepSharpPrecision =
+    (beside : Bool) (p : Values) (t : TraceView) (double : ℕ)
+    → IsSteadyTrace beside p t double
+    → sharp_holds_of 1 (recorded_flutter p) (sharp_near beside p (recorded_flutter p)) p ≡ true → TracedChecksHold beside p
+    → IsRecordedInSharpSync beside p (pos 0) t.history double → KeepsSharpClocks beside p t double
