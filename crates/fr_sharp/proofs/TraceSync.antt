@@ -89,8 +89,20 @@ module _ (beside : Bool) (p : Values) (t : TraceView) (double : ℕ) (s : IsStea
   abbrev flutter : ℕ
   flutter = recorded_flutter p
 
-  abbrev reach : ℤ
-  reach = pos (sharp_near beside p (recorded_flutter p))
+  abbrev pi : ℕ
+  pi = sharp_pi beside p (recorded_flutter p)
+
+  abbrev lambda : ℕ
+  lambda = sharp_lambda beside p (recorded_flutter p)
+
+  abbrev near : ℕ
+  near = sharp_near beside p (recorded_flutter p)
+
+  abbrev precision : ℕ
+  precision = sharp_precision beside p (recorded_flutter p)
+
+  abbrev walked : ℕ → ℤ
+  walked passed = walked_after p (recorded_flutter p) passed
 
   passes : Passes p t
   passes = record { sane = s.sane; trace = s.trace; fits = s.fits; lawful = s.lawful; lengths = s.lengths; changes = s.changes }
@@ -101,68 +113,62 @@ module _ (beside : Bool) (p : Values) (t : TraceView) (double : ℕ) (s : IsStea
   second : holds_of 2 p ≡ true
   second = checks.second
 
-  limit : LimitSuffices p (pos (sharp_near beside p (recorded_flutter p)))
-  limit = third_check_suffices p (recorded_flutter p) (sharp_near beside p (recorded_flutter p)) checks.third
+  limit : LimitSuffices p (pos near)
+  limit = third_check_suffices p flutter near checks.third
 
   abbrev SharpRows : ℤ → List NodeRow → Type 0
-  SharpRows beyond rows = AreSharp p (sharp_pi beside p (recorded_flutter p)) (sharp_lambda beside p (recorded_flutter p)) beyond rows
+  SharpRows beyond rows = AreSharp p pi lambda beyond rows
 
   -- ---- one double cycle, while the walk lasts
 
-  module _ (k passed : ℕ) (from : double ≤ k) (within : k < t.doubles) (before : WalkLastsAfter p (recorded_flutter p) passed) (h : History) (even odd : Record) (d : IsDouble t h even odd k)
-      (sync : IsInSharpSync beside p (recorded_flutter p) (walked_after p (recorded_flutter p) passed) even.rows odd.rows) where
+  module _ (k passed : ℕ) (from : double ≤ k) (within : k < t.doubles) (before : WalkLastsAfter p flutter passed) (h : History) (even odd : Record) (d : IsDouble t h even odd k)
+      (sync : IsInSharpSync beside p flutter (walked passed) even.rows odd.rows) where
     abbrev members : List Member
     members = traced_members p t even odd
 
-    abbrev beyond : ℤ
-    beyond = walked_after p (recorded_flutter p) passed
+    sharp : AreSharp p pi lambda (walked passed) (map (λ (node : Member). node.even) members)
+    sharp = subst (SharpRows (walked passed)) (sym (evens_are p t h even odd k passes d)) sync.rows
 
-    abbrev next : ℤ
-    next = walked_after p (recorded_flutter p) (suc passed)
-
-    sharp : AreSharp p (sharp_pi beside p (recorded_flutter p)) (sharp_lambda beside p (recorded_flutter p)) (walked_after p (recorded_flutter p) passed) (map (λ (node : Member). node.even) (traced_members p t even odd))
-    sharp = subst (SharpRows (walked_after p (recorded_flutter p) passed)) (sym (evens_are p t h even odd k passes d)) sync.rows
-
-    held : CanWalk p (recorded_flutter p) (walked_after p (recorded_flutter p) passed) (rate_walk p (recorded_flutter p))
-        × (pos 0 ≤ℤ walked_after p (recorded_flutter p) (suc passed))
-        × ((walked_after p (recorded_flutter p) passed +ℤ rate_walk p (recorded_flutter p)) ≤ℤ walked_after p (recorded_flutter p) (suc passed))
-    held = walk_is_held p (recorded_flutter p) passed s.sane second before
+    held : CanWalk p flutter (walked passed) (rate_walk p flutter)
+        × (pos 0 ≤ℤ walked (suc passed))
+        × ((walked passed +ℤ rate_walk p flutter) ≤ℤ walked (suc passed))
+    held = walk_is_held p flutter passed s.sane second before
 
     le_itself : (n : ℕ) → n ≤ n
     le_itself n = omega arith
 
-    acts : ActInReach p (pos (sharp_near beside p (recorded_flutter p))) (pos (last_action p)) (traced_members p t even odd)
+    acts : ActInReach p (pos near) (pos (last_action p)) members
     acts is_odd one other action here there first last =
-        actions_lie_in_reach p (recorded_flutter p) (sharp_pi beside p (recorded_flutter p)) (sharp_lambda beside p (recorded_flutter p)) (walked_after p (recorded_flutter p) passed) (rate_walk p (recorded_flutter p))
-        (pos (sharp_near beside p (recorded_flutter p))) (pos (last_action p)) action is_odd (traced_members p t even odd) one other
+        actions_lie_in_reach p flutter pi lambda (walked passed) (rate_walk p flutter)
+        (pos near) (pos (last_action p)) action is_odd members one other
         (record {
           sane = s.sane;
           walks = held.0;
           suffices = limit;
           early = (key_slots_act_early p s.sane).1;
           fits =
-              near_fits p (sharp_pi beside p (recorded_flutter p)) (sharp_lambda beside p (recorded_flutter p)) (sharp_near beside p (recorded_flutter p)) s.sane
-              (le_itself (sharp_near beside p (recorded_flutter p)));
+              near_fits p pi lambda near s.sane
+              (le_itself near);
         })
         sharp (members_regular p t h even odd k passes d) here there first last
 
-    heard : IsSharpDouble beside p (recorded_flutter p) (senders_of (round_in p t even odd)) (traced_members p t even odd) (pos (last_action p))
+    heard : IsSharpDouble beside p flutter (senders_of (round_in p t even odd)) members (pos (last_action p))
     heard =
-        double_is_sharp p t h even odd k passes d (pos (sharp_near beside p (recorded_flutter p))) limit acts (s.heard k from within) sync.active_odd beside s.arbitrary few
+        double_is_sharp p t h even odd k passes d (pos near) limit acts (s.heard k from within) sync.active_odd beside s.arbitrary few
 
-    come : (one other : Member) → Contains (traced_members p t even odd) one → Contains (traced_members p t even odd) other
-        → ComeSharply p (sharp_pi beside p (recorded_flutter p)) (sharp_lambda beside p (recorded_flutter p)) (walked_after p (recorded_flutter p) (suc passed)) one other
+    come : (one other : Member) → Contains members one → Contains members other
+        → ComeSharply p pi lambda (walked (suc passed)) one other
     come one other here there =
-        spreads_shrink_in_reach beside p (recorded_flutter p) (senders_of (round_in p t even odd)) (traced_members p t even odd)
-        (sharp_pi beside p (recorded_flutter p)) (sharp_lambda beside p (recorded_flutter p)) (sharp_pi beside p (recorded_flutter p)) (sharp_lambda beside p (recorded_flutter p))
-        (walked_after p (recorded_flutter p) passed) (rate_walk p (recorded_flutter p)) (walked_after p (recorded_flutter p) (suc passed))
-        (pos (sharp_near beside p (recorded_flutter p))) (pos (last_action p)) one other
-        (record { sane = s.sane; walks = held.0; suffices = limit; early = (key_slots_act_early p s.sane).1 }) acts held.1 held.2 (sharp_sync_draws beside p (recorded_flutter p)) sharp heard here there
+        spreads_shrink_in_reach beside p flutter (senders_of (round_in p t even odd)) members
+        pi lambda pi lambda
+        (walked passed) (rate_walk p flutter) (walked (suc passed))
+        (pos near) (pos (last_action p)) one other
+        (record { sane = s.sane; walks = held.0; suffices = limit; early = (key_slots_act_early p s.sane).1 }) acts held.1 held.2 (sharp_sync_draws beside p flutter) sharp heard here there
 
     -- ---- behind it
 
     own : (node : NodeSpec) → Contains (nodes_in p even) node
-        → ComeSharply p (sharp_pi beside p (recorded_flutter p)) (sharp_lambda beside p (recorded_flutter p)) (walked_after p (recorded_flutter p) (suc passed)) (as_member p (hearer_in p t even odd node)) (as_member p (hearer_in p t even odd node))
+        → ComeSharply p pi lambda (walked (suc passed)) (as_member p (hearer_in p t even odd node)) (as_member p (hearer_in p t even odd node))
     own node among =
         let at = member_there p t h even odd k passes d node among in
         come (as_member p (hearer_in p t even odd node)) (as_member p (hearer_in p t even odd node)) at at
@@ -187,32 +193,27 @@ module _ (beside : Bool) (p : Values) (t : TraceView) (double : ℕ) (s : IsStea
               (λ node among. ap (λ n. (status_in p (odd ∷ even ∷ h) n).state) (node_two p t h even odd k node passes d among).has_odd.number ∙ active node among);
         }
 
-    precise : (macrotick : ℕ) (is_odd : Bool) (one other : Member) → macrotick < amount p name.gMacroPerCycle → Contains (traced_members p t even odd) one → Contains (traced_members p t even odd) other
-        → IsWithin (pos (sharp_precision beside p (recorded_flutter p))) (gap_of p is_odd (pos macrotick) (row_in is_odd one.even one.odd) (row_in is_odd other.even other.odd))
+    precise : (macrotick : ℕ) (is_odd : Bool) (one other : Member) → macrotick < amount p name.gMacroPerCycle → Contains members one → Contains members other
+        → IsWithin (pos precision) (gap_of p is_odd (pos macrotick) (row_in is_odd one.even one.odd) (row_in is_odd other.even other.odd))
     precise macrotick is_odd one other less here there =
-        macroticks_stay_sharp p (sharp_pi beside p (recorded_flutter p)) (sharp_lambda beside p (recorded_flutter p)) (sharp_pi beside p (recorded_flutter p)) (sharp_lambda beside p (recorded_flutter p))
-        (walked_after p (recorded_flutter p) passed) (walked_after p (recorded_flutter p) (suc passed)) (traced_members p t even odd) one other
-        (sharp_precision beside p (recorded_flutter p)) (pos macrotick) is_odd s.sane sharp (members_regular p t h even odd k passes d) here there (come one other here there)
-        (le_itself (sharp_precision beside p (recorded_flutter p))) (ends_fit beside p (recorded_flutter p)) (no_less macrotick) (macrotick_within p macrotick s.sane less)
+        macroticks_stay_sharp p pi lambda pi lambda
+        (walked passed) (walked (suc passed)) members one other
+        precision (pos macrotick) is_odd s.sane sharp (members_regular p t h even odd k passes d) here there (come one other here there)
+        (le_itself precision) (ends_fit beside p flutter) (no_less macrotick) (macrotick_within p macrotick s.sane less)
 
-    pub skews : (macrotick : ℕ) (is_odd : Bool) → macrotick < amount p name.gMacroPerCycle → skew_at p t.history (cycle_in is_odd k) macrotick ≤ℤ pos (sharp_precision beside p (recorded_flutter p))
+    pub skews : (macrotick : ℕ) (is_odd : Bool) → macrotick < amount p name.gMacroPerCycle → skew_at p t.history (cycle_in is_odd k) macrotick ≤ℤ pos precision
     skews macrotick is_odd less = by is_odd
       where
-        apart : ℕ
-        apart = sharp_precision beside p (recorded_flutter p)
-
         Most : ℕ → Option Record → Type 0
-        Most cycle o = option_map_or (λ r. spread_at (grid_for p) cycle r.rows macrotick) o (pos 0) ≤ℤ pos (sharp_precision beside p (recorded_flutter p))
+        Most cycle o = option_map_or (λ r. spread_at (grid_for p) cycle r.rows macrotick) o (pos 0) ≤ℤ pos precision
 
-        by : (b : Bool) → skew_at p t.history (cycle_in b k) macrotick ≤ℤ pos (sharp_precision beside p (recorded_flutter p))
+        by : (b : Bool) → skew_at p t.history (cycle_in b k) macrotick ≤ℤ pos precision
         by false =
-            let bound = sharp_precision beside p (recorded_flutter p) in
-            let lie = rows_lie p t h even odd k passes d (pos bound) macrotick (λ odd_is one other here there. precise macrotick odd_is one other less here there) in
-            subst (Most (2 * k)) (sym (even_at t h even odd k d)) (spread_within p (2 * k) (pos bound) even.rows macrotick false (even_length (2 * k) k refl) (no_less bound) lie.0)
+            let lie = rows_lie p t h even odd k passes d (pos precision) macrotick (λ odd_is one other here there. precise macrotick odd_is one other less here there) in
+            subst (Most (2 * k)) (sym (even_at t h even odd k d)) (spread_within p (2 * k) (pos precision) even.rows macrotick false (even_length (2 * k) k refl) (no_less precision) lie.0)
         by true =
-            let bound = sharp_precision beside p (recorded_flutter p) in
-            let lie = rows_lie p t h even odd k passes d (pos bound) macrotick (λ odd_is one other here there. precise macrotick odd_is one other less here there) in
-            subst (Most (suc (2 * k))) (sym (odd_at t h even odd k d)) (spread_within p (suc (2 * k)) (pos bound) odd.rows macrotick true (odd_length (2 * k) k refl) (no_less bound) lie.1)
+            let lie = rows_lie p t h even odd k passes d (pos precision) macrotick (λ odd_is one other here there. precise macrotick odd_is one other less here there) in
+            subst (Most (suc (2 * k))) (sym (odd_at t h even odd k d)) (spread_within p (suc (2 * k)) (pos precision) odd.rows macrotick true (odd_length (2 * k) k refl) (no_less precision) lie.1)
 
     -- ---- the next one
 
@@ -238,7 +239,7 @@ module _ (beside : Bool) (p : Values) (t : TraceView) (double : ℕ) (s : IsStea
       number_is : (node : NodeSpec) → Contains (nodes_in p even) node → (row_for even.rows node.id).node ≡ node.id
       number_is node among = (node_two p t h even odd k node passes d among).has_even.number
 
-      followed_at : (node : Member) → Contains (traced_members p t even odd) node → IsFollowed p node (next_row even2 node) (next_row odd2 node)
+      followed_at : (node : Member) → Contains members node → IsFollowed p node (next_row even2 node) (next_row odd2 node)
       unfolding next_row
       followed_at =
           of_members p t h even odd k passes d (λ (node : Member). IsFollowed p node (row_for even2.rows node.even.node) (row_for odd2.rows node.even.node))
@@ -246,7 +247,7 @@ module _ (beside : Bool) (p : Values) (t : TraceView) (double : ℕ) (s : IsStea
           let At : ℕ → Type 0 = λ id. IsFollowed p (as_member p (hearer_in p t even odd node)) (row_for even2.rows id) (row_for odd2.rows id) in
           subst At (sym (number_is node among)) (follows node among))
 
-      next_evens : map (next_row even2) (traced_members p t even odd) ≡ even2.rows
+      next_evens : map (next_row even2) members ≡ even2.rows
       unfolding next_row
       next_evens =
           let Are : List NodeSpec → Type 0 = λ nodes. AreRowsOf nodes even2.rows in
@@ -257,7 +258,7 @@ module _ (beside : Bool) (p : Values) (t : TraceView) (double : ℕ) (s : IsStea
           (λ node among. ap (row_for even2.rows) (number_is node among))
           ∙ rows_are (nodes_in p even) even2.rows (ascend_in p even s.sane) (subst Are same_nodes rows.even_rows)
 
-      pub next_sync : IsInSharpSync beside p (recorded_flutter p) (walked_after p (recorded_flutter p) (suc passed)) even2.rows odd2.rows
+      pub next_sync : IsInSharpSync beside p flutter (walked (suc passed)) even2.rows odd2.rows
       next_sync =
           let rows = rows_in p t (odd ∷ even ∷ h) even2 odd2 (suc k) passes d2 in
           let Are : List NodeRow → List NodeSpec → Type 0 = λ rs nodes. AreRowsOf nodes rs in
@@ -266,12 +267,12 @@ module _ (beside : Bool) (p : Values) (t : TraceView) (double : ℕ) (s : IsStea
             active_even = all_rows (nodes_in p even) even2.rows (λ row. row.state ≡ Active) ascend (subst (Are even2.rows) same_nodes rows.even_rows) (λ node among. (follows node among).active_even);
             active_odd = all_rows (nodes_in p even) odd2.rows (λ row. row.state ≡ Active) ascend (subst (Are odd2.rows) same_nodes rows.odd_rows) (λ node among. (follows node among).active_odd);
             rows =
-                subst (SharpRows (walked_after p (recorded_flutter p) (suc passed))) next_evens
-                (next_is_near p (traced_members p t even odd) (sharp_pi beside p (recorded_flutter p)) (sharp_lambda beside p (recorded_flutter p)) (walked_after p (recorded_flutter p) (suc passed)) (next_row even2)
+                subst (SharpRows (walked (suc passed))) next_evens
+                (next_is_near p members pi lambda (walked (suc passed)) (next_row even2)
                 (next_row odd2) come
                 (
-                All-along (Contains (traced_members p t even odd)) (λ (node : Member). IsFollowed p node (next_row even2 node) (next_row odd2 node)) (traced_members p t even odd) followed_at
-                (All-contains_itself (traced_members p t even odd))
+                All-along (Contains members) (λ (node : Member). IsFollowed p node (next_row even2 node) (next_row odd2 node)) members followed_at
+                (All-contains_itself members)
                 ));
           }
 
@@ -279,25 +280,25 @@ module _ (beside : Bool) (p : Values) (t : TraceView) (double : ℕ) (s : IsStea
 
   -- the records of a double cycle in sharp sync are those that are found
   pub at_double : (k : ℕ) (beyond : ℤ) (h : History) (even odd : Record) → IsDouble t h even odd k → IsRecordedInSharpSync beside p beyond t.history k
-      → IsInSharpSync beside p (recorded_flutter p) beyond even.rows odd.rows
+      → IsInSharpSync beside p flutter beyond even.rows odd.rows
   at_double k beyond h even odd d sync =
       let next : odd_cycle k ≡ suc (2 * k) = omega arith in
       let early : ◌≡◌ {A = Option Record} (Some sync.even) (Some even) = sym sync.has_even ∙ even_at t h even odd k d in
       let late : ◌≡◌ {A = Option Record} (Some sync.odd) (Some odd) = sym sync.has_odd ∙ ap (record_at t.history) next ∙ odd_at t h even odd k d in
       let even_is : sync.even ≡ even = cc early in
       let odd_is : sync.odd ≡ odd = cc late in
-      let Even : Record → Type 0 = λ r. IsInSharpSync beside p (recorded_flutter p) beyond r.rows sync.odd.rows in
-      let Odd : Record → Type 0 = λ r. IsInSharpSync beside p (recorded_flutter p) beyond even.rows r.rows in
+      let Even : Record → Type 0 = λ r. IsInSharpSync beside p flutter beyond r.rows sync.odd.rows in
+      let Odd : Record → Type 0 = λ r. IsInSharpSync beside p flutter beyond even.rows r.rows in
       subst Odd odd_is (subst Even even_is sync.in_sync)
 
   module _ (begins : IsRecordedInSharpSync beside p (pos 0) t.history double) where
-    pub sync_after : (passed : ℕ) → double + passed < t.doubles → WalkLastsUpTo p (recorded_flutter p) passed → (h : History) (even odd : Record) → IsDouble t h even odd (double + passed)
-        → IsInSharpSync beside p (recorded_flutter p) (walked_after p (recorded_flutter p) passed) even.rows odd.rows
+    pub sync_after : (passed : ℕ) → double + passed < t.doubles → WalkLastsUpTo p flutter passed → (h : History) (even odd : Record) → IsDouble t h even odd (double + passed)
+        → IsInSharpSync beside p flutter (walked passed) even.rows odd.rows
     sync_after zero within before h even odd d =
         let same : double + 0 ≡ double = omega arith in
         let At : ℕ → Type 0 = λ k. IsDouble t h even odd k in
-        let Beyond : ℤ → Type 0 = λ beyond. IsInSharpSync beside p (recorded_flutter p) beyond even.rows odd.rows in
-        subst Beyond (sym (walked_none p (recorded_flutter p))) (at_double double (pos 0) h even odd (subst At same d) begins)
+        let Beyond : ℤ → Type 0 = λ beyond. IsInSharpSync beside p flutter beyond even.rows odd.rows in
+        subst Beyond (sym (walked_none p flutter)) (at_double double (pos 0) h even odd (subst At same d) begins)
     sync_after (suc passed) within before [] even odd d = let counted : 0 ≡ 2 * (double + suc passed) = d.counted in absurd (omega (arith, counted))
     sync_after (suc passed) within before (o ∷ []) even odd d = let counted : 1 ≡ 2 * (double + suc passed) = d.counted in absurd (omega (arith, counted))
     sync_after (suc passed) within before (o ∷ e ∷ g) even odd d =
@@ -309,9 +310,9 @@ module _ (beside : Bool) (p : Values) (t : TraceView) (double : ℕ) (s : IsStea
           parted = d.parted ∙ sym (append_assoc d.later (odd ∷ even ∷ []) (o ∷ e ∷ g));
           counted = omega (arith, counted);
         } in
-        let still = earlier p (recorded_flutter p) passed before in
+        let still = earlier p flutter passed before in
         let less : double + passed < t.doubles = omega (arith, within) in
-        let own = sync_after passed less (up_to p (recorded_flutter p) passed still) g e o prior in
+        let own = sync_after passed less (up_to p flutter passed still) g e o prior in
         next_sync (double + passed) passed (at_least double passed) less still g e o prior own even odd (subst At one d)
       where
         at_least : (a b : ℕ) → a ≤ a + b
@@ -320,8 +321,8 @@ module _ (beside : Bool) (p : Values) (t : TraceView) (double : ℕ) (s : IsStea
     found_at : (k : ℕ) → k < t.doubles → Part t.history k
     found_at k within = let whole = s.trace.whole in part_at t.history k (omega (arith, whole, within))
 
-    synced_at : (passed : ℕ) → double + passed < t.doubles → WalkLastsUpTo p (recorded_flutter p) passed
-        → IsRecordedInSharpSync beside p (walked_after p (recorded_flutter p) passed) t.history (double + passed)
+    synced_at : (passed : ℕ) → double + passed < t.doubles → WalkLastsUpTo p flutter passed
+        → IsRecordedInSharpSync beside p (walked passed) t.history (double + passed)
     synced_at passed within before =
         let k : ℕ = double + passed in
         let part = found_at (double + passed) within in
@@ -335,11 +336,11 @@ module _ (beside : Bool) (p : Values) (t : TraceView) (double : ℕ) (s : IsStea
           in_sync = sync_after passed within before part.earlier part.even part.odd d;
         }
 
-    keeps_at : (passed : ℕ) → double + passed < t.doubles → WalkLastsAfter p (recorded_flutter p) passed → RecordsKeepApart p t (double + passed) (sharp_precision beside p (recorded_flutter p))
+    keeps_at : (passed : ℕ) → double + passed < t.doubles → WalkLastsAfter p flutter passed → RecordsKeepApart p t (double + passed) precision
     keeps_at passed within before =
         let part = found_at (double + passed) within in
         let d : IsDouble t part.earlier part.even part.odd (double + passed) = of_part t (double + passed) part in
-        let up = up_to p (recorded_flutter p) passed before in
+        let up = up_to p flutter passed before in
         record {
           skew = skews (double + passed) passed (at_least double passed) within before part.earlier part.even part.odd d (sync_after passed within up part.earlier part.even part.odd d);
           ends = λ later h even odd parted counted.
