@@ -45,3 +45,6 @@ pub mod FromFiles
 pub mod TestedLemmas
 pub mod FreeLemmas
 pub mod FilesWorked
+pub mod TraceRows
+pub mod TraceSync
+pub mod TraceCycles

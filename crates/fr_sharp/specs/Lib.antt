@@ -19,6 +19,7 @@ pub mod SharpSettling
 pub mod SharpStatement
 pub mod SharpStep
 pub mod SharpTested
+pub mod SharpTraces
 pub mod SharpWay
 pub mod Steady
 pub mod SteadyRuns

@@ -25,6 +25,7 @@ mod steady;
 mod steady_runs;
 mod step;
 mod tested;
+mod traces;
 mod way;
 mod worked_run;
 
@@ -52,5 +53,6 @@ pub use steady::{pairs_are_steady, steady_values_place};
 pub use steady_runs::runs_hear_steadily;
 pub use step::{sharp_spreads_shrink, sharp_sync_is_kept};
 pub use tested::{one_first_sharp_sync, sharp_sync_is_tested};
+pub use traces::traces_keep_sharp_sync;
 pub use way::{SharpWay, sharp_settle};
 pub use worked_run::{a_steady_run, files_that_flutter};
