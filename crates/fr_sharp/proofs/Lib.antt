@@ -33,6 +33,7 @@ pub mod RunStated
 pub mod RunWorked
 pub mod RunReached
 pub mod RunHalting
+pub mod RunDriven
 pub mod FarNumbers
 pub mod RunFar
 pub mod RunFarOlder

@@ -6,6 +6,7 @@
 mod bounding;
 mod bounds;
 mod checking;
+mod driven_run;
 mod ends;
 mod far_run;
 mod files;
@@ -28,6 +29,7 @@ mod worked_run;
 pub use bounding::{SharpValues, sharp_bounds, sharp_lasts};
 pub use bounds::{sharp_bounds_are_below, sharp_checks_suffice, walks_are_bounded};
 pub use checking::{sharp_checks, sharp_side};
+pub use driven_run::a_driven_run;
 pub use ends::ends_come_near;
 pub use far_run::far_runs_reach;
 pub use files::{covered_files_keep_sharply, files_are_steady, files_keep_sharp_precision};
