@@ -37,6 +37,7 @@ pub mod RunCycles
 pub mod RunWorked
 pub mod RunReached
 pub mod RunHalting
+pub mod RunDriven
 pub mod FarNumbers
 pub mod RunFar
 pub mod RunFarOlder

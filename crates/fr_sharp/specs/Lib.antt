@@ -1,4 +1,5 @@
 -- what the public contract cites
+pub mod DrivenRun
 pub mod Ends
 pub mod FarRun
 pub mod Flutter
