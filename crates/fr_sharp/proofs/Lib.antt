@@ -16,6 +16,7 @@ pub mod RoundLemmas
 pub mod SettlingLemmas
 pub mod WayLemmas
 pub mod OneWay
+pub mod WayRows
 pub mod LastingLemmas
 pub mod OlderLemmas
 pub mod SharpRows
@@ -30,14 +31,16 @@ pub mod RowsSupplied
 pub mod RunDoubles
 pub mod RunSync
 pub mod RunSettles
+pub mod RunStated
 pub mod RunWay
 pub mod RunCycles
-pub mod RunStated
 pub mod RunWorked
 pub mod RunReached
 pub mod RunHalting
 pub mod FarNumbers
 pub mod RunFar
+pub mod RunFarOlder
+pub mod FarWorked
 pub mod FromFiles
 pub mod TestedLemmas
 pub mod FreeLemmas
