@@ -4,17 +4,20 @@ import re
 from fractions import Fraction
 from types import SimpleNamespace
 
-from .advice import FORMULA, LETTERS, WAY_FORMULA, advise
+from .advice import (FORMULA, LETTERS, SHARP_FORMULA, SHARP_LETTERS, SHARP_WAY_FORMULA, SHARP_WAY_LETTERS, TURNS, WAY_FORMULA,
+                     advise)
 from .constraints import broken, explain_constraint
 from .ending import USAGE as WORDS
 from .ending import DONE, FILE, NO, Stop
 from .forms import FORMS
-from .gaps import check_words, gap_words
+from .gaps import check_words, gap_words, sharp_check_words, sharp_way_words
 from .known import Known, version_of
+from .least import Kind
 from .ranges import FILE_BYTES, NAMES, table
 from .reasons import EXPLAIN, MEANING, short
 from .records import load
 from .machine import printed
+from .sharp import MOST
 from . import program as programs
 
 ROLES = {
@@ -24,10 +27,9 @@ ROLES = {
     "capture": {"capture": 2}, "cold": {"params": 1, "power": 2}, "make": {}, "check": {"params": 1, "trace": 2},
 }
 USAGE = {
-    "frame": "frame A FILE or frame B FILE", "bound": "bound PARAMS, bound PARAMS join or bound PARAMS sharp "
-                                                      "FLUTTER",
-    "upgrade": "upgrade PARAMS", "settle": "settle PARAMS START RATE or settle PARAMS START RATE "
-                                                        "sharp FLUTTER",
+    "frame": "frame A FILE or frame B FILE",
+    "bound": "bound PARAMS, bound PARAMS join or bound PARAMS sharp FLUTTER", "upgrade": "upgrade PARAMS",
+    "settle": "settle PARAMS START RATE or settle PARAMS START RATE sharp FLUTTER",
     "nm": "nm WIDTH FILE", "run": "run PARAMS DRIFT SCRIPT", "trace": "trace PARAMS DRIFT SCRIPT",
     "check": "check PARAMS TRACE", "make": "make SEED DOUBLES", "capture": "capture A FILE or capture B "
                                                                            "FILE", "cold": "cold PARAMS POWER",
@@ -101,6 +103,8 @@ def explain_line(line, words):
 WORD = {
     ("settle", 2): ("START", 0, 1000000000000, "ticks by which the first starts may differ, 1000000 in a microtick"),
     ("settle", 3): ("RATE", 0, 1000000000000, "ticks by which the first lengths of cycles may differ"),
+    ("settle", 5): ("FLUTTER", 0, MOST, "ticks by which a delay may differ between the two cycles of a double cycle"),
+    ("bound", 3): ("FLUTTER", 0, MOST, "ticks by which a delay may differ between the two cycles of a double cycle"),
     ("make", 1): ("SEED", 0, 4294967295, ""), ("make", 2): ("DOUBLES", 1, 10000, "double cycles"),
     ("nm", 1): ("WIDTH", 1, 12, "bytes"),
 }
@@ -247,10 +251,28 @@ def explain_check(number, left, right, words, way=False):
             *check_words(number, left, right, parameters, way)[1:], f"{name} stands on line {known.line(name)}"]
 
 
+def explain_sharp_check(name, number, left, right, words):
+    """A failing check of the sharper bounds, of a kind by its name, as `bound .. sharp FLUTTER` and `settle .. sharp FLUTTER` tell
+    it."""
+    known, way = known_of(words), words[0] == "settle"
+    parameters = {name: value for name, (value, _) in known.values.items()}
+    kind = Kind(name == "beside", int(words[-1]), max(key for _, key, _ in known.keys()))
+    told = (sharp_way_words if way else sharp_check_words)(number, left, right, parameters, kind)
+    formula, letters = (SHARP_WAY_FORMULA, SHARP_WAY_LETTERS) if way else (SHARP_FORMULA, SHARP_LETTERS)
+    turned = TURNS[number]
+    return [f"it asks: {formula[number]}", f"with {letters}", *told[1:], f"{turned} stands on line {known.line(turned)}"]
+
+
 def explain_answer(text, words):
     """What an accepted request's text says that needs explanation: failing checks, and the first gap."""
     found = []
     for line in text.splitlines():
+        sharp = re.fullmatch(r"(alone |beside |)(?:C([1-5]) fails|settles no check ([1-5])) (\d+) (\d+)", line)
+        if sharp and words[-2:-1] == ["sharp"]:
+            numbers = int(sharp[2] or sharp[3]), int(sharp[4]), int(sharp[5])
+            told = explain_sharp_check(sharp[1].strip(), *numbers, words)
+            found += [line, *("  " + part for part in told)]
+            continue
         check = re.fullmatch(r"(?:C([1-9]) fails|covered no check ([1-9])|settles no check ([1-5])) (\d+) (\d+)", line)
         if check:
             number = int(check[1] or check[2] or check[3])

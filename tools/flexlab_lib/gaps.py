@@ -1,5 +1,6 @@
 """The first gap in coverage that a report names, in words, and what closes it."""
-from .advice import OR, WAY_OR, WAY_WHY, WHY, advise, also
+from .advice import OR, SHARP_OR, SHARP_WAY_WHY, SHARP_WHY, WAY_OR, WAY_WHY, WHY, advise, also
+from .least import sharp_advise
 from .units import microseconds, ppm_of, signed
 
 
@@ -14,6 +15,27 @@ def check_words(number, left, right, parameters, way=False):
     return found + ([more] if more else [])
 
 
+def sharp_check_words(number, left, right, parameters, kind):
+    """A failing check of the sharper bounds in words."""
+    name, now, value = sharp_advise(number, parameters, kind)
+    asks = f"C{number} asks for {value} at least" if value is not None else f"none of its range meets C{number}"
+    found = [f"check C{number} fails: {left} against {right}; {SHARP_WHY[number]}",
+             f"turn {name}: it is {now}, and with all else as it is {asks}; or {SHARP_OR[number]}"]
+    more = also(number, parameters, value) if value is not None else None
+    return found + ([more] if more else [])
+
+
+def sharp_way_words(number, left, right, parameters, kind):
+    """A failing check for the way to sharp sync in words."""
+    if number in (1, 2):
+        return sharp_check_words(number, left, right, parameters, kind)
+    name, now, value, fits = advise(number, right, parameters)
+    return [f"check C{number} for the way fails: {left} against {right}; {SHARP_WAY_WHY[number]}",
+            f"turn {name}: it is {now}, and with all else as it is C{number} asks for {value} at least"
+            + ("" if fits else ", which is beyond its range") + "; or let clocks begin nearer together, so give a lower START or "
+            f"RATE, or {SHARP_OR[number]}"]
+
+
 def gap_words(gap, cluster):
     """Lines in words of the words behind `covered no`."""
     kind, numbers = gap[0], [int(word) for word in gap[1:] if word not in ("A", "B")]
@@ -21,6 +43,8 @@ def gap_words(gap, cluster):
     parameters, unit = cluster.parameters, cluster.microtick_ns
     if kind == "check":
         return check_words(*numbers, parameters)
+    if kind == "join":
+        return ["nodes join it, and the sharper precision is proved of runs that no node joins"]
     if kind == "count":
         return [f"{numbers[0]} correct sync nodes do not outweigh {numbers[1]} arbitrary ones: none needs 1, "
                 "one needs 3, two need 6 (nodes that join do not count)"]

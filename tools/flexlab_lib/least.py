@@ -1,41 +1,95 @@
 """The least values of parameters with which all checks hold, found by the formulas of docs/PRECISION.md; that they
 hold is asked of flexray bound before anything is said of them."""
+from dataclasses import dataclass
 from fractions import Fraction
 
 from . import ranges
-from .advice import latest_start, up
+from .advice import TURNS, latest_start, up
 
 TICKS = 1000000
+FITTED = ("pRateCorrectionOut", "pClusterDriftDamping", "pOffsetCorrectionOut", "gdActionPointOffset", "gdStaticSlot")
+
+
+@dataclass(frozen=True)
+class Kind:
+    """Of which sharper bounds: beside arbitrary sync nodes or without, by how many ticks delays flutter at most, and the
+    last key slot."""
+    beside: bool
+    flutter: int
+    last: int
+
+    @property
+    def name(self):
+        return "beside" if self.beside else "alone"
+
+
+def common_of(p):
+    """What all bounds are made of: the longest and the shortest microtick, the error of an arrival, and by how much a cycle
+    changes."""
+    wait = compensation(p)
+    return (TICKS + p["xRateBound"], TICKS - p["xRateBound"], p["xDelayError"] + wait * p["xRateBound"],
+            (p["pMicroPerCycle"] + p["pRateCorrectionOut"]) * p["xChangeBound"])
+
+
+def compensation(p):
+    """The greater compensation of both channels."""
+    both = [p[name] for name in ("pDelayCompensation", "pDelayCompensationA", "pDelayCompensationB") if name in p]
+    return max(both)
+
+
+def slot_sides(p, first, apart):
+    """Both sides of a check of the offset limit, and of the two of slots behind it, for clocks so far apart."""
+    longest, shortest, error, _ = common_of(p)
+    macros, left = p["gMacroPerCycle"], p["pMicroPerCycle"] - p["pRateCorrectionOut"]
+    point, rest = p["gdActionPointOffset"], p["gdStaticSlot"] - p["gdActionPointOffset"]
+    return {first: (p["pOffsetCorrectionOut"] * shortest, apart + error + longest),
+            first + 1: ((point * left - macros) * shortest, macros * (apart + p["xDelayError"])),
+            first + 2: ((rest * left - macros) * shortest,
+                        macros * (apart + compensation(p) * TICKS + p["xDelayError"]))}
 
 
 def bounds_of(p, join=False):
     """The bounds of a cluster and both sides of its checks, as `flexray bound` prints them."""
-    longest, shortest = TICKS + p["xRateBound"], TICKS - p["xRateBound"]
-    micros, macros, most = p["pMicroPerCycle"], p["gMacroPerCycle"], p["pRateCorrectionOut"]
-    wait = p["pDelayCompensation"]
-    error, change = p["xDelayError"] + wait * p["xRateBound"], (micros + most) * p["xChangeBound"]
-    damping, offset = p["pClusterDriftDamping"], p["pOffsetCorrectionOut"]
+    longest, shortest, error, change = common_of(p)
+    damping, most = p["pClusterDriftDamping"], p["pRateCorrectionOut"]
     y1 = 2 * error + 2 * longest + 3 * change
     lengths = 4 * y1 + 2 * longest + 4 * damping * longest + 8 * change
     starts = 6 * lengths + 4 * error + 8 * longest
     found = {"y1": y1, "lambda": lengths, "pi": starts, "precision": starts + 2 * lengths + 2 * longest}
-    drift, left = 2 * micros * p["xRateBound"], micros - most
-    point, rest = p["gdActionPointOffset"], p["gdStaticSlot"] - p["gdActionPointOffset"]
+    drift = 2 * p["pMicroPerCycle"] * p["xRateBound"]
     found[1] = damping * shortest, y1 + 2 * change
     found[2] = most * shortest, drift
-
-    def slots(first, apart):
-        found[first] = offset * shortest, apart + error + longest
-        found[first + 1] = (point * left - macros) * shortest, macros * (apart + p["xDelayError"])
-        found[first + 2] = (rest * left - macros) * shortest, macros * (apart + wait * TICKS + p["xDelayError"])
-
-    slots(3, found["precision"])
+    found.update(slot_sides(p, 3, found["precision"]))
     if join:
         follower = y1 + 4 * change
         found["reach"] = starts + 8 * lengths + 4 * follower + 4 * error + 8 * longest
         found[6] = most * shortest, drift + follower
-        slots(7, found["reach"])
+        found.update(slot_sides(p, 7, found["reach"]))
     return found
+
+
+def sharp_bounds_of(p, kind):
+    """The sharper bounds of a cluster and both sides of their checks, as `flexray bound PARAMS sharp FLUTTER` prints them;
+    with how far action points lie apart, and for how many double cycles the walk lasts (None: on and on)."""
+    longest, shortest, error, change = common_of(p)
+    micros, damping, most = p["pMicroPerCycle"], p["pClusterDriftDamping"], p["pRateCorrectionOut"]
+    wide = (micros + most + p["pOffsetCorrectionOut"] + 1) * p["xChangeBound"]
+    lengths = (2 if kind.beside else 1) * (2 * (kind.flutter + longest - 1 + wide) + (1 + 2 * damping) * longest + 2 * change)
+    odd = lengths + 2 * change
+    starts = 3 * lengths + 4 * change + 4 * error + 7 * longest if kind.beside else odd + 2 * error + 3 * longest
+    last = (kind.last - 1) * p["gdStaticSlot"] + p["gdActionPointOffset"]
+    near = starts + lengths + last * odd // p["gMacroPerCycle"] + longest
+    walk = kind.flutter + change + wide - 1 + (shortest - damping * shortest if damping else longest)
+    room = most * shortest - 2 * micros * p["xRateBound"]
+    return {"lambda": lengths, "pi": starts, "precision": starts + lengths + odd + 2 * longest, "near": near,
+            "lasts": 0 if room < 0 else None if walk <= 0 else room // walk,
+            1: (damping * shortest + 1, shortest + kind.flutter + change + wide),
+            2: (most * shortest, 2 * micros * p["xRateBound"]), **slot_sides(p, 3, near)}
+
+
+def holds(number, sides):
+    """Whether a check holds with these sides: of a late arrival the left one has to be greater."""
+    return sides[0] > sides[1] if number in (5, 9) else sides[0] >= sides[1]
 
 
 def beyond(name, value):
@@ -59,23 +113,41 @@ def least_rate(p, join):
     return found
 
 
-def least_values(parameters, join, damping=None):
-    """These parameters with the least changes by which all checks and constraints hold, or why there are none.
+def least_sharp_damping(p, kind):
+    """The least damping with which the first sharper check holds, so that lengths do not walk."""
+    _, right = sharp_bounds_of(p, kind)[1]
+    return up(Fraction(right - 1, TICKS - p["xRateBound"]))
 
-    The damping is the given one where it suffices. A value that suffices stays; only the action point may move back,
-    where the slot is long enough for both sides of it.
-    """
-    p = dict(parameters)
-    shortest = TICKS - p["xRateBound"]
-    rate = max(p["pRateCorrectionOut"], least_rate(p, join))
-    if rate > ranges.PARAMETERS["pRateCorrectionOut"][1]:
-        return None, beyond("pRateCorrectionOut", rate)
-    p["pRateCorrectionOut"] = rate
-    p["pClusterDriftDamping"] = max(damping or 0, least_damping(p))
-    if p["pClusterDriftDamping"] > ranges.PARAMETERS["pClusterDriftDamping"][1]:
-        return None, beyond("pClusterDriftDamping", p["pClusterDriftDamping"])
-    first = 7 if join else 3
-    sides, micros, macros = bounds_of(p, join), p["pMicroPerCycle"] - rate, p["gMacroPerCycle"]
+
+def sharp_advise(number, parameters, kind):
+    """The parameter that a failing sharper check asks for, the value it has, and the least that meets the check with all else
+    as it is; None where none of its range does."""
+    name = TURNS[number]
+    now, most = parameters[name], ranges.PARAMETERS[name][1]
+    return name, now, next((value for value in range(now, most + 1)
+                            if holds(number, sharp_bounds_of({**parameters, name: value}, kind)[number])), None)
+
+
+def least_sharp(parameters, kind, damping):
+    """These parameters with this damping, and the least changes by which all sharper checks behind the first hold, or why
+    there are none. Limits and slots stand in the right sides too, so they are fitted until nothing changes."""
+    p = {**parameters, "pClusterDriftDamping": damping,
+         "pRateCorrectionOut": max(parameters["pRateCorrectionOut"], least_rate(parameters, False))}
+    before = None
+    while p != before:
+        before = dict(p)
+        fit_slots(p, sharp_bounds_of(p, kind), 3)
+        name = next((name for name in FITTED if p[name] > ranges.PARAMETERS[name][1]), None)
+        if name:
+            return None, beyond(name, p[name])
+    return schedule(p)
+
+
+def fit_slots(p, sides, first):
+    """Raises the offset limit and makes room in the slots, as these sides of checks ask; a value that suffices stays, only
+    the action point may move back, where the slot is long enough for both sides of it."""
+    shortest, macros = TICKS - p["xRateBound"], p["gMacroPerCycle"]
+    micros = p["pMicroPerCycle"] - p["pRateCorrectionOut"]
     p["pOffsetCorrectionOut"] = max(p["pOffsetCorrectionOut"], up(Fraction(sides[first][1], shortest)))
     before = up((Fraction(sides[first + 1][1], shortest) + macros) / micros)
     behind = up((Fraction(sides[first + 2][1] + 1, shortest) + macros) / micros)
@@ -83,7 +155,21 @@ def least_values(parameters, join, damping=None):
         p["gdActionPointOffset"], p["gdStaticSlot"] = before, before + behind
     else:
         p["gdActionPointOffset"] = min(max(p["gdActionPointOffset"], before), p["gdStaticSlot"] - behind)
-    for name in ("pOffsetCorrectionOut", "gdActionPointOffset", "gdStaticSlot"):
+
+
+def least_values(parameters, join, damping=None):
+    """These parameters with the least changes by which all checks and constraints hold, or why there are none.
+
+    The damping is the given one where it suffices.
+    """
+    p = dict(parameters)
+    rate = max(p["pRateCorrectionOut"], least_rate(p, join))
+    if rate > ranges.PARAMETERS["pRateCorrectionOut"][1]:
+        return None, beyond("pRateCorrectionOut", rate)
+    p["pRateCorrectionOut"] = rate
+    p["pClusterDriftDamping"] = max(damping or 0, least_damping(p))
+    fit_slots(p, bounds_of(p, join), 7 if join else 3)
+    for name in FITTED:
         if p[name] > ranges.PARAMETERS[name][1]:
             return None, beyond(name, p[name])
     return schedule(p)

@@ -4,11 +4,13 @@ import re
 from fractions import Fraction
 
 from .ending import DONE, UNMET, USAGE, Stop
-from .gaps import check_words, gap_words
+from .gaps import check_words, gap_words, sharp_check_words
 from .model import warnings
 from .page import ms_of_cycle
+from .sharp import ends_of, first_of, gap_of, is_within, kind_of, lost_of, skew_of
 from .units import decimal, ppm_of, us_of_ticks
 from .version import version
+from .ways import OlderChecks
 from .windows import exact, later, windows
 
 
@@ -43,6 +45,29 @@ def checks_of(bounds, parameters):
             for number, held, left, right in bounds.checks]
 
 
+def sync_object(first, lost, cluster):
+    cycle = None if first is None else 2 * first
+    return {"double_cycle": first, "cycle": cycle, "ms": ms(cycle, cluster), "lost_in_double_cycle": lost}
+
+
+def sharp_object(run):
+    """The sharper side of a run; of one that nodes join only that it is not covered."""
+    cluster, bounds, (known, gap) = run.cluster, run.sharp.bounds, gap_of(run)
+    found = {"covered": gap is None if known else None, "gap": gap and " ".join(gap)}
+    if cluster.joins:
+        return found
+    kind, p = kind_of(cluster, run.sharp.flutter), cluster.parameters
+    return {**found, "kind": bounds.kind,
+            "flutter": {"ticks": run.sharp.flutter, "us": us(run.sharp.flutter, cluster)},
+            "precision": {"ticks": bounds.precision, "us": us(bounds.precision, cluster)},
+            "in_sharp_sync": sync_object(first_of(run), lost_of(run), cluster),
+            "lasts_double_cycles": bounds.lasts, "proved_before_double_cycle": ends_of(run),
+            "skew": skew_object(skew_of(run), cluster), "within_precision": is_within(run),
+            "checks": [{"check": f"C{number}", "holds": held, "left": left, "right": right,
+                        **({} if held else {"told": sharp_check_words(number, left, right, p, kind)})}
+                       for number, held, left, right in bounds.checks]}
+
+
 def nodes_of(run):
     found = []
     for number, (state, after, rate, offset) in sorted(run.report.ends.items()):
@@ -69,20 +94,28 @@ def drawn_object(cluster):
     return {name: float(decimal(value, 6)) for name, value in cluster.drawn.items()}
 
 
+def way_object(way, checks, cluster):
+    known, gap = checks.gap(way.run)
+    return {"first": way.first, "parameters": way.changed, "precision_us": us(way.bounds.precision, cluster),
+            "covered": gap is None if known else None, "skew_us": us(way.skew, cluster)}
+
+
 def ways_object(ways, cluster):
-    """The ways to checks that hold, the one with the least skew first, and why there are none of others."""
+    """The ways to checks that hold, the one with the least skew first, why there are none of others, and what the older bound
+    asks besides, where the sharper one is gone by."""
     if not ways:
         return None
-    return {"from_cycle": ways.begin, "skew_now_us": us(ways.skew, cluster),
-            "ways": [{"first": way.first, "parameters": way.changed, "precision_us": us(way.bounds.precision, cluster),
-                      "covered": way.run.report.gap is None, "skew_us": us(way.skew, cluster)} for way in ways.held],
-            "refused": [why for why, _ in ways.refused]}
+    return {"of": ways.checks.name.lower(), "from_cycle": ways.begin, "skew_now_us": us(ways.skew, cluster),
+            "ways": [{**way_object(way, ways.checks, cluster),
+                      **({"lasts_double_cycles": way.bounds.lasts} if hasattr(way.bounds, "lasts") else {})}
+                     for way in ways.held],
+            "refused": [why for why, _ in ways.refused],
+            "older": ways.older and way_object(ways.older, OlderChecks, cluster), "no_older": ways.no_older or None}
 
 
 def run_object(run):
     """A run as an object: names and units stand in docs/FLEXLAB.md, "For machines"."""
     cluster, report = run.cluster, run.report
-    first = None if report.in_sync is None else 2 * report.in_sync
     return {
         "file": cluster.path, "folder": run.folder,
         "cluster": {"nodes": report.nodes, "sync_nodes": report.sync, "arbitrary": cluster.arbitrary,
@@ -90,9 +123,9 @@ def run_object(run):
                     "microtick_ns": float(cluster.microtick_ns), "parameters": cluster.parameters},
         "covered": report.gap is None, "gap": report.gap and " ".join(report.gap),
         "gap_told": gap_words(report.gap, cluster) if report.gap else [],
-        "in_sync": {"double_cycle": report.in_sync, "cycle": first, "ms": ms(first, cluster),
-                    "lost_in_double_cycle": run.lost, "at_end": run.at_end},
+        "in_sync": {**sync_object(report.in_sync, run.lost, cluster), "at_end": run.at_end},
         "precision": {"ticks": report.precision, "us": us(report.precision, cluster)},
+        "sharp": sharp_object(run),
         "skew_in_sync": skew_object(run.in_sync_skew, cluster), "within_precision": within(run),
         "greatest_skew": skew_object((report.skew, report.cycle, report.macrotick), cluster),
         "checks": checks_of(run.bounds, cluster.parameters), "ways": ways_object(run.ways, cluster),
@@ -111,10 +144,20 @@ def wanted(text):
     found = []
     for part in filter(None, (text or "").split(",")):
         span = re.fullmatch(r"within=(\d+(?:\.\d+)?)", part)
-        if part not in ("covered", "in-sync") and not span:
-            raise Stop(USAGE, f"--require {text}: {part} is none of covered, in-sync, within=USEC")
+        if part not in ("covered", "in-sync", "sharply-covered") and not span:
+            raise Stop(USAGE, f"--require {text}: {part} is none of covered, in-sync, within=USEC, sharply-covered")
         found.append((part, Fraction(span[1]) if span else None))
     return found
+
+
+def sharp_verdict(run):
+    """Why a run is not sharply covered, or is not proved to be to its end from the first double cycle in sharp sync on."""
+    known, gap = gap_of(run)
+    if not known or gap:
+        return "sharp covered no " + " ".join(gap) if known else "whether it is sharply covered is not known"
+    if first_of(run) is None:
+        return "never in sharp sync"
+    return None if ends_of(run) is None else f"what is proved ends before double cycle {ends_of(run)}"
 
 
 def verdicts(run, asked):
@@ -124,6 +167,8 @@ def verdicts(run, asked):
     for name, limit in asked:
         if name == "covered":
             why = None if report.gap is None else "covered no " + " ".join(report.gap)
+        elif name == "sharply-covered":
+            why = sharp_verdict(run)
         elif name == "in-sync":
             why = None if run.at_end and run.lost is None and report.in_sync is not None else (
                 "never in sync" if report.in_sync is None else f"sync was lost in double cycle {run.lost}")

@@ -3,9 +3,12 @@ from fractions import Fraction
 
 from .gaps import check_words, gap_words
 from .model import warnings
+from .sharp import ends_of, first_of, is_covered
+from .sharp_page import check_lines as sharp_check_lines
+from .sharp_page import sharp_lines
 from .sync import starts_apart
 from .units import decimal, microseconds, percent, ppm_of, signed, us_of_ticks
-from .ways import way_lines
+from .ways import older_lines, way_lines
 from .windows import MOST, exact, later, windows
 
 ORIGIN = ("Every number here is one that flexray printed, converted, divided or held against another. flexlab "
@@ -70,6 +73,8 @@ def verdict_lines(run):
                 "yes; but what is proved begins with the first double cycle in sync, and there is none")
         return found + field("Covered", what)
     words = gap_words(report.gap, cluster) if report.gap[0] != "check" else [f"check C{report.gap[1]} fails, see below"]
+    if is_covered(run):
+        return found + field("Covered", "NO by the older bound; by the sharper one yes, as below", *words)
     return found + field("Covered", "NO: nothing is promised of this run's precision", *words)
 
 
@@ -91,13 +96,23 @@ def skew_lines(run):
     found += later_lines(run)
     if run.cycles:
         apart = max(starts_apart(rows) for rows in run.cycles[-2:])
+        precision, name = held_against(run, len(run.cycles) - 2)
         found += field("At the end", f"starts of the last two cycles lie {microseconds(apart, unit)} apart at most, "
-                                     f"{percent(apart, report.precision)} of the precision")
-    before = report.in_sync is None or report.cycle < 2 * report.in_sync
-    why = "before sync" if report.in_sync is not None else "not in sync"
-    place = f"cycle {report.cycle}, macrotick {report.macrotick}"
-    return found + field("Greatest skew", f"{microseconds(report.skew, unit)} over the whole run ({place})"
-                         + (f": {why}, so it is not to be held against the precision" if before else ""))
+                                     f"{percent(apart, precision)} of the {name}")
+    return found + field("Greatest skew", f"{microseconds(report.skew, unit)} over the whole run (cycle {report.cycle}, "
+                                          f"macrotick {report.macrotick}){early_words(run)}")
+
+
+def early_words(run):
+    """Against what the greatest skew of the run is not to be held, since it lies before."""
+    report = run.report
+    if report.in_sync is None:
+        return ": not in sync, so it is not to be held against the precision"
+    if report.cycle < 2 * report.in_sync:
+        return ": before sync, so it is not to be held against the precision"
+    if is_covered(run) and (first_of(run) is None or report.cycle < 2 * first_of(run)):
+        return ": before sharp sync, so it is not to be held against the sharp precision"
+    return ""
 
 
 def within_lines(run, skew):
@@ -110,16 +125,24 @@ def within_lines(run, skew):
     return field("Within", f"NO: since it was first in sync the skew was above the precision{place}")
 
 
+def held_against(run, cycle):
+    """What the skew of cycles from this one on is held against: the sharper precision where that is proved of them."""
+    if is_covered(run) and first_of(run) is not None and cycle >= 2 * first_of(run) and ends_of(run) is None:
+        return run.sharp.bounds.precision, "sharp precision"
+    return run.report.precision, "precision"
+
+
 def later_lines(run):
     """The skew behind the transient: from where it has settled on, or from the cycle that was asked for."""
     found, unit = later(run, run.begin), run.cluster.microtick_ns
     if found is None:
         return []
     why = "where it has settled" if run.begin is None else "as asked"
+    precision, name = held_against(run, found.first)
     return field("Later skew" if exact(run) else "Later starts",
                  f"from cycle {found.first} on ({decimal(ms_of_cycle(found.first, run.cluster), 3)} ms), {why}: "
                  f"{microseconds(found.greatest, unit)} at most (cycle {found.cycle}), "
-                 f"{percent(found.greatest, run.report.precision)} of the precision; 99 % of cycles within "
+                 f"{percent(found.greatest, precision)} of the {name}; 99 % of cycles within "
                  f"{microseconds(found.most, unit)}, the mean is {microseconds(found.mean, unit)}")
 
 
@@ -141,6 +164,8 @@ def window_lines(run):
 
 
 def check_lines(run):
+    if not run.cluster.joins:
+        return sharp_check_lines(run, field) + older_lines(run, field)
     found = []
     for number, _, left, right in run.bounds.failing:
         words = check_words(number, left, right, run.cluster.parameters)
@@ -192,7 +217,7 @@ def frame_lines(run):
 
 
 def page(run):
-    found = head_lines(run) + verdict_lines(run) + skew_lines(run) + check_lines(run)
+    found = head_lines(run) + verdict_lines(run) + sharp_lines(run, field, ms_of_cycle) + skew_lines(run) + check_lines(run)
     if run.ways:
         found += way_lines(run.ways, run.cluster, field)
     found += frame_lines(run)

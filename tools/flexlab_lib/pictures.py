@@ -5,6 +5,7 @@ from fractions import Fraction
 from . import program as programs
 from .ending import FILE, PROGRAM, Stop
 from .page import ms_of_cycle
+from .sharp import ends_of, first_of, is_covered, skew_of
 from .sync import starts_apart
 from .units import decimal, us_of_ticks
 from .windows import changes, later, named
@@ -65,11 +66,40 @@ def plain_axes():
             "set grid ytics linecolor '#e3e3e3' linetype 1\nset key textcolor '#333333'\n")
 
 
+def precisions(run):
+    """(name, microseconds, first and last cycle, colour) of the lines that the skew is held against: the older bound where that
+    is proved of the run or nothing is, and the sharper one where it is, from sharp sync on."""
+    unit, first, last = run.cluster.microtick_ns, sharp_cycle(run), len(run.cycles)
+    found = []
+    if first is not None:
+        end = last if ends_of(run) is None else 2 * ends_of(run)
+        found.append(("sharp precision", us_of_ticks(run.sharp.bounds.precision, unit), (first, end), "#009e73"))
+    if run.report.gap is None or first is None:
+        found.append(("precision", us_of_ticks(run.report.precision, unit), (0, last), "#b00020"))
+    return found
+
+
+def sharp_cycle(run):
+    """The first cycle in sharp sync of a run of which the sharper precision is proved, or None."""
+    first = first_of(run) if is_covered(run) else None
+    return None if first is None else 2 * first
+
+
+def marks(run):
+    """(first cycle, what is so from it on, the dot as (skew, cycle, macrotick), what it is in): sharp sync where the sharper
+    precision alone is drawn, else sync."""
+    if sharp_cycle(run) is not None and run.report.gap is not None:
+        return sharp_cycle(run), "in sharp sync", skew_of(run), "in sharp sync"
+    first = None if run.report.in_sync is None else 2 * run.report.in_sync
+    return first, "in sync", run.in_sync_skew, "in sync" if run.lost is None else "since sync"
+
+
 def skew_script(run):
     """Two panels over the same cycles: the skew beside the precision, and in the scale of what it is later."""
     report, unit = run.report, run.cluster.microtick_ns
     rows, what = skew_rows(run)
-    precision = us_of_ticks(report.precision, unit)
+    bounds = precisions(run)
+    precision = max(value for _, value, _, _ in bounds)
     most, last = max([row[1] for row in rows] + [us_of_ticks(report.skew, unit)]), len(run.cycles)
     top = max(most, precision) * 115 / 100
     wide = most > 20 * precision
@@ -81,12 +111,12 @@ def skew_script(run):
              "set x2tics nomirror\nset x2label 'milliseconds'\nset border 7\nset lmargin 9",
              "set logscale y" if wide else f"set yrange [0:{decimal(top, 6)}]",
              UPPER]
-    if report.in_sync is not None:
-        first = 2 * report.in_sync
+    first, what_begins, dot, name = marks(run)
+    if first is not None:
         lines += [f"set object 1 rectangle from graph 0, graph 0 to first {first}, graph 1 fillcolor '#f3e9d8' "
                   "fillstyle solid noborder behind" if first else "",
                   f"set arrow 1 from {first}, graph 0 to {first}, graph 1 nohead linecolor '#a67c2d' dashtype 3",
-                  f"set label 1 'in sync from cycle {first}' at {first}, graph 0.93 offset 0.8,0 "
+                  f"set label 1 '{what_begins} from cycle {first}' at {first}, graph 0.93 offset 0.8,0 "
                   "textcolor '#8a6420'"]
     else:
         lines.append("set label 1 'never in sync' at graph 0.02, graph 0.93 textcolor '#b00020'")
@@ -95,13 +125,14 @@ def skew_script(run):
         lines += [f"set arrow 2 from {lost}, graph 0 to {lost}, graph 1 nohead linecolor '#b00020' dashtype 3",
                   f"set label 2 'sync lost in cycle {lost}' at {lost}, graph 0.86 offset 0.8,0 textcolor '#b00020'"]
     lines += join_lines(run)
-    plots = [f"{decimal(precision, 6)} title 'precision, {decimal(precision, 3)} us' "
-             "with lines linewidth 2 linecolor '#b00020'",
+    lines += [f"$bound{at} << end\n" + "".join(f"{cycle} {decimal(value, 6)}\n" for cycle in span) + "end"
+              for at, (_, value, span, _) in enumerate(bounds)]
+    plots = [*(f"$bound{at} using 1:2 title '{name}, {decimal(value, 3)} us' with lines linewidth 2 linecolor '{colour}'"
+               for at, (name, value, _, colour) in enumerate(bounds)),
              f"$skew using 1:2 title '{what}' with lines linewidth 1.5 linecolor '#0072b2'"]
-    if run.in_sync_skew:
-        skew, cycle, _ = run.in_sync_skew
+    if dot:
+        skew, cycle, _ = dot
         value = us_of_ticks(skew, unit)
-        name = "in sync" if run.lost is None else "since sync"
         lines.append(f"$point << end\n{cycle} {decimal(value, 6)}\nend")
         plots.append(f"$point using 1:2 title 'greatest skew {name}, {decimal(value, 3)} us in cycle {cycle}' "
                      "with points pointtype 7 pointsize 1.1 linecolor '#d55e00'")

@@ -10,6 +10,7 @@ from .files import write_files
 from .known import KnownToml
 from .report import Bounds, Report, Series, read_bounds, read_report, read_series, read_trace
 from .settled import skew_in_sync
+from .sharp import Sharp, flutter_of, sharp_of, sharp_words, unlike
 from .sync import fits, sync_of
 
 
@@ -23,6 +24,7 @@ class Run:
     synced: list
     in_sync_skew: tuple | None = None
     series: Series | None = None
+    sharp: Sharp | None = None
     ways: object = None
     files: list = field(default_factory=list)
     begin: int | None = None
@@ -98,18 +100,31 @@ def run_cluster(cluster, folder, program, begin=None):
         first = next((at for at, good in enumerate(synced) if good), None)
         raise Stop(PROGRAM, f"flexray says in sync {report.in_sync}, and its trace says {first}")
     run = Run(cluster, folder, bounds, report, cycles, synced, files=paths, begin=begin)
+    run.sharp = call_sharp(run, program)
     run.series = call_series(program, paths, folder)
     if run.series and synced != [row[1] for row in run.series.rows[::2]] and cycles:
         raise Stop(PROGRAM, "flexray-series says of a double cycle that it is in sync, and the trace does not, or back")
     run.in_sync_skew = find_skew(run, program)
+    if run.series:
+        why = unlike(run.sharp, run.series.sharp, bool(cycles))
+        if why:
+            raise Stop(PROGRAM, why)
+        run.sharp.told = run.series.sharp
     return run
+
+
+def call_sharp(run, program):
+    flutter = flutter_of(run.cluster)
+    text = answer(program, sharp_words(run.files[0], flutter))
+    keep(run.folder, "sharp.txt", text)
+    return sharp_of(run.cluster, flutter, text, run.cycles)
 
 
 def call_series(program, paths, folder):
     second = programs.series(program)
     if not second:
         return None
-    text = answer(second, paths)
+    text = answer(second, [*paths, "sharp"])
     keep(folder, "series.csv", text)
     return read_series(text)
 

@@ -4,10 +4,13 @@ from fractions import Fraction
 
 from .ending import DONE, NO, PROGRAM, USAGE, REFUSED, Stop
 from .files import write_files
-from .gaps import check_words
+from .gaps import check_words, sharp_way_words
 from .page import ORIGIN, field, ms_of_cycle
 from .program import flexray
+from .report import read_bounds, read_sharp_bounds
 from .runs import answer, bound_words
+from .sharp import flutter_of, kind_of, sharp_words
+from .sharp_page import KINDS
 from .sync import spread
 from .units import decimal, microseconds, percent, rounded, ticks_of_ns
 
@@ -58,33 +61,17 @@ def settle(words, folder):
     if cluster.joins:
         raise Stop(REFUSED, f"{cluster.path}: nodes join it ([[join]]), and how soon clocks settle is proved of runs that no "
                             "node joins; `flexlab run` and `flexlab power` tell of others")
-    program, unit = flexray(words.flexray), cluster.microtick_ns
+    program = flexray(words.flexray)
     paths = write_files(cluster, folder)
     answer(program, bound_words(cluster, paths[0]), cluster=cluster)
     start, rate = asked(cluster, words)
-    text = answer(program, ["settle", paths[0], str(start), str(rate)])
-    peak = re.search(r"^peak (\d+)$", text, re.M)
-    ends = re.search(r"^settles (?:(\d+)|no check (\d) (\d+) (\d+))$", text, re.M)
-    if not peak or not ends:
-        raise Stop(PROGRAM, f"flexray settle printed what is not understood: {text}")
-    length = ms_of_cycle(1, cluster)
-    found = field("Begin", f"first starts lie at most {microseconds(start, unit)} apart, the lengths of the first two cycles "
-                           f"{microseconds(rate, unit)} ({decimal(Fraction(rate, cluster.parameters['pMicroPerCycle']), 2)} "
-                           "ppm)" + ("" if words.start_us and words.rate_ppm else ", as the file has them"))
-    if ends[1]:
-        cycle = 2 * int(ends[1])
-        found += field("In sync", f"in double cycle {ends[1]} at the latest (cycle {cycle}, {decimal(cycle * length, 3)} ms): "
-                                  "proved of covered runs that begin so, with all correct nodes active")
-    else:
-        found += field("In sync", "NOT PROVED: a check for the way there fails",
-                       *check_words(int(ends[2]), int(ends[3]), int(ends[4]), cluster.parameters, True))
-    precision = re.search(r"^precision (\d+)$", answer(program, ["bound", paths[0]]), re.M)
-    furthest = microseconds(int(peak[1]), unit) + (
-        f", {percent(int(peak[1]), int(precision[1]))} of the precision" if precision else "")
-    if ends[1]:
-        found += field("On the way", f"no two macroticks lie further apart than {furthest}")
-    else:
-        found += field("Peak", f"{furthest}: what the checks for the way are asked with in place of the precision")
+    found = field("Begin", f"first starts lie at most {microseconds(start, cluster.microtick_ns)} apart, the lengths of the first two "
+                           f"cycles {microseconds(rate, cluster.microtick_ns)} "
+                           f"({decimal(Fraction(rate, cluster.parameters['pMicroPerCycle']), 2)} ppm)"
+                           + ("" if words.start_us and words.rate_ppm else ", as the file has them"))
+    sharply, first = sharp_lines(program, cluster, paths[0], start, rate if words.rate_ppm else spread(lengths(cluster, 0)))
+    older, second = older_lines(program, cluster, paths[0], start, rate, sharply)
+    found += first + second
     outside = beyond(cluster)
     if outside and not words.rate_ppm:
         found += field("WARNING", f"the first cycles of nodes {', '.join(map(str, sorted(set(outside))))} are longer or shorter "
@@ -93,4 +80,52 @@ def settle(words, folder):
                                "join a leader are in sync; the two times do not add up, since nodes that join are in sync "
                                "when they take part")
     print("\n".join(found + field("Origin", ORIGIN)))
-    return DONE if ends[1] else NO
+    return DONE if sharply or older else NO
+
+
+def told_of(program, words, prefix=""):
+    """(peak, double cycle or None, the failing check as three numbers or None) of what `settle` printed."""
+    text = answer(program, words)
+    peak = re.search(rf"^{prefix}peak (\d+)$", text, re.M)
+    ends = re.search(rf"^{prefix}settles (?:(\d+)|no check (\d) (\d+) (\d+))$", text, re.M)
+    if not peak or not ends:
+        raise Stop(PROGRAM, f"flexray settle printed what is not understood: {text}")
+    return int(peak[1]), ends[1] and int(ends[1]), None if ends[1] else tuple(map(int, ends.groups()[1:]))
+
+
+def way_lines(cluster, double, peak, precision, name):
+    """How far clocks lie apart on the way, where that is proved."""
+    furthest = f"{microseconds(peak, cluster.microtick_ns)}, {percent(peak, precision)} of the {name}"
+    if double is None:
+        return field("Peak", f"{furthest}: how far they may lie apart on the way")
+    return field("On the way", f"no two macroticks lie further apart than {furthest}")
+
+
+def latest(cluster, double):
+    return (f"in double cycle {double} at the latest (cycle {2 * double}, "
+            f"{decimal(2 * double * ms_of_cycle(1, cluster), 3)} ms): ")
+
+
+def sharp_lines(program, cluster, path, start, rate):
+    """(whether it is proved, lines) of when clocks are in sharp sync, of the kind and the flutter of the file."""
+    flutter = flutter_of(cluster)
+    kind = kind_of(cluster, flutter)
+    bounds = read_sharp_bounds(answer(program, sharp_words(path, flutter)))[kind.name]
+    peak, double, check = told_of(program, ["settle", path, str(start), str(rate), *sharp_words(path, flutter)[2:]],
+                                  f"{kind.name} ")
+    what = f"{KINDS[kind.name]}, for delays that flutter by {microseconds(flutter, cluster.microtick_ns)}"
+    found = (field("In sharp sync", "NOT PROVED: a check for the way there fails",
+                   *sharp_way_words(*check, cluster.parameters, kind)) if check else
+             field("In sharp sync", latest(cluster, double) + f"proved of sharply covered runs that begin so, {what}"))
+    return not check, found + way_lines(cluster, double, peak, bounds.precision, "sharp precision")
+
+
+def older_lines(program, cluster, path, start, rate, sharply):
+    """(whether it is proved, lines) of when clocks are in sync by the older bound; what to turn for it is told where nothing is
+    proved by the sharper one."""
+    bounds = read_bounds(answer(program, ["bound", path]))
+    peak, double, check = told_of(program, ["settle", path, str(start), str(rate)])
+    found = (field("In sync", "NOT PROVED: a check of the older bound for the way there fails",
+                   *check_words(*check, cluster.parameters, True)[:1 if sharply else None]) if check else
+             field("In sync", latest(cluster, double) + "proved of covered runs that begin so, with all correct nodes active"))
+    return not check, found + way_lines(cluster, double, peak, bounds.precision, "precision")

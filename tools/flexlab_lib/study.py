@@ -19,6 +19,7 @@ from decimal import Decimal, InvalidOperation
 from fractions import Fraction
 
 from . import program as programs
+from . import sharp
 from .draws import SEED
 from .ending import DONE, FILE, MISSING, NO, PROGRAM, USAGE, Stop
 from .machine import printed
@@ -26,7 +27,8 @@ from .units import decimal, percent, us_of_ticks
 
 COLUMNS = ("status", "covered", "in_sync_double", "in_sync_at_end", "precision_us", "skew_in_sync_us",
            "percent_of_precision", "later_from_cycle", "later_skew_us", "later_99_us", "later_mean_us",
-           "greatest_skew_us", "greatest_cycle", "greatest_macrotick", "cut", "gap", "seconds", "told")
+           "greatest_skew_us", "greatest_cycle", "greatest_macrotick", "cut", "gap", "sharply_covered", "sharp_gap",
+           "sharp_precision_us", "in_sharp_sync_double", "sharp_skew_us", "seconds", "told")
 # By which column runs are the worst: the first that a run has.
 WORST = ("later_skew_us", "skew_in_sync_us", "greatest_skew_us")
 MOST = 10000000
@@ -200,6 +202,18 @@ def measured(run_report, unit, in_sync_skew, at_end, later=None):
     }
 
 
+def sharply(run, unit):
+    """The columns of the sharper bounds; of a run that nodes join only that it is not covered."""
+    known, gap = sharp.gap_of(run)
+    found = {"sharply_covered": ("yes" if gap is None else "no") if known else "", "sharp_gap": " ".join(gap or [])}
+    if run.cluster.joins:
+        return found
+    first, skew = sharp.first_of(run), sharp.skew_of(run)
+    return {**found, "sharp_precision_us": decimal(us_of_ticks(run.sharp.bounds.precision, unit), 6),
+            "in_sharp_sync_double": "never" if first is None else first,
+            "sharp_skew_us": "" if skew is None else decimal(us_of_ticks(skew[0], unit), 6)}
+
+
 def has_text(path, plan):
     """Whether this machine has the TOML file as it was when the study began."""
     try:
@@ -238,7 +252,8 @@ def measure(plan, values, number, folder):
     for one in windows(run, spans) if spans else ():
         for name, ticks in (("greatest", one.greatest), ("99", one.most), ("mean", one.mean)):
             more[f"cycles_{one.first}-{one.last}_{name}_us"] = decimal(us_of_ticks(ticks, unit), 6)
-    return measured(run.report, unit, run.in_sync_skew, run.at_end, later(run, run.begin)), more
+    found = measured(run.report, unit, run.in_sync_skew, run.at_end, later(run, run.begin))
+    return {**found, **sharply(run, unit)}, more
 
 
 def run_folder(folder, number):
@@ -409,12 +424,14 @@ def summary(folder, plan, lines):
     order = worst_first(lines)
     if not order:
         return
-    covered = sum(line["covered"] == "yes" for line in order)
+    covered, sharply_covered = (sum(line.get(name) == "yes" for line in order) for name in ("covered", "sharply_covered"))
+    both = f"{covered} of them covered"
+    both += f", {sharply_covered} sharply" if any(line.get("sharply_covered") for line in order) else ""
     name = next(name for name in WORST if order[0].get(name))
     values = sorted(worth(line) for line in order)
     most = values[-(-99 * len(values) // 100) - 1]
     what = {"later_skew_us": "later skew", "skew_in_sync_us": "skew in sync", "greatest_skew_us": "greatest skew"}[name]
-    print(f"{'Runs':<16}{len(order)} of {count_of(plan)}, {covered} of them covered; {what} {decimal(values[-1], 3)} us at "
+    print(f"{'Runs':<16}{len(order)} of {count_of(plan)}, {both}; {what} {decimal(values[-1], 3)} us at "
           f"most, 99 % of runs within {decimal(most, 3)} us, the mean is {decimal(sum(values) / len(values), 3)} us")
     worst = order[0]
     kept = run_folder(folder, worst["run"])

@@ -27,6 +27,15 @@ def is_in_sync(pair, bounds, parameters):
     return spread(row.start for row in pair[0].values()) <= bounds.pi
 
 
+def is_in_sharp_sync(pair, bounds, parameters):
+    """By the definition of docs/PRECISION.md ("Where delays flutter little"), each length in its range."""
+    micros, most = parameters["pMicroPerCycle"], parameters["xRateBound"]
+    lengths = [(micros + row.rate) * row.length for row in pair[0].values()]
+    return (all(row.state == "active" for rows in pair for row in rows.values())
+            and spread(row.start for row in pair[0].values()) <= bounds.pi and spread(lengths) <= bounds.lambda_
+            and all(micros * (1000000 - most) <= length <= micros * (1000000 + most) for length in lengths))
+
+
 def fits(synced, told, joins):
     """Whether the told double cycle may be the first one in sync in which no node follows.
 
@@ -38,6 +47,6 @@ def fits(synced, told, joins):
     return all(at is not None and any(double < at < double + 3 for double, _ in joins.values()) for at in early)
 
 
-def sync_of(cycles, bounds, parameters):
-    """For each double cycle whether it is in sync."""
-    return [is_in_sync(cycles[at:at + 2], bounds, parameters) for at in range(0, len(cycles) - 1, 2)]
+def sync_of(cycles, bounds, parameters, test=is_in_sync):
+    """For each double cycle whether it is in sync, or in sharp sync."""
+    return [test(cycles[at:at + 2], bounds, parameters) for at in range(0, len(cycles) - 1, 2)]

@@ -57,5 +57,10 @@ def microseconds(ticks, microtick_ns):
     return decimal(us_of_ticks(ticks, microtick_ns), 3) + " us"
 
 
+def lasting(ms):
+    """A time in milliseconds, from ten seconds on in seconds."""
+    return decimal(ms, 3) + " ms" if ms < 10000 else decimal(ms / 1000, 1) + " s"
+
+
 def percent(part, whole):
     return "-" if whole == 0 else decimal(Fraction(part * 100, whole), 1) + " %"

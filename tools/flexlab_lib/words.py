@@ -51,7 +51,7 @@ def parser():
     run.add_argument("--cycles", metavar="RANGES", default="",
                      help="the skew of these cycles, as 20-99,100-200,201- (else of stretches between changes)")
 
-    precision = request("precision", "print the precision three ways: the standard's formulas, proved, simulated",
+    precision = request("precision", "print the precisions of a cluster: the standard's formulas, proved, simulated",
                         "\nIt runs the cluster as `run` does.")
     precision.add_argument("file", metavar="FILE.toml")
     precision.add_argument("-o", "--out", metavar="FOLDER", help="where files go (FILE.lab beside the TOML file)")
@@ -59,6 +59,8 @@ def parser():
                            help="take the later skew from this cycle on (else from where it has settled)")
     precision.add_argument("--standard", metavar="MICROTICKS", type=int, default=38,
                            help="the constant of the standard's worst case (38)")
+    precision.add_argument("--flutter-ns", metavar="NS",
+                           help="by how much a delay may differ between the two cycles of a double cycle (else as in the file)")
     precision.add_argument("--flexray", metavar="PROGRAM", help=PROGRAM_HELP)
 
     worst = request("worst", "look for the run of a cluster that comes closest to its precision",
@@ -90,7 +92,8 @@ def parser():
     settle.add_argument("--rate-ppm", metavar="PPM", help="how far the first lengths of cycles may lie apart")
     for one in (run, power):
         one.add_argument("--require", metavar="LIST",
-                         help="some of covered,in-sync,within=USEC (the skew in sync): status 7 where one is not met")
+                         help="some of covered,in-sync,within=USEC (the skew in sync),sharply-covered: status 7 where one is not "
+                              "met")
 
     explain = request("explain", "explain a refusal of flexray, a check that fails or a gap",
                       "\nWORDS are those that flexray had: flexlab explain run params.csv drift.csv script.csv\n"
@@ -256,7 +259,8 @@ def do_precision(words):
     from .windows import begin_of
     cluster, folder = cluster_of(words), folder_of(words)
     begin = begin_of(words.begin, cluster)
-    text = compared(run_cluster(cluster, folder, program.flexray(words.flexray), begin=begin), words.standard)
+    given = program.flexray(words.flexray)
+    text = compared(run_cluster(cluster, folder, given, begin=begin), given, words.standard, words.flutter_ns)
     sys.stdout.write(text)
     keep(folder, "precision.txt", text)
     return DONE

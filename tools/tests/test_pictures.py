@@ -38,7 +38,7 @@ class Pictures(Bench):
         drawn, lines = self.drawn(), self.read("a.lab", "series.csv").splitlines()[1:401]
         self.assertEqual(len(drawn), 400)
         for line in lines:
-            cycle, _, skew, _ = line.split(",")
+            cycle, _, skew, *_ = line.split(",")
             self.assertEqual(drawn[cycle], decimal(Fraction(int(skew) * 25, 10**9), 6))
 
     @needs("gnuplot")

@@ -144,10 +144,27 @@ class Settle(Bench):
         self.settle(PLAIN, "--start-us", "x", status=2)
         self.settle(PLAIN, "--start-us", "99999999", status=2)
 
+    def test_when_they_are_in_sharp_sync(self):
+        page = self.settle(PLAIN)
+        told = self.flexray("settle", "a.lab/params.csv", "60000000", "60000000", "sharp", "0")[1]
+        double, peak = re.search(r"alone settles (\d+)", told)[1], int(re.search(r"alone peak (\d+)", told)[1])
+        self.assertIn(f"In sharp sync in double cycle {double} at the latest (cycle {2 * int(double)}, {10 * int(double)}.000 ms): "
+                      "proved of sharply covered runs that begin so, without arbitrary nodes", page)
+        self.assertIn(f"further apart than {peak * 25 / 10 ** 9:.3f} us", page)
+        page = self.settle(EXAMPLE)
+        told = self.flexray("settle", "a.lab/params.csv", "60000000", "60000000", "sharp", "0")[1]
+        self.assertIn(f"In sharp sync in double cycle {re.search(r'beside settles (.*)', told)[1]} at the latest", page)
+        self.assertIn("In sync NOT PROVED: a check of the older bound for the way there fails check C3 for the way fails", page)
+        self.assertNotIn("turn pOffsetCorrectionOut", page)
+
     def test_a_check_for_the_way_fails(self):
-        page = self.settle(EXAMPLE, status=1)
-        self.assertIn("In sync NOT PROVED: a check for the way there fails check C3 for the way fails", page)
-        self.assertIn("give a lower START or RATE", page)
+        page = self.settle(edited(("start_us = 1.5", "start_us = 9")), status=1)
+        self.assertIn("In sharp sync NOT PROVED: a check for the way there fails check C3 for the way fails", page)
+        self.assertIn("In sync NOT PROVED: a check of the older bound for the way there fails check C3 for the way fails", page)
+        self.assertEqual(page.count("give a lower START or RATE"), 2)
+        told = self.flexlab("explain", "settle", "a.lab/params.csv", "360000000", "60000000", "sharp", "0")[0]
+        self.assertIn("it asks: pOffsetCorrectionOut * Qm >= reach + E1 + Qp", told)
+        self.assertEqual(told.count("settles no check 3"), 2)
 
     def test_nodes_that_join(self):
         self.write("a.toml", PLAIN + "[[join]]\nnode = 5\nreference = 1\ndouble_cycle = 1\n")

@@ -7,7 +7,7 @@ import unittest
 from fractions import Fraction
 
 from bench import EXAMPLE, FLEXLAB, SERIES, Bench, edited, needs_series
-from flexlab_lib import report, sync
+from flexlab_lib import sync
 
 
 # Limits of the example that suffice for nodes that join.
@@ -143,10 +143,10 @@ class Pages(Bench):
                 self.assertIn(told, page)
 
     def test_advice_is_tried_and_holds(self):
-        page = self.page(edited(("pClusterDriftDamping = 5", "pClusterDriftDamping = 4"),
-                                ("pOffsetCorrectionOut = 320", "pOffsetCorrectionOut = 254")))
+        page = self.page(edited(("pClusterDriftDamping = 5", "pClusterDriftDamping = 1"),
+                                ("pOffsetCorrectionOut = 320", "pOffsetCorrectionOut = 60")))
         self.assertIn("check C1 fails:", page)
-        self.assertIn("turn pClusterDriftDamping: it is 4, and with all else as it is C1 asks for 5 at least", page)
+        self.assertIn("turn pClusterDriftDamping: it is 1, and with all else as it is C1 asks for 2 at least", page)
         found = re.search(r"all checks hold with ((?:\w+ = \d+(?:, )?)+)", page)
         self.assertIsNotNone(found, page)
         text, values = EXAMPLE, dict(re.findall(r"(\w+) = (\d+)", found[1]))
@@ -164,20 +164,20 @@ class Pages(Bench):
         page = self.page(edited(*late))
         told = re.search(r"asks for an earlier gOffsetCorrectionStart, (\d+) at most", page)
         self.assertIsNotNone(told, page)
-        self.assertIn(f"all checks hold with gOffsetCorrectionStart = {told[1]}, pOffsetCorrectionOut = 318. ", page)
+        self.assertIn(f"all checks hold with gOffsetCorrectionStart = {told[1]}, pOffsetCorrectionOut = 125. ", page)
         for start, status in ((int(told[1]), 0), (int(told[1]) + 1, 1)):
-            self.write("a.toml", edited(("pOffsetCorrectionOut = 320", "pOffsetCorrectionOut = 318"),
+            self.write("a.toml", edited(("pOffsetCorrectionOut = 320", "pOffsetCorrectionOut = 125"),
                                         ("gOffsetCorrectionStart = 4900", f"gOffsetCorrectionStart = {start}")))
             self.flexlab("run", "a.toml", status=status)
 
     def test_each_check_has_its_parameter(self):
         for old, new, told in (
-                ("pClusterDriftDamping = 5", "pClusterDriftDamping = 3", "C1 fails"),
+                ("pClusterDriftDamping = 5", "pClusterDriftDamping = 1", "C1 fails"),
                 ("pRateCorrectionOut = 81", "pRateCorrectionOut = 70", "turn pRateCorrectionOut: it is 70"),
-                ("pOffsetCorrectionOut = 320", "pOffsetCorrectionOut = 300", "turn pOffsetCorrectionOut: it is 300"),
-                ("gdActionPointOffset = 10", "gdActionPointOffset = 5", "turn gdActionPointOffset: it is 5"),
-                ("gdActionPointOffset = 10", "gdActionPointOffset = 45", "turn gdStaticSlot: it is 50, and with "
-                                                                         "all else as it is C5 asks for 53 at least")):
+                ("pOffsetCorrectionOut = 320", "pOffsetCorrectionOut = 100", "turn pOffsetCorrectionOut: it is 100"),
+                ("gdActionPointOffset = 10", "gdActionPointOffset = 2", "turn gdActionPointOffset: it is 2"),
+                ("gdActionPointOffset = 10", "gdActionPointOffset = 48", "turn gdStaticSlot: it is 50, and with "
+                                                                         "all else as it is C5 asks for 52 at least")):
             with self.subTest(new=new):
                 self.assertIn(told, self.page(edited((old, new))))
 
@@ -196,23 +196,17 @@ class Pages(Bench):
         self.assertIn("5000 is not 60 * 50 + 2001 = 5001", err)
 
     def series(self, *last):
-        """A flexray-series that answers of the example what is said here, sync in step with the program's trace."""
-        rows = "".join(f"{cycle},{'no' if cycle < 2 else 'yes'},{900000000 if cycle < 2 else 40000000},9\n"
-                       for cycle in range(400))
-        self.write("series.txt", "cycle,in_sync,skew,macrotick\n" + rows + "".join(f"{line}\n" for line in last))
-        path = self.write("series", f"#!/bin/sh\ncat {self.path('series.txt')}\n")
-        os.chmod(path, 0o755)
-        return {"FLEXRAY_SERIES": path}
+        return self.series_of([900000000 if cycle < 2 else 40000000 for cycle in range(400)], *last)
 
     def test_the_series_is_taken_where_it_is_there(self):
         self.write("a.toml", EXAMPLE)
-        env = self.series("greatest,80000000,5,4900", "synced,yes,,", "within,yes,,")
+        env = self.series("greatest,80000000,5,4900,", "synced,yes,,,", "within,yes,,,")
         page = self.one_line(self.flexlab("run", "a.toml", env=env)[0])
         self.assertIn("Skew in sync 2.000 us at most", page)
         self.assertIn("(cycle 5, macrotick 4900)", page)
         self.assertIn("Within yes:", page)
         self.assertNotIn("Not installed", page)
-        env = self.series("greatest,400000000,5,4900", "synced,yes,,", "within,no,5,17")
+        env = self.series("greatest,400000000,5,4900,", "synced,yes,,,", "within,no,5,17,")
         page = self.one_line(self.flexlab("run", "a.toml", env=env)[0])
         self.assertIn("Within NO: since it was first in sync the skew was above the precision, first in cycle 5, "
                       "macrotick 17", page)
@@ -235,7 +229,7 @@ class Pages(Bench):
 
     def test_a_series_that_does_not_fit_the_trace(self):
         self.write("a.toml", edited(("drift = 150", "drift = 10")))
-        env = self.series("greatest,80000000,5,4900", "synced,yes,,", "within,yes,,")
+        env = self.series("greatest,80000000,5,4900,", "synced,yes,,,", "within,yes,,,")
         self.assertIn("and the trace does not", self.flexlab("run", "a.toml", env=env, status=6)[1])
 
     def test_what_is_not_understood_is_no_page(self):
@@ -248,18 +242,6 @@ class Pages(Bench):
         self.write("a.toml", EXAMPLE)
         err = self.flexlab("run", "--flexray", "none", "a.toml", status=4)[1]
         self.assertIn("none, which --flexray names, is no program", err)
-
-
-class Series(unittest.TestCase):
-    def test_the_lines_of_a_series(self):
-        found = report.read_series("cycle,in_sync,skew,macrotick\n0,no,39992000,4999\n1,no,79200000,4900\n"
-                                   "2,yes,48991900,4999\n3,yes,56495900,4687\ngreatest,56495900,3,4687\n"
-                                   "synced,yes,,\nwithin,yes,,\n")
-        self.assertEqual(found.rows[1:3], [(1, False, 79200000, 4900), (2, True, 48991900, 4999)])
-        self.assertEqual((found.greatest, found.synced, found.within), ((56495900, 3, 4687), True, (True, None, None)))
-        found = report.read_series("0,no,-,-\n1,no,0,0\ngreatest,-,-,-\nsynced,no,0,\nwithin,-,,\n")
-        self.assertEqual((found.rows[0], found.greatest, found.synced, found.within), ((0, False, None, None), None,
-                                                                                        False, None))
 
 
 class Words(Bench):

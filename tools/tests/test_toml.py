@@ -264,6 +264,12 @@ class Toml(Bench):
             with open(os.path.join(folder, name), encoding="ascii") as file:
                 self.assertEqual(file.read(), self.read(name))
 
+    def test_the_cluster_of_production_shape_has_the_parameters_beside_it(self):
+        folder = os.path.join(REPOSITORY, "examples", "sharp")
+        self.flexlab("build", "-o", ".", os.path.join(folder, "sharp.toml"))
+        with open(os.path.join(folder, "params.csv"), encoding="ascii") as file:
+            self.assertEqual(sorted(file), sorted(self.read("params.csv").splitlines(keepends=True)))
+
     def test_new_does_not_write_over_a_file(self):
         self.write("a.toml", "kept")
         self.assertIn("a.toml: File exists", self.flexlab("new", "a.toml", status=3)[1])

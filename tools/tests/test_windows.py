@@ -1,6 +1,5 @@
 """The skew by stretches of cycles: the figures of a window, the stretches, the page, the study and the picture."""
 import csv
-import os
 import unittest
 from fractions import Fraction
 
@@ -28,13 +27,8 @@ class Figures(unittest.TestCase):
 class Pages(Bench):
     def series(self, skew=SKEW):
         """A flexray-series that answers of the example what stands in `skew`, in microseconds."""
-        rows = "".join(f"{cycle},{'no' if cycle < 2 else 'yes'},{int(value * 40000000)},9\n"
-                       for cycle, value in enumerate(skew))
-        self.write("series.txt", "cycle,in_sync,skew,macrotick\n" + rows
-                   + f"greatest,{int(max(skew[2:]) * 40000000)},2,9\nsynced,yes,,\nwithin,no,2,9\n")
-        path = self.write("series", f"#!/bin/sh\ncat {self.path('series.txt')}\n")
-        os.chmod(path, 0o755)
-        return {"FLEXRAY_SERIES": path}
+        ticks = [int(value * 40000000) for value in skew]
+        return self.series_of(ticks, f"greatest,{max(ticks[2:])},2,9,", "synced,yes,,,", "within,no,2,9,")
 
     def test_before_while_and_after_an_oscillator_changes(self):
         self.write("a.toml", EXAMPLE)

@@ -136,6 +136,7 @@ fn put_sharp_double<O: Sink>(
 fn are_in_sharp_sync(scale: &Scale, even: &[NodeRow], odd: &[NodeRow]) -> bool
     requires scale { IsScale scale.now }
     requires even { All (IsPlacedRow scale.now.grid) even.now }
+    requires odd { All (IsPlacedRow scale.now.grid) odd.now }
     ensures { result ≡ are_in_sync_by_even scale.now.bounds even.now odd.now }
 {
     in_sync_by_even(&scale.bounds, even, odd)

@@ -37,7 +37,15 @@ pub mod RunCycles
 pub mod RunWorked
 pub mod RunReached
 pub mod RunHalting
+pub mod RunDriven
+pub mod FarNumbers
+pub mod RunFar
+pub mod RunFarOlder
+pub mod FarWorked
 pub mod FromFiles
 pub mod TestedLemmas
 pub mod FreeLemmas
 pub mod FilesWorked
+pub mod TraceRows
+pub mod TraceSync
+pub mod TraceCycles

@@ -1,5 +1,7 @@
 -- what the public contract cites
+pub mod DrivenRun
 pub mod Ends
+pub mod FarRun
 pub mod Flutter
 pub mod HaltingRun
 pub mod Hearing
@@ -18,6 +20,7 @@ pub mod SharpSettling
 pub mod SharpStatement
 pub mod SharpStep
 pub mod SharpTested
+pub mod SharpTraces
 pub mod SharpWay
 pub mod Steady
 pub mod SteadyRuns

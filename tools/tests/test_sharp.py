@@ -1,0 +1,367 @@
+"""The sharper bounds: the formulas are those of flexray bound, a run is told by them first, and what the older bound asks
+besides is told with what it does to the clocks."""
+import json
+import os
+import re
+import unittest
+
+from bench import EXAMPLE, REPOSITORY, SERIES, Bench, edited, needs_series
+from flexlab_lib import least, ranges, report, sharp
+from flexlab_lib.cluster import read_cluster
+from flexlab_lib.ending import Stop
+
+with open(os.path.join(REPOSITORY, "examples", "sharp", "sharp.toml"), encoding="utf-8") as file:
+    PRODUCTION = file.read()
+SHORT = ("double_cycles = 60", "double_cycles = 20")
+TWO_FACED = '[[two_faced]]\nnode = 4\ncycles = "all"\nearly = [1, 3]\nlate = [2, 5]\nmicroticks = 100\n'
+JOINS = "[[join]]\nnode = 7\nreference = 1\ndouble_cycle = 5\n"
+# Each delay of the run is the least in even cycles and the greatest in odd ones, and the clocks are perfect.
+WALK = [(f"ppm = {ppm}\n", "ppm = 0\n") for ppm in (95, -95, 40, -20, 60, -60, 10, -10)]
+EVEN_AND_ODD = "".join(f"[[delay]]\nns = {300 if cycle % 2 else 50}\nfrom_cycle = {cycle}\n" for cycle in range(140))
+
+
+def produced(*changes):
+    return edited(*changes, text=PRODUCTION)
+
+
+class Case(Bench):
+    def page(self, text, *words, series=True):
+        self.write("a.toml", text)
+        return self.one_line(self.flexlab("run", *words, "a.toml", env={"FLEXRAY_SERIES": SERIES} if series and SERIES else None)[0])
+
+    def cluster(self, text):
+        return read_cluster(self.write("a.toml", text))
+
+    def told(self, flutter, folder="a.lab"):
+        """What flexray bound prints of the sharper bounds."""
+        status, text, _ = self.flexray("bound", f"{folder}/params.csv", "sharp", str(flutter))
+        self.assertEqual(status, 0)
+        return report.read_sharp_bounds(text)
+
+
+class Formulas(Case):
+    def test_they_are_those_of_flexray_bound(self):
+        for text in (EXAMPLE, PRODUCTION, produced(("Damping = 2", "Damping = 0")), produced(("change_ppm_per_cycle = 0",
+                                                                                           "change_ppm_per_cycle = 7")),
+                     produced(("key_slot = 3\n", "key_slot = 77\n"), ("pRateCorrectionOut = 601", "pRateCorrectionOut = 30"))):
+            cluster = self.cluster(text)
+            self.flexlab("build", "a.toml")
+            for flutter in (0, 1, 2000000, sharp.MOST):
+                told = self.told(flutter)
+                for beside, name in ((False, "alone"), (True, "beside")):
+                    last = max(node.key_slot or 0 for node in cluster.nodes.values())
+                    found, bounds = least.sharp_bounds_of(cluster.parameters, least.Kind(beside, flutter, last)), told[name]
+                    self.assertEqual([found[one] for one in ("lambda", "pi", "precision", "lasts")],
+                                     [bounds.lambda_, bounds.pi, bounds.precision, bounds.lasts])
+                    self.assertEqual([(number, least.holds(number, found[number]), *found[number]) for number in range(1, 6)],
+                                     bounds.checks)
+                    self.assertEqual(bounds.flutter, flutter)
+
+    def test_the_least_value_that_meets_a_check(self):
+        p = dict(self.cluster(produced(("Damping = 2", "Damping = 0"), ("pRateCorrectionOut = 601", "pRateCorrectionOut = 30"),
+                                       ("pOffsetCorrectionOut = 127", "pOffsetCorrectionOut = 9"),
+                                       ("gdStaticSlot = 24", "gdStaticSlot = 3"),
+                                       ("gdActionPointOffset = 4", "gdActionPointOffset = 1"))).parameters)
+        kind = least.Kind(True, 3000000, 8)
+        for number in range(1, 6):
+            name, now, value = least.sharp_advise(number, p, kind)
+            self.assertEqual(now, p[name])
+            self.assertFalse(least.holds(number, least.sharp_bounds_of({**p, name: value - 1}, kind)[number]), name)
+            self.assertTrue(least.holds(number, least.sharp_bounds_of({**p, name: value}, kind)[number]), name)
+        self.assertIsNone(least.sharp_advise(4, {**p, "pMicroPerCycle": 4000}, kind)[2])
+
+    def test_values_that_meet_them_all(self):
+        for text in (produced(("Damping = 2", "Damping = 0"), ("pOffsetCorrectionOut = 127", "pOffsetCorrectionOut = 9"),
+                              ("pRateCorrectionOut = 601", "pRateCorrectionOut = 30"), ("change_ppm_per_cycle = 0",
+                                                                                         "change_ppm_per_cycle = 9")), PRODUCTION):
+            p, kind = self.cluster(text).parameters, least.Kind(True, 2000000, 8)
+            damping = least.least_sharp_damping(p, kind)
+            found, why = least.least_sharp(p, kind, damping)
+            self.assertIsNone(why)
+            sides = least.sharp_bounds_of(found, kind)
+            self.assertEqual([least.holds(number, sides[number]) for number in range(1, 6)], [True] * 5)
+            self.assertIsNone(sides["lasts"])
+            self.assertFalse(least.holds(1, least.sharp_bounds_of({**p, "pClusterDriftDamping": damping - 1}, kind)[1]))
+        self.assertIn(f"is {ranges.PARAMETERS['gdActionPointOffset'][1]} at most",
+                      least.least_sharp({**p, "pMicroPerCycle": 4000}, kind, 2)[1])
+
+
+class Flutter(Case):
+    def flutter(self, *rows, text=PRODUCTION):
+        return sharp.flutter_of(self.cluster(text + "".join(f"[[delay]]\nfrom = 1\nto = 2\nticks = {ticks}\nfrom_cycle = {cycle}\n"
+                                                            for cycle, ticks in rows)))
+
+    def test_it_is_that_within_double_cycles(self):
+        # From node 1 to node 2 a delay is 300 ns, or 12,000,000 ticks; where none is said it is the compensation.
+        self.assertEqual(self.flutter(), 0)
+        self.assertEqual(self.flutter((2, 11000000), (4, 9000000)), 0)
+        self.assertEqual(self.flutter((3, 11000000), (4, 9000000), (9, 9000400)), 1000000)
+        self.assertEqual(self.flutter((2, 5000000), (3, 5000300), (4, 9000000), (7, 8999600)), 400)
+        self.assertEqual(self.flutter((119, 12000001)), 1)
+        without = edited(('[[delay]]\nfrom = "all"\nto = "all"\nns = 175\n', ""), ("to = [2, 3, 4]", "to = [3, 4]"), text=PRODUCTION)
+        self.assertEqual(self.flutter((5, 7000009), text=without), 9)
+        self.assertEqual(self.flutter((5, 7000009), text=edited(("key_slot = 1\n", ""), ("coldstart = true", "coldstart = false"),
+                                                                text=without)), 0)
+
+
+class Pages(Case):
+    @needs_series
+    def test_a_cluster_of_production_shape(self):
+        page = self.page(PRODUCTION)
+        bounds = self.told(0)["alone"]
+        self.assertEqual((bounds.precision, bounds.gap, bounds.lasts), (36003994, None, None))
+        self.assertIn("covered no check 1", self.read("a.lab", "report.txt"))
+        self.assertIn("Covered NO by the older bound; by the sharper one yes, as below", page)
+        self.assertIn("Sharply covered yes: in sharp sync no macroticks of correct nodes lie further apart than the sharp "
+                      "precision; that is proved of such runs", page)
+        self.assertIn("Sharp precision 0.900 us (36.004 microticks), without arbitrary nodes, for delays that flutter by 0.000 us",
+                      page)
+        told = report.read_series(self.read("a.lab", "series.csv")).sharp
+        self.assertIn(f"In sharp sync yes, from double cycle {told.synced} on (cycle {2 * told.synced}, {10 * told.synced}.000 ms), "
+                      "and still so at the end", page)
+        skew, cycle, macrotick = told.greatest
+        self.assertRegex(page, rf"Sharp skew {skew * 25 / 10 ** 9:.3f} us at most since it was first in sharp sync, [\d.]+ % of the "
+                               rf"sharp precision \(cycle {cycle}, macrotick {macrotick}\) Sharply within yes")
+        self.assertRegex(page, r"Later skew .*? % of the sharp precision")
+        self.assertIn("before sharp sync, so it is not to be held against the sharp precision", page)
+        self.assertIn("C1 to C5 hold, those of the sharp precision; C1 is the tightest, used to 50.0 %; a damping of 1 would "
+                      "suffice", page)
+
+    @needs_series
+    def test_where_the_sharper_checks_hold_no_damping_is_advised(self):
+        page = self.page(produced(SHORT))
+        self.assertNotIn("Ways", page)
+        self.assertNotIn("turn pClusterDriftDamping", page)
+        asked = re.search(r"C1, C3 and C4 of the older bound, above called Precision, fail; the sharp precision does not rest on "
+                          r"them\. They ask for (.*?) besides; the older bound is then ([\d.]+) us, and simulated skew ([\d.]+) us at "
+                          r"most from cycle (\d+) on, ([\d.]+) times what it is now: that makes the clocks worse", page)
+        self.assertIsNotNone(asked, page)
+        self.assertGreater(float(asked[5]), 3)
+        values = dict(one.split(" = ") for one in asked[1].split(", "))
+        self.assertIn("pClusterDriftDamping", values)
+        text = produced(SHORT)
+        for name, value in values.items():
+            text = re.sub(rf"^{name} = \d+", f"{name} = {value}", text, flags=re.M)
+        again = self.page(text, "--from", asked[4])
+        self.assertIn("Covered yes", again)
+        self.assertIn("Older checks those of the older bound, above called Precision, hold too", again)
+        self.assertIn(f"Precision {asked[2]} us", again)
+        self.assertIn(f"as asked: {asked[3]} us at most", again)
+
+    @needs_series
+    def test_beside_an_arbitrary_node(self):
+        page = self.page(produced(SHORT) + TWO_FACED)
+        self.assertIn("Sharply covered yes", page)
+        self.assertIn("Sharp precision 2.475 us (99.011 microticks), beside arbitrary nodes", page)
+        text = re.sub(r"(id = [5-8]\n)key_slot = \d\n(.*\n)coldstart = true\n", r"\1\2", produced(SHORT))
+        other = TWO_FACED.replace("node = 4", "node = 3")
+        page = self.page(text + "".join(one.replace("[1, 3]", "1").replace("[2, 5]", "2") for one in (TWO_FACED, other)))
+        self.assertIn("Sharply covered NO: nothing is promised of this run's sharp precision 2 correct sync nodes do not outweigh 2 "
+                      "arbitrary ones", page)
+
+    @needs_series
+    def test_the_first_check_decides_how_long_it_is_proved(self):
+        page = self.page(produced(("Damping = 2", "Damping = 0"), SHORT))
+        self.assertIn("Sharply covered yes", page)
+        self.assertIn("proved of 560 double cycles from there (5600.000 ms), since C1 fails and the rates of all may walk together: "
+                      "to the end of this run", page)
+        self.assertIn("turn pClusterDriftDamping: it is 0, and with all else as it is C1 asks for 1 at least", page)
+        self.assertIn("1. all checks hold with pClusterDriftDamping = 1. Sharp precision 0.750 us; covered yes", page)
+        page = self.page(produced(*WALK, ("double_cycles = 60", "double_cycles = 70")) + EVEN_AND_ODD)
+        self.assertIn("for delays that flutter by 0.250 us", page)
+        first = int(re.search(r"In sharp sync yes, from double cycle (\d+) on", page)[1])
+        self.assertRegex(page, r"but for lengths that leave their range from double cycle \d+ on")
+        self.assertIn("PROVED IN PART, of 62 double cycles from there (620.000 ms), since C1 fails and the rates of all may walk "
+                      f"together: not from cycle {2 * (first + 62)} on", page)
+        self.assertIn("C1 asks for 12 at least", page)
+
+    @needs_series
+    def test_each_way_holds_and_has_the_skew_that_it_tells(self):
+        text = produced(SHORT, ("pOffsetCorrectionOut = 127", "pOffsetCorrectionOut = 50"),
+                        ("gdActionPointOffset = 4", "gdActionPointOffset = 1")) + TWO_FACED
+        page = self.page(text)
+        self.assertIn("Sharply covered NO: nothing is promised of this run's sharp precision check C3 fails, see below", page)
+        ways = re.findall(r"\d\. (all checks hold with .*?)(?=\d\. all|Frames)", page)
+        self.assertEqual(len(ways), 2, page)
+        skews = []
+        for way in ways:
+            told = re.search(r"with (.*?)\. Sharp precision ([\d.]+) us; covered yes; simulated skew ([\d.]+) us at most from cycle "
+                             r"(\d+) on", way)
+            taken = text
+            for name, value in (one.split(" = ") for one in told[1].split(", ")):
+                taken, count = re.subn(rf"^{name} = \d+", f"{name} = {value}", taken, flags=re.M)
+                self.assertEqual(count, 1, name)
+            again = self.page(taken, "--from", told[4])
+            self.assertIn("Sharply covered yes", again)
+            self.assertIn("C1 to C5 hold, those of the sharp precision", again)
+            self.assertIn(f"Sharp precision {told[2]} us", again)
+            self.assertIn(f"as asked: {told[3]} us at most", again)
+            skews.append(float(told[3]))
+        self.assertEqual(skews, sorted(skews))
+
+    def test_nodes_that_join_are_left_to_the_older_bound(self):
+        page = self.page(produced(SHORT) + JOINS)
+        self.assertIn("Sharply covered NO: nothing is promised of this run's sharp precision nodes join it, and the sharper precision "
+                      "is proved of runs that no node joins", page)
+        self.assertNotIn("Sharp precision", page)
+        self.assertIn("check C8 fails", page)
+
+    def test_what_is_known_without_the_second_program(self):
+        page = self.page(produced(SHORT), series=False)
+        self.assertIn("Sharply covered not known: a check of the older bound fails", page)
+        self.assertIn("Sharp precision 0.900 us", page)
+        page = self.page(EXAMPLE, series=False)
+        self.assertIn("Sharply covered yes", page)
+        self.assertIn("Older checks those of the older bound, above called Precision, hold too", page)
+        page = self.page(produced(SHORT, ("pOffsetCorrectionOut = 127", "pOffsetCorrectionOut = 9")), series=False)
+        self.assertIn("Sharply covered NO: nothing is promised of this run's sharp precision check C3 fails, see below", page)
+        page = self.page(edited(("microticks = 0.3", "microticks = 0.7")), series=False)
+        self.assertIn("Sharply covered NO: nothing is promised of this run's sharp precision in cycle 0 frames of node 1 travel", page)
+
+    def test_never_in_sharp_sync(self):
+        page = self.page(produced(("double_cycles = 60", "double_cycles = 1")))
+        self.assertIn("In sharp sync NEVER: no double cycle of the run is in sharp sync", page)
+        self.assertNotIn("Sharp skew", page)
+
+    @needs_series
+    def test_a_series_that_does_not_fit(self):
+        self.write("a.toml", produced(SHORT))
+        self.flexlab("run", "a.toml", env={"FLEXRAY_SERIES": SERIES})
+        text = self.read("a.lab", "series.csv")
+        for old, new, told in (("\nflutter,0,", "\nflutter,5,", "delays flutter by 5 ticks, and by the file it is 0"),
+                               ("\nsharp,36003994,alone", "\nsharp,36003993,alone", "tells another sharper precision"),
+                               ("\nsharp,36003994,alone", "\nsharp,36003994,beside", "tells another sharper precision"),
+                               ("\nsharp within,yes", "\nsharp inside,yes", "not understood: sharp inside,yes")):
+            with self.subTest(new=new):
+                self.assertIn(old, text)
+                self.write("series.txt", text.replace(old, new))
+                path = self.write("series", f"#!/bin/sh\ncat {self.path('series.txt')}\n")
+                os.chmod(path, 0o755)
+                self.assertIn(told, self.flexlab("run", "a.toml", env={"FLEXRAY_SERIES": path}, status=6)[1])
+        rows = text.replace(",yes\n", ",no\n", 1)
+        self.write("series.txt", rows)
+        self.assertIn("that it is in sharp sync, and the trace does not",
+                      self.flexlab("run", "a.toml", env={"FLEXRAY_SERIES": path}, status=6)[1])
+
+
+class Table(Case):
+    def table(self, text, *words):
+        self.write("a.toml", text)
+        return self.flexlab("precision", *words, "a.toml", env={"FLEXRAY_SERIES": SERIES} if SERIES else None)[0]
+
+    @needs_series
+    def test_the_numbers_side_by_side(self):
+        page = self.table(produced(SHORT))
+        self.assertRegex(page, r"\nthe standard, best case +0\.900 +36\.0 ")
+        self.assertRegex(page, r"\nthe standard, worst case +2\.550 +102\.0 ")
+        self.assertRegex(page, r"\nsharp, no arbitrary +0\.900 +36\.0 +none +on +100\.0 %  from sharp sync on; that of this cluster\n")
+        self.assertRegex(page, r"\nsharp, beside arbitrary +2\.475 +99\.0 +none +on +275\.0 %  from sharp sync on\n")
+        self.assertRegex(page, r"\nthe older bound +12\.352 +494\.1 +C1, C3, C4 +1372\.2 % ")
+        self.assertRegex(page, r"\nsimulated, sharp sync +0\.\d+ ")
+        self.assertIn("Sharp proved of this run, without arbitrary nodes: in sharp sync no macroticks", self.one_line(page))
+
+    @needs_series
+    def test_another_flutter(self):
+        page = self.table(produced(SHORT), "--flutter-ns", "50")
+        bounds = self.told(2000000)
+        self.assertRegex(page, rf"\nsharp, no arbitrary +{bounds['alone'].precision * 25 / 10 ** 9:.3f} +\S+ +C1 +560 ")
+        self.assertIn("for 560 double cycles from the first one on (5600.000 ms), since C1 fails", self.one_line(page))
+        page = self.one_line(self.table(produced(*WALK, SHORT) + EVEN_AND_ODD, "--flutter-ns", "249"))
+        self.assertIn("nothing is proved of this run, whose delays flutter by 0.250 us", page)
+        for words in ("501", "-1", "x", ""):
+            self.assertIn("a number from 0 to 500 is wanted", self.flexlab("precision", f"--flutter-ns={words}", "a.toml", status=2)[1])
+
+    @needs_series
+    def test_where_nothing_is_proved(self):
+        page = self.one_line(self.table(produced(SHORT, ("pOffsetCorrectionOut = 127", "pOffsetCorrectionOut = 20"))))
+        self.assertRegex(page, r"Sharp nothing is proved of this run, which has a gap \(check 3 \d+ \d+\)")
+        page = self.one_line(self.table(produced(SHORT) + JOINS))
+        self.assertIn("Sharp nothing is proved of this run, which has a gap (join)", page)
+        self.assertNotIn("that of this cluster ", page)
+
+
+class Machines(Case):
+    @needs_series
+    def test_a_run_as_an_object(self):
+        self.write("a.toml", produced(SHORT))
+        env = {"FLEXRAY_SERIES": SERIES}
+        found = json.loads(self.flexlab("run", "--json", "a.toml", env=env)[0])
+        told = report.read_series(self.read("a.lab", "series.csv")).sharp
+        sharply = found["sharp"]
+        self.assertEqual((sharply["covered"], sharply["gap"], sharply["kind"], sharply["flutter"]["ticks"]), (True, None, "alone", 0))
+        self.assertEqual((sharply["precision"]["ticks"], sharply["lasts_double_cycles"]), (36003994, None))
+        self.assertEqual(sharply["in_sharp_sync"]["double_cycle"], told.synced)
+        self.assertEqual((sharply["skew"]["ticks"], sharply["within_precision"]), (told.greatest[0], True))
+        self.assertEqual([check["holds"] for check in sharply["checks"]], [True] * 5)
+        self.assertEqual((found["ways"]["of"], found["ways"]["ways"]), ("sharp precision", []))
+        self.assertGreater(found["ways"]["older"]["skew_us"], found["ways"]["skew_now_us"])
+        self.flexlab("run", "--require", "sharply-covered,in-sync", "a.toml", env=env)
+        self.assertIn("not met: covered:", self.flexlab("run", "--require", "sharply-covered,covered", "a.toml", status=7, env=env)[1])
+
+    @needs_series
+    def test_what_is_required_and_not_met(self):
+        env = {"FLEXRAY_SERIES": SERIES}
+        for text, told in ((produced(SHORT, ("pOffsetCorrectionOut = 127", "pOffsetCorrectionOut = 20")), "sharp covered no check 3 "),
+                           (produced(SHORT) + JOINS, "sharp covered no join"),
+                           (produced(("double_cycles = 60", "double_cycles = 1")), "never in sharp sync"),
+                           (produced(*WALK, ("double_cycles = 60", "double_cycles = 70")) + EVEN_AND_ODD,
+                            "what is proved ends before double cycle 6")):
+            with self.subTest(told=told):
+                self.write("a.toml", text)
+                err = self.flexlab("run", "--require", "sharply-covered", "a.toml", status=7, env=env)[1]
+                self.assertIn(f"not met: sharply-covered: {told}", err)
+        self.write("a.toml", produced(SHORT))
+        self.assertIn("is not known", self.flexlab("run", "--require", "sharply-covered", "a.toml", status=7)[1])
+
+    @needs_series
+    def test_a_study(self):
+        self.write("a.toml", produced(SHORT))
+        out = self.flexlab("study", "a.toml", "--vary", "cluster.pOffsetCorrectionOut", "--values", "20,127", "--json",
+                           env={"FLEXRAY_SERIES": SERIES})[0]
+        runs = json.loads(out)["runs"]
+        self.assertEqual([run["sharply_covered"] for run in runs], ["no", "yes"])
+        self.assertEqual([run["sharp_precision_us"] for run in runs], ["0.900100"] * 2)
+        self.assertRegex(runs[0]["sharp_gap"], r"^check 3 \d+ \d+$")
+
+    def test_an_explanation(self):
+        self.write("a.toml", produced(("pOffsetCorrectionOut = 127", "pOffsetCorrectionOut = 60")))
+        self.flexlab("build", "a.toml")
+        told = self.one_line(self.flexlab("explain", "bound", "a.lab/params.csv", "sharp", "2000000")[0])
+        self.assertIn("C1 fails 1999801 2999900 it asks: pClusterDriftDamping * Qm + 1 >= Qm + flutter + J + J1", told)
+        self.assertIn("C1 asks for 4 at least", told)
+        self.assertRegex(told, r"beside C3 fails \d+ \d+ it asks: pOffsetCorrectionOut \* Qm >= near \+ E1 \+ Qp")
+        self.assertNotIn("alone C", told)
+        out = self.flexlab("explain", "bound", "a.lab/params.csv", "sharp", "20000001", status=1)[0]
+        self.assertIn("20000001 is not a whole number from 0 to 20000000, for FLUTTER", out)
+
+
+class Reading(unittest.TestCase):
+    def test_the_lines_of_a_series(self):
+        text = ("cycle,in_sync,skew,macrotick,sharp\n0,no,39992000,4999,no\n1,no,79200000,4900,no\n2,yes,48991900,4999,yes\n"
+                "3,yes,56495900,4687,yes\ngreatest,56495900,3,4687,\nsynced,yes,,,\nwithin,yes,,,\nflutter,7,,,\n"
+                "sharp,39007594,beside,,\n")
+        found = report.read_series(text + "sharp covered,no,,,check 3 5 6\nsharp synced,1,62,,\nsharp greatest,56495900,3,4687,\n"
+                                          "sharp within,no,3,4687,\n")
+        self.assertEqual((found.rows[2], found.greatest, found.synced, found.within),
+                         ((2, True, 48991900, 4999), (56495900, 3, 4687), True, (True, None, None)))
+        told = found.sharp
+        self.assertEqual((told.rows, told.flutter, told.precision, told.kind), ([False, False, True, True], 7, 39007594, "beside"))
+        self.assertEqual((told.gap, told.synced, told.lasts, told.greatest, told.within),
+                         (["check", "3", "5", "6"], 1, 62, (56495900, 3, 4687), (False, 3, 4687)))
+        told = report.read_series(text + "sharp covered,yes,,,\nsharp synced,-,,,\nsharp greatest,-,-,-,\nsharp within,-,,,\n").sharp
+        self.assertEqual((told.gap, told.synced, told.lasts, told.greatest, told.within), (None,) * 5)
+        self.assertIsNone(report.read_series(text + "sharp synced,1,on,,\n").sharp.lasts)
+
+    def test_a_run_that_is_never_in_sync(self):
+        found = report.read_series("0,no,-,-,no\n1,no,0,0,no\ngreatest,-,-,-,\nsynced,no,0,,\nwithin,-,,,\n")
+        self.assertEqual((found.rows[0], found.greatest, found.synced, found.within),
+                         ((0, False, None, None), None, False, None))
+
+    def test_what_is_not_understood(self):
+        for line in ("0,no,1,2", "within,maybe", "flutter,-,,,", "sharp,1,both,,", "sharp inside,yes,,,"):
+            with self.subTest(line=line), self.assertRaises(Stop):
+                report.read_series(line + "\n")
+
+
+if __name__ == "__main__":
+    unittest.main()
