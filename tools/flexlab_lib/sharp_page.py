@@ -50,6 +50,8 @@ def lasting_words(run, ms_of_cycle):
     lasts, end = run.sharp.bounds.lasts, ends_of(run)
     if lasts is None or gap_of(run) != (True, None) or first_of(run) is None:
         return None
+    if not lasts:
+        return "NOT PROVED: C1 fails, and the rate limit holds the walk of all rates for no double cycle"
     told = (f"{lasts} double cycles from there ({lasting(ms_of_cycle(2 * lasts, run.cluster))}), since C1 fails and the "
             "rates of all may walk together")
     if end is None:
@@ -93,8 +95,8 @@ def check_lines(run, field):
     for number, _, left, right in bounds.failing:
         words = sharp_check_words(number, left, right, p, kind)
         if number == 1:
-            words.append(f"without that the sharp precision is proved of {bounds.lasts} double cycles from the first in sharp "
-                         "sync on")
+            words.append(f"without that the sharp precision is proved of {bounds.lasts or 'no'} double cycles from the first in "
+                         "sharp sync on")
         found += field("" if found else "Checks", *words)
     if found:
         return found

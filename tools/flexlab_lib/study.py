@@ -176,7 +176,8 @@ def told_line(line):
             if line["skew_in_sync_us"] else f"greatest skew {line['greatest_skew_us']} us, before sync")
     later = f", later {line['later_skew_us']} us" if line.get("later_skew_us") else ""
     gap = f" ({line['gap']})" if line["gap"] else ""
-    return f"{sync}, covered {line['covered']}{gap}, {skew}{later}"
+    sharply = f", sharply covered {line['sharply_covered']}" if line.get("sharply_covered") else ""
+    return f"{sync}, covered {line['covered']}{gap}, {skew}{later}{sharply}"
 
 
 def named(plan, line):

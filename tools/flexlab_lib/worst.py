@@ -289,8 +289,8 @@ def worst(cluster, folder, program, words):
     begin, unit, first = time.monotonic(), cluster.microtick_ns, Bench(cluster, program, 1)
     if first.bounds.failing:
         named = ", ".join(f"C{check[0]}" for check in first.bounds.failing)
-        raise Stop(NO, f"{cluster.path}: {named} fails, so no run of this cluster is covered: `flexlab run` has ways to mend "
-                       "that")
+        raise Stop(NO, f"{cluster.path}: {named} of the older bound fails, so no run of this cluster is covered by it, and the "
+                       "search is of covered runs: `flexlab run` tells what it asks for, and of the sharper bound")
     drift, script, pair = edge(first)
     told = (f"nodes {pair[0]} and {pair[1]} begin as far apart as `in sync` allows: their starts by pi, the lengths of their "
             "cycles by lambda, as near as whole ticks come to it. There is one double cycle.\n")

@@ -100,8 +100,16 @@ class Flutter(Case):
         self.assertEqual(self.flutter((119, 12000001)), 1)
         without = edited(('[[delay]]\nfrom = "all"\nto = "all"\nns = 175\n', ""), ("to = [2, 3, 4]", "to = [3, 4]"), text=PRODUCTION)
         self.assertEqual(self.flutter((5, 7000009), text=without), 9)
+        self.assertEqual(self.flutter((5, 7000009), (5, 6000000), (6, 7000000), text=without), 1000000)
         self.assertEqual(self.flutter((5, 7000009), text=edited(("key_slot = 1\n", ""), ("coldstart = true", "coldstart = false"),
                                                                 text=without)), 0)
+
+
+    def test_of_which_bounds_a_run_is(self):
+        self.assertEqual(sharp.kind_of(self.cluster(PRODUCTION), 5), least.Kind(False, 5, 8))
+        # A key slot of an arbitrary node is one too; and no more is stated than flexray bound takes.
+        cluster = self.cluster(produced(("key_slot = 4\n", "key_slot = 90\n")) + TWO_FACED)
+        self.assertEqual(sharp.kind_of(cluster, 30000000), least.Kind(True, sharp.MOST, 90))
 
 
 class Pages(Case):
@@ -174,6 +182,13 @@ class Pages(Case):
         self.assertIn("PROVED IN PART, of 62 double cycles from there (620.000 ms), since C1 fails and the rates of all may walk "
                       f"together: not from cycle {2 * (first + 62)} on", page)
         self.assertIn("C1 asks for 12 at least", page)
+
+    @needs_series
+    def test_a_walk_that_lasts_for_no_double_cycle(self):
+        page = self.page(produced(*WALK, SHORT, ("pRateCorrectionOut = 601", "pRateCorrectionOut = 45")) + EVEN_AND_ODD)
+        self.assertEqual(self.told(10000000)["alone"].lasts, 0)
+        self.assertIn("NOT PROVED: C1 fails, and the rate limit holds the walk of all rates for no double cycle", page)
+        self.assertIn("is proved of no double cycles", page)
 
     @needs_series
     def test_each_way_holds_and_has_the_skew_that_it_tells(self):
