@@ -41,3 +41,4 @@ pub mod FilesWorked
 pub mod TraceRows
 pub mod TraceSync
 pub mod TraceCycles
+pub mod TraceWorked

@@ -1,4 +1,5 @@
 ghost use Rattle.fr_sharp.specs.SharpTraces.{CheckedTracesAreSteady, TracesKeepSharpPrecision, TracesKeepSharpSync};
+ghost use Rattle.fr_sharp.specs.WorkedTrace.{WorkedTraceKeepsPrecision, WorkedTraceMeetsPremises};
 
 /// The law of recorded traces: where no node joins, a lawful trace keeps the sharper precision, in ticks, with both errors
 /// of an arrival for the flutter. From a double cycle in sharp sync on, with lengths in their range and under the second
@@ -10,4 +11,11 @@ pub fn traces_keep_sharp_sync()
     ensures steady { CheckedTracesAreSteady }
     ensures keep { TracesKeepSharpSync }
     ensures precise { TracesKeepSharpPrecision }
+{}
+
+/// A law: the worked trace of two nodes meets the premises from its start on, with a flutter of 1,000,000 ticks, and its
+/// clocks keep within 45,007,594 ticks.
+pub fn a_steady_trace()
+    ensures premises { WorkedTraceMeetsPremises }
+    ensures precise { WorkedTraceKeepsPrecision }
 {}
