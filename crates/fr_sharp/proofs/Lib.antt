@@ -39,6 +39,7 @@ pub mod TestedLemmas
 pub mod FreeLemmas
 pub mod FilesWorked
 pub mod TraceRows
+pub mod TraceStep
 pub mod TraceSync
 pub mod TraceCycles
 pub mod TraceWorked
