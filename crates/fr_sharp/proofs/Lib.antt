@@ -42,4 +42,5 @@ pub mod TraceRows
 pub mod TraceStep
 pub mod TraceSync
 pub mod TraceCycles
+pub mod TraceSettles
 pub mod TraceWorked
