@@ -47,5 +47,8 @@ pub mod TestedLemmas
 pub mod FreeLemmas
 pub mod FilesWorked
 pub mod TraceRows
+pub mod TraceStep
 pub mod TraceSync
 pub mod TraceCycles
+pub mod TraceSettles
+pub mod TraceWorked

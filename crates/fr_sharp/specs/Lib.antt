@@ -27,3 +27,4 @@ pub mod SteadyRuns
 pub mod WayHistories
 pub mod WorkedFiles
 pub mod WorkedRun
+pub mod WorkedTrace
