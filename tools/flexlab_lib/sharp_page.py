@@ -10,7 +10,7 @@ KINDS = {"alone": "without arbitrary nodes", "beside": "beside arbitrary nodes"}
 
 
 def kind_words(sharp, unit):
-    return f"{KINDS[sharp.bounds.kind]}, for delays that flutter by {microseconds(sharp.flutter, unit)}"
+    return f"{KINDS[sharp.bounds.kind]}, for delays that flutter by {microseconds(sharp.bounds.flutter, unit)}"
 
 
 def covered_words(run):

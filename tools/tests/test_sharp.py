@@ -233,6 +233,19 @@ class Pages(Case):
         page = self.page(edited(("microticks = 0.3", "microticks = 0.7")), series=False)
         self.assertIn("Sharply covered NO: nothing is promised of this run's sharp precision in cycle 0 frames of node 1 travel", page)
 
+    @needs_series
+    def test_delays_that_flutter_more_than_any_limit_allows(self):
+        text = produced(SHORT) + "[[delay]]\nfrom = 1\nto = 2\nns = 2000\nfrom_cycle = 7\n"
+        page = self.page(text)
+        self.assertIn("Sharply covered NO: nothing is promised of this run's sharp precision a delay differs by 1.700 us between the two "
+                      "cycles of a double cycle", page)
+        self.assertIn("without arbitrary nodes, for delays that flutter by 0.500 us", page)
+        self.assertIn("xDelayError would have to be 73000000, and is 10000000 at most", page)
+        page = self.one_line(self.flexlab("precision", "a.toml", env={"FLEXRAY_SERIES": SERIES})[0])
+        self.assertIn("Flutter 0.500 us: how far a delay may differ between the two cycles of a double cycle; the most that flexray "
+                      "bound takes", page)
+        self.assertIn("nothing is proved of this run, whose delays flutter by 1.700 us", page)
+
     def test_never_in_sharp_sync(self):
         page = self.page(produced(("double_cycles = 60", "double_cycles = 1")))
         self.assertIn("In sharp sync NEVER: no double cycle of the run is in sharp sync", page)
