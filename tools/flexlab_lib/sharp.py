@@ -62,6 +62,8 @@ def unlike(sharp, told, doubles):
         return f"flexray-series says that delays flutter by {told.flutter} ticks, and by the file it is {sharp.flutter}"
     if sharp.flutter <= MOST and (told.kind, told.precision) != (sharp.bounds.kind, sharp.bounds.precision):
         return "flexray-series tells another sharper precision than flexray bound"
+    if sharp.flutter <= MOST and told.synced is not None and told.lasts != sharp.bounds.lasts:
+        return "flexray-series tells another number of double cycles for which the walk lasts than flexray bound"
     if sharp.flutter <= MOST and doubles and told.rows[::2] != sharp.rows:
         return "flexray-series says of a double cycle that it is in sharp sync, and the trace does not, or back"
     return None

@@ -259,6 +259,7 @@ class Pages(Case):
         for old, new, told in (("\nflutter,0,", "\nflutter,5,", "delays flutter by 5 ticks, and by the file it is 0"),
                                ("\nsharp,36003994,alone", "\nsharp,36003993,alone", "tells another sharper precision"),
                                ("\nsharp,36003994,alone", "\nsharp,36003994,beside", "tells another sharper precision"),
+                               (",on,,\n", ",7,,\n", "tells another number of double cycles for which the walk lasts"),
                                ("\nsharp within,yes", "\nsharp inside,yes", "not understood: sharp inside,yes")):
             with self.subTest(new=new):
                 self.assertIn(old, text)
@@ -321,6 +322,7 @@ class Machines(Case):
         self.assertEqual(sharply["in_sharp_sync"]["double_cycle"], told.synced)
         self.assertEqual((sharply["skew"]["ticks"], sharply["within_precision"]), (told.greatest[0], True))
         self.assertEqual([check["holds"] for check in sharply["checks"]], [True] * 5)
+        self.assertEqual(sharply["gap_told"], [])
         self.assertEqual((found["ways"]["of"], found["ways"]["ways"]), ("sharp precision", []))
         self.assertGreater(found["ways"]["older"]["skew_us"], found["ways"]["skew_now_us"])
         self.flexlab("run", "--require", "sharply-covered,in-sync", "a.toml", env=env)
@@ -338,6 +340,12 @@ class Machines(Case):
                 self.write("a.toml", text)
                 err = self.flexlab("run", "--require", "sharply-covered", "a.toml", status=7, env=env)[1]
                 self.assertIn(f"not met: sharply-covered: {told}", err)
+        for text, told in ((produced(SHORT, ("pOffsetCorrectionOut = 127", "pOffsetCorrectionOut = 20")), "turn pOffsetCorrectionOut"),
+                           (produced(SHORT) + JOINS, "nodes join it")):
+            self.write("a.toml", text)
+            found = json.loads(self.flexlab("run", "--json", "a.toml", env=env)[0])["sharp"]
+            self.assertEqual(found["covered"], False)
+            self.assertIn(told, " ".join(found["gap_told"]))
         self.write("a.toml", produced(SHORT))
         self.assertIn("is not known", self.flexlab("run", "--require", "sharply-covered", "a.toml", status=7)[1])
 
