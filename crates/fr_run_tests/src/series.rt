@@ -9,10 +9,13 @@ use std::test::Fail;
 
 const FILES: &[&str] = &["p", "d", "s"];
 
+const SHARP: &[&str] = &["p", "d", "s", "sharp"];
+
 const APART: &[u8] = b"doubles,2,,,,\nlength,1,0,1000100,,\nlength,2,0,999900,,\n";
 
 // An oscillator that is 1,500 parts in a million slower from cycle 2 on: 60,000 ticks a macrotick, so that macrotick
-// 4,201 is the first to lie further apart than the precision, 252,043,600 ticks. From cycle 4 on node 2 is halted.
+// 4,201 is the first to lie further apart than the precision, 252,043,600 ticks, and macrotick 651 than the sharper one,
+// 39,007,594 ticks. From cycle 4 on node 2 is halted.
 const LATE: &[u8] = b"doubles,3,,,,\nlength,1,0,1000000,,\nlength,1,2,1001500,,\n";
 
 // The same from cycle 0 on: never in sync.
@@ -92,8 +95,65 @@ synced,yes,,\n\
             "write fault\n",
         ),
     ),
+    (
+        SHARP,
+        LATE,
+        NONE,
+        (
+            Done,
+            "\
+cycle,in_sync,skew,macrotick,sharp\n\
+0,yes,0,0,yes\n\
+1,yes,0,0,yes\n\
+2,no,299940000,4999,no\n\
+3,no,594000000,4900,no\n\
+4,no,0,0,no\n\
+5,no,0,0,no\n\
+greatest,594000000,3,4900,\n\
+synced,no,1,,\n\
+within,no,2,4201,\n\
+flutter,0,,,\n\
+sharp,39007594,alone,,\n\
+sharp covered,no,,,length 1 2 1001500\n\
+sharp synced,0,on,,\n\
+sharp greatest,594000000,3,4900,\n\
+sharp within,no,2,651,\n\
+",
+            "",
+        ),
+    ),
+    (
+        SHARP,
+        APART,
+        (0, 14, 2),
+        (
+            WriteFault,
+            "\
+cycle,in_sync,skew,macrotick,sharp\n\
+0,no,39992000,4999,no\n\
+1,no,79200000,4900,no\n\
+2,yes,48991900,4999,no\n\
+3,yes,56495900,4687,no\n\
+greatest,56495900,3,4687,\n\
+synced,yes,,,\n\
+within,yes,,,\n\
+flutter,0,,,\n\
+sharp,39007594,alone,,\n\
+sharp covered,yes,,,\n\
+sharp synced,-,,,\n\
+sharp greatest,-,-,-,\n\
+",
+            "write fault\n",
+        ),
+    ),
     (&["p", "d"], APART, NONE, (Usage, "", USAGE)),
     (&["p", "d", "s", "t"], APART, NONE, (Usage, "", USAGE)),
+    (
+        &["p", "d", "s", "sharp", "t"],
+        APART,
+        NONE,
+        (Usage, "", USAGE),
+    ),
     (&[], APART, NONE, (Usage, "", USAGE)),
 ];
 

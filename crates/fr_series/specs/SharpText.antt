@@ -57,12 +57,12 @@ abbrev pub flutter_text : ℕ → List ℕ
 flutter_text flutter = codes "flutter," ++ decimal flutter ++ codes ",,,"
 
 -- the sharper precision, in ticks, and whether it is that beside arbitrary sync nodes
-abbrev pub kind_text : Bool → List ℕ
-kind_text false = codes "alone"
-kind_text true = codes "beside"
+abbrev pub beside_or_alone : Bool → List ℕ
+beside_or_alone false = codes "alone"
+beside_or_alone true = codes "beside"
 
 abbrev pub sharp_precision_text : ℤ → Bool → List ℕ
-sharp_precision_text precision beside = codes "sharp," ++ signed_decimal precision ++ codes "," ++ kind_text beside ++ codes ",,"
+sharp_precision_text precision beside = codes "sharp," ++ signed_decimal precision ++ codes "," ++ beside_or_alone beside ++ codes ",,"
 
 -- whether the run is sharply covered, or why it is not
 abbrev pub sharp_covered_text : Option SharpGap → List ℕ
@@ -71,13 +71,13 @@ sharp_covered_text (Some Join) = codes "sharp covered,no,,,join"
 sharp_covered_text (Some (Other gap)) = gap_text (codes "sharp covered,no,,,") gap
 
 -- the first double cycle in sharp sync in which no node follows, and for how many the rate limit holds the walk since then
-abbrev pub lasts_text : Option ℕ → List ℕ
-lasts_text None = codes "on"
-lasts_text (Some doubles) = decimal doubles
+abbrev pub doubles_or_on : Option ℕ → List ℕ
+doubles_or_on None = codes "on"
+doubles_or_on (Some doubles) = decimal doubles
 
 abbrev pub sharp_synced_text : Option ℕ → Option ℕ → List ℕ
 sharp_synced_text None lasts = codes "sharp synced,-,,,"
-sharp_synced_text (Some double) lasts = codes "sharp synced," ++ decimal double ++ codes "," ++ lasts_text lasts ++ codes ",,"
+sharp_synced_text (Some double) lasts = codes "sharp synced," ++ decimal double ++ codes "," ++ doubles_or_on lasts ++ codes ",,"
 
 -- the greatest skew since then, and whether none was above the sharper precision, or the first place where one was
 abbrev pub sharp_greatest_text : Option Peak → List ℕ

@@ -1,6 +1,6 @@
 ghost use Rattle.std.specs.Prelude.{◌≡◌, ◌++◌, ◌≤◌, codes};
 ghost use Rattle.fr_series.specs.SeriesText.{above_text, greatest_text, synced_text, within_text};
-ghost use Rattle.fr_series.specs.SharpText.{flutter_text, kind_text, lasts_text, older_end, sharp_covered_text, sharp_end};
+ghost use Rattle.fr_series.specs.SharpText.{flutter_text, beside_or_alone, doubles_or_on, older_end, sharp_covered_text, sharp_end};
 ghost use Rattle.fr_series.specs.SharpText.{sharp_above_text, sharp_greatest_text, sharp_head, sharp_precision_text, sharp_row, sharp_synced_text, sharp_within_text};
 ghost use Rattle.fr_text.specs.Lines.{joined_lines};
 ghost use Rattle.fr_text.specs.Pieces.{Spells, line};
@@ -143,7 +143,7 @@ fn precision_line(precision: i64, beside: bool) -> Line
 }
 
 fn kind(beside: bool) -> Piece<'static>
-    ensures { Spells result (kind_text beside) 6 }
+    ensures { Spells result (beside_or_alone beside) 6 }
 {
     if beside {
         Word(b"beside")
@@ -178,7 +178,7 @@ fn sharp_synced_line(synced: Option<u32>, lasts: Option<u64>) -> Line
 }
 
 fn lasts_piece(lasts: Option<u64>) -> Piece<'static>
-    ensures { Spells result (lasts_text lasts) 20 }
+    ensures { Spells result (doubles_or_on lasts) 20 }
 {
     match lasts {
         None => Word(b"on"),

@@ -18,7 +18,8 @@ use Rattle.fr_bound.specs.Checks.{back_need_of, front_need_of, holds_of, left_of
 use Rattle.fr_precision.proofs.Figures.{nat_le-true, natural, times_natural}
 use Rattle.fr_precision.proofs.PlacementLaws.{limit_below}
 use Rattle.fr_sharp.specs.SharpBounds.{last_action, last_of, near_by, odd_spread, rate_room, rate_walk, sharp_lambda, sharp_near, sharp_pi, sharp_precision, steady_error, wide_change, AloneIsBelow, NearIsBelow, SharpIsBelow}
-use Rattle.fr_sharp.specs.SharpChecks.{FirstCheckStopsWalk, OlderChecksSuffice, RateSuffices, SharpChecksSuffice, WalkIsBounded}
+use Rattle.fr_precision.specs.Offsets.{LimitSuffices}
+use Rattle.fr_sharp.specs.SharpChecks.{sharp_holds_of, FirstCheckStopsWalk, OlderChecksSuffice, RateSuffices, SharpChecksSuffice, WalkIsBounded}
 use Rattle.fr_sharp.specs.Lengths.{walked_after, CanWalk, WalkIsHeld}
 use Rattle.fr_sharp.specs.SharpStep.{KeySlotsActEarly, SharpChecksReach}
 use Rattle.fr_sharp.proofs.Signed.{one_more, signed_of}
@@ -321,25 +322,28 @@ walked_none p flutter = by_test (int_le (rate_walk p flutter) (pos 0)) (rate_wal
 
 -- ---- the checks
 
+pub third_check_suffices : (p : Values) (flutter reach : ℕ) → sharp_holds_of 3 flutter reach p ≡ true → LimitSuffices p (pos reach)
+third_check_suffices p flutter reach holds =
+    limit reach (arrival_error p) (longest_micro p) (left_of 3 p) (nat_le-true (reach + arrival_error p + longest_micro p) (left_of 3 p) holds)
+  where
+    limit : (k e q left : ℕ) → k + e + q ≤ left → (pos k +ℤ pos e +ℤ pos q) ≤ℤ pos left
+    limit k e q left le = omega (arith, ints)
+
 pub sharp_checks_suffice_lem : SharpChecksSuffice
 sharp_checks_suffice_lem p flutter reach sane checks =
     let macros = sane.ranges name.gMacroPerCycle in
     let from : pos 0 ≤ℤ p.macros = omega (arith, ints, macros.0) in
     let near = reach + amount p name.xDelayError in
     let far = reach + widest p * nominal + amount p name.xDelayError in
-    let third = nat_le-true (reach + arrival_error p + longest_micro p) (left_of 3 p) (checks 3 (omega arith) (omega arith)) in
     let fourth = nat_le-true (front_need_of p reach) (left_of 4 p) (checks 4 (omega arith) (omega arith)) in
     let fifth = nat_lt-true (back_need_of p reach) (left_of 5 p) (checks 5 (omega arith) (omega arith)) in (
-      limit reach (arrival_error p) (longest_micro p) (left_of 3 p) third,
+      third_check_suffices p flutter reach (checks 3 (omega arith) (omega arith)),
       record {
         before = at_most (front_need_of p reach) (left_of 4 p) (p.macros *ℤ pos near) (times_natural p.macros near from) fourth;
         after = less (back_need_of p reach) (left_of 5 p) (p.macros *ℤ pos far) (times_natural p.macros far from) fifth;
       },
     )
   where
-    limit : (k e q left : ℕ) → k + e + q ≤ left → (pos k +ℤ pos e +ℤ pos q) ≤ℤ pos left
-    limit k e q left le = omega (arith, ints)
-
     at_most : (a b : ℕ) (x : ℤ) → pos a ≡ x → a ≤ b → x ≤ℤ pos b
     at_most a b x e le = omega (arith, ints)
 

@@ -4,8 +4,7 @@ use Rattle.std.specs.Prelude.{◌-ℤ◌, ◌*ℤ◌, ◌≤ℤ◌, ◌<ℤ◌, 
 use Rattle.std.proofs.lemmas.Int.{ints}
 use Rattle.fr_cluster.specs.Values.{amount}
 use Rattle.fr_cluster.specs.declared.names.ParamName.TheVariants as name
-use Rattle.fr_midpoint.proofs.Products.{addz-mulz, mulz-addz, mulz-lez, mulz-subz, mulz_assoc, mulz_comm, mulz_from, subz-mulz}
-use Rattle.fr_time.specs.Position.{even_position, floor_of, grid_for}
+use Rattle.fr_midpoint.proofs.Products.{mulz-addz, mulz-lez, mulz_assoc, mulz_comm, subz-mulz}
 use Rattle.fr_time.proofs.Lines.{rest_of}
 use Rattle.fr_time.proofs.Placing.{is_grid_lem}
 use Rattle.fr_precision.proofs.Figures.{natural, times_natural}

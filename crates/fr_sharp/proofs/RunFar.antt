@@ -1,6 +1,6 @@
 -- The runs of any cluster that reach nearly all of the sharper precision: what is stated of them, and their skew.
-use Rattle.std.proofs.Common.{◌≡◌, ◌≢◌, ℕ, suc, ◌+◌, ◌*◌, ◌<◌, ◌≤◌, ◌==◌, Bool, true, false, not, ◌&&◌, ℤ, pos, Option, Some, None, List, All, [], ◌∷◌, length, map, refl, ap, sym, ◌∙◌, subst, lit≤, lit<, arith, if◌then◌else◌}
-use Rattle.std.specs.Prelude.{◌-ℤ◌, ◌*ℤ◌, ◌≤ℤ◌, ◌<ℤ◌, ◌+ℤ◌, Contains, int_lt}
+use Rattle.std.proofs.Common.{◌≡◌, ◌≢◌, ℕ, suc, ◌*◌, ◌≤◌, ◌==◌, Bool, true, false, not, ℤ, pos, Option, Some, List, All, [], ◌∷◌, length, map, refl, ap, sym, ◌∙◌, subst, lit≤, arith, if◌then◌else◌}
+use Rattle.std.specs.Prelude.{◌-ℤ◌, ◌*ℤ◌, ◌≤ℤ◌, ◌+ℤ◌, Contains, int_lt}
 use Rattle.std.specs.Option.{option_map, option_map_or}
 use Rattle.std.specs.List.{list_any}
 use Rattle.std.proofs.lemmas.Int.{ints}
@@ -42,11 +42,11 @@ use Rattle.fr_runs.proofs.Courses.{row_two}
 use Rattle.fr_runs.proofs.Nodes.{correct_node}
 use Rattle.fr_runs.proofs.Parts.{odd_is, told_at}
 use Rattle.fr_runs.proofs.Rows.{contains_map, has_row, row_runs_by}
-use Rattle.fr_sharp.specs.FarRun.{correction_place, far_run, far_skew, Far, FarRunsReachSharply, HasTwo, IsFar}
+use Rattle.fr_sharp.specs.FarRun.{correction_place, far_apart_run, far_skew, Far, FarRunsReachSharply, HasTwo, IsFar}
 use Rattle.fr_sharp.specs.Lengths.{IsAboutCycle}
 use Rattle.fr_sharp.specs.SettlingHistories.{AreStatedNear}
 use Rattle.fr_sharp.specs.SharpBounds.{sharp_lambda, sharp_pi}
-use Rattle.fr_sharp.specs.SharpHistories.{IsInSharpSyncAt, IsSteadyRun}
+use Rattle.fr_sharp.specs.SharpHistories.{IsSteadyRun}
 use Rattle.fr_sharp.specs.SteadyRuns.{IsSteadySetting}
 use Rattle.fr_sharp.proofs.RunCycles.{stated_runs_are_steady}
 use Rattle.fr_sharp.proofs.RunSettles.{histories_begin_active}
@@ -57,7 +57,7 @@ use Rattle.fr_sharp.proofs.Signed.{signed_of}
 
 -- ---- numbers of two kinds, by whether they are those of the first node
 
-itself : (n : ℕ) (a : ℤ) → IsWithin (pos n) (a -ℤ a)
+pub itself : (n : ℕ) (a : ℤ) → IsWithin (pos n) (a -ℤ a)
 itself n a = record { low = omega (arith, ints); high = omega (arith, ints) }
 
 no_less : (bound : ℤ) (a b : ℤ) (first : Bool) → bound ≤ℤ a → a ≤ℤ b → bound ≤ℤ (if first then a else b)
@@ -83,15 +83,15 @@ no_rate n = omega (arith, ints)
 
 -- ---- what is stated of such a run
 
-none_by : (nodes : List NodeSpec) → list_any (λ (node : NodeSpec). false) nodes ≡ false
+pub none_by : (nodes : List NodeSpec) → list_any (λ (node : NodeSpec). false) nodes ≡ false
 none_by [] = refl
 none_by (node ∷ nodes) = none_by nodes
 
 module _ (f : Far) (starts lengths : ℕ) (is : IsFar f starts lengths) where
-  regular : (sender : NodeSpec) (cycle receiver : ℕ) (channel : Channel) → Contains (correct_nodes (far_run f)) sender → (far_run f).event cycle sender.id receiver channel ≡ Regular
-  regular sender cycle receiver channel there = let correct = (correct_node (far_run f) sender there).correct in rw correct refl
+  regular : (sender : NodeSpec) (cycle receiver : ℕ) (channel : Channel) → Contains (correct_nodes (far_apart_run f)) sender → (far_apart_run f).event cycle sender.id receiver channel ≡ Regular
+  regular sender cycle receiver channel there = let correct = (correct_node (far_apart_run f) sender there).correct in rw correct refl
 
-  covered : IsSteadySetting (far_run f) 0
+  pub covered : IsSteadySetting (far_apart_run f) 0
   covered = record {
     sane = is.sane;
     few = is.few;
@@ -110,7 +110,7 @@ module _ (f : Far) (starts lengths : ℕ) (is : IsFar f starts lengths) where
     flutters = λ sender receiver slot channel double linked share within. itself 0 (compensation_of f.params channel *ℤ pos nominal);
   }
 
-  setting : IsSetting (far_run f)
+  pub setting : IsSetting (far_apart_run f)
   setting = record {
     sane = is.sane;
     bytes = λ cycle sender receiver channel. of_bytes (f.is_arbitrary sender) (f.said cycle sender receiver channel) (is.bytes cycle sender receiver channel);
@@ -126,7 +126,7 @@ module _ (f : Far) (starts lengths : ℕ) (is : IsFar f starts lengths) where
   in_order : (f.params.micros *ℤ f.short) ≤ℤ (f.params.micros *ℤ f.long)
   in_order = mulz-lez_left f.short f.long f.params.micros is.order micros_from
 
-  stated_near : AreStatedNear (far_run f) starts lengths
+  pub stated_near : AreStatedNear (far_apart_run f) starts lengths
   stated_near =
       let Near : ℤ → ℤ → Type 0 = λ a b. IsWithin (pos lengths) (a -ℤ b) in
       let shortest : pos (amount f.params name.pMicroPerCycle * shortest_micro f.params) ≡ f.params.micros *ℤ pos (shortest_micro f.params) = times_natural f.params.micros (shortest_micro f.params) micros_from in
@@ -220,14 +220,14 @@ starts_other own first a b differ = by (own == first) refl
     by false is = refl
     by true is = absurd (differ (grind arith))
 
-module _ (beside : Bool) (f : Far) (h : Cycles) (w : IsSteadyRun beside (far_run f) 0 h) where
+module _ (beside : Bool) (f : Far) (h : Cycles) (w : IsSteadyRun beside (far_apart_run f) 0 h) where
   -- a correct node's row of the second cycle, by its start and its microtick
-  second_row : (even odd : Cycle) → IsDoubleOf h 0 [] even odd → (node : NodeSpec) → Contains (correct_nodes (far_run f)) node → (start micro : ℤ)
-      → (far_run f).start node.id ≡ start → (far_run f).microtick node.id 0 ≡ micro → (macrotick : ℕ) → pos macrotick ≡ f.params.correction
+  second_row : (even odd : Cycle) → IsDoubleOf h 0 [] even odd → (node : NodeSpec) → Contains (correct_nodes (far_apart_run f)) node → (start micro : ℤ)
+      → (far_apart_run f).start node.id ≡ start → (far_apart_run f).microtick node.id 0 ≡ micro → (macrotick : ℕ) → pos macrotick ≡ f.params.correction
       → Contains odd.told.rows (row_for odd.told.rows node.id)
       × (instant_of (grid_for f.params) (row_for odd.told.rows node.id) true (pos macrotick) ≡ corrects_at f.params start micro)
   second_row even odd d node there start micro starts lasts macrotick at =
-      let x : Setting = far_run f in
+      let x : Setting = far_apart_run f in
       let p : Values = f.params in
       let s = rows_at beside x 0 h w 0 [] even odd d in
       let among : Contains (row_nodes x []) node = kept_filtered (λ (n : NodeSpec). true) (correct_nodes x) node there refl in
@@ -244,11 +244,11 @@ module _ (beside : Bool) (f : Far) (h : Cycles) (w : IsSteadyRun beside (far_run
       ∙ ap (λ (z : ℤ). z +ℤ (p.micros *ℤ row.length)) begins ∙ ap (λ (z : ℤ). start +ℤ (p.micros *ℤ z)) long in
       ((has_row (row_nodes x []) odd.told.rows node s.two.odd_rows.nodes among).there, instant_is p next macrotick start micro at start_is (two.double.same_rate ∙ rate) (two.odd_length ∙ lasts))
 
-  far_reached : (earlier : Cycles) (even odd : Cycle) → IsDoubleOf h 0 earlier even odd → (one other : NodeSpec) → Contains (correct_nodes (far_run f)) one
-      → Contains (correct_nodes (far_run f)) other → one.id ≡ f.first → other.id ≢ f.first → (macrotick : ℕ) → pos macrotick ≡ f.params.correction
+  far_reached : (earlier : Cycles) (even odd : Cycle) → IsDoubleOf h 0 earlier even odd → (one other : NodeSpec) → Contains (correct_nodes (far_apart_run f)) one
+      → Contains (correct_nodes (far_apart_run f)) other → one.id ≡ f.first → other.id ≢ f.first → (macrotick : ℕ) → pos macrotick ≡ f.params.correction
       → far_skew f ≤ℤ skew_at f.params (told_of h) 1 macrotick
   far_reached [] even odd d one other here there first differ macrotick at =
-      let x : Setting = far_run f in
+      let x : Setting = far_apart_run f in
       let p : Values = f.params in
       let early = second_row even odd d one here (pos 0) f.short (starts_as one.id f.first (pos 0) (pos f.later) first) (starts_as one.id f.first f.short f.long first) macrotick at in
       let late = second_row even odd d other there (pos f.later) f.long (starts_other other.id f.first (pos 0) (pos f.later) differ) (starts_other other.id f.first f.short f.long differ) macrotick at in
@@ -270,17 +270,17 @@ module _ (beside : Bool) (f : Far) (h : Cycles) (w : IsSteadyRun beside (far_run
       absurd (omega (arith, counted))
 
 -- the skew where the offset correction starts
-reaches : (beside : Bool) (f : Far) → (h : Cycles) → IsSteadyRun beside (far_run f) 0 h → IsSane f.params → HasTwo f
+pub reaches : (beside : Bool) (f : Far) → (h : Cycles) → IsSteadyRun beside (far_apart_run f) 0 h → IsSane f.params → HasTwo f
     → far_skew f ≤ℤ skew_at f.params (told_of h) 1 (amount f.params name.gOffsetCorrectionStart)
 reaches beside f h w sane two =
-    let d = found_at beside (far_run f) 0 h w 0 (lit≤ tt) in
+    let d = found_at beside (far_apart_run f) 0 h w 0 (lit≤ tt) in
     let grid = is_grid_lem f.params sane in
     let at : pos (amount f.params name.gOffsetCorrectionStart) ≡ f.params.correction = sym (natural f.params.correction (let from = grid.correction_from in omega (arith, ints, from))) in
     far_reached beside f h w d.earlier d.even d.odd d.is two.one two.other two.here two.there two.first two.differ (amount f.params name.gOffsetCorrectionStart) at
 
 pub far_runs_reach_sharply : ((x : Setting) (n : ℕ) → IsSetting x → IsLawful x (cycles_of x n)) → ((x : Setting) (n : ℕ) → length (cycles_of x n) ≡ n) → FarRunsReachSharply
 far_runs_reach_sharply lawful long beside f is arbitrary two =
-    let x : Setting = far_run f in
+    let x : Setting = far_apart_run f in
     let h : Cycles = all_cycles x in
     let pi = sharp_pi beside f.params 0 in
     let lambda = sharp_lambda beside f.params 0 in

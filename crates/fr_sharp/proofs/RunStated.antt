@@ -27,7 +27,7 @@ use Rattle.fr_sharp.proofs.RunSettles.{histories_begin_active}
 use Rattle.fr_sharp.proofs.RunSync.{found_at, rows_at}
 
 -- rows lie as near as any two of the nodes that have them
-pairs_lie : (nodes : List NodeSpec) (f : NodeRow → ℤ) (bound : ℤ) (rows : List NodeRow) → Ascend nodes → AreRowsOf nodes rows
+pub pairs_lie : (nodes : List NodeSpec) (f : NodeRow → ℤ) (bound : ℤ) (rows : List NodeRow) → Ascend nodes → AreRowsOf nodes rows
     → ((one other : NodeSpec) → Contains nodes one → Contains nodes other → IsWithin bound (f (row_for rows one.id) -ℤ f (row_for rows other.id))) → LieWithin bound (map f rows)
 pairs_lie nodes f bound rows ascend are near =
     let From : ℤ → Type 0 = λ a. All (λ b. (a -ℤ b) ≤ℤ bound) (map f rows) in

@@ -13,8 +13,9 @@ use Rattle.fr_sharp.specs.SharpHistories.{KeepsApart, StaysInSharpSyncAt}
 use Rattle.fr_sharp.specs.SharpRun.{WalkLastsUpTo}
 use Rattle.fr_sharp.specs.SharpSettling.{sharp_spread_after, sharply_near_in, IsSharplySettled}
 use Rattle.fr_sharp.specs.SharpWay.{apart_after, near_after, AllWayChecksHold, IsSharpWay, IsWayVerdict, LeadsTo}
-use Rattle.fr_sharp.specs.WayHistories.{BeginsNear, ComesByTheWay, HistoriesSettleSharply}
+use Rattle.fr_sharp.specs.WayHistories.{BeginsNear, ComesByTheWay, HistoriesSettleSharply, StatedRunsSettleSharply}
 use Rattle.fr_sharp.proofs.RunSettles.{histories_keep_to_spreads, histories_reach_sharp_sync}
+use Rattle.fr_sharp.proofs.RunStated.{stated_starts_are_sharp}
 use Rattle.fr_sharp.proofs.WayLemmas.{checks_of_way, settled_on, walk_lasts_up_to, walk_lasts_while}
 
 -- spreads at rest are the same, whenever that is
@@ -79,3 +80,14 @@ module _ (beside : Bool) (x : Setting) (flutter start rate : ℕ) (way : SharpWa
 
 pub histories_settle_sharply : HistoriesSettleSharply
 histories_settle_sharply beside x flutter start rate way h double is none b passed within = comes_by beside x flutter start rate way h double is none b passed within
+
+pub stated_runs_settle_sharply : StatedRunsSettleSharply
+stated_runs_settle_sharply beside x flutter start rate way h is none run stated double within =
+    comes_by beside x flutter start rate way h 0 is none begins double (omega (arith, within))
+  where
+    begins : BeginsNear beside x flutter start rate h 0
+    begins = record {
+      run = run;
+      active = λ some. absurd (omega (arith, some));
+      first = λ even at. stated_starts_are_sharp beside x flutter start rate h even run stated at;
+    }

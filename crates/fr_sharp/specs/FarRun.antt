@@ -1,6 +1,6 @@
 -- Of any cluster a run that reaches nearly all of the sharper precision in its first double cycle: one node begins first and is fast, and
 -- all others begin later and are slow.
-use Rattle.std.specs.Prelude.{◌≡◌, ◌≢◌, ◌==◌, ◌+◌, ◌*◌, ◌<◌, ◌≤◌, ◌≤ℤ◌, ◌+ℤ◌, ◌-ℤ◌, ◌*ℤ◌, ℕ, ℤ, pos, Bool, ◌&&◌, if◌then◌else◌, Contains, None}
+use Rattle.std.specs.Prelude.{◌≡◌, ◌≢◌, ◌==◌, ◌+◌, ◌*◌, ◌≤◌, ◌≤ℤ◌, ◌+ℤ◌, ◌-ℤ◌, ◌*ℤ◌, ℕ, ℤ, pos, Bool, ◌&&◌, if◌then◌else◌, Contains, None}
 use Rattle.fr_base.specs.Event.Event.{Regular}
 use Rattle.fr_base.specs.declared.channel.Channel.{Channel}
 use Rattle.fr_cluster.specs.Questions.{compensation_of}
@@ -23,7 +23,7 @@ use Rattle.fr_runs.specs.Supplied.{stays_on}
 use Rattle.fr_sharp.specs.SharpBounds.{sharp_lambda, sharp_pi}
 use Rattle.fr_sharp.specs.SharpHistories.{IsInSharpSyncAt, IsSteadyRun}
 use Rattle.fr_sharp.specs.SteadyRuns.{MayHaveArbitrary}
-use Rattle.fr_sharp.specs.WorkedRun.{OfBytes, Said}
+use Rattle.fr_sharp.specs.WorkedRun.{steady_cluster, OfBytes, Said}
 
 -- the cluster, which nodes are arbitrary, and what these say; the node that begins first; by how many ticks all others begin later;
 -- and the microticks of that node and of the others, in ticks
@@ -37,8 +37,8 @@ pub record Far : Type 0 where
   pub long : ℤ
 
 -- one double cycle of it, without rate corrections, and with the nominal delay of each frame
-abbrev pub far_run : Far → Setting
-far_run f = record {
+abbrev pub far_apart_run : Far → Setting
+far_apart_run f = record {
   params = f.params;
   doubles = 1;
   start = λ id. if id == f.first then pos 0 else pos f.later;
@@ -58,11 +58,11 @@ pub record IsFar (f : Far) (starts lengths : ℕ) : Type 0 where
   pub sane : IsSane f.params
   pub bytes : OfBytes f.said
   pub few :
-      AreFew (sync_count f.params (λ node. is_correct (far_run f) node && stays_on (far_run f) node))
+      AreFew (sync_count f.params (λ node. is_correct (far_apart_run f) node && stays_on (far_apart_run f) node))
       (sync_count f.params f.is_arbitrary)
   pub shares :
       (sender receiver : NodeSpec) (slot : ℕ)
-      → IsLinked (far_run f) sender receiver slot → (channel : Channel) × Share sender receiver channel
+      → IsLinked (far_apart_run f) sender receiver slot → (channel : Channel) × Share sender receiver channel
   pub least : pos (shortest_micro f.params) ≤ℤ f.short
   pub order : f.short ≤ℤ f.long
   pub most : f.long ≤ℤ pos (longest_micro f.params)
@@ -73,8 +73,8 @@ pub record IsFar (f : Far) (starts lengths : ℕ) : Type 0 where
 pub record HasTwo (f : Far) : Type 0 where
   pub one : NodeSpec
   pub other : NodeSpec
-  pub here : Contains (correct_nodes (far_run f)) one
-  pub there : Contains (correct_nodes (far_run f)) other
+  pub here : Contains (correct_nodes (far_apart_run f)) one
+  pub there : Contains (correct_nodes (far_apart_run f)) other
   pub first : one.id ≡ f.first
   pub differ : other.id ≢ f.first
 
@@ -90,21 +90,21 @@ far_skew f =
 
 -- its skew there is that, or more
 abbrev pub ReachesFar : Far → Type 0
-ReachesFar f = far_skew f ≤ℤ skew_at f.params (told_of (all_cycles (far_run f))) 1 (amount f.params name.gOffsetCorrectionStart)
+ReachesFar f = far_skew f ≤ℤ skew_at f.params (told_of (all_cycles (far_apart_run f))) 1 (amount f.params name.gOffsetCorrectionStart)
 
 -- with starts and lengths as sharp sync takes them it is a steady run, and in sharp sync in its first double cycle
 abbrev pub FarRunsReachSharply : Type 0
 FarRunsReachSharply =
     (beside : Bool) (f : Far)
-    → IsFar f (sharp_pi beside f.params 0) (sharp_lambda beside f.params 0) → MayHaveArbitrary beside (far_run f) → HasTwo f
-    → IsSteadyRun beside (far_run f) 0 (all_cycles (far_run f))
-    × IsInSharpSyncAt beside f.params 0 (pos 0) (all_cycles (far_run f)) 0 × ReachesFar f
+    → IsFar f (sharp_pi beside f.params 0) (sharp_lambda beside f.params 0) → MayHaveArbitrary beside (far_apart_run f) → HasTwo f
+    → IsSteadyRun beside (far_apart_run f) 0 (all_cycles (far_apart_run f))
+    × IsInSharpSyncAt beside f.params 0 (pos 0) (all_cycles (far_apart_run f)) 0 × ReachesFar f
 
 -- with starts and lengths as sync takes them, and where the checks hold, it is a covered run, and in sync in its first double cycle
 abbrev pub FarRunsReach : Type 0
 FarRunsReach =
     (f : Far) → IsFar f (pi_of f.params) (lambda_of f.params) → AllChecksHold f.params → HasTwo f
-    → IsCoveredRun (far_run f) × RowsAreInSyncAt f.params (all_cycles (far_run f)) 0 × ReachesFar f
+    → IsCoveredRun (far_apart_run f) × RowsAreInSyncAt f.params (all_cycles (far_apart_run f)) 0 × ReachesFar f
 
 -- where the others begin as late as that, and their microticks are as much longer as lengths allow, the skew is the starts and twice
 -- the lengths, which is a precision but for two microticks and what cycles change, but for the share of the lengths behind the
@@ -120,3 +120,24 @@ FarSkewsAreNear =
     ((f.params.macros *ℤ far_skew f) +ℤ ((f.params.macros -ℤ f.params.correction) *ℤ pos lengths))
     +ℤ (f.params.macros *ℤ ((f.params.micros +ℤ f.params.micros) +ℤ pos more))
     )
+
+-- ---- worked: the steady cluster, without an arbitrary node and beside node 4 as one
+
+abbrev pub worked_far : Said → Bool → Far
+worked_far said beside = record {
+  params = steady_cluster;
+  is_arbitrary = λ id. beside && (id == 4);
+  said = said;
+  first = 1;
+  later = if beside then 69_007_688 else 20_002_398;
+  short = pos 999_900;
+  long = if beside then pos 999_970 else pos 999_935;
+}
+
+-- it is such a run, of 93 and 97 hundredths of the sharper precision
+abbrev pub WorkedFarRuns : Type 0
+WorkedFarRuns =
+    (said : Said) (beside : Bool) → OfBytes said
+    → IsFar (worked_far said beside) (sharp_pi beside steady_cluster 0) (sharp_lambda beside steady_cluster 0)
+    × MayHaveArbitrary beside (far_apart_run (worked_far said beside)) × HasTwo (worked_far said beside)
+    × (far_skew (worked_far said beside) ≡ (if beside then pos 96_622_618 else pos 33_809_863))

@@ -1,4 +1,5 @@
 -- what the public contract cites
+pub mod DrivenRun
 pub mod Ends
 pub mod FarRun
 pub mod Flutter
@@ -19,6 +20,7 @@ pub mod SharpSettling
 pub mod SharpStatement
 pub mod SharpStep
 pub mod SharpTested
+pub mod SharpTraces
 pub mod SharpWay
 pub mod Steady
 pub mod SteadyRuns

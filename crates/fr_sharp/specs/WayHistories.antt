@@ -4,6 +4,7 @@ use Rattle.fr_cluster.specs.Setting.{Setting}
 use Rattle.fr_history.specs.Cycles.{Cycle, Cycles, cycle_at}
 use Rattle.fr_sharp.specs.declared.way.SharpWay.{SharpWay}
 use Rattle.fr_sharp.specs.Lengths.{walked_after}
+use Rattle.fr_sharp.specs.SettlingHistories.{AreStatedNear}
 use Rattle.fr_sharp.specs.SharpHistories.{BeginsActive, IsInSharpSyncAt, IsSteadyRun, KeepsApart, StaysInSharpSyncAt}
 use Rattle.fr_sharp.specs.SharpStep.{AreSharp}
 use Rattle.fr_sharp.specs.SharpWay.{IsSharpWay}
@@ -29,3 +30,11 @@ HistoriesSettleSharply =
     (beside : Bool) (x : Setting) (flutter start rate : ℕ) (way : SharpWay) (h : Cycles) (double : ℕ)
     → IsSharpWay beside x.params flutter start rate way → way.failed ≡ None → BeginsNear beside x flutter start rate h double
     → (passed : ℕ) → double + passed < x.doubles → ComesByTheWay beside x flutter way h double passed
+
+-- and from cycle 0 on, of which so much is stated
+abbrev pub StatedRunsSettleSharply : Type 0
+StatedRunsSettleSharply =
+    (beside : Bool) (x : Setting) (flutter start rate : ℕ) (way : SharpWay) (h : Cycles)
+    → IsSharpWay beside x.params flutter start rate way → way.failed ≡ None
+    → IsSteadyRun beside x flutter h → AreStatedNear x start rate
+    → (double : ℕ) → double < x.doubles → ComesByTheWay beside x flutter way h 0 double

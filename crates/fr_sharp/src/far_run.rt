@@ -1,4 +1,4 @@
-ghost use Rattle.fr_sharp.specs.FarRun.{FarRunsReach, FarRunsReachSharply, FarSkewsAreNear};
+ghost use Rattle.fr_sharp.specs.FarRun.{FarRunsReach, FarRunsReachSharply, FarSkewsAreNear, WorkedFarRuns};
 
 use fr_history::one_lawful_run;
 
@@ -8,7 +8,9 @@ use fr_history::one_lawful_run;
 /// the numbers of that. It is near the precision where the offset correction starts late.
 pub fn far_runs_reach()
     ensures sharply { FarRunsReachSharply }
+    ensures older { FarRunsReach }
     ensures near { FarSkewsAreNear }
+    ensures met { WorkedFarRuns }
 {
     one_lawful_run();
 }

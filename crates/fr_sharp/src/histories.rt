@@ -1,5 +1,5 @@
 ghost use Rattle.fr_sharp.specs.SettlingHistories.{HistoriesBeginActive, HistoriesKeepToSpreads, HistoriesReachSharpSync, OlderHistoriesSettle, StatedRunsBeginInSharpSync, StatedStartsAreSharp};
-ghost use Rattle.fr_sharp.specs.WayHistories.{HistoriesSettleSharply};
+ghost use Rattle.fr_sharp.specs.WayHistories.{HistoriesSettleSharply, StatedRunsSettleSharply};
 ghost use Rattle.fr_sharp.specs.SharpHistories.{HistoriesAreSharpDoubles, HistoriesHaveMembers, HistoriesKeepSharpPrecision, HistoriesKeepSharpSync, HistoriesStepSharply, StatedRunsAreSteady};
 
 use fr_history::one_lawful_run;
@@ -43,7 +43,9 @@ pub fn histories_come_into_sharp_sync()
 {}
 
 /// A law: where no check for the way fails that is computed from stated numbers for starts and even lengths, in ticks, such
-/// a history is in sharp sync in the double cycle that it names, and no macroticks before lie further apart than its peak.
+/// a history is in sharp sync in the double cycle that it names, and no macroticks before lie further apart than its peak;
+/// so is a run of whose cycle 0 such numbers are stated.
 pub fn histories_settle_sharply()
-    ensures { HistoriesSettleSharply }
+    ensures settle { HistoriesSettleSharply }
+    ensures stated { StatedRunsSettleSharply }
 {}

@@ -7,7 +7,6 @@ use Rattle.std.proofs.lemmas.Int.{ints}
 use Rattle.std.proofs.lemmas.List.Kept.{AllPairs-filter}
 use Rattle.fr_base.specs.Within.{IsWithin}
 use Rattle.fr_base.specs.declared.node_row.NodeRow.{NodeRow}
-use Rattle.fr_base.specs.declared.state.Outcome.{Outcome}
 use Rattle.fr_base.specs.declared.state.Outcome.TheVariants.{Within}
 use Rattle.fr_base.specs.declared.state.State.TheVariants.{Active}
 use Rattle.fr_bound.specs.Bounds.{precision_of}
@@ -19,12 +18,13 @@ use Rattle.fr_cluster.specs.Values.{Values, amount}
 use Rattle.fr_cluster.specs.declared.names.ParamName.TheVariants as name
 use Rattle.fr_cluster.specs.declared.nodes.NodeSpec.{NodeSpec}
 use Rattle.fr_history.specs.History.{AreRowsOf, History, Record, record_at, row_for, row_of}
-use Rattle.fr_runs.proofs.Doubles.{even_length, odd_is_corrected, odd_length, status_even}
+use Rattle.fr_runs.proofs.Doubles.{even_length, odd_length}
 use Rattle.fr_runs.proofs.Receivers.{no_less, same_mapped}
-use Rattle.fr_runs.proofs.Rows.{Ascend, HasRow, all_rows, contains_map, each_row, has_row as row_there, map_contains, rows_are}
+use Rattle.fr_runs.proofs.Rows.{Ascend, HasRow, all_rows, contains_map, has_row as row_there, map_contains, rows_are}
 use Rattle.fr_runs.proofs.Spread.{RowsLie, macrotick_within, spread_within}
 use Rattle.fr_correct.specs.declared.term.Term.{Term}
 use Rattle.fr_coverage.specs.Coverage.{outweighs}
+use Rattle.fr_coverage.specs.declared.gap.Gap.{Gap}
 use Rattle.fr_coverage.specs.declared.gap.Gap.TheVariants as gap
 use Rattle.fr_runs.specs.Hearers.{FollowsIn, Hearers, IsOneOf, IsRoundSynced, IsSupplied, group_of, member_from}
 use Rattle.fr_runs.proofs.Rounds.{rounds_are_kept_lem}
@@ -43,21 +43,24 @@ use Rattle.fr_cluster.proofs.Elements.{Contains-here, Contains-none, Contains-th
 use Rattle.fr_skew.specs.Spreads.{spread_at}
 use Rattle.fr_time.specs.Cycles.{odd_cycle}
 use Rattle.fr_time.specs.Position.{grid_for}
+use Rattle.fr_trace.specs.Fits.{TraceFits}
 use Rattle.fr_trace.specs.Items.Item.{Clock}
+use Rattle.fr_trace.specs.Lasting.{IsTrace}
 use Rattle.fr_trace.specs.Trace.{TraceView, is_named, traced_join_in}
 use Rattle.fr_verdict.specs.Answer.{IsSyncedFrom}
-use Rattle.fr_verdict.specs.Breach.{is_first_row}
-use Rattle.fr_verdict.specs.Gaps.{IsCoveredTrace, is_lasting, is_unnamed}
+use Rattle.fr_verdict.specs.Breach.{IsLawfulTrace, is_first_row}
+use Rattle.fr_verdict.specs.Gaps.{IsCoveredTrace, IsTracedCountGap, is_lasting, is_unnamed}
 use Rattle.fr_verdict.specs.Precision.{AreTermsWithin, CheckedTracesKeepPrecision, KeepsRecordedClocks}
 use Rattle.fr_verdict.specs.Search.{breach_by, is_apart, whenever}
 use Rattle.fr_verdict.specs.Sync.{IsFirstSynced, first_synced_of, is_early}
 use Rattle.fr_verdict.specs.declared.unlawful.Unlawful.TheVariants as unlawful
-use Rattle.fr_verdict.proofs.Heard.{heard_in, hearer_in, round_in, sends_in}
+use Rattle.fr_verdict.proofs.Heard.{double_within, heard_in, pairs_heard, hearer_in, round_in, sends_in}
 use Rattle.fr_verdict.proofs.Items.{Unbroken, row_there as row_item, unbroken}
 use Rattle.fr_verdict.proofs.Doubles.{Part, each_record, part_at}
-use Rattle.fr_verdict.proofs.Recorded.{IsDouble, Passes, Rows, even_at, even_parted, node_two, odd_at, rate_follows, rate_term_is, regular_in, rows_in, start_follows, state_is, stays_active, steady, window}
+use Rattle.fr_verdict.proofs.Recorded.{IsDouble, Passes, Rows, even_at, even_parted, node_two, odd_at, regular_in, rows_in, window}
 use Rattle.fr_verdict.proofs.Standing.{AreTwo, Comes, comes_or_stays, has_row, lasting_has, nodes_in, nodes_stay}
 use Rattle.fr_verdict.proofs.Syncing.{early_not, is_in_sync_at}
+use Rattle.fr_verdict.proofs.Turning.{behind_active, goes_on, late_active, offset_applied, offset_told, rate_told}
 
 -- ---- what coverage says of the cluster
 
@@ -84,12 +87,12 @@ few_if correct arbitrary is = elim (or_cases (((arbitrary == 0) && nat_le 1 corr
       let parts : ((arbitrary == count) ≡ true) × (nat_le least correct ≡ true) = and_parts (arbitrary == count) (nat_le least correct) is in
       (eqb-true arbitrary count parts.0, nat_le-true least correct parts.1)
 
-few_nodes : (p : Values) (t : TraceView) → IsCoveredTrace p t → AreFew (sync_count p (is_lasting t)) (sync_count p (is_named t))
-few_nodes p t covered = few_if (sync_count p (is_lasting t)) (sync_count p (is_named t)) (by_test (outweighs (sync_count p (is_lasting t)) (sync_count p (is_named t))) refl)
+pub few_nodes : (p : Values) (t : TraceView) → ((g : Gap) → IsTracedCountGap p t g → ⊥) → AreFew (sync_count p (is_lasting t)) (sync_count p (is_named t))
+few_nodes p t counts = few_if (sync_count p (is_lasting t)) (sync_count p (is_named t)) (by_test (outweighs (sync_count p (is_lasting t)) (sync_count p (is_named t))) refl)
   where
     by_test : (b : Bool) → outweighs (sync_count p (is_lasting t)) (sync_count p (is_named t)) ≡ b → b ≡ true
     by_test true holds = refl
-    by_test false fails = absurd (covered (gap.Count (sync_count p (is_lasting t)) (sync_count p (is_named t))) (inr (inl (record { few = fails; told = refl }))))
+    by_test false fails = absurd (counts (gap.Count (sync_count p (is_lasting t)) (sync_count p (is_named t))) (record { few = fails; told = refl }))
 
 more_are_few : (correct more arbitrary : ℕ) → correct ≤ more → AreFew correct arbitrary → AreFew more arbitrary
 more_are_few correct more arbitrary le (inl none) = inl (none.0, omega (arith, le, none.1))
@@ -111,10 +114,11 @@ count_along f g (node ∷ nodes) implies =
     at_most false b implies = omega arith
 
 -- the nodes that do not join outweigh the arbitrary ones, so those with rows do
-few_rows : (p : Values) (t : TraceView) (h : History) (even odd : Record) (k : ℕ) → Passes p t → IsDouble t h even odd k → AreFew (sync_count p (is_correct (window p t even))) (sync_count p (is_named t))
-few_rows p t h even odd k w d =
+pub few_rows : (p : Values) (t : TraceView) (h : History) (even odd : Record) (k : ℕ) → Passes p t → AreFew (sync_count p (is_lasting t)) (sync_count p (is_named t)) → IsDouble t h even odd k
+    → AreFew (sync_count p (is_correct (window p t even))) (sync_count p (is_named t))
+few_rows p t h even odd k w few d =
     more_are_few (sync_count p (is_lasting t)) (sync_count p (is_correct (window p t even))) (sync_count p (is_named t))
-    (count_along (λ node. is_some node.key && is_lasting t node.id) (λ node. is_some node.key && is_correct (window p t even) node.id) p.nodes (λ node there is. counts node there is)) (few_nodes p t w.covered)
+    (count_along (λ node. is_some node.key && is_lasting t node.id) (λ node. is_some node.key && is_correct (window p t even) node.id) p.nodes (λ node there is. counts node there is)) few
   where
     by_not : (b : Bool) → not b ≡ true → b ≡ false
     by_not true e = cc e
@@ -133,12 +137,13 @@ few_rows p t h even odd k w d =
 -- a double cycle in sync of a trace that passes, from its first one on
 pub record IsSynced (p : Values) (t : TraceView) (h : History) (even odd : Record) (double k : ℕ) : Type 0 where
   pub passes : Passes p t
+  pub covered : IsCoveredTrace p t
   pub first : IsFirstSynced p t double
   pub is_double : IsDouble t h even odd k
   pub from : double ≤ k
   pub in_sync : IsInSync p even.rows odd.rows
 
-ascend_in : (p : Values) (r : Record) → IsSane p → Ascend (nodes_in p r)
+pub ascend_in : (p : Values) (r : Record) → IsSane p → Ascend (nodes_in p r)
 ascend_in p r sane = AllPairs-filter (λ (a : NodeSpec) (b : NodeSpec). a.id < b.id) (λ (n : NodeSpec). has_row r n.id) p.nodes sane.lists.nodes_ascend
 
 hearers : Values → TraceView → Record → Record → Hearers
@@ -146,25 +151,19 @@ hearers p t even odd = record { rows = map (hearer_in p t even odd) (nodes_in p 
 
 odd_active : (p : Values) (t : TraceView) (h : History) (even odd : Record) (double k : ℕ) (node : NodeSpec) → IsSynced p t h even odd double k → Contains (nodes_in p even) node
     → (row_for odd.rows node.id).state ≡ Active
-odd_active p t h even odd double k node s among =
-    let rows = rows_in p t h even odd k s.passes s.is_double in
-    each_row (nodes_in p even) odd.rows (λ row. row.state ≡ Active) node rows.odd_rows among s.in_sync.active_odd
+odd_active p t h even odd double k node s among = late_active p t h even odd k s.passes s.is_double node s.in_sync.active_odd among
 
 supplied : (p : Values) (t : TraceView) (h : History) (even odd : Record) (double k : ℕ) (node : NodeSpec) → IsSynced p t h even odd double k → Contains (nodes_in p even) node
     → IsSupplied (round_in p t even odd) (hearer_in p t even odd node)
 supplied p t h even odd double k node s among =
     let w = s.passes in
     let d = s.is_double in
-    let two = node_two p t h even odd k node w d among in
-    let is = (rows_in p t h even odd k w d).odd_is node among in
-    let row = row_for odd.rows node.id in
     record {
-      regular = regular_in p t h even odd node two;
-      applied =
-          is.offset
-          ∙ ap (λ b. if b then (offset_term_in p (even ∷ h) odd.devs row.node).value else pos 0) (odd_is_corrected (even ∷ h) row (odd_length (length h) k d.counted) (odd_active p t h even odd double k node s among))
-          ∙ ap (λ n. (offset_term_in p (even ∷ h) odd.devs n).value) two.has_odd.number;
-      hears = heard_in p t h even odd double k node w s.first d s.from among;
+      regular = regular_in p t h even odd node (node_two p t h even odd k node w d among);
+      applied = offset_applied p t h even odd k w d node (odd_active p t h even odd double k node s among) among;
+      hears =
+          heard_in p t h even odd k node w
+          (pairs_heard p t double k (λ g is. s.covered g (inr (inr (inr (inr is))))) s.first s.from (double_within t h even odd k w.trace d)) d among;
     }
 
 rows_in_sync : (p : Values) (t : TraceView) (h : History) (even odd : Record) (double k : ℕ) → IsSynced p t h even odd double k
@@ -187,12 +186,12 @@ unfolding hearers
 round_synced p t h even odd double k s = record {
   round = record {
     sane = w.sane;
-    few = few_rows p t h even odd k w d;
+    few = few_rows p t h even odd k w (few_nodes p t (λ g is. s.covered g (inr (inl is)))) d;
     regular = λ node there has. regular_in p t h even odd node (node_two p t h even odd k node w d (sends_in p t even node there has));
   };
-  first = check_holds p t 1 w.covered (omega arith) (omega arith);
-  second = check_holds p t 2 w.covered (omega arith) (omega arith);
-  limit = third_check_suffices p (check_holds p t 3 w.covered (omega arith) (omega arith));
+  first = check_holds p t 1 s.covered (omega arith) (omega arith);
+  second = check_holds p t 2 s.covered (omega arith) (omega arith);
+  limit = third_check_suffices p (check_holds p t 3 s.covered (omega arith) (omega arith));
   fits = same_number (precision_of p);
   fits_followers = λ n follows. absurd (no_follower n follows);
   supplied = λ n is. each n is;
@@ -245,16 +244,13 @@ offset_within : (p : Values) (t : TraceView) (h : History) (even odd : Record) (
     → (offset_term_in p (even ∷ h) odd.devs (row_for odd.rows node.id).node).outcome ≡ Within
 unfolding member_in
 offset_within p t h even odd double k node s among =
-    let two = node_two p t h even odd k node s.passes s.is_double among in
-    ap (λ n. (offset_term_in p (even ∷ h) odd.devs n).outcome) two.has_odd.number
+    ap (λ (term : Term). term.outcome) (offset_told p t h even odd k s.passes s.is_double node among)
     ∙ (kept p t h even odd double k s).uncut (member_in p t even odd node) (inl (inl (is_member p t even odd node among)))
 
 rate_is : (p : Values) (t : TraceView) (h : History) (even odd : Record) (double k : ℕ) (node : NodeSpec) → IsSynced p t h even odd double k → Contains (nodes_in p even) node
     → rate_term_in p (even ∷ h) odd.devs (row_for odd.rows node.id) ≡ (member_in p t even odd node).rate_term
 unfolding member_in
-rate_is p t h even odd double k node s among =
-    let two = node_two p t h even odd k node s.passes s.is_double among in
-    rate_term_is p (even ∷ h) odd node.id two.has_odd
+rate_is p t h even odd double k node s among = rate_told p t h even odd k s.passes s.is_double node among
 
 rate_within : (p : Values) (t : TraceView) (h : History) (even odd : Record) (double k : ℕ) (node : NodeSpec) → IsSynced p t h even odd double k → Contains (nodes_in p even) node
     → (rate_term_in p (even ∷ h) odd.devs (row_for odd.rows node.id)).outcome ≡ Within
@@ -265,14 +261,7 @@ rate_within p t h even odd double k node s among =
 active_behind : (p : Values) (t : TraceView) (h : History) (even odd : Record) (double k : ℕ) (node : NodeSpec) → IsSynced p t h even odd double k → Contains (nodes_in p even) node
     → (status_in p (odd ∷ even ∷ h) node.id).state ≡ Active
 active_behind p t h even odd double k node s among =
-    let w = s.passes in
-    let d = s.is_double in
-    let rows = rows_in p t h even odd k w d in
-    let two = node_two p t h even odd k node w d among in
-    let before : (status_in p h node.id).state ≡ Active =
-    sym (state_is p h even node.id two.has_even (rows.even_is node among)) ∙ each_row (nodes_in p even) even.rows (λ row. row.state ≡ Active) node rows.even_rows among s.in_sync.active_even in
-    stays_active p t h even odd k node.id (row_for odd.rows node.id) d.counted two.has_odd.is before
-    (ap₂ (λ (a b : Outcome). (a, b)) (offset_within p t h even odd double k node s among) (rate_within p t h even odd double k node s among))
+    behind_active p t h even odd k s.passes s.is_double node s.in_sync.active_even (offset_within p t h even odd double k node s among) (rate_within p t h even odd double k node s among) among
 
 -- ---- how far apart its clocks lie
 
@@ -310,34 +299,7 @@ followed : (p : Values) (t : TraceView) (h : History) (even odd even2 odd2 : Rec
 unfolding member_in
 followed p t h even odd even2 odd2 double k node step among among2 =
     let s = step.synced in
-    let w = s.passes in
-    let after = odd ∷ even ∷ h in
-    let one = node_two p t h even odd k node w s.is_double among in
-    let two = node_two p t after even2 odd2 (suc k) node w step.next among2 in
-    let rows = rows_in p t after even2 odd2 (suc k) w step.next in
-    let row = row_for odd.rows node.id in
-    let corrected = odd_is_corrected (even ∷ h) row (odd_length (length h) k s.is_double.counted) (odd_active p t h even odd double k node s among) in
-    let rate =
-    rate_follows p (even ∷ h) odd even2 node.id true one.has_odd two.has_even (rows.even_is node among2) corrected
-    ∙ ap (λ (term : Term). term.value) (rate_is p t h even odd double k node s among) in
-    let count : 2 * suc k ≡ suc (suc (2 * k)) = omega arith in
-    let next_at : record_at t.history (suc (suc (2 * k))) ≡ Some even2 = ap (record_at t.history) (sym count) ∙ even_at t after even2 odd2 (suc k) step.next in
-    let active = active_behind p t h even odd double k node s among in
-    record {
-      start = start_follows p (even ∷ h) odd even2 node.id one.has_odd two.has_even (rows.even_is node among2);
-      next = record {
-        even_rate = rate;
-        odd_rate = two.double.same_rate ∙ rate;
-        even_micro = two.even_micro;
-        odd_micro = two.odd_micro;
-        even_steady = steady p t node (suc (2 * k)) odd even2 w.covered one.there (odd_at t h even odd k s.is_double) next_at one.has_odd two.has_even;
-        odd_steady = two.steady;
-      };
-      active_even = state_is p after even2 node.id two.has_even (rows.even_is node among2) ∙ active;
-      active_odd =
-          state_is p (even2 ∷ after) odd2 node.id two.has_odd (rows.odd_is node among2)
-          ∙ status_even (window p t even) after even2 node.id (even_length (length after) (suc k) step.next.counted) ∙ active;
-    }
+    goes_on p t h even odd k s.passes s.is_double node even2 odd2 step.next (odd_active p t h even odd double k node s among) (active_behind p t h even odd double k node s among) among among2
 
 -- the row of a member in a later record
 next_row : Record → Member → NodeRow
@@ -469,14 +431,14 @@ next_in_sync p t h even odd even2 odd2 double k step =
 splits : (a b : ℕ) → a ≤ suc b → (a ≤ b) ⊎ (a ≡ suc b)
 splits a b le = grind arith
 
-in_sync_from : (p : Values) (t : TraceView) (double : ℕ) → Passes p t → IsFirstSynced p t double → (k : ℕ) (h : History) (even odd : Record) → IsDouble t h even odd k → double ≤ k
+in_sync_from : (p : Values) (t : TraceView) (double : ℕ) → Passes p t → IsCoveredTrace p t → IsFirstSynced p t double → (k : ℕ) (h : History) (even odd : Record) → IsDouble t h even odd k → double ≤ k
     → IsInSync p even.rows odd.rows
-in_sync_from p t double w first zero h even odd d from =
+in_sync_from p t double w covered first zero h even odd d from =
     let same : double ≡ 0 = omega arith in
     at_double p t h even odd 0 d (subst (IsInSyncAt p t.history) same first.synced.in_sync)
-in_sync_from p t double w first (suc k) [] even odd d from = let counted = d.counted in absurd (omega arith)
-in_sync_from p t double w first (suc k) (o ∷ []) even odd d from = let counted = d.counted in absurd (omega arith)
-in_sync_from p t double w first (suc k) (o ∷ e ∷ g) even odd d from = elim (splits double k from) [
+in_sync_from p t double w covered first (suc k) [] even odd d from = let counted = d.counted in absurd (omega arith)
+in_sync_from p t double w covered first (suc k) (o ∷ []) even odd d from = let counted = d.counted in absurd (omega arith)
+in_sync_from p t double w covered first (suc k) (o ∷ e ∷ g) even odd d from = elim (splits double k from) [
   | inr same ↦ at_double p t (o ∷ e ∷ g) even odd (suc k) d (subst (IsInSyncAt p t.history) same first.synced.in_sync)
   | inl less ↦
       let counted = d.counted in
@@ -485,20 +447,20 @@ in_sync_from p t double w first (suc k) (o ∷ e ∷ g) even odd d from = elim (
         parted = d.parted ∙ sym (append_assoc d.later (odd ∷ even ∷ []) (o ∷ e ∷ g));
         counted = omega arith;
       } in
-      let s : IsSynced p t g e o double k = record { passes = w; first = first; is_double = before; from = less; in_sync = in_sync_from p t double w first k g e o before less } in
+      let s : IsSynced p t g e o double k = record { passes = w; covered = covered; first = first; is_double = before; from = less; in_sync = in_sync_from p t double w covered first k g e o before less } in
       next_in_sync p t g e o even odd double k (record { synced = s; next = d })
 ]
 
-synced_from : (p : Values) (t : TraceView) (double k : ℕ) (h : History) (even odd : Record) → Passes p t → IsFirstSynced p t double → IsDouble t h even odd k → double ≤ k → IsSynced p t h even odd double k
-synced_from p t double k h even odd w first d from = record { passes = w; first = first; is_double = d; from = from; in_sync = in_sync_from p t double w first k h even odd d from }
+synced_from : (p : Values) (t : TraceView) (double k : ℕ) (h : History) (even odd : Record) → Passes p t → IsCoveredTrace p t → IsFirstSynced p t double → IsDouble t h even odd k → double ≤ k → IsSynced p t h even odd double k
+synced_from p t double k h even odd w covered first d from = record { passes = w; covered = covered; first = first; is_double = d; from = from; in_sync = in_sync_from p t double w covered first k h even odd d from }
 
 -- ---- and the whole trace keeps its precision
 
-of_part : (t : TraceView) (k : ℕ) (part : Part t.history k) → IsDouble t part.earlier part.even part.odd k
+pub of_part : (t : TraceView) (k : ℕ) (part : Part t.history k) → IsDouble t part.earlier part.even part.odd k
 of_part t k part = record { later = part.later; parted = part.parted; counted = part.counted }
 
-synced_at : (p : Values) (t : TraceView) (double : ℕ) → Passes p t → IsFirstSynced p t double → (k : ℕ) → Part t.history k → double ≤ k → IsInSyncAt p t.history k
-synced_at p t double w first k part from =
+synced_at : (p : Values) (t : TraceView) (double : ℕ) → Passes p t → IsCoveredTrace p t → IsFirstSynced p t double → (k : ℕ) → Part t.history k → double ≤ k → IsInSyncAt p t.history k
+synced_at p t double w covered first k part from =
     let d : IsDouble t part.earlier part.even part.odd k = of_part t k part in
     let late : 2 * k + 1 ≡ suc (2 * k) = omega arith in
     record {
@@ -506,7 +468,7 @@ synced_at p t double w first k part from =
       odd = part.odd;
       has_even = even_at t part.earlier part.even part.odd k d;
       has_odd = ap (record_at t.history) late ∙ odd_at t part.earlier part.even part.odd k d;
-      in_sync = in_sync_from p t double w first k part.earlier part.even part.odd d from;
+      in_sync = in_sync_from p t double w covered first k part.earlier part.even part.odd d from;
     }
 
 abbrev SkewsIn : Values → ℕ → Record → Type 0
@@ -515,16 +477,16 @@ SkewsIn p n r = (macrotick : ℕ) → macrotick < amount p name.gMacroPerCycle �
 abbrev ActiveIn : ℕ → Record → Type 0
 ActiveIn n r = All (λ (row : NodeRow). row.state ≡ Active) r.rows
 
-skews : (p : Values) (t : TraceView) (double : ℕ) → Passes p t → IsFirstSynced p t double → (k : ℕ) (part : Part t.history k) → double ≤ k → SkewsIn p (2 * k) part.even × SkewsIn p (suc (2 * k)) part.odd
-skews p t double w first k part from =
-    let s = synced_from p t double k part.earlier part.even part.odd w first (of_part t k part) from in
+skews : (p : Values) (t : TraceView) (double : ℕ) → Passes p t → IsCoveredTrace p t → IsFirstSynced p t double → (k : ℕ) (part : Part t.history k) → double ≤ k → SkewsIn p (2 * k) part.even × SkewsIn p (suc (2 * k)) part.odd
+skews p t double w covered first k part from =
+    let s = synced_from p t double k part.earlier part.even part.odd w covered first (of_part t k part) from in
     let bound = precision_of p in
     let lie = λ (macrotick : ℕ) (less : macrotick < amount p name.gMacroPerCycle). rows_lie p t part.earlier part.even part.odd double k macrotick s less in (
       λ macrotick less. spread_within p (2 * k) (pos bound) part.even.rows macrotick false (even_length (2 * k) k refl) (no_less bound) (lie macrotick less).0,
       λ macrotick less. spread_within p (suc (2 * k)) (pos bound) part.odd.rows macrotick true (odd_length (2 * k) k refl) (no_less bound) (lie macrotick less).1,
     )
 
-there_is : {A : Type 0} (o : Option A) → IsSome o → (x : A) × (o ≡ Some x)
+pub there_is : {A : Type 0} (o : Option A) → IsSome o → (x : A) × (o ≡ Some x)
 there_is None is = absurd (cc)
 there_is (Some x) is = (x, refl)
 
@@ -535,17 +497,17 @@ terms_within p t double k h even odd s =
     (λ node among. record { offset = offset_within p t h even odd double k node s among; rate = rate_within p t h even odd double k node s among })
 
 -- every node with a row in the last cycle is active behind it
-active_after : (p : Values) (t : TraceView) (double : ℕ) → Passes p t → IsFirstSynced p t double → (last : Record) (h : History) → t.history ≡ last ∷ h
+active_after : (p : Values) (t : TraceView) (double : ℕ) → Passes p t → IsCoveredTrace p t → IsFirstSynced p t double → (last : Record) (h : History) → t.history ≡ last ∷ h
     → All (λ row. (status_in p t.history row.node).state ≡ Active) last.rows
-active_after p t double w first last [] parted = let whole = w.trace.whole in let long = ap (λ (g : History). length g) parted in let some = w.trace.doubles_from in absurd (omega arith)
-active_after p t double w first last (even ∷ h) parted =
+active_after p t double w covered first last [] parted = let whole = w.trace.whole in let long = ap (λ (g : History). length g) parted in let some = w.trace.doubles_from in absurd (omega arith)
+active_after p t double w covered first last (even ∷ h) parted =
     let whole = w.trace.whole in
     let long = ap (λ (g : History). length g) parted in
     let some = w.trace.doubles_from in
     let lt = record_at-lt t.history (odd_cycle double) first.synced.in_sync.odd first.synced.in_sync.has_odd in
     let k : ℕ = t.doubles - 1 in
     let d : IsDouble t h even last (t.doubles - 1) = record { later = []; parted = parted; counted = omega arith } in
-    let s = synced_from p t double (t.doubles - 1) h even last w first d (omega arith) in
+    let s = synced_from p t double (t.doubles - 1) h even last w covered first d (omega arith) in
     let rows = rows_in p t h even last (t.doubles - 1) w d in
     all_rows (nodes_in p even) last.rows (λ row. (status_in p t.history row.node).state ≡ Active) (ascend_in p even w.sane) rows.odd_rows
     (λ node among.
@@ -553,27 +515,38 @@ active_after p t double w first last (even ∷ h) parted =
     ∙ ap (λ (g : History). (status_in p g node.id).state) parted
     ∙ active_behind p t h even last double (t.doubles - 1) node s among)
 
-keeps : (p : Values) (t : TraceView) (double : ℕ) → Passes p t → IsFirstSynced p t double → KeepsRecordedClocks p t double
-keeps p t double w first = record {
-  synced = λ k from less. synced_at p t double w first k (part_at t.history k less) from;
+keeps : (p : Values) (t : TraceView) (double : ℕ) → Passes p t → IsCoveredTrace p t → IsFirstSynced p t double → KeepsRecordedClocks p t double
+keeps p t double w covered first = record {
+  synced = λ k from less. synced_at p t double w covered first k (part_at t.history k less) from;
   skew =
       λ cycle macrotick from less lt.
       let r = there_is (record_at t.history cycle) (record_at-some t.history cycle less) in
-      let spread = each_record t.doubles t.history double (SkewsIn p) w.trace.whole (λ k part from within. skews p t double w first k part from) cycle r.0 from r.1 macrotick lt in
+      let spread = each_record t.doubles t.history double (SkewsIn p) w.trace.whole (λ k part from within. skews p t double w covered first k part from) cycle r.0 from r.1 macrotick lt in
       let Most : Option Record → Type 0 = λ o. option_map_or (λ s. spread_at (grid_for p) cycle s.rows macrotick) o (pos 0) ≤ℤ pos (precision_of p) in
       subst Most (sym r.1) spread;
   active =
       each_record t.doubles t.history double ActiveIn w.trace.whole
       (λ k part from within.
-      let is = in_sync_from p t double w first k part.earlier part.even part.odd (of_part t k part) from in
+      let is = in_sync_from p t double w covered first k part.earlier part.even part.odd (of_part t k part) from in
       (is.active_even, is.active_odd));
   within =
       λ k later h even odd from parted counted.
-      terms_within p t double k h even odd (synced_from p t double k h even odd w first (record { later = later; parted = parted; counted = counted }) from);
-  after = λ last h parted. active_after p t double w first last h parted;
+      terms_within p t double k h even odd (synced_from p t double k h even odd w covered first (record { later = later; parted = parted; counted = counted }) from);
+  after = λ last h parted. active_after p t double w covered first last h parted;
+}
+
+-- a lawful and covered trace
+pub passes_covered : (p : Values) (t : TraceView) → IsSane p → IsTrace t → TraceFits p t → IsLawfulTrace p t → IsCoveredTrace p t → Passes p t
+passes_covered p t sane trace fits lawful covered = record {
+  sane = sane;
+  trace = trace;
+  fits = fits;
+  lawful = lawful;
+  lengths = λ g is. covered g (inr (inr (inl is)));
+  changes = λ g is. covered g (inr (inr (inr (inl is))));
 }
 
 pub checked_traces_keep_precision : CheckedTracesKeepPrecision
 checked_traces_keep_precision p t v sane trace fits verdict double is =
-    keeps p t double (record { sane = sane; trace = trace; fits = fits; lawful = verdict.lawful; covered = verdict.covered })
+    keeps p t double (passes_covered p t sane trace fits verdict.lawful verdict.covered) verdict.covered
     (let Synced : Option ℕ → Type 0 = IsSyncedFrom p t in subst Synced is verdict.synced)

@@ -20,6 +20,7 @@ use Rattle.fr_runs.specs.Links.{IsLinked, record_in}
 use Rattle.fr_runs.proofs.Doubles.{even_length, odd_length}
 use Rattle.fr_runs.proofs.Rows.{HasRow, has_row as row_there}
 use Rattle.fr_coverage.specs.Links.{shares}
+use Rattle.fr_coverage.specs.declared.gap.Gap.{Gap}
 use Rattle.fr_coverage.specs.declared.gap.Gap.TheVariants as gap
 use Rattle.fr_history.proofs.Synced.{record_at-lt}
 use Rattle.fr_precision.specs.Offsets.{IsDeviation}
@@ -31,9 +32,10 @@ use Rattle.fr_cluster.proofs.Elements.{filtered, found, kept_filtered}
 use Rattle.fr_time.specs.Cycles.{is_odd}
 use Rattle.fr_time.specs.Slots.{action_point_of}
 use Rattle.fr_trace.specs.Items.Item.{Heard}
+use Rattle.fr_trace.specs.Lasting.{IsTrace}
 use Rattle.fr_trace.specs.Trace.{TraceView, is_named}
 use Rattle.fr_verdict.specs.Breach.{IsLawfulTrace, high_of, is_away, low_of, sender_is_away, sender_row}
-use Rattle.fr_verdict.specs.Gaps.{has_dev, has_rows, is_heard, is_heard_on, is_pair}
+use Rattle.fr_verdict.specs.Gaps.{has_dev, has_rows, is_heard, is_heard_on, is_pair, IsTracedLinkGap}
 use Rattle.fr_verdict.specs.Heard.{IsHeardBy, hearer_of, traced_round}
 use Rattle.fr_verdict.specs.Search.{breach_by, outside_by, whenever}
 use Rattle.fr_verdict.specs.Sync.{IsFirstSynced}
@@ -179,6 +181,44 @@ not_away p t h r later sender receiver slot ch value at key o is none =
 
 -- ---- links
 
+-- of each correct node with a key slot each other correct node has a deviation in both cycles of a double cycle on one channel, if
+-- both have rows there
+abbrev pub AllPairsHeard : Values → TraceView → ℕ → Type 0
+AllPairsHeard p t k =
+    (sender receiver : NodeSpec) → Contains p.nodes sender → Contains p.nodes receiver → is_pair t sender receiver ≡ true → has_rows t.history k sender ≡ true → has_rows t.history k receiver ≡ true
+    → is_heard t sender receiver k ≡ true
+
+-- so it is from the first double cycle in sync on, where there is no gap of a link
+pub pairs_heard : (p : Values) (t : TraceView) (double k : ℕ) → ((g : Gap) → IsTracedLinkGap p t g → ⊥) → IsFirstSynced p t double → double ≤ k → k < t.doubles → AllPairsHeard p t k
+pairs_heard p t double k links first from within sender receiver sender_there receiver_there pair sends hears = by_test (is_heard t sender receiver k) refl
+  where
+    by_test : (b : Bool) → is_heard t sender receiver k ≡ b → b ≡ true
+    by_test true e = refl
+    by_test false broken =
+        absurd (links (gap.Link sender.id receiver.id k) (record {
+          sender = sender;
+          receiver = receiver;
+          sender_there = sender_there;
+          receiver_there = receiver_there;
+          pair = pair;
+          synced = double;
+          first = first;
+          double = k;
+          from = from;
+          within = within;
+          sends = sends;
+          hears = hears;
+          broken = broken;
+          told = refl;
+        }))
+
+-- the double cycle of two records is one of the trace
+pub double_within : (t : TraceView) (h : History) (even odd : Record) (k : ℕ) → IsTrace t → IsDouble t h even odd k → k < t.doubles
+double_within t h even odd k trace d =
+    let lt = record_at-lt t.history (suc (2 * k)) odd (odd_at t h even odd k d) in
+    let whole = trace.whole in
+    omega (arith, lt, whole)
+
 some_is : {A : Type 0} (o : Option A) → is_some o ≡ true → IsSome o
 some_is o e = e
 
@@ -187,10 +227,11 @@ record LinksAt (p : Values) (t : TraceView) (h : History) (even odd : Record) (k
   early : IsSome (dev_in even.devs receiver.id slot channel)
   late : IsSome (dev_in odd.devs receiver.id slot channel)
 
-linked : (p : Values) (t : TraceView) (h : History) (even odd : Record) (double k : ℕ) (sender receiver : NodeSpec) (slot : ℕ) → Passes p t → IsFirstSynced p t double → IsDouble t h even odd k → double ≤ k
+linked : (p : Values) (t : TraceView) (h : History) (even odd : Record) (k : ℕ) (sender receiver : NodeSpec) (slot : ℕ) → Passes p t → AllPairsHeard p t k → IsDouble t h even odd k
     → Contains (nodes_in p even) sender → Contains (nodes_in p even) receiver → sender.key ≡ Some slot → sender.id ≢ receiver.id → LinksAt p t h even odd k sender receiver slot
-linked p t h even odd double k sender receiver slot w first d from sends hears key other =
-    elim (or_cases (is_heard_on t sender receiver k channel.A) (is_heard_on t sender receiver k channel.B) (by_test (is_heard t sender receiver k) refl)) [
+linked p t h even odd k sender receiver slot w heard d sends hears key other =
+    elim (or_cases (is_heard_on t sender receiver k channel.A) (is_heard_on t sender receiver k channel.B)
+    (heard sender receiver (known p even sender sends).0 (known p even receiver hears).0 pair (has sender sends) (has receiver hears))) [
       | inl a ↦ on channel.A a
       | inr b ↦ on channel.B b
     ]
@@ -209,32 +250,6 @@ linked p t h even odd double k sender receiver slot w first d from sends hears k
         let early = row_is_at t (2 * k) node.id even (even_at t h even odd k d) (row_there (nodes_in p even) even.rows node rows.even_rows among) in
         let late = row_is_at t (suc (2 * k)) node.id odd (odd_at t h even odd k d) (row_there (nodes_in p even) odd.rows node rows.odd_rows among) in
         ap₂ (λ (a b : Option NodeRow). is_some a && is_some b) early late
-
-    within : k < t.doubles
-    within =
-        let lt = record_at-lt t.history (suc (2 * k)) odd (odd_at t h even odd k d) in
-        let whole = w.trace.whole in
-        omega arith
-
-    by_test : (b : Bool) → is_heard t sender receiver k ≡ b → b ≡ true
-    by_test true e = refl
-    by_test false broken =
-        absurd (w.covered (gap.Link sender.id receiver.id k) (inr (inr (inr (inr (record {
-          sender = sender;
-          receiver = receiver;
-          sender_there = (known p even sender sends).0;
-          receiver_there = (known p even receiver hears).0;
-          pair = pair;
-          synced = double;
-          first = first;
-          double = k;
-          from = from;
-          within = within;
-          sends = has sender sends;
-          hears = has receiver hears;
-          broken = broken;
-          told = refl;
-        }))))))
 
     there : (cycle : ℕ) (r : Record) (ch : Channel) → record_at t.history cycle ≡ Some r → has_dev t.history cycle sender receiver ch ≡ true → IsSome (dev_in r.devs receiver.id slot ch)
     there cycle r ch at e =
@@ -255,10 +270,10 @@ linked p t h even odd double k sender receiver slot w first d from sends hears k
 
 -- ---- so each node hears each sender
 
-heard_by : (p : Values) (t : TraceView) (h : History) (even odd : Record) (double k : ℕ) (sender receiver : NodeSpec) (slot : ℕ) → Passes p t → IsFirstSynced p t double → IsDouble t h even odd k → double ≤ k
+heard_by : (p : Values) (t : TraceView) (h : History) (even odd : Record) (k : ℕ) (sender receiver : NodeSpec) (slot : ℕ) → Passes p t → AllPairsHeard p t k → IsDouble t h even odd k
     → IsLinked (window p t even) sender receiver slot → IsHeardBy (window p t even) even odd sender receiver slot
-heard_by p t h even odd double k sender receiver slot w first d from link =
-    let link_is = linked p t h even odd double k sender receiver slot w first d from sends hears link.key link.other in
+heard_by p t h even odd k sender receiver slot w heard d link =
+    let link_is = linked p t h even odd k sender receiver slot w heard d sends hears link.key link.other in
     record { placed = λ odd_is channel value is. placed odd_is channel value is; channel = link_is.channel; early = link_is.early; late = link_is.late }
   where
     sends : Contains (nodes_in p even) sender
@@ -305,12 +320,12 @@ only p t h even odd k node sender slot odd_is channel value w d among there key 
     by_row true e = inl (twice_so (has_row even sender.id) e)
     by_row false e = inr (named odd_is is e)
 
-pub heard_in : (p : Values) (t : TraceView) (h : History) (even odd : Record) (double k : ℕ) (node : NodeSpec) → Passes p t → IsFirstSynced p t double → IsDouble t h even odd k → double ≤ k
+pub heard_in : (p : Values) (t : TraceView) (h : History) (even odd : Record) (k : ℕ) (node : NodeSpec) → Passes p t → AllPairsHeard p t k → IsDouble t h even odd k
     → Contains (nodes_in p even) node → IsHeardAt (round_in p t even odd) (hearer_in p t even odd node)
-heard_in p t h even odd double k node w first d from among =
+heard_in p t h even odd k node w pairs d among =
     let x = window p t even in
     let heard : IsHeardAt (traced_round x even odd) (hearer_of x even odd node.id) =
-    heard_suffices x even odd w.sane (λ sender receiver slot link. heard_by p t h even odd double k sender receiver slot w first d from link) node (to_window p t even node among) in
+    heard_suffices x even odd w.sane (λ sender receiver slot link. heard_by p t h even odd k sender receiver slot w pairs d link) node (to_window p t even node among) in
     record {
       itself =
           λ index own.

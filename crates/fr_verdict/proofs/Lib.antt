@@ -1,5 +1,6 @@
 pub mod Worked
 pub mod Syncing
+pub mod Turning
 pub mod Finding
 pub mod Passing
 pub mod Gaps

@@ -1,5 +1,5 @@
 -- What the laws and the gaps of a trace that passes say of the rows of a double cycle, node by node.
-use Rattle.std.proofs.Common.{◌≡◌, ℕ, suc, ◌*◌, Bool, true, false, not, ◌||◌, ℤ, pos, Some, None, List, [], ◌∷◌, ◌++◌, length, append_assoc, refl, ap, ap₂, sym, ◌∙◌, subst, inl, inr, arith, if◌then◌else◌}
+use Rattle.std.proofs.Common.{◌≡◌, ℕ, suc, ◌*◌, Bool, true, false, not, ◌||◌, ℤ, pos, Some, None, List, [], ◌∷◌, ◌++◌, length, append_assoc, refl, ap, ap₂, sym, ◌∙◌, subst, arith, if◌then◌else◌}
 use Rattle.std.specs.Prelude.{◌≤ℤ◌, ◌-ℤ◌, ◌+ℤ◌, Contains, int_lt, neg_ℤ, option_and_then}
 use Rattle.std.proofs.lemmas.Bool.{or_parts}
 use Rattle.std.proofs.lemmas.Int.{ints}
@@ -20,6 +20,7 @@ use Rattle.fr_history.specs.History.{AreRowsOf, History, Record, record_at, row_
 use Rattle.fr_runs.proofs.Doubles.{even_length, even_stands, odd_length, outcomes_even, stays}
 use Rattle.fr_runs.proofs.Rows.{HasRow, each_row, has_row as row_there}
 use Rattle.fr_coverage.specs.Coverage.{has_jumped, is_off}
+use Rattle.fr_coverage.specs.declared.gap.Gap.{Gap}
 use Rattle.fr_coverage.specs.declared.gap.Gap.TheVariants as gap
 use Rattle.fr_history.specs.Rows.{is_corrected}
 use Rattle.fr_history.specs.Terms.{offset_term_in, outcomes_by, outcomes_in, rate_term_in, status_in}
@@ -33,17 +34,18 @@ use Rattle.fr_trace.specs.Fits.{TraceFits}
 use Rattle.fr_trace.specs.Lasting.{IsTrace}
 use Rattle.fr_trace.specs.Trace.{TraceView, row_at}
 use Rattle.fr_verdict.specs.Breach.{IsLawfulTrace, rate_from, start_from}
-use Rattle.fr_verdict.specs.Gaps.{IsCoveredTrace}
+use Rattle.fr_verdict.specs.Gaps.{IsTracedChangeGap, IsTracedLengthGap}
 use Rattle.fr_verdict.proofs.Lawful.{IsRow, lawful_row, record_fits}
 use Rattle.fr_verdict.proofs.Standing.{AreTwo, nodes_in, nodes_stay, rows_of_nodes, has_row}
 
--- a trace that passes
+-- a lawful trace whose recorded microticks, and how they change, lie within their bounds
 pub record Passes (p : Values) (t : TraceView) : Type 0 where
   pub sane : IsSane p
   pub trace : IsTrace t
   pub fits : TraceFits p t
   pub lawful : IsLawfulTrace p t
-  pub covered : IsCoveredTrace p t
+  pub lengths : (g : Gap) → IsTracedLengthGap p t g → ⊥
+  pub changes : (g : Gap) → IsTracedChangeGap p t g → ⊥
 
 -- two records are a double cycle of this number behind earlier ones
 pub record IsDouble (t : TraceView) (h : History) (even odd : Record) (double : ℕ) : Type 0 where
@@ -101,16 +103,16 @@ pub row_is_at : (t : TraceView) (cycle node : ℕ) (r : Record) → record_at t.
 unfolding row_at
 row_is_at t cycle node r at has = ap (option_and_then (λ (s : Record). row_of s.rows node)) at ∙ has.is
 
-pub proper_micro : (p : Values) (t : TraceView) (node : NodeSpec) (cycle : ℕ) (r : Record) → IsCoveredTrace p t → Contains p.nodes node → record_at t.history cycle ≡ Some r → HasRow r.rows node.id
+pub proper_micro : (p : Values) (t : TraceView) (node : NodeSpec) (cycle : ℕ) (r : Record) → ((g : Gap) → IsTracedLengthGap p t g → ⊥) → Contains p.nodes node → record_at t.history cycle ≡ Some r → HasRow r.rows node.id
     → HasProperMicro p (row_for r.rows node.id)
-proper_micro p t node cycle r covered there at has = by_test (is_off p row.length) refl
+proper_micro p t node cycle r lengths there at has = by_test (is_off p row.length) refl
   where
     row : NodeRow
     row = row_for r.rows node.id
 
     by_test : (b : Bool) → is_off p row.length ≡ b → HasProperMicro p row
     by_test true off =
-        absurd (covered (gap.Length node.id cycle row.length) (inr (inr (inl (record { node = node; known = there; cycle = cycle; row = row; there = row_is_at t cycle node.id r at has; off = off; told = refl })))))
+        absurd (lengths (gap.Length node.id cycle row.length) (record { node = node; known = there; cycle = cycle; row = row; there = row_is_at t cycle node.id r at has; off = off; told = refl }))
     by_test false is =
         let parts : (int_lt row.length (pos (shortest_micro p)) ≡ false) × (int_lt (pos (longest_micro p)) row.length ≡ false) = or_parts (int_lt row.length (pos (shortest_micro p))) (int_lt (pos (longest_micro p)) row.length) is in
         record { least = no_less row.length (pos (shortest_micro p)) parts.0; most = no_less (pos (longest_micro p)) row.length parts.1 }
@@ -126,10 +128,10 @@ near bound one other is =
     high_is : other ≤ℤ (one +ℤ bound) → (other -ℤ one) ≤ℤ bound
     high_is le = omega (arith, ints)
 
-pub steady : (p : Values) (t : TraceView) (node : NodeSpec) (cycle : ℕ) (r next : Record) → IsCoveredTrace p t → Contains p.nodes node
+pub steady : (p : Values) (t : TraceView) (node : NodeSpec) (cycle : ℕ) (r next : Record) → ((g : Gap) → IsTracedChangeGap p t g → ⊥) → Contains p.nodes node
     → record_at t.history cycle ≡ Some r → record_at t.history (suc cycle) ≡ Some next → HasRow r.rows node.id → HasRow next.rows node.id
     → IsSteady p (row_for r.rows node.id) (row_for next.rows node.id)
-steady p t node cycle r next covered there at next_at has next_has = by_test (has_jumped p one.length other.length) refl
+steady p t node cycle r next changes there at next_at has next_has = by_test (has_jumped p one.length other.length) refl
   where
     one : NodeRow
     one = row_for r.rows node.id
@@ -139,8 +141,8 @@ steady p t node cycle r next covered there at next_at has next_has = by_test (ha
 
     by_test : (b : Bool) → has_jumped p one.length other.length ≡ b → IsSteady p one other
     by_test true jumped =
-        absurd (covered (gap.Change node.id (suc cycle) (other.length -ℤ one.length))
-        (inr (inr (inr (inl (record { node = node; known = there; cycle = cycle; before = one; row = other; earlier = row_is_at t cycle node.id r at has; there = row_is_at t (suc cycle) node.id next next_at next_has; jumped = jumped; told = refl }))))))
+        absurd (changes (gap.Change node.id (suc cycle) (other.length -ℤ one.length))
+        (record { node = node; known = there; cycle = cycle; before = one; row = other; earlier = row_is_at t cycle node.id r at has; there = row_is_at t (suc cycle) node.id next next_at next_has; jumped = jumped; told = refl }))
     by_test false is = near (pos (amount p name.xChangeBound)) one.length other.length is
 
 -- ---- the clock of a node over a double cycle
@@ -192,9 +194,9 @@ node_two p t h even odd double node w d among =
         same_rate = rate_follows p h even odd node.id false here late odd_is stands;
         no_offset = even_is.offset ∙ ap (λ b. if b then (offset_term_in p h even.devs row.node).value else pos 0) stands;
       };
-      even_micro = proper_micro p t node (2 * double) even w.covered there (even_at t h even odd double d) here;
-      odd_micro = proper_micro p t node (suc (2 * double)) odd w.covered there (odd_at t h even odd double d) late;
-      steady = steady p t node (2 * double) even odd w.covered there (even_at t h even odd double d) (odd_at t h even odd double d) here late;
+      even_micro = proper_micro p t node (2 * double) even w.lengths there (even_at t h even odd double d) here;
+      odd_micro = proper_micro p t node (suc (2 * double)) odd w.lengths there (odd_at t h even odd double d) late;
+      steady = steady p t node (2 * double) even odd w.changes there (even_at t h even odd double d) (odd_at t h even odd double d) here late;
       rate_within = each_row nodes even.rows (λ r. IsWithin p.rate_limit r.rate) node rows.even_rows among rows.two.early.rates;
     }
 

@@ -205,3 +205,15 @@ comes_or_stays p t h s r two = elim (some_or_none (λ node. has_row r node.id &&
   had true true none has = refl
   had true false none has = sym none
   had false before none has = cc has
+
+-- where no node joins, the same have rows in both
+pub all_stay : (p : Values) (t : TraceView) (h : History) (s r : Record) → AreTwo p t h s r → t.joins ≡ [] → nodes_in p r ≡ nodes_in p s
+all_stay p t h s r two none =
+    filter_same (λ (n : NodeSpec). has_row r n.id) (λ (n : NodeSpec). has_row s n.id) p.nodes
+    (λ node there. stays_where p t h s r node two there (λ j at begins. never node j (sym at ∙ joins_none node.id)))
+  where
+    joins_none : (node : ℕ) → traced_join_in t node ≡ None
+    joins_none node = rw none refl
+
+    never : (node : NodeSpec) (j : Join) → Some j ≡ None → ⊥
+    never node j e = cc e

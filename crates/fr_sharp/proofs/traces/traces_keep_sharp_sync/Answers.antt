@@ -1,0 +1,12 @@
+use Rattle.fr_sharp.proofs.TraceCycles.{traces_keep_sharp_precision}
+use Rattle.fr_sharp.proofs.TraceSync.{checked_traces_are_steady, traces_keep_sharp_sync_lem}
+use Rattle.fr_sharp.proofs.traces.traces_keep_sharp_sync.Goals as goal
+
+pub returns-clause-steady : goal.returns-clause-steady
+returns-clause-steady c = checked_traces_are_steady
+
+pub returns-clause-keep : goal.returns-clause-keep
+returns-clause-keep c = traces_keep_sharp_sync_lem
+
+pub returns-clause-precise : goal.returns-clause-precise
+returns-clause-precise c = traces_keep_sharp_precision
