@@ -5,7 +5,7 @@ import os
 import re
 import unittest
 
-from bench import EXAMPLE, REPOSITORY, SERIES, Bench, edited, needs_series
+from bench import EXAMPLE, REPOSITORY, SERIES, Bench, edited, needs, needs_series
 from flexlab_lib import least, ranges, report, sharp
 from flexlab_lib.cluster import read_cluster
 from flexlab_lib.ending import Stop
@@ -213,6 +213,25 @@ class Pages(Case):
             self.assertIn(f"as asked: {told[3]} us at most", again)
             skews.append(float(told[3]))
         self.assertEqual(skews, sorted(skews))
+
+    @needs("gnuplot")
+    @needs_series
+    def test_the_picture_has_the_precision_that_is_proved(self):
+        page = self.page(produced(SHORT), "--pictures")
+        first = re.search(r"In sharp sync yes, from double cycle \d+ on \(cycle (\d+)", page)[1]
+        skew = re.search(r"Sharp skew ([\d.]+) us .*?\(cycle (\d+)", page)
+        picture, data = self.read("a.lab", "skew.svg"), self.read("a.lab", "skew.gnuplot")
+        for told in ("sharp precision, 0.900 us", f"in sharp sync from cycle {first}",
+                     f"greatest skew in sharp sync, {skew[1]} us in cycle {skew[2]}"):
+            self.assertIn(told, picture)
+        self.assertNotIn("12.352", picture)
+        self.assertIn(f"$bound0 << end\n{first} 0.900100\n40 0.900100\nend", data)
+        self.page(produced(*WALK, ("double_cycles = 60", "double_cycles = 70")) + EVEN_AND_ODD, "--pictures")
+        self.assertIn("$bound0 << end\n0 2.400100\n124 2.400100\nend", self.read("a.lab", "skew.gnuplot"))
+        self.page(EXAMPLE, "--pictures")
+        picture = self.read("a.lab", "skew.svg")
+        for told in ("sharp precision, 3.756 us", ">precision, 7.902 us", "in sync from cycle 2", "greatest skew in sync, 4.545 us"):
+            self.assertIn(told, picture)
 
     def test_nodes_that_join_are_left_to_the_older_bound(self):
         page = self.page(produced(SHORT) + JOINS)
