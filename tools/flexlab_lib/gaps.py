@@ -43,6 +43,9 @@ def gap_words(gap, cluster):
     parameters, unit = cluster.parameters, cluster.microtick_ns
     if kind == "check":
         return check_words(*numbers, parameters)
+    if kind == "flutter":
+        return [f"a delay differs by {microseconds(numbers[0], unit)} between the two cycles of a double cycle, which is more than "
+                "any limits.delay_error allows for, twice 10 microticks"]
     if kind == "join":
         return ["nodes join it, and the sharper precision is proved of runs that no node joins"]
     if kind == "count":

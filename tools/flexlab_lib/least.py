@@ -7,7 +7,8 @@ from . import ranges
 from .advice import TURNS, latest_start, up
 
 TICKS = 1000000
-FITTED = ("pRateCorrectionOut", "pClusterDriftDamping", "pOffsetCorrectionOut", "gdActionPointOffset", "gdStaticSlot")
+FITTED = ("xRateBound", "xChangeBound", "xDelayError", "pRateCorrectionOut", "pClusterDriftDamping", "pOffsetCorrectionOut",
+          "gdActionPointOffset", "gdStaticSlot")
 
 
 @dataclass(frozen=True)
@@ -133,14 +134,21 @@ def least_sharp(parameters, kind, damping):
     there are none. Limits and slots stand in the right sides too, so they are fitted until nothing changes."""
     p = {**parameters, "pClusterDriftDamping": damping,
          "pRateCorrectionOut": max(parameters["pRateCorrectionOut"], least_rate(parameters, False))}
-    before = None
+    before, name = None, too_great(p)
+    if name:
+        return None, beyond(name, p[name])
     while p != before:
         before = dict(p)
         fit_slots(p, sharp_bounds_of(p, kind), 3)
-        name = next((name for name in FITTED if p[name] > ranges.PARAMETERS[name][1]), None)
+        name = too_great(p)
         if name:
             return None, beyond(name, p[name])
     return schedule(p)
+
+
+def too_great(p):
+    """The first parameter that is beyond its range, or None."""
+    return next((name for name in FITTED if p[name] > ranges.PARAMETERS[name][1]), None)
 
 
 def fit_slots(p, sides, first):
@@ -163,15 +171,15 @@ def least_values(parameters, join, damping=None):
     The damping is the given one where it suffices.
     """
     p = dict(parameters)
-    rate = max(p["pRateCorrectionOut"], least_rate(p, join))
-    if rate > ranges.PARAMETERS["pRateCorrectionOut"][1]:
-        return None, beyond("pRateCorrectionOut", rate)
-    p["pRateCorrectionOut"] = rate
+    p["pRateCorrectionOut"] = max(p["pRateCorrectionOut"], least_rate(p, join))
+    name = too_great(p)
+    if name:
+        return None, beyond(name, p[name])
     p["pClusterDriftDamping"] = max(damping or 0, least_damping(p))
     fit_slots(p, bounds_of(p, join), 7 if join else 3)
-    for name in FITTED:
-        if p[name] > ranges.PARAMETERS[name][1]:
-            return None, beyond(name, p[name])
+    name = too_great(p)
+    if name:
+        return None, beyond(name, p[name])
     return schedule(p)
 
 

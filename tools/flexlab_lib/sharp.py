@@ -12,8 +12,8 @@ MOST = 20000000
 
 @dataclass
 class Sharp:
-    """Of a run: the bounds of both kinds, that of the run, in which double cycles its trace is in sharp sync, and what
-    flexray-series told."""
+    """Of a run: the flutter of its delays, the bounds of both kinds for that or the most that flexray bound takes, those of the
+    run's kind, in which double cycles its trace is in sharp sync, and what flexray-series told."""
     flutter: int
     both: dict
     bounds: SharpBounds
@@ -62,7 +62,9 @@ def unlike(sharp, told, doubles):
         return f"flexray-series says that delays flutter by {told.flutter} ticks, and by the file it is {sharp.flutter}"
     if sharp.flutter <= MOST and (told.kind, told.precision) != (sharp.bounds.kind, sharp.bounds.precision):
         return "flexray-series tells another sharper precision than flexray bound"
-    if doubles and told.rows[::2] != sharp.rows:
+    if sharp.flutter <= MOST and told.synced is not None and told.lasts != sharp.bounds.lasts:
+        return "flexray-series tells another number of double cycles for which the walk lasts than flexray bound"
+    if sharp.flutter <= MOST and doubles and told.rows[::2] != sharp.rows:
         return "flexray-series says of a double cycle that it is in sharp sync, and the trace does not, or back"
     return None
 
@@ -72,10 +74,13 @@ def unlike(sharp, told, doubles):
 
 def gap_of(run):
     """(whether it is known, the words of the first gap of the sharper bounds or None). Without flexray-series they are those
-    of the report, where that names no older check, or has none that fails: the others are the same."""
+    of the report, where that names no older check, or has none that fails: the others are the same. Delays that flutter by
+    more than twice the greatest delay error have the gap `flutter` here; one of them is outside its limit."""
     sharp = run.sharp
     if run.cluster.joins:
         return True, ["join"]
+    if sharp.flutter > MOST:
+        return True, ["flutter", str(sharp.flutter)]
     if sharp.told:
         return True, sharp.told.gap
     if sharp.bounds.gap:

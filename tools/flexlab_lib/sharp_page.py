@@ -3,14 +3,14 @@ from fractions import Fraction
 
 from .gaps import gap_words, sharp_check_words
 from .least import least_sharp_damping
-from .sharp import ends_of, first_of, gap_of, is_within, kind_of, lost_of, skew_of
+from .sharp import ends_of, first_of, gap_of, is_covered, is_within, kind_of, lost_of, skew_of
 from .units import decimal, lasting, microseconds, percent
 
 KINDS = {"alone": "without arbitrary nodes", "beside": "beside arbitrary nodes"}
 
 
 def kind_words(sharp, unit):
-    return f"{KINDS[sharp.bounds.kind]}, for delays that flutter by {microseconds(sharp.flutter, unit)}"
+    return f"{KINDS[sharp.bounds.kind]}, for delays that flutter by {microseconds(sharp.bounds.flutter, unit)}"
 
 
 def covered_words(run):
@@ -38,8 +38,8 @@ def sync_words(run, ms_of_cycle):
 
     if lost is None:
         return f"yes, from double cycle {first} on ({place(first)}), and still so at the end"
-    # What is proved of a walk leaves lengths within their range out alone.
-    if gap_of(run) == (True, None) and lost < (ends_of(run) or run.report.doubles):
+    # As long as the walk lasts, lengths may leave their range; nothing else of sharp sync is lost.
+    if is_covered(run) and lost < (run.report.doubles if ends_of(run) is None else ends_of(run)):
         return (f"yes, from double cycle {first} on ({place(first)}), but for lengths that leave their range from double cycle "
                 f"{lost} on ({place(lost)})")
     return f"NOT ALL THE WAY: from double cycle {first} on ({place(first)}) at first; lost in double cycle {lost} ({place(lost)})"
@@ -48,7 +48,7 @@ def sync_words(run, ms_of_cycle):
 def lasting_words(run, ms_of_cycle):
     """For how long what is proved holds, where the first check fails; None where it is to the end of the run."""
     lasts, end = run.sharp.bounds.lasts, ends_of(run)
-    if lasts is None or gap_of(run) != (True, None) or first_of(run) is None:
+    if lasts is None or not is_covered(run) or first_of(run) is None:
         return None
     if not lasts:
         return "NOT PROVED: C1 fails, and the rate limit holds the walk of all rates for no double cycle"
@@ -81,8 +81,8 @@ def sharp_lines(run, field, ms_of_cycle):
     if run.cluster.joins:
         return found
     bounds, unit = run.sharp.bounds, run.cluster.microtick_ns
-    lasting = lasting_words(run, ms_of_cycle)
-    found += field("In sharp sync", sync_words(run, ms_of_cycle), *([lasting] if lasting else []))
+    proved = lasting_words(run, ms_of_cycle)
+    found += field("In sharp sync", sync_words(run, ms_of_cycle), *([proved] if proved else []))
     found += field("Sharp precision", f"{microseconds(bounds.precision, unit)} ({decimal(Fraction(bounds.precision, 1000000), 3)} "
                                       f"microticks), {kind_words(run.sharp, unit)}")
     return found + skew_lines(run, field)

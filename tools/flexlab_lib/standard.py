@@ -41,9 +41,9 @@ def by_formula(parameters, microticks, damping, delays):
 
 
 def flutter_asked(text, run):
-    """Ticks of --flutter-ns, or the flutter of the run's own delays."""
+    """Ticks of --flutter-ns, or the flutter of the run's own delays, at most what flexray bound takes."""
     if text is None:
-        return sharp.flutter_of(run.cluster)
+        return run.sharp.bounds.flutter
     try:
         ticks = rounded(Fraction(text) / run.cluster.microtick_ns * TICKS)
     except (ValueError, ZeroDivisionError):
@@ -56,7 +56,7 @@ def flutter_asked(text, run):
 
 def sharp_for(run, program, flutter):
     """The sharper bounds of both kinds for this flutter."""
-    if flutter == run.sharp.flutter:
+    if flutter == run.sharp.bounds.flutter:
         return run.sharp.both
     return read_sharp_bounds(answer(program, sharp.sharp_words(run.files[0], flutter)))
 
@@ -105,8 +105,9 @@ def compared(run, program, worst=WORST, flutter_ns=None):
     lines = field("Cluster", f"a cycle of {decimal(ms_of_cycle(1, cluster), 3)} ms, damping {p['pClusterDriftDamping']}, "
                              f"oscillators within {p['xRateBound']} ticks (about ppm), frames travel "
                              f"{microseconds(greatest_delay(p), unit)} at most, by the parameters")
+    own = "the greatest of this run" if run.sharp.flutter <= sharp.MOST else "the most that flexray bound takes"
     lines += field("Flutter", f"{microseconds(flutter, unit)}: how far a delay may differ between the two cycles of a double "
-                              f"cycle; {'the greatest of this run' if flutter_ns is None else 'as asked'}")
+                              f"cycle; {own if flutter_ns is None else 'as asked'}")
     table, own = rows(run, both, worst)
     lines += ["", f"{'precision':<26}{'us':>9}{'microticks':>12}{'fails':>13}{'lasts':>9}{'part':>10}"]
     for row in table:

@@ -5,7 +5,7 @@ import os
 import re
 import unittest
 
-from bench import EXAMPLE, REPOSITORY, SERIES, Bench, edited, needs_series
+from bench import EXAMPLE, REPOSITORY, SERIES, Bench, edited, needs, needs_series
 from flexlab_lib import least, ranges, report, sharp
 from flexlab_lib.cluster import read_cluster
 from flexlab_lib.ending import Stop
@@ -214,6 +214,25 @@ class Pages(Case):
             skews.append(float(told[3]))
         self.assertEqual(skews, sorted(skews))
 
+    @needs("gnuplot")
+    @needs_series
+    def test_the_picture_has_the_precision_that_is_proved(self):
+        page = self.page(produced(SHORT), "--pictures")
+        first = re.search(r"In sharp sync yes, from double cycle \d+ on \(cycle (\d+)", page)[1]
+        skew = re.search(r"Sharp skew ([\d.]+) us .*?\(cycle (\d+)", page)
+        picture, data = self.read("a.lab", "skew.svg"), self.read("a.lab", "skew.gnuplot")
+        for told in ("sharp precision, 0.900 us", f"in sharp sync from cycle {first}",
+                     f"greatest skew in sharp sync, {skew[1]} us in cycle {skew[2]}"):
+            self.assertIn(told, picture)
+        self.assertNotIn("12.352", picture)
+        self.assertIn(f"$bound0 << end\n{first} 0.900100\n40 0.900100\nend", data)
+        self.page(produced(*WALK, ("double_cycles = 60", "double_cycles = 70")) + EVEN_AND_ODD, "--pictures")
+        self.assertIn("$bound0 << end\n0 2.400100\n124 2.400100\nend", self.read("a.lab", "skew.gnuplot"))
+        self.page(EXAMPLE, "--pictures")
+        picture = self.read("a.lab", "skew.svg")
+        for told in ("sharp precision, 3.756 us", ">precision, 7.902 us", "in sync from cycle 2", "greatest skew in sync, 4.545 us"):
+            self.assertIn(told, picture)
+
     def test_nodes_that_join_are_left_to_the_older_bound(self):
         page = self.page(produced(SHORT) + JOINS)
         self.assertIn("Sharply covered NO: nothing is promised of this run's sharp precision nodes join it, and the sharper precision "
@@ -233,6 +252,19 @@ class Pages(Case):
         page = self.page(edited(("microticks = 0.3", "microticks = 0.7")), series=False)
         self.assertIn("Sharply covered NO: nothing is promised of this run's sharp precision in cycle 0 frames of node 1 travel", page)
 
+    @needs_series
+    def test_delays_that_flutter_more_than_any_limit_allows(self):
+        text = produced(SHORT) + "[[delay]]\nfrom = 1\nto = 2\nns = 2000\nfrom_cycle = 7\n"
+        page = self.page(text)
+        self.assertIn("Sharply covered NO: nothing is promised of this run's sharp precision a delay differs by 1.700 us between the two "
+                      "cycles of a double cycle", page)
+        self.assertIn("without arbitrary nodes, for delays that flutter by 0.500 us", page)
+        self.assertIn("xDelayError would have to be 73000000, and is 10000000 at most", page)
+        page = self.one_line(self.flexlab("precision", "a.toml", env={"FLEXRAY_SERIES": SERIES})[0])
+        self.assertIn("Flutter 0.500 us: how far a delay may differ between the two cycles of a double cycle; the most that flexray "
+                      "bound takes", page)
+        self.assertIn("nothing is proved of this run, whose delays flutter by 1.700 us", page)
+
     def test_never_in_sharp_sync(self):
         page = self.page(produced(("double_cycles = 60", "double_cycles = 1")))
         self.assertIn("In sharp sync NEVER: no double cycle of the run is in sharp sync", page)
@@ -246,6 +278,7 @@ class Pages(Case):
         for old, new, told in (("\nflutter,0,", "\nflutter,5,", "delays flutter by 5 ticks, and by the file it is 0"),
                                ("\nsharp,36003994,alone", "\nsharp,36003993,alone", "tells another sharper precision"),
                                ("\nsharp,36003994,alone", "\nsharp,36003994,beside", "tells another sharper precision"),
+                               (",on,,\n", ",7,,\n", "tells another number of double cycles for which the walk lasts"),
                                ("\nsharp within,yes", "\nsharp inside,yes", "not understood: sharp inside,yes")):
             with self.subTest(new=new):
                 self.assertIn(old, text)
@@ -308,6 +341,7 @@ class Machines(Case):
         self.assertEqual(sharply["in_sharp_sync"]["double_cycle"], told.synced)
         self.assertEqual((sharply["skew"]["ticks"], sharply["within_precision"]), (told.greatest[0], True))
         self.assertEqual([check["holds"] for check in sharply["checks"]], [True] * 5)
+        self.assertEqual(sharply["gap_told"], [])
         self.assertEqual((found["ways"]["of"], found["ways"]["ways"]), ("sharp precision", []))
         self.assertGreater(found["ways"]["older"]["skew_us"], found["ways"]["skew_now_us"])
         self.flexlab("run", "--require", "sharply-covered,in-sync", "a.toml", env=env)
@@ -325,6 +359,12 @@ class Machines(Case):
                 self.write("a.toml", text)
                 err = self.flexlab("run", "--require", "sharply-covered", "a.toml", status=7, env=env)[1]
                 self.assertIn(f"not met: sharply-covered: {told}", err)
+        for text, told in ((produced(SHORT, ("pOffsetCorrectionOut = 127", "pOffsetCorrectionOut = 20")), "turn pOffsetCorrectionOut"),
+                           (produced(SHORT) + JOINS, "nodes join it")):
+            self.write("a.toml", text)
+            found = json.loads(self.flexlab("run", "--json", "a.toml", env=env)[0])["sharp"]
+            self.assertEqual(found["covered"], False)
+            self.assertIn(told, " ".join(found["gap_told"]))
         self.write("a.toml", produced(SHORT))
         self.assertIn("is not known", self.flexlab("run", "--require", "sharply-covered", "a.toml", status=7)[1])
 
