@@ -1,9 +1,8 @@
 -- The step of a steady trace from one double cycle to the next, with free numbers: where action points lie within a reach for which
 -- the offset limit suffices.
-use Rattle.std.proofs.Common.{All, ◌≡◌, ℕ, suc, ◌+◌, ◌*◌, ◌<◌, ◌≤◌, Bool, true, false, Option, List, ◌∷◌, map, ℤ, pos, refl, ap, sym, ◌∙◌, subst, arith}
+use Rattle.std.proofs.Common.{All, ◌≡◌, ℕ, suc, ◌+◌, ◌*◌, ◌<◌, ◌≤◌, Bool, true, false, Option, List, ◌∷◌, map, ℤ, pos, refl, ap, sym, ◌∙◌, subst}
 use Rattle.std.specs.Prelude.{◌+ℤ◌, ◌≤ℤ◌, Contains}
 use Rattle.std.specs.Option.{option_map_or}
-use Rattle.std.proofs.lemmas.Int.{ints}
 use Rattle.std.proofs.lemmas.List.Elements.{All-contains_itself}
 use Rattle.fr_base.specs.Within.{IsWithin}
 use Rattle.fr_base.specs.declared.node_row.NodeRow.{NodeRow}
@@ -197,4 +196,3 @@ module _ (beside : Bool) (p : Values) (t : TraceView) (double : ℕ) (s : IsStea
                 (All-contains_itself members)
                 ));
           }
-

@@ -1,7 +1,6 @@
 -- A steady trace in sharp sync keeps the sharper precision, double cycle by double cycle, for as many as the rate limit holds the
 -- walk.
-use Rattle.std.proofs.Common.{◌≡◌, ℕ, zero, suc, ◌+◌, ◌*◌, ◌<◌, ◌≤◌, Bool, true, Option, Some, [], ◌∷◌, ◌++◌, length, map, ℤ, pos, append_assoc, refl, ap, sym, ◌∙◌, subst, inl, inr, arith}
-use Rattle.std.proofs.lemmas.Int.{ints}
+use Rattle.std.proofs.Common.{◌≡◌, ℕ, zero, suc, ◌+◌, ◌*◌, ◌<◌, ◌≤◌, Bool, true, Option, Some, [], ◌∷◌, ◌++◌, length, map, ℤ, pos, append_assoc, ap, sym, ◌∙◌, subst, inl, inr, arith}
 use Rattle.fr_bound.specs.Checks.{holds_of}
 use Rattle.fr_cluster.specs.Values.{Values}
 use Rattle.fr_cluster.specs.declared.names.ParamName.TheVariants as name
