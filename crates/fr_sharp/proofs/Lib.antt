@@ -1,7 +1,5 @@
-pub mod SaidLemmas
 pub mod Signed
 pub mod Walks
-pub mod Zips
 pub mod BoundLemmas
 pub mod Computed
 pub mod SteadyLemmas
@@ -23,7 +21,6 @@ pub mod SharpRows
 pub mod SharpWorked
 pub mod SharpSlow
 pub mod OlderWorked
-pub mod SharpLists
 pub mod RunFlutter
 pub mod FramesCounted
 pub mod RateRange

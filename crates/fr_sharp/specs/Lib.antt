@@ -8,7 +8,6 @@ pub mod Hearing
 pub mod Lengths
 pub mod Nearness
 pub mod ReachedRun
-pub mod Said
 pub mod SettlingHistories
 pub mod SharpBounds
 pub mod SharpChecks

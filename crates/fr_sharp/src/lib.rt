@@ -17,7 +17,6 @@ mod hearing;
 mod histories;
 mod lasting;
 mod lengths;
-mod midpoints;
 mod nearness;
 mod reached_run;
 mod runs_flutter;
@@ -46,7 +45,6 @@ pub use histories::{
 };
 pub use lasting::sharp_sync_lasts;
 pub use lengths::{lengths_come_near, ranges_walk};
-pub use midpoints::midpoints_agree;
 pub use nearness::nodes_lie_near;
 pub use reached_run::the_sharper_precision_is_reached;
 pub use runs_flutter::stated_delays_flutter;
