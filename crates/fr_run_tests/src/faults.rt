@@ -123,6 +123,33 @@ fn files_are_loaded_in_their_turn(rt: HostRuntime) -> Result<(), Fail> {
     Ok(())
 }
 
+const SHARP_BOUNDS: &str = "\
+flutter 1000000\n\
+alone lambda 13002198\n\
+alone pi 17002798\n\
+alone precision 45007594\n\
+beside lambda 26004396\n\
+beside pi 87014588\n\
+beside precision 141023780\n\
+C1 holds 3999201 1999800\n\
+C2 holds 80983800 80000000\n\
+alone C3 holds 253949200 32601612\n\
+alone C4 holds 1394154113400 158007060000\n\
+alone C5 holds 4592218372600 158007060000\n\
+beside C3 holds 253949200 115711816\n\
+beside C4 holds 1394154113400 573558080000\n\
+beside C5 holds 4592218372600 573558080000\n\
+lasts on\n\
+";
+
+const SHARP_WAYS: &str = "\
+start 190032800 rate 30005200 flutter 1000000\n\
+alone peak 252043600\n\
+alone settles 2\n\
+beside peak 252043600\n\
+beside settles 29\n\
+";
+
 // Words and files whose answer has several lines, the answer, and how many puts it has with one behind it.
 const WRITTEN: &[(&[&str], &[File], &str, usize)] = &[
     (BOUND, &[CLUSTER], BOUNDS, 10),
@@ -131,6 +158,18 @@ const WRITTEN: &[(&[&str], &[File], &str, usize)] = &[
         &[CLUSTER],
         "start 190032800 rate 30005200\npeak 252043600\nsettles 0\n",
         4,
+    ),
+    (
+        &["bound", "p", "sharp", "1000000"],
+        &[CLUSTER],
+        SHARP_BOUNDS,
+        17,
+    ),
+    (
+        &["settle", "p", "190032800", "30005200", "sharp", "1000000"],
+        &[CLUSTER],
+        SHARP_WAYS,
+        6,
     ),
     (RECORDED, &[Bytes("f", TWO)], TWO_LINES, 5),
     (RUN, FILES, LATER_REPORT, 12),
