@@ -1,6 +1,6 @@
 -- The long run of three perfect clocks: each node hears both others alike, so in each double cycle the rates of all are 8 microticks
 -- greater, until the limit cuts them.
-use Rattle.std.proofs.Common.{◌≡◌, ℕ, zero, suc, ◌*◌, ◌%◌, ◌<◌, ◌≤◌, ◌==◌, true, false, ℤ, pos, negsuc, Option, None, Some, List, [], ◌∷◌, All, length, refl, ap, ◌∙◌, lit≤, lit<, arith}
+use Rattle.std.proofs.Common.{◌≡◌, ℕ, zero, suc, ◌*◌, ◌%◌, ◌<◌, ◌≤◌, ◌==◌, true, false, ℤ, pos, negsuc, Option, None, Some, List, [], ◌∷◌, All, length, refl, ap, sym, ◌∙◌, lit≤, lit<, arith, ap₂, ◌++◌}
 use Rattle.std.specs.Prelude.{◌+ℤ◌, ◌-ℤ◌, ◌*ℤ◌, ◌≤ℤ◌, Contains, int_lt}
 use Rattle.std.proofs.lemmas.Int.{ints}
 use Rattle.std.proofs.lemmas.List.Elements.{All-contains}
@@ -8,7 +8,7 @@ use Rattle.fr_base.specs.Rows.{dev_in}
 use Rattle.fr_base.specs.declared.channel.Channel.TheVariants.{A, B}
 use Rattle.fr_base.specs.declared.dev.Dev.{Dev}
 use Rattle.fr_base.specs.declared.state.Outcome.TheVariants.{Exceeded, Within}
-use Rattle.fr_base.specs.declared.state.State.TheVariants.{Active}
+use Rattle.fr_base.specs.declared.state.State.TheVariants.{Active, Halt}
 use Rattle.fr_cluster.specs.Questions.{own_index}
 use Rattle.fr_cluster.specs.Setting.{IsSetting, Setting, correct_nodes}
 use Rattle.fr_cluster.specs.declared.nodes.NodeSpec.{NodeSpec}
@@ -23,7 +23,7 @@ use Rattle.fr_precision.specs.Round.{offsets_of, rates_of}
 use Rattle.fr_precision.specs.Rows.{corrected_end_of}
 use Rattle.fr_precision.specs.Step.{Member}
 use Rattle.fr_history.specs.Cycles.{Cycle, Cycles, told_of}
-use Rattle.fr_history.specs.History.{row_for}
+use Rattle.fr_history.specs.History.{row_for, row_of}
 use Rattle.fr_history.specs.Laws.{row_laws}
 use Rattle.fr_history.specs.Lawful.{IsLawful}
 use Rattle.fr_history.specs.Next.{cycles_of}
@@ -36,22 +36,33 @@ use Rattle.fr_runs.specs.Numbers.{rate_term_told}
 use Rattle.fr_runs.specs.Rounds.{IsDoubleOf}
 use Rattle.fr_runs.specs.Stated.{all_cycles}
 use Rattle.fr_runs.proofs.Going.{rows_ascend}
-use Rattle.fr_runs.proofs.Rows.{all_rows, has_row, row_runs_by}
+use Rattle.fr_runs.proofs.Rows.{all_rows, has_row, row_runs_by, each_row}
 use Rattle.fr_runs.proofs.RowsHeard.{RowLink}
 use Rattle.fr_runs.proofs.Whole.{prior_of}
-use Rattle.fr_sharp.specs.LongRun.{long_cluster, long_run, LongRunIsCut, LongRunWalks}
-use Rattle.fr_sharp.specs.SharpBounds.{last_action, sharp_near}
+use Rattle.fr_sharp.specs.LongRun.{long_cluster, long_run, LongRunIsCut, LongRunWalks, LongRunHalts, LongRunBegins}
+use Rattle.fr_sharp.specs.SharpBounds.{last_action, sharp_near, last_of, sharp_lambda, sharp_pi}
 use Rattle.fr_sharp.specs.SharpHistories.{IsSteadyRun}
 use Rattle.fr_sharp.specs.SharpRound.{as_member}
 use Rattle.fr_sharp.specs.SharpRun.{AllUncut}
 use Rattle.fr_sharp.specs.SteadyRuns.{row_members}
-use Rattle.fr_sharp.proofs.LongRows.{covered, early_at, even_long, from_none, from_some, is_sane, last_acts, late_at, late_start, odd_long, odd_rates, odd_starts, on_channel, reach, setting, there_1, there_2, there_3, whole_12, whole_2, AlikeAt}
+use Rattle.fr_sharp.proofs.LongRows.{covered, early_at, even_long, from_none, from_some, is_sane, last_acts, late_at, late_start, odd_long, odd_rates, odd_starts, on_channel, reach, setting, there_1, there_2, there_3, whole_12, whole_2, AlikeAt, other_checks}
 use Rattle.fr_sharp.proofs.RowsSupplied.{acts_early, counted_in, frames_stored, supplied_at, LawfulRows}
 use Rattle.fr_sharp.proofs.RunCycles.{stated_runs_are_steady}
 use Rattle.fr_sharp.proofs.RunDoubles.{goes_on}
 use Rattle.fr_sharp.proofs.RunSettles.{histories_begin_active}
-use Rattle.fr_sharp.proofs.RunSync.{rows_at}
+use Rattle.fr_sharp.proofs.RunSync.{found_at, rows_at}
 use Rattle.fr_sharp.proofs.SharpWorked.{three}
+use Rattle.fr_base.specs.declared.Outcome.{Outcome}
+use Rattle.fr_base.specs.declared.node_row.NodeRow.{NodeRow}
+use Rattle.fr_poc.specs.Control.{Status, control_of, first_status, status_after, step_of}
+use Rattle.fr_poc.specs.Limits.{limits_of}
+use Rattle.fr_history.specs.Terms.{offset_term_in, outcomes_in, rate_term_in, status_in}
+use Rattle.fr_runs.proofs.Courses.{row_term_is}
+use Rattle.fr_runs.proofs.Outcomes.{outcomes_some}
+use Rattle.std.proofs.lemmas.List.{length-append}
+use Rattle.std.proofs.lemmas.List.Sums.{fold-append}
+use Rattle.fr_sharp.specs.SettlingHistories.{AreStatedNear}
+use Rattle.fr_sharp.proofs.RunStated.{stated_runs_begin_in_sharp_sync}
 
 -- ---- what a node hears of another: 5 microticks early in the even cycle and as much late in the odd one
 
@@ -104,6 +115,35 @@ uncut_term : (double : ℕ) → 8 * double ≤ 601 → ((term_of (pos 601) (pos 
 uncut_term double most =
     let below : int_lt (pos 601) (pos (8 * double)) ≡ false = grind (arith, ints) in
     (Prim.rw (below) refl, Prim.rw (below) refl)
+
+-- an active node whose rate term was cut halts
+halts_by : (status : Status) → status.state ≡ Active → (step_of (limits_of long_cluster) status Within Exceeded).state ≡ Halt
+halts_by status active = ap (λ s. (status_after (limits_of long_cluster) status s Exceeded).state) active
+
+halts_after : (earlier : Cycles) (even odd : Cycle) (double node : ℕ) (row : NodeRow) → length earlier ≡ 2 * double → row_of odd.told.rows node ≡ Some row
+    → (status_in long_cluster (told_of earlier) node).state ≡ Active
+    → (offset_term_in long_cluster (told_of (even ∷ earlier)) odd.told.devs row.node).outcome ≡ Within
+    → (rate_term_in long_cluster (told_of (even ∷ earlier)) odd.told.devs row).outcome ≡ Exceeded
+    → (status_in long_cluster (told_of (odd ∷ even ∷ earlier)) node).state ≡ Halt
+halts_after earlier even odd double node row counted some active offset rate =
+    let limits = limits_of long_cluster in
+    let before = outcomes_in long_cluster (told_of earlier) node in
+    let step : Status → Outcome × Outcome → Status = λ status pair. step_of limits status pair.0 pair.1 in
+    let pair : Outcome × Outcome =
+    ((offset_term_in long_cluster (told_of (even ∷ earlier)) odd.told.devs row.node).outcome, (rate_term_in long_cluster (told_of (even ∷ earlier)) odd.told.devs row).outcome) in
+    let both : pair ≡ (Within, Exceeded) = ap₂ (λ (a : Outcome) (b : Outcome). (a, b)) offset rate in
+    ap (λ outcomes. (control_of limits outcomes).state) (outcomes_some long_run earlier even odd double node row counted some)
+    ∙ ap (λ (status : Status). status.state) (fold-append step first_status before (pair ∷ []))
+    ∙ ap (λ pair. (step (status_in long_cluster (told_of earlier) node) pair).state) both
+    ∙ halts_by (status_in long_cluster (told_of earlier) node) active
+
+-- cycles that are no more than those that they end with
+ends_with : (h later rest : Cycles) → h ≡ later ++ rest → length h ≡ length rest → h ≡ rest
+ends_with h [] rest is long = is
+ends_with h (c ∷ later) rest is long =
+    let more = length-append later rest in
+    let whole : length h ≡ suc (length (later ++ rest)) = ap length is in
+    absurd (omega (arith, more, whole, long))
 
 module _ (double : ℕ) (start : ℤ) (earlier : Cycles) (even odd : Cycle) (s : LawfulRows long_run 10_000_000 earlier even odd double) (a : AlikeAt double start earlier even odd) (most : 8 * double ≤ 601) where
   abbrev near : ℤ
@@ -246,12 +286,50 @@ module _ (h : Cycles) (w : IsSteadyRun false long_run 10_000_000 h) where
       ap (λ (id : ℕ). (rate_term_of (row_for odd.told.rows node.id).rate (pos 2) (pos 601) (rate_values_by long_cluster even.told.devs odd.told.devs id (own_index long_cluster node.id))).outcome) number
       ∙ ap (λ (t : Term). t.outcome) (rate_term_is 75 at.0 earlier even odd s at.1 (lit≤ tt) node among)
 
+  halts_at : (earlier : Cycles) (even odd : Cycle) → IsDoubleOf h 75 earlier even odd → (node : NodeSpec) → Contains (correct_nodes long_run) node
+      → (status_in long_cluster (told_of h) node.id).state ≡ Halt
+  halts_at earlier even odd d node among =
+      let at = alike 75 (lit< tt) earlier even odd d in
+      let s = rows_at false long_run 10_000_000 h w 75 earlier even odd d in
+      let even_has = row_runs_by (row_laws long_run earlier) (offset_after long_cluster (told_of earlier) even.told) (row_nodes long_run earlier) even.told.rows node s.two.even_rows among in
+      let odd_has = has_row (row_nodes long_run earlier) odd.told.rows node s.two.odd_rows.nodes among in
+      let number = odd_has.number in
+      let active : (status_in long_cluster (told_of earlier) node.id).state ≡ Active =
+      sym even_has.state ∙ each_row (row_nodes long_run earlier) even.told.rows (λ row. row.state ≡ Active) node s.two.even_rows.nodes among at.1.active_even in
+      let offset =
+      ap (λ (n : ℕ). (offset_term_in long_cluster (told_of (even ∷ earlier)) odd.told.devs n).outcome) number
+      ∙ ap (λ (t : Term). t.outcome) (offset_term_is 75 at.0 earlier even odd s at.1 (lit≤ tt) node among) in
+      let rate =
+      ap (λ (t : Term). t.outcome) (row_term_is long_run earlier even odd node.id number)
+      ∙ ap (λ (t : Term). t.outcome) (rate_term_is 75 at.0 earlier even odd s at.1 (lit≤ tt) node among) in
+      let counted = d.counted in
+      let whole = w.whole in
+      let all : h ≡ odd ∷ even ∷ earlier = ends_with h d.later (odd ∷ even ∷ earlier) d.parted (omega (arith, counted, whole)) in
+      ap (λ (c : Cycles). (status_in long_cluster (told_of c) node.id).state) all
+      ∙ halts_after earlier even odd 75 node.id (row_for odd.told.rows node.id) s.counted odd_has.is active offset rate
+
+stated_near : AreStatedNear long_run (sharp_pi false long_cluster 10_000_000) (sharp_lambda false long_cluster 10_000_000)
+stated_near = record {
+  starts = λ one other here there. record { low = record { le = tt }; high = record { le = tt } };
+  lengths = λ one other here there. record { low = record { le = tt }; high = record { le = tt } };
+  about = λ some there. record { low = record { le = tt }; high = record { le = tt } };
+}
+
 module _ (lawful : (x : Setting) (n : ℕ) → IsSetting x → IsLawful x (cycles_of x n)) (long : (x : Setting) (n : ℕ) → length (cycles_of x n) ≡ n) where
   steady : IsSteadyRun false long_run 10_000_000 (all_cycles long_run)
   steady = stated_runs_are_steady lawful long false long_run 10_000_000 setting covered refl refl
+
+  pub long_run_begins : LongRunBegins
+  unfolding last_of
+  long_run_begins = (refl, other_checks, refl, steady, stated_runs_begin_in_sharp_sync false long_run 10_000_000 (all_cycles long_run) steady stated_near (lit≤ tt))
 
   pub long_run_walks : LongRunWalks
   long_run_walks double earlier even odd within d = walks (all_cycles long_run) steady double earlier even odd within d
 
   pub long_run_is_cut : LongRunIsCut
   long_run_is_cut earlier even odd node d among = is_cut (all_cycles long_run) steady earlier even odd node d among
+
+  pub long_run_halts : LongRunHalts
+  long_run_halts node among =
+      let d = found_at false long_run 10_000_000 (all_cycles long_run) steady 75 (lit< tt) in
+      halts_at (all_cycles long_run) steady d.earlier d.even d.odd d.is node among
