@@ -1,5 +1,5 @@
--- The long run of three perfect clocks: each node hears both others alike, so in each double cycle the rates of all are 8 microticks
--- greater, until the limit cuts them.
+-- The long run of three perfect clocks: each node hears both others alike, so in each double cycle the rates of all are 8
+-- microticks greater, until the limit cuts them.
 use Rattle.std.proofs.Common.{◌≡◌, ℕ, zero, suc, ◌*◌, ◌%◌, ◌<◌, ◌≤◌, ◌==◌, true, false, ℤ, pos, negsuc, Option, None, Some, List, [], ◌∷◌, All, length, refl, ap, sym, ◌∙◌, lit≤, lit<, arith, ap₂, ◌++◌}
 use Rattle.std.specs.Prelude.{◌+ℤ◌, ◌-ℤ◌, ◌*ℤ◌, ◌≤ℤ◌, Contains, int_lt}
 use Rattle.std.proofs.lemmas.Int.{ints}

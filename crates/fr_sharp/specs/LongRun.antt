@@ -22,8 +22,8 @@ long_cluster = let halting : Values = halting_cluster in record halting { rate_l
 abbrev pub long_run : Setting
 long_run = let halting : Setting = halting_run in record halting { params = long_cluster; doubles = 76 }
 
--- the first of the sharper checks fails, the others hold, the walk is known to last for 62 double cycles, and it is in sharp sync in the
--- first one
+-- the first of the sharper checks fails, the others hold, the walk is known to last for 62 double cycles, and it is in sharp
+-- sync in the first one
 abbrev pub LongRunBegins : Type 0
 LongRunBegins =
     (sharp_holds_of 1 10_000_000 (sharp_near false long_cluster 10_000_000) long_cluster ≡ false)
