@@ -35,6 +35,8 @@ pub mod RunWorked
 pub mod RunReached
 pub mod RunHalting
 pub mod RunDriven
+pub mod LongRows
+pub mod LongWalk
 pub mod FarNumbers
 pub mod RunFar
 pub mod RunFarOlder

@@ -288,7 +288,7 @@ module _ (x : Setting) (flutter : ℕ) (h : Cycles) (even odd : Cycle) (double :
     other = link.other;
   }
 
-  acts_early : (sender : NodeSpec) (slot : ℕ) → Contains (row_nodes x h) sender → sender.key ≡ Some slot → pos (action_point_of x.params slot) ≤ℤ pos (last_action x.params)
+  pub acts_early : (sender : NodeSpec) (slot : ℕ) → Contains (row_nodes x h) sender → sender.key ≡ Some slot → pos (action_point_of x.params slot) ≤ℤ pos (last_action x.params)
   acts_early sender slot among key =
       let correct = correct_node x sender (is_correct_row x h sender among) in
       no_more (action_point_of x.params slot) (last_action x.params) ((key_slots_act_early x.params sane).0 slot (key_among x.params.nodes sender slot correct.there key))
@@ -330,7 +330,7 @@ module _ (x : Setting) (flutter : ℕ) (h : Cycles) (even odd : Cycle) (double :
   exchanged_by is_odd sender receiver slot link = record { sends = link.sends; hears = link.hears; key = link.key; other = link.other }
 
   -- regular frames are stored
-  frames_stored : (is_odd : Bool) (sender receiver : NodeSpec) (slot : ℕ) (channel : Channel) → RowLink x h sender receiver slot → Share sender receiver channel
+  pub frames_stored : (is_odd : Bool) (sender receiver : NodeSpec) (slot : ℕ) (channel : Channel) → RowLink x h sender receiver slot → Share sender receiver channel
       → x.event (cycle_in is_odd double) sender.id receiver.id channel ≡ Regular → IsSome (dev_in (cycle_of is_odd even odd).told.devs receiver.id slot channel)
   frames_stored is_odd sender receiver slot channel link share regular =
       let counted = (cycle_is is_odd).counted in
@@ -353,7 +353,7 @@ module _ (x : Setting) (flutter : ℕ) (h : Cycles) (even odd : Cycle) (double :
   placed_by true sender receiver slot channel value link is = placed_in true sender receiver slot channel value link is
 
   -- and it is counted from the arrival of the frame
-  counted_in : (is_odd : Bool) (sender receiver : NodeSpec) (slot : ℕ) (channel : Channel) (value : ℤ) → RowLink x h sender receiver slot
+  pub counted_in : (is_odd : Bool) (sender receiver : NodeSpec) (slot : ℕ) (channel : Channel) (value : ℤ) → RowLink x h sender receiver slot
       → dev_in (cycle_of is_odd even odd).told.devs receiver.id slot channel ≡ Some value → IsCounted x (link_in (rows_exchange is_odd) sender receiver slot) is_odd channel value
   counted_in is_odd sender receiver slot channel value link is =
       recorded_is_counted x (rows_exchange is_odd) is_odd reach sender receiver slot channel value (near_exchange is_odd) (exchanged_by is_odd sender receiver slot link) is
@@ -399,7 +399,7 @@ module _ (x : Setting) (flutter : ℕ) (h : Cycles) (even odd : Cycle) (double :
           none_there (row_of odd.told.rows sender.id) (told_has x (even ∷ h) odd sender s.odd_runs correct ∙ has_stays x h even double sender s.counted s.even_runs correct ∙ fails)
 
   -- a deviation by key index is that of the key slot
-  looked_up : (node index slot : ℕ) (is_odd : Bool) (channel : Channel) → key_slot_of x.params index ≡ Some slot
+  pub looked_up : (node index slot : ℕ) (is_odd : Bool) (channel : Channel) → key_slot_of x.params index ≡ Some slot
       → (row_hearer x even odd node).look index is_odd channel ≡ dev_in (cycle_of is_odd even odd).told.devs node slot channel
   looked_up node index slot false channel slot_is = looked x (row_receivers x h even odd) node index slot false channel slot_is
   looked_up node index slot true channel slot_is = looked x (row_receivers x h even odd) node index slot true channel slot_is

@@ -227,7 +227,7 @@ module _ (x : Setting) (flutter : ℕ) (h : Cycles) (even odd : Cycle) (double :
         stay : (node : NodeSpec) → Contains (row_nodes x h) node → Contains (row_nodes x (odd ∷ even ∷ h)) node
         stay node among = all_among x (odd ∷ even ∷ h) node none (is_correct_row x h node among)
 
-        goes_on : (node : NodeSpec) → Contains (row_nodes x h) node
+        pub goes_on : (node : NodeSpec) → Contains (row_nodes x h) node
             → IsFollowed x.params (as_member x.params (row_hearer x even odd node.id)) (row_for even2.told.rows node.id) (row_for odd2.told.rows node.id)
         goes_on node among =
             let p : Values = x.params in

@@ -1,5 +1,5 @@
 -- The run whose clocks begin together and are driven apart: what is stated of it, and its skew, computed from the definitions.
-use Rattle.std.proofs.Common.{◌≡◌, ◌≢◌, ℕ, zero, suc, ◌+◌, ◌*◌, ◌%◌, ◌<◌, ◌≤◌, ◌==◌, Bool, true, false, ℤ, pos, List, [], ◌∷◌, All, Some, length, refl, inl, lit≤, lit<, rules, arith, if◌then◌else◌}
+use Rattle.std.proofs.Common.{◌≡◌, ◌≢◌, ℕ, zero, suc, ◌*◌, ◌%◌, ◌<◌, ◌≤◌, ◌==◌, Bool, true, false, ℤ, pos, [], ◌∷◌, Some, length, refl, inl, lit≤, lit<, rules, arith, if◌then◌else◌}
 use Rattle.std.specs.Prelude.{◌+ℤ◌, ◌-ℤ◌, ◌*ℤ◌, ◌≤ℤ◌, AllPairs, Contains}
 use Rattle.std.proofs.lemmas.Int.{ints}
 use Rattle.std.proofs.lemmas.List.Elements.{All-cons, All-contains, All-nil}
@@ -27,7 +27,6 @@ use Rattle.fr_history.proofs.Computing.{on_cycles, on_told}
 use Rattle.fr_runs.specs.Stated.{all_cycles}
 use Rattle.fr_runs.proofs.Nodes.{correct_node}
 use Rattle.fr_sharp.specs.DrivenRun.{delay_to_1, delay_to_3, delay_to_4, driven_cluster, driven_delay, driven_micro, driven_rate, driven_run, driven_start, DrivenRunBegins, DrivenRunReaches}
-use Rattle.fr_sharp.specs.Flutter.{FluttersWithin}
 use Rattle.fr_sharp.specs.Lengths.{IsAboutCycle}
 use Rattle.fr_sharp.specs.SettlingHistories.{AreStatedNear}
 use Rattle.fr_sharp.specs.SharpBounds.{last_of, sharp_lambda, sharp_near, sharp_pi}

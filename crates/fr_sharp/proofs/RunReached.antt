@@ -1,4 +1,5 @@
--- The runs that reach nearly all of the sharper precision: what is stated of them, and their skew, computed from the definitions.
+-- The runs that reach nearly all of the sharper precision: what is stated of them, and their skew, computed from the
+-- definitions.
 use Rattle.std.proofs.Common.{◌≡◌, ℕ, suc, ◌*◌, ◌==◌, Bool, true, false, ◌&&◌, ℤ, pos, length, refl, lit≤}
 use Rattle.std.specs.Prelude.{◌-ℤ◌, ◌*ℤ◌, ◌≤ℤ◌, ◌+ℤ◌}
 use Rattle.fr_base.specs.Within.{IsWithin}

@@ -1,4 +1,5 @@
--- A run whose clocks begin together, and are driven apart: in its fourth double cycle it reaches nearly all of the sharper precision.
+-- A run whose clocks begin together, and are driven apart: in its fourth double cycle it reaches nearly all of the sharper
+-- precision.
 use Rattle.std.specs.Prelude.{◌≡◌, ◌≤◌, ◌%◌, ◌*◌, ◌==◌, ◌-ℤ◌, ℕ, ℤ, pos, neg_ℤ, Bool, true, false, [], ◌∷◌, if◌then◌else◌, Contains, None}
 use Rattle.fr_base.specs.Event.Event.{Regular}
 use Rattle.fr_base.specs.Within.{IsWithin}
@@ -13,8 +14,8 @@ use Rattle.fr_sharp.specs.SharpBounds.{sharp_near, sharp_precision}
 use Rattle.fr_sharp.specs.SharpChecks.{sharp_holds_of}
 use Rattle.fr_sharp.specs.SharpHistories.{IsInSharpSyncAt, IsSteadyRun}
 
--- a cluster of four nodes on channel A with key slots 1 to 4: a cycle of 5 ms at a microtick of 25 ns, damping 4, oscillators within
--- 200 ppm, and delays of 12.5 to 37.5 ns
+-- a cluster of four nodes on channel A with key slots 1 to 4: a cycle of 5 ms at a microtick of 25 ns, damping 4, oscillators
+-- within 200 ppm, and delays of 12.5 to 37.5 ns
 abbrev pub driven_cluster : Values
 driven_cluster = record {
   macros = pos 5_000;
@@ -41,7 +42,8 @@ driven_cluster = record {
   slots = [];
 }
 
--- of nodes 1, 2 and 3, and of the others: the start, the first rate, and the length of a microtick; node 3 is slow, and node 4 fast
+-- of nodes 1, 2 and 3, and of the others: the start, the first rate, and the length of a microtick; node 3 is slow, and node 4
+-- fast
 abbrev pub driven_start : Bool → Bool → Bool → ℤ
 driven_start true second third = pos 70_079
 driven_start false true third = pos 0
@@ -60,8 +62,8 @@ driven_micro false true third = pos 1_000_002
 driven_micro false false true = pos 1_000_140
 driven_micro false false false = pos 999_854
 
--- the delay at node 1, 3 or 4 in an even cycle or in an odd one: to node 3 nearly all comes early in even cycles and late in odd ones, and
--- to node 4 the other way round
+-- the delay at node 1, 3 or 4 in an even cycle or in an odd one: to node 3 nearly all comes early in even cycles and late in
+-- odd ones, and to node 4 the other way round
 abbrev pub delay_to_1 : ℕ → Bool → ℤ
 delay_to_1 sender even =
     if sender == 2 then (if even then pos 1_000_000 else pos 955_539)
@@ -95,8 +97,8 @@ driven_run = record {
   join = λ _. None;
 }
 
--- its starts lie within a microtick and a half, its delays flutter by a microtick, all five checks hold, and it is in sharp sync from the
--- first double cycle on
+-- its starts lie within a microtick and a half, its delays flutter by a microtick, all five checks hold, and it is in sharp
+-- sync from the first double cycle on
 pub record DrivenRunBegins : Type 0 where
   pub together :
       (one other : NodeSpec) → Contains (correct_nodes driven_run) one → Contains (correct_nodes driven_run) other

@@ -1,5 +1,5 @@
--- Of any cluster a run that reaches nearly all of the sharper precision in its first double cycle: one node begins first and is fast, and
--- all others begin later and are slow.
+-- Of any cluster a run that reaches nearly all of the sharper precision in its first double cycle: one node begins first and is
+-- fast, and all others begin later and are slow.
 use Rattle.std.specs.Prelude.{◌≡◌, ◌≢◌, ◌==◌, ◌+◌, ◌*◌, ◌≤◌, ◌≤ℤ◌, ◌+ℤ◌, ◌-ℤ◌, ◌*ℤ◌, ℕ, ℤ, pos, Bool, ◌&&◌, if◌then◌else◌, Contains, None}
 use Rattle.fr_base.specs.Event.Event.{Regular}
 use Rattle.fr_base.specs.declared.channel.Channel.{Channel}
@@ -25,8 +25,8 @@ use Rattle.fr_sharp.specs.SharpHistories.{IsInSharpSyncAt, IsSteadyRun}
 use Rattle.fr_sharp.specs.SteadyRuns.{MayHaveArbitrary}
 use Rattle.fr_sharp.specs.WorkedRun.{steady_cluster, OfBytes, Said}
 
--- the cluster, which nodes are arbitrary, and what these say; the node that begins first; by how many ticks all others begin later;
--- and the microticks of that node and of the others, in ticks
+-- the cluster, which nodes are arbitrary, and what these say; the node that begins first; by how many ticks all others begin
+-- later; and the microticks of that node and of the others, in ticks
 pub record Far : Type 0 where
   pub params : Values
   pub is_arbitrary : ℕ → Bool
@@ -52,8 +52,8 @@ far_apart_run f = record {
   join = λ _. None;
 }
 
--- it is such a run: any two nodes share a channel, few nodes are arbitrary, the microticks keep within their bound, the starts lie no
--- further apart than so many ticks, and the lengths of the first cycles neither
+-- it is such a run: any two nodes share a channel, few nodes are arbitrary, the microticks keep within their bound, the starts
+-- lie no further apart than so many ticks, and the lengths of the first cycles neither
 pub record IsFar (f : Far) (starts lengths : ℕ) : Type 0 where
   pub sane : IsSane f.params
   pub bytes : OfBytes f.said
@@ -100,15 +100,17 @@ FarRunsReachSharply =
     → IsSteadyRun beside (far_apart_run f) 0 (all_cycles (far_apart_run f))
     × IsInSharpSyncAt beside f.params 0 (pos 0) (all_cycles (far_apart_run f)) 0 × ReachesFar f
 
--- with starts and lengths as sync takes them, and where the checks hold, it is a covered run, and in sync in its first double cycle
+-- with starts and lengths as sync takes them, and where the checks hold, it is a covered run, and in sync in its first double
+-- cycle
 abbrev pub FarRunsReach : Type 0
 FarRunsReach =
     (f : Far) → IsFar f (pi_of f.params) (lambda_of f.params) → AllChecksHold f.params → HasTwo f
     → IsCoveredRun (far_apart_run f) × RowsAreInSyncAt f.params (all_cycles (far_apart_run f)) 0 × ReachesFar f
 
--- where the others begin as late as that, and their microticks are as much longer as lengths allow, the skew is the starts and twice
--- the lengths, which is a precision but for two microticks and what cycles change, but for the share of the lengths behind the
--- start of the offset correction, two ticks for each microtick of a cycle, and that one difference; times the macroticks of a cycle
+-- where the others begin as late as that, and their microticks are as much longer as lengths allow, the skew is the starts and
+-- twice the lengths, which is a precision but for two microticks and what cycles change, but for the share of the lengths
+-- behind the start of the offset correction, two ticks for each microtick of a cycle, and that one difference; times the
+-- macroticks of a cycle
 abbrev pub FarSkewsAreNear : Type 0
 FarSkewsAreNear =
     (f : Far) (lengths more : ℕ)

@@ -1,5 +1,5 @@
--- A run of three perfect clocks that all halt: each frame takes the least delay in even cycles and the greatest in odd ones, the first
--- of the sharper checks fails, and the common rate walks to its limit.
+-- A run of three perfect clocks that all halt: each frame takes the least delay in even cycles and the greatest in odd ones,
+-- the first of the sharper checks fails, and the common rate walks to its limit.
 use Rattle.std.specs.Prelude.{◌≡◌, ◌%◌, ◌*◌, ◌==◌, ℕ, zero, suc, pos, ℤ, Bool, false, List, [], ◌∷◌, map, replicate, All, Some, None}
 use Rattle.fr_base.specs.Event.Event.{Regular}
 use Rattle.fr_base.specs.declared.state.State.TheVariants.{Halt}
@@ -34,8 +34,8 @@ halting_run = record {
   join = λ _. None;
 }
 
--- its delays flutter by 10,000,000 ticks: the other checks hold, the walk is known to last for four double cycles, and it is in sharp
--- sync in the first one
+-- its delays flutter by 10,000,000 ticks: the other checks hold, the walk is known to last for four double cycles, and it is in
+-- sharp sync in the first one
 abbrev pub HaltingRunBegins : Type 0
 HaltingRunBegins =
     (sharp_holds_of 1 10_000_000 (sharp_near false halting_cluster 10_000_000) halting_cluster ≡ false)

@@ -6,6 +6,7 @@ pub mod Flutter
 pub mod HaltingRun
 pub mod Hearing
 pub mod Lengths
+pub mod LongRun
 pub mod Nearness
 pub mod ReachedRun
 pub mod SettlingHistories

@@ -36,8 +36,8 @@ far_micro false false = pos 1_000_000
 far_micro true true = pos 999_900
 far_micro true false = pos 999_975
 
--- one double cycle of the steady cluster, without an arbitrary node and beside node 4 as one, with the nominal delay of each frame:
--- node 1 begins first and is fast, and the others begin last and are slow
+-- one double cycle of the steady cluster, without an arbitrary node and beside node 4 as one, with the nominal delay of each
+-- frame: node 1 begins first and is fast, and the others begin last and are slow
 abbrev pub reaching_run : Said → Bool → Setting
 reaching_run said beside = record {
   params = steady_cluster;
@@ -53,7 +53,8 @@ reaching_run said beside = record {
   join = λ _. None;
 }
 
--- at the macrotick at which the offset correction starts it reaches 96 hundredths alone, and 98 beside node 4, whatever that says
+-- at the macrotick at which the offset correction starts it reaches 96 hundredths alone, and 98 beside node 4, whatever that
+-- says
 abbrev pub ReachesAlone : Type 0
 ReachesAlone = (said : Said) → OfBytes said → ReachesSharply false (reaching_run said false) 3536 34_783_678 96
 

@@ -17,6 +17,7 @@ mod hearing;
 mod histories;
 mod lasting;
 mod lengths;
+mod long_run;
 mod nearness;
 mod reached_run;
 mod runs_flutter;
@@ -45,6 +46,7 @@ pub use histories::{
 };
 pub use lasting::sharp_sync_lasts;
 pub use lengths::{lengths_come_near, ranges_walk};
+pub use long_run::a_long_walk;
 pub use nearness::nodes_lie_near;
 pub use reached_run::the_sharper_precision_is_reached;
 pub use runs_flutter::stated_delays_flutter;

@@ -1,4 +1,5 @@
--- A run whose clocks begin as far apart as sync takes them, and with lengths as far apart too: it reaches nearly all of the precision.
+-- A run whose clocks begin as far apart as sync takes them, and with lengths as far apart too: it reaches nearly all of the
+-- precision.
 use Rattle.std.specs.Prelude.{◌==◌, neg_ℤ, pos, [], ◌∷◌, None, false, if◌then◌else◌}
 use Rattle.fr_base.specs.Event.Event.{Regular}
 use Rattle.fr_cluster.specs.Setting.{Setting}
