@@ -3,7 +3,6 @@
 use Rattle.std.proofs.Common.{◌≡◌, ℕ, zero, suc, ◌+◌, ◌*◌, ◌<◌, ◌≤◌, Bool, true, Option, Some, [], ◌∷◌, ◌++◌, length, map, ℤ, pos, append_assoc, ap, sym, ◌∙◌, subst, inl, inr, arith}
 use Rattle.fr_bound.specs.Checks.{holds_of}
 use Rattle.fr_cluster.specs.Values.{Values}
-use Rattle.fr_cluster.specs.declared.names.ParamName.TheVariants as name
 use Rattle.fr_coverage.specs.declared.gap.Gap.TheVariants as gap
 use Rattle.fr_history.specs.History.{History, Record, record_at}
 use Rattle.fr_precision.specs.Offsets.{LimitSuffices}
