@@ -43,4 +43,5 @@ pub mod TraceStep
 pub mod TraceSync
 pub mod TraceCycles
 pub mod TraceSettles
+pub mod TraceSpreads
 pub mod TraceWorked

@@ -47,6 +47,6 @@ pub use steady::{pairs_are_steady, steady_values_place};
 pub use steady_runs::runs_hear_steadily;
 pub use step::{sharp_spreads_shrink, sharp_sync_is_kept};
 pub use tested::{one_first_sharp_sync, sharp_sync_is_tested};
-pub use traces::{a_steady_trace, traces_keep_sharp_sync};
+pub use traces::{a_steady_trace, traces_keep_sharp_sync, traces_settle_sharply};
 pub use way::{SharpWay, sharp_settle};
 pub use worked_run::{a_steady_run, files_that_flutter};
