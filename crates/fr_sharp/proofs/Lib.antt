@@ -40,8 +40,8 @@ pub mod FreeLemmas
 pub mod FilesWorked
 pub mod TraceRows
 pub mod TraceStep
+pub mod TraceSpreads
 pub mod TraceSync
 pub mod TraceCycles
 pub mod TraceSettles
-pub mod TraceSpreads
 pub mod TraceWorked
