@@ -240,7 +240,7 @@ settled_further beside p flutter start rate rest (suc more) settled =
     subst (λ (n : ℕ). IsSharplySettled beside p flutter (sharp_spread_after beside p flutter start rate n)) next
     (settled_stays beside p flutter (sharp_spread_after beside p flutter start rate (rest + more)) (settled_further beside p flutter start rate rest more settled))
 
-settled_after : (beside : Bool) (p : Values) (flutter start rate rest k : ℕ) → IsSharplySettled beside p flutter (sharp_spread_after beside p flutter start rate rest) → rest ≤ k
+pub settled_after : (beside : Bool) (p : Values) (flutter start rate rest k : ℕ) → IsSharplySettled beside p flutter (sharp_spread_after beside p flutter start rate rest) → rest ≤ k
     → IsSharplySettled beside p flutter (sharp_spread_after beside p flutter start rate k)
 settled_after beside p flutter start rate rest k settled le =
     let same : rest + (k - rest) ≡ k = omega (arith, le) in

@@ -47,6 +47,7 @@ pub mod FreeLemmas
 pub mod FilesWorked
 pub mod TraceRows
 pub mod TraceStep
+pub mod TraceSpreads
 pub mod TraceSync
 pub mod TraceCycles
 pub mod TraceSettles

@@ -301,7 +301,7 @@ sharp_sync_draws true p flutter = (step (sharp_pi true p flutter) (sharp_lambda 
     step : (pi l j e q : ℕ) → pi ≡ 3 * l + 4 * j + 4 * e + 7 * q → pi + l + 2 * (l + 2 * j) + 4 * e + 7 * q ≤ 2 * pi + 1
     step pi l j e q is = omega arith
 
-pub ends_fit : (beside : Bool) (p : Values) (flutter : ℕ) → sharp_pi beside p flutter + longest_micro p ≤ sharp_precision beside p flutter
+ends_fit : (beside : Bool) (p : Values) (flutter : ℕ) → sharp_pi beside p flutter + longest_micro p ≤ sharp_precision beside p flutter
 ends_fit beside p flutter = step (sharp_pi beside p flutter) (sharp_lambda beside p flutter) (odd_spread p (sharp_lambda beside p flutter)) (longest_micro p)
   where
     step : (pi l o q : ℕ) → pi + q ≤ pi + l + o + 2 * q

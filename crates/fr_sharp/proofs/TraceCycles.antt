@@ -64,7 +64,7 @@ module _ (beside : Bool) (p : Values) (t : TraceView) (double : ℕ) (s : IsStea
   active_in =
       each_record t.doubles t.history double Active_in s.trace.whole
       (λ k part after within.
-      let is = at_double beside p t double s checks k (pos 0) part.earlier part.even part.odd (of_part t k part) (synced_at k after within) in
+      let is = at_double beside p t k (pos 0) part.earlier part.even part.odd (of_part t k part) (synced_at k after within) in
       (is.active_even, is.active_odd))
 
   ends_in : (k : ℕ) (later h : History) (even odd : Record) → double ≤ k → t.history ≡ later ++ odd ∷ even ∷ h → length h ≡ 2 * k → RecordsEndWell p h even odd

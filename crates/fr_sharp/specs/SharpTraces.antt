@@ -27,9 +27,9 @@ use Rattle.fr_verdict.specs.declared.unlawful.Verdict.{Verdict}
 use Rattle.fr_sharp.specs.Lengths.{walked_after}
 use Rattle.fr_sharp.specs.SharpBounds.{sharp_near, sharp_precision}
 use Rattle.fr_sharp.specs.SharpChecks.{sharp_holds_of}
-use Rattle.fr_sharp.specs.SharpRun.{WalkLastsAfter, WalkLastsUpTo}
-use Rattle.fr_sharp.specs.SharpSettling.{sharp_spread_after, IsSharplySettled}
-use Rattle.fr_sharp.specs.SharpStep.{IsInSharpSync}
+use Rattle.fr_sharp.specs.SharpRun.{lengths_from, starts_from, WalkLastsAfter, WalkLastsUpTo}
+use Rattle.fr_sharp.specs.SharpSettling.{sharp_spread_after, sharply_apart_in, sharply_near_in, IsSharplySettled}
+use Rattle.fr_sharp.specs.SharpStep.{AreSharp, IsInSharpSync}
 
 -- the flutter of recorded deviations, in ticks: both errors of an arrival
 abbrev pub recorded_flutter : Values → ℕ
@@ -149,3 +149,46 @@ PassingTracesComeSharp =
     → IsVerdict p t v → v.synced ≡ Some double
     → IsSharplySettled beside p (recorded_flutter p) (sharp_spread_after beside p (recorded_flutter p) (pi_of p) (lambda_of p) rest)
     → double + rest < t.doubles → KeepsSharpClocks beside p t (double + rest)
+
+-- ---- from stated numbers
+
+-- recorded rows lie so near in a double cycle, both of whose records are there: all nodes are active in it, and starts and even
+-- lengths lie within these numbers, the lengths at most so far beyond their range, in ticks
+pub record IsRecordedNear (p : Values) (starts lengths : ℕ) (beyond : ℤ) (h : History) (double : ℕ) : Type 0 where
+  pub even : Record
+  pub odd : Record
+  pub has_even : record_at h (even_cycle double) ≡ Some even
+  pub has_odd : record_at h (odd_cycle double) ≡ Some odd
+  pub active_even : All (λ row. row.state ≡ Active) even.rows
+  pub active_odd : All (λ row. row.state ≡ Active) odd.rows
+  pub near : AreSharp p starts lengths beyond even.rows
+
+-- the second and the third check hold, with a reach for the whole way from these numbers, in ticks
+pub record TracedWayHolds (beside : Bool) (p : Values) (start rate reach : ℕ) : Type 0 where
+  pub second : sharp_holds_of 2 (recorded_flutter p) reach p ≡ true
+  pub third : sharp_holds_of 3 (recorded_flutter p) reach p ≡ true
+  pub fits : (k : ℕ) → sharply_near_in p (sharp_spread_after beside p (recorded_flutter p) start rate k) ≤ reach
+
+-- so many double cycles after one a trace keeps to the spreads, behind the last in which the walk lasts too, and when they have
+-- come to rest it is in sharp sync
+pub record SettlesRecorded (beside : Bool) (p : Values) (t : TraceView) (start rate double passed : ℕ) : Type 0 where
+  pub near :
+      WalkLastsUpTo p (recorded_flutter p) passed
+      → IsRecordedNear p (starts_from beside p (recorded_flutter p) start rate passed) (lengths_from beside p (recorded_flutter p) start rate passed)
+      (walked_after p (recorded_flutter p) passed)
+      t.history (double + passed)
+  pub keeps :
+      WalkLastsAfter p (recorded_flutter p) passed
+      → RecordsKeepApart p t (double + passed) (sharply_apart_in p (sharp_spread_after beside p (recorded_flutter p) start rate passed))
+  pub reached :
+      (rest : ℕ) → rest ≤ passed
+      → IsSharplySettled beside p (recorded_flutter p) (sharp_spread_after beside p (recorded_flutter p) start rate rest)
+      → StaysRecordedInSharpSync beside p t double passed
+
+-- from a double cycle whose rows lie within stated numbers on it is so, with lengths in their range at first
+abbrev pub TracesSettleSharply : Type 0
+TracesSettleSharply =
+    (beside : Bool) (p : Values) (t : TraceView) (start rate reach double : ℕ)
+    → IsSteadyTrace beside p t double → TracedWayHolds beside p start rate reach
+    → IsRecordedNear p start rate (pos 0) t.history double
+    → (passed : ℕ) → double + passed < t.doubles → SettlesRecorded beside p t start rate double passed

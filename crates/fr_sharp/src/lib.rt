@@ -1,7 +1,7 @@
 //! Why clocks keep a sharper precision where delays change little from one cycle of a double cycle to the next: laws over
-//! rows and values, over the lawful histories of runs that no node joins, without arbitrary nodes and beside them, and of
-//! what the files of such a run promise. The bounds, the checks and how long they hold are computed here too, and which of
-//! the two a run is.
+//! rows and values, over the lawful histories of runs that no node joins, without arbitrary nodes and beside them, of
+//! recorded traces, and of what the files of such a run promise. The bounds, the checks and how long they hold are computed
+//! here too, and which of the two a run is.
 #![tactic(auto)]
 
 mod arbitrary;
@@ -55,6 +55,6 @@ pub use steady::{pairs_are_steady, steady_values_place};
 pub use steady_runs::runs_hear_steadily;
 pub use step::{sharp_spreads_shrink, sharp_sync_is_kept};
 pub use tested::{one_first_sharp_sync, sharp_sync_is_tested};
-pub use traces::{a_steady_trace, traces_keep_sharp_sync};
+pub use traces::{a_steady_trace, traces_keep_sharp_sync, traces_settle_sharply};
 pub use way::{SharpWay, sharp_settle};
 pub use worked_run::{a_steady_run, files_that_flutter};

@@ -1,4 +1,4 @@
-ghost use Rattle.fr_sharp.specs.SharpTraces.{CheckedTracesAreSteady, PassingTracesComeSharp, TracesKeepSharpPrecision, TracesKeepSharpSync};
+ghost use Rattle.fr_sharp.specs.SharpTraces.{CheckedTracesAreSteady, PassingTracesComeSharp, TracesKeepSharpPrecision, TracesKeepSharpSync, TracesSettleSharply};
 ghost use Rattle.fr_sharp.specs.WorkedTrace.{WorkedTraceKeepsPrecision, WorkedTraceMeetsPremises};
 
 /// The law of recorded traces: where no node joins, a lawful trace keeps the sharper precision, in ticks, with both errors
@@ -13,6 +13,13 @@ pub fn traces_keep_sharp_sync()
     ensures keep { TracesKeepSharpSync }
     ensures precise { TracesKeepSharpPrecision }
     ensures passing { PassingTracesComeSharp }
+{}
+
+/// A law: from stated numbers for starts and even lengths, in ticks, each length in its range, such a trace keeps to the
+/// spreads by double cycle, under the second and the third check with a reach for the whole way, and is in sharp sync when
+/// these have come to rest, as long as the walk lasts.
+pub fn traces_settle_sharply()
+    ensures { TracesSettleSharply }
 {}
 
 /// A law: the worked trace of two nodes meets the premises from its start on, with a flutter of 1,000,000 ticks, and its
