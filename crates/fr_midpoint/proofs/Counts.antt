@@ -100,6 +100,46 @@ count_by-le-both p q r (x ∷ xs) other =
       count_by-le-both p q r xs other,
     )
 
+two_at_most : (a b c : Bool) → (a ≡ true → b ≡ false) → (a ≡ true → c ≡ true) → (b ≡ true → c ≡ true) → cond a 1 0 + cond b 1 0 ≤ cond c 1 0
+two_at_most true b c other one two = rw (other refl, one refl) (omega arith)
+two_at_most false true c other one two = rw (two refl) (omega arith)
+two_at_most false false c other one two = omega arith
+
+-- two tests that pass nowhere together pass at most as often as one that passes where either does
+pub both-le-count_by :
+    {X : Type 0} (p q r : X → Bool) (xs : List X) → ((x : X) → p x ≡ true → q x ≡ false) → ((x : X) → p x ≡ true → r x ≡ true)
+    → ((x : X) → q x ≡ true → r x ≡ true) → count_by p xs + count_by q xs ≤ count_by r xs
+both-le-count_by p q r [] other one two = omega arith
+both-le-count_by p q r (x ∷ xs) other one two =
+    omega (
+      arith,
+      sum_by-cons (λ y. cond (p y) 1 0) x xs,
+      sum_by-cons (λ y. cond (q y) 1 0) x xs,
+      sum_by-cons (λ y. cond (r y) 1 0) x xs,
+      two_at_most (p x) (q x) (r x) (other x) (one x) (two x),
+      both-le-count_by p q r xs other one two,
+    )
+
+pub all_pass : {X : Type 0} (xs : List X) → count_by (λ x. true) xs ≡ length xs
+all_pass [] = refl
+all_pass {X} (x ∷ xs) = omega (arith, count_by-cons_yes (λ (y : X). true) x xs refl, all_pass xs)
+
+-- no element passes both of two tests
+pub both-le-length :
+    {X : Type 0} (p q : X → Bool) (xs : List X) → ((x : X) → p x ≡ true → q x ≡ false) → count_by p xs + count_by q xs ≤ length xs
+both-le-length {X} p q xs other =
+    let all = all_pass xs in
+    let both = both-le-count_by p q (λ (x : X). true) xs other (λ x any. refl) (λ x any. refl) in
+    omega (arith, all, both)
+
+-- each element passes one of two tests
+pub length-le-both :
+    {X : Type 0} (p q : X → Bool) (xs : List X) → ((x : X) → p x ≡ false → q x ≡ true) → length xs ≤ count_by p xs + count_by q xs
+length-le-both {X} p q xs other =
+    let all = all_pass xs in
+    let one = count_by-le-both (λ (x : X). true) p q xs (λ x any. other x) in
+    omega (arith, all, one)
+
 find-cond :
     {X : Type 0} (p : X → Bool) (x only : X) (xs : List X) (b : Bool) → p x ≡ b → (b ≡ true → x ≡ only)
     → (0 < count_by p xs → find p xs ≡ Some only) → 0 < count_by p (x ∷ xs) → cond b (Some x) (find p xs) ≡ Some only

@@ -1,35 +1,12 @@
 -- A list with a value has its midpoint: for each rank there is a value of it.
-use Rattle.std.proofs.Common.{◌≡◌, ℕ, zero, suc, ◌+◌, ◌-◌, ◌≤◌, ◌<◌, ◌&&◌, Bool, true, false, cond, ℤ, List, [], ◌∷◌, length, arith, sym, subst, refl}
+use Rattle.std.proofs.Common.{◌≡◌, ℕ, zero, suc, ◌-◌, ◌≤◌, ◌<◌, ◌&&◌, Bool, true, false, cond, ℤ, List, [], ◌∷◌, length, arith, sym, subst, refl}
 use Rattle.std.specs.Prelude.{int_lt, int_le, count_by, nat_lt, if◌then◌else◌}
 use Rattle.std.proofs.lemmas.Int.{ints}
 use Rattle.std.proofs.lemmas.Bool.Decides.{nat_tests}
 use Rattle.std.proofs.lemmas.List.Sums.{sum_by-cons}
 use Rattle.fr_midpoint.specs.Midpoint.{discarded, half_of_sum, IsLow, IsHigh, IsMidpoint, MidpointIsThere}
-use Rattle.fr_midpoint.proofs.Counts.{count_by-cons_no, count_by-cons_yes, count_by-le-both, count_by-le-count_by}
+use Rattle.fr_midpoint.proofs.Counts.{all_pass, both-le-count_by, both-le-length, count_by-cons_no, count_by-cons_yes, count_by-le-both, count_by-le-count_by, length-le-both}
 use Rattle.fr_midpoint.proofs.Found.{midpoint_by_ranks-is}
-
-all_pass : (xs : List ℤ) → count_by (λ x. true) xs ≡ length xs
-all_pass [] = refl
-all_pass (x ∷ xs) = omega (arith, count_by-cons_yes (λ (y : ℤ). true) x xs refl, all_pass xs)
-
-two_at_most : (a b c : Bool) → (a ≡ true → b ≡ false) → (a ≡ true → c ≡ true) → (b ≡ true → c ≡ true) → cond a 1 0 + cond b 1 0 ≤ cond c 1 0
-two_at_most true b c other one two = rw (other refl, one refl) (omega arith)
-two_at_most false true c other one two = rw (two refl) (omega arith)
-two_at_most false false c other one two = omega arith
-
--- two tests that pass nowhere together pass at most as often as one that passes where either does
-both-le-count_by : (p q r : ℤ → Bool) (xs : List ℤ) → ((x : ℤ) → p x ≡ true → q x ≡ false) → ((x : ℤ) → p x ≡ true → r x ≡ true)
-    → ((x : ℤ) → q x ≡ true → r x ≡ true) → count_by p xs + count_by q xs ≤ count_by r xs
-both-le-count_by p q r [] other one two = omega arith
-both-le-count_by p q r (x ∷ xs) other one two =
-    omega (
-      arith,
-      sum_by-cons (λ y. cond (p y) 1 0) x xs,
-      sum_by-cons (λ y. cond (q y) 1 0) x xs,
-      sum_by-cons (λ y. cond (r y) 1 0) x xs,
-      two_at_most (p x) (q x) (r x) (other x) (one x) (two x),
-      both-le-count_by p q r xs other one two,
-    )
 
 -- the least of the values that pass a test
 record IsLeast (p : ℤ → Bool) (xs : List ℤ) (least : ℤ) : Type 0 where
@@ -112,9 +89,8 @@ next_rank xs j low true again short is =
     (low, record { few_below = omega (arith, is.few_below); more_up_to = grind (arith, nat_tests) })
 next_rank xs j low false last short is =
     let most : count_by (λ y. int_le y low) xs ≤ suc j = grind (arith, nat_tests) in
-    let all = all_pass xs in
-    let rest = count_by-le-both (λ (y : ℤ). true) (λ y. int_le y low) (int_lt low) xs (λ y any. above low y) in
-    let least = least_there (int_lt low) xs (omega (arith, most, all, rest, short)) in
+    let rest = length-le-both (λ y. int_le y low) (int_lt low) xs (above low) in
+    let least = least_there (int_lt low) xs (omega (arith, most, rest, short)) in
     let below = count_by-le-both (λ y. int_lt y least.0) (λ y. int_le y low) (λ y. int_lt low y && int_lt y least.0) xs
     (λ y under over. and_true (int_lt low y) (int_lt y least.0) (above low y over) under) in
     let up_to = both-le-count_by (λ y. int_le y low) (λ y. int_lt low y && int_le y least.0) (λ y. int_le y least.0) xs
@@ -144,12 +120,11 @@ low_there xs (suc j) short =
 high_there : (xs : List ℤ) (k : ℕ) → k < length xs → (high : ℤ) × IsHigh k xs high
 high_there xs k short =
     let low = low_there xs (length xs - suc k) (omega (arith, short)) in
-    let all = all_pass xs in
-    let over = both-le-count_by (int_lt low.0) (λ y. int_le y low.0) (λ y. true) xs (λ y over. not_up low.0 y over) (λ y any. refl) (λ y any. refl) in
-    let from = count_by-le-both (λ (y : ℤ). true) (λ y. int_lt y low.0) (int_le low.0) xs (λ y any under. at_least low.0 y under) in
+    let over = both-le-length (int_lt low.0) (λ y. int_le y low.0) xs (not_up low.0) in
+    let from = length-le-both (λ y. int_lt y low.0) (int_le low.0) xs (at_least low.0) in
     let few = low.1.few_below in
     let more = low.1.more_up_to in
-    (low.0, record { few_above = omega (arith, over, all, more, short); more_from = omega (arith, from, all, few, short) })
+    (low.0, record { few_above = omega (arith, over, more, short); more_from = omega (arith, from, few, short) })
   where
     not_up : (v y : ℤ) → int_lt v y ≡ true → int_le y v ≡ false
     not_up v y over = grind (arith, ints)

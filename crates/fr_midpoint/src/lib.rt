@@ -8,4 +8,4 @@ mod receivers;
 
 pub use list15::List15;
 pub use middle::{half_sum, midpoint, midpoint_is_there, midpoint_is_unique};
-pub use receivers::{few_are_discarded, receivers_agree};
+pub use receivers::{few_are_discarded, midpoints_agree, receivers_agree};

@@ -1,9 +1,19 @@
 ghost use Rattle.fr_midpoint.specs.Receivers.{FewAreDiscarded, OneReceiver, TwoReceivers};
+ghost use Rattle.fr_midpoint.specs.Said.{OneBetween, TwoReceiversAlone, TwoReceiversApart};
+
+/// The law of two receivers, value by value: their midpoints lie half as far apart as the two values of one sender and any
+/// two values of senders do together, whatever arbitrary senders say; where there are none, no further apart than the two
+/// values of one sender. In both cases halving toward zero adds a unit. The midpoint of one lies among the values.
+pub fn midpoints_agree()
+    ensures apart { TwoReceiversApart }
+    ensures alone { TwoReceiversAlone }
+    ensures between { OneBetween }
+{}
 
 /// The law of two receivers (J. Welch and N. Lynch): each has a list with one value of every sender, which
 /// places that sender's position, and with no more values of any other kind than it discards at each end.
-/// Where both together discard fewer values at an end than there are senders, their midpoints lie about half as far apart as the positions, whatever the other values are; and
-/// the midpoint of each lies among the positions.
+/// Where both together discard fewer values at an end than there are senders, their midpoints lie about half as far
+/// apart as the positions, whatever the other values are; and the midpoint of each lies among the positions.
 pub fn receivers_agree()
     ensures two { TwoReceivers }
     ensures one { OneReceiver }

@@ -1,7 +1,7 @@
-ghost use Rattle.std.specs.Prelude.{◌≡◌, ◌++◌, ◌≤◌, codes};
+ghost use Rattle.std.specs.Prelude.{◌≡◌, ◌++◌, ◌≤◌, codes, length};
 ghost use Rattle.fr_series.specs.SeriesText.{above_text, greatest_text, synced_text, within_text};
-ghost use Rattle.fr_series.specs.SharpText.{flutter_text, beside_or_alone, doubles_or_on, older_end, sharp_covered_text, sharp_end};
-ghost use Rattle.fr_series.specs.SharpText.{sharp_above_text, sharp_greatest_text, sharp_head, sharp_precision_text, sharp_row, sharp_synced_text, sharp_within_text};
+ghost use Rattle.fr_series.specs.SharpText.{beside_or_alone, doubles_or_on, flutter_text, older_end, sharp_covered_text, sharp_end};
+ghost use Rattle.fr_series.specs.SharpText.{sharp_head, sharp_precision_text, sharp_row, sharp_synced_text};
 ghost use Rattle.fr_text.specs.Lines.{joined_lines};
 ghost use Rattle.fr_text.specs.Pieces.{Spells, line};
 
@@ -52,9 +52,9 @@ pub(crate) fn older_lines(tally: &Tally) -> [Option<Line>; 3]
 {
     let figures = tally.older;
     [
-        Some(greatest_line(figures.greatest)),
+        Some(greatest_line(b"", figures.greatest)),
         Some(synced_line(figures.lost)),
-        Some(within_line(figures.synced, figures.above)),
+        Some(within_line(b"", figures.synced, figures.above)),
     ]
 }
 
@@ -69,17 +69,20 @@ pub(crate) fn sharp_lines(basis: &Basis, tally: &Tally) -> [Option<Line>; 6]
         Some(precision_line(basis.scales.sharp.precision, basis.beside)),
         Some(covered_line(basis.gap)),
         Some(sharp_synced_line(figures.synced, basis.lasts)),
-        Some(sharp_greatest_line(figures.greatest)),
-        Some(sharp_within_line(figures.synced, figures.above)),
+        Some(greatest_line(b"sharp ", figures.greatest)),
+        Some(within_line(b"sharp ", figures.synced, figures.above)),
     ]
 }
 
-fn greatest_line(greatest: Option<Peak>) -> Line
-    ensures { result ≡ line (greatest_text greatest ++ codes ",") }
+// A line of a series with one column more, behind a word of its own or none.
+fn greatest_line(front: &[u8], greatest: Option<Peak>) -> Line
+    requires { length front.now ≤ 10 }
+    ensures { result ≡ line (front.now ++ greatest_text greatest ++ codes ",") }
 {
     match greatest {
-        None => line_of(&[Word(b"greatest,-,-,-,")]),
+        None => line_of(&[Word(front), Word(b"greatest,-,-,-,")]),
         Some(peak) => line_of(&[
+            Word(front),
             Word(b"greatest,"),
             Signed(peak.skew),
             Word(b","),
@@ -100,21 +103,24 @@ fn synced_line(lost: Option<u32>) -> Line
     }
 }
 
-fn within_line(synced: Option<u32>, above: Option<Peak>) -> Line
-    ensures { result ≡ line (within_text synced above ++ codes ",") }
+fn within_line(front: &[u8], synced: Option<u32>, above: Option<Peak>) -> Line
+    requires { length front.now ≤ 10 }
+    ensures { result ≡ line (front.now ++ within_text synced above ++ codes ",") }
 {
     match synced {
-        None => line_of(&[Word(b"within,-,,,")]),
-        Some(_) => above_line(above),
+        None => line_of(&[Word(front), Word(b"within,-,,,")]),
+        Some(_) => above_line(front, above),
     }
 }
 
-fn above_line(above: Option<Peak>) -> Line
-    ensures { result ≡ line (above_text above ++ codes ",") }
+fn above_line(front: &[u8], above: Option<Peak>) -> Line
+    requires { length front.now ≤ 10 }
+    ensures { result ≡ line (front.now ++ above_text above ++ codes ",") }
 {
     match above {
-        None => line_of(&[Word(b"within,yes,,,")]),
+        None => line_of(&[Word(front), Word(b"within,yes,,,")]),
         Some(peak) => line_of(&[
+            Word(front),
             Word(b"within,no,"),
             Natural(u64::from(peak.cycle)),
             Word(b","),
@@ -183,46 +189,5 @@ fn lasts_piece(lasts: Option<u64>) -> Piece<'static>
     match lasts {
         None => Word(b"on"),
         Some(doubles) => Natural(doubles),
-    }
-}
-
-fn sharp_greatest_line(greatest: Option<Peak>) -> Line
-    ensures { result ≡ line (sharp_greatest_text greatest) }
-{
-    match greatest {
-        None => line_of(&[Word(b"sharp greatest,-,-,-,")]),
-        Some(peak) => line_of(&[
-            Word(b"sharp greatest,"),
-            Signed(peak.skew),
-            Word(b","),
-            Natural(u64::from(peak.cycle)),
-            Word(b","),
-            Natural(u64::from(peak.macrotick)),
-            Word(b","),
-        ]),
-    }
-}
-
-fn sharp_within_line(synced: Option<u32>, above: Option<Peak>) -> Line
-    ensures { result ≡ line (sharp_within_text synced above) }
-{
-    match synced {
-        None => line_of(&[Word(b"sharp within,-,,,")]),
-        Some(_) => sharp_above_line(above),
-    }
-}
-
-fn sharp_above_line(above: Option<Peak>) -> Line
-    ensures { result ≡ line (sharp_above_text above) }
-{
-    match above {
-        None => line_of(&[Word(b"sharp within,yes,,,")]),
-        Some(peak) => line_of(&[
-            Word(b"sharp within,no,"),
-            Natural(u64::from(peak.cycle)),
-            Word(b","),
-            Natural(u64::from(peak.macrotick)),
-            Word(b","),
-        ]),
     }
 }

@@ -2,6 +2,7 @@
 use Rattle.std.proofs.Common.{◌≡◌, ◌⊎◌, ℕ, ◌+◌, ◌*◌, ◌≤◌, Bool, true, false, ◌||◌, if◌then◌else◌, ℤ, pos, List, [], length, All, inl, inr, refl, ap, sym, ◌∙◌, arith}
 use Rattle.std.specs.Prelude.{neg_ℤ, ◌+ℤ◌, ◌-ℤ◌, ◌*ℤ◌, ◌≤ℤ◌, ◌<ℤ◌, int_lt}
 use Rattle.std.proofs.lemmas.Int.{ints}
+use Rattle.std.proofs.lemmas.Slice.Zip.{AllZip-long}
 use Rattle.fr_base.specs.declared.node_row.NodeRow.{NodeRow}
 use Rattle.fr_base.specs.declared.Outcome.TheVariants.{Exceeded, Within}
 use Rattle.fr_base.specs.Within.{IsBetween, IsWithin}
@@ -9,7 +10,10 @@ use Rattle.fr_cluster.specs.Values.{Values}
 use Rattle.fr_cluster.specs.Sane.{IsSane}
 use Rattle.fr_midpoint.specs.Midpoint.{IsMidpoint}
 use Rattle.fr_midpoint.specs.Receivers.{place_at, Receiver}
+use Rattle.fr_midpoint.specs.Said.{lies_after, AllLieNear, KeepsSaid, SameLieNear}
 use Rattle.fr_midpoint.proofs.Products.{addz-mulz}
+use Rattle.fr_midpoint.proofs.SaidLemmas.{one_between_lem, two_alone_lem, two_apart_lem}
+use Rattle.fr_midpoint.proofs.Zips.{zip_all, zip_both, zip_said}
 use Rattle.fr_correct.specs.declared.term.Term.{Term}
 use Rattle.fr_correct.specs.Terms.{limited, missing_term, term_of}
 use Rattle.fr_time.specs.Position.{grid_for}
@@ -23,11 +27,8 @@ use Rattle.fr_precision.specs.Offsets.{IsDeviation, IsOffsetRound, IsSending}
 use Rattle.fr_precision.proofs.InstantLaws.{early_on_line, odd_start_is}
 use Rattle.fr_precision.proofs.OffsetLaws.{micro_lasts, offset_terms_are_uncut}
 use Rattle.fr_precision.proofs.Senders.{heard_all, All-along}
-use Rattle.fr_sharp.specs.Said.{lies_after, AllLieNear, KeepsSaid, SameLieNear}
 use Rattle.fr_sharp.specs.Ends.{CorrectedEndIsNear, EndsComeNear, SendApart, TakesOffsets}
-use Rattle.fr_sharp.proofs.SaidLemmas.{one_between_lem, two_alone_lem, two_apart_lem}
 use Rattle.fr_sharp.proofs.Tails.{tail_near_end, tails_near}
-use Rattle.fr_sharp.proofs.Zips.{zip_all, zip_both, zip_said, zip_same_length}
 
 -- ---- one receiver
 
@@ -229,7 +230,7 @@ pub ends_come_near_lem : EndsComeNear
 ends_come_near_lem false p senders starts evens odds reach other_reach row other_row values other_values term other_term sane send takes also near keep =
     let one = corrected p senders reach odds row values term sane keep.0 takes in
     let other = corrected p senders other_reach odds other_row other_values other_term sane keep.0 also in
-    let said = zip_same_length (λ (sender : Sender) value. IsDeviation p true sender.action row sender.odd value) senders takes.round.hears.said takes.round.hears.each in
+    let said = AllZip-long (λ (sender : Sender) value. IsDeviation p true sender.action row sender.odd value) senders takes.round.hears.said takes.round.hears.each in
     alone_ends odds (arrival_error p) (longest_micro p) (corrected_end_of p row) (place_at (ends_at p row values) one.mid) (corrected_end_of p other_row) (place_at (ends_at p other_row other_values) other.mid) one.is other.is
     (
     two_alone_lem takes.round.hears.said also.round.hears.said (odds +ℤ pos (2 * arrival_error p + 2 * longest_micro p)) (pos (longest_micro p)) (ends_at p row values) (ends_at p other_row other_values) one.mid other.mid
@@ -241,7 +242,7 @@ ends_come_near_lem true p senders starts evens odds reach other_reach row other_
     let some : 1 ≤ length senders = omega (arith, keep) in
     let one = corrected p senders reach odds row values term sane some takes in
     let other = corrected p senders other_reach odds other_row other_values other_term sane some also in
-    let said = zip_same_length (λ (sender : Sender) value. IsDeviation p true sender.action row sender.odd value) senders takes.round.hears.said takes.round.hears.each in
+    let said = AllZip-long (λ (sender : Sender) value. IsDeviation p true sender.action row sender.odd value) senders takes.round.hears.said takes.round.hears.each in
     beside_ends starts evens odds (arrival_error p) (longest_micro p) (corrected_end_of p row) (place_at (ends_at p row values) one.mid) (corrected_end_of p other_row) (place_at (ends_at p other_row other_values) other.mid) one.is other.is
     (
     two_apart_lem takes.round.hears.said also.round.hears.said (odds +ℤ pos (2 * arrival_error p + 2 * longest_micro p)) (((starts +ℤ evens) +ℤ odds) +ℤ pos (2 * arrival_error p + 3 * longest_micro p)) (pos (longest_micro p))

@@ -2,6 +2,7 @@
 use Rattle.std.proofs.Common.{◌≡◌, ◌⊎◌, ℕ, ◌+◌, ◌-◌, ◌*◌, ◌≤◌, true, false, ℤ, pos, List, [], length, All, inl, inr, ap, sym, ◌∙◌, subst, arith}
 use Rattle.std.specs.Prelude.{◌+ℤ◌, ◌-ℤ◌, ◌*ℤ◌, ◌≤ℤ◌}
 use Rattle.std.proofs.lemmas.Int.{ints}
+use Rattle.std.proofs.lemmas.Slice.Zip.{AllZip-long}
 use Rattle.fr_base.specs.declared.node_row.NodeRow.{NodeRow}
 use Rattle.fr_base.specs.declared.Outcome.TheVariants.{Within}
 use Rattle.fr_base.specs.Within.{IsBetween, IsWithin}
@@ -10,7 +11,10 @@ use Rattle.fr_cluster.specs.Sane.{IsSane}
 use Rattle.fr_cluster.specs.declared.names.ParamName.TheVariants as name
 use Rattle.fr_midpoint.specs.Midpoint.{IsMidpoint}
 use Rattle.fr_midpoint.specs.Receivers.{place_at, measured_place, Hears, Receiver}
+use Rattle.fr_midpoint.specs.Said.{lies_after, AllLieNear, KeepsSaid, SameLieNear}
 use Rattle.fr_midpoint.proofs.Products.{addz-mulz}
+use Rattle.fr_midpoint.proofs.SaidLemmas.{one_between_lem, two_alone_lem, two_apart_lem}
+use Rattle.fr_midpoint.proofs.Zips.{zip_all, zip_both, zip_said}
 use Rattle.fr_correct.specs.declared.term.Term.{Term}
 use Rattle.fr_correct.specs.Terms.{damped, missing_term, term_of}
 use Rattle.fr_bound.specs.Bounds.{cycle_change, longest_micro, shortest_micro}
@@ -21,14 +25,11 @@ use Rattle.fr_precision.proofs.OffsetLaws.{micro_lasts}
 use Rattle.fr_precision.proofs.PlacementLaws.{steady_within}
 use Rattle.fr_precision.proofs.RateLaws.{limited_within, outcome_within}
 use Rattle.fr_precision.proofs.Senders.{heard_all, All-along}
-use Rattle.fr_sharp.specs.Said.{lies_after, AllLieNear, KeepsSaid, SameLieNear}
 use Rattle.fr_sharp.specs.SharpBounds.{steady_error, wide_change}
 use Rattle.fr_sharp.specs.Steady.{between_actions, placed_length, PlacesEven}
 use Rattle.fr_sharp.specs.Lengths.{next_length_error, NextLengthIsNear, CanWalk, EvensAreAbout, EvensWithin, IsAboutCycle, IsNextEven, IsSteadyRound, LengthsComeNear, RangeWalks}
-use Rattle.fr_sharp.proofs.SaidLemmas.{one_between_lem, two_alone_lem, two_apart_lem}
 use Rattle.fr_sharp.proofs.Signed.{room_of, signed_of}
 use Rattle.fr_sharp.proofs.Walks.{changed, damped_away, moved_on, walked, HasRoom, Walked}
-use Rattle.fr_sharp.proofs.Zips.{zip_all, zip_both, zip_said, zip_same_length}
 
 -- the receiver of rate values that an odd row is
 abbrev rates_at : Values → NodeRow → List ℤ → Receiver
@@ -239,7 +240,7 @@ pub lengths_come_near_lem : LengthsComeNear
 lengths_come_near_lem false p flutter senders spread beyond walk row other_row values other_values term other_term even other_even sane can about within is also keep next other_next =
     let round = round_of p flutter senders beyond walk (beyond +ℤ walk) row values term sane can (itself (beyond +ℤ walk)) keep.0 about is in
     let other_round = round_of p flutter senders beyond walk (beyond +ℤ walk) other_row other_values other_term sane can (itself (beyond +ℤ walk)) keep.0 about also in
-    let said = zip_same_length (λ (sender : Sender) value. PlacesEven p flutter sender row value) senders is.hears.said is.hears.each in
+    let said = AllZip-long (λ (sender : Sender) value. PlacesEven p flutter sender row value) senders is.hears.said is.hears.each in
     let apart =
     two_alone_lem is.hears.said also.hears.said (pos (2 * steady_error p flutter)) (pos (longest_micro p)) (rates_at p row values) (rates_at p other_row other_values) round.mid other_round.mid
     (keeps_said p flutter senders row values sane is.micro is.hears) (keeps_said p flutter senders other_row other_values sane also.micro also.hears) is.micro.most also.micro.most
@@ -255,7 +256,7 @@ lengths_come_near_lem true p flutter senders spread beyond walk row other_row va
     let some : 1 ≤ length senders = omega (arith, keep) in
     let round = round_of p flutter senders beyond walk (beyond +ℤ walk) row values term sane can (itself (beyond +ℤ walk)) some about is in
     let other_round = round_of p flutter senders beyond walk (beyond +ℤ walk) other_row other_values other_term sane can (itself (beyond +ℤ walk)) some about also in
-    let said = zip_same_length (λ (sender : Sender) value. PlacesEven p flutter sender row value) senders is.hears.said is.hears.each in
+    let said = AllZip-long (λ (sender : Sender) value. PlacesEven p flutter sender row value) senders is.hears.said is.hears.each in
     let apart =
     two_apart_lem is.hears.said also.hears.said (pos (2 * steady_error p flutter)) (spread +ℤ pos (2 * steady_error p flutter)) (pos (longest_micro p)) (rates_at p row values) (rates_at p other_row other_values) round.mid other_round.mid
     (keeps_said p flutter senders row values sane is.micro is.hears) (keeps_said p flutter senders other_row other_values sane also.micro also.hears) is.micro.most also.micro.most

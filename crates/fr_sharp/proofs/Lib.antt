@@ -1,7 +1,5 @@
-pub mod SaidLemmas
 pub mod Signed
 pub mod Walks
-pub mod Zips
 pub mod BoundLemmas
 pub mod Computed
 pub mod SteadyLemmas
@@ -23,7 +21,6 @@ pub mod SharpRows
 pub mod SharpWorked
 pub mod SharpSlow
 pub mod OlderWorked
-pub mod SharpLists
 pub mod RunFlutter
 pub mod FramesCounted
 pub mod RateRange
@@ -47,5 +44,8 @@ pub mod TestedLemmas
 pub mod FreeLemmas
 pub mod FilesWorked
 pub mod TraceRows
+pub mod TraceStep
 pub mod TraceSync
 pub mod TraceCycles
+pub mod TraceSettles
+pub mod TraceWorked

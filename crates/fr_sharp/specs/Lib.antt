@@ -8,7 +8,6 @@ pub mod Hearing
 pub mod Lengths
 pub mod Nearness
 pub mod ReachedRun
-pub mod Said
 pub mod SettlingHistories
 pub mod SharpBounds
 pub mod SharpChecks
@@ -27,3 +26,4 @@ pub mod SteadyRuns
 pub mod WayHistories
 pub mod WorkedFiles
 pub mod WorkedRun
+pub mod WorkedTrace

@@ -14,8 +14,8 @@ use Rattle.fr_bound.specs.Bounds.{arrival_error, cycle_change, lambda_of, longes
 abbrev pub most_flutter : ℕ
 most_flutter = 1_000_000_000
 
--- by how much as many microticks change from one cycle to the next as may lie between a frame's arrival in the one and its
--- sender's action point in the other, and one more
+-- by how much microticks change in all from an even cycle to the odd one: as many as may lie between a frame's arrival in the
+-- even cycle and its sender's action point in the odd one, and one more
 abbrev pub wide_change : Values → ℕ
 wide_change p =
     (amount p name.pMicroPerCycle + amount p name.pRateCorrectionOut + amount p name.pOffsetCorrectionOut + 1)

@@ -8,7 +8,7 @@ use Rattle.fr_cluster.specs.Values.{Values, amount}
 use Rattle.fr_cluster.specs.declared.names.ParamName.TheVariants as name
 use Rattle.fr_cluster.specs.declared.nodes.NodeSpec.{NodeSpec}
 use Rattle.fr_time.specs.Cycles.{even_cycle, odd_cycle}
-use Rattle.fr_bound.specs.Bounds.{arrival_error}
+use Rattle.fr_bound.specs.Bounds.{arrival_error, lambda_of, pi_of}
 use Rattle.fr_precision.specs.Round.{sync_count}
 use Rattle.fr_coverage.specs.declared.gap.Gap.{Gap}
 use Rattle.fr_history.specs.History.{History, Record, record_at}
@@ -18,14 +18,17 @@ use Rattle.fr_runs.specs.Links.{cycle_in}
 use Rattle.fr_trace.specs.Fits.{TraceFits}
 use Rattle.fr_trace.specs.Lasting.{IsTrace}
 use Rattle.fr_trace.specs.Trace.{TraceView, is_named}
+use Rattle.fr_verdict.specs.Answer.{IsVerdict}
 use Rattle.fr_verdict.specs.Breach.{IsLawfulTrace}
 use Rattle.fr_verdict.specs.Gaps.{has_rows, is_heard, is_pair, IsTraceGap, IsTracedChangeGap, IsTracedCheckGap, IsTracedCountGap, IsTracedLengthGap}
 use Rattle.fr_verdict.specs.Precision.{AreTermsWithin}
 use Rattle.fr_verdict.specs.Sync.{IsFirstSynced}
+use Rattle.fr_verdict.specs.declared.unlawful.Verdict.{Verdict}
 use Rattle.fr_sharp.specs.Lengths.{walked_after}
 use Rattle.fr_sharp.specs.SharpBounds.{sharp_near, sharp_precision}
 use Rattle.fr_sharp.specs.SharpChecks.{sharp_holds_of}
 use Rattle.fr_sharp.specs.SharpRun.{WalkLastsAfter, WalkLastsUpTo}
+use Rattle.fr_sharp.specs.SharpSettling.{sharp_spread_after, IsSharplySettled}
 use Rattle.fr_sharp.specs.SharpStep.{IsInSharpSync}
 
 -- the flutter of recorded deviations, in ticks: both errors of an arrival
@@ -134,3 +137,15 @@ TracesKeepSharpPrecision =
     → IsSteadyTrace beside p t double
     → sharp_holds_of 1 (recorded_flutter p) (sharp_near beside p (recorded_flutter p)) p ≡ true → TracedChecksHold beside p
     → IsRecordedInSharpSync beside p (pos 0) t.history double → KeepsSharpClocks beside p t double
+
+-- ---- from sync in the older sense
+
+-- a trace that passes, so under the older checks, is in sharp sync as many double cycles after its first one in sync as the spreads
+-- from the older pi and lambda take to come to rest, and keeps the sharper precision from there to its end
+abbrev pub PassingTracesComeSharp : Type 0
+PassingTracesComeSharp =
+    (beside : Bool) (p : Values) (t : TraceView) (v : Verdict) (double rest : ℕ)
+    → IsSane p → IsTrace t → TraceFits p t → t.joins ≡ [] → MayNameArbitrary beside p t
+    → IsVerdict p t v → v.synced ≡ Some double
+    → IsSharplySettled beside p (recorded_flutter p) (sharp_spread_after beside p (recorded_flutter p) (pi_of p) (lambda_of p) rest)
+    → double + rest < t.doubles → KeepsSharpClocks beside p t (double + rest)

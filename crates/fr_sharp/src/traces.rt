@@ -1,13 +1,23 @@
-ghost use Rattle.fr_sharp.specs.SharpTraces.{CheckedTracesAreSteady, TracesKeepSharpPrecision, TracesKeepSharpSync};
+ghost use Rattle.fr_sharp.specs.SharpTraces.{CheckedTracesAreSteady, PassingTracesComeSharp, TracesKeepSharpPrecision, TracesKeepSharpSync};
+ghost use Rattle.fr_sharp.specs.WorkedTrace.{WorkedTraceKeepsPrecision, WorkedTraceMeetsPremises};
 
 /// The law of recorded traces: where no node joins, a lawful trace keeps the sharper precision, in ticks, with both errors
 /// of an arrival for the flutter. From a double cycle in sharp sync on, with lengths in their range and under the second
 /// and the third check, it is in sharp sync in each double cycle, for as many as the rate limit holds the walk: no term by
 /// its recorded deviations is cut or missing, and each node is active behind. Where the first check holds too, all that is
 /// so in each cycle to the end, with each length in its range. A lawful trace without a gap but of the older checks is such
-/// a one, from its first double cycle in sync on.
+/// a one, from its first double cycle in sync on. One that passes, so under the older checks, comes into sharp sync as many
+/// double cycles after it as the spreads from the older pi and lambda take to come to rest.
 pub fn traces_keep_sharp_sync()
     ensures steady { CheckedTracesAreSteady }
     ensures keep { TracesKeepSharpSync }
     ensures precise { TracesKeepSharpPrecision }
+    ensures passing { PassingTracesComeSharp }
+{}
+
+/// A law: the worked trace of two nodes meets the premises from its start on, with a flutter of 1,000,000 ticks, and its
+/// clocks keep within 45,007,594 ticks.
+pub fn a_steady_trace()
+    ensures premises { WorkedTraceMeetsPremises }
+    ensures precise { WorkedTraceKeepsPrecision }
 {}

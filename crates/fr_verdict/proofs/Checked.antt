@@ -64,7 +64,7 @@ use Rattle.fr_verdict.proofs.Turning.{behind_active, goes_on, late_active, offse
 
 -- ---- what coverage says of the cluster
 
-check_holds : (p : Values) (t : TraceView) (number : ℕ) → IsCoveredTrace p t → 1 ≤ number → number ≤ 5 → holds_of number p ≡ true
+pub check_holds : (p : Values) (t : TraceView) (number : ℕ) → IsCoveredTrace p t → 1 ≤ number → number ≤ 5 → holds_of number p ≡ true
 check_holds p t number covered from to = by_test (holds_of number p) refl
   where
     by_test : (b : Bool) → holds_of number p ≡ b → b ≡ true
@@ -349,7 +349,7 @@ next_where_all_stay p t h even odd even2 odd2 double k step stay =
 -- ---- and where one comes
 
 -- the records of a double cycle that is in sync
-at_double : (p : Values) (t : TraceView) (h : History) (even odd : Record) (k : ℕ) → IsDouble t h even odd k → IsInSyncAt p t.history k → IsInSync p even.rows odd.rows
+pub at_double : (p : Values) (t : TraceView) (h : History) (even odd : Record) (k : ℕ) → IsDouble t h even odd k → IsInSyncAt p t.history k → IsInSync p even.rows odd.rows
 at_double p t h even odd k d sync =
     let early : ◌≡◌ {A = Option Record} (Some sync.even) (Some even) = sym sync.has_even ∙ even_at t h even odd k d in
     let next : 2 * k + 1 ≡ suc (2 * k) = omega arith in

@@ -1,3 +1,4 @@
+use Rattle.fr_sharp.proofs.TraceSettles.{passing_traces_come_sharp}
 use Rattle.fr_sharp.proofs.TraceCycles.{traces_keep_sharp_precision}
 use Rattle.fr_sharp.proofs.TraceSync.{checked_traces_are_steady, traces_keep_sharp_sync_lem}
 use Rattle.fr_sharp.proofs.traces.traces_keep_sharp_sync.Goals as goal
@@ -10,3 +11,6 @@ returns-clause-keep c = traces_keep_sharp_sync_lem
 
 pub returns-clause-precise : goal.returns-clause-precise
 returns-clause-precise c = traces_keep_sharp_precision
+
+pub returns-clause-passing : goal.returns-clause-passing
+returns-clause-passing c = passing_traces_come_sharp

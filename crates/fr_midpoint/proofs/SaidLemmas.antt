@@ -1,19 +1,19 @@
 -- The midpoints of receivers that have values of common senders, value by value.
-use Rattle.std.proofs.Common.{◌≡◌, ℕ, ◌+◌, ◌≤◌, ◌<◌, Bool, true, false, cond, ℤ, pos, List, [], ◌∷◌, ◌++◌, length, map, All, inl, inr, refl, ap, sym, ◌∙◌, arith}
+use Rattle.std.proofs.Common.{◌≡◌, ℕ, ◌+◌, ◌*◌, ◌≤◌, ◌<◌, Bool, true, false, cond, ℤ, pos, List, [], ◌∷◌, ◌++◌, length, get_or, All, inl, inr, ap, sym, ◌∙◌, arith}
 use Rattle.std.specs.Prelude.{◌+ℤ◌, ◌-ℤ◌, ◌*ℤ◌, ◌≤ℤ◌, ◌<ℤ◌, int_lt, int_le}
 use Rattle.std.specs.List.{count_by, AllZip}
 use Rattle.std.proofs.lemmas.Bool.{cases_Bool}
-use Rattle.std.proofs.lemmas.Int.{ints}
-use Rattle.std.proofs.lemmas.List.Elements.{All-cons, All-head, All-nil, All-tail}
+use Rattle.std.proofs.lemmas.Int.{ints, by_lt_z}
+use Rattle.std.proofs.lemmas.List.Elements.{All-head, All-tail}
 use Rattle.std.proofs.lemmas.List.Sums.{count_by-le-length, sum_by-append, sum_by-cons}
 use Rattle.std.proofs.lemmas.List.Sorted.{sum_by-IsPermutation}
+use Rattle.std.proofs.lemmas.Slice.Zip.{AllZip-long}
 use Rattle.fr_base.specs.Within.{IsBetween, IsWithin}
 use Rattle.fr_midpoint.specs.Midpoint.{discarded, half_of_sum, IsMidpoint}
-use Rattle.fr_midpoint.specs.Receivers.{place_at, measured_place, IsPlaced, Receiver, Receives}
-use Rattle.fr_midpoint.proofs.Agreement.{one_receiver_lem}
-use Rattle.fr_midpoint.proofs.Counts.{count_by-cons_no, count_by-cons_yes}
+use Rattle.fr_midpoint.specs.Receivers.{place_at, Receiver}
+use Rattle.fr_midpoint.specs.Said.{lies_after, AllLieNear, KeepsSaid, OneBetween, SameLieNear, TwoReceiversAlone, TwoReceiversApart}
+use Rattle.fr_midpoint.proofs.Counts.{both-le-length, count_by-cons_no, count_by-cons_yes, length-le-both}
 use Rattle.fr_midpoint.proofs.Products.{addz-mulz, mulz-lez}
-use Rattle.fr_sharp.specs.Said.{lies_after, AllLieNear, KeepsSaid, OneBetween, SameLieNear, TwoReceiversAlone, TwoReceiversApart}
 
 -- ---- how many pass
 
@@ -27,24 +27,6 @@ count_by-said test said receiver keeps =
     let both = sum_by-append f said keeps.further in
     let few = count_by-le-length test keeps.further in
     (omega (arith, moved, both), omega (arith, moved, both, few))
-
-one_at_most : (a b : Bool) → (a ≡ true → b ≡ false) → cond a 1 0 + cond b 1 0 ≤ 1
-one_at_most true b other = rw (other refl) (omega arith)
-one_at_most false true other = omega arith
-one_at_most false false other = omega arith
-
--- no element passes both of two tests
-both-le-length :
-    (p q : ℤ → Bool) (xs : List ℤ) → ((x : ℤ) → p x ≡ true → q x ≡ false) → count_by p xs + count_by q xs ≤ length xs
-both-le-length p q [] other = omega arith
-both-le-length p q (x ∷ xs) other =
-    omega (
-      arith,
-      sum_by-cons (λ y. cond (p y) 1 0) x xs,
-      sum_by-cons (λ y. cond (q y) 1 0) x xs,
-      one_at_most (p x) (q x) (other x),
-      both-le-length p q xs other,
-    )
 
 -- ---- a value that was said, and a pair of them
 
@@ -86,12 +68,6 @@ some_pair R p q (v ∷ vs) (u ∷ us) each few = elim (cases_Bool (p v)) [
   ]
 ]
 
-zip_long : (R : ℤ → ℤ → Type 0) (said other : List ℤ) → AllZip R said other → length said ≡ length other
-zip_long R [] [] each = refl
-zip_long R [] (u ∷ us) each = absurd each
-zip_long R (v ∷ vs) [] each = absurd each
-zip_long R (v ∷ vs) (u ∷ us) each = let rest = zip_long R vs us each.1 in omega (arith, rest)
-
 -- ---- the other way round
 
 opposite : (bound x y : ℤ) → IsWithin bound (x -ℤ y) → IsWithin bound (y -ℤ x)
@@ -104,27 +80,39 @@ same_opposite one other same (v ∷ vs) [] each = absurd each
 same_opposite one other same (v ∷ vs) (u ∷ us) each =
     (opposite same (place_at one v) (place_at other u) each.0, same_opposite one other same vs us each.1)
 
-along : (P Q : ℤ → Type 0) (xs : List ℤ) → ((x : ℤ) → P x → Q x) → All P xs → All Q xs
-along P Q [] step all = All-nil Q
-along P Q (x ∷ xs) step all = All-cons Q x xs (step x (All-head P x xs all)) (along P Q xs step (All-tail P x xs all))
-
--- one more column of a table of which each row is there
-column : (R : ℤ → ℤ → Type 0) (u : ℤ) (us said : List ℤ) → All (λ v. All (R v) (u ∷ us)) said → All (λ v. R v u) said × All (λ v. All (R v) us) said
-column R u us said all = (
-  along (λ v. All (R v) (u ∷ us)) (λ v. R v u) said (λ v row. All-head (R v) u us row) all,
-  along (λ v. All (R v) (u ∷ us)) (λ v. All (R v) us) said (λ v row. All-tail (R v) u us row) all,
-)
-
 all_opposite : (one other : Receiver) (cross : ℤ) (said other_said : List ℤ) → AllLieNear one other cross said other_said → AllLieNear other one cross other_said said
-all_opposite one other cross said [] all = All-nil (λ u. All (λ v. IsWithin cross (lies_after other one u v)) said)
-all_opposite one other cross said (u ∷ us) all =
-    let both = column (λ v w. IsWithin cross (lies_after one other v w)) u us said all in
-    All-cons (λ w. All (λ v. IsWithin cross (lies_after other one w v)) said) u us
-    (
-    along (λ v. IsWithin cross (lies_after one other v u)) (λ v. IsWithin cross (lies_after other one u v)) said
-    (λ v near. opposite cross (place_at one v) (place_at other u) near) both.0
-    )
-    (all_opposite one other cross said us both.1)
+all_opposite one other cross said other_said all j e within i d short =
+    opposite cross (place_at one (get_or said i d)) (place_at other (get_or other_said j e)) (all i d short j e within)
+
+pub within_both : (a b bound : ℤ) → (a -ℤ b) ≤ℤ bound → (b -ℤ a) ≤ℤ bound → IsWithin bound (a -ℤ b)
+within_both a b bound up down = record { low = omega (arith, ints); high = omega (arith, ints) }
+
+-- ---- what remains
+
+discarded_twice : (n : ℕ) → 0 < n → 2 * discarded n + 1 ≤ n
+discarded_twice n some = grind arith
+
+above_from : (low high x : ℤ) → high <ℤ low → int_lt x low ≡ false → int_lt high x ≡ true
+above_from low high x before h = grind (arith, ints)
+
+-- what remains is in order
+remains_ordered : (values : List ℤ) (mid : ℤ) (is : IsMidpoint values mid) → is.low ≤ℤ is.high
+remains_ordered values mid is =
+    by_lt_z
+    is.high
+    is.low
+    (λ before.
+    let below = is.least.few_below in
+    let above = is.greatest.few_above in
+    let some = is.least.more_up_to in
+    let within = count_by-le-length (λ x. int_le x is.low) values in
+    let all = length-le-both (λ x. int_lt x is.low) (λ x. int_lt is.high x) values (λ x h. above_from is.low is.high x before h) in
+    let twice = discarded_twice (length values) (omega arith) in
+    absurd (omega arith))
+    (λ h. h)
+
+half_between : (low high mid : ℤ) → low ≤ℤ high → mid ≡ half_of_sum low high → (low ≤ℤ mid) × (mid ≤ℤ high)
+half_between low high mid order half = (omega (arith, ints), omega (arith, ints))
 
 -- ---- places
 
@@ -174,6 +162,12 @@ at_most a b h = omega (arith, ints)
 not_below : (a b : ℤ) → int_lt a b ≡ false → b ≤ℤ a
 not_below a b h = omega (arith, ints)
 
+through : (a b c : ℤ) → a ≤ℤ b → b ≤ℤ c → a ≤ℤ c
+through a b c low high = omega (arith, ints)
+
+between : (a b c d s : ℤ) → a ≤ℤ b → c ≤ℤ d → IsWithin s (b -ℤ c) → (a -ℤ d) ≤ℤ s
+between a b c d s h k near = omega (arith, ints, near.high)
+
 -- one receiver's number lies no further after the other's than values of one sender, where less than all lie on the wrong
 -- side of them
 pair_near : (one other : Receiver) (same : ℤ) (said other_said : List ℤ) (low high : ℤ) → pos 0 <ℤ one.unit → pos 0 <ℤ other.unit → SameLieNear one other same said other_said
@@ -181,13 +175,10 @@ pair_near : (one other : Receiver) (same : ℤ) (said other_said : List ℤ) (lo
     → lies_after one other low high ≤ℤ same
 pair_near one other same said other_said low high lasts also_lasts each few =
     let pair = some_pair (λ v u. IsWithin same (lies_after one other v u)) (λ v. int_lt v low) (λ u. int_lt high u) said other_said each few in
-    sum (place_at one low) (place_at one pair.one) (place_at other pair.other) (place_at other high) same
+    between (place_at one low) (place_at one pair.one) (place_at other pair.other) (place_at other high) same
     (place_order one low pair.one lasts (not_below pair.one low pair.one_fails))
     (place_order other pair.other high also_lasts (not_below high pair.other pair.other_fails))
     pair.says
-  where
-    sum : (a b c d s : ℤ) → a ≤ℤ b → c ≤ℤ d → IsWithin s (b -ℤ c) → (a -ℤ d) ≤ℤ s
-    sum a b c d s h k near = omega (arith, ints, near.high)
 
 -- ---- beside further values
 
@@ -222,13 +213,10 @@ high_near said other_said cross one other mid other_mid is also keeps also_keeps
     let also_counts = count_by-said low other_said other also_keeps in
     let found = some_said (λ v. All (λ u. IsWithin cross (lies_after one other v u)) other_said) high said all (omega (arith, counts.1, keeps.few, is.greatest.more_from)) in
     let other_found = some_said (λ u. IsWithin cross (lies_after one other found.value u)) low other_said found.holds (omega (arith, also_counts.1, also_keeps.few, also.least.more_up_to)) in
-    sum (place_at one is.high) (place_at one found.value) (place_at other other_found.value) (place_at other also.low) cross
+    between (place_at one is.high) (place_at one found.value) (place_at other other_found.value) (place_at other also.low) cross
     (place_order one is.high found.value keeps.lasts (at_most is.high found.value found.passes))
     (place_order other other_found.value also.low also_keeps.lasts (at_most other_found.value also.low other_found.passes))
     other_found.holds
-  where
-    sum : (a b c d s : ℤ) → a ≤ℤ b → c ≤ℤ d → IsWithin s (b -ℤ c) → (a -ℤ d) ≤ℤ s
-    sum a b c d s h k near = omega (arith, ints, near.high)
 
 apart : (said other_said : List ℤ) (same cross longest : ℤ) (one other : Receiver) (mid other_mid : ℤ)
     → KeepsSaid said one → KeepsSaid other_said other → one.unit ≤ℤ longest → other.unit ≤ℤ longest
@@ -251,7 +239,7 @@ both_ways a b bound up down = record { low = omega (arith, ints); high = omega (
 
 pub two_apart_lem : TwoReceiversApart
 two_apart_lem said other_said same cross longest one other mid other_mid keeps also_keeps short also_short each all share is also =
-    let long = zip_long (λ v u. IsWithin same (lies_after one other v u)) said other_said each in
+    let long = AllZip-long (λ v u. IsWithin same (lies_after one other v u)) said other_said each in
     both_ways (place_at one mid) (place_at other other_mid) (same +ℤ cross +ℤ (pos 2 *ℤ longest))
     (apart said other_said same cross longest one other mid other_mid keeps also_keeps short also_short each all share is also)
     (
@@ -321,46 +309,29 @@ alone said other_said same longest one other mid other_mid keeps also_keeps shor
 
 pub two_alone_lem : TwoReceiversAlone
 two_alone_lem said other_said same longest one other mid other_mid keeps also_keeps short also_short each none also_none is also =
-    let long = zip_long (λ v u. IsWithin same (lies_after one other v u)) said other_said each in
-    from_both (place_at one mid) (place_at other other_mid) (same +ℤ longest)
+    let long = AllZip-long (λ v u. IsWithin same (lies_after one other v u)) said other_said each in
+    within_both (place_at one mid) (place_at other other_mid) (same +ℤ longest)
     (alone said other_said same longest one other mid other_mid keeps also_keeps short also_short each none also_none is also)
     (
     alone other_said said same longest other one other_mid mid also_keeps keeps also_short short
     (same_opposite one other same said other_said each) (omega (arith, also_none, long)) (omega (arith, none, long)) also is
     )
-  where
-    from_both : (a b bound : ℤ) → (a -ℤ b) ≤ℤ bound → (b -ℤ a) ≤ℤ bound → IsWithin bound (a -ℤ b)
-    from_both a b bound up down = record { low = omega (arith, ints); high = omega (arith, ints) }
 
 -- ---- one receiver
 
-at_itself : (receiver : Receiver) (v : ℤ) → IsPlaced receiver.base receiver.unit (pos 0) (pos 0) (place_at receiver v) v
-at_itself receiver v = step receiver.base receiver.unit v (place_at receiver v) refl
-  where
-    step : (base unit v x : ℤ) → x ≡ measured_place base unit v → IsPlaced base unit (pos 0) (pos 0) x v
-    step base unit v x is = record { low = omega (arith, ints, is); high = omega (arith, ints, is) }
-
-each_itself : (receiver : Receiver) (said : List ℤ) → AllZip (IsPlaced receiver.base receiver.unit (pos 0) (pos 0)) (map (place_at receiver) said) said
-each_itself receiver [] = tt
-each_itself receiver (v ∷ vs) = (at_itself receiver v, each_itself receiver vs)
-
-places_in : (receiver : Receiver) (P Q : ℤ → Type 0) (said : List ℤ) → ((x : ℤ) → P (place_at receiver x) → Q (place_at receiver x)) → All (λ v. P (place_at receiver v)) said → All Q (map (place_at receiver) said)
-places_in receiver P Q [] step all = All-nil Q
-places_in receiver P Q (v ∷ vs) step all =
-    All-cons Q (place_at receiver v) (map (place_at receiver) vs) (step v (All-head (λ x. P (place_at receiver x)) v vs all))
-    (places_in receiver P Q vs step (All-tail (λ x. P (place_at receiver x)) v vs all))
-
 pub one_between_lem : OneBetween
 one_between_lem said least greatest receiver mid keeps all is =
-    let positions = map (place_at receiver) said in
-    let receives : Receives (pos 0) (pos 0) positions receiver =
-    record { lasts = keeps.lasts; hears = record { said = said; further = keeps.further; parts = keeps.parts; few = keeps.few; each = each_itself receiver said } } in
-    let among =
-    one_receiver_lem positions least greatest (pos 0) (pos 0) receiver mid
-    (places_in receiver (IsBetween least greatest) (λ x. least ≤ℤ x) said (λ x between. between.low) all)
-    (places_in receiver (IsBetween least greatest) (λ x. x ≤ℤ greatest) said (λ x between. between.high) all)
-    receives is in
-    step least greatest (place_at receiver mid) among.0 among.1
-  where
-    step : (least greatest x : ℤ) → (least -ℤ pos 0) ≤ℤ x → x ≤ℤ (greatest +ℤ pos 0) → IsBetween least greatest x
-    step least greatest x low high = record { low = omega (arith, ints); high = omega (arith, ints) }
+    let order = half_between is.low is.high mid (remains_ordered receiver.values mid is) is.half in
+    let up_to : ℤ → Bool = λ v. int_le v is.low in
+    let from : ℤ → Bool = λ v. int_le is.high v in
+    let counts = count_by-said up_to said receiver keeps in
+    let also_counts = count_by-said from said receiver keeps in
+    let low = some_said (λ v. IsBetween least greatest (place_at receiver v)) up_to said all (omega (arith, counts.1, keeps.few, is.least.more_up_to)) in
+    let high = some_said (λ v. IsBetween least greatest (place_at receiver v)) from said all (omega (arith, also_counts.1, keeps.few, is.greatest.more_from)) in
+    record {
+      low = through least (place_at receiver low.value) (place_at receiver mid) low.holds.low
+          (place_order receiver low.value mid keeps.lasts (through low.value is.low mid (at_most low.value is.low low.passes) order.0));
+      high = through (place_at receiver mid) (place_at receiver high.value) greatest
+          (place_order receiver mid high.value keeps.lasts (through mid is.high high.value order.1 (at_most is.high high.value high.passes)))
+          high.holds.high;
+    }

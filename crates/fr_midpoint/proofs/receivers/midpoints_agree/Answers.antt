@@ -1,5 +1,5 @@
-use Rattle.fr_sharp.proofs.SaidLemmas.{one_between_lem, two_alone_lem, two_apart_lem}
-use Rattle.fr_sharp.proofs.midpoints.midpoints_agree.Goals as goal
+use Rattle.fr_midpoint.proofs.SaidLemmas.{one_between_lem, two_alone_lem, two_apart_lem}
+use Rattle.fr_midpoint.proofs.receivers.midpoints_agree.Goals as goal
 
 pub returns-clause-apart : goal.returns-clause-apart
 returns-clause-apart c = two_apart_lem

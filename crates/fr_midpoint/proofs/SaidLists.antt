@@ -4,13 +4,16 @@
 -- 2 that the law allows.
 use Rattle.std.proofs.Common.{ℤ, pos, negsuc, List, [], ◌∷◌, ◌++◌, All, refl, lit≤, lit<}
 use Rattle.std.specs.Prelude.{◌+ℤ◌}
+use Rattle.std.proofs.lemmas.List.Elements.{All-cons, All-nil}
 use Rattle.std.proofs.lemmas.List.Sorted.{IsPermutation-refl}
 use Rattle.fr_base.specs.Within.{IsWithin}
 use Rattle.fr_midpoint.specs.Midpoint.{IsMidpoint}
 use Rattle.fr_midpoint.specs.Receivers.{Receiver}
-use Rattle.fr_sharp.specs.Said.{lies_after, AllLieNear, KeepsSaid, SameLieNear}
-use Rattle.fr_sharp.proofs.SaidLemmas.{two_alone_lem, two_apart_lem}
-use Rattle.fr_sharp.proofs.SharpWorked.{three}
+use Rattle.fr_midpoint.specs.Said.{lies_after, AllLieNear, KeepsSaid, SameLieNear}
+use Rattle.fr_midpoint.proofs.SaidLemmas.{two_alone_lem, two_apart_lem}
+
+three : (P : ℤ → Type 0) (a b c : ℤ) → P a → P b → P c → All P (a ∷ b ∷ c ∷ [])
+three P a b c first second third = All-cons P a (b ∷ c ∷ []) first (All-cons P b (c ∷ []) second (All-cons P c [] third (All-nil P)))
 
 abbrev said : List ℤ
 said = pos 0 ∷ pos 10 ∷ pos 20 ∷ []

@@ -1,5 +1,5 @@
 -- What lists that were said by the same senders have in common.
-use Rattle.std.proofs.Common.{◌≡◌, ℤ, List, [], ◌∷◌, length, All, refl, arith}
+use Rattle.std.proofs.Common.{ℤ, List, [], ◌∷◌, All}
 use Rattle.std.specs.List.{AllZip}
 use Rattle.std.proofs.lemmas.List.Elements.{All-cons, All-head, All-nil, All-tail}
 
@@ -33,9 +33,3 @@ pub zip_all :
 zip_all N R S T xs said other step all each also =
     zip_said (λ x. All (N x) xs) R (λ v. All (T v) other) xs said
     (λ x v row says. zip_said (N x) S (T v) xs other (λ y u near also_says. step x y v u near says also_says) row also) all each
-
-pub zip_same_length : {X : Type 0} (R : X → ℤ → Type 0) (xs : List X) (said : List ℤ) → AllZip R xs said → length said ≡ length xs
-zip_same_length R [] [] each = refl
-zip_same_length R [] (v ∷ vs) each = absurd each
-zip_same_length R (x ∷ xs) [] each = absurd each
-zip_same_length R (x ∷ xs) (v ∷ vs) each = let rest = zip_same_length R xs vs each.1 in omega (arith, rest)
