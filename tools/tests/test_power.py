@@ -156,6 +156,10 @@ class Settle(Bench):
         self.assertIn(f"In sharp sync in double cycle {re.search(r'beside settles (.*)', told)[1]} at the latest", page)
         self.assertIn("In sync NOT PROVED: a check of the older bound for the way there fails check C3 for the way fails", page)
         self.assertNotIn("turn pOffsetCorrectionOut", page)
+        # In sharp sync lengths of even cycles count alone.
+        page = self.settle(PLAIN + '[[oscillator]]\nnodes = 1\ncycles = "1-"\nppm = 199\n')
+        self.assertIn(f"further apart than {peak * 25 / 10 ** 9:.3f} us, ", page)
+        self.assertIn("(349.00 ppm)", page)
 
     def test_a_check_for_the_way_fails(self):
         page = self.settle(edited(("start_us = 1.5", "start_us = 9")), status=1)

@@ -5,7 +5,7 @@ import os
 import re
 import unittest
 
-from bench import EXAMPLE, REPOSITORY, SERIES, Bench, edited, needs, needs_series
+from bench import EXAMPLE, FLEXRAY, REPOSITORY, SERIES, Bench, edited, needs, needs_series
 from flexlab_lib import least, ranges, report, sharp
 from flexlab_lib.cluster import read_cluster
 from flexlab_lib.ending import Stop
@@ -82,6 +82,8 @@ class Formulas(Case):
             self.assertEqual([least.holds(number, sides[number]) for number in range(1, 6)], [True] * 5)
             self.assertIsNone(sides["lasts"])
             self.assertFalse(least.holds(1, least.sharp_bounds_of({**p, "pClusterDriftDamping": damping - 1}, kind)[1]))
+        # With both sides equal the first check holds; a microtick is 999,900 ticks at least.
+        self.assertEqual([least.least_sharp_damping(p, least.Kind(True, flutter, 8)) for flutter in (999901, 999902)], [2, 3])
         self.assertIn(f"is {ranges.PARAMETERS['gdActionPointOffset'][1]} at most",
                       least.least_sharp({**p, "pMicroPerCycle": 4000}, kind, 2)[1])
 
@@ -97,7 +99,7 @@ class Flutter(Case):
         self.assertEqual(self.flutter((2, 11000000), (4, 9000000)), 0)
         self.assertEqual(self.flutter((3, 11000000), (4, 9000000), (9, 9000400)), 1000000)
         self.assertEqual(self.flutter((2, 5000000), (3, 5000300), (4, 9000000), (7, 8999600)), 400)
-        self.assertEqual(self.flutter((119, 12000001)), 1)
+        self.assertEqual(self.flutter((119, 12000001), (121, 1)), 1)
         without = edited(('[[delay]]\nfrom = "all"\nto = "all"\nns = 175\n', ""), ("to = [2, 3, 4]", "to = [3, 4]"), text=PRODUCTION)
         self.assertEqual(self.flutter((5, 7000009), text=without), 9)
         self.assertEqual(self.flutter((5, 7000009), (5, 6000000), (6, 7000000), text=without), 1000000)
@@ -182,6 +184,7 @@ class Pages(Case):
         self.assertIn("PROVED IN PART, of 62 double cycles from there (620.000 ms), since C1 fails and the rates of all may walk "
                       f"together: not from cycle {2 * (first + 62)} on", page)
         self.assertIn("C1 asks for 12 at least", page)
+        self.assertRegex(page, r"Later skew .*? % of the precision; 99 % of cycles")
 
     @needs_series
     def test_a_walk_that_lasts_for_no_double_cycle(self):
@@ -189,6 +192,7 @@ class Pages(Case):
         self.assertEqual(self.told(10000000)["alone"].lasts, 0)
         self.assertIn("NOT PROVED: C1 fails, and the rate limit holds the walk of all rates for no double cycle", page)
         self.assertIn("is proved of no double cycles", page)
+        self.assertIn("In sharp sync NOT ALL THE WAY: from double cycle 0 on", page)
 
     @needs_series
     def test_each_way_holds_and_has_the_skew_that_it_tells(self):
@@ -196,6 +200,7 @@ class Pages(Case):
                         ("gdActionPointOffset = 4", "gdActionPointOffset = 1")) + TWO_FACED
         page = self.page(text)
         self.assertIn("Sharply covered NO: nothing is promised of this run's sharp precision check C3 fails, see below", page)
+        self.assertRegex(page, r"Later skew .*? % of the precision; 99 % of cycles")
         ways = re.findall(r"\d\. (all checks hold with .*?)(?=\d\. all|Frames)", page)
         self.assertEqual(len(ways), 2, page)
         skews = []
@@ -233,6 +238,25 @@ class Pages(Case):
         for told in ("sharp precision, 3.756 us", ">precision, 7.902 us", "in sync from cycle 2", "greatest skew in sync, 4.545 us"):
             self.assertIn(told, picture)
 
+    @needs_series
+    def test_sharp_sync_that_is_lost(self):
+        page = self.page(produced(SHORT, *WALK) + '[[oscillator]]\nnodes = 1\ncycles = "20-"\nppm = -1400\n')
+        cycle, macrotick = report.read_series(self.read("a.lab", "series.csv")).sharp.within[1:]
+        self.assertIn("In sharp sync NOT ALL THE WAY: from double cycle 0 on (cycle 0, 0.000 ms) at first; lost in double cycle 10",
+                      page)
+        self.assertIn("Sharply within NO: since then the skew was above the sharp precision, first in cycle "
+                      f"{cycle}, macrotick {macrotick}", page)
+
+    def test_a_way_counts_where_flexray_says_that_it_holds(self):
+        self.write("a.toml", produced(SHORT, ("pOffsetCorrectionOut = 127", "pOffsetCorrectionOut = 20")))
+        other = self.write("other", "#!/bin/sh\ncase \"$*\" in\n"
+                           f"    *advised*sharp*) {FLEXRAY} \"$@\" | sed 's/alone C3 holds/alone C3 fails/' ;;\n"
+                           f"    *) exec {FLEXRAY} \"$@\" ;;\nesac\n")
+        os.chmod(other, 0o755)
+        page = self.one_line(self.flexlab("run", "--flexray", other, "a.toml")[0])
+        self.assertIn("no values of these parameters are found with which all checks hold", page)
+        self.assertIn("flexray bound a.lab/advised/1/params.csv: checks fail", page)
+
     def test_nodes_that_join_are_left_to_the_older_bound(self):
         page = self.page(produced(SHORT) + JOINS)
         self.assertIn("Sharply covered NO: nothing is promised of this run's sharp precision nodes join it, and the sharper precision "
@@ -244,6 +268,9 @@ class Pages(Case):
         page = self.page(produced(SHORT), series=False)
         self.assertIn("Sharply covered not known: a check of the older bound fails", page)
         self.assertIn("Sharp precision 0.900 us", page)
+        self.assertIn("Sharp skew not known: flexray-series tells it, which is not installed", page)
+        page = self.page(produced(SHORT, *WALK), series=False)
+        self.assertIn("Sharp skew 0.400 us at most since it was first in sharp sync", page)
         page = self.page(EXAMPLE, series=False)
         self.assertIn("Sharply covered yes", page)
         self.assertIn("Older checks those of the older bound, above called Precision, hold too", page)
