@@ -11,3 +11,4 @@ pub mod SharpDecided
 pub mod SharpFollowing
 pub mod SharpStaying
 pub mod SharpWorlds
+pub mod SharpFigures

@@ -14,6 +14,7 @@ use Rattle.fr_sharp.specs.SharpStatement.{has_arbitrary, IsSharplyCovered, Keeps
 use Rattle.fr_sharp.specs.SharpTested.{IsFirstSharpSync}
 use Rattle.fr_series.specs.Basis.{basis_of, sharp_figures_of}
 use Rattle.fr_series.specs.SharpCovered.{first_sharp_gap}
+use Rattle.fr_series.specs.SharpMeaning.{AreSharpFigures}
 use Rattle.fr_series.specs.SharpText.{sharp_above_text, sharp_series_by, sharp_within_text}
 use Rattle.fr_series.specs.declared.figures.Figures.{Figures}
 
@@ -46,3 +47,4 @@ pub record IsSharpSeriesText (params : Values) (drift : DriftView) (script : Scr
       IsSharplyCovered params drift script (flutter_of params drift script) → (first : ℕ)
       → IsFirstSharpSync (has_arbitrary params script) params (flutter_of params drift script) cycles first
       → KeepsAndTells params drift script cycles first
+  pub figures : AreSharpFigures params drift script cycles
