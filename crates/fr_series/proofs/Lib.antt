@@ -12,3 +12,4 @@ pub mod SharpFollowing
 pub mod SharpStaying
 pub mod SharpWorlds
 pub mod SharpFigures
+pub mod SharpPlaces

@@ -1,25 +1,30 @@
 -- What the figures of a sharper series mean, from the laws of those that compute them.
-use Rattle.std.proofs.Common.{◌≡◌, ◌∙◌, ◌⊎◌, inl, inr, ℕ, zero, suc, ◌+◌, ◌<◌, ◌≤◌, Bool, true, false, Option, Some, None, refl, ap, sym, subst, arith}
+use Rattle.std.proofs.Common.{◌≡◌, ◌∙◌, ◌⊎◌, inl, inr, ℕ, zero, suc, ◌+◌, ◌<◌, ◌≤◌, Bool, true, false, Option, Some, None, length, refl, ap, sym, subst, arith}
+use Rattle.std.proofs.lemmas.List.{length-map}
 use Rattle.std.specs.Option.{option_map, option_or}
 use Rattle.std.specs.Prelude.{if◌then◌else◌}
-use Rattle.fr_cluster.specs.Values.{Values}
+use Rattle.fr_cluster.specs.Values.{Values, amount}
+use Rattle.fr_cluster.specs.declared.names.ParamName.TheVariants as name
 use Rattle.fr_coverage.specs.Coverage.{gap_of_run, some_join}
 use Rattle.fr_coverage.specs.First.{first_below}
 use Rattle.fr_coverage.specs.Flutter.{flutter_of}
-use Rattle.fr_coverage.specs.Order.{FindsGapOfRun, IsFirstGapOfRun}
+use Rattle.fr_coverage.specs.Order.{FindsGapOfRun}
 use Rattle.fr_coverage.specs.declared.gap.Gap.{Gap}
 use Rattle.fr_drift.specs.View.{DriftView}
 use Rattle.fr_script.specs.View.{ScriptView}
-use Rattle.fr_history.specs.Cycles.{Cycles}
+use Rattle.fr_history.specs.Cycles.{Cycle, Cycles, told_of}
 use Rattle.fr_sharp.specs.SharpBounds.{sharp_near}
-use Rattle.fr_sharp.specs.SharpChecks.{FirstSharpFailing, SharpChecksHold, sharp_holds_of}
+use Rattle.fr_sharp.specs.SharpChecks.{FirstSharpFailing, sharp_holds_of}
 use Rattle.fr_sharp.specs.SharpStatement.{has_arbitrary}
 use Rattle.fr_sharp.specs.SharpTested.{IsFirstSharpSync, IsUnfollowedSharpSyncAt, first_sharp_sync_of}
+use Rattle.fr_sharp.proofs.FreeLemmas.{sharp_sync_within}
+use Rattle.fr_series.specs.Basis.{sharp_figures_of, sharp_scale_of}
 use Rattle.fr_series.specs.SharpCovered.{failed_sharp, first_sharp_gap, sharp_check_gap, sharp_checks_gap}
-use Rattle.fr_series.specs.SharpMeaning.{IsFirstSharpGap, IsSharpGapFound, IsSharpSyncFound}
+use Rattle.fr_series.specs.SharpMeaning.{AreSharpFiguresOf, IsFirstSharpGap, IsSharpGapFound, IsSharpSyncFound}
 use Rattle.fr_series.specs.declared.sharp_gap.SharpGap.{SharpGap}
 use Rattle.fr_series.specs.declared.sharp_gap.SharpGap.TheVariants.{Join, Other}
 use Rattle.fr_series.proofs.SharpCovering.{check_fails, check_holds, covered_from, holds_below, sharp_checks-hold}
+use Rattle.fr_series.proofs.SharpPlaces.{above_since_is, greatest_since_is}
 
 -- ---- the first failing check
 
@@ -83,8 +88,23 @@ sharp_gap_found p d s flutter finds most (Some gap) is = first_gap_is p d s flut
 
 -- ---- sharp sync
 
-pub sharp_sync_found : (beside : Bool) (p : Values) (flutter : ℕ) (h : Cycles) (found : Option ℕ) → first_sharp_sync_of beside p flutter h ≡ found
+sharp_sync_found : (beside : Bool) (p : Values) (flutter : ℕ) (h : Cycles) (found : Option ℕ) → first_sharp_sync_of beside p flutter h ≡ found
     → ((double : ℕ) → first_sharp_sync_of beside p flutter h ≡ Some double → IsFirstSharpSync beside p flutter h double)
     → (first_sharp_sync_of beside p flutter h ≡ None → (double : ℕ) → IsUnfollowedSharpSyncAt beside p flutter h double → ⊥) → IsSharpSyncFound beside p flutter h found
 sharp_sync_found beside p flutter h None is one none = none is
 sharp_sync_found beside p flutter h (Some double) is one none = one double is
+
+pub sharp_figures_are : (beside : Bool) (p : Values) (flutter : ℕ) (h : Cycles) → 0 < amount p name.gMacroPerCycle
+    → ((double : ℕ) → first_sharp_sync_of beside p flutter h ≡ Some double → IsFirstSharpSync beside p flutter h double)
+    → (first_sharp_sync_of beside p flutter h ≡ None → (double : ℕ) → IsUnfollowedSharpSyncAt beside p flutter h double → ⊥)
+    → AreSharpFiguresOf beside p flutter h (sharp_figures_of beside p flutter h)
+sharp_figures_are beside p flutter h some one none =
+    let first : Option ℕ = first_sharp_sync_of beside p flutter h in
+    let long : length (told_of h) ≡ length h = length-map h (λ (c : Cycle). c.told) in
+    record {
+      synced = sharp_sync_found beside p flutter h first refl one none;
+      greatest =
+          greatest_since_is p (told_of h) first some
+          (λ double is. let within = sharp_sync_within beside p flutter h double (one double is).unfollowed in omega (arith, within, long));
+      above = above_since_is p (told_of h) (sharp_scale_of beside p flutter) first refl;
+    }

@@ -1,5 +1,5 @@
 -- What the figures of a sharper series mean, as facts about the files and about the cycles of the run, beside the search for them.
-use Rattle.std.specs.Prelude.{◌≡◌, ◌⊎◌, ℕ, ◌+◌, ◌*◌, ◌<◌, ◌≤◌, ℤ, pos, ◌<ℤ◌, ◌≤ℤ◌, Bool, true, false, length, Option, Some, None}
+use Rattle.std.specs.Prelude.{◌≡◌, ◌≢◌, ◌⊎◌, ℕ, ◌<◌, ◌≤◌, ℤ, pos, ◌<ℤ◌, ◌≤ℤ◌, Bool, true, false, length, Option, Some, None}
 use Rattle.fr_cluster.specs.Values.{Values, amount}
 use Rattle.fr_cluster.specs.declared.names.ParamName.TheVariants as name
 use Rattle.fr_coverage.specs.Coverage.{some_join}
@@ -16,7 +16,7 @@ use Rattle.fr_history.specs.Skew.{IsEarlierPlace, skew_at}
 use Rattle.fr_sharp.specs.SharpBounds.{sharp_near, sharp_precision}
 use Rattle.fr_sharp.specs.SharpChecks.{FirstSharpFailing, SharpChecksHold}
 use Rattle.fr_sharp.specs.SharpStatement.{has_arbitrary, IsSharplyCovered}
-use Rattle.fr_sharp.specs.SharpTested.{IsFirstSharpSync, IsUnfollowedSharpSyncAt, first_sharp_sync_of}
+use Rattle.fr_sharp.specs.SharpTested.{IsFirstSharpSync, IsUnfollowedSharpSyncAt}
 use Rattle.fr_series.specs.Basis.{sharp_figures_of}
 use Rattle.fr_series.specs.SharpCovered.{failed_sharp, first_sharp_gap}
 use Rattle.fr_series.specs.declared.figures.Figures.{Figures}
@@ -55,15 +55,60 @@ abbrev pub IsSharpSyncFound : Bool → Values → ℕ → Cycles → Option ℕ 
 IsSharpSyncFound beside p flutter h None = (double : ℕ) → IsUnfollowedSharpSyncAt beside p flutter h double → ⊥
 IsSharpSyncFound beside p flutter h (Some double) = IsFirstSharpSync beside p flutter h double
 
+-- ---- the skew since then
+
+-- the greatest skew of the cycles of a history from one on, over all their macroticks, and the first place at which it occurs
+pub record IsGreatestSkewFrom (p : Values) (h : History) (from : ℕ) (place : Peak) : Type 0 where
+  pub cycle_from : from ≤ place.cycle
+  pub cycle_in : place.cycle < length h
+  pub macrotick_in : place.macrotick < amount p name.gMacroPerCycle
+  pub reached : skew_at p h place.cycle place.macrotick ≡ place.skew
+  pub greatest :
+      (n m : ℕ) → from ≤ n → n < length h → m < amount p name.gMacroPerCycle → skew_at p h n m ≤ℤ place.skew
+  pub first :
+      (n m : ℕ) → from ≤ n → m < amount p name.gMacroPerCycle → IsEarlierPlace n m place.cycle place.macrotick
+      → skew_at p h n m ≢ place.skew
+
+-- the first place of the cycles of a history from one on at which the skew is above a limit, with the skew there
+pub record IsFirstSkewAbove (p : Values) (h : History) (from : ℕ) (limit : ℤ) (place : Peak) : Type 0 where
+  pub cycle_from : from ≤ place.cycle
+  pub cycle_in : place.cycle < length h
+  pub macrotick_in : place.macrotick < amount p name.gMacroPerCycle
+  pub reached : skew_at p h place.cycle place.macrotick ≡ place.skew
+  pub above : limit <ℤ place.skew
+  pub first :
+      (n m : ℕ) → from ≤ n → m < amount p name.gMacroPerCycle → IsEarlierPlace n m place.cycle place.macrotick
+      → skew_at p h n m ≤ℤ limit
+
+-- what is said of the greatest skew since a double cycle: it is named where that one is
+abbrev pub IsGreatestSince : Values → History → Option ℕ → Option Peak → Type 0
+IsGreatestSince p h None greatest = greatest ≡ None
+IsGreatestSince p h (Some double) None = ⊥
+IsGreatestSince p h (Some double) (Some place) = IsGreatestSkewFrom p h (even_cycle double) place
+
+-- what is said where a place is named at which the skew since a double cycle is above a limit, and where none is: then it is
+-- nowhere above
+abbrev pub IsAboveSince : Values → History → ℤ → Option ℕ → Option Peak → Type 0
+IsAboveSince p h limit None above = above ≡ None
+IsAboveSince p h limit (Some double) None =
+    (n m : ℕ) → even_cycle double ≤ n → n < length h → m < amount p name.gMacroPerCycle → skew_at p h n m ≤ℤ limit
+IsAboveSince p h limit (Some double) (Some place) = IsFirstSkewAbove p h (even_cycle double) limit place
+
 -- ---- all of them
 
--- what the figures of a sharper series mean: the flutter of the run, why it is not sharply covered, and the first double cycle in
--- sharp sync in which no node follows
+-- what the figures of sharp sync mean: the first double cycle in which no node follows, the greatest skew since then with its first
+-- place, and the first place at which it is above the sharper precision
+pub record AreSharpFiguresOf (beside : Bool) (p : Values) (flutter : ℕ) (h : Cycles) (figures : Figures) : Type 0 where
+  pub synced : IsSharpSyncFound beside p flutter h figures.synced
+  pub greatest : IsGreatestSince p (told_of h) figures.synced figures.greatest
+  pub above : IsAboveSince p (told_of h) (pos (sharp_precision beside p flutter)) figures.synced figures.above
+
+-- what a sharper series tells of a run: its flutter, why it is not sharply covered, and the figures of sharp sync
 pub record AreSharpFigures (params : Values) (drift : DriftView) (script : ScriptView) (h : Cycles) : Type 0 where
   pub flutter : IsFlutterOf params drift script (flutter_of params drift script)
   pub gap :
       IsSharpGapFound params drift script (flutter_of params drift script)
       (first_sharp_gap params drift script (flutter_of params drift script))
-  pub synced :
-      IsSharpSyncFound (has_arbitrary params script) params (flutter_of params drift script) h
-      (sharp_figures_of (has_arbitrary params script) params (flutter_of params drift script) h).synced
+  pub sharp :
+      AreSharpFiguresOf (has_arbitrary params script) params (flutter_of params drift script) h
+      (sharp_figures_of (has_arbitrary params script) params (flutter_of params drift script) h)

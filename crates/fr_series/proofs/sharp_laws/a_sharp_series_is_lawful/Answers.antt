@@ -1,4 +1,6 @@
-use Rattle.std.proofs.Common.{◌≡◌, ℕ, ◌*◌, Bool, length, refl, arith}
+use Rattle.std.proofs.Common.{◌≡◌, ℕ, ◌*◌, ◌<◌, Bool, length, refl, arith, rules}
+use Rattle.fr_cluster.specs.Values.{amount}
+use Rattle.fr_cluster.specs.declared.names.ParamName.TheVariants as name
 use Rattle.fr_coverage.specs.Decided.{setting_of}
 use Rattle.fr_coverage.specs.Flutter.{flutter_of}
 use Rattle.fr_drift.specs.Questions.{doubles_of}
@@ -6,9 +8,8 @@ use Rattle.fr_history.specs.Cycles.{Cycles}
 use Rattle.fr_history.specs.Lawful.{IsLawful}
 use Rattle.fr_history.specs.Next.{cycles_of}
 use Rattle.fr_sharp.specs.SharpStatement.{has_arbitrary}
-use Rattle.fr_sharp.specs.SharpTested.{first_sharp_sync_of}
 use Rattle.fr_series.specs.SharpCovered.{first_sharp_gap}
-use Rattle.fr_series.proofs.SharpFigures.{sharp_gap_found, sharp_sync_found}
+use Rattle.fr_series.proofs.SharpFigures.{sharp_figures_are, sharp_gap_found}
 use Rattle.fr_series.proofs.sharp_laws.a_sharp_series_is_lawful.Goals as goal
 
 pub returns : goal.returns
@@ -18,6 +19,7 @@ returns c = λ p d s sane proper.
     let whole : length h ≡ 2 * doubles_of d = c.one_lawful_run.ensures.long (setting_of p d s) (2 * doubles_of d) in
     let beside : Bool = has_arbitrary p s in
     let flutter : ℕ = flutter_of p d s in
+    let some : 0 < amount p name.gMacroPerCycle = search rules in
     record {
       cycles = h;
       lawful = lawful;
@@ -28,8 +30,8 @@ returns c = λ p d s sane proper.
       figures = record {
         flutter = c.flutter_is_the_greatest.ensures.greatest p d s;
         gap = sharp_gap_found p d s flutter (c.found_gap_of_run_is_first.ensures p d s sane) (omega arith) (first_sharp_gap p d s flutter) refl;
-        synced =
-            sharp_sync_found beside p flutter h (first_sharp_sync_of beside p flutter h) refl (c.one_first_sharp_sync.ensures.found beside p flutter h)
+        sharp =
+            sharp_figures_are beside p flutter h some (c.one_first_sharp_sync.ensures.found beside p flutter h)
             (c.one_first_sharp_sync.ensures.none beside p flutter h);
       };
     }
