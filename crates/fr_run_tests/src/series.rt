@@ -1,9 +1,10 @@
 // The second program's answers.
 use crate::answers::{CALM, CLUSTER};
-use crate::calls::File::Bytes;
-use crate::calls::{Faults, NONE, Program, answers};
+use crate::calls::File::{Bytes, Params};
+use crate::calls::{Faults, Lines, NONE, Program, answers};
 use fr_answer::Status;
 use fr_answer::Status::{Done, Usage, WriteFault};
+use fr_samples::TWO_ON_A;
 use std::alloc::{AllocError, Global};
 use std::test::Fail;
 
@@ -20,6 +21,25 @@ const LATE: &[u8] = b"doubles,3,,,,\nlength,1,0,1000000,,\nlength,1,2,1001500,,\
 
 // The same from cycle 0 on: never in sync.
 const NEVER: &[u8] = b"doubles,2,,,,\nlength,1,0,1001500,,\n";
+
+// A rate limit that is a microtick too small for the second check: lengths do not walk, and yet sharp sync lasts for no
+// double cycle.
+const TIGHT: Lines = &[("param,pRateCorrectionOut", "param,pRateCorrectionOut,80,,")];
+
+const HELD_FOR_NONE: &str = "\
+cycle,in_sync,skew,macrotick,sharp\n\
+0,yes,0,0,yes\n\
+1,yes,0,0,yes\n\
+greatest,0,0,0,\n\
+synced,yes,,,\n\
+within,yes,,,\n\
+flutter,0,,,\n\
+sharp,39007594,alone,,\n\
+sharp covered,no,,,check 2 79984000 80000000\n\
+sharp synced,0,0,,\n\
+sharp greatest,0,0,0,\n\
+sharp within,yes,,,\n\
+";
 
 const USAGE: &str = "usage: flexray-series PARAMS DRIFT SCRIPT\n";
 
@@ -173,5 +193,17 @@ fn first_other(alloc: Global) -> Result<Option<usize>, AllocError> {
 #[test]
 fn series_of_runs_are_written(rt: HostRuntime) -> Result<(), Fail> {
     assert_eq!(rt; first_other(rt.alloc())?, None);
+    Ok(())
+}
+
+#[test]
+fn a_walk_is_held_for_no_double_cycle(rt: HostRuntime) -> Result<(), Fail> {
+    let files = [
+        Params(TIGHT, TWO_ON_A),
+        Bytes("d", b"doubles,1,,,,\n"),
+        CALM,
+    ];
+    let wanted = (Done, HELD_FOR_NONE.as_bytes(), "");
+    assert!(rt; answers(rt.alloc(), Program::Series, SHARP, &files, NONE, wanted)?);
     Ok(())
 }

@@ -11,3 +11,5 @@ pub mod SharpDecided
 pub mod SharpFollowing
 pub mod SharpStaying
 pub mod SharpWorlds
+pub mod SharpFigures
+pub mod SharpPlaces

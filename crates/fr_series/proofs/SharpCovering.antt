@@ -20,10 +20,10 @@ use Rattle.fr_series.specs.declared.sharp_gap.SharpGap.TheVariants.{Join, Other}
 
 -- ---- the checks
 
-check_holds : (beside : Bool) (p : Values) (flutter k : ℕ) → sharp_holds_of (k + 2) flutter (sharp_near beside p flutter) p ≡ true → sharp_check_gap beside p flutter k ≡ None
+pub check_holds : (beside : Bool) (p : Values) (flutter k : ℕ) → sharp_holds_of (k + 2) flutter (sharp_near beside p flutter) p ≡ true → sharp_check_gap beside p flutter k ≡ None
 check_holds beside p flutter k is = ap (λ (b : Bool). if b then None else Some (failed_sharp beside p flutter (k + 2))) is
 
-check_fails : (beside : Bool) (p : Values) (flutter k : ℕ) → sharp_holds_of (k + 2) flutter (sharp_near beside p flutter) p ≡ false
+pub check_fails : (beside : Bool) (p : Values) (flutter k : ℕ) → sharp_holds_of (k + 2) flutter (sharp_near beside p flutter) p ≡ false
     → sharp_check_gap beside p flutter k ≡ Some (failed_sharp beside p flutter (k + 2))
 check_fails beside p flutter k is = ap (λ (b : Bool). if b then None else Some (failed_sharp beside p flutter (k + 2))) is
 
@@ -72,13 +72,17 @@ holds_at : (beside : Bool) (p : Values) (flutter k : ℕ) (holds : Bool) → sha
 holds_at beside p flutter k true is none = is
 holds_at beside p flutter k false is none = let e : Some (failed_sharp beside p flutter (k + 2)) ≡ None = sym (check_fails beside p flutter k is) ∙ none in absurd (cc)
 
-sharp_checks-hold : (beside : Bool) (p : Values) (flutter : ℕ) → sharp_checks_gap beside p flutter ≡ None → SharpChecksHold flutter (sharp_near beside p flutter) p
-sharp_checks-hold beside p flutter none = λ number from to.
+pub holds_below : (beside : Bool) (p : Values) (flutter n number : ℕ) → first_below (sharp_check_gap beside p flutter) n ≡ None → 2 ≤ number → number < n + 2
+    → sharp_holds_of number flutter (sharp_near beside p flutter) p ≡ true
+holds_below beside p flutter n number none from less =
     let k = less_two number from in
     let e = k.1 in
     let reach : ℕ = sharp_near beside p flutter in
     ap (λ (n : ℕ). sharp_holds_of n flutter reach p) e
-    ∙ holds_at beside p flutter k.0 (sharp_holds_of (k.0 + 2) flutter reach p) refl (below_none (sharp_check_gap beside p flutter) 4 k.0 none (omega (arith, e, to)))
+    ∙ holds_at beside p flutter k.0 (sharp_holds_of (k.0 + 2) flutter reach p) refl (below_none (sharp_check_gap beside p flutter) n k.0 none (omega (arith, e, less)))
+
+pub sharp_checks-hold : (beside : Bool) (p : Values) (flutter : ℕ) → sharp_checks_gap beside p flutter ≡ None → SharpChecksHold flutter (sharp_near beside p flutter) p
+sharp_checks-hold beside p flutter none = λ number from to. holds_below beside p flutter 4 number none from (omega (arith, to))
 
 -- ---- all of them
 

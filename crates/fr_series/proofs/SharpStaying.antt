@@ -27,6 +27,7 @@ use Rattle.fr_sharp.specs.SharpFiles.{CoveredFilesKeepSharply}
 use Rattle.fr_sharp.specs.SharpStatement.{has_arbitrary, IsSharplyCovered, KeepsSharply}
 use Rattle.fr_sharp.specs.SharpTested.{IsFirstSharpSync, first_sharp_sync_of, is_in_sharp_sync, sharp_sync_bounds_of}
 use Rattle.fr_sharp.proofs.FreeLemmas.{first_sharp_sync_is, first_sharp_sync_is_one, never_sharp_sync}
+use Rattle.fr_series.specs.Basis.{walk_held}
 use Rattle.fr_series.specs.Figures.{DoubleTest, above_from, figures_by}
 use Rattle.fr_series.specs.Scale.{above_at, first_above}
 use Rattle.fr_series.specs.SharpAnswer.{KeepsAndTells, TellsSharply}
@@ -206,4 +207,6 @@ stays_sharp keeps p d s h first sane covered lawful whole at =
     )) in
     let P : Option ℕ → Type 0 = λ found. TellsSharply lasts (doubles_of d) first (figures_by (scale_by p bounds limit) test found h) in
     let is : first_sharp_sync_of beside p flutter h ≡ Some first = found_is beside p flutter h first at (first_sharp_sync_of beside p flutter h) refl in
-    record { keeps = kept; tells = subst P (sym is) tells }
+    let held : walk_held beside p flutter ≡ lasts = ap (λ (holds : Bool). if holds then lasts else Some 0) (covered.checks 2 (omega arith) (omega arith)) in
+    let Q : Option ℕ → Type 0 = λ many. TellsSharply many (doubles_of d) first (figures_by (scale_by p bounds limit) test (first_sharp_sync_of beside p flutter h) h) in
+    record { keeps = kept; tells = subst Q (sym held) (subst P (sym is) tells) }

@@ -1,5 +1,5 @@
 -- What a sharper series rests on, and how its figures follow from those before a double cycle.
-use Rattle.std.specs.Prelude.{◌≡◌, ℕ, pos, Bool, List}
+use Rattle.std.specs.Prelude.{◌≡◌, ℕ, pos, Bool, List, Option, Some, if◌then◌else◌}
 use Rattle.fr_base.specs.declared.node_row.NodeRow.{NodeRow}
 use Rattle.fr_cluster.specs.Values.{Values}
 use Rattle.fr_coverage.specs.Flutter.{flutter_of}
@@ -9,7 +9,8 @@ use Rattle.fr_time.specs.Position.{grid_for}
 use Rattle.fr_time.specs.declared.grid.Grid.{Grid}
 use Rattle.fr_skew.specs.Sync.{are_in_sync_by_even}
 use Rattle.fr_history.specs.Cycles.{Cycles}
-use Rattle.fr_sharp.specs.SharpBounds.{sharp_precision, walk_lasts}
+use Rattle.fr_sharp.specs.SharpBounds.{sharp_near, sharp_precision, walk_lasts}
+use Rattle.fr_sharp.specs.SharpChecks.{sharp_holds_of}
 use Rattle.fr_sharp.specs.SharpStatement.{has_arbitrary}
 use Rattle.fr_sharp.specs.SharpTested.{first_sharp_sync_of, is_in_sharp_sync, sharp_sync_bounds_of}
 use Rattle.fr_series.specs.Figures.{figures_by, figures_of}
@@ -39,12 +40,17 @@ pub record AreScales (grid : Grid) (scales : Scales) : Type 0 where
   pub older_is : IsScale scales.older
   pub sharp_is : IsScale scales.sharp
 
+-- for how many double cycles the rate limit holds the walk of lengths, on and on without a number, and for none where the second
+-- check fails
+abbrev pub walk_held : Bool → Values → ℕ → Option ℕ
+walk_held beside p flutter = if sharp_holds_of 2 flutter (sharp_near beside p flutter) p then walk_lasts p flutter else Some 0
+
 -- that of the run of some parameters, a drift and a script, with its own flutter
 abbrev pub basis_of : Values → DriftView → ScriptView → Basis
 basis_of p d s = record {
   flutter = flutter_of p d s;
   beside = has_arbitrary p s;
-  lasts = walk_lasts p (flutter_of p d s);
+  lasts = walk_held (has_arbitrary p s) p (flutter_of p d s);
   gap = first_sharp_gap p d s (flutter_of p d s);
   scales = scales_of (has_arbitrary p s) p (flutter_of p d s);
 }

@@ -8,4 +8,5 @@ pub mod Writing
 pub mod Basis
 pub mod SharpAnswer
 pub mod SharpCovered
+pub mod SharpMeaning
 pub mod SharpText

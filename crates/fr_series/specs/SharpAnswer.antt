@@ -9,11 +9,11 @@ use Rattle.fr_script.specs.View.{ScriptView}
 use Rattle.fr_skew.specs.declared.peak.Peak.{Peak}
 use Rattle.fr_history.specs.Cycles.{Cycles}
 use Rattle.fr_history.specs.Lawful.{IsLawful}
-use Rattle.fr_sharp.specs.SharpBounds.{walk_lasts}
 use Rattle.fr_sharp.specs.SharpStatement.{has_arbitrary, IsSharplyCovered, KeepsSharply}
 use Rattle.fr_sharp.specs.SharpTested.{IsFirstSharpSync}
-use Rattle.fr_series.specs.Basis.{basis_of, sharp_figures_of}
+use Rattle.fr_series.specs.Basis.{basis_of, sharp_figures_of, walk_held}
 use Rattle.fr_series.specs.SharpCovered.{first_sharp_gap}
+use Rattle.fr_series.specs.SharpMeaning.{AreSharpFigures}
 use Rattle.fr_series.specs.SharpText.{sharp_above_text, sharp_series_by, sharp_within_text}
 use Rattle.fr_series.specs.declared.figures.Figures.{Figures}
 
@@ -29,7 +29,7 @@ pub record TellsSharply (lasts : Option ℕ) (doubles first : ℕ) (figures : Fi
 pub record KeepsAndTells (p : Values) (d : DriftView) (s : ScriptView) (h : Cycles) (first : ℕ) : Type 0 where
   pub keeps : KeepsSharply (has_arbitrary p s) (setting_of p d s) (flutter_of p d s) h first
   pub tells :
-      TellsSharply (walk_lasts p (flutter_of p d s)) (doubles_of d) first
+      TellsSharply (walk_held (has_arbitrary p s) p (flutter_of p d s)) (doubles_of d) first
       (sharp_figures_of (has_arbitrary p s) p (flutter_of p d s) h)
 
 -- a text is the sharper series of the lawful cycles of that run: there is one such list of all its cycles and no other. It says
@@ -46,3 +46,4 @@ pub record IsSharpSeriesText (params : Values) (drift : DriftView) (script : Scr
       IsSharplyCovered params drift script (flutter_of params drift script) → (first : ℕ)
       → IsFirstSharpSync (has_arbitrary params script) params (flutter_of params drift script) cycles first
       → KeepsAndTells params drift script cycles first
+  pub figures : AreSharpFigures params drift script cycles

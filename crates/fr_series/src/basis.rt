@@ -1,5 +1,5 @@
 ghost use Rattle.std.specs.Prelude.{◌≡◌, ◌≤◌};
-ghost use Rattle.fr_series.specs.Basis.{basis_of, scales_of, sharp_scale_of, AreScales};
+ghost use Rattle.fr_series.specs.Basis.{basis_of, scales_of, sharp_scale_of, walk_held, AreScales};
 ghost use Rattle.fr_series.specs.Scale.{IsScale};
 ghost use Rattle.fr_sharp.specs.SharpBounds.{most_flutter};
 ghost use Rattle.fr_time.specs.Position.{grid_for};
@@ -11,7 +11,7 @@ use fr_cluster::Params;
 use fr_coverage::flutter;
 use fr_drift::Drift;
 use fr_script::Script;
-use fr_sharp::{has_arbitrary, sharp_bounds, sharp_lasts};
+use fr_sharp::{has_arbitrary, sharp_bounds, sharp_lasts, sharp_side};
 use fr_skew::{SyncBounds, sync_bounds};
 use fr_time::grid_of;
 
@@ -31,7 +31,8 @@ pub struct Basis {
     pub flutter: u64,
     /// Whether some sync node is arbitrary.
     pub beside: bool,
-    /// For how many double cycles the rate limit holds the walk of lengths; None where it does on and on.
+    /// For how many double cycles the rate limit holds the walk of lengths, 0 where the second check fails; None where it
+    /// does on and on.
     pub lasts: Option<u64>,
     /// Why the run is not sharply covered; None where it is.
     pub gap: Option<SharpGap>,
@@ -50,10 +51,21 @@ impl Basis {
         Basis {
             flutter,
             beside,
-            lasts: sharp_lasts(params, flutter),
+            lasts: walk_held(params, beside, flutter),
             gap: first_sharp_gap(params, drift, script, flutter),
             scales: scales_for(params, beside, flutter),
         }
+    }
+}
+
+fn walk_held(params: &Params, beside: bool, flutter: u64) -> Option<u64>
+    requires { flutter ≤ most_flutter }
+    ensures { result ≡ walk_held beside params.now flutter }
+{
+    if sharp_side(params, beside, flutter, 2).holds {
+        sharp_lasts(params, flutter)
+    } else {
+        Some(0)
     }
 }
 

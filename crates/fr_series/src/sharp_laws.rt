@@ -16,14 +16,15 @@ ghost use Rattle.fr_series.specs.SharpAnswer.{IsSharpSeriesText, KeepsAndTells};
 ghost use Rattle.fr_series.specs.SharpCovered.{first_sharp_gap};
 ghost use Rattle.fr_series.specs.SharpText.{sharp_series_text};
 
-use fr_coverage::found_gap_of_run_is_first;
+use fr_coverage::{flutter_is_the_greatest, found_gap_of_run_is_first};
 use fr_history::one_lawful_run;
-use fr_sharp::covered_files_keep_sharply;
+use fr_sharp::{covered_files_keep_sharply, one_first_sharp_sync};
 use fr_world::files_decide_one_run;
 
 /// A law: the text of the sharper series of some parameters, a drift and a script is that of their one lawful run over all
 /// cycles; it says that this is sharply covered exactly where it is, and then the run keeps the sharper precision as the
-/// promise says, and the text tells it. The premises are the invariants of `Params` and of `Script`.
+/// promise says, and the text tells it; and its figures are what they are called. The premises are the invariants of
+/// `Params` and of `Script`.
 pub fn a_sharp_series_is_lawful()
     ensures { (p : Values) (d : DriftView) (s : ScriptView) →
         IsSane p → IsScript s → IsSharpSeriesText p d s (sharp_series_text p d s) }
@@ -32,6 +33,9 @@ pub fn a_sharp_series_is_lawful()
     files_decide_one_run();
     a_gap_is_told();
     a_covered_run_stays_in_sharp_sync();
+    found_gap_of_run_is_first();
+    flutter_is_the_greatest();
+    one_first_sharp_sync();
 }
 
 /// A law: the bytes of the files decide what is written. Two texts that the answer's clause allows for files of the
