@@ -76,7 +76,7 @@ pairs R a b c d ab ac ad bc bd cd =
 sane_node : (id : ℕ) → 1 ≤ id → id ≤ 64 → IsSaneNode (on_a id)
 sane_node id from to = record { proper = record { from = from; to = to; key = (from, omega arith) }; starts = refl }
 
-is_sane : IsSane driven_cluster
+pub is_sane : IsSane driven_cluster
 is_sane = record {
   ranges = in_range;
   constraints = record {
@@ -174,7 +174,7 @@ flutters_little late early one other =
 
 -- ---- what is stated of it
 
-on_channel : (some : NodeSpec) → Contains (correct_nodes driven_run) some → has_channel (Some some) A ≡ true
+pub on_channel : (some : NodeSpec) → Contains (correct_nodes driven_run) some → has_channel (Some some) A ≡ true
 on_channel some there =
     All-contains (λ (n : NodeSpec). has_channel (Some n) A ≡ true) driven_cluster.nodes some
     (four (λ (n : NodeSpec). has_channel (Some n) A ≡ true) (on_a 1) (on_a 2) (on_a 3) (on_a 4) refl refl refl refl) (correct_node driven_run some there).there

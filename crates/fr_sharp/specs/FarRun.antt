@@ -1,6 +1,6 @@
 -- Of any cluster a run that reaches nearly all of the sharper precision in its first double cycle: one node begins first and is
 -- fast, and all others begin later and are slow.
-use Rattle.std.specs.Prelude.{◌≡◌, ◌≢◌, ◌==◌, ◌+◌, ◌*◌, ◌≤◌, ◌≤ℤ◌, ◌+ℤ◌, ◌-ℤ◌, ◌*ℤ◌, ℕ, ℤ, pos, Bool, ◌&&◌, if◌then◌else◌, Contains, None}
+use Rattle.std.specs.Prelude.{◌≡◌, ◌≢◌, ◌==◌, ◌+◌, ◌*◌, ◌≤◌, ◌≤ℤ◌, ◌+ℤ◌, ◌-ℤ◌, ◌*ℤ◌, ℕ, ℤ, pos, Bool, false, ◌&&◌, if◌then◌else◌, Contains, None}
 use Rattle.fr_base.specs.Event.Event.{Regular}
 use Rattle.fr_base.specs.declared.channel.Channel.{Channel}
 use Rattle.fr_cluster.specs.Questions.{compensation_of}
@@ -11,7 +11,7 @@ use Rattle.fr_cluster.specs.declared.names.ParamName.TheVariants as name
 use Rattle.fr_cluster.specs.declared.nodes.NodeSpec.{NodeSpec}
 use Rattle.fr_midpoint.specs.Receivers.{AreFew}
 use Rattle.fr_time.specs.Position.{even_position, grid_for}
-use Rattle.fr_bound.specs.Bounds.{lambda_of, longest_micro, nominal, pi_of, shortest_micro}
+use Rattle.fr_bound.specs.Bounds.{lambda_of, longest_micro, nominal, pi_of, precision_of, shortest_micro}
 use Rattle.fr_bound.specs.Checks.{AllChecksHold}
 use Rattle.fr_precision.specs.Round.{sync_count}
 use Rattle.fr_history.specs.Cycles.{told_of}
@@ -20,6 +20,7 @@ use Rattle.fr_history.specs.Unfollowed.{RowsAreInSyncAt}
 use Rattle.fr_runs.specs.Links.{IsLinked, Share}
 use Rattle.fr_runs.specs.Stated.{all_cycles, IsCoveredRun}
 use Rattle.fr_runs.specs.Supplied.{stays_on}
+use Rattle.fr_sharp.specs.DrivenRun.{driven_cluster}
 use Rattle.fr_sharp.specs.SharpBounds.{sharp_lambda, sharp_pi}
 use Rattle.fr_sharp.specs.SharpHistories.{IsInSharpSyncAt, IsSteadyRun}
 use Rattle.fr_sharp.specs.SteadyRuns.{MayHaveArbitrary}
@@ -143,3 +144,23 @@ WorkedFarRuns =
     → IsFar (worked_far said beside) (sharp_pi beside steady_cluster 0) (sharp_lambda beside steady_cluster 0)
     × MayHaveArbitrary beside (far_apart_run (worked_far said beside)) × HasTwo (worked_far said beside)
     × (far_skew (worked_far said beside) ≡ (if beside then pos 96_622_618 else pos 33_809_863))
+
+-- and a cluster that meets the older checks
+abbrev pub older_far : Said → Far
+older_far said = record {
+  params = driven_cluster;
+  is_arbitrary = λ id. false;
+  said = said;
+  first = 1;
+  later = 190_043_200;
+  short = pos 999_800;
+  long = pos 999_950;
+}
+
+-- it is such a run, of 98 hundredths of the older precision
+abbrev pub WorkedOlderFarRun : Type 0
+WorkedOlderFarRun =
+    (said : Said)
+    → OfBytes said
+    → IsFar (older_far said) (pi_of driven_cluster) (lambda_of driven_cluster) × AllChecksHold driven_cluster
+    × HasTwo (older_far said) × (far_skew (older_far said) ≡ pos 249_443_200) × (precision_of driven_cluster ≡ 252_057_200)

@@ -1,4 +1,4 @@
-ghost use Rattle.fr_sharp.specs.FarRun.{FarRunsReach, FarRunsReachSharply, FarSkewsAreNear, WorkedFarRuns};
+ghost use Rattle.fr_sharp.specs.FarRun.{FarRunsReach, FarRunsReachSharply, FarSkewsAreNear, WorkedFarRuns, WorkedOlderFarRun};
 
 use fr_history::one_lawful_run;
 
@@ -11,6 +11,7 @@ pub fn far_runs_reach()
     ensures older { FarRunsReach }
     ensures near { FarSkewsAreNear }
     ensures met { WorkedFarRuns }
+    ensures older_met { WorkedOlderFarRun }
 {
     one_lawful_run();
 }

@@ -1,5 +1,5 @@
 use Rattle.fr_sharp.proofs.FarNumbers.{far_skews_are_near}
-use Rattle.fr_sharp.proofs.FarWorked.{worked_far_runs}
+use Rattle.fr_sharp.proofs.FarWorked.{worked_far_runs, worked_older_far_run}
 use Rattle.fr_sharp.proofs.RunFar.{far_runs_reach_sharply}
 use Rattle.fr_sharp.proofs.RunFarOlder.{far_runs_reach_older}
 use Rattle.fr_sharp.proofs.far_run.far_runs_reach.Goals as goal
@@ -15,3 +15,6 @@ returns-clause-older c = far_runs_reach_older c.one_lawful_run.ensures.lawful c.
 
 pub returns-clause-met : goal.returns-clause-met
 returns-clause-met c = worked_far_runs
+
+pub returns-clause-older_met : goal.returns-clause-older_met
+returns-clause-older_met c = worked_older_far_run
