@@ -33,7 +33,8 @@ pub record KeepsAndTells (p : Values) (d : DriftView) (s : ScriptView) (h : Cycl
       (sharp_figures_of (has_arbitrary p s) p (flutter_of p d s) h)
 
 -- a text is the sharper series of the lawful cycles of that run: there is one such list of all its cycles and no other. It says
--- that the run is sharply covered exactly where it is, and then the run keeps what the promise says, with its own flutter
+-- that the run is sharply covered exactly where it is, and then the run keeps what the promise says, with its own flutter; and its
+-- figures mean what they are called
 pub record IsSharpSeriesText (params : Values) (drift : DriftView) (script : ScriptView) (text : List ℕ) : Type 0 where
   pub cycles : Cycles
   pub lawful : IsLawful (setting_of params drift script) cycles
