@@ -38,3 +38,5 @@ pub mod FromFiles
 pub mod TestedLemmas
 pub mod FreeLemmas
 pub mod FilesWorked
+pub mod JoinBounds
+pub mod JoinWorked

@@ -10,6 +10,7 @@ pub mod SharpBounds
 pub mod SharpChecks
 pub mod SharpFiles
 pub mod SharpHistories
+pub mod SharpJoining
 pub mod SharpRound
 pub mod SharpRun
 pub mod SharpSettling

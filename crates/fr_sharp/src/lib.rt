@@ -12,6 +12,7 @@ mod ends;
 mod files;
 mod hearing;
 mod histories;
+mod joining;
 mod lasting;
 mod lengths;
 mod midpoints;
@@ -36,6 +37,7 @@ pub use histories::{
     histories_come_into_sharp_sync, histories_keep_sharp_sync, histories_settle_sharply,
     stated_runs_are_steady,
 };
+pub use joining::{followers_come_nearer, sharp_join_checks_suffice};
 pub use lasting::sharp_sync_lasts;
 pub use lengths::{lengths_come_near, ranges_walk};
 pub use midpoints::midpoints_agree;
