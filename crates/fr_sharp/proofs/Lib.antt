@@ -40,3 +40,4 @@ pub mod FreeLemmas
 pub mod FilesWorked
 pub mod JoinBounds
 pub mod JoinWorked
+pub mod SharpListened

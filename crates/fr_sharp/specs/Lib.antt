@@ -11,6 +11,7 @@ pub mod SharpChecks
 pub mod SharpFiles
 pub mod SharpHistories
 pub mod SharpJoining
+pub mod SharpListening
 pub mod SharpRound
 pub mod SharpRun
 pub mod SharpSettling

@@ -15,6 +15,7 @@ mod histories;
 mod joining;
 mod lasting;
 mod lengths;
+mod listening;
 mod midpoints;
 mod nearness;
 mod runs_flutter;
@@ -40,6 +41,7 @@ pub use histories::{
 pub use joining::{followers_come_nearer, sharp_join_checks_suffice};
 pub use lasting::sharp_sync_lasts;
 pub use lengths::{lengths_come_near, ranges_walk};
+pub use listening::listeners_come_near;
 pub use midpoints::midpoints_agree;
 pub use nearness::nodes_lie_near;
 pub use runs_flutter::stated_delays_flutter;
