@@ -41,3 +41,4 @@ pub mod FilesWorked
 pub mod JoinBounds
 pub mod JoinWorked
 pub mod SharpListened
+pub mod SharpGrouped
