@@ -42,3 +42,4 @@ pub mod JoinBounds
 pub mod JoinWorked
 pub mod SharpListened
 pub mod SharpGrouped
+pub mod SharpFollowed

@@ -72,7 +72,7 @@ first_length_sum l t q w c j k next other first is near also = record { low = om
 no_less_than : (a b : ℕ) → a ≤ b → pos a ≤ℤ pos b
 no_less_than a b le = omega (arith, ints, le)
 
-in_natural : (a b : ℕ) (r : ℤ) → a ≤ b → pos b ≤ℤ r → pos a ≤ℤ r
+pub in_natural : (a b : ℕ) (r : ℤ) → a ≤ b → pos b ≤ℤ r → pos a ≤ℤ r
 in_natural a b r le fits = omega (arith, ints, le, fits)
 
 -- what lies so near lies in the reach
@@ -85,6 +85,20 @@ near_fits p starts lengths reach sane fits =
   where
     step : (s l f q : ℕ) (x r : ℤ) → x ≡ pos f → pos (s + l + f + q) ≤ℤ r → (pos s +ℤ pos l +ℤ x +ℤ pos q) ≤ℤ r
     step s l f q x r is fits = omega (arith, ints, is, fits)
+
+-- so action points of two nodes lie within reach
+pub apart_reached : (p : Values) (starts lengths : ℕ) (reach : ℤ) (is_odd : Bool) (row node : Member) (action : ℤ) → IsSane p → pos (near_by p starts lengths) ≤ℤ reach
+    → IsRegular p row.even row.odd → IsRegular p node.even node.odd → StartApart starts row node → LastApart p lengths row node → pos 0 ≤ℤ action → action ≤ℤ pos (last_action p)
+    → IsWithin reach (gap_of p is_odd action (row_in is_odd row.even row.odd) (row_in is_odd node.even node.odd))
+apart_reached p starts lengths reach is_odd row node action sane fits one other start last from to =
+    wider (pos starts +ℤ pos lengths +ℤ floor_of (pos (last_action p) *ℤ pos (odd_spread p lengths)) p.macros +ℤ pos (longest_micro p)) reach (gap_of p is_odd action (row_in is_odd row.even row.odd) (row_in is_odd node.even node.odd))
+    (near_fits p starts lengths reach sane fits)
+    (
+    actions_lie_near p (pos starts) (pos lengths) (pos (odd_spread p lengths)) action (pos (last_action p)) is_odd row.even row.odd node.even node.odd sane
+    (runs_of p row.even row.odd sane one) (runs_of p node.even node.odd sane other)
+    (record { by_start = start; by_even = last; by_odd = odd_lengths_follow p lengths row.even row.odd node.even node.odd sane one other last })
+    from to (key_slots_act_early p sane).1
+    )
 
 -- senders lie within more than they do
 near_wider : (number : Sender → ℤ) (spread more : ℤ) (senders : List Sender) → spread ≤ℤ more → AreNear number spread senders → AreNear number more senders
@@ -119,10 +133,10 @@ module _
   }
 
   limit : IsSharpLimit p flutter beyond walk reach (pos (last_action p))
-  limit = record { sane = s.sane; walks = s.walks; suffices = s.limit; early = (key_slots_act_early p s.sane).1 }
+  limit = record { sane = s.sane; walks = s.walks; suffices = s.takes.limit; early = (key_slots_act_early p s.sane).1 }
 
   double : Double p (sharp_pi beside p flutter) (sharp_lambda beside p flutter) beyond g.rows
-  double = double_of beside p flutter senders g.rows (sharp_pi beside p flutter) (sharp_lambda beside p flutter) beyond (pos (last_action p)) s.sane s.sharp heard
+  double = double_of beside p flutter senders g.rows (sharp_pi beside p flutter) (sharp_lambda beside p flutter) beyond (pos (last_action p)) s.sane s.placed.sharp heard
 
   send : SendApart p (pos (sharp_pi beside p flutter)) (pos (sharp_lambda beside p flutter)) (pos (odd_spread p (sharp_lambda beside p flutter))) senders
   send = send_apart beside p flutter senders g.rows (sharp_pi beside p flutter) (sharp_lambda beside p flutter) beyond walk reach (pos (last_action p)) limit double heard
@@ -155,43 +169,33 @@ module _
   row_placed node here = record {
     start = λ row there. (nodes_near p (sharp_pi beside p flutter) (sharp_lambda beside p flutter) beyond g.rows double row node there here).by_start;
     last = λ row there. (nodes_near p (sharp_pi beside p flutter) (sharp_lambda beside p flutter) beyond g.rows double row node there here).by_even;
-    fits = s.fits;
+    fits = s.takes.fits;
   }
 
   second_placed : (node : Member) → Contains g.seconds node → IsPlaced p g.rows (sharp_second_apart beside p flutter) (sharp_lambda beside p flutter) reach node
   second_placed node here = record {
-    start = λ row there. s.seconds_start row node there here;
-    last = λ row there. s.seconds_last row node (inl there) here;
-    fits = in_natural (near_by p (sharp_second_apart beside p flutter) (sharp_lambda beside p flutter)) (sharp_reach beside p flutter) reach (followers_come_nearer_lem beside p flutter s.sane).2 (s.fits_followers node (inl here));
+    start = λ row there. s.placed.seconds_start row node there here;
+    last = λ row there. s.placed.seconds_last row node (inl there) here;
+    fits = in_natural (near_by p (sharp_second_apart beside p flutter) (sharp_lambda beside p flutter)) (sharp_reach beside p flutter) reach (followers_come_nearer_lem beside p flutter s.sane).2 (s.takes.fits_followers node (inl here));
   }
 
   first_placed : (node : Member) → Contains g.firsts node → IsPlaced p g.rows (sharp_first_apart beside p flutter) (sharp_first_lengths beside p flutter) reach node
   first_placed node here = record {
-    start = λ row there. s.firsts_start row node there here;
-    last = λ row there. s.firsts_last row node (inl there) here;
-    fits = s.fits_followers node (inr here);
+    start = λ row there. s.placed.firsts_start row node there here;
+    last = λ row there. s.placed.firsts_last row node (inl there) here;
+    fits = s.takes.fits_followers node (inr here);
   }
 
   -- so action points of a node lie within reach of those of each with a row
   placed_reached : (starts lengths : ℕ) (is_odd : Bool) (row node : Member) (action : ℤ) → IsPlaced p g.rows starts lengths reach node → Contains g.rows row → IsOf g node → pos 0 ≤ℤ action → action ≤ℤ pos (last_action p)
       → IsWithin reach (gap_of p is_odd action (row_in is_odd row.even row.odd) (row_in is_odd node.even node.odd))
   placed_reached starts lengths is_odd row node action placed there here from to =
-      let one = regular row (row_of row there) in
-      let other = regular node here in
-      let last = placed.last row there in
-      wider (pos starts +ℤ pos lengths +ℤ floor_of (pos (last_action p) *ℤ pos (odd_spread p lengths)) p.macros +ℤ pos (longest_micro p)) reach (gap_of p is_odd action (row_in is_odd row.even row.odd) (row_in is_odd node.even node.odd))
-      (near_fits p starts lengths reach s.sane placed.fits)
-      (
-      actions_lie_near p (pos starts) (pos lengths) (pos (odd_spread p lengths)) action (pos (last_action p)) is_odd row.even row.odd node.even node.odd s.sane
-      (runs_of p row.even row.odd s.sane one) (runs_of p node.even node.odd s.sane other)
-      (record { by_start = placed.start row there; by_even = last; by_odd = odd_lengths_follow p lengths row.even row.odd node.even node.odd s.sane one other last })
-      from to limit.early
-      )
+      apart_reached p starts lengths reach is_odd row node action s.sane placed.fits (regular row (row_of row there)) (regular node here) (placed.start row there) (placed.last row there) from to
 
   -- and it takes the senders' offsets, whose odd lengths lie so near its own
   takes : (starts lengths : ℕ) (node : Member) → IsPlaced p g.rows starts lengths reach node → IsOf g node → TakesOffsets p senders reach (pos (odd_spread p lengths)) node.odd node.offsets node.offset_term
   takes starts lengths node placed here = record {
-    suffices = s.limit;
+    suffices = s.takes.limit;
     reached = λ i d short. reached _ (s.among i d short) (s.acts i d short);
     near = All-along (IsAmong g.rows) (λ sender. IsWithin (pos (odd_spread p lengths)) (cycle_length_of p node.odd -ℤ cycle_length_of p sender.odd)) senders (λ sender is. odds sender is) s.among;
     round = (s.computes node here).by_offset;
@@ -215,7 +219,7 @@ module _
 
   will_take_wide : (node : Member) → WillHaveRow g node → TakesOffsets p senders reach (pos (odd_spread p (sharp_first_lengths beside p flutter))) node.odd node.offsets node.offset_term
   will_take_wide node here = record {
-    suffices = s.limit;
+    suffices = s.takes.limit;
     reached = (will_take node here).reached;
     near =
         All-along (λ sender. IsWithin (pos (odd_spread p (sharp_lambda beside p flutter))) (cycle_length_of p node.odd -ℤ cycle_length_of p sender.odd)) (λ sender. IsWithin (pos (odd_spread p (sharp_first_lengths beside p flutter))) (cycle_length_of p node.odd -ℤ cycle_length_of p sender.odd)) senders
@@ -229,10 +233,10 @@ module _
   -- ---- nodes that will have rows
 
   lasts_near : (one other : Member) → WillHaveRow g one → WillHaveRow g other → LastApart p (sharp_lambda beside p flutter) one other
-  lasts_near one other here (inr there) = s.seconds_last one other here there
+  lasts_near one other here (inr there) = s.placed.seconds_last one other here there
   lasts_near one other (inl here) (inl there) = (nodes_near p (sharp_pi beside p flutter) (sharp_lambda beside p flutter) beyond g.rows double one other here there).by_even
   lasts_near one other (inr here) (inl there) =
-      turned (pos (sharp_lambda beside p flutter)) (cycle_length_of p other.even) (cycle_length_of p one.even) (s.seconds_last other one (inl there) here)
+      turned (pos (sharp_lambda beside p flutter)) (cycle_length_of p other.even) (cycle_length_of p one.even) (s.placed.seconds_last other one (inl there) here)
 
   come : (next : ℤ) (one other : Member) → pos 0 ≤ℤ next → (beyond +ℤ walk) ≤ℤ next → WillHaveRow g one → WillHaveRow g other → ComeSharply p (sharp_pi beside p flutter) (sharp_lambda beside p flutter) next one other
   come next one other next_from next_to here there =
@@ -273,7 +277,7 @@ module _
       (
       ends_come_near_lem beside p senders (pos (sharp_pi beside p flutter)) (pos (sharp_lambda beside p flutter)) (pos (odd_spread p (sharp_first_lengths beside p flutter))) reach reach row.odd node.odd row.offsets node.offsets row.offset_term node.offset_term s.sane send_wide
       (will_take_wide row here) (all_take node (inr there))
-      (odd_lengths_follow p (sharp_first_lengths beside p flutter) row.even row.odd node.even node.odd s.sane (regular row (inl here)) (regular node (inr there)) (s.firsts_last row node here there))
+      (odd_lengths_follow p (sharp_first_lengths beside p flutter) row.even row.odd node.even node.odd s.sane (regular row (inl here)) (regular node (inr there)) (s.placed.firsts_last row node here there))
       (s.keep row node (inl here) (inr there)).0
       )
 
@@ -283,14 +287,14 @@ sharp_groups_are_kept beside p flutter beyond walk next senders g reach s next_f
   uncut =
       λ node here.
       let offsets = all_take beside p flutter beyond walk senders g reach s node here in
-      offset_terms_are_uncut p senders reach node.odd node.offsets node.offset_term s.sane s.limit (some beside p flutter beyond walk senders g reach s node here) offsets.reached offsets.round;
+      offset_terms_are_uncut p senders reach node.odd node.offsets node.offset_term s.sane s.takes.limit (some beside p flutter beyond walk senders g reach s node here) offsets.reached offsets.round;
   range =
       λ node here.
       range_walks p flutter senders beyond walk next node.odd node.rates node.rate_term s.sane s.walks (some beside p flutter beyond walk senders g reach s node here) (about beside p flutter beyond walk senders g reach s)
       (s.computes node here).by_rate next_from next_to;
   precise =
       λ one other macrotick is_odd here there from to.
-      macroticks_stay_sharp p (sharp_pi beside p flutter) (sharp_lambda beside p flutter) (sharp_pi beside p flutter) (sharp_lambda beside p flutter) beyond next g.rows one other (sharp_precision beside p flutter) macrotick is_odd s.sane s.sharp
+      macroticks_stay_sharp p (sharp_pi beside p flutter) (sharp_lambda beside p flutter) (sharp_pi beside p flutter) (sharp_lambda beside p flutter) beyond next g.rows one other (sharp_precision beside p flutter) macrotick is_odd s.sane s.placed.sharp
       (All-along (Contains g.rows) (λ (node : Member). IsRegular p node.even node.odd) g.rows (λ node at. (s.computes node (inl (inl at))).regular) (All-contains_itself g.rows)) here there
       (come beside p flutter beyond walk senders g reach s next one other next_from next_to (inl here) (inl there)) (le_itself (sharp_precision beside p flutter)) (ends_fit beside p flutter) from to;
   next_rows = rows_next beside p flutter beyond walk senders g reach s next next_from next_to;

@@ -6,17 +6,22 @@ use Rattle.fr_base.specs.declared.state.Outcome.TheVariants.{Within}
 use Rattle.fr_base.specs.Within.{IsBetween, IsWithin}
 use Rattle.fr_cluster.specs.Values.{Values}
 use Rattle.fr_cluster.specs.Sane.{IsSane}
+use Rattle.fr_cluster.specs.declared.nodes.NodeSpec.{NodeSpec}
 use Rattle.fr_reception.specs.Listening.{Caught, first_start_of}
 use Rattle.fr_bound.specs.Sync.{cycle_length_of}
 use Rattle.fr_precision.specs.Rows.{corrected_end_of, Sender}
 use Rattle.fr_precision.specs.Instants.{gap_of, row_in}
 use Rattle.fr_precision.specs.Offsets.{LimitSuffices}
 use Rattle.fr_precision.specs.Step.{IsAmong, IsFollowed, Member}
+use Rattle.fr_precision.specs.Round.{senders_of, Hearer, IsRound, IsSender, Round}
 use Rattle.fr_runs.specs.Group.{Group, IsFollower, IsOf, WillHaveRow}
+use Rattle.fr_runs.specs.Hearers.{group_of, Hearers, IsOneOf}
 use Rattle.fr_runs.specs.Listening.{BeginsAt}
 use Rattle.fr_sharp.specs.SharpBounds.{last_action, sharp_lambda, sharp_near, sharp_pi, sharp_precision}
 use Rattle.fr_sharp.specs.Lengths.{CanWalk, IsNextEven, KeepSenders, WalksOn}
 use Rattle.fr_sharp.specs.SharpStep.{AreSharp, ComputesSharply, IsInSharpSync}
+use Rattle.fr_sharp.specs.Hearing.{AllowsArbitrary}
+use Rattle.fr_sharp.specs.SharpRound.{IsSteadilySupplied}
 use Rattle.fr_sharp.specs.SharpJoining.{sharp_first_apart, sharp_first_lengths, sharp_reach, sharp_second_apart}
 use Rattle.fr_sharp.specs.SharpListening.{IsCaughtSharply, RateTakesIn}
 
@@ -28,22 +33,9 @@ abbrev pub LastApart : Values → ℕ → Member → Member → Type 0
 LastApart p lengths one other = IsWithin (pos lengths) (cycle_length_of p one.even -ℤ cycle_length_of p other.even)
 
 -- the nodes with rows lie as near as in sharp sync, with even lengths at most so far beyond their range, and the others near
--- them: in its second double cycle a node's lengths lie as near as all, in its first not yet. Each computes its terms from its
--- values of every sender, and the senders are among the nodes with rows. The offset limit suffices for a reach that takes in how
--- far action points of the nodes with rows may lie apart, and where a node follows, those of followers too
-pub record IsSharpGroup (beside : Bool) (p : Values) (flutter : ℕ) (beyond walk : ℤ) (senders : List Sender) (g : Group) (reach : ℤ) : Type 0 where
-  pub sane : IsSane p
-  pub walks : CanWalk p flutter beyond walk
-  pub limit : LimitSuffices p reach
-  pub fits : pos (sharp_near beside p flutter) ≤ℤ reach
-  pub fits_followers : (node : Member) → IsFollower g node → pos (sharp_reach beside p flutter) ≤ℤ reach
-  pub among : All (IsAmong g.rows) senders
-  pub acts : All (λ sender. IsBetween (pos 0) (pos (last_action p)) sender.action) senders
+-- them: in its second double cycle a node's lengths lie as near as all, in its first not yet
+pub record IsSharpPlacing (beside : Bool) (p : Values) (flutter : ℕ) (beyond : ℤ) (g : Group) : Type 0 where
   pub sharp : AreSharp p (sharp_pi beside p flutter) (sharp_lambda beside p flutter) beyond (map (λ node. node.even) g.rows)
-  pub computes : (node : Member) → IsOf g node → ComputesSharply p flutter senders node
-  pub keep :
-      (one other : Member) → IsOf g one → IsOf g other
-      → KeepSenders beside senders one.offsets other.offsets × KeepSenders beside senders one.rates other.rates
   pub seconds_start :
       (row node : Member) → Contains g.rows row → Contains g.seconds node → StartApart (sharp_second_apart beside p flutter) row node
   pub seconds_last :
@@ -53,6 +45,27 @@ pub record IsSharpGroup (beside : Bool) (p : Values) (flutter : ℕ) (beyond wal
   pub firsts_last :
       (other node : Member) → WillHaveRow g other → Contains g.firsts node
       → LastApart p (sharp_first_lengths beside p flutter) other node
+
+-- a reach takes in how far action points of the nodes with rows may lie apart, and where a node follows, those of followers too;
+-- the offset limit suffices for it
+pub record TakesInGroup (beside : Bool) (p : Values) (flutter : ℕ) (g : Group) (reach : ℤ) : Type 0 where
+  pub limit : LimitSuffices p reach
+  pub fits : pos (sharp_near beside p flutter) ≤ℤ reach
+  pub fits_followers : (node : Member) → IsFollower g node → pos (sharp_reach beside p flutter) ≤ℤ reach
+
+-- so placed, with such a reach, each computes its terms from its values of every sender, and the senders are among the nodes with
+-- rows
+pub record IsSharpGroup (beside : Bool) (p : Values) (flutter : ℕ) (beyond walk : ℤ) (senders : List Sender) (g : Group) (reach : ℤ) : Type 0 where
+  pub sane : IsSane p
+  pub walks : CanWalk p flutter beyond walk
+  pub takes : TakesInGroup beside p flutter g reach
+  pub among : All (IsAmong g.rows) senders
+  pub acts : All (λ sender. IsBetween (pos 0) (pos (last_action p)) sender.action) senders
+  pub placed : IsSharpPlacing beside p flutter beyond g
+  pub computes : (node : Member) → IsOf g node → ComputesSharply p flutter senders node
+  pub keep :
+      (one other : Member) → IsOf g one → IsOf g other
+      → KeepSenders beside senders one.offsets other.offsets × KeepSenders beside senders one.rates other.rates
 
 -- what the group comes to; next is how far beyond their range lengths may lie in the next double cycle
 pub record IsSharpGroupKept (beside : Bool) (p : Values) (flutter : ℕ) (beyond next : ℤ) (senders : List Sender) (g : Group) (reach : ℤ) : Type 0 where
@@ -102,3 +115,24 @@ SharpGroupsAreKept =
     (beside : Bool) (p : Values) (flutter : ℕ) (beyond walk next : ℤ) (senders : List Sender) (g : Group) (reach : ℤ)
     → IsSharpGroup beside p flutter beyond walk senders g reach → pos 0 ≤ℤ next → (beyond +ℤ walk) ≤ℤ next
     → IsSharpGroupKept beside p flutter beyond next senders g reach
+
+-- ---- a round with nodes that follow, whatever supplies it
+
+-- its receivers are placed so, within such a reach, and all are supplied; the senders are among the nodes with rows
+pub record IsSharpRoundFollowed (beside : Bool) (r : Round) (flutter : ℕ) (beyond walk : ℤ) (g : Hearers) (reach : ℤ) : Type 0 where
+  pub round : IsRound r
+  pub arbitrary : AllowsArbitrary beside r
+  pub walks : CanWalk r.params flutter beyond walk
+  pub takes : TakesInGroup beside r.params flutter (group_of r.params g) reach
+  pub placed : IsSharpPlacing beside r.params flutter beyond (group_of r.params g)
+  pub supplied : (n : Hearer) → IsOneOf g n → IsSteadilySupplied r flutter n
+  pub among :
+      (node : NodeSpec) (slot : ℕ) → IsSender r node slot
+      → (n : Hearer) × Contains g.rows n × (n.even ≡ r.even node.id) × (n.odd ≡ r.odd node.id)
+
+-- then it is such a group
+abbrev pub SharpRoundsAreFollowed : Type 0
+SharpRoundsAreFollowed =
+    (beside : Bool) (r : Round) (flutter : ℕ) (beyond walk : ℤ) (g : Hearers) (reach : ℤ)
+    → IsSharpRoundFollowed beside r flutter beyond walk g reach
+    → IsSharpGroup beside r.params flutter beyond walk (senders_of r) (group_of r.params g) reach
