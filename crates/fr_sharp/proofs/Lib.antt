@@ -43,3 +43,4 @@ pub mod JoinWorked
 pub mod SharpListened
 pub mod SharpGrouped
 pub mod SharpFollowed
+pub mod FollowersSupplied

@@ -9,6 +9,7 @@ pub mod SettlingHistories
 pub mod SharpBounds
 pub mod SharpChecks
 pub mod SharpFiles
+pub mod SharpFollowing
 pub mod SharpGroup
 pub mod SharpHistories
 pub mod SharpJoining

@@ -10,6 +10,7 @@ mod bounds;
 mod checking;
 mod ends;
 mod files;
+mod following;
 mod grouping;
 mod hearing;
 mod histories;
@@ -34,6 +35,7 @@ pub use bounds::{sharp_bounds_are_below, sharp_checks_suffice, walks_are_bounded
 pub use checking::{sharp_checks, sharp_side};
 pub use ends::ends_come_near;
 pub use files::{covered_files_keep_sharply, files_are_steady, files_keep_sharp_precision};
+pub use following::followers_hear_steadily;
 pub use grouping::sharp_groups_are_kept;
 pub use hearing::rounds_are_heard_steadily;
 pub use histories::{
