@@ -44,3 +44,4 @@ pub mod SharpListened
 pub mod SharpGrouped
 pub mod SharpFollowed
 pub mod FollowersSupplied
+pub mod SharpCatches
