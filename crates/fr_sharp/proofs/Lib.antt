@@ -45,3 +45,4 @@ pub mod SharpGrouped
 pub mod SharpFollowed
 pub mod FollowersSupplied
 pub mod SharpCatches
+pub mod JoinedDoubles

@@ -12,6 +12,7 @@ pub mod SharpFiles
 pub mod SharpFollowing
 pub mod SharpGroup
 pub mod SharpHistories
+pub mod SharpJoined
 pub mod SharpJoining
 pub mod SharpListening
 pub mod SharpRound

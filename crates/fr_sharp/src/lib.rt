@@ -14,6 +14,7 @@ mod following;
 mod grouping;
 mod hearing;
 mod histories;
+mod joined;
 mod joining;
 mod lasting;
 mod lengths;
@@ -42,6 +43,7 @@ pub use histories::{
     histories_come_into_sharp_sync, histories_keep_sharp_sync, histories_settle_sharply,
     stated_runs_are_steady,
 };
+pub use joined::joined_doubles_go_on;
 pub use joining::{followers_come_nearer, sharp_join_checks_suffice};
 pub use lasting::sharp_sync_lasts;
 pub use lengths::{lengths_come_near, ranges_walk};
