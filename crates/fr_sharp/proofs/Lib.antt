@@ -46,3 +46,6 @@ pub mod SharpFollowed
 pub mod FollowersSupplied
 pub mod SharpCatches
 pub mod JoinedDoubles
+pub mod JoinedNodes
+pub mod JoinedMoves
+pub mod JoinedNext

@@ -8,4 +8,5 @@ pub fn joined_doubles_go_on()
     ensures begins { UnfollowedIsJoined }
     ensures sync { JoinedIsInSharpSync }
     ensures kept { JoinedDoublesAreKept }
+    ensures next { JoinedDoublesGoOn }
 {}

@@ -1,4 +1,5 @@
 use Rattle.fr_sharp.proofs.JoinedDoubles.{joined_doubles_are_kept, joined_is_in_sharp_sync, unfollowed_is_joined}
+use Rattle.fr_sharp.proofs.JoinedNext.{joined_doubles_go_on}
 use Rattle.fr_sharp.proofs.joined.joined_doubles_go_on.Goals as goal
 
 pub returns-clause-begins : goal.returns-clause-begins
@@ -9,3 +10,6 @@ returns-clause-sync c = joined_is_in_sharp_sync
 
 pub returns-clause-kept : goal.returns-clause-kept
 returns-clause-kept c = joined_doubles_are_kept
+
+pub returns-clause-next : goal.returns-clause-next
+returns-clause-next c = joined_doubles_go_on
