@@ -49,3 +49,4 @@ pub mod JoinedDoubles
 pub mod JoinedNodes
 pub mod JoinedMoves
 pub mod JoinedNext
+pub mod JoinedRuns

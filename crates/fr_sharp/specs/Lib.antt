@@ -2,6 +2,7 @@
 pub mod Ends
 pub mod Flutter
 pub mod Hearing
+pub mod JoinedHistories
 pub mod Lengths
 pub mod Nearness
 pub mod Said

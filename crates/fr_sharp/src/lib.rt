@@ -15,6 +15,7 @@ mod grouping;
 mod hearing;
 mod histories;
 mod joined;
+mod joined_histories;
 mod joining;
 mod lasting;
 mod lengths;
@@ -44,6 +45,7 @@ pub use histories::{
     stated_runs_are_steady,
 };
 pub use joined::joined_doubles_go_on;
+pub use joined_histories::joined_histories_keep_sharp_sync;
 pub use joining::{followers_come_nearer, sharp_join_checks_suffice};
 pub use lasting::sharp_sync_lasts;
 pub use lengths::{lengths_come_near, ranges_walk};
