@@ -349,7 +349,6 @@ module _ (x : Setting) (flutter : ℕ) (h : Cycles) (even odd : Cycle) (double :
     steady = pairs_steady node among;
   }
 
-
 pub followers_hear_steadily : FollowersHearSteadily
 followers_hear_steadily x flutter h earlier even odd double reach node w d r among =
     supplied_at x flutter earlier even odd double reach (lawful_rows x flutter h w double earlier even odd d) r node among
