@@ -81,7 +81,7 @@ next_suffices p flutter passed sane second before = by (int_le (rate_walk p flut
         let At : ℤ → Type 0 = λ z. RateSuffices p z in
         subst At (sym (more (rate_walk p flutter)) ∙ ap (λ (n : ℕ). pos n *ℤ rate_walk p flutter) next) suffices
 
-still_zero : (w z : ℤ) → w ≤ℤ pos 0 → (if int_le w (pos 0) then pos 0 else z) ≡ pos 0
+pub still_zero : (w z : ℤ) → w ≤ℤ pos 0 → (if int_le w (pos 0) then pos 0 else z) ≡ pos 0
 still_zero w z le = by (int_le w (pos 0)) (tested w le)
   where
     tested : (w : ℤ) → w ≤ℤ pos 0 → int_le w (pos 0) ≡ true

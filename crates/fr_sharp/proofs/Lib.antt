@@ -50,3 +50,4 @@ pub mod JoinedNodes
 pub mod JoinedMoves
 pub mod JoinedNext
 pub mod JoinedRuns
+pub mod JoinedFromFiles

@@ -2,6 +2,7 @@
 pub mod Ends
 pub mod Flutter
 pub mod Hearing
+pub mod JoinedFiles
 pub mod JoinedHistories
 pub mod Lengths
 pub mod Nearness

@@ -15,6 +15,7 @@ mod grouping;
 mod hearing;
 mod histories;
 mod joined;
+mod joined_files;
 mod joined_histories;
 mod joining;
 mod lasting;
@@ -45,6 +46,7 @@ pub use histories::{
     stated_runs_are_steady,
 };
 pub use joined::joined_doubles_go_on;
+pub use joined_files::joined_files_keep_sharp_precision;
 pub use joined_histories::joined_histories_keep_sharp_sync;
 pub use joining::{followers_come_nearer, sharp_join_checks_suffice};
 pub use lasting::sharp_sync_lasts;
