@@ -51,3 +51,4 @@ pub mod JoinedMoves
 pub mod JoinedNext
 pub mod JoinedRuns
 pub mod JoinedFromFiles
+pub mod JoinedFollowers

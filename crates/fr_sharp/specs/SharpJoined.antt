@@ -9,9 +9,9 @@ use Rattle.fr_precision.specs.Round.{senders_of}
 use Rattle.fr_history.specs.Cycles.{Cycle, Cycles, told_of}
 use Rattle.fr_history.specs.History.{row_for}
 use Rattle.fr_history.specs.Lawful.{IsLawful}
-use Rattle.fr_history.specs.Standing.{following_nodes, has_row}
+use Rattle.fr_history.specs.Standing.{following_nodes, has_row, row_nodes}
 use Rattle.fr_history.specs.Terms.{outcomes_in}
-use Rattle.fr_runs.specs.Gathered.{hearers_of, round_at}
+use Rattle.fr_runs.specs.Gathered.{followers_since, hearers_of, round_at}
 use Rattle.fr_runs.specs.Hearers.{group_of}
 use Rattle.fr_runs.specs.References.{AreReferenced}
 use Rattle.fr_runs.specs.Rounds.{IsDoubleOf}
@@ -91,3 +91,14 @@ JoinedIsInSharpSync =
     → IsSteadyJoined beside x flutter h → IsDoubleOf h double earlier even odd
     → IsJoinedDouble beside x flutter beyond earlier even odd double
     → IsInSharpSync beside x.params flutter beyond even.told.rows odd.told.rows
+
+-- no follower is left behind: whoever follows for the second time has a row behind the double cycle, and whoever follows for the
+-- first time follows there for the second time
+abbrev pub JoinedFollowersJoin : Type 0
+JoinedFollowersJoin =
+    (beside : Bool) (x : Setting) (flutter : ℕ) (h : Cycles) (double : ℕ) (earlier : Cycles) (even odd : Cycle) (beyond walk next : ℤ)
+    → IsSteadyJoined beside x flutter h → IsDoubleOf h double earlier even odd → WalksJoined beside x flutter beyond walk next
+    → IsJoinedDouble beside x flutter beyond earlier even odd double
+    → ((node : NodeSpec) → Contains (followers_since x earlier 2 double) node → Contains (row_nodes x (odd ∷ even ∷ earlier)) node)
+    × ((node : NodeSpec) → Contains (followers_since x earlier 1 double) node
+    → Contains (followers_since x (odd ∷ even ∷ earlier) 2 (suc double)) node)

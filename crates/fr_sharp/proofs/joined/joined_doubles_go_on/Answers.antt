@@ -1,4 +1,5 @@
 use Rattle.fr_sharp.proofs.JoinedDoubles.{joined_doubles_are_kept, joined_is_in_sharp_sync, unfollowed_is_joined}
+use Rattle.fr_sharp.proofs.JoinedFollowers.{joined_followers_join}
 use Rattle.fr_sharp.proofs.JoinedNext.{joined_doubles_go_on}
 use Rattle.fr_sharp.proofs.joined.joined_doubles_go_on.Goals as goal
 
@@ -13,3 +14,6 @@ returns-clause-kept c = joined_doubles_are_kept
 
 pub returns-clause-next : goal.returns-clause-next
 returns-clause-next c = joined_doubles_go_on
+
+pub returns-clause-join : goal.returns-clause-join
+returns-clause-join c = joined_followers_join
