@@ -1,7 +1,7 @@
 //! Why clocks keep a sharper precision where delays change little from one cycle of a double cycle to the next: laws over
-//! rows and values, over the lawful histories of runs that no node joins, without arbitrary nodes and beside them, and of
-//! what the files of such a run promise. The bounds, the checks and how long they hold are computed here too, and which of
-//! the two a run is.
+//! rows and values, over the lawful histories of runs that no node joins and of runs that nodes join, without arbitrary
+//! nodes and beside them, and of what the files of such a run promise. The bounds, the checks and how long they hold are
+//! computed here too, and which of the two a run is.
 #![tactic(auto)]
 
 mod arbitrary;
