@@ -52,3 +52,4 @@ pub mod JoinedNext
 pub mod JoinedRuns
 pub mod JoinedFromFiles
 pub mod JoinedFollowers
+pub mod JoinedBeginning

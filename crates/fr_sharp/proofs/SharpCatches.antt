@@ -95,22 +95,22 @@ came x cycle rows reference node slot channel is_odd at l number is =
 -- ---- both
 
 -- a node listens to a reference in a double cycle whose lengths lie so
-record ListensIn (x : Setting) (flutter : ℕ) (beyond : ℤ) (h : Cycles) (even odd : Cycle) (double : ℕ) (reference node : NodeSpec) (slot : ℕ) : Type 0 where
-  rows : LawfulRows x flutter h even odd double
-  lie : AreRowsAbout x beyond even
-  among : Contains (row_nodes x h) reference
-  key : reference.key ≡ Some slot
-  there : Contains (correct_nodes x) node
-  linked : IsLinked x reference node slot
-  early : Listens x (length h) even.told.rows reference node slot
-  late : Listens x (suc (length h)) odd.told.rows reference node slot
+pub record ListensIn (x : Setting) (flutter : ℕ) (beyond : ℤ) (h : Cycles) (even odd : Cycle) (double : ℕ) (reference node : NodeSpec) (slot : ℕ) : Type 0 where
+  pub rows : LawfulRows x flutter h even odd double
+  pub lie : AreRowsAbout x beyond even
+  pub among : Contains (row_nodes x h) reference
+  pub key : reference.key ≡ Some slot
+  pub there : Contains (correct_nodes x) node
+  pub linked : IsLinked x reference node slot
+  pub early : Listens x (length h) even.told.rows reference node slot
+  pub late : Listens x (suc (length h)) odd.told.rows reference node slot
 
 -- it was caught of the reference's rows, and has the node's own lengths
-record IsOf (x : Setting) (flutter : ℕ) (beyond : ℤ) (h : Cycles) (even odd : Cycle) (reference node : NodeSpec) (slot : ℕ) (c : Caught) : Type 0 where
-  slot_is : slot ≡ c.slot
-  caught : IsCaughtSharply x.params flutter beyond c (row_for even.told.rows reference.id) (row_for odd.told.rows reference.id)
-  even_length : c.even_length ≡ x.microtick node.id (length h)
-  odd_length : c.odd_length ≡ x.microtick node.id (suc (length h))
+pub record IsOf (x : Setting) (flutter : ℕ) (beyond : ℤ) (h : Cycles) (even odd : Cycle) (reference node : NodeSpec) (slot : ℕ) (c : Caught) : Type 0 where
+  pub slot_is : slot ≡ c.slot
+  pub caught : IsCaughtSharply x.params flutter beyond c (row_for even.told.rows reference.id) (row_for odd.told.rows reference.id)
+  pub even_length : c.even_length ≡ x.microtick node.id (length h)
+  pub odd_length : c.odd_length ≡ x.microtick node.id (suc (length h))
 
 module _ (x : Setting) (flutter : ℕ) (beyond : ℤ) (h : Cycles) (even odd : Cycle) (double : ℕ) (reference node : NodeSpec) (slot : ℕ) (l : ListensIn x flutter beyond h even odd double reference node slot) where
   both_caught : (channel : Channel) (early late : ℤ)
@@ -168,7 +168,7 @@ module _ (x : Setting) (flutter : ℕ) (beyond : ℤ) (h : Cycles) (even odd : C
           subst (IsOf x flutter beyond h even odd reference node slot) e (both_caught channel early late first second)
 
   -- on either
-  caught_either : (c : Caught) → caught_of x (length h) even odd node.id slot ≡ Some c → IsOf x flutter beyond h even odd reference node slot c
+  pub caught_either : (c : Caught) → caught_of x (length h) even odd node.id slot ≡ Some c → IsOf x flutter beyond h even odd reference node slot c
   caught_either c is = by_first (caught_in_run x (length h) even odd node.id slot A) refl is
     where
       by_first : (o : Option Caught) → caught_in_run x (length h) even odd node.id slot A ≡ o → first_or o (caught_in_run x (length h) even odd node.id slot B) ≡ Some c → IsOf x flutter beyond h even odd reference node slot c
@@ -179,7 +179,7 @@ module _ (x : Setting) (flutter : ℕ) (beyond : ℤ) (h : Cycles) (even odd : C
 
 -- ---- the reference of a node that joins
 
-reference_listened : (x : Setting) (flutter : ℕ) (beyond : ℤ) (h : Cycles) (even odd : Cycle) (double : ℕ) (node : NodeSpec) (join : Join)
+pub reference_listened : (x : Setting) (flutter : ℕ) (beyond : ℤ) (h : Cycles) (even odd : Cycle) (double : ℕ) (node : NodeSpec) (join : Join)
     → LawfulRows x flutter h even odd double → AreRowsAbout x beyond even → (r : AreReferenced x) → Contains (correct_nodes x) node → (ref : IsReference x node join)
     → ListensIn x flutter beyond h even odd double ref.reference node ref.slot
 reference_listened x flutter beyond h even odd double node join s lie r there ref =

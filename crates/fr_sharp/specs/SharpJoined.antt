@@ -1,11 +1,13 @@
 -- A lawful run that nodes join and whose delays flutter little: in which double cycles its nodes with rows are as near as in sharp
 -- sync and those that follow near them, and that this goes on.
-use Rattle.std.specs.Prelude.{◌≡◌, ◌≤ℤ◌, ◌+ℤ◌, ◌<◌, ◌*◌, ℕ, suc, ℤ, pos, Bool, false, [], ◌∷◌, length, All, Contains}
+use Rattle.std.specs.Prelude.{◌≡◌, ◌≤ℤ◌, ◌+ℤ◌, ◌<◌, ◌*◌, ℕ, suc, ℤ, pos, Bool, false, [], ◌∷◌, length, All, Contains, IsSome, Some}
 use Rattle.fr_base.specs.Within.{IsWithin}
 use Rattle.fr_base.specs.declared.state.State.TheVariants.{Active}
 use Rattle.fr_cluster.specs.Setting.{Setting, correct_nodes}
+use Rattle.fr_cluster.specs.declared.join.Join.{Join}
 use Rattle.fr_cluster.specs.declared.nodes.NodeSpec.{NodeSpec}
 use Rattle.fr_precision.specs.Round.{senders_of}
+use Rattle.fr_history.specs.Catching.{begins_with}
 use Rattle.fr_history.specs.Cycles.{Cycle, Cycles, told_of}
 use Rattle.fr_history.specs.History.{row_for}
 use Rattle.fr_history.specs.Lawful.{IsLawful}
@@ -102,3 +104,12 @@ JoinedFollowersJoin =
     → ((node : NodeSpec) → Contains (followers_since x earlier 2 double) node → Contains (row_nodes x (odd ∷ even ∷ earlier)) node)
     × ((node : NodeSpec) → Contains (followers_since x earlier 1 double) node
     → Contains (followers_since x (odd ∷ even ∷ earlier) 2 (suc double)) node)
+
+-- and a node that listens in such a double cycle begins to follow behind it, where its reference's start is not below 0
+abbrev pub JoinedListenersBegin : Type 0
+JoinedListenersBegin =
+    (beside : Bool) (x : Setting) (flutter : ℕ) (h : Cycles) (double : ℕ) (earlier : Cycles) (even odd : Cycle) (beyond : ℤ) (node : NodeSpec) (join : Join)
+    → IsSteadyJoined beside x flutter h → IsDoubleOf h double earlier even odd → RateTakesIn x.params flutter beyond
+    → IsJoinedDouble beside x flutter beyond earlier even odd double → Contains (correct_nodes x) node → x.join node.id ≡ Some join
+    → join.double ≡ double → pos 0 ≤ℤ (row_for even.told.rows join.reference).start
+    → IsSome (begins_with x (odd ∷ even ∷ earlier) node.id join)

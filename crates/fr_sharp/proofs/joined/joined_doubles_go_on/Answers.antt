@@ -1,3 +1,4 @@
+use Rattle.fr_sharp.proofs.JoinedBeginning.{joined_listeners_begin}
 use Rattle.fr_sharp.proofs.JoinedDoubles.{joined_doubles_are_kept, joined_is_in_sharp_sync, unfollowed_is_joined}
 use Rattle.fr_sharp.proofs.JoinedFollowers.{joined_followers_join}
 use Rattle.fr_sharp.proofs.JoinedNext.{joined_doubles_go_on}
@@ -17,3 +18,6 @@ returns-clause-next c = joined_doubles_go_on
 
 pub returns-clause-join : goal.returns-clause-join
 returns-clause-join c = joined_followers_join
+
+pub returns-clause-listen : goal.returns-clause-listen
+returns-clause-listen c = joined_listeners_begin
