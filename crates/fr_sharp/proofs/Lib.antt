@@ -53,3 +53,4 @@ pub mod JoinedRuns
 pub mod JoinedFromFiles
 pub mod JoinedFollowers
 pub mod JoinedBeginning
+pub mod JoinedListeners

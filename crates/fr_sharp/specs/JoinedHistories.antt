@@ -1,15 +1,17 @@
 -- A lawful history of a run that nodes join and whose delays flutter little: from a double cycle in sharp sync in which no node
 -- follows it stays so, for as many double cycles as the rate limit holds the walk and suffices for first rates.
-use Rattle.std.specs.Prelude.{◌≡◌, ◌<◌, ◌+◌, ◌*◌, ◌≤ℤ◌, ℕ, pos, Bool, true, ◌∷◌, Contains}
+use Rattle.std.specs.Prelude.{◌≡◌, ◌<◌, ◌≤◌, ◌+◌, ◌*◌, ◌≤ℤ◌, ℕ, pos, Bool, true, ◌∷◌, Contains, Some}
 use Rattle.fr_base.specs.declared.state.Outcome.TheVariants.{Within}
 use Rattle.fr_base.specs.declared.state.State.TheVariants.{Active}
 use Rattle.fr_cluster.specs.Sane.{IsSane}
-use Rattle.fr_cluster.specs.Setting.{Setting}
+use Rattle.fr_cluster.specs.Setting.{Setting, correct_nodes}
 use Rattle.fr_cluster.specs.Values.{Values, amount}
+use Rattle.fr_cluster.specs.declared.join.Join.{Join}
 use Rattle.fr_cluster.specs.declared.names.ParamName.TheVariants as name
 use Rattle.fr_cluster.specs.declared.nodes.NodeSpec.{NodeSpec}
 use Rattle.fr_precision.specs.Round.{Hearer}
 use Rattle.fr_history.specs.Cycles.{Cycle, Cycles, told_of}
+use Rattle.fr_history.specs.History.{row_for}
 use Rattle.fr_history.specs.Skew.{skew_at}
 use Rattle.fr_history.specs.Standing.{row_nodes}
 use Rattle.fr_history.specs.Terms.{status_in}
@@ -17,6 +19,7 @@ use Rattle.fr_runs.specs.Gathered.{hearers_of}
 use Rattle.fr_runs.specs.Hearers.{member_from, IsOneOf}
 use Rattle.fr_runs.specs.Links.{cycle_in}
 use Rattle.fr_runs.specs.Rounds.{IsDoubleOf}
+use Rattle.fr_runs.specs.Whole.{IsJoined}
 use Rattle.fr_sharp.specs.Lengths.{walked_after}
 use Rattle.fr_sharp.specs.SharpBounds.{sharp_precision}
 use Rattle.fr_sharp.specs.SharpChecks.{sharp_holds_of}
@@ -72,3 +75,17 @@ JoinedHistoriesKeepSharpSync =
     → IsSteadyJoined beside x flutter h → IsUnfollowedSharpSyncAt beside x.params flutter h double
     → (passed : ℕ) → double + passed < x.doubles → ((m : ℕ) → m < passed → FirstRatesLast x.params flutter m)
     → StaysJoined beside x flutter h double passed
+
+-- so a node that listens in that double cycle or in a later one joins, where first rates last to the end of the run and its
+-- reference's start is not below 0 where it listens: it follows in the next four cycles, and has a row in those behind them
+abbrev pub JoinedListenersJoin : Type 0
+JoinedListenersJoin =
+    (beside : Bool) (x : Setting) (flutter : ℕ) (h : Cycles) (double : ℕ) (node : NodeSpec) (join : Join)
+    → IsSteadyJoined beside x flutter h → IsUnfollowedSharpSyncAt beside x.params flutter h double
+    → ((m : ℕ) → double + m < x.doubles → FirstRatesLast x.params flutter m)
+    → Contains (correct_nodes x) node → x.join node.id ≡ Some join → double ≤ join.double
+    → (
+    (earlier : Cycles) (even odd : Cycle) → IsDoubleOf h join.double earlier even odd
+    → pos 0 ≤ℤ (row_for even.told.rows join.reference).start
+    )
+    → IsJoined h node.id join
