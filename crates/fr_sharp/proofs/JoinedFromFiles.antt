@@ -1,6 +1,6 @@
 -- What the files of a run that nodes join give where they are sharply covered to join.
-use Rattle.std.proofs.Common.{◌≡◌, ℕ, ◌+◌, ◌<◌, ◌==◌, Bool, true, false, ℤ, pos, Option, Some, None, List, refl, ap, sym, ◌∙◌, subst}
-use Rattle.std.specs.Prelude.{◌*ℤ◌, Contains, not, is_some}
+use Rattle.std.proofs.Common.{◌≡◌, ℕ, suc, ◌+◌, ◌*◌, ◌<◌, ◌==◌, ◌∷◌, length, arith, Bool, true, false, ℤ, pos, Option, Some, None, List, refl, ap, sym, ◌∙◌, subst}
+use Rattle.std.specs.Prelude.{◌≤ℤ◌, ◌*ℤ◌, Contains, not, is_some}
 use Rattle.std.proofs.lemmas.Bool.{eqb-true}
 use Rattle.fr_cluster.specs.Questions.{key_in, node_of}
 use Rattle.fr_cluster.specs.Sane.{IsSane}
@@ -9,17 +9,26 @@ use Rattle.fr_cluster.specs.Values.{Values}
 use Rattle.fr_cluster.specs.declared.join.Join.{Join}
 use Rattle.fr_cluster.specs.declared.nodes.NodeSpec.{NodeSpec}
 use Rattle.fr_cluster.proofs.Elements.{found, kept_filtered}
+use Rattle.fr_drift.specs.Files.{DriftFits}
 use Rattle.fr_drift.specs.View.{DriftView}
 use Rattle.fr_script.specs.Files.{IsScriptFile, ScriptFits}
 use Rattle.fr_script.specs.Promises.{JoinsProperly}
 use Rattle.fr_script.specs.View.{ScriptView, join_of}
 use Rattle.fr_script.proofs.Joining.{fits-join}
 use Rattle.fr_coverage.specs.Decided.{setting_of}
-use Rattle.fr_history.specs.Cycles.{Cycles}
+use Rattle.fr_history.specs.Cycles.{Cycle, Cycles}
+use Rattle.fr_history.specs.History.{row_for}
+use Rattle.fr_history.specs.Standing.{has_row, has_row_by, row_nodes}
 use Rattle.fr_promise.specs.Statement.{IsRunOf}
+use Rattle.fr_promise.proofs.Drifts.{drift_of_a_file_fits}
+use Rattle.fr_promise.proofs.Stating.{rates_begin, starts_begin}
 use Rattle.fr_runs.specs.References.{AreReferenced, IsReference}
 use Rattle.fr_runs.proofs.Exchanged.{on_channel}
+use Rattle.fr_runs.specs.Rounds.{IsDoubleOf}
+use Rattle.fr_runs.proofs.Lawful.{lawful_cycles_run}
 use Rattle.fr_runs.proofs.Nodes.{correct_node, node_there}
+use Rattle.fr_runs.proofs.Rows.{each_row}
+use Rattle.fr_runs.proofs.Whole.{double_runs}
 use Rattle.fr_sharp.specs.Lengths.{walked_after}
 use Rattle.fr_sharp.specs.SharpBounds.{rate_walk, sharp_precision}
 use Rattle.fr_sharp.specs.SharpHistories.{IsInSharpSyncAt}
@@ -30,6 +39,9 @@ use Rattle.fr_sharp.specs.SharpStatement.{has_arbitrary}
 use Rattle.fr_sharp.specs.SteadyRuns.{IsSteadySetting}
 use Rattle.fr_sharp.proofs.BoundLemmas.{first_check_stops_walk}
 use Rattle.fr_sharp.proofs.FromFiles.{arbitrary_is_told, files_are_steady}
+use Rattle.fr_sharp.proofs.JoinedListeners.{joined_listeners_join}
+use Rattle.fr_sharp.proofs.JoinedStarts.{steady_starts_are_natural}
+use Rattle.fr_sharp.proofs.RowsSupplied.{double_within}
 use Rattle.fr_sharp.proofs.JoinedRuns.{first_rates_last_on, joined_histories_keep_sharp_sync, still_zero}
 
 -- the reference of a node that joins is a node of the cluster
@@ -85,6 +97,23 @@ joined_run p d s flutter h sane fits covered run =
       whole = run.whole;
     }
 
+-- a reference has started no earlier than at 0
+reference_starts : (p : Values) (d : DriftView) (s : ScriptView) (flutter : ℕ) (h : Cycles) → IsSane p → DriftFits p d → IsSteadyJoined (has_arbitrary p s) (setting_of p d s) flutter h
+    → (node : NodeSpec) (join : Join) → Contains (correct_nodes (setting_of p d s)) node → join_of s node.id ≡ Some join
+    → (earlier : Cycles) (even odd : Cycle) → IsDoubleOf h join.double earlier even odd → pos 0 ≤ℤ (row_for even.told.rows join.reference).start
+reference_starts p d s flutter h sane fits w node join there at earlier even odd part =
+    let x = setting_of p d s in
+    let r = w.referenced.references node join there at in
+    let runs = double_runs x h join.double earlier even odd part (lawful_cycles_run x h w.lawful) in
+    let counted : length earlier ≡ 2 * join.double = part.counted in
+    let whole = w.whole in
+    let within = double_within h join.double x.doubles earlier even odd part (omega (arith, whole)) in
+    let all = steady_starts_are_natural x flutter earlier even w.covered (rates_begin p d s sane fits) (starts_begin p d s fits) runs.1 (omega (arith, counted, within)) in
+    let has : has_row x earlier r.reference.id ≡ true = ap (has_row_by x earlier r.reference.id) r.stays in
+    let among = kept_filtered (λ (n : NodeSpec). has_row x earlier n.id) (correct_nodes x) r.reference r.correct has in
+    let Natural : ℕ → Type 0 = λ id. pos 0 ≤ℤ (row_for even.told.rows id).start in
+    subst Natural r.named (each_row (row_nodes x earlier) even.told.rows (λ row. pos 0 ≤ℤ row.start) r.reference runs.1.0.rows.nodes among all)
+
 pub joined_files_keep_sharp_precision : JoinedFilesKeepSharpPrecision
 joined_files_keep_sharp_precision p d s drift script flutter h double sane drift_file script_file covered run sync =
     let beside = has_arbitrary p s in
@@ -100,4 +129,9 @@ joined_files_keep_sharp_precision p d s drift script flutter h double sane drift
           let still = (first_check_stops_walk p flutter (sharp_reach beside p flutter) sane).0 first in
           let At : ℤ → Type 0 = λ z. IsInSharpSyncAt beside p flutter z h (double + passed) in
           (subst At (still_zero (rate_walk p flutter) (pos passed *ℤ rate_walk p flutter) still) stays.synced, stays.keeps (last passed));
+      joins =
+          λ first node join there at from.
+          joined_listeners_join beside x flutter h double node join w sync
+          (λ m within. first_rates_last_on beside p flutter (sharp_reach beside p flutter) m sane first covered.checks) there at from
+          (reference_starts p d s flutter h sane (drift_of_a_file_fits p d drift drift_file) w node join there at);
     }

@@ -54,3 +54,4 @@ pub mod JoinedFromFiles
 pub mod JoinedFollowers
 pub mod JoinedBeginning
 pub mod JoinedListeners
+pub mod JoinedStarts

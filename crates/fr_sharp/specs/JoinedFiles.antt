@@ -1,10 +1,12 @@
 -- What the files of a run that nodes join promise, where they are sharply covered to join. The words of it, from the top: `IsLawful`
 -- (what a run is), `IsSharplyCoveredToJoin` (what is asked of the files), `sharp_precision`, `IsUnfollowedSharpSyncAt`,
 -- `FirstRatesLast`, `KeepsJoined`.
-use Rattle.std.specs.Prelude.{◌≡◌, ◌<◌, ◌≤◌, ◌+◌, ℕ, pos, Bool, true, List}
+use Rattle.std.specs.Prelude.{◌≡◌, ◌<◌, ◌≤◌, ◌+◌, ℕ, pos, Bool, true, List, Contains, Some}
 use Rattle.fr_cluster.specs.Sane.{IsSane}
-use Rattle.fr_cluster.specs.Setting.{Setting}
+use Rattle.fr_cluster.specs.Setting.{Setting, correct_nodes}
 use Rattle.fr_cluster.specs.Values.{Values}
+use Rattle.fr_cluster.specs.declared.join.Join.{Join}
+use Rattle.fr_cluster.specs.declared.nodes.NodeSpec.{NodeSpec}
 use Rattle.fr_drift.specs.Files.{IsDriftFile}
 use Rattle.fr_drift.specs.View.{DriftView}
 use Rattle.fr_script.specs.Files.{IsScriptFile}
@@ -14,6 +16,7 @@ use Rattle.fr_coverage.specs.Flutter.{flutter_of}
 use Rattle.fr_coverage.specs.Order.{HasNoGapOfRun}
 use Rattle.fr_history.specs.Cycles.{Cycles}
 use Rattle.fr_promise.specs.Statement.{IsRunOf}
+use Rattle.fr_runs.specs.Whole.{IsJoined}
 use Rattle.fr_sharp.specs.JoinedHistories.{FirstRatesLast, KeepsJoined, StaysJoined}
 use Rattle.fr_sharp.specs.SharpBounds.{sharp_precision}
 use Rattle.fr_sharp.specs.SharpChecks.{sharp_holds_of}
@@ -42,6 +45,10 @@ pub record KeepsSharplyJoined (beside : Bool) (x : Setting) (flutter : ℕ) (h :
       sharp_holds_of 1 flutter (sharp_reach beside x.params flutter) x.params ≡ true → (passed : ℕ) → double + passed < x.doubles
       → IsInSharpSyncAt beside x.params flutter (pos 0) h (double + passed)
       × KeepsJoined x h (double + passed) (sharp_precision beside x.params flutter)
+  -- and whoever listens in a double cycle e from this one on follows in cycles 2 e + 2 to 2 e + 5, and takes part from 2 e + 6 on
+  pub joins :
+      sharp_holds_of 1 flutter (sharp_reach beside x.params flutter) x.params ≡ true → (node : NodeSpec) (join : Join)
+      → Contains (correct_nodes x) node → x.join node.id ≡ Some join → double ≤ join.double → IsJoined h node.id join
 
 -- the promise: of three accepted files that are sharply covered to join, from each double cycle in sharp sync on in which no node
 -- follows
