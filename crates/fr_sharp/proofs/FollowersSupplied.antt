@@ -2,7 +2,6 @@
 -- those of one channel as a steady pair.
 use Rattle.std.proofs.Common.{◌≡◌, ◌≢◌, ◌⊎◌, ℕ, suc, ◌*◌, ◌<◌, ◌≤◌, Bool, true, false, not, ◌&&◌, ℤ, pos, Some, None, All, ◌∷◌, length, refl, ap, sym, ◌∙◌, subst, inl, inr, arith, if◌then◌else◌}
 use Rattle.std.specs.Prelude.{◌≤ℤ◌, ◌+ℤ◌, ◌-ℤ◌, Contains, IsSome, is_some}
-use Rattle.std.proofs.lemmas.Bool.{and_parts}
 use Rattle.std.proofs.lemmas.Int.{ints}
 use Rattle.fr_base.specs.Event.Event.{Regular}
 use Rattle.fr_base.specs.Rows.{dev_in}
@@ -12,8 +11,6 @@ use Rattle.fr_base.specs.declared.channel.Channel.{Channel}
 use Rattle.fr_cluster.specs.Questions.{key_slot_of}
 use Rattle.fr_cluster.specs.Sane.{IsSane}
 use Rattle.fr_cluster.specs.Setting.{Setting, correct_nodes, is_correct}
-use Rattle.fr_cluster.specs.Values.{amount}
-use Rattle.fr_cluster.specs.declared.names.ParamName.TheVariants as name
 use Rattle.fr_cluster.specs.declared.nodes.NodeSpec.{NodeSpec}
 use Rattle.fr_cluster.proofs.KeyNodes.{key_among}
 use Rattle.fr_time.specs.Instant.{instant_of}
@@ -37,12 +34,11 @@ use Rattle.fr_sharp.specs.Steady.{IsSteadyPair}
 use Rattle.fr_sharp.proofs.Arriving.{frames_are_steady}
 use Rattle.fr_sharp.proofs.FramesCounted.{link_in, recorded_is_counted, IsCounted}
 use Rattle.fr_base.specs.declared.state.State.TheVariants.{Active, Passive}
-use Rattle.fr_precision.specs.Round.{sender_with, Hearer, IsHeardAt, IsOther}
+use Rattle.fr_precision.specs.Round.{sender_with, IsHeardAt, IsOther}
 use Rattle.fr_history.specs.Lawful.{FollowersObey}
 use Rattle.fr_history.specs.Standing.{following_nodes, has_row, row_nodes}
 use Rattle.fr_runs.specs.Gathered.{follower_hearer, round_at}
 use Rattle.fr_runs.specs.Links.{IsCarried, IsLinked, Share, cycle_in}
-use Rattle.fr_runs.specs.Rounds.{IsDoubleOf}
 use Rattle.fr_runs.proofs.Courses.{follower_applied, follower_two, is_correct_follower, is_correct_row, no_row}
 use Rattle.fr_runs.proofs.Doubles.{even_length, odd_length}
 use Rattle.fr_runs.proofs.Going.{followers_ascend, is_row_node}
@@ -53,7 +49,6 @@ use Rattle.fr_runs.proofs.Standing.{has_stays, is_none as none_there, told_has}
 use Rattle.fr_sharp.specs.Hearing.{AreSteadyPairs}
 use Rattle.fr_sharp.specs.SharpBounds.{last_action}
 use Rattle.fr_sharp.specs.SharpRound.{IsSteadilySupplied}
-use Rattle.fr_sharp.specs.SteadyRuns.{IsSteadyPart}
 use Rattle.fr_sharp.specs.SharpFollowing.{AreFollowersInReach, FollowersHearSteadily}
 use Rattle.fr_sharp.proofs.BoundLemmas.{key_slots_act_early}
 use Rattle.fr_sharp.proofs.RowsSupplied.{lawful_rows, proper_in, steady_in, LawfulRows}

@@ -1,5 +1,5 @@
 -- The sharper bounds and checks of nodes that join.
-use Rattle.std.proofs.Common.{◌≡◌, ℕ, zero, suc, ◌+◌, ◌-◌, ◌*◌, ◌/◌, ◌≤◌, ◌<◌, Bool, true, false, ℤ, pos, refl, arith}
+use Rattle.std.proofs.Common.{◌≡◌, ℕ, zero, suc, ◌+◌, ◌-◌, ◌*◌, ◌/◌, ◌≤◌, ◌<◌, Bool, true, false, pos, refl, arith}
 use Rattle.std.specs.Prelude.{◌+ℤ◌, ◌≤ℤ◌, nat_le, nat_lt}
 use Rattle.std.proofs.lemmas.Bool.Decides.{nat_tests}
 use Rattle.std.proofs.lemmas.Int.{ints}
@@ -7,7 +7,7 @@ use Rattle.std.proofs.Math.Nat.{div-mul-le_self, le-div_iff_mul-le, mul-le-mul_l
 use Rattle.fr_cluster.specs.Values.{Values, amount}
 use Rattle.fr_cluster.specs.Sane.{IsSane}
 use Rattle.fr_cluster.specs.declared.names.ParamName.TheVariants as name
-use Rattle.fr_bound.specs.Bounds.{arrival_error, cycle_change, follower_error, lambda_of, longest_micro, nominal, pi_of, precision_of, reach_of, widest}
+use Rattle.fr_bound.specs.Bounds.{arrival_error, cycle_change, lambda_of, longest_micro, nominal, pi_of, reach_of, widest}
 use Rattle.fr_bound.specs.Checks.{back_need_of, front_need_of, left_of, right_of}
 use Rattle.fr_precision.proofs.Figures.{nat_le-true}
 use Rattle.fr_sharp.specs.SharpBounds.{last_action, near_by, odd_spread, precision_by, sharp_lambda, sharp_near, sharp_pi, steady_error, wide_change}

@@ -20,7 +20,7 @@ use Rattle.fr_reception.proofs.Frames.{regular_is_frame}
 use Rattle.fr_reception.specs.Listening.{Caught, first_or, good_arrival, is_sync_of, kept_if, suffices}
 use Rattle.fr_history.specs.Offers.{is_on}
 use Rattle.fr_history.specs.Catching.{begins_with, caught_arrival, caught_by_slot, caught_in_run, caught_of, listener_offer, listening_row}
-use Rattle.fr_history.specs.Cycles.{Cycle, Cycles}
+use Rattle.fr_history.specs.Cycles.{Cycle}
 use Rattle.fr_history.specs.Standing.{row_nodes}
 use Rattle.fr_history.specs.History.{row_for}
 use Rattle.fr_runs.proofs.Rows.{each_row, has_row as row_there}

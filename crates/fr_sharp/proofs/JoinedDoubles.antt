@@ -1,15 +1,13 @@
 -- A double cycle of a run that nodes join: its round is such a group as the sharper step asks for.
-use Rattle.std.proofs.Common.{◌≡◌, ◌⊎◌, ℕ, suc, ◌+◌, ◌*◌, ◌≤◌, Bool, true, false, ℤ, pos, Option, Some, None, List, All, [], ◌∷◌, length, map, refl, ap, sym, ◌∙◌, subst, inl, inr, arith}
+use Rattle.std.proofs.Common.{◌≡◌, ◌⊎◌, ℕ, ◌*◌, Bool, true, false, ℤ, pos, Option, Some, None, List, length, map, refl, ap, sym, ◌∙◌, subst, inl, inr, arith}
 use Rattle.std.specs.Prelude.{◌≤ℤ◌, Contains}
 use Rattle.std.proofs.lemmas.Int.{ints}
 use Rattle.fr_base.specs.declared.node_row.NodeRow.{NodeRow}
 use Rattle.fr_base.specs.Within.{IsWithin}
-use Rattle.fr_cluster.specs.Sane.{IsSane}
 use Rattle.fr_cluster.specs.Setting.{Setting, correct_nodes}
 use Rattle.fr_cluster.specs.declared.join.Join.{Join}
 use Rattle.fr_cluster.specs.declared.nodes.NodeSpec.{NodeSpec}
 use Rattle.fr_cluster.proofs.Elements.{filtered}
-use Rattle.fr_bound.specs.Sync.{cycle_length_of}
 use Rattle.fr_precision.specs.Instants.{gap_of, row_in}
 use Rattle.fr_precision.specs.Offsets.{LimitSuffices}
 use Rattle.fr_precision.specs.Reception.{LeavesRoom}
@@ -19,9 +17,7 @@ use Rattle.fr_history.specs.Cycles.{Cycle, Cycles}
 use Rattle.fr_history.specs.History.{row_for}
 use Rattle.fr_history.specs.Standing.{following_nodes, follows, follows_by, row_nodes}
 use Rattle.fr_runs.specs.Gathered.{follower_hearer, followers_since, hearers_of, round_at, row_hearer}
-use Rattle.fr_runs.specs.Group.{WillHaveRow}
 use Rattle.fr_runs.specs.Hearers.{group_of, member_from, IsOneOf}
-use Rattle.fr_runs.specs.Rounds.{IsDoubleOf}
 use Rattle.fr_runs.proofs.Going.{is_since}
 use Rattle.fr_runs.proofs.Rows.{contains_map, map_contains}
 use Rattle.fr_runs.proofs.Standing.{how_follows, is_follower}
@@ -30,12 +26,12 @@ use Rattle.fr_runs.proofs.Whole.{double_runs, fresh_at, none_follows}
 use Rattle.fr_sharp.specs.Lengths.{CanWalk}
 use Rattle.fr_sharp.specs.SharpBounds.{last_action, sharp_lambda, sharp_near, sharp_pi}
 use Rattle.fr_sharp.specs.SharpFollowing.{AreFollowersInReach}
-use Rattle.fr_sharp.specs.SharpGroup.{IsSharpRoundFollowed, LastApart, StartApart}
+use Rattle.fr_sharp.specs.SharpGroup.{IsSharpRoundFollowed}
 use Rattle.fr_sharp.specs.SharpJoining.{sharp_first_apart, sharp_first_lengths, sharp_reach, sharp_second_apart}
 use Rattle.fr_sharp.specs.SharpJoined.{IsJoinedDouble, IsSteadyJoined, JoinedDoublesAreKept, JoinedIsInSharpSync, UnfollowedIsJoined}
 use Rattle.fr_sharp.specs.SharpRound.{as_member, IsSteadilySupplied}
 use Rattle.fr_sharp.specs.SharpStep.{AreSharp}
-use Rattle.fr_sharp.specs.SteadyRuns.{row_hearers, row_members, AreRowsInReach, IsSteadyPart, MayHaveArbitrary}
+use Rattle.fr_sharp.specs.SteadyRuns.{row_members, AreRowsInReach, IsSteadyPart, MayHaveArbitrary}
 use Rattle.fr_sharp.proofs.FollowersSupplied.{follower_regular, supplied_at as follower_supplied}
 use Rattle.fr_sharp.proofs.JoinBounds.{followers_come_nearer_lem, sharp_join_checks_suffice_lem}
 use Rattle.fr_sharp.proofs.RowsSupplied.{lawful_rows, members_regular, rates_in_limit, round_in_reach, row_regular, supplied_at as row_supplied, LawfulRows}

@@ -17,7 +17,7 @@ use Rattle.fr_history.specs.Catching.{begins_with}
 use Rattle.fr_history.specs.Cycles.{Cycle, Cycles}
 use Rattle.fr_history.specs.Standing.{followed_well, following_nodes, follows, follows_by, goes_on, has_row, has_row_by, is_steady, row_nodes}
 use Rattle.fr_history.proofs.Standing.{equal}
-use Rattle.fr_precision.specs.Round.{Hearer, senders_of}
+use Rattle.fr_precision.specs.Round.{senders_of}
 use Rattle.fr_cluster.proofs.Elements.{kept_filtered}
 use Rattle.fr_runs.proofs.Rows.{contains_map, has_row as row_there}
 use Rattle.fr_runs.specs.Gathered.{follower_hearer, followers_since, hearers_of, round_at}

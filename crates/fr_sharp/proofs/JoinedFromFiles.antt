@@ -1,5 +1,5 @@
 -- What the files of a run that nodes join give where they are sharply covered to join.
-use Rattle.std.proofs.Common.{◌≡◌, ℕ, suc, ◌+◌, ◌*◌, ◌<◌, ◌==◌, ◌∷◌, length, arith, Bool, true, false, ℤ, pos, Option, Some, None, List, refl, ap, sym, ◌∙◌, subst}
+use Rattle.std.proofs.Common.{◌≡◌, ℕ, ◌+◌, ◌*◌, ◌==◌, length, arith, Bool, true, false, ℤ, pos, Option, Some, None, List, refl, ap, sym, ◌∙◌, subst}
 use Rattle.std.specs.Prelude.{◌≤ℤ◌, ◌*ℤ◌, Contains, not, is_some}
 use Rattle.std.proofs.lemmas.Bool.{eqb-true}
 use Rattle.fr_cluster.specs.Questions.{key_in, node_of}
@@ -29,8 +29,7 @@ use Rattle.fr_runs.proofs.Lawful.{lawful_cycles_run}
 use Rattle.fr_runs.proofs.Nodes.{correct_node, node_there}
 use Rattle.fr_runs.proofs.Rows.{each_row}
 use Rattle.fr_runs.proofs.Whole.{double_runs}
-use Rattle.fr_sharp.specs.Lengths.{walked_after}
-use Rattle.fr_sharp.specs.SharpBounds.{rate_walk, sharp_precision}
+use Rattle.fr_sharp.specs.SharpBounds.{rate_walk}
 use Rattle.fr_sharp.specs.SharpHistories.{IsInSharpSyncAt}
 use Rattle.fr_sharp.specs.JoinedFiles.{IsSharplyCoveredToJoin, JoinedFilesKeepSharpPrecision}
 use Rattle.fr_sharp.specs.SharpJoined.{IsSteadyJoined}

@@ -9,17 +9,14 @@ use Rattle.fr_history.specs.Catching.{begins_with}
 use Rattle.fr_cluster.specs.declared.join.Join.{Join}
 use Rattle.fr_history.specs.Cycles.{Cycle, Cycles}
 use Rattle.fr_history.specs.Lawful.{IsLawful}
-use Rattle.fr_history.specs.Standing.{follows, follows_by, goes_on, has_row, has_row_by, row_nodes}
+use Rattle.fr_history.specs.Standing.{follows, follows_by, goes_on, has_row}
 use Rattle.fr_history.proofs.Standing.{rows_stay as row_stays}
-use Rattle.fr_cluster.proofs.Elements.{filtered, kept_filtered}
-use Rattle.fr_runs.proofs.Rows.{each_row}
-use Rattle.fr_runs.specs.Gathered.{CycleRuns, IsHeardByAll, followers_since}
+use Rattle.fr_cluster.proofs.Elements.{filtered}
+use Rattle.fr_runs.specs.Gathered.{CycleRuns, followers_since}
 use Rattle.fr_runs.proofs.Lawful.{lawful_cycles_run}
 use Rattle.fr_runs.proofs.Parts.{each_cycle}
-use Rattle.fr_runs.proofs.UnfollowedSync.{unfollowed_runs_keep_up}
 use Rattle.fr_runs.proofs.Standing.{follower_of, follows_stays, has_stays, is_follower, told_follows, told_has}
 use Rattle.fr_runs.proofs.Whole.{double_runs, prior_of}
-use Rattle.fr_runs.proofs.Fed.{lawful_cycles_are_fed}
 use Rattle.fr_runs.specs.Rounds.{IsDoubleOf}
 use Rattle.fr_sharp.specs.JoinedHistories.{FirstRatesLast, JoinedListenersJoin}
 use Rattle.fr_sharp.specs.Lengths.{walked_after}

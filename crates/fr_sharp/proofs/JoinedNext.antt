@@ -1,6 +1,6 @@
 -- A run that nodes join: the double cycle behind one in sharp sync is such a one, whoever joined.
-use Rattle.std.proofs.Common.{◌≡◌, ℕ, suc, ◌*◌, ◌<◌, Bool, true, false, ℤ, pos, Some, List, All, ◌∷◌, length, map, refl, ap, sym, ◌∙◌, subst, inl, inr, arith}
-use Rattle.std.specs.Prelude.{◌≤ℤ◌, ◌-ℤ◌, Contains}
+use Rattle.std.proofs.Common.{◌≡◌, ℕ, suc, ◌*◌, ◌<◌, Bool, ℤ, pos, List, ◌∷◌, length, map, ap, sym, ◌∙◌, subst, inl, inr, arith}
+use Rattle.std.specs.Prelude.{◌-ℤ◌, Contains}
 use Rattle.fr_base.specs.Within.{IsWithin}
 use Rattle.fr_base.specs.declared.node_row.NodeRow.{NodeRow}
 use Rattle.fr_cluster.specs.Setting.{Setting}
@@ -8,18 +8,18 @@ use Rattle.fr_cluster.specs.Values.{Values}
 use Rattle.fr_cluster.specs.declared.nodes.NodeSpec.{NodeSpec}
 use Rattle.fr_reception.specs.Listening.{Caught}
 use Rattle.fr_bound.specs.Sync.{cycle_length_of}
-use Rattle.fr_precision.specs.Rows.{corrected_end_of, Sender}
+use Rattle.fr_precision.specs.Rows.{Sender}
 use Rattle.fr_precision.specs.Round.{sender_with, senders_of, Hearer}
 use Rattle.fr_precision.specs.Step.{IsFollowed, Member}
 use Rattle.fr_precision.proofs.StepLaws.{same_apart}
 use Rattle.fr_history.specs.Cycles.{Cycle, Cycles, told_of}
-use Rattle.fr_history.specs.History.{AreRowsOf, row_for}
+use Rattle.fr_history.specs.History.{row_for}
 use Rattle.fr_history.specs.Laws.{follower_laws, follower_offset, row_laws}
 use Rattle.fr_history.specs.Rows.{offset_after}
 use Rattle.fr_history.specs.Standing.{following_nodes, has_row, row_nodes}
 use Rattle.fr_history.proofs.Lists.{map-map}
 use Rattle.fr_runs.specs.Gathered.{follower_hearer, followers_since, hearers_of, round_at, row_hearer}
-use Rattle.fr_runs.specs.Group.{IsOf, WillHaveRow}
+use Rattle.fr_runs.specs.Group.{WillHaveRow}
 use Rattle.fr_runs.specs.Hearers.{group_of, member_from}
 use Rattle.fr_runs.specs.Listening.{BeginsAt}
 use Rattle.fr_runs.proofs.Begun.{row_sends, sender_there}
@@ -34,10 +34,10 @@ use Rattle.fr_runs.proofs.Whole.{prior_of}
 use Rattle.fr_sharp.specs.SharpBounds.{sharp_lambda, sharp_pi}
 use Rattle.fr_sharp.specs.SharpGroup.{IsSharpPlacing, LastApart, StartApart}
 use Rattle.fr_sharp.specs.SharpJoining.{sharp_first_apart, sharp_first_lengths, sharp_second_apart}
-use Rattle.fr_sharp.specs.SharpJoined.{IsJoinedDouble, JoinedDoublesGoOn}
+use Rattle.fr_sharp.specs.SharpJoined.{JoinedDoublesGoOn}
 use Rattle.fr_sharp.specs.SharpListening.{IsCaughtSharply}
 use Rattle.fr_sharp.specs.SharpStep.{AreSharp, IsInSharpSync}
-use Rattle.fr_sharp.proofs.JoinedDoubles.{joined_doubles_are_kept, joined_part, since_when}
+use Rattle.fr_sharp.proofs.JoinedDoubles.{joined_doubles_are_kept, joined_part}
 use Rattle.fr_sharp.proofs.JoinedMoves.{follower_moves, moved, next_even_of, parity, IsSharpStep, MovedTo, Moves}
 use Rattle.fr_sharp.proofs.JoinedNodes.{nodes_succeed}
 use Rattle.fr_sharp.proofs.RowsSupplied.{lawful_rows, proper_in, rates_in_limit, steady_in}

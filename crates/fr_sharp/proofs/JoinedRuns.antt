@@ -1,10 +1,9 @@
 -- A run that nodes join: from a double cycle in sharp sync in which none follows each one is, while first rates last.
-use Rattle.std.proofs.Common.{◌≡◌, ℕ, zero, suc, ◌+◌, ◌*◌, ◌<◌, ◌≤◌, Bool, true, false, if◌then◌else◌, ℤ, pos, Option, Some, List, All, [], ◌∷◌, length, refl, ap, sym, ◌∙◌, subst, inl, lit≤, arith}
-use Rattle.std.specs.Prelude.{◌+ℤ◌, ◌*ℤ◌, ◌≤ℤ◌, Contains, IfSome, int_le}
+use Rattle.std.proofs.Common.{◌≡◌, ℕ, zero, suc, ◌+◌, ◌*◌, ◌<◌, ◌≤◌, Bool, true, false, if◌then◌else◌, ℤ, pos, Option, Some, All, [], ◌∷◌, refl, ap, sym, ◌∙◌, subst, inl, arith}
+use Rattle.std.specs.Prelude.{◌+ℤ◌, ◌*ℤ◌, ◌≤ℤ◌, IfSome, int_le}
 use Rattle.std.specs.Option.{option_map, option_map_or}
 use Rattle.std.proofs.lemmas.Int.{ints}
 use Rattle.fr_base.specs.Within.{IsWithin}
-use Rattle.fr_base.specs.declared.node_row.NodeRow.{NodeRow}
 use Rattle.fr_base.specs.declared.state.State.TheVariants.{Active}
 use Rattle.fr_cluster.specs.Sane.{IsSane}
 use Rattle.fr_cluster.specs.Setting.{Setting}
@@ -26,7 +25,7 @@ use Rattle.fr_history.specs.Laws.{row_laws}
 use Rattle.fr_history.specs.Rows.{offset_after}
 use Rattle.fr_history.specs.Skew.{skew_at}
 use Rattle.fr_history.specs.Standing.{row_nodes}
-use Rattle.fr_history.specs.Terms.{offset_term_in, status_in}
+use Rattle.fr_history.specs.Terms.{offset_term_in}
 use Rattle.fr_runs.specs.Gathered.{row_hearer}
 use Rattle.fr_runs.specs.Hearers.{member_from}
 use Rattle.fr_runs.specs.Links.{cycle_in}
@@ -49,7 +48,7 @@ use Rattle.fr_sharp.specs.SharpRun.{WalkLastsAfter}
 use Rattle.fr_sharp.specs.SharpListening.{RateTakesIn}
 use Rattle.fr_sharp.specs.SharpJoined.{IsJoinedDouble, IsSteadyJoined, WalksJoined}
 use Rattle.fr_sharp.specs.SharpTested.{IsUnfollowedSharpSyncAt}
-use Rattle.fr_sharp.specs.JoinedHistories.{FirstRatesLast, FirstRatesLastOn, JoinedHistoriesKeepSharpSync, KeepsJoined, NoneIsCut, StaysJoined}
+use Rattle.fr_sharp.specs.JoinedHistories.{FirstRatesLast, FirstRatesLastOn, JoinedHistoriesKeepSharpSync, KeepsJoined, NoneIsCut}
 use Rattle.fr_sharp.proofs.BoundLemmas.{first_check_stops_walk, walk_is_held, walked_none}
 use Rattle.fr_sharp.proofs.OlderLemmas.{does_not_walk}
 use Rattle.fr_sharp.proofs.JoinBounds.{sharp_join_checks_suffice_lem}

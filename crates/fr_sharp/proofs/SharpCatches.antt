@@ -1,25 +1,20 @@
 -- What a node that joins catches of its reference in a run whose delays flutter little.
-use Rattle.std.proofs.Common.{◌≡◌, ◌≢◌, ℕ, suc, ◌*◌, ◌<◌, ◌==◌, Bool, true, false, cond, not, ℤ, pos, ◌+ℤ◌, ◌-ℤ◌, Option, Some, None, List, All, ◌∷◌, length, refl, ap, sym, ◌∙◌, subst, arith}
-use Rattle.std.specs.Prelude.{◌≤ℤ◌, Contains, int_le, neg_ℤ, option_and_then}
-use Rattle.std.specs.Option.{option_map}
-use Rattle.std.proofs.lemmas.Bool.{and_parts, ne_eqb, not-false, or_parts}
+use Rattle.std.proofs.Common.{◌≡◌, ℕ, suc, ◌*◌, ◌<◌, ◌==◌, Bool, true, false, cond, not, ℤ, pos, ◌+ℤ◌, ◌-ℤ◌, Option, Some, None, List, ◌∷◌, length, refl, ap, sym, ◌∙◌, subst, arith}
+use Rattle.std.specs.Prelude.{Contains, option_and_then}
+use Rattle.std.proofs.lemmas.Bool.{and_parts, not-false, or_parts}
 use Rattle.std.proofs.lemmas.Int.{ints}
 use Rattle.fr_base.specs.States.{is_active, is_halted}
 use Rattle.fr_base.specs.declared.channel.Channel.{Channel}
 use Rattle.fr_base.specs.declared.channel.Channel.TheVariants.{A, B}
 use Rattle.fr_base.specs.declared.node_row.NodeRow.{NodeRow}
-use Rattle.fr_cluster.specs.Questions.{key_in, own_key}
-use Rattle.fr_cluster.specs.Sane.{IsSane}
+use Rattle.fr_cluster.specs.Questions.{own_key}
 use Rattle.fr_cluster.specs.Setting.{Setting, correct_nodes}
 use Rattle.fr_cluster.specs.declared.nodes.NodeSpec.{NodeSpec}
 use Rattle.fr_time.specs.Position.{grid_for}
-use Rattle.fr_time.specs.Senders.{sync_sending}
-use Rattle.fr_time.specs.declared.senders.Sending.{Sending}
-use Rattle.fr_time.proofs.SoleSenders.{key_slot_sender}
 use Rattle.fr_reception.specs.Offers.{Offer}
-use Rattle.fr_reception.specs.Listening.{Caught, caught_by, first_or, first_rate_of, first_start_of, good_arrival, kept_if, suffices}
-use Rattle.fr_history.specs.Offers.{active_offer, is_on}
-use Rattle.fr_history.specs.Catching.{begins_with, caught_arrival, caught_by_slot, caught_in_run, caught_of, listener_offer, listening_row, sender_offers}
+use Rattle.fr_reception.specs.Listening.{Caught, caught_by, first_or, good_arrival, kept_if, suffices}
+use Rattle.fr_history.specs.Offers.{is_on}
+use Rattle.fr_history.specs.Catching.{begins_with, caught_arrival, caught_by_slot, caught_in_run, caught_of, listener_offer, listening_row}
 use Rattle.fr_cluster.specs.declared.join.Join.{Join}
 use Rattle.fr_history.specs.Cycles.{Cycle, Cycles}
 use Rattle.fr_history.specs.Standing.{has_row, has_row_by, row_nodes}
@@ -34,7 +29,7 @@ use Rattle.fr_bound.specs.Sync.{cycle_length_of}
 use Rattle.fr_time.specs.Instant.{action_instant, instant_of}
 use Rattle.fr_time.specs.Slots.{action_point_of}
 use Rattle.fr_precision.specs.Reception.{IsDelay}
-use Rattle.fr_history.specs.History.{row_for, row_of}
+use Rattle.fr_history.specs.History.{row_for}
 use Rattle.fr_runs.specs.Links.{IsLinked, Share}
 use Rattle.fr_runs.specs.References.{AreReferenced, IsReference}
 use Rattle.fr_runs.proofs.Catches.{caught_from, listened_offer, reference_key, sends_at, Listens}

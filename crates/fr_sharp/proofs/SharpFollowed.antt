@@ -1,10 +1,9 @@
 -- A round with nodes that follow, whatever supplies it, is such a group as the sharper step asks for.
-use Rattle.std.proofs.Common.{◌≡◌, ℕ, ◌≤◌, Bool, true, false, ℤ, pos, List, map, All, refl, sym, subst, inl, inr, arith}
+use Rattle.std.proofs.Common.{◌≡◌, ℕ, ◌≤◌, Bool, false, ℤ, pos, subst, inl, inr, arith}
 use Rattle.std.specs.Prelude.{◌≤ℤ◌, Contains}
 use Rattle.std.proofs.lemmas.Int.{ints}
 use Rattle.fr_base.specs.declared.node_row.NodeRow.{NodeRow}
 use Rattle.fr_base.specs.Within.{IsWithin}
-use Rattle.fr_cluster.specs.Sane.{IsSane}
 use Rattle.fr_cluster.proofs.KeyNodes.{key_among}
 use Rattle.fr_time.specs.Slots.{action_point_of}
 use Rattle.fr_correct.proofs.There.{offset_term_is_there, rate_term_is_there}
@@ -12,15 +11,15 @@ use Rattle.fr_precision.specs.Instants.{gap_of, row_in}
 use Rattle.fr_precision.specs.Placement.{IsRegular}
 use Rattle.fr_precision.specs.Round.{offsets_of, rates_of, senders_of, Hearer, IsHearer, Round}
 use Rattle.fr_precision.specs.Step.{Member}
-use Rattle.fr_runs.specs.Group.{IsOf, WillHaveRow}
+use Rattle.fr_runs.specs.Group.{IsOf}
 use Rattle.fr_runs.specs.Hearers.{group_of, member_from, Hearers, IsOneOf}
 use Rattle.fr_runs.proofs.Rows.{contains_map, map_contains}
 use Rattle.fr_sharp.specs.SharpBounds.{last_action, near_by, sharp_lambda, sharp_pi}
 use Rattle.fr_sharp.specs.Lengths.{KeepSenders}
 use Rattle.fr_sharp.specs.SharpRound.{IsRoundInReach}
-use Rattle.fr_sharp.specs.SharpStep.{ActInReach, ComputesSharply, IsSharpDouble}
+use Rattle.fr_sharp.specs.SharpStep.{ComputesSharply, IsSharpDouble}
 use Rattle.fr_sharp.specs.SharpJoining.{sharp_first_apart, sharp_first_lengths, sharp_reach, sharp_second_apart}
-use Rattle.fr_sharp.specs.SharpGroup.{IsSharpGroup, IsSharpRoundFollowed, SharpRoundsAreFollowed}
+use Rattle.fr_sharp.specs.SharpGroup.{IsSharpRoundFollowed, SharpRoundsAreFollowed}
 use Rattle.fr_sharp.proofs.BoundLemmas.{key_slots_act_early}
 use Rattle.fr_sharp.proofs.HearingLemmas.{hearers_keep_senders, hears_all_steadily}
 use Rattle.fr_sharp.proofs.JoinBounds.{followers_come_nearer_lem}

@@ -24,10 +24,9 @@ use Rattle.fr_runs.specs.Group.{Group, IsOf, WillHaveRow}
 use Rattle.fr_sharp.specs.SharpBounds.{last_action, near_by, odd_spread, sharp_lambda, sharp_pi, sharp_precision, steady_error, wide_change}
 use Rattle.fr_sharp.specs.Lengths.{EvensAreAbout, LengthsCome, next_length_error}
 use Rattle.fr_sharp.specs.Ends.{EndsCome, SendApart, TakesOffsets}
-use Rattle.fr_sharp.specs.SharpStep.{ComeSharply, ComputesSharply, IsInSharpSync, IsSharpDouble, IsSharpLimit, TakesSharply}
-use Rattle.fr_sharp.specs.SharpJoining.{first_error, sharp_first_apart, sharp_first_lengths, sharp_reach, sharp_second_apart}
-use Rattle.fr_sharp.specs.SharpListening.{start_error}
-use Rattle.fr_sharp.specs.SharpGroup.{IsSharpGroup, IsSharpGroupKept, LastApart, SharpGroupsAreKept, StartApart}
+use Rattle.fr_sharp.specs.SharpStep.{ComeSharply, ComputesSharply, IsInSharpSync, IsSharpDouble, IsSharpLimit}
+use Rattle.fr_sharp.specs.SharpJoining.{sharp_first_apart, sharp_first_lengths, sharp_reach, sharp_second_apart}
+use Rattle.fr_sharp.specs.SharpGroup.{IsSharpGroup, LastApart, SharpGroupsAreKept, StartApart}
 use Rattle.fr_sharp.proofs.BoundLemmas.{floor_is, key_slots_act_early}
 use Rattle.fr_sharp.proofs.EndLemmas.{corrected_end_is_near, ends_come_near_lem}
 use Rattle.fr_sharp.proofs.JoinBounds.{followers_come_nearer_lem, lengths_nearer}

@@ -1,6 +1,6 @@
 -- A lawful history of a run that nodes join and whose delays flutter little: from a double cycle in sharp sync in which no node
 -- follows it stays so, for as many double cycles as the rate limit holds the walk and suffices for first rates.
-use Rattle.std.specs.Prelude.{◌≡◌, ◌<◌, ◌≤◌, ◌+◌, ◌*◌, ◌≤ℤ◌, ℕ, pos, Bool, true, ◌∷◌, Contains, Some}
+use Rattle.std.specs.Prelude.{◌≡◌, ◌<◌, ◌≤◌, ◌+◌, ◌≤ℤ◌, ℕ, pos, Bool, true, ◌∷◌, Contains, Some}
 use Rattle.fr_base.specs.declared.state.Outcome.TheVariants.{Within}
 use Rattle.fr_base.specs.declared.state.State.TheVariants.{Active}
 use Rattle.fr_cluster.specs.Sane.{IsSane}

@@ -1,6 +1,6 @@
 -- A lawful run that nodes join and whose delays flutter little: in which double cycles its nodes with rows are as near as in sharp
 -- sync and those that follow near them, and that this goes on.
-use Rattle.std.specs.Prelude.{◌≡◌, ◌≤ℤ◌, ◌+ℤ◌, ◌<◌, ◌*◌, ℕ, suc, ℤ, pos, Bool, false, [], ◌∷◌, length, All, Contains, IsSome, Some}
+use Rattle.std.specs.Prelude.{◌≡◌, ◌≤ℤ◌, ◌+ℤ◌, ◌*◌, ℕ, suc, ℤ, pos, Bool, false, [], ◌∷◌, length, All, Contains, IsSome, Some}
 use Rattle.fr_base.specs.Within.{IsWithin}
 use Rattle.fr_base.specs.declared.state.State.TheVariants.{Active}
 use Rattle.fr_cluster.specs.Setting.{Setting, correct_nodes}

@@ -1,6 +1,6 @@
 -- Nodes that join, by the sharper bounds: how far a node that follows may lie from the others, in ticks, and the checks under
 -- which it does, with the same two sets of numbers.
-use Rattle.std.specs.Prelude.{ℕ, suc, zero, ◌+◌, ◌-◌, ◌*◌, ◌/◌, ◌≤◌, ◌≡◌, ℤ, pos, ◌+ℤ◌, Bool, true, false, nat_le}
+use Rattle.std.specs.Prelude.{ℕ, suc, zero, ◌+◌, ◌-◌, ◌*◌, ◌/◌, ◌≤◌, ◌≡◌, pos, ◌+ℤ◌, Bool, true, false, nat_le}
 use Rattle.fr_cluster.specs.Values.{Values, amount}
 use Rattle.fr_cluster.specs.Sane.{IsSane}
 use Rattle.fr_cluster.specs.declared.names.ParamName.TheVariants as name
