@@ -55,3 +55,4 @@ pub mod JoinedFollowers
 pub mod JoinedBeginning
 pub mod JoinedListeners
 pub mod JoinedStarts
+pub mod JoinedFilesWorked
