@@ -42,7 +42,7 @@ offer_on : Setting → Link → Channel → List ℕ → Offer
 offer_on x l channel bytes = offer_with x l.cycle (uncorrected l.from) (uncorrected l.at) l.slot channel bytes
 
 -- a node that hears or sends on a channel has it
-on_channel : (x : Setting) (node : ℕ) (spec : NodeSpec) (channel : Channel) → node ≡ spec.id → node_of x.params spec.id ≡ Some spec → is_on x node channel ≡ has_channel (Some spec) channel
+pub on_channel : (x : Setting) (node : ℕ) (spec : NodeSpec) (channel : Channel) → node ≡ spec.id → node_of x.params spec.id ≡ Some spec → is_on x node channel ≡ has_channel (Some spec) channel
 on_channel x node spec channel same found =
     ap (λ (id : ℕ). is_on x id channel) same ∙ ap (λ (o : Option NodeSpec). has_channel o channel) found
 

@@ -40,7 +40,7 @@ set_of nodes damping compensation rate_bound change_bound delay_error = record {
 abbrev eight : List NodeSpec
 eight = node 1 ∷ node 2 ∷ node 3 ∷ node 4 ∷ node 5 ∷ node 6 ∷ node 7 ∷ node 8 ∷ []
 
-abbrev set : ℕ → ℕ → ℕ → ℕ → ℕ → Values
+abbrev pub set : ℕ → ℕ → ℕ → ℕ → ℕ → Values
 set = set_of eight
 
 -- lambda, pi, precision, and how far action points lie apart

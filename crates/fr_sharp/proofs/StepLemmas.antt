@@ -31,7 +31,7 @@ use Rattle.fr_sharp.proofs.NearLemmas.{actions_lie_near, macroticks_lie_in_reach
 
 -- ---- two receivers
 
-some_senders : (beside : Bool) (senders : List Sender) (one other : List ℤ) → KeepSenders beside senders one other → 1 ≤ length senders
+pub some_senders : (beside : Bool) (senders : List Sender) (one other : List ℤ) → KeepSenders beside senders one other → 1 ≤ length senders
 some_senders false senders one other keep = keep.0
 some_senders true senders one other keep = omega (arith, keep)
 
@@ -84,7 +84,7 @@ pub runs_of : (p : Values) (even odd : NodeRow) → IsSane p → IsRegular p eve
 runs_of p even odd sane regular = record { double = regular.double; even_lasts = micro_lasts p even sane regular.even_micro; odd_lasts = micro_lasts p odd sane regular.odd_micro }
 
 -- what holds of the rows of each node holds of those of a sender
-among_rows : (P : NodeRow → NodeRow → Type 0) (nodes : List Member) (sender : Sender) → IsAmong nodes sender → ((node : Member) → Contains nodes node → P node.even node.odd) → P sender.even sender.odd
+pub among_rows : (P : NodeRow → NodeRow → Type 0) (nodes : List Member) (sender : Sender) → IsAmong nodes sender → ((node : Member) → Contains nodes node → P node.even node.odd) → P sender.even sender.odd
 among_rows P nodes sender (node, here, same_even, same_odd) holds =
     let Odd : NodeRow → Type 0 = λ row. P sender.even row in
     let Even : NodeRow → Type 0 = λ row. P row node.odd in
@@ -129,10 +129,10 @@ senders_near p starts lengths beyond nodes double one other among also =
     among_rows (λ even odd. LieNear p (pos starts) (pos lengths) (pos (odd_spread p lengths)) one.even one.odd even odd) nodes other also
     (λ node there. sender_near p starts lengths beyond nodes double one node among there)
 
-turned : (bound x y : ℤ) → IsWithin bound (x -ℤ y) → IsWithin bound (y -ℤ x)
+pub turned : (bound x y : ℤ) → IsWithin bound (x -ℤ y) → IsWithin bound (y -ℤ x)
 turned bound x y near = record { low = omega (arith, ints, near.high); high = omega (arith, ints, near.low) }
 
-double_of : (beside : Bool) (p : Values) (flutter : ℕ) (senders : List Sender) (nodes : List Member) (starts lengths : ℕ) (beyond last : ℤ) → IsSane p
+pub double_of : (beside : Bool) (p : Values) (flutter : ℕ) (senders : List Sender) (nodes : List Member) (starts lengths : ℕ) (beyond last : ℤ) → IsSane p
     → AreSharp p starts lengths beyond (map (λ (node : Member). node.even) nodes) → IsSharpDouble beside p flutter senders nodes last → Double p starts lengths beyond nodes
 double_of beside p flutter senders nodes starts lengths beyond last sane sharp heard = record {
   sane = sane;
@@ -161,7 +161,7 @@ actions_lie_in_reach p flutter starts lengths beyond walk reach last action is_o
 acts_in_cycle : (last early action : ℤ) → last ≤ℤ early → IsBetween (pos 0) last action → (pos 0 ≤ℤ action) × (action ≤ℤ early)
 acts_in_cycle last early action le between = (between.low, omega (arith, ints, between.high))
 
-send_apart : (beside : Bool) (p : Values) (flutter : ℕ) (senders : List Sender) (nodes : List Member) (starts lengths : ℕ) (beyond walk reach last : ℤ) → IsSharpLimit p flutter beyond walk reach last
+pub send_apart : (beside : Bool) (p : Values) (flutter : ℕ) (senders : List Sender) (nodes : List Member) (starts lengths : ℕ) (beyond walk reach last : ℤ) → IsSharpLimit p flutter beyond walk reach last
     → Double p starts lengths beyond nodes → IsSharpDouble beside p flutter senders nodes last → SendApart p (pos starts) (pos lengths) (pos (odd_spread p lengths)) senders
 send_apart beside p flutter senders nodes starts lengths beyond walk reach last is double heard = record {
   sending = λ i d short. sends _ (heard.among i d short) (heard.acts i d short);
@@ -206,7 +206,7 @@ takes_sharply beside p flutter senders nodes starts lengths beyond walk reach la
     odds : (sender : Sender) → IsAmong nodes sender → IsWithin (pos (odd_spread p lengths)) (cycle_length_of p node.odd -ℤ cycle_length_of p sender.odd)
     odds sender among = turned (pos (odd_spread p lengths)) (cycle_length_of p sender.odd) (cycle_length_of p node.odd) (sender_near p starts lengths beyond nodes double sender node among here).by_odd
 
-senders_about : (p : Values) (starts lengths : ℕ) (beyond : ℤ) (nodes : List Member) (senders : List Sender) → Double p starts lengths beyond nodes → All (IsAmong nodes) senders → EvensAreAbout p beyond senders
+pub senders_about : (p : Values) (starts lengths : ℕ) (beyond : ℤ) (nodes : List Member) (senders : List Sender) → Double p starts lengths beyond nodes → All (IsAmong nodes) senders → EvensAreAbout p beyond senders
 senders_about p starts lengths beyond nodes senders double among =
     All-along (IsAmong nodes) (λ sender. IsAboutCycle p beyond (cycle_length_of p sender.even)) senders
     (λ sender is. among_rows (λ even odd. IsAboutCycle p beyond (cycle_length_of p even)) nodes sender is (node_about p starts lengths beyond nodes double)) among
@@ -301,13 +301,13 @@ sharp_sync_draws true p flutter = (step (sharp_pi true p flutter) (sharp_lambda 
     step : (pi l j e q : ℕ) → pi ≡ 3 * l + 4 * j + 4 * e + 7 * q → pi + l + 2 * (l + 2 * j) + 4 * e + 7 * q ≤ 2 * pi + 1
     step pi l j e q is = omega arith
 
-ends_fit : (beside : Bool) (p : Values) (flutter : ℕ) → sharp_pi beside p flutter + longest_micro p ≤ sharp_precision beside p flutter
+pub ends_fit : (beside : Bool) (p : Values) (flutter : ℕ) → sharp_pi beside p flutter + longest_micro p ≤ sharp_precision beside p flutter
 ends_fit beside p flutter = step (sharp_pi beside p flutter) (sharp_lambda beside p flutter) (odd_spread p (sharp_lambda beside p flutter)) (longest_micro p)
   where
     step : (pi l o q : ℕ) → pi + q ≤ pi + l + o + 2 * q
     step pi l o q = omega arith
 
-le_itself : (n : ℕ) → n ≤ n
+pub le_itself : (n : ℕ) → n ≤ n
 le_itself n = omega arith
 
 pub sharp_sync_is_kept_lem : SharpSyncIsKept

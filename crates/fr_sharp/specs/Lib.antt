@@ -5,6 +5,8 @@ pub mod FarRun
 pub mod Flutter
 pub mod HaltingRun
 pub mod Hearing
+pub mod JoinedFiles
+pub mod JoinedHistories
 pub mod Lengths
 pub mod LongRun
 pub mod Nearness
@@ -13,7 +15,12 @@ pub mod SettlingHistories
 pub mod SharpBounds
 pub mod SharpChecks
 pub mod SharpFiles
+pub mod SharpFollowing
+pub mod SharpGroup
 pub mod SharpHistories
+pub mod SharpJoined
+pub mod SharpJoining
+pub mod SharpListening
 pub mod SharpRound
 pub mod SharpRun
 pub mod SharpSettling

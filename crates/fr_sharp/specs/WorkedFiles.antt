@@ -1,6 +1,7 @@
 -- The files of a worked run whose delays flutter by 250 ticks, and what they promise.
-use Rattle.std.specs.Prelude.{◌≡◌, pos, Bool, false, [], ◌∷◌, ◌++◌, replicate, Option, None}
+use Rattle.std.specs.Prelude.{◌≡◌, pos, Bool, true, false, [], ◌∷◌, ◌++◌, replicate, Option, None, Some}
 use Rattle.fr_cluster.specs.declared.join.Join.{Join}
+use Rattle.fr_coverage.specs.Coverage.{some_join}
 use Rattle.fr_coverage.specs.Decided.{setting_of}
 use Rattle.fr_coverage.specs.Flutter.{flutter_of}
 use Rattle.fr_drift.specs.Keys.{delay_key, length_key}
@@ -8,7 +9,10 @@ use Rattle.fr_drift.specs.View.{DriftView}
 use Rattle.fr_history.specs.Cycles.{Cycles}
 use Rattle.fr_promise.specs.Statement.{IsRunOf}
 use Rattle.fr_script.specs.View.{ScriptView}
+use Rattle.fr_sharp.specs.JoinedFiles.{IsSharplyCoveredToJoin}
+use Rattle.fr_sharp.specs.SharpChecks.{sharp_holds_of}
 use Rattle.fr_sharp.specs.SharpHistories.{IsInSharpSyncAt, KeepsSharpPrecision}
+use Rattle.fr_sharp.specs.SharpJoining.{sharp_reach}
 use Rattle.fr_sharp.specs.SharpStatement.{has_arbitrary, IsSharplyCovered, KeepsSharply}
 use Rattle.fr_sharp.specs.WorkedRun.{steady_cluster}
 
@@ -49,3 +53,22 @@ FlutteringFilesKeepSharply =
     → IsInSharpSyncAt beside steady_cluster 250 (pos 0) h 0
     × KeepsSharply beside (setting_of steady_cluster fluttering_drift (marking_script beside)) 250 h 0
     × KeepsSharpPrecision beside (setting_of steady_cluster fluttering_drift (marking_script beside)) 250 h 0
+
+-- node 4 joins instead: it listens to node 1 in double cycle 0
+abbrev pub joining_script : ScriptView
+joining_script = record {
+  arbitrary = replicate 65 false;
+  joins =
+      let none : Option Join = None in
+      let some : Option Join = Some (record { reference = 1; double = 0 }) in
+      replicate 4 none ++ some ∷ replicate 60 none;
+  on_a = [];
+  on_b = [];
+}
+
+-- so the files are sharply covered to join
+abbrev pub JoiningFilesAreCovered : Type 0
+JoiningFilesAreCovered =
+    (some_join steady_cluster joining_script ≡ true) × (flutter_of steady_cluster fluttering_drift joining_script ≡ 250)
+    × IsSharplyCoveredToJoin steady_cluster fluttering_drift joining_script 250
+    × (sharp_holds_of 1 250 (sharp_reach false steady_cluster 250) steady_cluster ≡ true)

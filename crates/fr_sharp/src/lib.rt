@@ -1,7 +1,7 @@
 //! Why clocks keep a sharper precision where delays change little from one cycle of a double cycle to the next: laws over
-//! rows and values, over the lawful histories of runs that no node joins, without arbitrary nodes and beside them, of
-//! recorded traces, and of what the files of such a run promise. The bounds, the checks and how long they hold are computed
-//! here too, and which of the two a run is.
+//! rows and values, over the lawful histories of runs that no node joins and of runs that nodes join, without arbitrary
+//! nodes and beside them, of recorded traces, and of what the files of such a run promise. The bounds, the checks, how long
+//! they hold and when clocks come there are computed here too, and which of the two a run is.
 #![tactic(auto)]
 
 mod arbitrary;
@@ -12,11 +12,18 @@ mod driven_run;
 mod ends;
 mod far_run;
 mod files;
+mod following;
+mod grouping;
 mod halting_run;
 mod hearing;
 mod histories;
+mod joined;
+mod joined_files;
+mod joined_histories;
+mod joining;
 mod lasting;
 mod lengths;
+mod listening;
 mod long_run;
 mod nearness;
 mod reached_run;
@@ -38,14 +45,21 @@ pub use driven_run::a_driven_run;
 pub use ends::ends_come_near;
 pub use far_run::far_runs_reach;
 pub use files::{covered_files_keep_sharply, files_are_steady, files_keep_sharp_precision};
+pub use following::followers_hear_steadily;
+pub use grouping::sharp_groups_are_kept;
 pub use halting_run::the_first_sharp_check_is_needed;
 pub use hearing::rounds_are_heard_steadily;
 pub use histories::{
     histories_come_into_sharp_sync, histories_keep_sharp_sync, histories_settle_sharply,
     stated_runs_are_steady,
 };
+pub use joined::joined_doubles_go_on;
+pub use joined_files::joined_files_keep_sharp_precision;
+pub use joined_histories::joined_histories_keep_sharp_sync;
+pub use joining::{followers_come_nearer, sharp_join_checks_suffice};
 pub use lasting::sharp_sync_lasts;
 pub use lengths::{lengths_come_near, ranges_walk};
+pub use listening::listeners_come_near;
 pub use long_run::a_long_walk;
 pub use nearness::nodes_lie_near;
 pub use reached_run::the_sharper_precision_is_reached;

@@ -1,4 +1,4 @@
-ghost use Rattle.fr_sharp.specs.WorkedFiles.{FlutteringFilesAreCovered, FlutteringFilesKeepSharply};
+ghost use Rattle.fr_sharp.specs.WorkedFiles.{FlutteringFilesAreCovered, FlutteringFilesKeepSharply, JoiningFilesAreCovered};
 ghost use Rattle.fr_sharp.specs.WorkedRun.{OlderChecksFail, SteadyPrecisions, SteadyRunKeepsPrecision, SteadyRunMeetsPremises, WalkingRunStaysInSharpSync};
 
 use fr_history::one_lawful_run;
@@ -17,8 +17,10 @@ pub fn a_steady_run()
 }
 
 /// A law: a drift whose delays flutter by 250 ticks, with a script that names node 4 arbitrary or none, is sharply covered; the
-/// run is in sharp sync from the start on and keeps the sharper precision to the end.
+/// run is in sharp sync from the start on and keeps the sharper precision to the end. With one by which node 4 joins it is
+/// sharply covered to join.
 pub fn files_that_flutter()
     ensures covered { FlutteringFilesAreCovered }
     ensures keeps { FlutteringFilesKeepSharply }
+    ensures joins { JoiningFilesAreCovered }
 {}

@@ -1,3 +1,4 @@
+use Rattle.fr_sharp.proofs.JoinedFilesWorked.{joining_files_are_covered}
 use Rattle.fr_sharp.proofs.FilesWorked.{fluttering_files_are_covered, fluttering_files_keep_sharply}
 use Rattle.fr_sharp.proofs.worked_run.files_that_flutter.Goals as goal
 
@@ -6,3 +7,6 @@ returns-clause-covered c = fluttering_files_are_covered
 
 pub returns-clause-keeps : goal.returns-clause-keeps
 returns-clause-keeps c = fluttering_files_keep_sharply
+
+pub returns-clause-joins : goal.returns-clause-joins
+returns-clause-joins c = joining_files_are_covered

@@ -1,0 +1,60 @@
+-- What the files of a run that nodes join promise, where they are sharply covered to join. The words of it, from the top: `IsLawful`
+-- (what a run is), `IsSharplyCoveredToJoin` (what is asked of the files), `sharp_precision`, `IsUnfollowedSharpSyncAt`,
+-- `FirstRatesLast`, `KeepsJoined`.
+use Rattle.std.specs.Prelude.{◌≡◌, ◌<◌, ◌≤◌, ◌+◌, ℕ, pos, Bool, true, List, Contains, Some}
+use Rattle.fr_cluster.specs.Sane.{IsSane}
+use Rattle.fr_cluster.specs.Setting.{Setting, correct_nodes}
+use Rattle.fr_cluster.specs.Values.{Values}
+use Rattle.fr_cluster.specs.declared.join.Join.{Join}
+use Rattle.fr_cluster.specs.declared.nodes.NodeSpec.{NodeSpec}
+use Rattle.fr_drift.specs.Files.{IsDriftFile}
+use Rattle.fr_drift.specs.View.{DriftView}
+use Rattle.fr_script.specs.Files.{IsScriptFile}
+use Rattle.fr_script.specs.View.{ScriptView}
+use Rattle.fr_coverage.specs.Decided.{setting_of}
+use Rattle.fr_coverage.specs.Flutter.{flutter_of}
+use Rattle.fr_coverage.specs.Order.{HasNoGapOfRun}
+use Rattle.fr_history.specs.Cycles.{Cycles}
+use Rattle.fr_promise.specs.Statement.{IsRunOf}
+use Rattle.fr_runs.specs.Whole.{IsJoined}
+use Rattle.fr_sharp.specs.JoinedHistories.{FirstRatesLast, KeepsJoined, StaysJoined}
+use Rattle.fr_sharp.specs.SharpBounds.{sharp_precision}
+use Rattle.fr_sharp.specs.SharpChecks.{sharp_holds_of}
+use Rattle.fr_sharp.specs.SharpHistories.{IsInSharpSyncAt}
+use Rattle.fr_sharp.specs.SharpJoining.{sharp_reach, SharpJoinChecksHold}
+use Rattle.fr_sharp.specs.SharpStatement.{has_arbitrary}
+use Rattle.fr_sharp.specs.SharpTested.{IsUnfollowedSharpSyncAt}
+
+-- the four sharper checks of nodes that join hold, and with them those from 2 to 5; the run itself has no gap; and its delays
+-- flutter by no more than so many ticks. Correct nodes may join
+pub record IsSharplyCoveredToJoin (p : Values) (d : DriftView) (s : ScriptView) (flutter : ℕ) : Type 0 where
+  pub checks : SharpJoinChecksHold (has_arbitrary p s) flutter p
+  pub none : HasNoGapOfRun p d s
+  pub flutters : flutter_of p d s ≤ flutter
+
+-- what is kept from a double cycle on, whoever joins
+pub record KeepsSharplyJoined (beside : Bool) (x : Setting) (flutter : ℕ) (h : Cycles) (double : ℕ) : Type 0 where
+  -- each double cycle is in sharp sync as long as first rates have lasted in those before it, and while they last no corresponding
+  -- macroticks of nodes with rows lie further apart than the sharper precision, in ticks, and no term is cut, of a node with a row
+  -- or of one that follows
+  pub keeps :
+      (passed : ℕ) → double + passed < x.doubles → ((m : ℕ) → m < passed → FirstRatesLast x.params flutter m)
+      → StaysJoined beside x flutter h double passed
+  -- where the first of the sharper checks holds too it is so to the end of the run, with lengths in their range
+  pub always :
+      sharp_holds_of 1 flutter (sharp_reach beside x.params flutter) x.params ≡ true → (passed : ℕ) → double + passed < x.doubles
+      → IsInSharpSyncAt beside x.params flutter (pos 0) h (double + passed)
+      × KeepsJoined x h (double + passed) (sharp_precision beside x.params flutter)
+  -- and whoever listens in a double cycle e from this one on follows in cycles 2 e + 2 to 2 e + 5, and takes part from 2 e + 6 on
+  pub joins :
+      sharp_holds_of 1 flutter (sharp_reach beside x.params flutter) x.params ≡ true → (node : NodeSpec) (join : Join)
+      → Contains (correct_nodes x) node → x.join node.id ≡ Some join → double ≤ join.double → IsJoined h node.id join
+
+-- the promise: of three accepted files that are sharply covered to join, from each double cycle in sharp sync on in which no node
+-- follows
+abbrev pub JoinedFilesKeepSharpPrecision : Type 0
+JoinedFilesKeepSharpPrecision =
+    (p : Values) (d : DriftView) (s : ScriptView) (drift script : List ℕ) (flutter : ℕ) (h : Cycles) (double : ℕ)
+    → IsSane p → IsDriftFile p d drift → IsScriptFile p s script → IsSharplyCoveredToJoin p d s flutter → IsRunOf (setting_of p d s) h
+    → IsUnfollowedSharpSyncAt (has_arbitrary p s) p flutter h double
+    → KeepsSharplyJoined (has_arbitrary p s) (setting_of p d s) flutter h double

@@ -1,0 +1,105 @@
+-- Nodes that join, by the sharper bounds: how far a node that follows may lie from the others, in ticks, and the checks under
+-- which it does, with the same two sets of numbers.
+use Rattle.std.specs.Prelude.{ℕ, suc, zero, ◌+◌, ◌-◌, ◌*◌, ◌/◌, ◌≤◌, ◌≡◌, pos, ◌+ℤ◌, Bool, true, false, nat_le}
+use Rattle.fr_cluster.specs.Values.{Values, amount}
+use Rattle.fr_cluster.specs.Sane.{IsSane}
+use Rattle.fr_cluster.specs.declared.names.ParamName.TheVariants as name
+use Rattle.fr_bound.specs.Bounds.{arrival_error, cycle_change, longest_micro}
+use Rattle.fr_bound.specs.Checks.{holds_of, left_of, right_of}
+use Rattle.fr_bound.specs.Settling.{settle_holds_of, settle_right_of}
+use Rattle.fr_precision.specs.Offsets.{LimitSuffices}
+use Rattle.fr_precision.specs.Reception.{LeavesRoom}
+use Rattle.fr_sharp.specs.SharpBounds.{near_by, odd_spread, sharp_lambda, sharp_near, sharp_pi, steady_error}
+use Rattle.fr_sharp.specs.SharpChecks.{RateSuffices, SharpChecksHold}
+
+-- how far the length that a listener counts between two frames of its reference, in its own even microticks, may lie from
+-- that of the reference's even cycle: flutter, a change, and a microtick that it rounds by
+abbrev pub counted_error : Values → ℕ → ℕ
+counted_error p flutter = flutter + cycle_change p + longest_micro p
+
+-- how far the lengths of its first even cycle may lie from that of the reference's: the microtick has changed twice
+abbrev pub first_error : Values → ℕ → ℕ
+first_error p flutter = flutter + (longest_micro p - 1) + 3 * cycle_change p
+
+-- how far the length of its first even cycle may lie from those of the others
+abbrev pub sharp_first_lengths : Bool → Values → ℕ → ℕ
+sharp_first_lengths beside p flutter =
+    sharp_lambda beside p flutter + 2 * steady_error p flutter + amount p name.pClusterDriftDamping * longest_micro p
+    + 4 * cycle_change p
+
+-- how far its first start may lie from those of the others
+abbrev pub sharp_first_apart : Bool → Values → ℕ → ℕ
+sharp_first_apart beside p flutter =
+    sharp_pi beside p flutter + 2 * sharp_lambda beside p flutter + 4 * cycle_change p + 2 * arrival_error p + flutter
+    + 4 * longest_micro p
+
+-- how far its second start may: beside arbitrary nodes half as far as the others' starts and its first lengths, without them
+-- by its first lengths alone; its second lengths lie as near as all
+abbrev pub sharp_second_apart : Bool → Values → ℕ → ℕ
+sharp_second_apart false p flutter =
+    odd_spread p (sharp_first_lengths false p flutter) + 2 * arrival_error p + 3 * longest_micro p
+sharp_second_apart true p flutter =
+    (
+    sharp_pi true p flutter + sharp_lambda true p flutter + 2 * odd_spread p (sharp_first_lengths true p flutter)
+    + 4 * arrival_error p + 7 * longest_micro p
+    )
+    / 2
+
+-- the sharper reach: how far action points of a node that follows may lie from those of the others
+abbrev pub sharp_reach : Bool → Values → ℕ → ℕ
+sharp_reach beside p flutter = near_by p (sharp_first_apart beside p flutter) (sharp_first_lengths beside p flutter)
+
+-- a node that follows comes nearer: no second number is above the first, and the reach takes in its second double cycle and
+-- that of nodes in sharp sync
+abbrev pub FollowersComeNearer : Type 0
+FollowersComeNearer =
+    (beside : Bool) (p : Values) (flutter : ℕ) → IsSane p
+    → (sharp_lambda beside p flutter ≤ sharp_first_lengths beside p flutter)
+    × (sharp_second_apart beside p flutter ≤ sharp_first_apart beside p flutter)
+    × (near_by p (sharp_second_apart beside p flutter) (sharp_lambda beside p flutter) ≤ sharp_reach beside p flutter)
+    × (sharp_near beside p flutter ≤ sharp_reach beside p flutter)
+
+-- ---- the checks, by their numbers from 6 to 9; their left sides are those of the older ones
+
+-- the right side; from the seventh on it is that of the older checks, with the sharper reach
+abbrev pub sharp_join_right_of : ℕ → Bool → ℕ → Values → ℕ
+sharp_join_right_of (suc (suc (suc (suc (suc (suc zero)))))) beside flutter p = right_of 2 p + counted_error p flutter
+sharp_join_right_of (suc (suc (suc (suc (suc (suc (suc zero))))))) beside flutter p =
+    settle_right_of 3 (sharp_reach beside p flutter) p
+sharp_join_right_of (suc (suc (suc (suc (suc (suc (suc (suc zero)))))))) beside flutter p =
+    settle_right_of 4 (sharp_reach beside p flutter) p
+sharp_join_right_of (suc (suc (suc (suc (suc (suc (suc (suc (suc zero))))))))) beside flutter p =
+    settle_right_of 5 (sharp_reach beside p flutter) p
+sharp_join_right_of other beside flutter p = 0
+
+-- the check holds
+abbrev pub sharp_join_holds_of : ℕ → Bool → ℕ → Values → Bool
+sharp_join_holds_of (suc (suc (suc (suc (suc (suc zero)))))) beside flutter p =
+    nat_le (sharp_join_right_of 6 beside flutter p) (left_of 6 p)
+sharp_join_holds_of (suc (suc (suc (suc (suc (suc (suc zero))))))) beside flutter p =
+    settle_holds_of 3 (sharp_reach beside p flutter) p
+sharp_join_holds_of (suc (suc (suc (suc (suc (suc (suc (suc zero)))))))) beside flutter p =
+    settle_holds_of 4 (sharp_reach beside p flutter) p
+sharp_join_holds_of (suc (suc (suc (suc (suc (suc (suc (suc (suc zero))))))))) beside flutter p =
+    settle_holds_of 5 (sharp_reach beside p flutter) p
+sharp_join_holds_of other beside flutter p = true
+
+-- every one of the four holds
+abbrev pub SharpJoinChecksHold : Bool → ℕ → Values → Type 0
+SharpJoinChecksHold beside flutter p = (k : ℕ) → 6 ≤ k → k ≤ 9 → sharp_join_holds_of k beside flutter p ≡ true
+
+-- then the offset limit suffices for the reach, and slots leave room for it; the rate limit suffices for a first rate; and of
+-- the five checks those from the second on hold, with action points no further apart than in reach and no further than in sharp
+-- sync
+abbrev pub SharpJoinChecksSuffice : Type 0
+SharpJoinChecksSuffice =
+    (beside : Bool) (p : Values) (flutter : ℕ) → IsSane p → SharpJoinChecksHold beside flutter p
+    → LimitSuffices p (pos (sharp_reach beside p flutter)) × LeavesRoom p (pos (sharp_reach beside p flutter))
+    × RateSuffices p (pos 0 +ℤ pos (counted_error p flutter))
+    × SharpChecksHold flutter (sharp_reach beside p flutter) p × SharpChecksHold flutter (sharp_near beside p flutter) p
+
+-- where the older checks hold of nodes that join, so do these, if delays flutter by no more than twice the error of an arrival
+abbrev pub OlderJoinChecksSuffice : Type 0
+OlderJoinChecksSuffice =
+    (beside : Bool) (p : Values) (flutter number : ℕ) → IsSane p → flutter ≤ 2 * arrival_error p
+    → 6 ≤ number → number ≤ 9 → holds_of number p ≡ true → sharp_join_holds_of number beside flutter p ≡ true
