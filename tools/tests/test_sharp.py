@@ -259,8 +259,8 @@ class Pages(Case):
 
     def test_nodes_that_join_are_left_to_the_older_bound(self):
         page = self.page(produced(SHORT) + JOINS)
-        self.assertIn("Sharply covered NO: nothing is promised of this run's sharp precision nodes join it, and the sharper precision "
-                      "is proved of runs that no node joins", page)
+        self.assertIn("Sharply covered NO: nothing is promised of this run's sharp precision nodes join it, and no program asks for "
+                      "the checks under which the sharper precision is proved of such a run", page)
         self.assertNotIn("Sharp precision", page)
         self.assertIn("check C8 fails", page)
 
