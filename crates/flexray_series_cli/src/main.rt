@@ -2,21 +2,18 @@
 //! whether they are in sync.
 #![tactic(auto)]
 
-use fr_program::{DiskShelf, StreamSink};
+use fr_program::{DiskShelf, StreamSink, exit_code, request_words};
 use fr_series::{Status, flexray_series};
 use std::env;
 use std::process::ExitCode;
 
 fn main(rt: HostRuntime) -> ExitCode {
-    let Ok(all) = env::args(&rt) else {
-        return ExitCode::from(Status::NoMemory.code());
-    };
-    let Ok(words) = all.skip(1).collect::<Vec<String>>(rt.alloc()) else {
-        return ExitCode::from(Status::NoMemory.code());
+    let Some(words) = request_words(rt.alloc(), env::args(&rt)) else {
+        return exit_code(Status::NoMemory);
     };
     let mut shelf = DiskShelf::new(&rt);
     let mut out = StreamSink::new(rt.stdout());
     let mut err = StreamSink::new(rt.stderr());
     let status = flexray_series(rt.alloc(), &words, &mut shelf, &mut out, &mut err);
-    ExitCode::from(status.code())
+    exit_code(status)
 }

@@ -5,12 +5,11 @@ use Rattle.fr_cluster.specs.Values.{Values}
 use Rattle.fr_base.specs.Device.{Shelved}
 use Rattle.fr_drift.specs.View.{DriftView}
 use Rattle.fr_script.specs.View.{ScriptView}
-use Rattle.fr_text.specs.Files.{IsTextOf}
 use Rattle.fr_program.specs.declared.failure.Failure.TheVariants.{Usage, Stopped, WriteFault}
 use Rattle.fr_program.specs.Around.{Around, Ending}
-use Rattle.fr_program.specs.Command.{CommandEnds}
-use Rattle.fr_report.specs.Files.{run_command, run_files}
-use Rattle.fr_report.specs.Names.{RunNames, names_in}
+use Rattle.fr_program.specs.Command.{CommandEnds, IsCommandText}
+use Rattle.fr_report.specs.Files.{run_command}
+use Rattle.fr_report.specs.Names.{RunNames}
 use Rattle.fr_report.specs.RunText.{IsRunText}
 use Rattle.fr_sharp.specs.SharpFiles.{CoveredFilesKeepSharply}
 use Rattle.fr_answer.specs.RunAnswer.{IsKeptRunText, kept_run_command}
@@ -21,24 +20,27 @@ kept_text keep p d s text sane report = record {
   sharply = λ flutter double covered synced. keep p d s flutter report.cycles double sane covered report.run synced;
 }
 
-kept_written : CoveredFilesKeepSharply → (names : RunNames) (shelf : Shelved) (text : List ℕ)
-    → IsTextOf (run_files IsRunText) (names_in names) shelf text → IsTextOf (run_files IsKeptRunText) (names_in names) shelf text
-kept_written keep names shelf text w =
-    let p = w.0 in let d = w.2.0 in let s = w.2.2.0 in
-    (p, w.1, (d, w.2.1, (s, w.2.2.1, kept_text keep p d s text w.1.sound w.2.2.2)))
+kept_written : CoveredFilesKeepSharply → (names : RunNames) (before after : Shelved) (text : List ℕ)
+    → IsCommandText (run_command IsRunText names) before after text → IsCommandText (kept_run_command names) before after text
+kept_written keep names before after text written =
+    let w = written.is_text in
+    let p = w.0 in let d = w.2.0 in let s = w.2.2.0 in record {
+      is_text = (p, w.1, (d, w.2.1, (s, w.2.2.1, kept_text keep p d s text w.1.sound w.2.2.2)));
+      asked = written.asked;
+    }
 
 pub kept_run_ends : CoveredFilesKeepSharply → (names : RunNames) (around : Around) (ending : Ending)
     → CommandEnds (run_command IsRunText names) around ending → CommandEnds (kept_run_command names) around ending
 kept_run_ends keep names around (Ok done) ends = record {
   text = ends.text;
-  defined = kept_written keep names around.shelf_before ends.text ends.defined;
+  defined = kept_written keep names around.shelf_before around.shelf_after ends.text ends.defined;
   grew = ends.grew;
 }
 kept_run_ends keep names around (Err Usage) ends = absurd ends
 kept_run_ends keep names around (Err (Stopped why)) ends = ends
 kept_run_ends keep names around (Err WriteFault) ends = record {
   text = ends.text;
-  defined = kept_written keep names around.shelf_before ends.text ends.defined;
+  defined = kept_written keep names around.shelf_before around.shelf_after ends.text ends.defined;
   counted = ends.counted;
   grew = ends.grew;
 }

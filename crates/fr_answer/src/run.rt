@@ -1,4 +1,4 @@
-ghost use Rattle.std.specs.Prelude.{◌≡◌, ◌+◌, ◌≤◌};
+ghost use Rattle.std.specs.Prelude.{◌≡◌};
 ghost use Rattle.fr_program.specs.Around.{around_of};
 ghost use Rattle.fr_program.specs.Command.{CommandEnds};
 ghost use Rattle.fr_program.specs.Failure.{EndingWritesNothing};
@@ -23,7 +23,6 @@ pub fn answer_kept_run<S: Shelf, O: Sink>(
 ) -> Result<(), Failure>
     ensures ends { CommandEnds (kept_run_command (run_names_of files.entry))
         (around_of (S.state shelf.old) (S.state shelf.new) (O.state out.old) (O.state out.new)) result }
-    ensures loads { (S.state shelf.new).loads ≤ (S.state shelf.old).loads + 3 }
     ensures unwritten { EndingWritesNothing result → out.new ≡ out.old }
 {
     covered_files_keep_sharply();

@@ -1,4 +1,4 @@
-ghost use Rattle.std.specs.Prelude.{◌≡◌, ◌+◌, ◌≤◌};
+ghost use Rattle.std.specs.Prelude.{◌≡◌, ◌≤◌};
 ghost use Rattle.fr_base.specs.Device.{Puts};
 ghost use Rattle.fr_bound.specs.Settling.{most_stated};
 ghost use Rattle.fr_text.specs.Lines.{joined_lines};
@@ -33,7 +33,6 @@ pub fn answer_settle<S: Shelf, O: Sink>(
     requires rate { rate ≤ most_stated }
     ensures ends { CommandEnds (settle_command file.now start rate)
         (around_of (S.state shelf.old) (S.state shelf.new) (O.state out.old) (O.state out.new)) result }
-    ensures loads { (S.state shelf.new).loads ≤ (S.state shelf.old).loads + 1 }
     ensures unwritten { EndingWritesNothing result → out.new ≡ out.old }
 {
     let params = accepted(alloc, &ParamsFile {}, file, shelf)?;

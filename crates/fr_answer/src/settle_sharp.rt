@@ -1,4 +1,4 @@
-ghost use Rattle.std.specs.Prelude.{◌≡◌, ◌+◌, ◌≤◌};
+ghost use Rattle.std.specs.Prelude.{◌≡◌, ◌≤◌};
 ghost use Rattle.fr_base.specs.Device.{Puts};
 ghost use Rattle.fr_bound.specs.Settling.{most_stated};
 ghost use Rattle.fr_sharp.specs.SharpBounds.{most_flutter};
@@ -37,7 +37,6 @@ pub fn answer_settle_sharp<S: Shelf, O: Sink>(
     requires flutter { flutter ≤ most_flutter }
     ensures ends { CommandEnds (sharp_settle_command file.now start rate flutter)
         (around_of (S.state shelf.old) (S.state shelf.new) (O.state out.old) (O.state out.new)) result }
-    ensures loads { (S.state shelf.new).loads ≤ (S.state shelf.old).loads + 1 }
     ensures unwritten { EndingWritesNothing result → out.new ≡ out.old }
 {
     let params = accepted(alloc, &ParamsFile {}, file, shelf)?;

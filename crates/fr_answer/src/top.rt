@@ -1,6 +1,6 @@
-ghost use Rattle.std.specs.Prelude.{◌≡◌, ◌≢◌, ◌↔◌, IfErr};
+ghost use Rattle.std.specs.Prelude.{◌≡◌, ◌≢◌, ◌↔◌, [], IfErr};
 ghost use Rattle.fr_program.specs.Around.{around_of};
-ghost use Rattle.fr_program.specs.Command.{AreLoads, CommandEnds};
+ghost use Rattle.fr_program.specs.Command.{CommandEnds};
 ghost use Rattle.fr_program.specs.Failure.{EndingWritesNothing, WritesNothing, ending_status, status_of};
 ghost use Rattle.fr_program.specs.Program.{IsNoRequest, IsProgramAnswer, IsProgramComplete, WordsEnd, texts};
 ghost use Rattle.fr_answer.specs.Answer.{command_of, flexray_program};
@@ -78,7 +78,7 @@ fn carry_out<S: Shelf, O: Sink>(
     requires { IsInRange request }
     ensures ends { CommandEnds (command_of (asked_of request.entry))
         (around_of (S.state shelf.old) (S.state shelf.new) (O.state out.old) (O.state out.new)) result }
-    ensures loads { AreLoads (command_of (asked_of request.entry)).names (S.state shelf.old) (S.state shelf.new) }
+    ensures stays { (command_of (asked_of request.entry)).names ≡ [] → S.state shelf.new ≡ S.state shelf.old }
     ensures unwritten { EndingWritesNothing result → out.new ≡ out.old }
 {
     match request {

@@ -1,16 +1,17 @@
 -- What is said of devices that may fail: their states, what a load and a put do to them.
-use Rattle.std.specs.Prelude.{◌≡◌, ℕ, ◌+◌, ◌-◌, ◌^◌, ◌<◌, ◌≤◌, min, List, length, take, Option, IfSome, Result, OnOk, OnErr}
+use Rattle.std.specs.Prelude.{◌≡◌, ℕ, ◌+◌, ◌-◌, ◌^◌, ◌<◌, ◌≤◌, min, List, [], ◌∷◌, ◌++◌, length, take, Option, Some, None, IfSome, Result, OnOk, OnErr}
 use Rattle.std.specs.Io.KnownBytes.{Appends}
 use Rattle.fr_base.specs.declared.shelf.TheConstants.{MAX_FILE}
 use Rattle.fr_base.specs.declared.shelf.LoadFault.{LoadFault}
 use Rattle.fr_base.specs.declared.shelf.LoadFault.TheVariants.{Failed, TooLong, NoMemory}
 use Rattle.fr_base.specs.declared.sink.PutFault.{PutFault}
 
--- a shelf: the bytes under each name, where it tells them, the count of faults of each name, and the count of loads
+-- a shelf: the bytes under each name, where it tells them, the count of faults of each name, and the names that were asked for,
+-- in their order, where it tells them
 pub record Shelved : Type 0 where
   pub held : List ℕ → Option (List ℕ)
   pub faults : List ℕ → ℕ
-  pub loads : ℕ
+  pub asked : Option (List (List ℕ))
 
 -- a sink: the bytes that were put, where it tells them, and the count of its faults
 pub record Sunk : Type 0 where
@@ -59,11 +60,21 @@ StopsLoad before after file Failed = IsFaulty before after file
 StopsLoad before after file (TooLong seen) = IsSeen (before.held file) MAX_FILE seen
 StopsLoad before after file NoMemory = Unit {0}
 
--- a shelf after one load more: the bytes stay, no count fell
-pub record IsOneLoadLater (before after : Shelved) : Type 0 where
+-- where the names that were asked for are told now, they were told before, and since then these were asked for, in this order
+abbrev pub Asks : Option (List (List ℕ)) → Option (List (List ℕ)) → List (List ℕ) → Type 0
+Asks before None names = Unit {0}
+Asks None (Some now) names = ⊥
+Asks (Some before) (Some now) names = now ≡ before ++ names
+
+-- a front of these names was asked for, which may be none or all of them
+abbrev pub AsksFront : Option (List (List ℕ)) → Option (List (List ℕ)) → List (List ℕ) → Type 0
+AsksFront before now names = (n : ℕ) × Asks before now (take n names)
+
+-- a shelf after one load more, of this name: the bytes stay, no count fell
+pub record IsOneLoadLater (before after : Shelved) (name : List ℕ) : Type 0 where
   pub held_stays : (file : List ℕ) → after.held file ≡ before.held file
   pub never_fall : (file : List ℕ) → before.faults file ≤ after.faults file
-  pub one_load : after.loads ≡ raised before.loads
+  pub one_load : Asks before.asked after.asked (name ∷ [])
 
 -- told bytes grew by the front of a piece, which may be none or all of it
 abbrev pub AppendsFront : Option (List ℕ) → Option (List ℕ) → List ℕ → Type 0

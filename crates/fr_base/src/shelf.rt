@@ -17,7 +17,7 @@ pub enum LoadFault {
 
 /// Where files are loaded from, by name.
 pub trait Shelf {
-    /// The bytes under each name, where the shelf tells them, and its counts of faults and loads.
+    /// The bytes under each name and the names that were asked for, where the shelf tells them, and its counts of faults.
     ghost state: { Self → Shelved };
 
     /// Loads the bytes under the name into a vector that is empty.
@@ -31,5 +31,5 @@ pub trait Shelf {
         ensures stops { IfErr result (StopsLoad (state self.old) (state self.new) name.now) }
         ensures emptied { OnErr result (into.new.items ≡ []) }
 
-        ensures later { IsOneLoadLater (state self.old) (state self.new) };
+        ensures later { IsOneLoadLater (state self.old) (state self.new) name.now };
 }

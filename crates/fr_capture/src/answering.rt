@@ -1,4 +1,4 @@
-ghost use Rattle.std.specs.Prelude.{◌≡◌, ◌+◌, ◌≤◌, length};
+ghost use Rattle.std.specs.Prelude.{◌≡◌, ◌≤◌, length};
 ghost use Rattle.fr_base.specs.Device.{Puts};
 ghost use Rattle.fr_capture.specs.Frames.{AreFrames};
 ghost use Rattle.fr_capture.specs.Walk.{frames_in};
@@ -29,7 +29,6 @@ pub fn answer_capture<S: Shelf, O: Sink>(
 ) -> Result<(), Failure>
     ensures ends { CommandEnds (capture_command channel file.now)
         (around_of (S.state shelf.old) (S.state shelf.new) (O.state out.old) (O.state out.new)) result }
-    ensures loads { (S.state shelf.new).loads ≤ (S.state shelf.old).loads + 1 }
     ensures unwritten { EndingWritesNothing result → out.new ≡ out.old }
 {
     let bytes = loaded(alloc, b"capture", file, shelf)?;

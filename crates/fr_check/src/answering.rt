@@ -1,4 +1,4 @@
-ghost use Rattle.std.specs.Prelude.{◌≡◌, ℕ, ◌+◌, ◌≤◌, IfErr, IfOk, List, Ok};
+ghost use Rattle.std.specs.Prelude.{◌≡◌, ℕ, IfErr, IfOk, List, Ok};
 ghost use Rattle.fr_program.specs.Around.{around_of};
 ghost use Rattle.fr_program.specs.Command.{CommandEnds};
 ghost use Rattle.fr_program.specs.Failure.{EndingWritesNothing};
@@ -34,7 +34,6 @@ pub fn answer_check<S: Shelf, O: Sink>(
 ) -> Result<(), Failure>
     ensures ends { CommandEnds (check_command files.entry.params.now files.entry.trace.now)
         (around_of (S.state shelf.old) (S.state shelf.new) (O.state out.old) (O.state out.new)) result }
-    ensures loads { (S.state shelf.new).loads ≤ (S.state shelf.old).loads + 2 }
     ensures unwritten { EndingWritesNothing result → out.new ≡ out.old }
 {
     let params = accepted(alloc, &ParamsFile {}, files.params, shelf)?;

@@ -1,4 +1,4 @@
-ghost use Rattle.std.specs.Prelude.{◌≡◌, ◌+◌, ◌≤◌};
+ghost use Rattle.std.specs.Prelude.{◌≡◌};
 ghost use Rattle.fr_program.specs.Around.{around_of};
 ghost use Rattle.fr_program.specs.Command.{CommandEnds};
 ghost use Rattle.fr_program.specs.Failure.{EndingWritesNothing};
@@ -26,7 +26,6 @@ pub fn answer_cold<S: Shelf, O: Sink>(
 ) -> Result<(), Failure>
     ensures ends { CommandEnds (cold_command files.entry.params.now files.entry.power.now)
         (around_of (S.state shelf.old) (S.state shelf.new) (O.state out.old) (O.state out.new)) result }
-    ensures loads { (S.state shelf.new).loads ≤ (S.state shelf.old).loads + 2 }
     ensures unwritten { EndingWritesNothing result → out.new ≡ out.old }
 {
     a_startup_has_one_leader();

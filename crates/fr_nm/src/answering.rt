@@ -1,4 +1,4 @@
-ghost use Rattle.std.specs.Prelude.{◌≡◌, ◌+◌, ◌≤◌};
+ghost use Rattle.std.specs.Prelude.{◌≡◌, ◌≤◌};
 ghost use Rattle.fr_program.specs.Around.{around_of};
 ghost use Rattle.fr_program.specs.Command.{CommandEnds};
 ghost use Rattle.fr_program.specs.Failure.{EndingWritesNothing};
@@ -25,7 +25,6 @@ pub fn answer_nm<S: Shelf, O: Sink>(
     requires to { width ≤ 12 }
     ensures ends { CommandEnds (nm_command width file.now)
         (around_of (S.state shelf.old) (S.state shelf.new) (O.state out.old) (O.state out.new)) result }
-    ensures loads { (S.state shelf.new).loads ≤ (S.state shelf.old).loads + 1 }
     ensures unwritten { EndingWritesNothing result → out.new ≡ out.old }
 {
     let vectors = accepted(alloc, &VectorsFile::of(width), file, shelf)?;

@@ -1,4 +1,4 @@
-ghost use Rattle.std.specs.Prelude.{◌≡◌, ◌+◌, ◌≤◌};
+ghost use Rattle.std.specs.Prelude.{◌≡◌};
 ghost use Rattle.fr_params.specs.UpgradeAnswer.{upgrade_command};
 ghost use Rattle.fr_program.specs.Around.{around_of};
 ghost use Rattle.fr_program.specs.Command.{CommandEnds};
@@ -22,7 +22,6 @@ pub fn answer_upgrade<S: Shelf, O: Sink>(
 ) -> Result<(), Failure>
     ensures ends { CommandEnds (upgrade_command file.now)
         (around_of (S.state shelf.old) (S.state shelf.new) (O.state out.old) (O.state out.new)) result }
-    ensures loads { (S.state shelf.new).loads ≤ (S.state shelf.old).loads + 1 }
     ensures unwritten { EndingWritesNothing result → out.new ≡ out.old }
 {
     let params = accepted(alloc, &ParamsFile {}, file, shelf)?;

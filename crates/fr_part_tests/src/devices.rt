@@ -48,6 +48,20 @@ fn first_misloaded<S: Shelf>(alloc: Global, shelf: &mut S, loads: &[Load]) -> Op
     None
 }
 
+// Whether these are the names of the loads, one after the other.
+fn are_names_of(names: Option<&[String]>, loads: &[Load]) -> bool {
+    match names {
+        Some(names) => {
+            names.len() == loads.len()
+                && names
+                    .iter()
+                    .zip(loads)
+                    .all(|(name, load)| name.as_str() == load.0)
+        }
+        None => false,
+    }
+}
+
 // Names and what is held under them, in this order, and names with so many bytes.
 const HELD: &[(&str, &[u8])] = &[("a", b"old"), ("b", b"other"), ("a", b"new")];
 
@@ -79,6 +93,7 @@ fn shelves_in_memory_load_what_they_hold(rt: HostRuntime) -> Result<(), Fail> {
     let mut shelf = MemoryShelf::new(rt.alloc());
     fill(rt.alloc(), &mut shelf)?;
     assert!(rt; first_misloaded(rt.alloc(), &mut shelf, LOADS).is_none());
+    assert!(rt; are_names_of(shelf.asked(), LOADS));
     Ok(())
 }
 
@@ -87,6 +102,7 @@ fn a_sure_shelf_holds_every_name(rt: HostRuntime) -> Result<(), Fail> {
     let mut shelf = SureShelf::new(rt.alloc());
     fill_surely(rt.alloc(), &mut shelf)?;
     assert!(rt; first_misloaded(rt.alloc(), &mut shelf, SURE_LOADS).is_none());
+    assert!(rt; are_names_of(shelf.asked(), SURE_LOADS));
     Ok(())
 }
 
@@ -124,6 +140,35 @@ const ON_DISK: &[Load] = &[
     (".", Err(LoadFault::Failed), 0, b""),
     ("", Err(LoadFault::Failed), 0, b""),
 ];
+
+// Files of so many bytes.
+const SIZES: &[(&str, usize)] = &[
+    ("empty", 0),
+    ("page", 4_096),
+    ("chunk", 65_536),
+    ("more", 65_537),
+    ("most", MAX_FILE),
+    ("over", 16_777_217),
+];
+
+const SIZED: &[Load] = &[
+    ("empty", Ok(()), 0, b""),
+    ("page", Ok(()), 4_096, b"\x07"),
+    ("chunk", Ok(()), 65_536, b"\x07"),
+    ("more", Ok(()), 65_537, b"\x07"),
+    ("most", Ok(()), 16_777_216, b"\x07"),
+    ("over", LONGER, 0, b""),
+];
+
+#[test]
+fn a_file_on_the_disk_is_loaded_whole(rt: HostRuntime) -> Result<(), Fail> {
+    for (name, count) in SIZES {
+        fs::write(&rt, *name, &sevens(rt.alloc(), *count)?)?;
+    }
+    let mut shelf = DiskShelf::new(&rt);
+    assert!(rt; first_misloaded(rt.alloc(), &mut shelf, SIZED).is_none());
+    Ok(())
+}
 
 fn put_twice<S: Sink>(sink: &mut S) -> bool {
     sink.put(b"a line\n").is_ok() && sink.put(b"and one more\n").is_ok()

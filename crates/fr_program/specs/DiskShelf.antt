@@ -7,10 +7,6 @@ use Rattle.fr_program.specs.declared.adapters.DiskShelf.{DiskShelf}
 abbrev pub disk_faults : {R F E : Type 0} → DiskShelf R F E → ℕ
 disk_faults shelf = shelf.faults
 
--- how many loads there were
-abbrev pub disk_loads : {R F E : Type 0} → DiskShelf R F E → ℕ
-disk_loads shelf = shelf.loads
-
--- it tells no content, and has one count of faults for all names
+-- it tells no content and no name that was asked for, and has one count of faults for all names
 abbrev pub disk_state : {R F E : Type 0} → DiskShelf R F E → Shelved
-disk_state shelf = record { held = λ _. None; faults = λ _. disk_faults shelf; loads = disk_loads shelf }
+disk_state shelf = record { held = λ _. None; faults = λ _. disk_faults shelf; asked = None }

@@ -1,5 +1,6 @@
 -- what the public contract cites
 pub mod Around
+pub mod AskedNames
 pub mod Command
 pub mod DiskShelf
 pub mod Failure
@@ -8,3 +9,4 @@ pub mod MemorySink
 pub mod Program
 pub mod StreamSink
 pub mod SureShelf
+pub mod Watched

@@ -1,10 +1,11 @@
 -- What a shelf in memory holds, how often a name has failed, and which loads it refuses.
-use Rattle.std.specs.Prelude.{◌≡◌, ◌≢◌, ◌≤◌, ℕ, List, [], Option, None, IsSome, Bool, ◌==◌, ◌||◌, is_none}
+use Rattle.std.specs.Prelude.{◌≡◌, ◌≢◌, ◌≤◌, ℕ, List, [], Option, Some, None, IsSome, Bool, ◌==◌, ◌||◌, is_none}
 use Rattle.std.specs.List.{list_any}
 use Rattle.std.specs.Option.{option_map, option_map_or}
 use Rattle.std.specs.BTreeMap.{get_by_text}
 use Rattle.fr_base.specs.Device.{raised, Shelved}
 use Rattle.fr_program.specs.declared.memory_shelf.MemoryShelf.{MemoryShelf}
+use Rattle.fr_program.specs.AskedNames.{names_told}
 
 -- the bytes under a name
 abbrev pub held_in : MemoryShelf → List ℕ → Option (List ℕ)
@@ -18,9 +19,13 @@ faults_in shelf name = option_map_or (λ file. file.faults) (get_by_text shelf.f
 abbrev pub loads_of : MemoryShelf → ℕ
 loads_of shelf = shelf.loads
 
--- its bytes, which it tells, and its counts
+-- the names that were asked for, in their order, where it tells them
+abbrev pub asked_in : MemoryShelf → Option (List (List ℕ))
+asked_in shelf = names_told shelf.asked
+
+-- its bytes, which it tells, its counts of faults, and the names that were asked for
 abbrev pub shelved_in : MemoryShelf → Shelved
-shelved_in shelf = record { held = held_in shelf; faults = faults_in shelf; loads = loads_of shelf }
+shelved_in shelf = record { held = held_in shelf; faults = faults_in shelf; asked = asked_in shelf }
 
 -- the numbers of the loads that are to fail, from 1
 abbrev pub failing_loads : MemoryShelf → List ℕ
@@ -35,12 +40,14 @@ pub record IsNewShelf (shelf : MemoryShelf) : Type 0 where
   pub empty : (name : List ℕ) → held_in shelf name ≡ None
   pub no_faults : (name : List ℕ) → faults_in shelf name ≡ 0
   pub no_loads : loads_of shelf ≡ 0
+  pub none_asked : asked_in shelf ≡ Some []
   pub none_failing : failing_loads shelf ≡ []
 
--- the counts stay
+-- the counts stay, and the names that were asked for
 pub record KeepsCounts (before after : MemoryShelf) : Type 0 where
   pub faults : (name : List ℕ) → faults_in after name ≡ faults_in before name
   pub loads : loads_of after ≡ loads_of before
+  pub asked : asked_in after ≡ asked_in before
 
 -- a fault of the name is counted: at its own count where it is held, so that all others stay, and else at the one count
 -- of all names that are not held
@@ -54,4 +61,5 @@ pub record OnlyCounts (before after : MemoryShelf) : Type 0 where
   pub never_fall : (name : List ℕ) → faults_in before name ≤ faults_in after name
   pub held : (name : List ℕ) → held_in after name ≡ held_in before name
   pub loads : loads_of after ≡ loads_of before
+  pub asked : asked_in after ≡ asked_in before
   pub failing : failing_loads after ≡ failing_loads before

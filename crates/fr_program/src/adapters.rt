@@ -1,7 +1,9 @@
-ghost use Rattle.std.specs.Prelude.{◌≡◌, ◌≤◌, ◌<◌, ◌++◌, [], length, take, OnOk, OnErr, IfOk, IfErr, IfSome, MatchResult, IsErrOf, IsTrue, vec_len};
+ghost use Rattle.std.specs.Prelude.{◌≡◌, ◌≤◌, ◌<◌, ◌↔◌, [], false, length, take, OnOk, OnErr, IfOk, IfErr, IsErrOf, IsTrue, vec_len};
 ghost use Rattle.std.specs.Io.KnownBytes.{Appends, Keeps};
 ghost use Rattle.fr_base.specs.Device.{AppendsFront, IsHeld, IsLoaded, IsOneLoadLater, Puts, SeesTooLong, StopsLoad, raised};
+ghost use Rattle.fr_program.specs.Watched.{has_failed, reader_of};
 
+use crate::watched::Watched;
 use fr_base::{LoadFault, MAX_FILE, PutFault, Shelf, Sink};
 use std::fs;
 use std::io::{Read, Write};
@@ -10,28 +12,22 @@ use std::rt::Files;
 // How many bytes are read at once.
 const CHUNK: usize = 65_536;
 
-/// A shelf over the files of a runtime. It tells no content, and has one count of faults for all names:
-/// each error of the file system is a fault of every name. Counters stay at their last value.
+/// A shelf over the files of a runtime. It tells no content and no name that it was asked for, and has one count of faults
+/// for all names: each error of the file system is a fault of every name. The count stays at its last value.
 #[derive(Drop)]
 pub struct DiskShelf<R: Files + Drop> {
     files: R,
     faults: u64,
-    loads: u64,
 }
 
 impl<R: Files + Drop> DiskShelf<R> {
-    ghost use Rattle.fr_program.specs.DiskShelf.{disk_faults, disk_loads};
+    ghost use Rattle.fr_program.specs.DiskShelf.{disk_faults};
 
-    /// A shelf over the files, with no fault and no load counted.
+    /// A shelf over the files, with no fault counted.
     pub fn new(files: R) -> DiskShelf<R>
-        ensures no_faults { disk_faults result ≡ 0 }
-        ensures no_loads { disk_loads result ≡ 0 }
+        ensures { disk_faults result ≡ 0 }
     {
-        DiskShelf {
-            files,
-            faults: 0,
-            loads: 0,
-        }
+        DiskShelf { files, faults: 0 }
     }
 }
 
@@ -47,24 +43,16 @@ impl<R: Files + Drop> Shelf for DiskShelf<R> {
         ensures loaded { OnOk result (IsLoaded (disk_state self.old) name.now into.new.items) }
         ensures stops { IfErr result (StopsLoad (disk_state self.old) (disk_state self.new) name.now) }
         ensures emptied { OnErr result (into.new.items ≡ []) }
-        ensures later { IsOneLoadLater (disk_state self.old) (disk_state self.new) }
+        ensures later { IsOneLoadLater (disk_state self.old) (disk_state self.new) name.now }
 
         // A failure is counted once, and nothing else is.
         ensures counted { IsErrOf result LoadFault.Failed → disk_faults self.new ≡ raised (disk_faults self.old) }
         ensures quiet { (IsErrOf result LoadFault.Failed → ⊥) → disk_faults self.new ≡ disk_faults self.old }
     {
-        self.loads = self.loads.saturating_add(1);
-        let loaded = match fs::open(&self.files, name) {
-            Ok(mut file) => read_whole(&mut file, into),
-            Err(_) => Err(LoadFault::Failed),
-        };
-        if loaded.is_err() {
-            into.clear();
+        match fs::open(&self.files, name) {
+            Ok(file) => load_from(&mut Watched::new(file), &mut self.faults, into),
+            Err(_) => unopened(&mut self.faults),
         }
-        if loaded == Err(LoadFault::Failed) {
-            self.faults = self.faults.saturating_add(1);
-        }
-        loaded
     }
 }
 
@@ -115,13 +103,50 @@ impl<W: Write + Drop> Sink for StreamSink<W> {
     }
 }
 
+// Loads all that an open file has left, no byte more or less, and counts a fault exactly where a read of it failed.
+fn load_from<F: Read>(
+    file: &mut Watched<F>,
+    faults: &mut u64,
+    into: &mut Vec<u8>,
+) -> Result<(), LoadFault>
+    requires empty { into.old.items ≡ [] }
+    requires unfailed { has_failed file.old ≡ false }
+    ensures whole { OnOk result (IsHeld (F.Read.remaining (reader_of file.old)) into.new.items) }
+    ensures fits { OnOk result (vec_len into.new ≤ MAX_FILE) }
+    ensures too_long { IfErr result (SeesTooLong (F.Read.remaining (reader_of file.old))) }
+    ensures failed { IsErrOf result LoadFault.Failed ↔ IsTrue (has_failed file.new) }
+    ensures emptied { OnErr result (into.new.items ≡ []) }
+    ensures counted { IsErrOf result LoadFault.Failed → faults.new ≡ raised faults.old }
+    ensures quiet { (IsErrOf result LoadFault.Failed → ⊥) → faults.new ≡ faults.old }
+{
+    let loaded = read_whole(file, into);
+    if loaded.is_err() {
+        into.clear();
+    }
+    if loaded == Err(LoadFault::Failed) {
+        *faults = faults.saturating_add(1);
+    }
+    loaded
+}
+
+// A file that can't be opened is a fault.
+fn unopened(faults: &mut u64) -> Result<(), LoadFault>
+    ensures failed { IsErrOf result LoadFault.Failed }
+    ensures counted { faults.new ≡ raised faults.old }
+{
+    *faults = faults.saturating_add(1);
+    Err(LoadFault::Failed)
+}
+
 // Reads a file to its end, or until it is seen to be too long: at most one turn for each byte of the limit
 // and one turn more, which finds the end or the byte too much.
-fn read_whole<F: Read>(file: &mut F, into: &mut Vec<u8>) -> Result<(), LoadFault>
-    requires { into.old.items ≡ [] }
-    ensures whole { OnOk result (IsHeld (F.remaining file.old) into.new.items) }
+fn read_whole<F: Read>(file: &mut Watched<F>, into: &mut Vec<u8>) -> Result<(), LoadFault>
+    requires empty { into.old.items ≡ [] }
+    requires unfailed { has_failed file.old ≡ false }
+    ensures whole { OnOk result (IsHeld (F.Read.remaining (reader_of file.old)) into.new.items) }
     ensures fits { OnOk result (vec_len into.new ≤ MAX_FILE) }
-    ensures too_long { IfErr result (SeesTooLong (F.remaining file.old)) }
+    ensures too_long { IfErr result (SeesTooLong (F.Read.remaining (reader_of file.old))) }
+    ensures failed { IsErrOf result LoadFault.Failed ↔ IsTrue (has_failed file.new) }
 {
     let mut chunk = [0; CHUNK];
     'turns: for turn in 0..=MAX_FILE {

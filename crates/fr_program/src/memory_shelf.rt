@@ -1,18 +1,22 @@
 ghost use Rattle.std.specs.Prelude.{◌≡◌, ◌≢◌, ◌≤◌, ◌↔◌, false, ◌++◌, ◌∷◌, ℕ, [], List, Some, None, OnOk, OnErr, IfErr, IsErrOf, IsTrue, IsSome, IsNone, length};
+ghost use Rattle.std.specs.Option.{option_map};
 ghost use Rattle.fr_base.specs.Device.{IsLoaded, IsOneLoadLater, SeesTooLong, StopsLoad, raised};
+ghost use Rattle.fr_program.specs.Program.{texts};
 
+use crate::asked_names::AskedNames;
 use fr_base::{LoadFault, MAX_FILE, Shelf};
 use std::alloc::{AllocError, Global};
 use std::collections::BTreeMap;
 
 /// A shelf in memory: names with their bytes, and a count of faults for each name. All names that it
 /// does not hold have one count in common, at which a newly held name begins. Chosen loads can be made
-/// to fail. Counters stay at their last value.
+/// to fail. Counters stay at their last value. It keeps the names that it was asked for, while there is memory for them.
 pub struct MemoryShelf {
     alloc: Global,
     files: BTreeMap<String, HeldFile>,
     missing: u64,
     loads: u64,
+    asked: AskedNames,
     failing: Vec<u64>,
 }
 
@@ -24,6 +28,7 @@ impl Drop for MemoryShelf {
             files: _,
             missing: _,
             loads: _,
+            asked: _,
             failing: _,
         } = self;
     }
@@ -37,7 +42,7 @@ struct HeldFile {
 }
 
 impl MemoryShelf {
-    ghost use Rattle.fr_program.specs.MemoryShelf.{held_in, failing_loads, refuses, CountsFault, IsNewShelf, KeepsCounts, OnlyCounts};
+    ghost use Rattle.fr_program.specs.MemoryShelf.{asked_in, held_in, failing_loads, refuses, CountsFault, IsNewShelf, KeepsCounts, OnlyCounts};
 
     /// A shelf that holds no name. It takes no memory.
     pub fn new(alloc: Global) -> MemoryShelf
@@ -48,6 +53,7 @@ impl MemoryShelf {
             files: BTreeMap::new(alloc),
             missing: 0,
             loads: 0,
+            asked: AskedNames::new(alloc),
             failing: Vec::new(alloc),
         }
     }
@@ -86,6 +92,14 @@ impl MemoryShelf {
         Ok(())
     }
 
+    /// The names that it was asked for, in their order, each as often as it was. None where memory ran out for one of
+    /// them.
+    pub fn asked(&self) -> Option<&[String]>
+        ensures { option_map (λ names. texts names.now) result ≡ asked_in self.now }
+    {
+        self.asked.names()
+    }
+
     // Whether the next load of the name fails.
     fn is_refused(&self, name: &str) -> bool
         ensures { result ≡ refuses self.now name.now }
@@ -107,7 +121,7 @@ impl MemoryShelf {
 }
 
 impl Shelf for MemoryShelf {
-    ghost use Rattle.fr_program.specs.MemoryShelf.{faults_in, failing_loads, refuses, shelved_in, CountsFault};
+    ghost use Rattle.fr_program.specs.MemoryShelf.{faults_in, failing_loads, loads_of, refuses, shelved_in, CountsFault};
 
     ghost state = { shelved_in };
 
@@ -118,17 +132,19 @@ impl Shelf for MemoryShelf {
         ensures loaded { OnOk result (IsLoaded (shelved_in self.old) name.now into.new.items) }
         ensures stops { IfErr result (StopsLoad (shelved_in self.old) (shelved_in self.new) name.now) }
         ensures emptied { OnErr result (into.new.items ≡ []) }
-        ensures later { IsOneLoadLater (shelved_in self.old) (shelved_in self.new) }
+        ensures later { IsOneLoadLater (shelved_in self.old) (shelved_in self.new) name.now }
 
         // A load fails exactly where its number is listed or the name is not held, and is counted then.
         ensures refuses { IsTrue (refuses self.old name.now) ↔ IsErrOf result LoadFault.Failed }
         ensures counted { IsTrue (refuses self.old name.now) → CountsFault self.old self.new name.now }
         ensures quiet { (refuses self.old name.now ≡ false) → (other : List ℕ) →
             faults_in self.new other ≡ faults_in self.old other }
+        ensures numbered { loads_of self.new ≡ raised (loads_of self.old) }
         ensures failing { failing_loads self.new ≡ failing_loads self.old }
     {
         let refused = self.is_refused(name);
         self.loads = self.loads.saturating_add(1);
+        self.asked.add(self.alloc, name);
         if refused {
             self.count(name);
             return Err(LoadFault::Failed);

@@ -1,16 +1,20 @@
-ghost use Rattle.std.specs.Prelude.{◌≡◌, ◌≢◌, ℕ, List, [], None, OnOk, OnErr};
+ghost use Rattle.std.specs.Prelude.{◌≡◌, ◌≢◌, ℕ, List, [], Some, None, OnOk, OnErr};
+ghost use Rattle.std.specs.Option.{option_map};
+ghost use Rattle.fr_program.specs.Program.{texts};
 
+use crate::asked_names::AskedNames;
 use crate::memory_shelf::copy_file;
 use fr_base::{LoadFault, PutFault, Shelf, Sink};
 use std::alloc::{AllocError, Global};
 use std::collections::BTreeMap;
 
 /// A shelf in memory that never answers `Failed`: names with their bytes, and every other name is an empty
-/// file. Its counts of faults are the constant 0.
+/// file. Its counts of faults are the constant 0. It keeps the names that it was asked for, while there is memory for
+/// them.
 pub struct SureShelf {
     alloc: Global,
     files: BTreeMap<String, Vec<u8>>,
-    loads: u64,
+    asked: AskedNames,
 }
 
 // One call: a derived drop is opened in each function that drops a value, and proved there.
@@ -19,7 +23,7 @@ impl Drop for SureShelf {
         let SureShelf {
             alloc: _,
             files: _,
-            loads: _,
+            asked: _,
         } = self;
     }
 }
@@ -27,15 +31,15 @@ impl Drop for SureShelf {
 impl SureShelf {
     ghost use Rattle.fr_program.specs.SureShelf.{kept_in, sure_state};
 
-    /// A shelf on which every file is empty, and of which none was loaded. It takes no memory.
+    /// A shelf on which every file is empty, and of which none was asked for. It takes no memory.
     pub fn new(alloc: Global) -> SureShelf
         ensures empty { (name : List ℕ) → kept_in result name ≡ [] }
-        ensures unloaded { (sure_state result).loads ≡ 0 }
+        ensures unasked { (sure_state result).asked ≡ Some [] }
     {
         SureShelf {
             alloc,
             files: BTreeMap::new(alloc),
-            loads: 0,
+            asked: AskedNames::new(alloc),
         }
     }
 
@@ -46,12 +50,20 @@ impl SureShelf {
         ensures others { OnOk result ((other : List ℕ) → other ≢ name.now →
             kept_in self.new other ≡ kept_in self.old other) }
         ensures unchanged { OnErr result ((other : List ℕ) → kept_in self.new other ≡ kept_in self.old other) }
-        ensures loads { (sure_state self.new).loads ≡ (sure_state self.old).loads }
+        ensures asked { (sure_state self.new).asked ≡ (sure_state self.old).asked }
     {
         let bytes = Vec::from_slice(self.alloc, bytes)?;
         let key = String::from_str(self.alloc, name)?;
         self.files.insert(key, bytes)?;
         Ok(())
+    }
+
+    /// The names that it was asked for, in their order, each as often as it was. None where memory ran out for one of
+    /// them.
+    pub fn asked(&self) -> Option<&[String]>
+        ensures { option_map (λ names. texts names.now) result ≡ (sure_state self.now).asked }
+    {
+        self.asked.names()
     }
 }
 
@@ -61,7 +73,7 @@ impl Shelf for SureShelf {
     ghost state = { sure_state };
 
     fn load(&mut self, name: &str, into: &mut Vec<u8>) -> Result<(), LoadFault> {
-        self.loads = self.loads.saturating_add(1);
+        self.asked.add(self.alloc, name);
         match self.files.get(name) {
             Some(bytes) => copy_file(bytes, into),
             None => Ok(()),

@@ -1,4 +1,5 @@
-ghost use Rattle.std.specs.Prelude.{◌≡◌, ◌+◌, ◌≤◌, IfOk, IfErr};
+ghost use Rattle.std.specs.Prelude.{◌≡◌, [], IfOk, IfErr, OnOk};
+ghost use Rattle.fr_base.specs.Device.{Asks};
 ghost use Rattle.fr_text.specs.Files.{StopsIn};
 ghost use Rattle.fr_report.specs.Files.{HaveFiles, IsAnyText, run_files};
 ghost use Rattle.fr_report.specs.Names.{names_in, run_names_of};
@@ -20,9 +21,10 @@ pub fn world_of<S: Shelf>(alloc: Global, files: RunFiles<'_>, shelf: &mut S) -> 
     ensures files { IfOk result (λ world.
         HaveFiles (S.state shelf.old) (run_names_of files.entry) world.params world.drift world.script) }
     ensures stops { IfErr result
-        (StopsIn (run_files IsAnyText) (names_in (run_names_of files.entry)) 0 (S.state shelf.old)
+        (StopsIn (run_files IsAnyText) [] (names_in (run_names_of files.entry)) (S.state shelf.old)
         (S.state shelf.new)) }
-    ensures loads { (S.state shelf.new).loads ≤ (S.state shelf.old).loads + 3 }
+    ensures asked { OnOk result
+        (Asks (S.state shelf.old).asked (S.state shelf.new).asked (names_in (run_names_of files.entry))) }
 {
     let params = accepted(alloc, &ParamsFile {}, files.params, shelf)?;
     let drift = accepted(alloc, &DriftFile { params: &params }, files.drift, shelf)?;

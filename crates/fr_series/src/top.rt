@@ -1,8 +1,8 @@
-ghost use Rattle.std.specs.Prelude.{◌≡◌, ◌↔◌};
+ghost use Rattle.std.specs.Prelude.{◌≡◌, ◌↔◌, []};
 ghost use Rattle.fr_program.specs.Around.{around_of};
 ghost use Rattle.fr_program.specs.Failure.{EndingWritesNothing, WritesNothing, ending_status};
 ghost use Rattle.fr_program.specs.Program.{IsNoRequest, IsProgramAnswer, IsProgramComplete, WordsEnd, texts};
-ghost use Rattle.fr_program.specs.Command.{AreLoads, CommandEnds};
+ghost use Rattle.fr_program.specs.Command.{CommandEnds};
 ghost use Rattle.fr_series.specs.Request.{series_asked, series_command, series_program};
 
 use crate::request::{Request, request_of};
@@ -75,8 +75,7 @@ fn carry_out<S: Shelf, O: Sink>(
 ) -> Result<(), Failure>
     ensures ends { CommandEnds (series_command (series_asked request.entry))
         (around_of (S.state shelf.old) (S.state shelf.new) (O.state out.old) (O.state out.new)) result }
-    ensures loads { AreLoads (series_command (series_asked request.entry)).names
-        (S.state shelf.old) (S.state shelf.new) }
+    ensures stays { (series_command (series_asked request.entry)).names ≡ [] → S.state shelf.new ≡ S.state shelf.old }
     ensures unwritten { EndingWritesNothing result → out.new ≡ out.old }
 {
     match request {

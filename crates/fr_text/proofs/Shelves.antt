@@ -1,5 +1,5 @@
 -- What was found on a shelf, and on one that tells its bytes.
-use Rattle.std.proofs.Common.{◌≡◌, ℕ, ◌+◌, ◌<◌, ◌≤◌, List, length, Option, Some, Result, Ok, Err, IfSome, ap, sym, ◌∙◌, subst, arith}
+use Rattle.std.proofs.Common.{◌≡◌, ℕ, ◌<◌, ◌≤◌, List, length, Option, Some, Result, Ok, Err, IfSome, ap, sym, ◌∙◌, subst, arith}
 use Rattle.fr_base.specs.Device.{IsFaulty, IsHeld, IsLong, IsOneLoadLater, Shelved}
 use Rattle.fr_base.specs.declared.shelf.TheConstants.{MAX_FILE}
 use Rattle.fr_text.specs.Files.{IsStopStatus}
@@ -11,8 +11,8 @@ use Rattle.fr_text.specs.declared.kind.Stop.TheVariants as stop
 use Rattle.fr_text.specs.declared.status.Status.TheVariants as status
 
 -- a file that a shelf has after a load it had before
-pub has_earlier : {Value Fault : Type 0} (kind : Kind Value Fault) (before after : Shelved) (file : List ℕ) (value : Value)
-    → IsOneLoadLater before after → Has kind after file value → Has kind before file value
+pub has_earlier : {Value Fault : Type 0} {name : List ℕ} (kind : Kind Value Fault) (before after : Shelved) (file : List ℕ) (value : Value)
+    → IsOneLoadLater before after name → Has kind after file value → Has kind before file value
 has_earlier kind before after file value later has = record {
   bytes = has.bytes;
   loaded = record { told = subst (λ (o : Option (List ℕ)). IsHeld o has.bytes) (later.held_stays file) has.loaded.told; fits = has.loaded.fits };
@@ -21,8 +21,8 @@ has_earlier kind before after file value later has = record {
 }
 
 -- and a stop at it
-pub stops_earlier_at : {Value Fault : Type 0} (kind : Kind Value Fault) (before middle after : Shelved) (file : List ℕ) (why : Stop Fault)
-    → IsOneLoadLater before middle → StopsAt kind middle after file why → StopsAt kind before after file why
+pub stops_earlier_at : {Value Fault : Type 0} {name : List ℕ} (kind : Kind Value Fault) (before middle after : Shelved) (file : List ℕ) (why : Stop Fault)
+    → IsOneLoadLater before middle name → StopsAt kind middle after file why → StopsAt kind before after file why
 stops_earlier_at kind before middle after file stop.ReadFault later stops = omega (arith, later.never_fall file, stops)
 stops_earlier_at kind before middle after file stop.TooLong later stops =
     subst (λ (o : Option (List ℕ)). IfSome o (λ all. MAX_FILE < length all)) (later.held_stays file) stops
@@ -32,10 +32,6 @@ stops_earlier_at kind before middle after file (stop.Refused fault) later stops 
   loaded = record { told = subst (λ (o : Option (List ℕ)). IsHeld o stops.bytes) (later.held_stays file) stops.loaded.told; fits = stops.loaded.fits };
   refusal = stops.refusal;
 }
-
--- one load more
-pub one_load : (before after : Shelved) → IsOneLoadLater before after → after.loads ≤ before.loads + 1
-one_load before after later = omega (arith, later.one_load)
 
 -- told bytes are the loaded ones
 pub same_bytes : (told : Option (List ℕ)) (bytes loaded : List ℕ) → told ≡ Some bytes → IsHeld told loaded → loaded ≡ bytes

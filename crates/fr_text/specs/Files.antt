@@ -1,6 +1,6 @@
 -- The files of a command, one after the other, and what is written of them or said.
-use Rattle.std.specs.Prelude.{◌≡◌, ℕ, suc, ◌+◌, ◌<◌, ◌≤◌, ◌⊎◌, List, [], ◌∷◌, length, map, Some}
-use Rattle.fr_base.specs.Device.{IsFaulty, Shelved}
+use Rattle.std.specs.Prelude.{◌≡◌, ℕ, ◌<◌, ◌≤◌, ◌⊎◌, List, [], ◌∷◌, ◌++◌, length, map, Some}
+use Rattle.fr_base.specs.Device.{Asks, IsFaulty, Shelved}
 use Rattle.fr_base.specs.declared.shelf.TheConstants.{MAX_FILE}
 use Rattle.fr_text.specs.Kind.{AreBytes, Has, HasOneAnswer, IsRefusal, Kind, StopsAt}
 use Rattle.fr_text.specs.Told.{no_memory, refusal, stop_told}
@@ -25,25 +25,26 @@ IsTextOf (text IsText IsSaid) names shelf written = IsText written
 IsTextOf (file {Value} kind says rest) [] shelf written = ⊥
 IsTextOf (file {Value} kind says rest) (name ∷ names) shelf written = (value : Value) × Has kind shelf name value × IsTextOf (rest value) names shelf written
 
--- a stop at a file, told so; there are no more loads than files up to it
-pub record StopsHere {Value Fault : Type 0} (kind : Kind Value Fault) (says : Stop Fault → List ℕ) (name : List ℕ) (count : ℕ) (before after : Shelved) (why : Told) : Type 0 where
+-- a stop at a file, told so; the names before it were asked for, then this one, and no other
+pub record StopsHere {Value Fault : Type 0} (kind : Kind Value Fault) (says : Stop Fault → List ℕ) (front : List (List ℕ)) (name : List ℕ) (before after : Shelved) (why : Told) : Type 0 where
   pub stop : Stop Fault
   pub stops : StopsAt kind before after name stop
   pub told : why ≡ stop_told says stop
-  pub loads : after.loads ≤ before.loads + count
+  pub asked : Asks before.asked after.asked (front ++ name ∷ [])
 
--- a stop behind all files, told so: want of memory, or what the command refuses
-pub record StopsBehind (IsSaid : List ℕ → Type 0) (count : ℕ) (before after : Shelved) (why : Told) : Type 0 where
+-- a stop behind all files, told so: want of memory, or what the command refuses; all their names were asked for, and no other
+pub record StopsBehind (IsSaid : List ℕ → Type 0) (names : List (List ℕ)) (before after : Shelved) (why : Told) : Type 0 where
   pub told : (why ≡ no_memory) ⊎ ((said : List ℕ) × IsSaid said × (why ≡ refusal said))
-  pub loads : after.loads ≤ before.loads + count
+  pub asked : Asks before.asked after.asked names
 
--- why a command stops that has so many files before these: at the first file that is not accepted, or behind all of them
-abbrev pub StopsIn : Files → List (List ℕ) → ℕ → Shelved → Shelved → Told → Type 0
-StopsIn (text IsText IsSaid) names count before after why = StopsBehind IsSaid count before after why
-StopsIn (file {Value} kind says rest) [] count before after why = ⊥
-StopsIn (file {Value} kind says rest) (name ∷ names) count before after why =
-    StopsHere kind says name (suc count) before after why
-    ⊎ ((value : Value) × Has kind before name value × StopsIn (rest value) names (suc count) before after why)
+-- why a command stops that has files of these names in front of its others: at the first file that is not accepted, or behind
+-- all of them
+abbrev pub StopsIn : Files → List (List ℕ) → List (List ℕ) → Shelved → Shelved → Told → Type 0
+StopsIn (text IsText IsSaid) front names before after why = StopsBehind IsSaid front before after why
+StopsIn (file {Value} kind says rest) front [] before after why = ⊥
+StopsIn (file {Value} kind says rest) front (name ∷ names) before after why =
+    StopsHere kind says front name before after why
+    ⊎ ((value : Value) × Has kind before name value × StopsIn (rest value) (front ++ name ∷ []) names before after why)
 
 -- a shelf tells the bytes of the files under these names
 abbrev pub AreTold : List (List ℕ) → Shelved → List (List ℕ) → Type 0

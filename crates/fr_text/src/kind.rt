@@ -47,7 +47,7 @@ pub fn accepted<S: Shelf, K: FileKind>(
 ) -> Result<K::Value, Stop<K::Fault>>
     ensures accepted { IfOk result (Has (K.kind kind.now) (S.state shelf.old) file.now) }
     ensures stops { IfErr result (StopsAt (K.kind kind.now) (S.state shelf.old) (S.state shelf.new) file.now) }
-    ensures later { IsOneLoadLater (S.state shelf.old) (S.state shelf.new) }
+    ensures later { IsOneLoadLater (S.state shelf.old) (S.state shelf.new) file.now }
 {
     let mut bytes = Vec::new(alloc);
     match shelf.load(file, &mut bytes) {

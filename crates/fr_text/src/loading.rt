@@ -21,7 +21,7 @@ pub fn loaded<S: Shelf>(
     ensures accepted { IfOk result (λ bytes. Has any_file (S.state shelf.old) file.now bytes.items) }
     ensures fits { IfOk result (λ bytes. length bytes.items ≤ MAX_FILE) }
     ensures stops { IfErr result (IsUnread role.now file.now (S.state shelf.old) (S.state shelf.new)) }
-    ensures later { IsOneLoadLater (S.state shelf.old) (S.state shelf.new) }
+    ensures later { IsOneLoadLater (S.state shelf.old) (S.state shelf.new) file.now }
 {
     let mut bytes = Vec::new(alloc);
     match shelf.load(file, &mut bytes) {

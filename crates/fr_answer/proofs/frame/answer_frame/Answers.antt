@@ -18,6 +18,6 @@ returns-clause-ends g c =
     record { fault = c.in-Err.fault; no_frame = c.in-Err.ensures.only; first = c.in-Err.ensures.fault; shown = refl } in
     let items : List ℕ = c.in_ok-bytes.bytes.items in
     let P : List ℕ → Type 0 = λ bytes. IsNoFrameSaid c.args.channel bytes (fault_text (codes "frame: ") c.in-Err.fault) in
-    let Q : Told → Type 0 = λ why. StopsIn (frame_files c.args.channel) (c.args.file.now ∷ []) 0 (g.S.Shelf.state c.args.shelf.now) (g.S.Shelf.state c.loaded.new.shelf) why in
+    let Q : Told → Type 0 = λ why. StopsIn (frame_files c.args.channel) [] (c.args.file.now ∷ []) (g.S.Shelf.state c.args.shelf.now) (g.S.Shelf.state c.loaded.new.shelf) why in
     subst Q (sym c.no_frame.ensures)
     (stops_next any_file (unread_text (codes "frame")) (end c.args.channel) c.args.file.now [] _ _ _ _ _ c.in_ok-bytes.ensures.later c.in_ok-bytes.ensures.accepted (refused_behind (IsFrameLine c.args.channel items) (IsNoFrameSaid c.args.channel items) [] _ _ (subst P c.deref.ensures.value said)))

@@ -5,7 +5,7 @@ use Rattle.fr_cluster.specs.Values.{Values}
 use Rattle.fr_params.specs.Files.{params_file}
 use Rattle.fr_params.specs.Told.{params_says}
 use Rattle.fr_program.proofs.Endings.{cut_short, whole}
-use Rattle.fr_text.proofs.Commands.{refused_behind, stops_first, stops_next}
+use Rattle.fr_text.proofs.Commands.{refused_behind, stops_first, stops_next, two_asked}
 use Rattle.fr_text.proofs.Shelves.{has_earlier}
 use Rattle.fr_text.specs.Files.{Files, StopsIn, file, text}
 use Rattle.fr_text.specs.declared.told.Told.{Told}
@@ -37,7 +37,7 @@ returns-in_err-verdict-clause-ends g c =
     let t = c.in_ok-trace.trace in
     let third : Shelved = g.S.Shelf.state c.accepted-2.new.shelf in
     let refused = c.in_err-verdict.ensures.refused in
-    let P : Told → Type 0 = λ why. StopsIn (end p t) [] 0 third third why in
+    let P : Told → Type 0 = λ why. StopsIn (end p t) [] [] third third why in
     rw (e.1, e.2)
     (stops_next params_file params_says rest c.args.files.params.now (c.args.files.trace.now ∷ []) _ _ _ p _ c.in_ok-params.ensures.later c.in_ok-params.ensures.accepted
     (stops_next (trace_file p) trace_says (end p) c.args.files.trace.now [] _ _ _ t _ c.in_ok-trace.ensures.later c.in_ok-trace.ensures.accepted
@@ -50,7 +50,7 @@ returns-in-Ok-clause-ends g c =
     let verdict = c.in_ok-verdict.verdict in
     let trace = has_earlier (trace_file p) _ _ _ t c.in_ok-params.ensures.later c.in_ok-trace.ensures.accepted in
     let shown : IsVerdictText p t (verdict_text p t verdict) = record { verdict = verdict; answered = c.in_ok-verdict.ensures.answer; precise = c.in_ok-verdict.ensures.precise; shown = refl } in
-    whole _ _ _ _ (p, c.in_ok-params.ensures.accepted, (t, trace, shown)) c.in-Ok.ensures
+    whole _ _ _ _ (record { is_text = (p, c.in_ok-params.ensures.accepted, (t, trace, shown)); asked = two_asked c.in_ok-params.ensures.later c.in_ok-trace.ensures.later }) c.in-Ok.ensures
 
 pub returns-clause-ends : goal.returns-clause-ends
 returns-clause-ends g c =
@@ -59,4 +59,4 @@ returns-clause-ends g c =
     let verdict = c.in_ok-verdict.verdict in
     let trace = has_earlier (trace_file p) _ _ _ t c.in_ok-params.ensures.later c.in_ok-trace.ensures.accepted in
     let shown : IsVerdictText p t (verdict_text p t verdict) = record { verdict = verdict; answered = c.in_ok-verdict.ensures.answer; precise = c.in_ok-verdict.ensures.precise; shown = refl } in
-    cut_short _ _ _ _ (p, c.in_ok-params.ensures.accepted, (t, trace, shown)) c.in-Err.ensures
+    cut_short _ _ _ _ (record { is_text = (p, c.in_ok-params.ensures.accepted, (t, trace, shown)); asked = two_asked c.in_ok-params.ensures.later c.in_ok-trace.ensures.later }) c.in-Err.ensures

@@ -7,7 +7,7 @@ use Rattle.fr_cold.specs.View.{PowerView}
 use Rattle.fr_params.specs.Files.{params_file}
 use Rattle.fr_params.specs.Told.{params_says}
 use Rattle.fr_program.proofs.Endings.{cut_short, whole}
-use Rattle.fr_text.proofs.Commands.{stops_first, stops_next}
+use Rattle.fr_text.proofs.Commands.{stops_first, stops_next, two_asked}
 use Rattle.fr_text.proofs.Shelves.{has_earlier}
 use Rattle.fr_text.specs.Files.{Files, IsNeverSaid, file, text}
 use Rattle.fr_cold.specs.ColdText.{IsColdText}
@@ -32,7 +32,8 @@ returns-in-Ok-clause-ends g c =
     let v = c.in_ok-power.power in
     let params = c.in_ok-params.ensures.accepted in
     let power = has_earlier (power_file p) _ _ _ v c.in_ok-params.ensures.later c.in_ok-power.ensures.accepted in
-    whole _ _ _ _ (p, params, (v, power, c.a_startup_has_one_leader.ensures p v params.sound power.sound)) c.in-Ok.ensures
+    let shown = c.a_startup_has_one_leader.ensures p v params.sound power.sound in
+    whole _ _ _ _ (record { is_text = (p, params, (v, power, shown)); asked = two_asked c.in_ok-params.ensures.later c.in_ok-power.ensures.later }) c.in-Ok.ensures
 
 pub returns-clause-ends : goal.returns-clause-ends
 returns-clause-ends g c =
@@ -40,4 +41,5 @@ returns-clause-ends g c =
     let v = c.in_ok-power.power in
     let params = c.in_ok-params.ensures.accepted in
     let power = has_earlier (power_file p) _ _ _ v c.in_ok-params.ensures.later c.in_ok-power.ensures.accepted in
-    cut_short _ _ _ _ (p, params, (v, power, c.a_startup_has_one_leader.ensures p v params.sound power.sound)) c.in-Err.ensures
+    let shown = c.a_startup_has_one_leader.ensures p v params.sound power.sound in
+    cut_short _ _ _ _ (record { is_text = (p, params, (v, power, shown)); asked = two_asked c.in_ok-params.ensures.later c.in_ok-power.ensures.later }) c.in-Err.ensures

@@ -23,9 +23,9 @@ pub returns-in_err-write-clause-ends : goal.returns-in_err-write-clause-ends
 returns-in_err-write-clause-ends g c =
     let is : c.from_residual-in_err-write.result ≡ Err WriteFault = search rules in
     let has = c.in_ok-params.ensures.accepted in
-    ends_cut_short _ _ _ _ _ _ is (c.in_ok-params.params, has, upgrade_of _ _ _ has) c.in_err-write.ensures
+    ends_cut_short _ _ _ _ _ _ is (record { is_text = (c.in_ok-params.params, has, upgrade_of _ _ _ has); asked = c.in_ok-params.ensures.later.one_load }) c.in_err-write.ensures
 
 pub returns-clause-ends : goal.returns-clause-ends
 returns-clause-ends g c =
     let has = c.in_ok-params.ensures.accepted in
-    whole _ _ _ _ (c.in_ok-params.params, has, upgrade_of _ _ _ has) c.in_ok-write.ensures
+    whole _ _ _ _ (record { is_text = (c.in_ok-params.params, has, upgrade_of _ _ _ has); asked = c.in_ok-params.ensures.later.one_load }) c.in_ok-write.ensures

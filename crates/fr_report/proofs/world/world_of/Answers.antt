@@ -7,7 +7,7 @@ use Rattle.fr_drift.specs.Told.{drift_says}
 use Rattle.fr_drift.specs.View.{DriftView}
 use Rattle.fr_params.specs.Files.{params_file}
 use Rattle.fr_params.specs.Told.{params_says}
-use Rattle.fr_text.proofs.Commands.{stops_behind, stops_first, stops_next}
+use Rattle.fr_text.proofs.Commands.{stops_behind, stops_first, stops_next, three_asked}
 use Rattle.fr_text.proofs.Shelves.{has_earlier}
 use Rattle.fr_text.specs.Files.{Files, IsNeverSaid, StopsIn, file, text}
 use Rattle.fr_text.specs.Kind.{Has}
@@ -56,7 +56,7 @@ returns-in-Err-NoMemory-clause-stops g c =
     let d = c.in_ok-drift.drift in
     let s = c.in_ok-script.script in
     let last : Shelved = g.S.Shelf.state c.accepted-3.new.shelf in
-    let P : Told → Type 0 = λ why. StopsIn (end p d s) [] 0 last last why in
+    let P : Told → Type 0 = λ why. StopsIn (end p d s) [] [] last last why in
     stops_next params_file params_says from_drift names.params (names.drift ∷ names.script ∷ []) _ _ _ p _ c.in_ok-params.ensures.later c.in_ok-params.ensures.accepted
     (stops_next (drift_file p) drift_says (from_script p) names.drift (names.script ∷ []) _ _ _ d _ c.in_ok-drift.ensures.later c.in_ok-drift.ensures.accepted
     (stops_next (script_file p) script_says (end p d) names.script [] _ _ _ s _ c.in_ok-script.ensures.later c.in_ok-script.ensures.accepted
@@ -76,3 +76,6 @@ returns-in-Ok-clause-files g c =
     let made : c.in-Ok.world ≡ world_before c.in_ok-params.params c.in_ok-drift.drift c.in_ok-script.script = c.in-Ok.ensures in
     subst (λ (w : WorldView). HaveFiles first names w.params w.drift w.script) (sym made)
     (record { has_params = c.in_ok-params.ensures.accepted; has_drift = drift; has_script = script })
+
+pub returns-in-Ok-clause-asked : goal.returns-in-Ok-clause-asked
+returns-in-Ok-clause-asked g c = three_asked c.in_ok-params.ensures.later c.in_ok-drift.ensures.later c.in_ok-script.ensures.later

@@ -1,5 +1,5 @@
 use Rattle.std.proofs.Common.{subst}
-use Rattle.fr_program.proofs.Endings.{apart}
+use Rattle.fr_program.proofs.Endings.{apart, loads}
 use Rattle.fr_program.specs.Around.{Around, around_of}
 use Rattle.fr_program.specs.Command.{AreLoads, CommandEnds}
 use Rattle.fr_program.specs.Program.{texts}
@@ -13,7 +13,7 @@ returns-in-Some-clause-ends g c =
     let P : SeriesAsked → Type 0 = λ asked. CommandEnds (series_command asked) around c.carry_out.result in
     let Q : SeriesAsked → Type 0 = λ asked. AreLoads (series_command asked).names around.shelf_before around.shelf_after in record {
       ends = λ asked asks. subst P (one_asked (texts c.args.words.now) (series_asked c.in-Some.request) asked c.in-Some.ensures asks) c.carry_out.ensures.ends;
-      loads = λ asked asks. subst Q (one_asked (texts c.args.words.now) (series_asked c.in-Some.request) asked c.in-Some.ensures asks) c.carry_out.ensures.loads;
+      loads = λ asked asks. subst Q (one_asked (texts c.args.words.now) (series_asked c.in-Some.request) asked c.in-Some.ensures asks) (loads (series_command (series_asked c.in-Some.request)) around c.carry_out.result c.carry_out.ensures.ends c.carry_out.ensures.stays);
       none = λ none. absurd (none (series_asked c.in-Some.request) c.in-Some.ensures);
     }
 

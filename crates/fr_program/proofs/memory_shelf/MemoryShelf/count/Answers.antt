@@ -14,5 +14,6 @@ returns-in-Some-clause-only c = record {
   never_fall = grind (arith, text_keys);
   held = grind (arith, text_keys);
   loads = search rules;
+  asked = search rules;
   failing = search rules;
 }
