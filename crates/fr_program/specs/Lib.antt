@@ -6,5 +6,7 @@ pub mod Failure
 pub mod MemoryShelf
 pub mod MemorySink
 pub mod Program
+pub mod PutLog
+pub mod PutMarks
 pub mod StreamSink
 pub mod SureShelf

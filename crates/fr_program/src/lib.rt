@@ -7,6 +7,7 @@ mod adapters;
 mod failure;
 mod memory_shelf;
 mod memory_sink;
+mod put_log;
 mod sure;
 
 pub use adapters::{DiskShelf, StreamSink};

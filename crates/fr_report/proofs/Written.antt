@@ -17,10 +17,10 @@ text_of_run IsText names {params = params} {drift = drift} {script = script} fil
 pub whole : {done : Unit {0}} {IsText : Values → DriftView → ScriptView → List ℕ → Type 0} {names : RunNames} {shelf : Shelved} {params : Values} {drift : DriftView} {script : ScriptView}
     {text : List ℕ} {before after : Sunk}
     → HaveFiles shelf names params drift script → IsText params drift script text → Puts (Ok done) before after text → IsWritten (IsTextOf (run_files IsText) (names_in names) shelf) before after
-whole {IsText = IsText} {names = names} {text = text} files shown put = record { text = text; defined = text_of_run IsText names files shown; grew = put.whole }
+whole {IsText = IsText} {names = names} {text = text} files shown put = record { text = text; defined = text_of_run IsText names files shown; put = put.whole }
 
 pub cut_short : {fault : PutFault} {IsText : Values → DriftView → ScriptView → List ℕ → Type 0} {names : RunNames} {shelf : Shelved} {params : Values} {drift : DriftView} {script : ScriptView}
     {text : List ℕ} {before after : Sunk}
     → HaveFiles shelf names params drift script → IsText params drift script text → Puts (Err fault) before after text → IsCutShort (IsTextOf (run_files IsText) (names_in names) shelf) before after
 cut_short {IsText = IsText} {names = names} {text = text} files shown put =
-    record { text = text; defined = text_of_run IsText names files shown; counted = put.failed; grew = put.front }
+    record { text = text; defined = text_of_run IsText names files shown; put = put.front }
