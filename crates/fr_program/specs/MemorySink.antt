@@ -2,7 +2,7 @@
 use Rattle.std.specs.Prelude.{◌≡◌, [], ℕ, ◌+◌, List, Bool, ◌==◌, ◌&&◌, length, nat_le, not, Option, Some, IsSome}
 use Rattle.std.specs.List.{list_any}
 use Rattle.fr_base.specs.Device.{Put, raised, Sunk}
-use Rattle.fr_program.specs.PutLog.{HasRoom, told_by, log_room, log_puts}
+use Rattle.fr_program.specs.PutLog.{CanKeep, kept_puts, log_room, log_puts}
 use Rattle.fr_program.specs.declared.memory_sink.MemorySink.{MemorySink}
 
 -- the bytes put so far
@@ -19,7 +19,7 @@ sink_faults sink = sink.faults
 
 -- its puts, where it tells them
 abbrev pub told_puts : MemorySink → Option (List Put)
-told_puts sink = told_by sink.log
+told_puts sink = kept_puts sink.log
 
 -- its bytes, which it tells, its count of faults, and its puts
 abbrev pub sunk_in : MemorySink → Sunk
@@ -39,7 +39,7 @@ takes sink piece = not (list_any (λ number. number == raised (puts_of sink)) (f
 
 -- where it told its puts and has room to keep one more, it tells that one too
 abbrev pub TellsOn : MemorySink → MemorySink → List ℕ → Type 0
-TellsOn before after piece = HasRoom before.log piece → IsSome (told_puts after)
+TellsOn before after piece = CanKeep before.log piece → IsSome (told_puts after)
 
 -- it has this room and no bytes, nothing was counted or chosen, and it tells its puts, up to 100 with as many bytes as its room
 pub record IsNewSink (room : ℕ) (sink : MemorySink) : Type 0 where

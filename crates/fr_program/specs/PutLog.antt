@@ -10,8 +10,8 @@ abbrev pub puts_in : PutLog → List Put
 puts_in log = puts_by log.marks.items log.bytes.items
 
 -- what is told, where puts are kept
-abbrev pub told_by : Option PutLog → Option (List Put)
-told_by log = option_map puts_in log
+abbrev pub kept_puts : Option PutLog → Option (List Put)
+kept_puts log = option_map puts_in log
 
 -- how many bytes and how many puts there is room for
 abbrev pub log_room : Option PutLog → Option ℕ
@@ -25,6 +25,6 @@ pub record Fits (log : PutLog) (piece : List ℕ) : Type 0 where
   pub bytes : length log.bytes.items + length piece ≤ log.room
   pub puts : length log.marks.items < log.most
 
-abbrev pub HasRoom : Option PutLog → List ℕ → Type 0
-HasRoom None piece = ⊥
-HasRoom (Some log) piece = Fits log piece
+abbrev pub CanKeep : Option PutLog → List ℕ → Type 0
+CanKeep None piece = ⊥
+CanKeep (Some log) piece = Fits log piece

@@ -37,7 +37,7 @@ impl Drop for PutLog {
 }
 
 impl PutLog {
-    ghost use Rattle.fr_program.specs.PutLog.{Fits, HasRoom, puts_in, told_by};
+    ghost use Rattle.fr_program.specs.PutLog.{Fits, CanKeep, puts_in, kept_puts};
 
     // No puts, with room for so many bytes and puts. `AllocError` where memory ran out.
     pub(crate) fn new(alloc: Global, room: usize, most: usize) -> Result<PutLog, AllocError>
@@ -91,10 +91,12 @@ impl PutLog {
             most,
         })
     }
+
     // The puts and one more, as long as there is room: from the first on that has none, no put is told.
     pub(crate) fn noted(log: Option<PutLog>, piece: &[u8], is_whole: bool) -> Option<PutLog>
-        ensures added { AddsPuts (told_by log) (told_by result) (record { piece = piece.now; is_whole = is_whole } ∷ []) }
-        ensures kept { HasRoom log piece.now → IsSome (told_by result) }
+        ensures added { AddsPuts (kept_puts log) (kept_puts result)
+            (record { piece = piece.now; is_whole = is_whole } ∷ []) }
+        ensures kept { CanKeep log piece.now → IsSome (kept_puts result) }
     {
         match log {
             Some(log) => log.with_put(piece, is_whole),
