@@ -34,13 +34,12 @@ pub kept_run_ends : CoveredFilesKeepSharply → (names : RunNames) (around : Aro
 kept_run_ends keep names around (Ok done) ends = record {
   text = ends.text;
   defined = kept_written keep names around.shelf_before around.shelf_after ends.text ends.defined;
-  grew = ends.grew;
+  put = ends.put;
 }
 kept_run_ends keep names around (Err Usage) ends = absurd ends
 kept_run_ends keep names around (Err (Stopped why)) ends = ends
 kept_run_ends keep names around (Err WriteFault) ends = record {
   text = ends.text;
   defined = kept_written keep names around.shelf_before around.shelf_after ends.text ends.defined;
-  counted = ends.counted;
-  grew = ends.grew;
+  put = ends.put;
 }

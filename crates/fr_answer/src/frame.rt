@@ -11,7 +11,7 @@ use crate::frame_line::frame_line;
 use fr_base::{Channel, PutFault, Shelf, Sink};
 use fr_frame::{Frame, decode};
 use fr_program::Failure;
-use fr_text::loaded;
+use fr_text::{loaded, put_line};
 use std::alloc::Global;
 
 /// Decodes the bytes of the file as a frame on the channel, and writes its line in one put. It loads the file
@@ -43,5 +43,5 @@ fn print<O: Sink>(channel: Channel, frame: &Frame<'_>, out: &mut O) -> Result<()
     ensures { Puts result (O.state out.old) (O.state out.new)
         (frame_line channel frame.now.header frame.now.payload.now frame.now.header_crc frame.now.frame_crc) }
 {
-    out.put(frame_line(channel, frame).bytes())
+    put_line(&frame_line(channel, frame), out)
 }

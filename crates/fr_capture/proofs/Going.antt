@@ -1,10 +1,11 @@
 -- What was fed so far and what was put, and how the text goes on.
-use Rattle.std.specs.Prelude.{All}
+use Rattle.std.specs.Prelude.{All, codes}
+use Rattle.std.specs.Fmt.{decimal}
 use Rattle.std.proofs.Common.{◌≡◌, ℕ, zero, suc, ◌+◌, ◌-◌, ◌^◌, ◌≤◌, ◌<◌, List, [], ◌∷◌, ◌++◌, length, take, drop, Option, Some, None, Result, Ok, Err, refl, ap, sym, ◌∙◌, subst, inl, inr, ◌⊎◌, lit<, arith, length-append, length-drop, append_assoc, append-nil, take-append-drop}
 use Rattle.std.specs.Result.{IsErr}
 use Rattle.std.proofs.Math.Seq.{take-add}
 use Rattle.std.proofs.lemmas.List.{take-take, take_all, length-take-le}
-use Rattle.fr_base.specs.Device.{Puts, Sunk}
+use Rattle.fr_base.specs.Device.{IsEnded, Puts, Sunk}
 use Rattle.fr_base.specs.declared.sink.PutFault.{PutFault}
 use Rattle.fr_base.specs.declared.channel.Channel.{Channel}
 use Rattle.fr_base.proofs.Putting.{cut, then, puts_none}
@@ -25,6 +26,7 @@ use Rattle.fr_capture.proofs.Beginning.{fault_of_few, no_fault}
 use Rattle.fr_capture.proofs.Filling.{nothing_begins, stopped_stays, whole_frames}
 use Rattle.fr_capture.proofs.Standing.{frames_are, frames_are_one, front_of_frames, rest_begins_none, stand_more}
 use Rattle.fr_capture.proofs.Walking.{frames_found}
+use Rattle.fr_text.specs.Numerals.{hexadecimal}
 use Rattle.fr_capture.specs.CaptureText.{PutsFrames, WasFed, capture_text, closed_by, closing_text, found_line, frames_text, fresh_capture, line_at, shown_text}
 
 -- what a capture was fed of bytes so far, and what was put of their frames
@@ -187,6 +189,13 @@ going_more channel capture after bytes fed line frames done next count a b c mor
   counted = omega (arith, counted, more.long);
   few = omega arith;
   put = subst (λ (text : List ℕ). Puts (Ok tt) a c text) (sym more.text) (then (Ok tt) so_far put);
+}
+
+-- the line of a frame ends with a line feed
+pub ended_at : (place : ℕ) (h : Header) (crc : ℕ) → IsEnded (line_at place h crc)
+ended_at place h crc = record {
+  front = codes "at " ++ decimal place ++ codes " id " ++ decimal h.id ++ codes " words " ++ decimal h.words ++ codes " cycle " ++ decimal h.cycle ++ codes " crc " ++ hexadecimal 6 crc;
+  ended = refl;
 }
 
 -- ---- the whole text

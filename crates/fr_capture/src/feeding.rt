@@ -5,6 +5,7 @@ ghost use Rattle.fr_capture.specs.CaptureText.{PutsFrames, fresh_capture};
 use crate::Capture;
 use crate::lines::frame_line;
 use fr_base::{MAX_FILE, PutFault, Sink};
+use fr_text::put_text;
 
 // How many bytes a piece has.
 const PIECE: usize = 4096;
@@ -27,7 +28,7 @@ pub(crate) fn put_frames<O: Sink>(
         done += fed.used;
         match fed.at {
             Some(place) => {
-                out.put(frame_line(place, &capture.frame()).bytes())?;
+                put_text(frame_line(place, &capture.frame()).bytes(), out)?;
                 count += 1;
             }
             None => {

@@ -10,7 +10,7 @@ use crate::{Cold, Lead, Power};
 use fr_base::{NodeId, PutFault, Sink};
 use fr_cluster::Params;
 use fr_text::Piece::{Natural, Signed, Word};
-use fr_text::{Line, line_of, put_lines};
+use fr_text::{Line, line_of, put_line, put_lines, put_text};
 
 // Writes who leads the startup of these parameters and this power file. Each line is one put.
 pub(crate) fn print<O: Sink>(params: &Params, power: &Power, out: &mut O) -> Result<(), PutFault>
@@ -87,7 +87,7 @@ fn put_lead<O: Sink>(lead: Lead, out: &mut O) -> Result<(), PutFault>
         Word(b" at "),
         Signed(lead.at),
     ]);
-    out.put(line.bytes())
+    put_line(&line, out)
 }
 
 // Writes the nodes that lead, or that there is none.
@@ -97,7 +97,7 @@ fn put_leading<O: Sink>(cold: &Cold, out: &mut O) -> Result<(), PutFault>
     if does_any_lead(cold) {
         put_each_leading(cold, 1, out)
     } else {
-        out.put(b"leading none\n")
+        put_text(b"leading none\n", out)
     }
 }
 

@@ -10,7 +10,8 @@ use Rattle.fr_coverage.specs.Phrases.{precision_text, sync_text}
 use Rattle.fr_lines.specs.Text.{node_text, covered_text, cut_text, heard_text, nodes_text, greatest_line, report_of, sent_text, told_text, told_lines}
 use Rattle.fr_lines.specs.Told.{run_told}
 use Rattle.fr_lines.specs.declared.told.Told.{Told}
-use Rattle.fr_text.specs.Lines.{IsEnded, shown}
+use Rattle.fr_base.specs.Device.{IsEnded}
+use Rattle.fr_text.specs.Lines.{shown}
 use Rattle.fr_text.specs.Pieces.{line}
 
 -- a line after a text ends it

@@ -7,7 +7,7 @@ ghost use Rattle.fr_cluster.specs.Setting.{Setting};
 ghost use Rattle.fr_history.specs.Cycles.{Cycles};
 ghost use Rattle.fr_coverage.specs.declared.gap.Gap.{Gap};
 ghost use Rattle.fr_lines.specs.Text.{report_of};
-ghost use Rattle.fr_text.specs.Lines.{IsEnded};
+ghost use Rattle.fr_base.specs.Device.{IsEnded};
 
 mod clocks;
 mod counting;

@@ -10,7 +10,7 @@ use crate::lines::{
 use fr_base::{Channel, Counts, PutFault, Sink};
 use fr_coverage::{Gap, precision_line, sync_line};
 use fr_skew::Peak;
-use fr_text::{Line, put_lines};
+use fr_text::{Line, put_line, put_lines};
 
 /// What is told of a run.
 #[derive(Debug, Drop)]
@@ -74,7 +74,7 @@ fn put_clocks<O: Sink>(clocks: &[Clock], out: &mut O) -> Result<(), PutFault>
 {
     match clocks.split_first() {
         Some((clock, rest)) => {
-            out.put(clock_line(clock).bytes())?;
+            put_line(&clock_line(clock), out)?;
             put_clocks(rest, out)
         }
         None => Ok(()),

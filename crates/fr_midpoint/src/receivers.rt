@@ -2,8 +2,9 @@ ghost use Rattle.fr_midpoint.specs.Receivers.{FewAreDiscarded, OneReceiver, TwoR
 ghost use Rattle.fr_midpoint.specs.Said.{OneBetween, TwoReceiversAlone, TwoReceiversApart};
 
 /// The law of two receivers, value by value: their midpoints lie half as far apart as the two values of one sender and any
-/// two values of senders do together, whatever arbitrary senders say; where there are none, no further apart than the two
-/// values of one sender. In both cases halving toward zero adds a unit. The midpoint of one lies among the values.
+/// two values of senders do together, whatever arbitrary senders say, where both receivers together discard fewer values at
+/// an end than there are senders; where there are no arbitrary ones, no further apart than the two values of one sender. In
+/// both cases halving toward zero adds a unit. The midpoint of one lies among the values of senders.
 pub fn midpoints_agree()
     ensures apart { TwoReceiversApart }
     ensures alone { TwoReceiversAlone }

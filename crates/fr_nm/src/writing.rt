@@ -6,7 +6,7 @@ use crate::vector::Folded;
 use crate::vectors::Vectors;
 use fr_base::{PutFault, Sink};
 use fr_text::Piece::{Bytes, Natural, Word};
-use fr_text::{Line, line_of};
+use fr_text::{Line, line_of, put_line};
 use std::collections::BTreeMap;
 
 impl Vectors {
@@ -16,7 +16,7 @@ impl Vectors {
         ensures { Puts result (O.state out.old) (O.state out.new) (nm_text self.now) }
     {
         put_rows(self.width, &self.rows, out)?;
-        out.put(total_line(self.frames, self.ignored).bytes())
+        put_line(&total_line(self.frames, self.ignored), out)
     }
 }
 
@@ -29,7 +29,7 @@ fn put_rows<O: Sink>(
     ensures { Puts result (O.state out.old) (O.state out.new) (rows_text width rows.now.entries) }
 {
     for (cycle, row) in rows.iter() {
-        out.put(row_line(width, *cycle, row).bytes())?;
+        put_line(&row_line(width, *cycle, row), out)?;
     }
     Ok(())
 }

@@ -8,7 +8,7 @@ use crate::names::{NAMES_OF_TWO, word_of};
 use fr_base::{PutFault, Sink, Slot};
 use fr_cluster::{NodeList, NodeSpec, ParamName, Params, SlotList, SlotSpec};
 use fr_text::Piece::{Natural, Word};
-use fr_text::{Line, Piece, row_of};
+use fr_text::{Line, Piece, put_line, put_text, row_of};
 
 /// Writes the parameters as the text of a file of version 2: the version, each value in the order of the table, the
 /// nodes and the further slots in ascending order. Each record is one put. A fault comes only where the sink counted
@@ -19,7 +19,7 @@ use fr_text::{Line, Piece, row_of};
 pub fn write<O: Sink>(params: &Params, out: &mut O) -> Result<(), PutFault>
     ensures { Puts result (O.state out.old) (O.state out.new) (upgraded_text params.now) }
 {
-    out.put(b"version,2,,,\n")?;
+    put_text(b"version,2,,,\n", out)?;
     put_values(params, &NAMES_OF_TWO, out)?;
     put_lists(&params.nodes, &params.slots, out)
 }
@@ -50,7 +50,7 @@ fn put_values<O: Sink>(params: &Params, names: &[ParamName], out: &mut O) -> Res
 fn put_value<O: Sink>(params: &Params, name: ParamName, out: &mut O) -> Result<(), PutFault>
     ensures { Puts result (O.state out.old) (O.state out.new) (line_of_record (param_record params.now name)) }
 {
-    out.put(value_line(params, name).bytes())
+    put_line(&value_line(params, name), out)
 }
 
 fn value_line(params: &Params, name: ParamName) -> Line
@@ -82,7 +82,7 @@ fn put_nodes<O: Sink>(nodes: &NodeList, place: usize, out: &mut O) -> Result<(),
 fn put_node<O: Sink>(node: &NodeSpec, out: &mut O) -> Result<(), PutFault>
     ensures { Puts result (O.state out.old) (O.state out.new) (line_of_record (node_record node.now)) }
 {
-    out.put(node_line(node).bytes())
+    put_line(&node_line(node), out)
 }
 
 fn node_line(node: &NodeSpec) -> Line
@@ -150,7 +150,7 @@ fn put_slots<O: Sink>(slots: &SlotList, place: usize, out: &mut O) -> Result<(),
 fn put_slot<O: Sink>(slot: &SlotSpec, out: &mut O) -> Result<(), PutFault>
     ensures { Puts result (O.state out.old) (O.state out.new) (line_of_record (slot_record slot.now)) }
 {
-    out.put(slot_line(slot).bytes())
+    put_line(&slot_line(slot), out)
 }
 
 fn slot_line(slot: &SlotSpec) -> Line

@@ -21,10 +21,10 @@ ends_stopped IsText Stops before after ending why is stops =
 
 -- a text that was written whole, or a front of it
 pub whole : {done : Unit {0}} (IsText : List ℕ → Type 0) (text : List ℕ) (before after : Sunk) → IsText text → Puts (Ok done) before after text → IsWritten IsText before after
-whole IsText text before after defined put = record { text = text; defined = defined; grew = put.whole }
+whole IsText text before after defined put = record { text = text; defined = defined; put = put.whole }
 
 pub cut_short : {fault : PutFault} (IsText : List ℕ → Type 0) (text : List ℕ) (before after : Sunk) → IsText text → Puts (Err fault) before after text → IsCutShort IsText before after
-cut_short IsText text before after defined put = record { text = text; defined = defined; counted = put.failed; grew = put.front }
+cut_short IsText text before after defined put = record { text = text; defined = defined; put = put.front }
 
 pub ends_cut_short : {fault : PutFault} (IsText : List ℕ → Type 0) (Stops : Told → Type 0) (text : List ℕ) (before after : Sunk) (ending : Ending) → ending ≡ Err WriteFault → IsText text
     → Puts (Err fault) before after text → TextEnds IsText Stops before after ending
@@ -38,7 +38,7 @@ complete command around (Ok done) ends bytes told faultless unwritten = written 
 complete command around (Err Usage) ends bytes told faultless unwritten = absurd ends
 complete command around (Err (Stopped why)) ends bytes told faultless unwritten =
     stopped command.files [] command.names bytes around.shelf_before around.shelf_after why told faultless ends
-complete command around (Err WriteFault) ends bytes told faultless unwritten = absurd (unwritten ends.counted)
+complete command around (Err WriteFault) ends bytes told faultless unwritten = absurd (unwritten ends.put.counted)
 
 -- and no ending of a command is called that of words that are no request
 pub apart : (command : Command) (around : Around) (ending : Ending) → CommandEnds command around ending → ending_status ending ≡ status.Usage → ⊥

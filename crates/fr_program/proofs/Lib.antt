@@ -1,2 +1,3 @@
 pub mod Endings
+mod PutLogs
 pub mod Transfers

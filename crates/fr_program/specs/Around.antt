@@ -1,7 +1,6 @@
 -- What a call finds around it, and leaves.
 use Rattle.std.specs.Prelude.{ℕ, List, Result, Ok, Err}
-use Rattle.std.specs.Io.KnownBytes.{Appends}
-use Rattle.fr_base.specs.Device.{AppendsFront, Puts, Rose, Shelved, Sunk}
+use Rattle.fr_base.specs.Device.{PutsFront, PutsPiece, PutsWhole, Shelved, Sunk}
 use Rattle.fr_base.specs.declared.sink.PutFault.{PutFault}
 use Rattle.fr_text.specs.declared.told.Told.{Told}
 use Rattle.fr_program.specs.declared.failure.Failure.{Failure}
@@ -26,18 +25,17 @@ around_of shelf_before shelf_after out_before out_after = record {
 abbrev pub Ending : Type 0
 Ending = Result (Unit {0}) Failure
 
--- a text that is defined was written whole
+-- a text that is defined was written whole, in puts of whole lines
 pub record IsWritten (IsText : List ℕ → Type 0) (before after : Sunk) : Type 0 where
   pub text : List ℕ
   pub defined : IsText text
-  pub grew : Appends before.written after.written text
+  pub put : PutsWhole before after text
 
--- a front of it was written, and the sink counted a fault
+-- it was written up to a put of some of its lines that failed, and the sink counted a fault
 pub record IsCutShort (IsText : List ℕ → Type 0) (before after : Sunk) : Type 0 where
   pub text : List ℕ
   pub defined : IsText text
-  pub counted : Rose before.faults after.faults
-  pub grew : AppendsFront before.written after.written text
+  pub put : PutsFront before after text
 
 -- what an ending says where the text of the answer is such a one, and a stop means this
 abbrev pub TextEnds : (List ℕ → Type 0) → (Told → Type 0) → Sunk → Sunk → Ending → Type 0
@@ -46,6 +44,6 @@ TextEnds IsText Stops before after (Err WriteFault) = IsCutShort IsText before a
 TextEnds IsText Stops before after (Err (Stopped why)) = Stops why
 TextEnds IsText Stops before after (Err Usage) = ⊥
 
--- a line was put, in one put
+-- a line was put, in one put, and nothing else was
 abbrev pub IsLinePut : Sunk → Sunk → List ℕ → Type 0
-IsLinePut before after line = (result : Result (Unit {0}) PutFault) × Puts result before after line
+IsLinePut before after line = (result : Result (Unit {0}) PutFault) × PutsPiece result before after line

@@ -7,6 +7,8 @@ pub mod Failure
 pub mod MemoryShelf
 pub mod MemorySink
 pub mod Program
+pub mod PutLog
+pub mod PutMarks
 pub mod StreamSink
 pub mod SureShelf
 pub mod Watched

@@ -1,7 +1,8 @@
 -- What a sink in memory has, and which pieces it takes.
-use Rattle.std.specs.Prelude.{◌≡◌, [], ℕ, ◌+◌, List, Bool, ◌==◌, ◌&&◌, length, nat_le, not, Some}
+use Rattle.std.specs.Prelude.{◌≡◌, [], ℕ, ◌+◌, List, Bool, ◌==◌, ◌&&◌, length, nat_le, not, Option, Some, IsSome}
 use Rattle.std.specs.List.{list_any}
-use Rattle.fr_base.specs.Device.{raised, Sunk}
+use Rattle.fr_base.specs.Device.{Put, raised, Sunk}
+use Rattle.fr_program.specs.PutLog.{CanKeep, kept_puts, log_room, log_puts}
 use Rattle.fr_program.specs.declared.memory_sink.MemorySink.{MemorySink}
 
 -- the bytes put so far
@@ -16,9 +17,13 @@ room_of sink = sink.room
 abbrev pub sink_faults : MemorySink → ℕ
 sink_faults sink = sink.faults
 
--- its bytes, which it tells, and its count of faults
+-- its puts, where it tells them
+abbrev pub told_puts : MemorySink → Option (List Put)
+told_puts sink = kept_puts sink.log
+
+-- its bytes, which it tells, its count of faults, and its puts
 abbrev pub sunk_in : MemorySink → Sunk
-sunk_in sink = record { written = Some (bytes_in sink); faults = sink_faults sink }
+sunk_in sink = record { written = Some (bytes_in sink); faults = sink_faults sink; puts = told_puts sink }
 
 -- how many puts there were
 abbrev pub puts_of : MemorySink → ℕ
@@ -32,20 +37,28 @@ failing_puts sink = sink.failing.items
 abbrev pub takes : MemorySink → List ℕ → Bool
 takes sink piece = not (list_any (λ number. number == raised (puts_of sink)) (failing_puts sink)) && nat_le (length (bytes_in sink) + length piece) (room_of sink)
 
--- it has this room and no bytes, and nothing was counted or chosen
+-- where it told its puts and has room to keep one more, it tells that one too
+abbrev pub TellsOn : MemorySink → MemorySink → List ℕ → Type 0
+TellsOn before after piece = CanKeep before.log piece → IsSome (told_puts after)
+
+-- it has this room and no bytes, nothing was counted or chosen, and it tells its puts, up to 100 with as many bytes as its room
 pub record IsNewSink (room : ℕ) (sink : MemorySink) : Type 0 where
   pub empty : bytes_in sink ≡ []
   pub room_is : room_of sink ≡ room
   pub no_faults : sink_faults sink ≡ 0
   pub no_puts : puts_of sink ≡ 0
   pub none_failing : failing_puts sink ≡ []
+  pub none_put : told_puts sink ≡ Some []
+  pub told_room : log_room sink.log ≡ Some room
+  pub told_most : log_puts sink.log ≡ Some 100
 
--- bytes, room and counts stay
+-- bytes, room, counts and puts stay
 pub record KeepsSink (before after : MemorySink) : Type 0 where
   pub bytes : bytes_in after ≡ bytes_in before
   pub room : room_of after ≡ room_of before
   pub faults : sink_faults after ≡ sink_faults before
   pub puts : puts_of after ≡ puts_of before
+  pub told : told_puts after ≡ told_puts before
 
 -- it was put into once more, with the same room and choice of failing puts
 pub record IsOnePutLater (before after : MemorySink) : Type 0 where

@@ -11,6 +11,6 @@ stream_of sink = sink.stream
 abbrev pub stream_faults : {W : Type 0} → StreamSink W → ℕ
 stream_faults sink = sink.faults
 
--- it tells no bytes
+-- it tells no bytes and no puts
 abbrev pub stream_state : {W : Type 0} → StreamSink W → Sunk
-stream_state sink = record { written = None; faults = stream_faults sink }
+stream_state sink = record { written = None; faults = stream_faults sink; puts = None }

@@ -1,6 +1,6 @@
 ghost use Rattle.std.specs.Prelude.{◌≡◌, ◌≤◌, ◌<◌, ◌↔◌, [], false, length, take, OnOk, OnErr, IfOk, IfErr, IsErrOf, IsTrue, vec_len};
 ghost use Rattle.std.specs.Io.KnownBytes.{Appends, Keeps};
-ghost use Rattle.fr_base.specs.Device.{AppendsFront, IsHeld, IsLoaded, IsOneLoadLater, Puts, SeesTooLong, StopsLoad, raised};
+ghost use Rattle.fr_base.specs.Device.{AppendsFront, IsHeld, IsLoaded, IsOneLoadLater, PutsPiece, SeesTooLong, StopsLoad, raised};
 ghost use Rattle.fr_program.specs.Watched.{has_failed, reader_of};
 
 use crate::watched::Watched;
@@ -56,7 +56,7 @@ impl<R: Files + Drop> Shelf for DiskShelf<R> {
     }
 }
 
-/// A sink over a stream. It tells no content; each error of the stream is a counted fault. Every piece
+/// A sink over a stream. It tells no content and no puts; each error of the stream is a counted fault. Every piece
 /// is flushed.
 #[derive(Drop)]
 pub struct StreamSink<W: Write + Drop> {
@@ -82,8 +82,8 @@ impl<W: Write + Drop> Sink for StreamSink<W> {
     ghost state = { stream_state };
 
     fn put(&mut self, piece: &[u8]) -> Result<(), PutFault>
-        // what every sink promises that tells no bytes
-        ensures promised { Puts result (stream_state self.old) (stream_state self.new) piece.now }
+        // what every sink promises that tells no bytes and no puts
+        ensures promised { PutsPiece result (stream_state self.old) (stream_state self.new) piece.now }
 
         // A fault is counted once, and nothing else is.
         ensures counted { OnErr result (stream_faults self.new ≡ raised (stream_faults self.old)) }

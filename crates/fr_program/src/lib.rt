@@ -9,6 +9,7 @@ mod asked_names;
 mod failure;
 mod memory_shelf;
 mod memory_sink;
+mod put_log;
 mod sure;
 mod system;
 mod watched;

@@ -1,17 +1,24 @@
 ghost use Rattle.std.specs.Prelude.{◌≡◌, ◌≤◌, ◌↔◌, ◌++◌, ◌∷◌, [], false, OnOk, OnErr, IfOk, IsTrue, IsOk, vec_len, vec_capacity};
-ghost use Rattle.fr_base.specs.Device.{Puts, raised};
+ghost use Rattle.fr_base.specs.Device.{PutsPiece, raised};
 
+use crate::put_log::PutLog;
 use fr_base::{PutFault, Sink};
 use std::alloc::{AllocError, Global};
 
+// How many puts a sink in memory keeps to tell them.
+const PUTS_TOLD: usize = 100;
+
 /// A sink in memory, with a room in bytes that is reserved when it is made. A piece that does not fit
-/// the room fails, and so do the puts that are chosen to. Counters stay at their last value.
+/// the room fails, and so do the puts that are chosen to. It tells its puts, failed ones too, as long as
+/// there are at most 100 and their pieces have no more bytes than its room. Counters stay at their last
+/// value.
 pub struct MemorySink {
     bytes: Vec<u8>,
     room: usize,
     faults: u64,
     puts: u64,
     failing: Vec<u64>,
+    log: Option<PutLog>,
     ghost reserved: { room ≤ vec_capacity bytes },
     ghost within: { vec_len bytes ≤ room },
 }
@@ -25,6 +32,7 @@ impl Drop for MemorySink {
             faults: _,
             puts: _,
             failing: _,
+            log: _,
         } = self;
     }
 }
@@ -37,12 +45,14 @@ impl MemorySink {
         ensures { IfOk result (IsNewSink room) }
     {
         let bytes = Vec::with_capacity(alloc, room)?;
+        let log = PutLog::new(alloc, room, PUTS_TOLD)?;
         Ok(MemorySink {
             bytes,
             room,
             faults: 0,
             puts: 0,
             failing: Vec::new(alloc),
+            log: Some(log),
         })
     }
 
@@ -74,13 +84,13 @@ impl MemorySink {
 }
 
 impl Sink for MemorySink {
-    ghost use Rattle.fr_program.specs.MemorySink.{bytes_in, sink_faults, sunk_in, takes, IsOnePutLater};
+    ghost use Rattle.fr_program.specs.MemorySink.{bytes_in, sink_faults, sunk_in, takes, IsOnePutLater, TellsOn};
 
     ghost state = { sunk_in };
 
     fn put(&mut self, piece: &[u8]) -> Result<(), PutFault>
         // what every sink promises
-        ensures promised { Puts result (sunk_in self.old) (sunk_in self.new) piece.now }
+        ensures promised { PutsPiece result (sunk_in self.old) (sunk_in self.new) piece.now }
 
         // It takes a piece whole or not at all, and fails exactly where the put is listed or the piece
         // does not fit.
@@ -89,12 +99,18 @@ impl Sink for MemorySink {
         ensures counted { OnErr result (sink_faults self.new ≡ raised (sink_faults self.old)) }
         ensures quiet { OnOk result (sink_faults self.new ≡ sink_faults self.old) }
         ensures later { IsOnePutLater self.old self.new }
+
+        // It tells this put too, where it told all others and has room to keep it.
+        ensures told { TellsOn self.old self.new piece.now }
     {
         let taken = self.is_taken(piece);
         self.puts = self.puts.saturating_add(1);
+        let log = self.log.take();
         if taken && self.bytes.extend_from_slice(piece).is_ok() {
+            self.log = PutLog::noted(log, piece, true);
             return Ok(());
         }
+        self.log = PutLog::noted(log, piece, false);
         self.faults = self.faults.saturating_add(1);
         Err(PutFault::Failed)
     }

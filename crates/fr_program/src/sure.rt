@@ -81,7 +81,7 @@ impl Shelf for SureShelf {
     }
 }
 
-/// A sink that drops every piece and never fails. It tells no bytes, and its count is the constant 0.
+/// A sink that drops every piece and never fails. It tells no bytes and no puts, and its count is the constant 0.
 #[derive(Drop)]
 pub struct SureSink {}
 
@@ -93,7 +93,7 @@ impl SureSink {
 }
 
 impl Sink for SureSink {
-    ghost state = { λ _. record { written = None; faults = 0 } };
+    ghost state = { λ _. record { written = None; faults = 0; puts = None } };
 
     fn put(&mut self, _piece: &[u8]) -> Result<(), PutFault> {
         Ok(())

@@ -20,11 +20,11 @@ pub whole : {done : Unit {0}} {IsText : Values → DriftView → ScriptView → 
     → HaveFiles shelf names params drift script → Asks shelf.asked read.asked (names_in names) → IsText params drift script text → Puts (Ok done) before after text
     → IsWritten (IsCommandText (run_command IsText names) shelf read) before after
 whole {IsText = IsText} {names = names} {shelf = shelf} {read = read} {text = text} files asked shown put =
-    record { text = text; defined = text_of_run IsText names shelf read files asked shown; grew = put.whole }
+    record { text = text; defined = text_of_run IsText names shelf read files asked shown; put = put.whole }
 
 pub cut_short : {fault : PutFault} {IsText : Values → DriftView → ScriptView → List ℕ → Type 0} {names : RunNames} {shelf read : Shelved} {params : Values} {drift : DriftView} {script : ScriptView}
     {text : List ℕ} {before after : Sunk}
     → HaveFiles shelf names params drift script → Asks shelf.asked read.asked (names_in names) → IsText params drift script text → Puts (Err fault) before after text
     → IsCutShort (IsCommandText (run_command IsText names) shelf read) before after
 cut_short {IsText = IsText} {names = names} {shelf = shelf} {read = read} {text = text} files asked shown put =
-    record { text = text; defined = text_of_run IsText names shelf read files asked shown; counted = put.failed; grew = put.front }
+    record { text = text; defined = text_of_run IsText names shelf read files asked shown; put = put.front }

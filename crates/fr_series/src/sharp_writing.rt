@@ -19,7 +19,7 @@ use crate::tally::Tally;
 use crate::writing::{are_in_sync, next_rows};
 use fr_base::{NodeRow, PutFault, RowList, Sink};
 use fr_skew::in_sync_by_even;
-use fr_text::put_lines;
+use fr_text::{put_line, put_lines};
 use fr_world::World;
 
 /// Runs all cycles of a world that has run none, and writes the sharper series of the run: a line for each cycle, as
@@ -32,7 +32,7 @@ pub fn write_sharp_series<O: Sink>(world: &mut World, out: &mut O) -> Result<(),
 {
     let basis = Basis::of(world.params(), world.drift(), world.script());
     let mut tally = Tally::none();
-    out.put(sharp_head_line().bytes())?;
+    put_line(&sharp_head_line(), out)?;
     write_sharp_rows(world, &basis, &mut tally, out)?;
     put_lines(&older_lines(&tally), out)?;
     put_lines(&sharp_lines(&basis, &tally), out)
@@ -128,8 +128,14 @@ fn put_sharp_double<O: Sink>(
         sharp: sharper.followed(&scales.sharp, double, even, odd, sharp, following),
     };
     let cycle = 2 * double;
-    out.put(sharp_cycle_line(cycle, in_sync, sharp, scale.peak(cycle, even)).bytes())?;
-    out.put(sharp_cycle_line(cycle + 1, in_sync, sharp, scale.peak(cycle + 1, odd)).bytes())
+    put_line(
+        &sharp_cycle_line(cycle, in_sync, sharp, scale.peak(cycle, even)),
+        out,
+    )?;
+    put_line(
+        &sharp_cycle_line(cycle + 1, in_sync, sharp, scale.peak(cycle + 1, odd)),
+        out,
+    )
 }
 
 // Whether the clocks are in sharp sync in a double cycle.

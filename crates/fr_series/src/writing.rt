@@ -17,7 +17,7 @@ use crate::lines::{cycle_line, end_lines, head_line};
 use crate::scale::Scale;
 use fr_base::{NodeRow, PutFault, RowList, Sink};
 use fr_skew::in_sync_within;
-use fr_text::put_lines;
+use fr_text::{put_line, put_lines};
 use fr_world::World;
 
 /// Runs all cycles of a world that has run none, and writes the series of the run: a line for each cycle, as soon as
@@ -29,7 +29,7 @@ pub fn write_series<O: Sink>(world: &mut World, out: &mut O) -> Result<(), PutFa
         (series_text world.old.params world.old.drift world.old.script) }
 {
     let mut figures = Figures::none();
-    out.put(head_line().bytes())?;
+    put_line(&head_line(), out)?;
     write_rows(world, &mut figures, out)?;
     put_lines(&end_lines(&figures), out)
 }
@@ -128,8 +128,11 @@ fn put_double<O: Sink>(
     let in_sync = are_in_sync(scale, even, odd);
     *figures = figures.followed(scale, double, even, odd, in_sync, following);
     let cycle = 2 * double;
-    out.put(cycle_line(cycle, in_sync, scale.peak(cycle, even)).bytes())?;
-    out.put(cycle_line(cycle + 1, in_sync, scale.peak(cycle + 1, odd)).bytes())
+    put_line(&cycle_line(cycle, in_sync, scale.peak(cycle, even)), out)?;
+    put_line(
+        &cycle_line(cycle + 1, in_sync, scale.peak(cycle + 1, odd)),
+        out,
+    )
 }
 
 // Whether the clocks are in sync in a double cycle.

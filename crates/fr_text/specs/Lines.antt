@@ -1,6 +1,5 @@
 -- A text by its lines.
-use Rattle.std.specs.Prelude.{◌≡◌, ℕ, List, [], ◌∷◌, ◌++◌, Option, Some, None}
-use Rattle.fr_text.specs.Pieces.{line}
+use Rattle.std.specs.Prelude.{ℕ, List, [], ◌∷◌, ◌++◌, Option, Some, None}
 
 -- a line, where it is there
 abbrev pub shown : Option (List ℕ) → List ℕ
@@ -15,8 +14,3 @@ joined_after text (line ∷ lines) = joined_after (text ++ shown line) lines
 -- the text of some lines
 abbrev pub joined_lines : List (Option (List ℕ)) → List ℕ
 joined_lines lines = joined_after [] lines
-
--- a text ends with a line feed
-pub record IsEnded (text : List ℕ) : Type 0 where
-  pub front : List ℕ
-  pub ended : text ≡ line front

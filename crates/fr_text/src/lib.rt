@@ -5,6 +5,7 @@
 //! told of that, and the exit statuses.
 #![tactic(auto)]
 
+mod draft;
 mod fields;
 mod kind;
 mod laws;
@@ -21,6 +22,7 @@ mod table;
 mod told;
 mod words;
 
+pub use draft::Draft;
 pub use fields::{both, field, natural, reason_of};
 pub use kind::{FileKind, Stop, accepted};
 pub use laws::{first_refused_excludes_none, one_first_refused, refused_or_none};
@@ -29,7 +31,7 @@ pub use lines::{line_of, row_of};
 pub use loading::loaded;
 pub use numbers::{fields_are_plain, numbers_are_read_back};
 pub use piece::Piece;
-pub use putting::put_lines;
+pub use putting::{put_line, put_lines, put_text};
 pub use reader::Records;
 pub use records::{records_are_read_back, rows_are_records};
 pub use status::Status;

@@ -1,7 +1,8 @@
 ghost use Rattle.std.specs.Prelude.{◌≡◌, ◌≤◌, ◌<◌, ◌+◌, length};
 ghost use Rattle.fr_text.specs.Pieces.{fields_after, line, room_of_all, spelt, spelt_after};
 
-use crate::line::{LINE_ROOM, Line};
+use crate::draft::{Draft, LINE_ROOM};
+use crate::line::Line;
 use crate::piece::{Piece, append};
 
 /// The line of some pieces, one after the other.
@@ -25,7 +26,7 @@ pub fn row_of(word: &[u8], fields: &[Piece<'_>]) -> Line
 }
 
 // Appends some pieces.
-pub(crate) fn append_all(line: &mut Line, pieces: &[Piece<'_>])
+pub(crate) fn append_all(line: &mut Draft, pieces: &[Piece<'_>])
     requires { length line.old + room_of_all pieces.now ≤ LINE_ROOM }
     ensures bytes { line.new ≡ spelt_after line.old pieces.now }
     ensures short { length line.new ≤ length line.old + room_of_all pieces.now }
@@ -37,7 +38,7 @@ pub(crate) fn append_all(line: &mut Line, pieces: &[Piece<'_>])
 }
 
 // Appends some fields, with a comma before each.
-pub(crate) fn append_fields(line: &mut Line, fields: &[Piece<'_>])
+pub(crate) fn append_fields(line: &mut Draft, fields: &[Piece<'_>])
     requires { length line.old + room_of_all fields.now ≤ LINE_ROOM }
     ensures bytes { line.new ≡ fields_after line.old fields.now }
     ensures short { length line.new ≤ length line.old + room_of_all fields.now }

@@ -4,7 +4,7 @@ ghost use Rattle.std.specs.Fmt.{decimal, signed_decimal};
 ghost use Rattle.fr_text.specs.Numerals.{hexadecimal};
 ghost use Rattle.fr_text.specs.Pieces.{spelling, room_of_piece};
 
-use crate::line::{LINE_ROOM, Line};
+use crate::draft::{Draft, LINE_ROOM};
 
 /// A part of a line.
 #[derive(Clone, Copy, Debug)]
@@ -22,7 +22,7 @@ pub enum Piece<'a> {
 }
 
 // Appends a piece.
-pub(crate) fn append(line: &mut Line, piece: &Piece<'_>)
+pub(crate) fn append(line: &mut Draft, piece: &Piece<'_>)
     requires { length line.old + room_of_piece piece.now ≤ LINE_ROOM }
     ensures bytes { line.new ≡ line.old ++ spelling piece.now }
     ensures short { length line.new ≤ length line.old + room_of_piece piece.now }
@@ -36,7 +36,7 @@ pub(crate) fn append(line: &mut Line, piece: &Piece<'_>)
     }
 }
 
-fn append_natural(line: &mut Line, value: u64)
+fn append_natural(line: &mut Draft, value: u64)
     requires { length line.old + 20 ≤ LINE_ROOM }
     ensures bytes { line.new ≡ line.old ++ decimal value }
     ensures short { length line.new ≤ length line.old + 20 }
@@ -44,7 +44,7 @@ fn append_natural(line: &mut Line, value: u64)
     line.natural(value);
 }
 
-fn append_signed(line: &mut Line, value: i64)
+fn append_signed(line: &mut Draft, value: i64)
     requires { length line.old + 20 ≤ LINE_ROOM }
     ensures bytes { line.new ≡ line.old ++ signed_decimal value }
     ensures short { length line.new ≤ length line.old + 20 }
@@ -52,7 +52,7 @@ fn append_signed(line: &mut Line, value: i64)
     line.signed(value);
 }
 
-fn append_bytes(line: &mut Line, bytes: &[u8])
+fn append_bytes(line: &mut Draft, bytes: &[u8])
     requires { length line.old + 2 * length bytes.now ≤ LINE_ROOM }
     ensures bytes { line.new ≡ line.old ++ flat_map (hexadecimal 2) bytes.now }
     ensures short { length line.new ≤ length line.old + 2 * length bytes.now }

@@ -15,7 +15,7 @@ use fr_cluster::{Join, NodeList, Params};
 use fr_drift::Drift;
 use fr_script::Script;
 use fr_text::Piece::{Natural, Signed, Word};
-use fr_text::{Line, letter_of, state_of};
+use fr_text::{Draft, Line, letter_of, put_line, state_of};
 
 // The greatest number of bytes in front of what is said of a deviation.
 const FRONT_ROOM: usize = 50;
@@ -35,7 +35,7 @@ pub fn write_head<O: Sink>(
 {
     let mut spelt = Line::new();
     spell_run(drift.doubles(), &mut spelt);
-    out.put(spelt.bytes())?;
+    put_line(&spelt, out)?;
     put_members(&params.nodes, script, &mut spelt, out)
 }
 
@@ -100,7 +100,7 @@ fn put_node<O: Sink>(
 {
     if script.arbitrary(node) {
         spell_arbitrary(node, spelt);
-        out.put(spelt.bytes())
+        put_line(spelt, out)
     } else {
         Ok(())
     }
@@ -137,7 +137,7 @@ fn put_join<O: Sink>(
         None => Ok(()),
         Some(join) => {
             spell_join(node, &join, spelt);
-            out.put(spelt.bytes())
+            put_line(spelt, out)
         }
     }
 }
@@ -173,7 +173,7 @@ fn put_row<O: Sink>(
         (line (clock_text cycle row.now) ++ devs_text cycle row.now.node devs.now) }
 {
     spell_clock(cycle, row, spelt);
-    out.put(spelt.bytes())?;
+    put_line(spelt, out)?;
     put_devs(
         row.node,
         devs,
@@ -220,7 +220,7 @@ fn put_dev<O: Sink>(
 {
     if dev.receiver == node {
         spell_dev(front, dev, spelt);
-        out.put(spelt.bytes())
+        put_line(spelt, out)
     } else {
         Ok(())
     }
@@ -306,11 +306,11 @@ fn spell_dev(front: &[u8], dev: &Dev, spelt: &mut Line)
     );
 }
 
-fn dev_front(cycle: u32, receiver: NodeId) -> Line
+fn dev_front(cycle: u32, receiver: NodeId) -> Draft
     ensures text { result ≡ dev_front cycle receiver }
     ensures short { length result ≤ FRONT_ROOM }
 {
-    let mut front = Line::new();
+    let mut front = Draft::new();
     front.spell_front(
         b"dev",
         &[Natural(u64::from(cycle)), Natural(u64::from(receiver.0))],

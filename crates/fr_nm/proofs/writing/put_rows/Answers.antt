@@ -9,14 +9,14 @@ use Rattle.fr_nm.proofs.writing.put_rows.Goals as goal
 pub loop-cycle-preserved : goal.loop-cycle-preserved
 loop-cycle-preserved g c = λ result after put.
     let parts : c.loop-cycle.cycle-iterator ≡ (c.in-Some.cycle.now, c.in-Some.row.now) ∷ c.next.new.self = rest_more deref_pair c.loop-cycle.cycle-iterator c.next.new.self c.next.result (c.in-Some.cycle, c.in-Some.row) c.in-Some.is c.next.ensures.steps in
-    let text : c.bytes.result.now ≡ row_line c.args.width c.in-Some.cycle.now c.in-Some.row.now = c.bytes.ensures ∙ c.row_line.ensures in
-    c.loop-cycle.invariant result after (row-then c.args.width (c.in-Some.cycle.now, c.in-Some.row.now) c.next.new.self c.loop-cycle.cycle-iterator c.bytes.result.now result text parts c.in_ok-put.ensures put)
+    let text : c.row_line.result ≡ row_line c.args.width c.in-Some.cycle.now c.in-Some.row.now = c.row_line.ensures in
+    c.loop-cycle.invariant result after (row-then c.args.width (c.in-Some.cycle.now, c.in-Some.row.now) c.next.new.self c.loop-cycle.cycle-iterator c.row_line.result result text parts c.in_ok-put_line.ensures put)
 
-pub returns-in_err-put : goal.returns-in_err-put
-returns-in_err-put g c =
+pub returns-in_err-put_line : goal.returns-in_err-put_line
+returns-in_err-put_line g c =
     let parts : c.loop-cycle.cycle-iterator ≡ (c.in-Some.cycle.now, c.in-Some.row.now) ∷ c.next.new.self = rest_more deref_pair c.loop-cycle.cycle-iterator c.next.new.self c.next.result (c.in-Some.cycle, c.in-Some.row) c.in-Some.is c.next.ensures.steps in
-    let text : c.bytes.result.now ≡ row_line c.args.width c.in-Some.cycle.now c.in-Some.row.now = c.bytes.ensures ∙ c.row_line.ensures in
-    c.loop-cycle.invariant _ _ (row-cut c.args.width (c.in-Some.cycle.now, c.in-Some.row.now) c.next.new.self c.loop-cycle.cycle-iterator c.bytes.result.now c.from_residual.result text parts c.in_err-put.ensures c.from_residual.ensures.0)
+    let text : c.row_line.result ≡ row_line c.args.width c.in-Some.cycle.now c.in-Some.row.now = c.row_line.ensures in
+    c.loop-cycle.invariant _ _ (row-cut c.args.width (c.in-Some.cycle.now, c.in-Some.row.now) c.next.new.self c.loop-cycle.cycle-iterator c.row_line.result c.from_residual.result text parts c.in_err-put_line.ensures c.from_residual.ensures.0)
 
 pub returns : goal.returns
 returns g c =

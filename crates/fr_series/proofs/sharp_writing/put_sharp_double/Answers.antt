@@ -13,20 +13,19 @@ same_line : (cycle : ℕ) (in_sync found sharp found_sharp : Bool) (peak found_p
     → line (sharp_row cycle found found_sharp found_peak) ≡ line (sharp_row cycle in_sync sharp peak)
 same_line cycle in_sync found sharp found_sharp peak found_peak one other third = rw (one, other, third) refl
 
-pub returns-in_err-put-clause-text : goal.returns-in_err-put-clause-text
-returns-in_err-put-clause-text g c =
+pub returns-in_err-put_line-clause-text : goal.returns-in_err-put_line-clause-text
+returns-in_err-put_line-clause-text g c =
     let scales = c.args.scales.now in
     let grid = scales.older.grid in
     let in_sync : Bool = are_in_sync scales.older.bounds c.args.even.now c.args.odd.now in
     let sharp : Bool = are_in_sync_by_even scales.sharp.bounds c.args.even.now c.args.odd.now in
     let cycle : ℕ = 2 * c.args.double in
     let rest = line (sharp_row (cycle + 1) in_sync sharp (peak_by grid (cycle + 1) c.args.odd.now)) in
-    let first : c.bytes.result.now ≡ line (sharp_row cycle in_sync sharp (peak_by grid cycle c.args.even.now)) =
-    c.bytes.ensures
-    ∙ c.sharp_cycle_line.ensures
+    let first : c.sharp_cycle_line.result ≡ line (sharp_row cycle in_sync sharp (peak_by grid cycle c.args.even.now)) =
+    c.sharp_cycle_line.ensures
     ∙ same_line cycle in_sync _ sharp _ (peak_by grid cycle c.args.even.now) _ c.are_in_sync-in_sync.ensures c.are_in_sharp_sync-sharp.ensures c.peak.ensures in
-    let P : List ℕ → Type 0 = λ l. Puts c.from_residual.result (g.O.Sink.state c.args.out.now) (g.O.Sink.state c.put.new.self) (l ++ rest) in
-    subst P first (cut c.from_residual.result rest c.in_err-put.ensures c.from_residual.ensures.0)
+    let P : List ℕ → Type 0 = λ l. Puts c.from_residual.result (g.O.Sink.state c.args.out.now) (g.O.Sink.state c.put_line.new.out) (l ++ rest) in
+    subst P first (cut c.from_residual.result rest c.in_err-put_line.ensures c.from_residual.ensures.0)
 
 pub returns-clause-text : goal.returns-clause-text
 returns-clause-text g c =
@@ -35,13 +34,11 @@ returns-clause-text g c =
     let in_sync : Bool = are_in_sync scales.older.bounds c.args.even.now c.args.odd.now in
     let sharp : Bool = are_in_sync_by_even scales.sharp.bounds c.args.even.now c.args.odd.now in
     let cycle : ℕ = 2 * c.args.double in
-    let first : c.bytes.result.now ≡ line (sharp_row cycle in_sync sharp (peak_by grid cycle c.args.even.now)) =
-    c.bytes.ensures
-    ∙ c.sharp_cycle_line.ensures
+    let first : c.sharp_cycle_line.result ≡ line (sharp_row cycle in_sync sharp (peak_by grid cycle c.args.even.now)) =
+    c.sharp_cycle_line.ensures
     ∙ same_line cycle in_sync _ sharp _ (peak_by grid cycle c.args.even.now) _ c.are_in_sync-in_sync.ensures c.are_in_sharp_sync-sharp.ensures c.peak.ensures in
-    let last : c.bytes-2.result.now ≡ line (sharp_row (cycle + 1) in_sync sharp (peak_by grid (cycle + 1) c.args.odd.now)) =
-    c.bytes-2.ensures
-    ∙ c.sharp_cycle_line-2.ensures
+    let last : c.sharp_cycle_line-2.result ≡ line (sharp_row (cycle + 1) in_sync sharp (peak_by grid (cycle + 1) c.args.odd.now)) =
+    c.sharp_cycle_line-2.ensures
     ∙ same_line (cycle + 1) in_sync _ sharp _ (peak_by grid (cycle + 1) c.args.odd.now) _ c.are_in_sync-in_sync.ensures c.are_in_sharp_sync-sharp.ensures c.peak-2.ensures in
-    let P : List ℕ → Type 0 = λ l. Puts c.put-2.result (g.O.Sink.state c.args.out.now) (g.O.Sink.state c.put-2.new.self) l in
-    subst P (ap₂ (λ (l m : List ℕ). l ++ m) first last) (then c.put-2.result c.in_ok-put.ensures c.put-2.ensures)
+    let P : List ℕ → Type 0 = λ l. Puts c.put_line-2.result (g.O.Sink.state c.args.out.now) (g.O.Sink.state c.put_line-2.new.out) l in
+    subst P (ap₂ (λ (l m : List ℕ). l ++ m) first last) (then c.put_line-2.result c.in_ok-put_line.ensures c.put_line-2.ensures)

@@ -16,16 +16,16 @@ use Rattle.fr_series.proofs.writing.write_series.Goals as goal
 pub write_rows-requires-clause-none : goal.write_rows-requires-clause-none
 write_rows-requires-clause-none g c = c.none-figures.ensures ∙ sym (figures-none c.args.world.now.params)
 
-pub returns-in_err-put : goal.returns-in_err-put
+pub returns-in_err-put_line : goal.returns-in_err-put_line
 unfolding series_of
-returns-in_err-put g c =
+returns-in_err-put_line g c =
     let w = c.args.world.now in
     let h : Cycles = cycles_of (setting_after w) (2 * doubles_of w.drift) in
     let rest = series_rows w.params (told_of h) ++ series_end (figures_of w.params h) in
-    let head : c.bytes.result.now ≡ line series_head = c.bytes.ensures ∙ c.head_line.ensures in
-    let P : List ℕ → Type 0 = λ l. Puts c.from_residual.result (g.O.Sink.state c.args.out.now) (g.O.Sink.state c.put.new.self) l in
+    let head : c.head_line.result ≡ line series_head = c.head_line.ensures in
+    let P : List ℕ → Type 0 = λ l. Puts c.from_residual.result (g.O.Sink.state c.args.out.now) (g.O.Sink.state c.put_line.new.out) l in
     subst P (ap (λ (l : List ℕ). l ++ rest) head ∙ sym (append_assoc (line series_head) (series_rows w.params (told_of h)) (series_end (figures_of w.params h))))
-    (cut c.from_residual.result rest c.in_err-put.ensures c.from_residual.ensures.0)
+    (cut c.from_residual.result rest c.in_err-put_line.ensures c.from_residual.ensures.0)
 
 pub returns-in_err-write_rows : goal.returns-in_err-write_rows
 unfolding series_of
@@ -33,8 +33,8 @@ returns-in_err-write_rows g c =
     let w = c.args.world.now in
     let h : Cycles = cycles_of (setting_after w) (2 * doubles_of w.drift) in
     let rest = series_end (figures_of w.params h) in
-    let head : c.bytes.result.now ≡ line series_head = c.bytes.ensures ∙ c.head_line.ensures in
-    let both = then _ c.in_ok-put.ensures c.in_err-write_rows.ensures.text in
+    let head : c.head_line.result ≡ line series_head = c.head_line.ensures in
+    let both = then _ c.in_ok-put_line.ensures c.in_err-write_rows.ensures.text in
     let P : List ℕ → Type 0 = λ l. Puts c.from_residual-in_err-write_rows.result (g.O.Sink.state c.args.out.now) (g.O.Sink.state c.write_rows.new.out) l in
     subst P (ap (λ (l : List ℕ). (l ++ series_rows w.params (told_of h)) ++ rest) head) (cut c.from_residual-in_err-write_rows.result rest both c.from_residual-in_err-write_rows.ensures.0)
 
@@ -43,10 +43,10 @@ unfolding series_of
 returns g c =
     let w = c.args.world.now in
     let h : Cycles = cycles_of (setting_after w) (2 * doubles_of w.drift) in
-    let head : c.bytes.result.now ≡ line series_head = c.bytes.ensures ∙ c.head_line.ensures in
+    let head : c.head_line.result ≡ line series_head = c.head_line.ensures in
     let ok : IsOk c.write_rows.result = search rules in
     let figures : c.write_rows.new.figures ≡ figures_of w.params h = c.write_rows.ensures.figures ok in
     let ends : joined_lines c.end_lines.result ≡ series_end (figures_of w.params h) = c.end_lines.ensures ∙ ap series_end figures in
     let P : List ℕ → Type 0 = λ l. Puts c.put_lines.result (g.O.Sink.state c.args.out.now) (g.O.Sink.state c.put_lines.new.out) l in
     subst P (ap₂ (λ (l m : List ℕ). (l ++ series_rows w.params (told_of h)) ++ m) head ends)
-    (then c.put_lines.result (then (Ok tt) c.in_ok-put.ensures c.in_ok-write_rows.ensures.text) c.put_lines.ensures)
+    (then c.put_lines.result (then (Ok tt) c.in_ok-put_line.ensures c.in_ok-write_rows.ensures.text) c.put_lines.ensures)

@@ -4,15 +4,15 @@ use Rattle.fr_text.specs.Lines.{joined_lines, shown}
 use Rattle.fr_text.proofs.Joining.{joined_first}
 use Rattle.fr_text.proofs.putting.+put.Goals as goal
 
-pub put_before-returns-in_err-put-in-Some : goal.put_before-returns-in_err-put-in-Some
-put_before-returns-in_err-put-in-Some g t c =
-    let text : c.bytes.result.now ≡ shown c.args.line.now = c.bytes.ensures ∙ sym (ap shown c.in-Some.is) in
-    rw (← text) (cut _ _ c.in_err-put-in-Some.ensures c.from_residual.ensures.0)
+pub put_before-returns-in_err-put_line-in-Some : goal.put_before-returns-in_err-put_line-in-Some
+put_before-returns-in_err-put_line-in-Some g t c =
+    let text : c.in-Some.line ≡ shown c.args.line.now = sym (ap shown c.in-Some.is) in
+    rw (← text) (cut _ _ c.in_err-put_line-in-Some.ensures c.from_residual.ensures.0)
 
-pub put_before-returns-in_ok-put-in-Some : goal.put_before-returns-in_ok-put-in-Some
-put_before-returns-in_ok-put-in-Some g t c =
-    let text : c.bytes.result.now ≡ shown c.args.line.now = c.bytes.ensures ∙ sym (ap shown c.in-Some.is) in
-    rw (← text) (then _ c.in_ok-put-in-Some.ensures c.put_lines.ensures)
+pub put_before-returns-in_ok-put_line-in-Some : goal.put_before-returns-in_ok-put_line-in-Some
+put_before-returns-in_ok-put_line-in-Some g t c =
+    let text : c.in-Some.line ≡ shown c.args.line.now = sym (ap shown c.in-Some.is) in
+    rw (← text) (then _ c.in_ok-put_line-in-Some.ensures c.put_lines.ensures)
 
 pub put_lines-returns-in-Some : goal.put_lines-returns-in-Some
 put_lines-returns-in-Some g t c =

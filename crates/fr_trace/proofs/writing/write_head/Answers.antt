@@ -12,20 +12,20 @@ use Rattle.fr_trace.specs.declared.trace.TracedJoin.{TracedJoin}
 use Rattle.fr_trace.proofs.Lines.{joins-filter, named-filter}
 use Rattle.fr_trace.proofs.writing.write_head.Goals as goal
 
-pub returns-in_err-put : goal.returns-in_err-put
+pub returns-in_err-put_line : goal.returns-in_err-put_line
 unfolding head_text
-returns-in_err-put g c =
+returns-in_err-put_line g c =
     let x = setting_of c.args.params.now c.args.drift.now c.args.script.now in
-    let text : c.bytes.result.now ≡ line (doubles_text (doubles_of c.args.drift.now)) = c.bytes.ensures ∙ c.spell_run.ensures ∙ ap (λ (n : ℕ). line (doubles_text n)) c.doubles.ensures.value in
+    let text : c.spell_run.new.spelt ≡ line (doubles_text (doubles_of c.args.drift.now)) = c.spell_run.ensures ∙ ap (λ (n : ℕ). line (doubles_text n)) c.doubles.ensures.value in
     let rest = flat_map (λ (node : ℕ). line (arbitrary_text node)) (arbitrary_in x) ++ flat_map (λ (j : TracedJoin). line (join_text j)) (joining_in x) in
-    let P : List ℕ → Type 0 = λ l. Puts c.from_residual.result (g.O.Sink.state c.args.out.now) (g.O.Sink.state c.put.new.self) (l ++ rest) in
-    subst P text (cut c.from_residual.result rest c.in_err-put.ensures c.from_residual.ensures.0)
+    let P : List ℕ → Type 0 = λ l. Puts c.from_residual.result (g.O.Sink.state c.args.out.now) (g.O.Sink.state c.put_line.new.out) (l ++ rest) in
+    subst P text (cut c.from_residual.result rest c.in_err-put_line.ensures c.from_residual.ensures.0)
 
 pub returns : goal.returns
 unfolding head_text
 returns g c =
     let x = setting_of c.args.params.now c.args.drift.now c.args.script.now in
-    let text : c.bytes.result.now ≡ line (doubles_text (doubles_of c.args.drift.now)) = c.bytes.ensures ∙ c.spell_run.ensures ∙ ap (λ (n : ℕ). line (doubles_text n)) c.doubles.ensures.value in
+    let text : c.spell_run.new.spelt ≡ line (doubles_text (doubles_of c.args.drift.now)) = c.spell_run.ensures ∙ ap (λ (n : ℕ). line (doubles_text n)) c.doubles.ensures.value in
     let nodes = c.params.inside.nodes in
     let are : nodes ≡ c.args.params.now.nodes = ap (λ (p : Values). p.nodes) c.params.view_is in
     let named : named_text (is_arbitrary c.args.script.now) nodes ≡ flat_map (λ (node : ℕ). line (arbitrary_text node)) (arbitrary_in x) =
@@ -36,4 +36,4 @@ returns g c =
     in
     let P : List ℕ → List ℕ → Type 0 = λ l m. Puts c.put_members.result (g.O.Sink.state c.args.out.now) (g.O.Sink.state c.put_members.new.out) (l ++ m) in
     subst (λ m. P (line (doubles_text (doubles_of c.args.drift.now))) m) (λ i. named i ++ joins i)
-    (subst (λ l. P l (named_text (is_arbitrary c.args.script.now) nodes ++ joins_text (join_of c.args.script.now) nodes)) text (then c.put_members.result c.in_ok-put.ensures c.put_members.ensures))
+    (subst (λ l. P l (named_text (is_arbitrary c.args.script.now) nodes ++ joins_text (join_of c.args.script.now) nodes)) text (then c.put_members.result c.in_ok-put_line.ensures c.put_members.ensures))

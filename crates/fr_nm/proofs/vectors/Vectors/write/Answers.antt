@@ -11,4 +11,4 @@ returns-in_err-put_rows g c =
 pub returns : goal.returns
 returns g c =
     let i : VectorsView = record { width = c.self.inside.width; rows = c.self.inside.rows.entries; frames = c.self.inside.frames; ignored = c.self.inside.ignored } in
-    all-then i c.args.self.now c.bytes.result.now c.put.result c.self.view_is (c.bytes.ensures ∙ c.total_line.ensures) c.in_ok-put_rows.ensures c.put.ensures
+    all-then i c.args.self.now c.total_line.result c.put_line.result c.self.view_is (c.total_line.ensures) c.in_ok-put_rows.ensures c.put_line.ensures

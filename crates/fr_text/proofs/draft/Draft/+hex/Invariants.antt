@@ -1,4 +1,4 @@
-use Rattle.fr_text.proofs.line.Line.+hex.Given as goal
+use Rattle.fr_text.proofs.draft.Draft.+hex.Given as goal
 
 abbrev pub decreases-hex : goal.decreases-hex
 decreases-hex l = l.digits

@@ -1,7 +1,7 @@
 use Rattle.std.proofs.Common.{ℕ, ap, ◌∙◌, ◌++◌, ◌∷◌, [], ◌%◌, List, arith}
 use Rattle.fr_text.specs.Numerals.{digit_of}
 use Rattle.fr_text.proofs.Hexadecimals.{append_last, append_none}
-use Rattle.fr_text.proofs.line.Line.+hex.Goals as goal
+use Rattle.fr_text.proofs.draft.Draft.+hex.Goals as goal
 
 pub returns-then-digits-gt0-clause-bytes : goal.returns-then-digits-gt0-clause-bytes
 returns-then-digits-gt0-clause-bytes t c =

@@ -1,7 +1,7 @@
 use Rattle.std.proofs.Common.{◌≡◌, ◌+◌, ◌/◌, ◌%◌, length, ap, ◌∙◌, arith, ◌++◌, List, ℕ, rules}
 use Rattle.std.specs.Fmt.{decimal}
 use Rattle.fr_text.proofs.Decimals.{append_both, append_digit, append_two, length_digit, length_two_more, length_two_only, two_digits}
-use Rattle.fr_text.proofs.line.Line.+natural.Goals as goal
+use Rattle.fr_text.proofs.draft.Draft.+natural.Goals as goal
 
 pub natural-requires : goal.natural-requires
 natural-requires t c =
