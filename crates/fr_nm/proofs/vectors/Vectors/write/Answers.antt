@@ -1,4 +1,3 @@
-use Rattle.std.proofs.Common.{◌∙◌}
 use Rattle.fr_nm.specs.View.{VectorsView}
 use Rattle.fr_nm.proofs.Lines.{all-cut, all-then}
 use Rattle.fr_nm.proofs.vectors.Vectors.write.Goals as goal
@@ -11,4 +10,4 @@ returns-in_err-put_rows g c =
 pub returns : goal.returns
 returns g c =
     let i : VectorsView = record { width = c.self.inside.width; rows = c.self.inside.rows.entries; frames = c.self.inside.frames; ignored = c.self.inside.ignored } in
-    all-then i c.args.self.now c.total_line.result c.put_line.result c.self.view_is (c.total_line.ensures) c.in_ok-put_rows.ensures c.put_line.ensures
+    all-then i c.args.self.now c.total_line.result c.put_line.result c.self.view_is c.total_line.ensures c.in_ok-put_rows.ensures c.put_line.ensures

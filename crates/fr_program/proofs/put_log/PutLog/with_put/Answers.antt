@@ -1,4 +1,4 @@
-use Rattle.std.proofs.Common.{◌≡◌, ◌+◌, ◌++◌, ◌∷◌, [], ℕ, List, length, length-append, ap, ap₂, ◌∙◌, arith, rules}
+use Rattle.std.proofs.Common.{◌≡◌, ◌+◌, ◌++◌, ◌∷◌, [], length, length-append, ap, ap₂, ◌∙◌, arith, rules}
 use Rattle.fr_program.specs.declared.put_log.PutMark.{PutMark}
 use Rattle.fr_program.specs.PutMarks.{lengths_of, puts_by}
 use Rattle.fr_program.proofs.PutLogs.{lengths_more, puts_more}
