@@ -1,3 +1,4 @@
 pub mod Endings
 mod PutLogs
 pub mod Transfers
+pub mod Words

@@ -118,6 +118,7 @@ fn load_from<F: Read>(
     ensures emptied { OnErr result (into.new.items ≡ []) }
     ensures counted { IsErrOf result LoadFault.Failed → faults.new ≡ raised faults.old }
     ensures quiet { (IsErrOf result LoadFault.Failed → ⊥) → faults.new ≡ faults.old }
+    ensures never_falls { faults.old ≤ faults.new }
 {
     let loaded = read_whole(file, into);
     if loaded.is_err() {
@@ -133,6 +134,7 @@ fn load_from<F: Read>(
 fn unopened(faults: &mut u64) -> Result<(), LoadFault>
     ensures failed { IsErrOf result LoadFault.Failed }
     ensures counted { faults.new ≡ raised faults.old }
+    ensures never_falls { faults.old ≤ faults.new }
 {
     *faults = faults.saturating_add(1);
     Err(LoadFault::Failed)

@@ -1,6 +1,6 @@
 ghost use Rattle.std.specs.Prelude.{◌≡◌, drop, IfOk, IfSome, IsErr, IsNone};
 ghost use Rattle.std.specs.Process.{exit_status};
-ghost use Rattle.std_alloc.specs.Vec.Iter.{into_iter_items};
+ghost use Rattle.std.specs.Vec.Iter.{into_iter_items};
 ghost use Rattle.fr_text.specs.Status.{code_of};
 
 use fr_text::Status;

@@ -6,6 +6,7 @@ use std::io;
 use std::io::Read;
 
 // A reader, and whether a read of it has failed.
+#[derive(Drop)]
 pub struct Watched<F: Read> {
     reader: F,
     failed: bool,
