@@ -1,4 +1,4 @@
-ghost use Rattle.std.specs.Prelude.{◌≡◌, ◌≢◌, ◌≤◌, ◌↔◌, false, ◌++◌, ◌∷◌, ℕ, [], List, Some, None, OnOk, OnErr, IfErr, IsErrOf, IsTrue, IsSome, IsNone, length};
+ghost use Rattle.std.specs.Prelude.{◌≡◌, ◌≢◌, ◌≤◌, ◌↔◌, false, ◌++◌, ◌∷◌, ℕ, [], List, Some, None, OnOk, OnErr, IfErr, IsErrOf, IsTrue, length};
 ghost use Rattle.std.specs.Option.{option_map};
 ghost use Rattle.fr_base.specs.Device.{IsLoaded, IsOneLoadLater, SeesTooLong, StopsLoad, raised};
 ghost use Rattle.fr_program.specs.Program.{texts};

@@ -1,5 +1,5 @@
 -- How a command reads its files: step by step, which status their bytes define, and that they decide its text.
-use Rattle.std.proofs.Common.{◌≡◌, ℕ, suc, List, [], ◌∷◌, ◌++◌, length, take, Option, Some, None, inl, inr, refl, ap, sym, ◌∙◌, subst, append_assoc, append-nil, arith}
+use Rattle.std.proofs.Common.{◌≡◌, ℕ, List, [], ◌∷◌, ◌++◌, length, take, Option, Some, None, inl, inr, refl, ap, sym, ◌∙◌, subst, append_assoc, append-nil, arith}
 use Rattle.std.proofs.lemmas.List.{take-append-le, take_all}
 use Rattle.fr_base.specs.Device.{Asks, AsksFront, IsOneLoadLater, Shelved}
 use Rattle.fr_text.specs.Files.{AreFaultless, AreTold, Files, HasOneText, IsDecided, IsEndStatus, IsStatusOf, IsStopStatus, IsTextOf, StopsIn, file, text}

@@ -1,5 +1,5 @@
 -- What was found on a shelf, and on one that tells its bytes.
-use Rattle.std.proofs.Common.{◌≡◌, ℕ, ◌<◌, ◌≤◌, List, length, Option, Some, Result, Ok, Err, IfSome, ap, sym, ◌∙◌, subst, arith}
+use Rattle.std.proofs.Common.{◌≡◌, ℕ, ◌<◌, List, length, Option, Some, Result, Ok, Err, IfSome, ap, sym, ◌∙◌, subst, arith}
 use Rattle.fr_base.specs.Device.{IsFaulty, IsHeld, IsLong, IsOneLoadLater, Shelved}
 use Rattle.fr_base.specs.declared.shelf.TheConstants.{MAX_FILE}
 use Rattle.fr_text.specs.Files.{IsStopStatus}
