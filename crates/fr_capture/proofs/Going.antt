@@ -69,7 +69,7 @@ used_of bytes done end used within few later =
     )
 
 -- where no frame was completed, the frames are the same
-still : (before after : CaptureView) (bytes taken : List ℕ) → (is : StandsFor before bytes) → (they : StandsFor after (bytes ++ taken)) → after.channel ≡ before.channel → unread_bytes after ≡ unread_bytes before ++ taken → they.frames ≡ is.frames
+pub still : (before after : CaptureView) (bytes taken : List ℕ) → (is : StandsFor before bytes) → (they : StandsFor after (bytes ++ taken)) → after.channel ≡ before.channel → unread_bytes after ≡ unread_bytes before ++ taken → they.frames ≡ is.frames
 still before after bytes taken is they channel rest =
     let are : AreFrames before.channel (bytes ++ taken) they.frames (unread_bytes before ++ taken) =
     subst (λ (xs : List ℕ). AreFrames before.channel (bytes ++ taken) they.frames xs) rest (subst (λ (ch : Channel). AreFrames ch (bytes ++ taken) they.frames (unread_bytes after)) channel they.are) in

@@ -6,6 +6,7 @@ mod answering;
 mod capture;
 mod command_laws;
 mod fault;
+mod feed_laws;
 mod feeding;
 mod kept;
 mod laws;
@@ -17,6 +18,7 @@ pub use answering::answer_capture;
 pub use capture::{Capture, Fed};
 pub use command_laws::file_decides_the_frames;
 pub use fault::CaptureFault;
+pub use feed_laws::a_feed_without_a_place_adds_no_frame;
 pub use laws::{
     a_completed_frame_is_the_last, a_rest_begins_with_no_frame, a_shown_fault_stays,
     frames_are_found, one_list_of_frames,

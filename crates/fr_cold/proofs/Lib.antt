@@ -19,3 +19,4 @@ pub mod Runs
 pub mod Turns
 pub mod Decided
 pub mod Texts
+pub mod Apart

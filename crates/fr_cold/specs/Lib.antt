@@ -2,6 +2,7 @@
 pub mod Node
 pub mod Cluster
 pub mod StartupLaws
+pub mod Connected
 pub mod Moves
 pub mod Keys
 pub mod Rows

@@ -5,7 +5,7 @@ ghost use Rattle.fr_history.specs.Next.{cycles_of};
 ghost use Rattle.fr_promise.specs.Files.{IsPrecise};
 ghost use Rattle.fr_report.specs.Worlds.{IsReportOf};
 ghost use Rattle.fr_world.specs.World.{setting_after};
-ghost use Rattle.fr_report.specs.RunText.{run_text};
+ghost use Rattle.fr_report.specs.RunText.{IsRunText, run_text};
 
 use crate::gathering::{add_next, write_report};
 use crate::run_laws::a_run_is_lawful;
@@ -18,12 +18,15 @@ use fr_world::World;
 /// first place over all its macroticks beside the precision, whether the run is covered, from which double
 /// cycle on the clocks are in sync and no node follows, what was sent and heard, and where each node with a row
 /// ends. Each line is one put. A fault comes only where the sink counted it, and then a front of the text was
-/// put; all cycles are run also then. It takes no memory. With either result the run, where it is covered, keeps
-/// its precision from its first double cycle in sync on in which no node follows.
+/// put; all cycles are run also then. It takes no memory. With either result the text is the report of the one
+/// lawful run, whose figures mean what they are called; where it is covered, the run keeps its precision from its first
+/// double cycle in sync on in which no node follows.
 pub fn play<O: Sink>(world: &mut World, out: &mut O) -> Result<(), PutFault>
     requires { world.old.cycles ≡ 0 }
     ensures ran { world.new ≡ record world.old { cycles = 2 * doubles_of world.old.drift } }
     ensures text { Puts result (O.state out.old) (O.state out.new)
+        (run_text world.old.params world.old.drift world.old.script) }
+    ensures means { IsRunText world.old.params world.old.drift world.old.script
         (run_text world.old.params world.old.drift world.old.script) }
     ensures precise { IsPrecise world.old.params world.old.drift world.old.script
         (cycles_of (setting_after world.old) (2 * doubles_of world.old.drift)) }
