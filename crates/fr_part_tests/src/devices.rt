@@ -1,6 +1,9 @@
-// Shelves and sinks, in memory and on the disk; lines that are put into a sink, and numbers that are read.
+// Shelves and sinks, in memory and on the disk; lines that are put into a sink, numbers that are read, and the words of a
+// process.
 use fr_base::{LoadFault, MAX_FILE, NumberFault, PutFault, Shelf, Sink, number};
-use fr_program::{DiskShelf, MemoryShelf, MemorySink, StreamSink, SureShelf, SureSink};
+use fr_program::{
+    DiskShelf, MemoryShelf, MemorySink, StreamSink, SureShelf, SureSink, request_words,
+};
 use fr_text::Piece::{Bytes, Hex, Natural, Signed, Word};
 use fr_text::{line_of, put_lines, row_of};
 use std::alloc::{AllocError, Global};
@@ -264,4 +267,32 @@ fn reads_what_is_a_number(rt: HostRuntime) {
     for (text, wanted) in NUMBERS {
         assert!(rt; number(text, -100, 999_999_999_999_999_999) == *wanted);
     }
+}
+
+const GIVEN: &[&str] = &["flexray", "bound", "params.csv"];
+
+fn given_words(alloc: Global) -> Result<Vec<String>, AllocError> {
+    let mut words = Vec::new(alloc);
+    for word in GIVEN {
+        words.push(String::from_str(alloc, word)?)?;
+    }
+    Ok(words)
+}
+
+// Whether these are all but the first of them.
+fn are_behind_the_first(words: Option<Vec<String>>) -> bool {
+    match words {
+        Some(words) => {
+            words.len() == 2 && words[0].as_str() == GIVEN[1] && words[1].as_str() == GIVEN[2]
+        }
+        None => false,
+    }
+}
+
+#[test]
+fn the_name_of_the_program_is_no_word(rt: HostRuntime) -> Result<(), Fail> {
+    let given = given_words(rt.alloc())?;
+    let words = request_words(rt.alloc(), Ok(given.into_iter()));
+    assert!(rt; are_behind_the_first(words));
+    Ok(())
 }
