@@ -105,9 +105,9 @@ impl World {
     ghost use Rattle.fr_world.specs.Ends.{LendsItsRow};
 
     /// Runs the next cycle of every node that takes part in it, and answers its row, without what followers do; None
-    /// exactly after the last cycle of the run, and then nothing changes. A node that joins nobody starts cycle n, counted
-    /// from 0, at tick 1,000,000,000,000 (n + 1) at the latest, so none of its starts is above 200,000,000,000,000,000.
-    /// It takes no memory.
+    /// exactly after the last cycle of the run, and then nothing changes. A node that joins nobody starts cycle n,
+    /// counted from 0, at tick 1,000,000,000,000 (n + 1) at the latest, so none of its starts is above
+    /// 200,000,000,000,000,000. It takes no memory.
     pub fn cycle(&mut self) -> Option<&CycleRow>
         // What the world is once the answer is let go.
         ensures* ends { sem 𝓛 (LendsItsRow self.entry result) }
