@@ -13,3 +13,6 @@ pub mod SharpStaying
 pub mod SharpWorlds
 pub mod SharpFigures
 pub mod SharpPlaces
+pub mod SeriesFigures
+pub mod Stops
+pub mod CyclePeaks

@@ -5,6 +5,8 @@ pub mod Figures
 pub mod Scale
 pub mod SeriesText
 pub mod Writing
+pub mod Stopping
+pub mod SeriesMeaning
 pub mod Basis
 pub mod SharpAnswer
 pub mod SharpCovered

@@ -10,6 +10,7 @@ use Rattle.fr_history.specs.Cycles.{Cycles}
 use Rattle.fr_history.specs.Lawful.{IsLawful}
 use Rattle.fr_history.specs.Unfollowed.{IsUnfollowedSyncAt}
 use Rattle.fr_series.specs.Figures.{figures_of}
+use Rattle.fr_series.specs.SeriesMeaning.{AreFiguresOf}
 use Rattle.fr_series.specs.SeriesText.{above_text, series_of, synced_text, within_text}
 
 -- what is told at the end of a run that kept its precision since it came into sync and no node followed: the last double
@@ -20,7 +21,7 @@ pub record TellsInSync (params : Values) (h : Cycles) : Type 0 where
 
 -- a text is the series of the lawful cycles of that run: there is one such list of all its cycles and no other. Where the run
 -- is covered and a double cycle of it is in sync in which no node follows, it says of the last one that it is in sync, and that
--- the skew stayed within the precision
+-- the skew stayed within the precision; and its figures mean what they are called
 pub record IsSeriesText (params : Values) (drift : DriftView) (script : ScriptView) (text : List ℕ) : Type 0 where
   pub cycles : Cycles
   pub lawful : IsLawful (setting_of params drift script) cycles
@@ -28,3 +29,4 @@ pub record IsSeriesText (params : Values) (drift : DriftView) (script : ScriptVi
   pub shown : text ≡ series_of params cycles
   pub stays :
       first_gap params drift script ≡ None → (double : ℕ) → IsUnfollowedSyncAt params cycles double → TellsInSync params cycles
+  pub figures : AreFiguresOf params cycles (figures_of params cycles)

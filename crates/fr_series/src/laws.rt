@@ -16,7 +16,7 @@ ghost use Rattle.fr_report.specs.Files.{run_files};
 ghost use Rattle.fr_series.specs.SeriesText.{series_text};
 ghost use Rattle.fr_series.specs.SeriesAnswer.{IsSeriesText, TellsInSync};
 
-use fr_history::one_lawful_run;
+use fr_history::{one_first_unfollowed_sync, one_lawful_run};
 use fr_promise::files_keep_precision;
 use fr_world::files_decide_one_run;
 
@@ -30,6 +30,7 @@ pub fn a_series_is_lawful()
     one_lawful_run();
     files_decide_one_run();
     a_covered_run_stays_in_sync();
+    one_first_unfollowed_sync();
 }
 
 /// A law: the bytes of the files decide what is written. Two texts that the answer's clause allows for files of the

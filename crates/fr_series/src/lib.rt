@@ -2,6 +2,7 @@
 #![tactic(auto)]
 
 mod basis;
+mod figure_laws;
 mod figures;
 mod laws;
 mod lines;
@@ -20,6 +21,7 @@ mod top;
 mod writing;
 
 pub use basis::{Basis, Scales};
+pub use figure_laws::the_peak_of_a_cycle_is_told;
 pub use figures::Figures;
 pub use fr_text::Status;
 pub use laws::{a_covered_run_stays_in_sync, a_series_is_lawful, files_decide_the_series};

@@ -10,6 +10,7 @@ ghost use Rattle.fr_world.specs.World.{setting_after};
 ghost use Rattle.fr_series.specs.Figures.{figures_of};
 ghost use Rattle.fr_series.specs.Scale.{IsScale, followed, scale_of};
 ghost use Rattle.fr_series.specs.SeriesText.{double_by, series_end, series_rows, series_text};
+ghost use Rattle.fr_series.specs.Stopping.{RowsEnd, SeriesEnds};
 ghost use Rattle.fr_series.specs.Writing.{IsAtDouble, is_double_followed, is_followed, rows_of, text_of_double};
 
 use crate::figures::Figures;
@@ -22,11 +23,13 @@ use fr_world::World;
 
 /// Runs all cycles of a world that has run none, and writes the series of the run: a line for each cycle, as soon as
 /// its double cycle was run, and three lines at the end. Each line is one put. A fault comes only where the sink
-/// counted it, and then a front of the text was put, and no further cycle is run. It takes no memory.
+/// counted it, and then a front of the text was put, and no further cycle is run: of the double cycles that were run
+/// the lines of all but the last had been put whole. It takes no memory.
 pub fn write_series<O: Sink>(world: &mut World, out: &mut O) -> Result<(), PutFault>
     requires { world.old.cycles ≡ 0 }
-    ensures { Puts result (O.state out.old) (O.state out.new)
+    ensures text { Puts result (O.state out.old) (O.state out.new)
         (series_text world.old.params world.old.drift world.old.script) }
+    ensures ran { SeriesEnds result world.old world.new (O.state out.old) (O.state out.new) }
 {
     let mut figures = Figures::none();
     put_line(&head_line(), out)?;
@@ -42,6 +45,7 @@ fn write_rows<O: Sink>(
 ) -> Result<(), PutFault>
     requires fresh { world.old.cycles ≡ 0 }
     requires none { figures.old ≡ figures_of world.old.params [] }
+    ensures ran { RowsEnd result world.old world.new (O.state out.old) (O.state out.new) }
     ensures text { Puts result (O.state out.old) (O.state out.new)
         (series_rows world.old.params
         (told_of (cycles_of (setting_after world.old) (2 * doubles_of world.old.drift)))) }

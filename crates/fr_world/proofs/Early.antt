@@ -1,8 +1,8 @@
 -- A node that joins nobody starts its cycles early: none of them takes a trillion ticks.
-use Rattle.std.proofs.Common.{◌≡◌, ℕ, ◌+◌, ◌*◌, ℤ, pos, Bool, true, false, None, List, [], ◌∷◌, map, refl, ap, sym, subst, arith, if◌then◌else◌}
+use Rattle.std.proofs.Common.{◌≡◌, ℕ, ◌+◌, ◌*◌, ℤ, pos, Bool, true, false, None, List, [], ◌∷◌, map, refl, ap, sym, ◌∙◌, subst, arith, if◌then◌else◌}
 use Rattle.std.specs.Prelude.{All, Contains, ◌+ℤ◌, ◌*ℤ◌, ◌≤ℤ◌}
 use Rattle.std.proofs.lemmas.Int.{ints}
-use Rattle.std.proofs.lemmas.List.Elements.{All-contains, All-cons, All-head, All-nil, All-tail}
+use Rattle.std.proofs.lemmas.List.Elements.{All-contains, All-cons, All-head, All-nil, All-tail, All-weaker}
 use Rattle.fr_base.specs.Within.{IsBetween}
 use Rattle.fr_base.specs.declared.node_row.NodeRow.{NodeRow}
 use Rattle.fr_base.proofs.Products.{below_longest}
@@ -25,6 +25,7 @@ use Rattle.fr_air.specs.Files.{setting_in}
 use Rattle.fr_air.specs.Listening.{StartsEarly}
 use Rattle.fr_world.specs.Standing.{nodes_kept}
 use Rattle.fr_air.specs.declared.files.RunInputs.{RunInputs}
+use Rattle.fr_script.specs.View.{join_of}
 use Rattle.fr_air.proofs.Members.{has_it}
 use Rattle.fr_air.proofs.Step.{begun_node, heard_node}
 use Rattle.fr_air.proofs.OneCycle.{All-map, all_behind, all_begun, all_heard}
@@ -123,3 +124,22 @@ early-heard f h cycle nodes are early =
     subst P (sym are)
     (All-onto (IsEarly f cycle) (λ (node : NodeSpec). heard_node x h false node.id) (row_nodes x h)
     (All-along (IsEarly f cycle) (λ (node : NodeSpec). node_of_next x h false node.id) (row_nodes x h) early))
+
+-- ---- and so do their rows
+
+kept_node : (b : Bool) (r s : NodeRow) → r.node ≡ s.node → (if b then r else s).node ≡ s.node
+kept_node true r s is = is
+kept_node false r s is = refl
+
+early_row : (f : RunInputs) (cycle : ℕ) (node : NodeView) → IsEarly f cycle node → StartsEarly f cycle (ended_row_of_node f.params node)
+early_row f cycle node early none =
+    let same : (ended_row_of_node f.params node).node ≡ node.id = kept_node (corrects node) (corrected_row f.params node) (node_row_of node) refl in
+    let P : ℤ → Type 0 = λ start. IsBetween (pos 0) (pos (1_000_000_000_000 * (cycle + 1))) start in
+    subst P (sym (ended_start f.params node)) (early (sym (ap (join_of f.script) same) ∙ none))
+
+pub early-rows : (f : RunInputs) (cycle : ℕ) (before after : List NodeView) (rows : List NodeRow) → HaveEnded f before after rows → All (IsEarly f cycle) before → All (StartsEarly f cycle) rows
+early-rows f cycle before after rows ended_all early =
+    let row : NodeView → NodeRow = ended_row_of_node f.params in
+    subst (λ (rs : List NodeRow). All (StartsEarly f cycle) rs) (sym ended_all.rows_are)
+    (All-onto (StartsEarly f cycle) row before
+    (All-weaker (IsEarly f cycle) (λ (n : NodeView). StartsEarly f cycle (row n)) (λ n is. early_row f cycle n is) before early))

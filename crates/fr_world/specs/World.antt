@@ -42,6 +42,10 @@ pub record WorldView : Type 0 where
   pub script : ScriptView
   pub cycles : ℕ
 
+-- what decides its run
+abbrev pub inputs_of : WorldView → RunInputs
+inputs_of w = record { params = w.params; drift = w.drift; script = w.script }
+
 -- the setting of a world
 abbrev pub setting_after : WorldView → Setting
 setting_after w = setting_of w.params w.drift w.script

@@ -1,6 +1,7 @@
-ghost use Rattle.std.specs.Prelude.{◌+◌, ◌<◌};
+ghost use Rattle.std.specs.Prelude.{◌+◌, ◌<◌, All};
 ghost use Rattle.fr_script.specs.Promises.{NodesJoinProperly};
 ghost use Rattle.fr_air.specs.Files.{setting_in};
+ghost use Rattle.fr_air.specs.Listening.{StartsEarly};
 ghost use Rattle.fr_world.specs.World.{IsRowOf, StandAfter};
 
 use crate::stage::Stage;
@@ -21,6 +22,7 @@ pub(crate) fn run_cycle(
     requires stand { StandAfter files.now cycle keys.now stage.old row.old.devs }
     ensures stand { StandAfter files.now (cycle + 1) keys.now stage.new row.new.devs }
     ensures row { IsRowOf (setting_in files.now) cycle row.new }
+    ensures early { All (StartsEarly files.now cycle) row.new.rows }
 {
     sane(&files.params);
     files_are_lawful(files);

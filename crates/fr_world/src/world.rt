@@ -100,16 +100,20 @@ impl World {
         })
     }
 
-    ghost use Rattle.fr_world.specs.World.{followed_last, memory_of, node_seen, setting_after, world_before, world_cycles, IsLastRowOf, IsRowOf};
+    ghost use Rattle.fr_air.specs.Listening.{StartsEarly};
+    ghost use Rattle.fr_world.specs.World.{followed_last, inputs_of, memory_of, node_seen, setting_after, world_before, world_cycles, IsLastRowOf, IsRowOf};
     ghost use Rattle.fr_world.specs.Ends.{LendsItsRow};
 
     /// Runs the next cycle of every node that takes part in it, and answers its row, without what followers do; None
-    /// exactly after the last cycle of the run, and then nothing changes. It takes no memory.
+    /// exactly after the last cycle of the run, and then nothing changes. A node that joins nobody starts cycle n,
+    /// counted from 0, at tick 1,000,000,000,000 (n + 1) at the latest, so none of its starts is above
+    /// 200,000,000,000,000,000. It takes no memory.
     pub fn cycle(&mut self) -> Option<&CycleRow>
         // What the world is once the answer is let go.
         ensures* ends { sem 𝓛 (LendsItsRow self.entry result) }
         ensures over { IsNone result ↔ (self.old.cycles ≡ 2 * doubles_of self.old.drift) }
         ensures row { IfSome result (λ row. IsRowOf (setting_after self.old) self.old.cycles row.now) }
+        ensures early { IfSome result (λ row. All (StartsEarly (inputs_of self.old) self.old.cycles) row.now.rows) }
     {
         if self.next == 2 * self.files.drift.drift().doubles() {
             return None;

@@ -11,14 +11,15 @@ use Rattle.fr_world.specs.World.{setting_after}
 use Rattle.fr_series.specs.Figures.{figures_of}
 use Rattle.fr_series.specs.SeriesText.{series_end, series_head, series_rows, series_of}
 use Rattle.fr_series.proofs.Following.{figures-none}
+use Rattle.fr_series.proofs.Stops.{ends_with, stops_at_head, stops_in_rows}
 use Rattle.fr_series.proofs.writing.write_series.Goals as goal
 
 pub write_rows-requires-clause-none : goal.write_rows-requires-clause-none
 write_rows-requires-clause-none g c = c.none-figures.ensures ∙ sym (figures-none c.args.world.now.params)
 
-pub returns-in_err-put_line : goal.returns-in_err-put_line
+pub returns-in_err-put_line-clause-text : goal.returns-in_err-put_line-clause-text
 unfolding series_of
-returns-in_err-put_line g c =
+returns-in_err-put_line-clause-text g c =
     let w = c.args.world.now in
     let h : Cycles = cycles_of (setting_after w) (2 * doubles_of w.drift) in
     let rest = series_rows w.params (told_of h) ++ series_end (figures_of w.params h) in
@@ -27,9 +28,9 @@ returns-in_err-put_line g c =
     subst P (ap (λ (l : List ℕ). l ++ rest) head ∙ sym (append_assoc (line series_head) (series_rows w.params (told_of h)) (series_end (figures_of w.params h))))
     (cut c.from_residual.result rest c.in_err-put_line.ensures c.from_residual.ensures.0)
 
-pub returns-in_err-write_rows : goal.returns-in_err-write_rows
+pub returns-in_err-write_rows-clause-text : goal.returns-in_err-write_rows-clause-text
 unfolding series_of
-returns-in_err-write_rows g c =
+returns-in_err-write_rows-clause-text g c =
     let w = c.args.world.now in
     let h : Cycles = cycles_of (setting_after w) (2 * doubles_of w.drift) in
     let rest = series_end (figures_of w.params h) in
@@ -38,9 +39,9 @@ returns-in_err-write_rows g c =
     let P : List ℕ → Type 0 = λ l. Puts c.from_residual-in_err-write_rows.result (g.O.Sink.state c.args.out.now) (g.O.Sink.state c.write_rows.new.out) l in
     subst P (ap (λ (l : List ℕ). (l ++ series_rows w.params (told_of h)) ++ rest) head) (cut c.from_residual-in_err-write_rows.result rest both c.from_residual-in_err-write_rows.ensures.0)
 
-pub returns : goal.returns
+pub returns-clause-text : goal.returns-clause-text
 unfolding series_of
-returns g c =
+returns-clause-text g c =
     let w = c.args.world.now in
     let h : Cycles = cycles_of (setting_after w) (2 * doubles_of w.drift) in
     let head : c.head_line.result ≡ line series_head = c.head_line.ensures in
@@ -50,3 +51,36 @@ returns g c =
     let P : List ℕ → Type 0 = λ l. Puts c.put_lines.result (g.O.Sink.state c.args.out.now) (g.O.Sink.state c.put_lines.new.out) l in
     subst P (ap₂ (λ (l m : List ℕ). (l ++ series_rows w.params (told_of h)) ++ m) head ends)
     (then c.put_lines.result (then (Ok tt) c.in_ok-put_line.ensures c.in_ok-write_rows.ensures.text) c.put_lines.ensures)
+
+-- ---- what is run
+
+pub returns-in_err-put_line-clause-ran : goal.returns-in_err-put_line-clause-ran
+unfolding series_of
+returns-in_err-put_line-clause-ran g c =
+    let w = c.args.world.now in
+    let h : Cycles = cycles_of (setting_after w) (2 * doubles_of w.drift) in
+    let rest = series_rows w.params (told_of h) ++ series_end (figures_of w.params h) in
+    let head : c.head_line.result ≡ line series_head = c.head_line.ensures in
+    let P : List ℕ → Type 0 = λ l. Puts c.from_residual.result (g.O.Sink.state c.args.out.now) (g.O.Sink.state c.put_line.new.out) l in
+    let text = subst P (ap (λ (l : List ℕ). l ++ rest) head ∙ sym (append_assoc (line series_head) (series_rows w.params (told_of h)) (series_end (figures_of w.params h)))) (cut c.from_residual.result rest c.in_err-put_line.ensures c.from_residual.ensures.0) in
+    stops_at_head c.from_residual.result w (g.O.Sink.state c.args.out.now) (g.O.Sink.state c.put_line.new.out) c.from_residual.ensures.0 c.requires text
+
+pub returns-in_err-write_rows-clause-ran : goal.returns-in_err-write_rows-clause-ran
+returns-in_err-write_rows-clause-ran g c =
+    let head : c.head_line.result ≡ line series_head = c.head_line.ensures in
+    let P : List ℕ → Type 0 = λ l. Puts (Ok tt) (g.O.Sink.state c.args.out.now) (g.O.Sink.state c.put_line.new.out) l in
+    stops_in_rows c.from_residual-in_err-write_rows.result c.args.world.now c.write_rows.new.world (g.O.Sink.state c.args.out.now) (g.O.Sink.state c.put_line.new.out) (g.O.Sink.state c.write_rows.new.out)
+    c.from_residual-in_err-write_rows.ensures.0 (subst P head c.in_ok-put_line.ensures) c.in_err-write_rows.ensures.ran
+
+pub returns-clause-ran : goal.returns-clause-ran
+returns-clause-ran g c =
+    let w = c.args.world.now in
+    let h : Cycles = cycles_of (setting_after w) (2 * doubles_of w.drift) in
+    let head : c.head_line.result ≡ line series_head = c.head_line.ensures in
+    let ok : IsOk c.write_rows.result = search rules in
+    let figures : c.write_rows.new.figures ≡ figures_of w.params h = c.write_rows.ensures.figures ok in
+    let ends : joined_lines c.end_lines.result ≡ series_end (figures_of w.params h) = c.end_lines.ensures ∙ ap series_end figures in
+    let P : List ℕ → Type 0 = λ l. Puts (Ok tt) (g.O.Sink.state c.args.out.now) (g.O.Sink.state c.put_line.new.out) l in
+    let Q : List ℕ → Type 0 = λ l. Puts c.put_lines.result (g.O.Sink.state c.write_rows.new.out) (g.O.Sink.state c.put_lines.new.out) l in
+    ends_with c.put_lines.result w c.write_rows.new.world (g.O.Sink.state c.args.out.now) (g.O.Sink.state c.put_line.new.out) (g.O.Sink.state c.write_rows.new.out) (g.O.Sink.state c.put_lines.new.out)
+    c.in_ok-write_rows.ensures.ran (subst P head c.in_ok-put_line.ensures) c.in_ok-write_rows.ensures.text (subst Q ends c.put_lines.ensures)

@@ -6,7 +6,7 @@ use Rattle.fr_history.specs.Recorded.{recorded}
 use Rattle.fr_history.specs.Next.{cycles_of, next_cycle}
 use Rattle.fr_history.proofs.RunsExist.{length-cycles_of}
 use Rattle.fr_world.proofs.Asked.{all-listen, has-few, has-passed}
-use Rattle.fr_world.proofs.Early.{all-ended}
+use Rattle.fr_world.proofs.Early.{all-ended, early-rows}
 use Rattle.fr_air.proofs.OneCycle.{all-wait, are-listable, counts-are, devs-are, keys-ascend, record-is, rows-are, waiting-listable}
 use Rattle.fr_world.proofs.Stepping.{AreHeard, IsBefore, before-is, early-caught, first-few, first-memory, first-succeeds, keeps-on, listeners-heard, nodes-caught, remembers-on, rows-early, rows-start}
 use Rattle.fr_world.proofs.Stages.{begun-stage, counts-walked}
@@ -131,3 +131,13 @@ returns-clause-row c =
       placed = c.end.ensures.ended.placed;
       few = subst (AreAtMost 1000000) (sym counted) c.hear_all.ensures.few;
     }
+
+pub returns-clause-early : goal.returns-clause-early
+returns-clause-early c =
+    let a = c.args in
+    let f = a.files.now in
+    let before : IsBefore f a.cycle a.stage.now = before-is f a.cycle a.keys.now a.stage.now a.row.now.devs c.sane.ensures c.files_are_lawful.ensures c.requires.stand in
+    let heard : AreHeard f a.cycle a.stage.now c.succeed.new.self c.begin.new.self c.hear_all.new.self =
+    record { is_before = before; first_is = c.succeed.ensures.succeeded; begun_is = c.begin.ensures.begun; heard_is = c.hear_all.ensures.heard } in
+    early-rows f a.cycle c.listen.new.self.nodes c.end.new.self.nodes c.end.new.row.rows c.end.ensures.ended
+    (early-caught f a.cycle a.stage.now c.succeed.new.self c.begin.new.self c.hear_all.new.self heard c.listen.new.self c.listen.ensures.caught)
