@@ -6,6 +6,7 @@ pub mod Following
 pub mod Doubles
 pub mod SeriesRows
 pub mod Worlds
+pub mod CheckGaps
 pub mod SharpCovering
 pub mod SharpDecided
 pub mod SharpFollowing

@@ -6,10 +6,13 @@ use Rattle.std.proofs.lemmas.List.{length-map}
 use Rattle.fr_cluster.specs.Sane.{IsSane}
 use Rattle.fr_cluster.specs.Values.{Values, amount}
 use Rattle.fr_cluster.specs.declared.names.ParamName.TheVariants as name
+use Rattle.fr_coverage.specs.Coverage.{some_join}
 use Rattle.fr_coverage.specs.Decided.{setting_of}
 use Rattle.fr_coverage.specs.Flutter.{flutter_of}
+use Rattle.fr_drift.specs.Files.{DriftFits}
 use Rattle.fr_drift.specs.Questions.{doubles_of}
 use Rattle.fr_drift.specs.View.{DriftView}
+use Rattle.fr_script.specs.Files.{ScriptFits}
 use Rattle.fr_script.specs.View.{ScriptView}
 use Rattle.fr_history.specs.History.{History, Record}
 use Rattle.fr_history.specs.Skew.{skew_at}
@@ -22,15 +25,19 @@ use Rattle.fr_base.specs.declared.node_row.NodeRow.{NodeRow}
 use Rattle.fr_skew.specs.Spreads.{spread_at}
 use Rattle.fr_skew.specs.declared.peak.Peak.{Peak}
 use Rattle.fr_skew.specs.declared.sync.SyncBounds.{SyncBounds}
+use Rattle.fr_sharp.specs.JoinedFiles.{CoveredFilesKeepSharplyJoined, KeepsSharplyJoined}
+use Rattle.fr_sharp.specs.JoinedHistories.{first_rates_last}
 use Rattle.fr_sharp.specs.SharpBounds.{sharp_precision, walk_lasts}
 use Rattle.fr_sharp.specs.SharpFiles.{CoveredFilesKeepSharply}
-use Rattle.fr_sharp.specs.SharpStatement.{has_arbitrary, IsSharplyCovered, KeepsSharply}
+use Rattle.fr_sharp.specs.SharpStatement.{has_arbitrary, KeepsSharply}
 use Rattle.fr_sharp.specs.SharpTested.{IsFirstSharpSync, first_sharp_sync_of, is_in_sharp_sync, sharp_sync_bounds_of}
+use Rattle.fr_sharp.proofs.FirstRates.{first_rates_last_so}
 use Rattle.fr_sharp.proofs.FreeLemmas.{first_sharp_sync_is, first_sharp_sync_is_one, never_sharp_sync}
-use Rattle.fr_series.specs.Basis.{walk_held}
+use Rattle.fr_series.specs.Basis.{sharp_figures_of, sharp_held}
 use Rattle.fr_series.specs.Figures.{DoubleTest, above_from, figures_by}
 use Rattle.fr_series.specs.Scale.{above_at, first_above}
 use Rattle.fr_series.specs.SharpAnswer.{KeepsAndTells, TellsSharply}
+use Rattle.fr_series.specs.SharpCovered.{IsCoveredSharply}
 use Rattle.fr_series.specs.SharpText.{sharp_within_text}
 use Rattle.fr_series.specs.declared.scale.Scale.{Scale}
 use Rattle.fr_series.proofs.Above.{none_above}
@@ -188,25 +195,68 @@ found_is beside p flutter h first at None is = absurd (never_sharp_sync beside p
 found_is beside p flutter h first at (Some other) is =
     is ∙ ap (λ (k : ℕ). Some k) (first_sharp_sync_is_one beside p flutter h other first (first_sharp_sync_is beside p flutter h other is) at)
 
-pub stays_sharp : CoveredFilesKeepSharply → (p : Values) (d : DriftView) (s : ScriptView) (h : Cycles) (first : ℕ) → IsSane p → IsSharplyCovered p d s (flutter_of p d s)
-    → IsLawful (setting_of p d s) h → length h ≡ 2 * doubles_of d → IsFirstSharpSync (has_arbitrary p s) p (flutter_of p d s) h first → KeepsAndTells p d s h first
-stays_sharp keeps p d s h first sane covered lawful whole at =
+-- in which double cycles since then the skew is not above the sharper precision, where no node joins and where one does
+apart_alone : (p : Values) (d : DriftView) (s : ScriptView) (h : Cycles) (first : ℕ) → KeepsSharply (has_arbitrary p s) (setting_of p d s) (flutter_of p d s) h first
+    → (k : ℕ) → first ≤ k → k < doubles_of d → IfSome (walk_lasts p (flutter_of p d s)) (λ held. k - first < held) → IsApart p (pos (sharp_precision (has_arbitrary p s) p (flutter_of p d s))) h k
+apart_alone p d s h first kept k low high held =
+    let near = kept.keeps k low high held in
+    record { even = λ macrotick in_cycle. near.skew macrotick false in_cycle; odd = λ macrotick in_cycle. near.skew macrotick true in_cycle }
+
+-- whoever lasts so long has lasted before
+earlier_lasts : (lasts : Option ℕ) (m n : ℕ) → m ≤ n → IfSome lasts (λ held. n < held) → IfSome lasts (λ held. m < held)
+earlier_lasts None m n less held = tt
+earlier_lasts (Some many) m n less held = omega (arith, less, held)
+
+apart_joined : (p : Values) (d : DriftView) (s : ScriptView) (h : Cycles) (first : ℕ) → KeepsSharplyJoined (has_arbitrary p s) (setting_of p d s) (flutter_of p d s) h first
+    → (k : ℕ) → first ≤ k → k < doubles_of d → IfSome (first_rates_last p (flutter_of p d s)) (λ held. k - first < held) → IsApart p (pos (sharp_precision (has_arbitrary p s) p (flutter_of p d s))) h k
+apart_joined p d s h first kept k low high held =
+    let flutter : ℕ = flutter_of p d s in
+    let passed : ℕ = k - first in
+    let same : first + passed ≡ k = omega (arith, low) in
+    let last = λ (m : ℕ) (most : m ≤ passed). (first_rates_last_so p flutter m).1 (earlier_lasts (first_rates_last p flutter) m passed most held) in
+    let stays = kept.keeps passed (omega (arith, same, high)) (λ m less. last m (omega (arith, less))) in
+    let near = stays.keeps (last passed (omega arith)) in
+    let At : ℕ → Type 0 = λ n. IsApart p (pos (sharp_precision (has_arbitrary p s) p flutter)) h n in
+    subst At same (record { even = λ macrotick in_cycle. near.skew macrotick false in_cycle; odd = λ macrotick in_cycle. near.skew macrotick true in_cycle })
+
+-- what is told, for any number of double cycles for which it is so
+told_for : (p : Values) (d : DriftView) (s : ScriptView) (h : Cycles) (first : ℕ) (lasts : Option ℕ) → length h ≡ 2 * doubles_of d → IsFirstSharpSync (has_arbitrary p s) p (flutter_of p d s) h first
+    → ((k : ℕ) → first ≤ k → k < doubles_of d → IfSome lasts (λ held. k - first < held) → IsApart p (pos (sharp_precision (has_arbitrary p s) p (flutter_of p d s))) h k)
+    → TellsSharply lasts (doubles_of d) first (sharp_figures_of (has_arbitrary p s) p (flutter_of p d s) h)
+told_for p d s h first lasts whole at apart =
     let beside : Bool = has_arbitrary p s in
     let flutter : ℕ = flutter_of p d s in
     let limit : ℤ = pos (sharp_precision beside p flutter) in
     let bounds : SyncBounds = sharp_sync_bounds_of beside p flutter in
     let test : DoubleTest = is_in_sharp_sync beside p flutter in
-    let lasts : Option ℕ = walk_lasts p flutter in
-    let kept : KeepsSharply beside (setting_of p d s) flutter h first = keeps p d s flutter h first sane covered (record { lawful = lawful; whole = whole }) at.unfollowed.synced in
-    let tells : TellsSharply lasts (doubles_of d) first (figures_by (scale_by p bounds limit) test (Some first) h) =
-    tells_by p bounds limit test lasts (doubles_of d) first h whole
-    (λ k low high held.
-    (
-    let near = kept.keeps k low high held in
-    record { even = λ macrotick in_cycle. near.skew macrotick false in_cycle; odd = λ macrotick in_cycle. near.skew macrotick true in_cycle }
-    )) in
     let P : Option ℕ → Type 0 = λ found. TellsSharply lasts (doubles_of d) first (figures_by (scale_by p bounds limit) test found h) in
     let is : first_sharp_sync_of beside p flutter h ≡ Some first = found_is beside p flutter h first at (first_sharp_sync_of beside p flutter h) refl in
-    let held : walk_held beside p flutter ≡ lasts = ap (λ (holds : Bool). if holds then lasts else Some 0) (covered.checks 2 (omega arith) (omega arith)) in
-    let Q : Option ℕ → Type 0 = λ many. TellsSharply many (doubles_of d) first (figures_by (scale_by p bounds limit) test (first_sharp_sync_of beside p flutter h) h) in
-    record { keeps = kept; tells = subst Q (sym held) (subst P (sym is) tells) }
+    subst P (sym is) (tells_by p bounds limit test lasts (doubles_of d) first h whole apart)
+
+pub stays_sharp : CoveredFilesKeepSharply → CoveredFilesKeepSharplyJoined → (p : Values) (d : DriftView) (s : ScriptView) (h : Cycles) (first : ℕ) → IsSane p → DriftFits p d → ScriptFits p s
+    → IsCoveredSharply p d s (flutter_of p d s)
+    → IsLawful (setting_of p d s) h → length h ≡ 2 * doubles_of d → IsFirstSharpSync (has_arbitrary p s) p (flutter_of p d s) h first → KeepsAndTells p d s h first
+stays_sharp keeps joined p d s h first sane drift_fits script_fits covered lawful whole at =
+    record { keeps = alone_keeps; joined = joined_keeps; tells = by (some_join p s) refl }
+  where
+    alone_keeps : some_join p s ≡ false → KeepsSharply (has_arbitrary p s) (setting_of p d s) (flutter_of p d s) h first
+    alone_keeps none = keeps p d s (flutter_of p d s) h first sane (covered.alone none) (record { lawful = lawful; whole = whole }) at.unfollowed.synced
+
+    joined_keeps : some_join p s ≡ true → KeepsSharplyJoined (has_arbitrary p s) (setting_of p d s) (flutter_of p d s) h first
+    joined_keeps some = joined p d s (flutter_of p d s) h first sane drift_fits script_fits (covered.joined some) (record { lawful = lawful; whole = whole }) at.unfollowed
+
+    by : (joins : Bool) → some_join p s ≡ joins
+        → TellsSharply (sharp_held (some_join p s) (has_arbitrary p s) p (flutter_of p d s)) (doubles_of d) first (sharp_figures_of (has_arbitrary p s) p (flutter_of p d s) h)
+    by false none =
+        let beside : Bool = has_arbitrary p s in
+        let flutter : ℕ = flutter_of p d s in
+        let T : Option ℕ → Type 0 = λ lasts. TellsSharply lasts (doubles_of d) first (sharp_figures_of beside p flutter h) in
+        let held : sharp_held (some_join p s) beside p flutter ≡ walk_lasts p flutter =
+        ap (λ (b : Bool). sharp_held b beside p flutter) none ∙ ap (λ (holds : Bool). if holds then walk_lasts p flutter else Some 0) ((covered.alone none).checks 2 (omega arith) (omega arith)) in
+        subst T (sym held) (told_for p d s h first (walk_lasts p flutter) whole at (apart_alone p d s h first (alone_keeps none)))
+    by true some =
+        let beside : Bool = has_arbitrary p s in
+        let flutter : ℕ = flutter_of p d s in
+        let T : Option ℕ → Type 0 = λ lasts. TellsSharply lasts (doubles_of d) first (sharp_figures_of beside p flutter h) in
+        let held : sharp_held (some_join p s) beside p flutter ≡ first_rates_last p flutter = ap (λ (b : Bool). sharp_held b beside p flutter) some in
+        subst T (sym held) (told_for p d s h first (first_rates_last p flutter) whole at (apart_joined p d s h first (joined_keeps some)))

@@ -2,6 +2,7 @@
 use Rattle.std.specs.Prelude.{◌≡◌, ℕ, pos, Bool, List, Option, Some, if◌then◌else◌}
 use Rattle.fr_base.specs.declared.node_row.NodeRow.{NodeRow}
 use Rattle.fr_cluster.specs.Values.{Values}
+use Rattle.fr_coverage.specs.Coverage.{some_join}
 use Rattle.fr_coverage.specs.Flutter.{flutter_of}
 use Rattle.fr_drift.specs.View.{DriftView}
 use Rattle.fr_script.specs.View.{ScriptView}
@@ -9,6 +10,7 @@ use Rattle.fr_time.specs.Position.{grid_for}
 use Rattle.fr_time.specs.declared.grid.Grid.{Grid}
 use Rattle.fr_skew.specs.Sync.{are_in_sync_by_even}
 use Rattle.fr_history.specs.Cycles.{Cycles}
+use Rattle.fr_sharp.specs.JoinedHistories.{first_rates_last}
 use Rattle.fr_sharp.specs.SharpBounds.{sharp_near, sharp_precision, walk_lasts}
 use Rattle.fr_sharp.specs.SharpChecks.{sharp_holds_of}
 use Rattle.fr_sharp.specs.SharpStatement.{has_arbitrary}
@@ -45,12 +47,16 @@ pub record AreScales (grid : Grid) (scales : Scales) : Type 0 where
 abbrev pub walk_held : Bool → Values → ℕ → Option ℕ
 walk_held beside p flutter = if sharp_holds_of 2 flutter (sharp_near beside p flutter) p then walk_lasts p flutter else Some 0
 
+-- where a correct node joins, for as many as it holds it and suffices for first rates
+abbrev pub sharp_held : Bool → Bool → Values → ℕ → Option ℕ
+sharp_held joins beside p flutter = if joins then first_rates_last p flutter else walk_held beside p flutter
+
 -- that of the run of some parameters, a drift and a script, with its own flutter
 abbrev pub basis_of : Values → DriftView → ScriptView → Basis
 basis_of p d s = record {
   flutter = flutter_of p d s;
   beside = has_arbitrary p s;
-  lasts = walk_held (has_arbitrary p s) p (flutter_of p d s);
+  lasts = sharp_held (some_join p s) (has_arbitrary p s) p (flutter_of p d s);
   gap = first_sharp_gap p d s (flutter_of p d s);
   scales = scales_of (has_arbitrary p s) p (flutter_of p d s);
 }

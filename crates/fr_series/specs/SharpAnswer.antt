@@ -1,6 +1,7 @@
 -- The sharper series of the run that accepted files decide.
-use Rattle.std.specs.Prelude.{◌≡◌, ◌↔◌, ℕ, ◌+◌, ◌*◌, ◌≤◌, List, Option, Some, None, IfSome, length}
+use Rattle.std.specs.Prelude.{◌≡◌, ◌↔◌, ℕ, ◌+◌, ◌*◌, ◌≤◌, true, false, List, Option, Some, None, IfSome, length}
 use Rattle.fr_cluster.specs.Values.{Values}
+use Rattle.fr_coverage.specs.Coverage.{some_join}
 use Rattle.fr_coverage.specs.Decided.{setting_of}
 use Rattle.fr_coverage.specs.Flutter.{flutter_of}
 use Rattle.fr_drift.specs.Questions.{doubles_of}
@@ -9,27 +10,30 @@ use Rattle.fr_script.specs.View.{ScriptView}
 use Rattle.fr_skew.specs.declared.peak.Peak.{Peak}
 use Rattle.fr_history.specs.Cycles.{Cycles}
 use Rattle.fr_history.specs.Lawful.{IsLawful}
-use Rattle.fr_sharp.specs.SharpStatement.{has_arbitrary, IsSharplyCovered, KeepsSharply}
+use Rattle.fr_sharp.specs.JoinedFiles.{KeepsSharplyJoined}
+use Rattle.fr_sharp.specs.SharpStatement.{has_arbitrary, KeepsSharply}
 use Rattle.fr_sharp.specs.SharpTested.{IsFirstSharpSync}
-use Rattle.fr_series.specs.Basis.{basis_of, sharp_figures_of, walk_held}
-use Rattle.fr_series.specs.SharpCovered.{first_sharp_gap}
+use Rattle.fr_series.specs.Basis.{basis_of, sharp_figures_of, sharp_held}
+use Rattle.fr_series.specs.SharpCovered.{first_sharp_gap, IsCoveredSharply}
 use Rattle.fr_series.specs.SharpMeaning.{AreSharpFigures}
 use Rattle.fr_series.specs.SharpText.{sharp_above_text, sharp_series_by, sharp_within_text}
 use Rattle.fr_series.specs.declared.figures.Figures.{Figures}
 
--- what figures tell of the skew since a double cycle, where the walk is held for so many since then, on and on without a number,
--- in a run of so many: that none was above the sharper precision, where it is held to the end; and in any case no place in those
--- for which it is
+-- what figures tell of the skew since a double cycle, where the clocks stay so for so many since then, on and on without a number,
+-- in a run of so many: that none was above the sharper precision, where they do to the end; and in any case no place in those for
+-- which they do
 pub record TellsSharply (lasts : Option ℕ) (doubles first : ℕ) (figures : Figures) : Type 0 where
   pub within :
       IfSome lasts (λ held. doubles ≤ first + held) → sharp_within_text figures.synced figures.above ≡ sharp_above_text None
   pub late : (peak : Peak) → figures.above ≡ Some peak → IfSome lasts (λ held. 2 * (first + held) ≤ peak.cycle)
 
--- what a run keeps from its first double cycle in sharp sync on in which no node follows, and what is told of it
+-- what a run keeps from its first double cycle in sharp sync on in which no node follows, where no correct node joins and where one
+-- does, and what is told of it
 pub record KeepsAndTells (p : Values) (d : DriftView) (s : ScriptView) (h : Cycles) (first : ℕ) : Type 0 where
-  pub keeps : KeepsSharply (has_arbitrary p s) (setting_of p d s) (flutter_of p d s) h first
+  pub keeps : some_join p s ≡ false → KeepsSharply (has_arbitrary p s) (setting_of p d s) (flutter_of p d s) h first
+  pub joined : some_join p s ≡ true → KeepsSharplyJoined (has_arbitrary p s) (setting_of p d s) (flutter_of p d s) h first
   pub tells :
-      TellsSharply (walk_held (has_arbitrary p s) p (flutter_of p d s)) (doubles_of d) first
+      TellsSharply (sharp_held (some_join p s) (has_arbitrary p s) p (flutter_of p d s)) (doubles_of d) first
       (sharp_figures_of (has_arbitrary p s) p (flutter_of p d s) h)
 
 -- a text is the sharper series of the lawful cycles of that run: there is one such list of all its cycles and no other. It says
@@ -42,9 +46,9 @@ pub record IsSharpSeriesText (params : Values) (drift : DriftView) (script : Scr
   pub shown : text ≡ sharp_series_by params (basis_of params drift script) cycles
   pub covered :
       (first_sharp_gap params drift script (flutter_of params drift script) ≡ None)
-      ↔ IsSharplyCovered params drift script (flutter_of params drift script)
+      ↔ IsCoveredSharply params drift script (flutter_of params drift script)
   pub keeps :
-      IsSharplyCovered params drift script (flutter_of params drift script) → (first : ℕ)
+      IsCoveredSharply params drift script (flutter_of params drift script) → (first : ℕ)
       → IsFirstSharpSync (has_arbitrary params script) params (flutter_of params drift script) cycles first
       → KeepsAndTells params drift script cycles first
   pub figures : AreSharpFigures params drift script cycles

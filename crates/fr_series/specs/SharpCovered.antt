@@ -1,8 +1,9 @@
--- Whether a run is sharply covered: the first gap in the order in which they are looked for. A correct node joins; a sharper check
--- from the second on fails, the one with the least number; and then the gaps of the run itself. Its flutter is its own, so that it
--- is no gap.
-use Rattle.std.specs.Prelude.{ℕ, ◌+◌, pos, Bool, Option, Some, None, if◌then◌else◌}
-use Rattle.std.specs.Option.{option_map, option_or}
+-- Whether a run is sharply covered: the first gap in the order in which they are looked for. A sharper check from 2 to 5 fails, the
+-- one with the least number; where a correct node joins, one from 6 to 9 does; and then the gaps of the run itself. Its flutter is
+-- its own, so that it is no gap.
+use Rattle.std.specs.Prelude.{◌≡◌, ℕ, ◌+◌, pos, Bool, true, false, Option, Some, None, if◌then◌else◌}
+use Rattle.std.specs.Option.{option_or}
+use Rattle.fr_bound.specs.Checks.{left_of}
 use Rattle.fr_cluster.specs.Values.{Values}
 use Rattle.fr_coverage.specs.Coverage.{gap_of_run, some_join}
 use Rattle.fr_coverage.specs.First.{first_below}
@@ -10,11 +11,16 @@ use Rattle.fr_coverage.specs.declared.gap.Gap.{Gap}
 use Rattle.fr_coverage.specs.declared.gap.Gap.TheVariants as gap
 use Rattle.fr_drift.specs.View.{DriftView}
 use Rattle.fr_script.specs.View.{ScriptView}
+use Rattle.fr_sharp.specs.JoinedFiles.{IsSharplyCoveredToJoin}
 use Rattle.fr_sharp.specs.SharpBounds.{sharp_near}
 use Rattle.fr_sharp.specs.SharpChecks.{sharp_holds_of, sharp_left_of, sharp_right_of}
-use Rattle.fr_sharp.specs.SharpStatement.{has_arbitrary}
-use Rattle.fr_series.specs.declared.sharp_gap.SharpGap.{SharpGap}
-use Rattle.fr_series.specs.declared.sharp_gap.SharpGap.TheVariants.{Join, Other}
+use Rattle.fr_sharp.specs.SharpJoining.{sharp_join_holds_of, sharp_join_right_of}
+use Rattle.fr_sharp.specs.SharpStatement.{has_arbitrary, IsSharplyCovered}
+
+-- a run is sharply covered where no correct node joins, or sharply covered to join where one does
+pub record IsCoveredSharply (p : Values) (d : DriftView) (s : ScriptView) (flutter : ℕ) : Type 0 where
+  pub alone : some_join p s ≡ false → IsSharplyCovered p d s flutter
+  pub joined : some_join p s ≡ true → IsSharplyCoveredToJoin p d s flutter
 
 -- the check of a number fails, with its two sides
 abbrev pub failed_sharp : Bool → Values → ℕ → ℕ → Gap
@@ -29,8 +35,23 @@ sharp_check_gap beside p flutter k =
 abbrev pub sharp_checks_gap : Bool → Values → ℕ → Option Gap
 sharp_checks_gap beside p flutter = first_below (sharp_check_gap beside p flutter) 4
 
+-- the same of nodes that join, numbered from 6
+abbrev pub failed_sharp_join : Bool → Values → ℕ → ℕ → Gap
+failed_sharp_join beside p flutter number = gap.Check number (pos (left_of number p)) (pos (sharp_join_right_of number beside flutter p))
+
+abbrev pub sharp_join_check_gap : Bool → Values → ℕ → ℕ → Option Gap
+sharp_join_check_gap beside p flutter k =
+    if sharp_join_holds_of (k + 6) beside flutter p then None else Some (failed_sharp_join beside p flutter (k + 6))
+
+abbrev pub sharp_join_checks_gap : Bool → Values → ℕ → Option Gap
+sharp_join_checks_gap beside p flutter = first_below (sharp_join_check_gap beside p flutter) 4
+
+-- which are asked where one joins
+abbrev pub sharp_gap_to_join : Bool → Bool → Values → ℕ → Option Gap
+sharp_gap_to_join joins beside p flutter = if joins then sharp_join_checks_gap beside p flutter else None
+
 -- the first gap, if there is one
-abbrev pub first_sharp_gap : Values → DriftView → ScriptView → ℕ → Option SharpGap
+abbrev pub first_sharp_gap : Values → DriftView → ScriptView → ℕ → Option Gap
 first_sharp_gap p d s flutter =
-    if some_join p s then Some Join
-    else option_map Other (option_or (sharp_checks_gap (has_arbitrary p s) p flutter) (gap_of_run p d s))
+    option_or (sharp_checks_gap (has_arbitrary p s) p flutter)
+    (option_or (sharp_gap_to_join (some_join p s) (has_arbitrary p s) p flutter) (gap_of_run p d s))

@@ -1,5 +1,5 @@
 -- What the figures of a sharper series mean, as facts about the files and about the cycles of the run, beside the search for them.
-use Rattle.std.specs.Prelude.{◌≡◌, ◌≢◌, ◌⊎◌, ℕ, ◌<◌, ◌≤◌, ℤ, pos, ◌<ℤ◌, ◌≤ℤ◌, Bool, true, false, length, Option, Some, None}
+use Rattle.std.specs.Prelude.{◌≡◌, ◌≢◌, ◌⊎◌, ℕ, ◌<◌, ◌≤◌, ℤ, pos, ◌<ℤ◌, ◌≤ℤ◌, Bool, true, length, Option, Some, None}
 use Rattle.fr_cluster.specs.Values.{Values, amount}
 use Rattle.fr_cluster.specs.declared.names.ParamName.TheVariants as name
 use Rattle.fr_coverage.specs.Coverage.{some_join}
@@ -15,37 +15,43 @@ use Rattle.fr_history.specs.History.{History}
 use Rattle.fr_history.specs.Skew.{IsEarlierPlace, skew_at}
 use Rattle.fr_sharp.specs.SharpBounds.{sharp_near, sharp_precision}
 use Rattle.fr_sharp.specs.SharpChecks.{FirstSharpFailing, SharpChecksHold}
-use Rattle.fr_sharp.specs.SharpStatement.{has_arbitrary, IsSharplyCovered}
+use Rattle.fr_sharp.specs.SharpJoining.{FirstSharpJoinFailing, SharpJoinChecksHold}
+use Rattle.fr_sharp.specs.SharpStatement.{has_arbitrary}
 use Rattle.fr_sharp.specs.SharpTested.{IsFirstSharpSync, IsUnfollowedSharpSyncAt}
 use Rattle.fr_series.specs.Basis.{sharp_figures_of}
-use Rattle.fr_series.specs.SharpCovered.{failed_sharp, first_sharp_gap}
+use Rattle.fr_series.specs.SharpCovered.{failed_sharp, failed_sharp_join, first_sharp_gap, IsCoveredSharply}
 use Rattle.fr_series.specs.declared.figures.Figures.{Figures}
-use Rattle.fr_series.specs.declared.sharp_gap.SharpGap.{SharpGap}
-use Rattle.fr_series.specs.declared.sharp_gap.SharpGap.TheVariants.{Join, Other}
 
 -- ---- why a run is not sharply covered
 
--- no correct node joins, and of the sharper checks from the second on the one with the least number fails, with both its sides
+-- of the sharper checks from 2 to 5 the one with the least number fails, with both its sides
 pub record IsSharpCheckGap (p : Values) (d : DriftView) (s : ScriptView) (flutter : ℕ) (gap : Gap) : Type 0 where
-  pub none_joins : some_join p s ≡ false
   pub number : ℕ
   pub failing : FirstSharpFailing number (has_arbitrary p s) flutter p
   pub told : gap ≡ failed_sharp (has_arbitrary p s) p flutter number
 
--- no correct node joins, these checks hold, and it is the first gap of the run itself
-pub record IsSharpRunGap (p : Values) (d : DriftView) (s : ScriptView) (flutter : ℕ) (gap : Gap) : Type 0 where
-  pub none_joins : some_join p s ≡ false
+-- these hold, a correct node joins, and of the sharper checks from 6 to 9 the one with the least number fails, with both its sides
+pub record IsSharpJoinGap (p : Values) (d : DriftView) (s : ScriptView) (flutter : ℕ) (gap : Gap) : Type 0 where
   pub checks : SharpChecksHold flutter (sharp_near (has_arbitrary p s) p flutter) p
+  pub joins : some_join p s ≡ true
+  pub number : ℕ
+  pub failing : FirstSharpJoinFailing number (has_arbitrary p s) flutter p
+  pub told : gap ≡ failed_sharp_join (has_arbitrary p s) p flutter number
+
+-- the checks that are asked hold, and it is the first gap of the run itself
+pub record IsSharpRunGap (p : Values) (d : DriftView) (s : ScriptView) (flutter : ℕ) (gap : Gap) : Type 0 where
+  pub checks : SharpChecksHold flutter (sharp_near (has_arbitrary p s) p flutter) p
+  pub to_join : some_join p s ≡ true → SharpJoinChecksHold (has_arbitrary p s) flutter p
   pub first : IsFirstGapOfRun p d s gap
 
--- a correct node joins, a check fails, or the run itself has a gap
-abbrev pub IsFirstSharpGap : Values → DriftView → ScriptView → ℕ → SharpGap → Type 0
-IsFirstSharpGap p d s flutter Join = some_join p s ≡ true
-IsFirstSharpGap p d s flutter (Other gap) = IsSharpCheckGap p d s flutter gap ⊎ IsSharpRunGap p d s flutter gap
+-- a check fails, one of nodes that join does where one does, or the run itself has a gap
+abbrev pub IsFirstSharpGap : Values → DriftView → ScriptView → ℕ → Gap → Type 0
+IsFirstSharpGap p d s flutter gap =
+    IsSharpCheckGap p d s flutter gap ⊎ IsSharpJoinGap p d s flutter gap ⊎ IsSharpRunGap p d s flutter gap
 
 -- what is said where a gap is named, and where none is
-abbrev pub IsSharpGapFound : Values → DriftView → ScriptView → ℕ → Option SharpGap → Type 0
-IsSharpGapFound p d s flutter None = IsSharplyCovered p d s flutter
+abbrev pub IsSharpGapFound : Values → DriftView → ScriptView → ℕ → Option Gap → Type 0
+IsSharpGapFound p d s flutter None = IsCoveredSharply p d s flutter
 IsSharpGapFound p d s flutter (Some gap) = IsFirstSharpGap p d s flutter gap
 
 -- ---- sharp sync

@@ -6,6 +6,7 @@ use Rattle.fr_bound.specs.Sync.{is_in_sync}
 use Rattle.fr_cluster.specs.Values.{Values}
 use Rattle.fr_coverage.specs.Decided.{setting_of}
 use Rattle.fr_coverage.specs.Phrases.{gap_text}
+use Rattle.fr_coverage.specs.declared.gap.Gap.{Gap}
 use Rattle.fr_drift.specs.Questions.{doubles_of}
 use Rattle.fr_drift.specs.View.{DriftView}
 use Rattle.fr_script.specs.View.{ScriptView}
@@ -21,8 +22,6 @@ use Rattle.fr_series.specs.Basis.{basis_of, tally_of}
 use Rattle.fr_series.specs.Scale.{peak_by}
 use Rattle.fr_series.specs.SeriesText.{above_text, greatest_text, series_head, series_row, synced_text, within_text, yes_or_no}
 use Rattle.fr_series.specs.declared.basis.Basis.{Basis}
-use Rattle.fr_series.specs.declared.sharp_gap.SharpGap.{SharpGap}
-use Rattle.fr_series.specs.declared.sharp_gap.SharpGap.TheVariants.{Join, Other}
 use Rattle.fr_series.specs.declared.tally.Tally.{Tally}
 
 -- ---- the cycles: as in a series, with one column more
@@ -65,12 +64,11 @@ abbrev pub sharp_precision_text : ℤ → Bool → List ℕ
 sharp_precision_text precision beside = codes "sharp," ++ signed_decimal precision ++ codes "," ++ beside_or_alone beside ++ codes ",,"
 
 -- whether the run is sharply covered, or why it is not
-abbrev pub sharp_covered_text : Option SharpGap → List ℕ
+abbrev pub sharp_covered_text : Option Gap → List ℕ
 sharp_covered_text None = codes "sharp covered,yes,,,"
-sharp_covered_text (Some Join) = codes "sharp covered,no,,,join"
-sharp_covered_text (Some (Other gap)) = gap_text (codes "sharp covered,no,,,") gap
+sharp_covered_text (Some gap) = gap_text (codes "sharp covered,no,,,") gap
 
--- the first double cycle in sharp sync in which no node follows, and for how many the rate limit holds the walk since then
+-- the first double cycle in sharp sync in which no node follows, and for how many since then it stays so
 abbrev pub doubles_or_on : Option ℕ → List ℕ
 doubles_or_on None = codes "on"
 doubles_or_on (Some doubles) = decimal doubles

@@ -1,17 +1,16 @@
 ghost use Rattle.std.specs.Prelude.{◌≡◌, ◌≤◌};
-ghost use Rattle.fr_series.specs.Basis.{basis_of, scales_of, sharp_scale_of, walk_held, AreScales};
+ghost use Rattle.fr_series.specs.Basis.{basis_of, scales_of, sharp_held, sharp_scale_of, walk_held, AreScales};
 ghost use Rattle.fr_series.specs.Scale.{IsScale};
 ghost use Rattle.fr_sharp.specs.SharpBounds.{most_flutter};
 ghost use Rattle.fr_time.specs.Position.{grid_for};
 
 use crate::scale::Scale;
 use crate::sharp_covered::first_sharp_gap;
-use crate::sharp_gap::SharpGap;
 use fr_cluster::Params;
-use fr_coverage::flutter;
+use fr_coverage::{Gap, flutter, some_join};
 use fr_drift::Drift;
 use fr_script::Script;
-use fr_sharp::{has_arbitrary, sharp_bounds, sharp_lasts, sharp_side};
+use fr_sharp::{first_rates_last, has_arbitrary, sharp_bounds, sharp_lasts, sharp_side};
 use fr_skew::{SyncBounds, sync_bounds};
 use fr_time::grid_of;
 
@@ -31,11 +30,12 @@ pub struct Basis {
     pub flutter: u64,
     /// Whether some sync node is arbitrary.
     pub beside: bool,
-    /// For how many double cycles the rate limit holds the walk of lengths, 0 where the second check fails; None where it
+    /// For how many double cycles the rate limit holds the walk of lengths, 0 where the second check fails; and where a
+    /// correct node joins, for how many it suffices for first rates too, 0 where the sixth check fails. None where it
     /// does on and on.
     pub lasts: Option<u64>,
     /// Why the run is not sharply covered; None where it is.
-    pub gap: Option<SharpGap>,
+    pub gap: Option<Gap>,
     /// What its double cycles and skews are held against.
     pub scales: Scales,
 }
@@ -51,10 +51,21 @@ impl Basis {
         Basis {
             flutter,
             beside,
-            lasts: walk_held(params, beside, flutter),
+            lasts: sharp_held(params, some_join(&params.nodes, script), beside, flutter),
             gap: first_sharp_gap(params, drift, script, flutter),
             scales: scales_for(params, beside, flutter),
         }
+    }
+}
+
+fn sharp_held(params: &Params, joins: bool, beside: bool, flutter: u64) -> Option<u64>
+    requires { flutter ≤ most_flutter }
+    ensures { result ≡ sharp_held joins beside params.now flutter }
+{
+    if joins {
+        first_rates_last(params, flutter)
+    } else {
+        walk_held(params, beside, flutter)
     }
 }
 

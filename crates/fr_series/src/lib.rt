@@ -10,7 +10,6 @@ mod request;
 mod scale;
 mod series;
 mod sharp_covered;
-mod sharp_gap;
 mod sharp_laws;
 mod sharp_lines;
 mod sharp_series;
@@ -28,7 +27,6 @@ pub use laws::{a_covered_run_stays_in_sync, a_series_is_lawful, files_decide_the
 pub use request::{Request, request_of};
 pub use scale::Scale;
 pub use series::answer_series;
-pub use sharp_gap::SharpGap;
 pub use sharp_laws::{
     a_covered_run_stays_in_sharp_sync, a_gap_is_told, a_sharp_series_is_lawful,
     files_decide_the_sharp_series,

@@ -7,9 +7,8 @@ ghost use Rattle.fr_text.specs.Pieces.{Spells, line};
 
 use crate::basis::Basis;
 use crate::lines::yes_or_no;
-use crate::sharp_gap::SharpGap;
 use crate::tally::Tally;
-use fr_coverage::gap_line;
+use fr_coverage::{Gap, gap_line};
 use fr_skew::Peak;
 use fr_text::Piece::{Natural, Signed, Word};
 use fr_text::{Line, Piece, line_of};
@@ -158,13 +157,12 @@ fn kind(beside: bool) -> Piece<'static>
     }
 }
 
-fn covered_line(gap: Option<SharpGap>) -> Line
+fn covered_line(gap: Option<Gap>) -> Line
     ensures { result ≡ line (sharp_covered_text gap) }
 {
     match gap {
         None => line_of(&[Word(b"sharp covered,yes,,,")]),
-        Some(SharpGap::Join) => line_of(&[Word(b"sharp covered,no,,,join")]),
-        Some(SharpGap::Other(gap)) => gap_line(b"sharp covered,no,,,", gap),
+        Some(gap) => gap_line(b"sharp covered,no,,,", gap),
     }
 }
 

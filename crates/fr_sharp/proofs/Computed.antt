@@ -1,5 +1,5 @@
 -- What the bounds, the walk and the checks are computed by.
-use Rattle.std.proofs.Common.{◌≡◌, ◌∙◌, ℕ, zero, suc, ◌+◌, ◌-◌, ◌*◌, ◌/◌, ◌<◌, ◌≤◌, true, false, ℤ, pos, Option, Some, None, List, [], ◌∷◌, length, take, refl, ap, sym, arith}
+use Rattle.std.proofs.Common.{◌≡◌, ◌∙◌, ℕ, zero, suc, ◌+◌, ◌-◌, ◌*◌, ◌/◌, ◌<◌, ◌≤◌, true, false, ℤ, pos, Option, Some, None, List, [], ◌∷◌, length, take, Bool, refl, ap, subst, sym, arith}
 use Rattle.std.specs.Prelude.{◌+ℤ◌, ◌-ℤ◌, ◌*ℤ◌, ◌≤ℤ◌, ◌<ℤ◌, if◌then◌else◌, int_le, int_lt, max, nat_abs, slice_index_or}
 use Rattle.std.specs.Option.{option_map_or}
 use Rattle.std.proofs.lemmas.Int.{ints}
@@ -15,6 +15,7 @@ use Rattle.fr_bound.specs.Settling.{IsSettleCheckOf}
 use Rattle.fr_precision.proofs.Figures.{times_natural}
 use Rattle.fr_sharp.specs.SharpBounds.{last_action, last_of, rate_room, rate_walk, walk_lasts, wide_change}
 use Rattle.fr_sharp.specs.SharpChecks.{IsSharpCheckFor}
+use Rattle.fr_sharp.specs.SharpJoining.{sharp_reach, IsSharpJoinCheckOf}
 use Rattle.fr_sharp.proofs.BoundLemmas.{last_acts_early}
 
 -- ---- the last key slot
@@ -123,3 +124,36 @@ pub later_check : (p : Values) (flutter reach number : ℕ) (sides : CheckSides)
 later_check p flutter reach zero sides other is = record { left = is.left; right = is.right; holds = is.holds }
 later_check p flutter reach (suc zero) sides other is = absurd (other refl)
 later_check p flutter reach (suc (suc number)) sides other is = record { left = is.left; right = is.right; holds = is.holds }
+
+-- ---- the checks of nodes that join
+
+pub later_join_check : (p : Values) (beside : Bool) (flutter reach number : ℕ) (sides : CheckSides) → (number ≡ 6 → ⊥) → 6 ≤ number → number ≤ 9
+    → reach ≡ sharp_reach beside p flutter → IsSettleCheckOf (number - 4) reach p sides → IsSharpJoinCheckOf number beside flutter p sides
+later_join_check p beside flutter reach number sides other from to is check =
+    let At : ℕ → Type 0 = λ r. IsSettleCheckOf (number - 4) r p sides in
+    by number (number - 4) refl other from to (subst At is check)
+  where
+    by : (number less : ℕ) → less ≡ number - 4 → (number ≡ 6 → ⊥) → 6 ≤ number → number ≤ 9 → IsSettleCheckOf less (sharp_reach beside p flutter) p sides → IsSharpJoinCheckOf number beside flutter p sides
+    by zero less same other from to is = absurd (omega (arith, from))
+    by (suc zero) less same other from to is = absurd (omega (arith, from))
+    by (suc (suc zero)) less same other from to is = absurd (omega (arith, from))
+    by (suc (suc (suc zero))) less same other from to is = absurd (omega (arith, from))
+    by (suc (suc (suc (suc zero)))) less same other from to is = absurd (omega (arith, from))
+    by (suc (suc (suc (suc (suc zero))))) less same other from to is = absurd (omega (arith, from))
+    by (suc (suc (suc (suc (suc (suc zero)))))) less same other from to is = absurd (other refl)
+    by (suc (suc (suc (suc (suc (suc (suc zero))))))) less same other from to is =
+        let three : less ≡ 3 = omega (arith, same) in
+        let At : ℕ → Type 0 = λ k. IsSettleCheckOf k (sharp_reach beside p flutter) p sides in
+        let s = subst At three is in
+        record { left = s.left; right = s.right; holds = s.holds }
+    by (suc (suc (suc (suc (suc (suc (suc (suc zero)))))))) less same other from to is =
+        let four : less ≡ 4 = omega (arith, same) in
+        let At : ℕ → Type 0 = λ k. IsSettleCheckOf k (sharp_reach beside p flutter) p sides in
+        let s = subst At four is in
+        record { left = s.left; right = s.right; holds = s.holds }
+    by (suc (suc (suc (suc (suc (suc (suc (suc (suc zero))))))))) less same other from to is =
+        let five : less ≡ 5 = omega (arith, same) in
+        let At : ℕ → Type 0 = λ k. IsSettleCheckOf k (sharp_reach beside p flutter) p sides in
+        let s = subst At five is in
+        record { left = s.left; right = s.right; holds = s.holds }
+    by (suc (suc (suc (suc (suc (suc (suc (suc (suc (suc number)))))))))) less same other from to is = absurd (omega (arith, to))

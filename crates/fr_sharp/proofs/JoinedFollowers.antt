@@ -41,7 +41,7 @@ both_true : (a b : Bool) → a ≡ true → b ≡ true → (a && b) ≡ true
 both_true a b one other = ap₂ (λ c d. c && d) one other
 
 -- a follower neither of whose terms was cut or missing was steady
-steady_at : (p : Values) (evens odds : List Dev) (node : ℕ) (row : NodeRow) → row.node ≡ node
+pub steady_at : (p : Values) (evens odds : List Dev) (node : ℕ) (row : NodeRow) → row.node ≡ node
     → (offset_term_by p evens odds node None).outcome ≡ Within
     → (rate_term_of row.rate p.damping p.rate_limit (rate_values_by p evens odds node None)).outcome ≡ Within
     → is_steady p evens odds row ≡ true

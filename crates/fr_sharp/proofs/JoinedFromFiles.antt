@@ -31,13 +31,14 @@ use Rattle.fr_runs.proofs.Rows.{each_row}
 use Rattle.fr_runs.proofs.Whole.{double_runs}
 use Rattle.fr_sharp.specs.SharpBounds.{rate_walk}
 use Rattle.fr_sharp.specs.SharpHistories.{IsInSharpSyncAt}
-use Rattle.fr_sharp.specs.JoinedFiles.{IsSharplyCoveredToJoin, JoinedFilesKeepSharpPrecision}
+use Rattle.fr_sharp.specs.JoinedFiles.{CoveredFilesKeepSharplyJoined, IsSharplyCoveredToJoin, JoinedFilesKeepSharpPrecision}
 use Rattle.fr_sharp.specs.SharpJoined.{IsSteadyJoined}
 use Rattle.fr_sharp.specs.SharpJoining.{sharp_reach}
 use Rattle.fr_sharp.specs.SharpStatement.{has_arbitrary}
 use Rattle.fr_sharp.specs.SteadyRuns.{IsSteadySetting}
 use Rattle.fr_sharp.proofs.BoundLemmas.{first_check_stops_walk}
 use Rattle.fr_sharp.proofs.FromFiles.{arbitrary_is_told, files_are_steady}
+use Rattle.fr_sharp.proofs.JoinedCycles.{joined_histories_keep_sharp_precision}
 use Rattle.fr_sharp.proofs.JoinedListeners.{joined_listeners_join}
 use Rattle.fr_sharp.proofs.JoinedStarts.{steady_starts_are_natural}
 use Rattle.fr_sharp.proofs.RowsSupplied.{double_within}
@@ -113,11 +114,11 @@ reference_starts p d s flutter h sane fits w node join there at earlier even odd
     let Natural : ℕ → Type 0 = λ id. pos 0 ≤ℤ (row_for even.told.rows id).start in
     subst Natural r.named (each_row (row_nodes x earlier) even.told.rows (λ row. pos 0 ≤ℤ row.start) r.reference runs.1.0.rows.nodes among all)
 
-pub joined_files_keep_sharp_precision : JoinedFilesKeepSharpPrecision
-joined_files_keep_sharp_precision p d s drift script flutter h double sane drift_file script_file covered run sync =
+pub covered_files_keep_sharply_joined : CoveredFilesKeepSharplyJoined
+covered_files_keep_sharply_joined p d s flutter h double sane drift_fits script_fits covered run sync =
     let beside = has_arbitrary p s in
     let x = setting_of p d s in
-    let w = joined_run p d s flutter h sane (script_of_a_file_fits p s script script_file) covered run in
+    let w = joined_run p d s flutter h sane script_fits covered run in
     let keeps = joined_histories_keep_sharp_sync beside x flutter h double w sync in
     record {
       keeps = keeps;
@@ -128,9 +129,14 @@ joined_files_keep_sharp_precision p d s drift script flutter h double sane drift
           let still = (first_check_stops_walk p flutter (sharp_reach beside p flutter) sane).0 first in
           let At : ℤ → Type 0 = λ z. IsInSharpSyncAt beside p flutter z h (double + passed) in
           (subst At (still_zero (rate_walk p flutter) (pos passed *ℤ rate_walk p flutter) still) stays.synced, stays.keeps (last passed));
+      on = λ first m within. first_rates_last_on beside p flutter (sharp_reach beside p flutter) m sane first covered.checks;
+      cycles = joined_histories_keep_sharp_precision beside x flutter h double w sync;
       joins =
-          λ first node join there at from.
-          joined_listeners_join beside x flutter h double node join w sync
-          (λ m within. first_rates_last_on beside p flutter (sharp_reach beside p flutter) m sane first covered.checks) there at from
-          (reference_starts p d s flutter h sane (drift_of_a_file_fits p d drift drift_file) w node join there at);
+          λ last node join there at from.
+          joined_listeners_join beside x flutter h double node join w sync last there at from
+          (reference_starts p d s flutter h sane drift_fits w node join there at);
     }
+
+pub joined_files_keep_sharp_precision : JoinedFilesKeepSharpPrecision
+joined_files_keep_sharp_precision p d s drift script flutter h double sane drift_file script_file covered run sync =
+    covered_files_keep_sharply_joined p d s flutter h double sane (drift_of_a_file_fits p d drift drift_file) (script_of_a_file_fits p s script script_file) covered run sync

@@ -1,48 +1,53 @@
 -- A run that nodes join: from a double cycle in sharp sync in which none follows each one is, while first rates last.
 use Rattle.std.proofs.Common.{◌≡◌, ℕ, zero, suc, ◌+◌, ◌*◌, ◌<◌, ◌≤◌, Bool, true, false, if◌then◌else◌, ℤ, pos, Option, Some, All, [], ◌∷◌, refl, ap, sym, ◌∙◌, subst, inl, arith}
-use Rattle.std.specs.Prelude.{◌+ℤ◌, ◌*ℤ◌, ◌≤ℤ◌, IfSome, int_le}
+use Rattle.std.specs.Prelude.{◌+ℤ◌, ◌*ℤ◌, ◌≤ℤ◌, Contains, IfSome, int_le, is_some}
 use Rattle.std.specs.Option.{option_map, option_map_or}
 use Rattle.std.proofs.lemmas.Int.{ints}
 use Rattle.fr_base.specs.Within.{IsWithin}
+use Rattle.fr_base.specs.declared.state.Outcome.TheVariants.{Within}
 use Rattle.fr_base.specs.declared.state.State.TheVariants.{Active}
 use Rattle.fr_cluster.specs.Sane.{IsSane}
-use Rattle.fr_cluster.specs.Setting.{Setting}
+use Rattle.fr_cluster.specs.Setting.{Setting, correct_nodes}
 use Rattle.fr_cluster.specs.Values.{Values, amount}
 use Rattle.fr_cluster.specs.declared.names.ParamName.TheVariants as name
 use Rattle.fr_cluster.specs.declared.nodes.NodeSpec.{NodeSpec}
+use Rattle.fr_cluster.proofs.Elements.{kept_filtered}
 use Rattle.fr_time.specs.Cycles.{odd_cycle}
 use Rattle.fr_time.specs.Position.{grid_for}
 use Rattle.fr_midpoint.proofs.Products.{addz-mulz}
 use Rattle.fr_correct.specs.declared.term.Term.{Term}
 use Rattle.fr_bound.specs.Checks.{holds_of, left_of, right_of}
 use Rattle.fr_precision.specs.Instants.{gap_of}
-use Rattle.fr_precision.specs.Round.{Hearer}
+use Rattle.fr_precision.specs.Round.{senders_of, Hearer}
 use Rattle.fr_precision.proofs.Figures.{nat_le-true}
 use Rattle.fr_skew.specs.Spreads.{spread_at}
 use Rattle.fr_history.specs.Cycles.{Cycle, Cycles, cycle_at, told_of}
-use Rattle.fr_history.specs.History.{row_for, Record, record_at}
+use Rattle.fr_history.specs.History.{row_for, row_of, Record, record_at}
 use Rattle.fr_history.specs.Laws.{row_laws}
 use Rattle.fr_history.specs.Rows.{offset_after}
 use Rattle.fr_history.specs.Skew.{skew_at}
-use Rattle.fr_history.specs.Standing.{row_nodes}
-use Rattle.fr_history.specs.Terms.{offset_term_in}
-use Rattle.fr_runs.specs.Gathered.{row_hearer}
-use Rattle.fr_runs.specs.Hearers.{member_from}
+use Rattle.fr_history.specs.Standing.{has_row, row_nodes}
+use Rattle.fr_history.specs.Terms.{offset_term_in, status_in}
+use Rattle.fr_runs.specs.Gathered.{hearers_of, round_at, row_hearer}
+use Rattle.fr_runs.specs.Hearers.{group_of, member_from, IsOneOf}
 use Rattle.fr_runs.specs.Links.{cycle_in}
 use Rattle.fr_runs.specs.Rounds.{IsDoubleOf}
 use Rattle.fr_runs.proofs.Courses.{row_term_is}
 use Rattle.fr_runs.proofs.Doubles.{even_length, odd_length}
 use Rattle.fr_runs.proofs.Joined.{is_of}
-use Rattle.fr_runs.proofs.Outcomes.{active_after}
+use Rattle.fr_runs.proofs.Outcomes.{active_after, begun_active, outcomes_none}
 use Rattle.fr_runs.proofs.Parts.{double_at, even_is, odd_is, told_at, DoubleAt}
 use Rattle.fr_runs.proofs.Receivers.{no_less}
-use Rattle.fr_runs.proofs.Rows.{each_row, row_runs_by}
+use Rattle.fr_runs.proofs.Rows.{contains_map, each_row, row_runs_by}
 use Rattle.fr_runs.proofs.Spread.{macrotick_within, spread_within}
+use Rattle.fr_runs.proofs.Standing.{has_stays, is_none, told_has}
 use Rattle.fr_runs.proofs.Whole.{prior_of}
 use Rattle.fr_sharp.specs.Lengths.{walked_after}
 use Rattle.fr_sharp.specs.SharpBounds.{rate_walk, sharp_precision}
 use Rattle.fr_sharp.specs.SharpChecks.{RateSuffices}
+use Rattle.fr_sharp.specs.SharpGroup.{IsSharpGroupKept}
 use Rattle.fr_sharp.specs.SharpHistories.{IsInSharpSyncAt}
+use Rattle.fr_sharp.specs.SharpJoining.{sharp_reach}
 use Rattle.fr_sharp.specs.SharpStep.{IsInSharpSync}
 use Rattle.fr_sharp.specs.SharpRun.{WalkLastsAfter}
 use Rattle.fr_sharp.specs.SharpListening.{RateTakesIn}
@@ -52,9 +57,10 @@ use Rattle.fr_sharp.specs.JoinedHistories.{FirstRatesLast, FirstRatesLastOn, Joi
 use Rattle.fr_sharp.proofs.BoundLemmas.{first_check_stops_walk, walk_is_held, walked_none}
 use Rattle.fr_sharp.proofs.OlderLemmas.{does_not_walk}
 use Rattle.fr_sharp.proofs.JoinBounds.{sharp_join_checks_suffice_lem}
-use Rattle.fr_sharp.proofs.JoinedDoubles.{joined_doubles_are_kept, joined_is_in_sharp_sync, joined_part, row_member, unfollowed_is_joined}
+use Rattle.fr_sharp.proofs.JoinedDoubles.{joined_doubles_are_kept, joined_is_in_sharp_sync, joined_part, unfollowed_is_joined}
 use Rattle.fr_sharp.proofs.JoinedNext.{joined_doubles_go_on}
-use Rattle.fr_sharp.proofs.RowsSupplied.{lawful_rows}
+use Rattle.fr_sharp.proofs.JoinedUncut.{even_uncut, odd_uncut, terms_within}
+use Rattle.fr_sharp.proofs.RowsSupplied.{lawful_rows, LawfulRows}
 use Rattle.fr_sharp.proofs.RunDoubles.{rows_lie}
 
 -- ---- numbers
@@ -183,32 +189,59 @@ module _ (beside : Bool) (x : Setting) (flutter : ℕ) (h : Cycles) (w : IsStead
   module _
       (k : ℕ) (beyond walk next : ℤ) (earlier : Cycles) (even odd : Cycle) (d : IsDoubleOf h k earlier even odd) (n : WalksJoined beside x flutter beyond walk next)
       (g : IsJoinedDouble beside x flutter beyond earlier even odd k) where
-    none_is_cut : NoneIsCut x earlier even odd k
-    none_is_cut =
+    lawful : LawfulRows x flutter earlier even odd k
+    lawful = lawful_rows x flutter h (joined_part beside x flutter h w) k earlier even odd d
+
+    kept :
+        IsSharpGroupKept beside x.params flutter beyond next (senders_of (round_at x earlier even odd)) (group_of x.params (hearers_of x earlier even odd k))
+        (pos (sharp_reach beside x.params flutter))
+    kept = joined_doubles_are_kept beside x flutter h k earlier even odd beyond walk next w d n g
+
+    offset_within : (m : Hearer) → IsOneOf (hearers_of x earlier even odd k) m → (member_from x.params m).offset_term.outcome ≡ Within
+    offset_within m one = kept.uncut (member_from x.params m) (is_of x earlier even odd k m one)
+
+    rate_within : (m : Hearer) → IsOneOf (hearers_of x earlier even odd k) m → (member_from x.params m).rate_term.outcome ≡ Within
+    rate_within m one = (kept.range (member_from x.params m) (is_of x earlier even odd k m one)).uncut
+
+    row_active : (node : NodeSpec) → Contains (row_nodes x earlier) node → (status_in x.params (told_of (odd ∷ even ∷ earlier)) node.id).state ≡ Active
+    row_active node among =
         let p = x.params in
-        let s = lawful_rows x flutter h (joined_part beside x flutter h w) k earlier even odd d in
-        let kept = joined_doubles_are_kept beside x flutter h k earlier even odd beyond walk next w d n g in
-        record {
-          offset_within = λ m one. kept.uncut (member_from p m) (is_of x earlier even odd k m one);
-          rate_within = λ m one. (kept.range (member_from p m) (is_of x earlier even odd k m one)).uncut;
-          active =
-              λ node among.
-              let at : NodeSpec → Hearer = λ m. row_hearer x even odd m.id in
-              let early = row_runs_by (row_laws x earlier) (offset_after p (told_of earlier) even.told) (row_nodes x earlier) even.told.rows node s.two.even_rows among in
-              let late = row_runs_by (row_laws x (even ∷ earlier)) (offset_after p (told_of (even ∷ earlier)) odd.told) (row_nodes x earlier) odd.told.rows node s.two.odd_rows among in
-              let active = each_row (row_nodes x earlier) even.told.rows (λ row. row.state ≡ Active) node s.two.even_rows.nodes among g.active_even in
-              let member = row_member beside x flutter earlier even odd k beyond s w.arbitrary g node among in
-              active_after x earlier even odd k node.id (row_for odd.told.rows node.id) s.counted late.has.is (sym early.state ∙ active)
-              (ap (λ m. (offset_term_in p (told_of (even ∷ earlier)) odd.told.devs m).outcome) late.has.number ∙ kept.uncut (member_from p (at node)) (inl (inl member)))
-              (ap (λ (t : Term). t.outcome) (row_term_is x earlier even odd node.id late.has.number) ∙ (kept.range (member_from p (at node)) (inl (inl member))).uncut);
-        }
+        let s = lawful in
+        let at : NodeSpec → Hearer = λ m. row_hearer x even odd m.id in
+        let early = row_runs_by (row_laws x earlier) (offset_after p (told_of earlier) even.told) (row_nodes x earlier) even.told.rows node s.two.even_rows among in
+        let late = row_runs_by (row_laws x (even ∷ earlier)) (offset_after p (told_of (even ∷ earlier)) odd.told) (row_nodes x earlier) odd.told.rows node s.two.odd_rows among in
+        let active = each_row (row_nodes x earlier) even.told.rows (λ row. row.state ≡ Active) node s.two.even_rows.nodes among g.active_even in
+        let one : IsOneOf (hearers_of x earlier even odd k) (at node) = inl (inl (contains_map at (row_nodes x earlier) node among)) in
+        active_after x earlier even odd k node.id (row_for odd.told.rows node.id) s.counted late.has.is (sym early.state ∙ active)
+        (ap (λ m. (offset_term_in p (told_of (even ∷ earlier)) odd.told.devs m).outcome) late.has.number ∙ offset_within (at node) one)
+        (ap (λ (t : Term). t.outcome) (row_term_is x earlier even odd node.id late.has.number) ∙ rate_within (at node) one)
+
+    -- of a node without a row no term was told, so it stands as it begins
+    all_active : (node : NodeSpec) → Contains (correct_nodes x) node → (status_in x.params (told_of (odd ∷ even ∷ earlier)) node.id).state ≡ Active
+    all_active node there = by_kind (has_row x earlier node.id) refl
+      where
+        by_kind : (b : Bool) → has_row x earlier node.id ≡ b → (status_in x.params (told_of (odd ∷ even ∷ earlier)) node.id).state ≡ Active
+        by_kind true has = row_active node (kept_filtered (λ (n : NodeSpec). has_row x earlier n.id) (correct_nodes x) node there has)
+        by_kind false has =
+            let s = lawful in
+            let untold : is_some (row_of odd.told.rows node.id) ≡ false =
+            told_has x (even ∷ earlier) odd node s.odd_runs there ∙ has_stays x earlier even k node s.counted s.even_runs there ∙ has in
+            let none = is_none (row_of odd.told.rows node.id) untold in
+            begun_active x (odd ∷ even ∷ earlier) node.id (outcomes_none x earlier even odd k node.id s.counted none ∙ g.fresh node there has)
+
+    none_is_cut : NoneIsCut x earlier even odd
+    none_is_cut = record {
+      within = terms_within x flutter earlier even odd k lawful g.active_odd offset_within rate_within;
+      uncut_even = even_uncut x flutter earlier even odd k lawful g.active_odd offset_within rate_within;
+      uncut_odd = odd_uncut x flutter earlier even odd k lawful g.active_odd offset_within rate_within;
+      active = all_active;
+    }
 
     skew_in : (macrotick : ℕ) (is_odd : Bool) → macrotick < amount x.params name.gMacroPerCycle
         → skew_at x.params (told_of h) (cycle_in is_odd k) macrotick ≤ℤ pos (sharp_precision beside x.params flutter)
     skew_in macrotick is_odd less =
         let p = x.params in
-        let s = lawful_rows x flutter h (joined_part beside x flutter h w) k earlier even odd d in
-        let kept = joined_doubles_are_kept beside x flutter h k earlier even odd beyond walk next w d n g in
+        let s = lawful in
         let lie =
         rows_lie x flutter earlier even odd k s (pos (sharp_precision beside x.params flutter)) macrotick
         (λ is_odd one other here there. kept.precise one other (pos macrotick) is_odd here there (no_less macrotick) (macrotick_within p macrotick s.covered.sane less)) in

@@ -63,7 +63,10 @@ pub mod JoinedDoubles
 pub mod JoinedNodes
 pub mod JoinedMoves
 pub mod JoinedNext
+pub mod JoinedUncut
 pub mod JoinedRuns
+pub mod JoinedCycles
+pub mod FirstRates
 pub mod JoinedFromFiles
 pub mod JoinedFollowers
 pub mod JoinedBeginning

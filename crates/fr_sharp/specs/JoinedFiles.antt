@@ -1,15 +1,15 @@
 -- What the files of a run that nodes join promise, where they are sharply covered to join. The words of it, from the top: `IsLawful`
 -- (what a run is), `IsSharplyCoveredToJoin` (what is asked of the files), `sharp_precision`, `IsUnfollowedSharpSyncAt`,
--- `FirstRatesLast`, `KeepsJoined`.
+-- `FirstRatesLast`, `KeepsJoined`, `CyclesKeepJoined`.
 use Rattle.std.specs.Prelude.{◌≡◌, ◌<◌, ◌≤◌, ◌+◌, ℕ, pos, Bool, true, List, Contains, Some}
 use Rattle.fr_cluster.specs.Sane.{IsSane}
 use Rattle.fr_cluster.specs.Setting.{Setting, correct_nodes}
 use Rattle.fr_cluster.specs.Values.{Values}
 use Rattle.fr_cluster.specs.declared.join.Join.{Join}
 use Rattle.fr_cluster.specs.declared.nodes.NodeSpec.{NodeSpec}
-use Rattle.fr_drift.specs.Files.{IsDriftFile}
+use Rattle.fr_drift.specs.Files.{DriftFits, IsDriftFile}
 use Rattle.fr_drift.specs.View.{DriftView}
-use Rattle.fr_script.specs.Files.{IsScriptFile}
+use Rattle.fr_script.specs.Files.{IsScriptFile, ScriptFits}
 use Rattle.fr_script.specs.View.{ScriptView}
 use Rattle.fr_coverage.specs.Decided.{setting_of}
 use Rattle.fr_coverage.specs.Flutter.{flutter_of}
@@ -17,7 +17,7 @@ use Rattle.fr_coverage.specs.Order.{HasNoGapOfRun}
 use Rattle.fr_history.specs.Cycles.{Cycles}
 use Rattle.fr_promise.specs.Statement.{IsRunOf}
 use Rattle.fr_runs.specs.Whole.{IsJoined}
-use Rattle.fr_sharp.specs.JoinedHistories.{FirstRatesLast, KeepsJoined, StaysJoined}
+use Rattle.fr_sharp.specs.JoinedHistories.{CyclesKeepJoined, FirstRatesLast, FirstRatesLastToEnd, KeepsJoined, StaysJoined}
 use Rattle.fr_sharp.specs.SharpBounds.{sharp_precision}
 use Rattle.fr_sharp.specs.SharpChecks.{sharp_holds_of}
 use Rattle.fr_sharp.specs.SharpHistories.{IsInSharpSyncAt}
@@ -45,9 +45,15 @@ pub record KeepsSharplyJoined (beside : Bool) (x : Setting) (flutter : ℕ) (h :
       sharp_holds_of 1 flutter (sharp_reach beside x.params flutter) x.params ≡ true → (passed : ℕ) → double + passed < x.doubles
       → IsInSharpSyncAt beside x.params flutter (pos 0) h (double + passed)
       × KeepsJoined x h (double + passed) (sharp_precision beside x.params flutter)
+  -- then first rates last to the end of the run
+  pub on :
+      sharp_holds_of 1 flutter (sharp_reach beside x.params flutter) x.params ≡ true → FirstRatesLastToEnd x flutter double
+  -- and where they do it is so by the cycle, to the end of the run
+  pub cycles :
+      FirstRatesLastToEnd x flutter double → CyclesKeepJoined x h double (sharp_precision beside x.params flutter)
   -- and whoever listens in a double cycle e from this one on follows in cycles 2 e + 2 to 2 e + 5, and takes part from 2 e + 6 on
   pub joins :
-      sharp_holds_of 1 flutter (sharp_reach beside x.params flutter) x.params ≡ true → (node : NodeSpec) (join : Join)
+      FirstRatesLastToEnd x flutter double → (node : NodeSpec) (join : Join)
       → Contains (correct_nodes x) node → x.join node.id ≡ Some join → double ≤ join.double → IsJoined h node.id join
 
 -- the promise: of three accepted files that are sharply covered to join, from each double cycle in sharp sync on in which no node
@@ -56,5 +62,13 @@ abbrev pub JoinedFilesKeepSharpPrecision : Type 0
 JoinedFilesKeepSharpPrecision =
     (p : Values) (d : DriftView) (s : ScriptView) (drift script : List ℕ) (flutter : ℕ) (h : Cycles) (double : ℕ)
     → IsSane p → IsDriftFile p d drift → IsScriptFile p s script → IsSharplyCoveredToJoin p d s flutter → IsRunOf (setting_of p d s) h
+    → IsUnfollowedSharpSyncAt (has_arbitrary p s) p flutter h double
+    → KeepsSharplyJoined (has_arbitrary p s) (setting_of p d s) flutter h double
+
+-- so it is of any sane parameters, and of a drift and a script that fit them, that are sharply covered to join
+abbrev pub CoveredFilesKeepSharplyJoined : Type 0
+CoveredFilesKeepSharplyJoined =
+    (p : Values) (d : DriftView) (s : ScriptView) (flutter : ℕ) (h : Cycles) (double : ℕ)
+    → IsSane p → DriftFits p d → ScriptFits p s → IsSharplyCoveredToJoin p d s flutter → IsRunOf (setting_of p d s) h
     → IsUnfollowedSharpSyncAt (has_arbitrary p s) p flutter h double
     → KeepsSharplyJoined (has_arbitrary p s) (setting_of p d s) flutter h double

@@ -1,12 +1,13 @@
 -- Nodes that join, by the sharper bounds: how far a node that follows may lie from the others, in ticks, and the checks under
 -- which it does, with the same two sets of numbers.
-use Rattle.std.specs.Prelude.{ℕ, suc, zero, ◌+◌, ◌-◌, ◌*◌, ◌/◌, ◌≤◌, ◌≡◌, pos, ◌+ℤ◌, Bool, true, false, nat_le}
+use Rattle.std.specs.Prelude.{ℕ, suc, zero, ◌+◌, ◌-◌, ◌*◌, ◌/◌, ◌<◌, ◌≤◌, ◌≡◌, pos, ◌+ℤ◌, Bool, true, false, nat_le}
 use Rattle.fr_cluster.specs.Values.{Values, amount}
 use Rattle.fr_cluster.specs.Sane.{IsSane}
 use Rattle.fr_cluster.specs.declared.names.ParamName.TheVariants as name
 use Rattle.fr_bound.specs.Bounds.{arrival_error, cycle_change, longest_micro}
 use Rattle.fr_bound.specs.Checks.{holds_of, left_of, right_of}
 use Rattle.fr_bound.specs.Settling.{settle_holds_of, settle_right_of}
+use Rattle.fr_bound.specs.declared.checking.CheckSides.{CheckSides}
 use Rattle.fr_precision.specs.Offsets.{LimitSuffices}
 use Rattle.fr_precision.specs.Reception.{LeavesRoom}
 use Rattle.fr_sharp.specs.SharpBounds.{near_by, odd_spread, sharp_lambda, sharp_near, sharp_pi, steady_error}
@@ -83,6 +84,19 @@ sharp_join_holds_of (suc (suc (suc (suc (suc (suc (suc (suc zero)))))))) beside 
 sharp_join_holds_of (suc (suc (suc (suc (suc (suc (suc (suc (suc zero))))))))) beside flutter p =
     settle_holds_of 5 (sharp_reach beside p flutter) p
 sharp_join_holds_of other beside flutter p = true
+
+-- both sides of a check, and whether it holds
+pub record IsSharpJoinCheckOf (number : ℕ) (beside : Bool) (flutter : ℕ) (p : Values) (sides : CheckSides) : Type 0 where
+  pub left : sides.left ≡ pos (left_of number p)
+  pub right : sides.right ≡ pos (sharp_join_right_of number beside flutter p)
+  pub holds : sides.holds ≡ sharp_join_holds_of number beside flutter p
+
+-- the one of this number fails, and those of lesser numbers hold
+pub record FirstSharpJoinFailing (number : ℕ) (beside : Bool) (flutter : ℕ) (p : Values) : Type 0 where
+  pub from : 6 ≤ number
+  pub to : number ≤ 9
+  pub fails : sharp_join_holds_of number beside flutter p ≡ false
+  pub earlier : (k : ℕ) → 6 ≤ k → k < number → sharp_join_holds_of k beside flutter p ≡ true
 
 -- every one of the four holds
 abbrev pub SharpJoinChecksHold : Bool → ℕ → Values → Type 0

@@ -60,7 +60,7 @@ pub fn sharp_lasts(params: &Params, flutter: u64) -> Option<u64>
 }
 
 // What adds to the walk in a double cycle, and what the damping takes off it.
-fn walk(params: &Params, flutter: u64) -> (u64, u64)
+pub(crate) fn walk(params: &Params, flutter: u64) -> (u64, u64)
     requires { flutter ≤ most_flutter }
     ensures value { rate_walk params.now flutter ≡ pos result.0 -ℤ pos result.1 }
 {
@@ -75,7 +75,7 @@ fn walk(params: &Params, flutter: u64) -> (u64, u64)
 }
 
 // How far beyond their range the rate limit can follow.
-fn room(params: &Params) -> u64
+pub(crate) fn room(params: &Params) -> u64
     ensures { result ≡ rate_room params.now }
 {
     let limit = params.natural(ParamName::pRateCorrectionOut) * shortest_microtick(params);
@@ -94,7 +94,7 @@ pub(crate) fn wide_change(params: &Params) -> u64
 }
 
 // How far a rate value may place the length of a sender's even cycle from the true one.
-fn steady_error(params: &Params, flutter: u64) -> u64
+pub(crate) fn steady_error(params: &Params, flutter: u64) -> u64
     requires { flutter ≤ most_flutter }
     ensures value { result ≡ steady_error params.now flutter }
     ensures most { result ≤ 2_000_000_000 }

@@ -17,6 +17,7 @@ mod grouping;
 mod halting_run;
 mod hearing;
 mod histories;
+mod join_checking;
 mod joined;
 mod joined_files;
 mod joined_histories;
@@ -53,8 +54,9 @@ pub use histories::{
     histories_come_into_sharp_sync, histories_keep_sharp_sync, histories_settle_sharply,
     stated_runs_are_steady,
 };
+pub use join_checking::{first_rates_last, sharp_join_checks, sharp_join_side, sharp_reach};
 pub use joined::joined_doubles_go_on;
-pub use joined_files::joined_files_keep_sharp_precision;
+pub use joined_files::{covered_files_keep_sharply_joined, joined_files_keep_sharp_precision};
 pub use joined_histories::joined_histories_keep_sharp_sync;
 pub use joining::{followers_come_nearer, sharp_join_checks_suffice};
 pub use lasting::sharp_sync_lasts;

@@ -7,4 +7,4 @@ pub returns : goal.returns
 returns c = λ p d s sane.
     let finds = c.found_gap_of_run_is_first.ensures p d s sane in
     let most : flutter_of p d s ≤ flutter_of p d s = omega arith in
-    (covered_from p d s (flutter_of p d s) finds most, no_sharp_gap p d s (flutter_of p d s) finds)
+    (covered_from p d s (flutter_of p d s) finds most, no_sharp_gap p d s (flutter_of p d s) sane finds)
