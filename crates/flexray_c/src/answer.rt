@@ -1,11 +1,11 @@
-ghost use Rattle.std.specs.Prelude.{◌≡◌, [], IsUtf8};
+ghost use Rattle.std.specs.Prelude.{◌≡◌};
 ghost use Rattle.fr_answer.specs.Answer.{flexray_program};
 ghost use Rattle.fr_program.specs.Program.{texts};
 ghost use Rattle.fr_series.specs.Request.{series_program};
 ghost use Rattle.flexray_c.specs.Call.{CallEnds};
 ghost use Rattle.flexray_c.specs.Shown.{places_of};
 ghost use Rattle.flexray_c.specs.Lent.{lent_state};
-ghost use Rattle.flexray_c.specs.Words.{unended, words_in};
+ghost use Rattle.flexray_c.specs.Words.{lines_in};
 
 use crate::kept::KeptText;
 use crate::lent::LentFiles;
@@ -13,18 +13,16 @@ use crate::shown::{Texts, hand_over, unanswered};
 use crate::words::words_of;
 use std::alloc::Global;
 
-// What `flexray` answers to the words in a text.
+// What `flexray` answers to the words in the lines of a text.
 pub(crate) fn answer_flexray(
     alloc: Global,
-    text: &[u8],
+    text: &str,
     files: LentFiles<'_>,
     out: &mut [u8],
     err: &mut [u8],
     told: &mut Texts,
 ) -> u32
-    ensures text { IsUtf8 (unended text.now) → CallEnds flexray_program (words_in text.now) (lent_state files)
-        (places_of out.old out.new err.old err.new told.new) result }
-    ensures no_text { ¬ IsUtf8 (unended text.now) → CallEnds flexray_program (words_in []) (lent_state files)
+    ensures { CallEnds flexray_program (lines_in text.now) (lent_state files.entry)
         (places_of out.old out.new err.old err.new told.new) result }
 {
     match words_of(alloc, text) {
@@ -41,7 +39,7 @@ fn call_flexray(
     err: &mut [u8],
     told: &mut Texts,
 ) -> u32
-    ensures { CallEnds flexray_program (texts words.now) (lent_state files)
+    ensures { CallEnds flexray_program (texts words.now) (lent_state files.entry)
         (places_of out.old out.new err.old err.new told.new) result }
 {
     let mut files = files;
@@ -51,18 +49,16 @@ fn call_flexray(
     hand_over(status, &text, &line, out, err, told)
 }
 
-// What `flexray-series` answers to the words in a text.
+// What `flexray-series` answers to the words in the lines of a text.
 pub(crate) fn answer_series(
     alloc: Global,
-    text: &[u8],
+    text: &str,
     files: LentFiles<'_>,
     out: &mut [u8],
     err: &mut [u8],
     told: &mut Texts,
 ) -> u32
-    ensures text { IsUtf8 (unended text.now) → CallEnds series_program (words_in text.now) (lent_state files)
-        (places_of out.old out.new err.old err.new told.new) result }
-    ensures no_text { ¬ IsUtf8 (unended text.now) → CallEnds series_program (words_in []) (lent_state files)
+    ensures { CallEnds series_program (lines_in text.now) (lent_state files.entry)
         (places_of out.old out.new err.old err.new told.new) result }
 {
     match words_of(alloc, text) {
@@ -79,7 +75,7 @@ fn call_series(
     err: &mut [u8],
     told: &mut Texts,
 ) -> u32
-    ensures { CallEnds series_program (texts words.now) (lent_state files)
+    ensures { CallEnds series_program (texts words.now) (lent_state files.entry)
         (places_of out.old out.new err.old err.new told.new) result }
 {
     let mut files = files;

@@ -9,6 +9,7 @@ ghost use Rattle.flexray_c.specs.Words.{unended, words_in};
 use crate::answer::{answer_flexray, answer_series};
 use crate::lent::LentFiles;
 use crate::shown::Texts;
+use crate::words::text_of;
 use std::alloc::Global;
 
 /// The version of the library: 10,000 times the major one, 100 times the minor one, and the patch.
@@ -39,7 +40,7 @@ pub extern "C" fn flexray_request(
 {
     answer_flexray(
         alloc,
-        words,
+        text_of(words),
         LentFiles::new(first, second, third),
         out,
         err,
@@ -66,7 +67,7 @@ pub extern "C" fn flexray_series_request(
 {
     answer_series(
         alloc,
-        words,
+        text_of(words),
         LentFiles::new(first, second, third),
         out,
         err,
@@ -88,7 +89,7 @@ pub extern "C" fn flexray_bound(
 {
     answer_flexray(
         alloc,
-        b"bound\nfirst",
+        "bound\nfirst",
         LentFiles::new(params, b"", b""),
         out,
         err,
@@ -113,7 +114,7 @@ pub extern "C" fn flexray_run(
 {
     answer_flexray(
         alloc,
-        b"run\nfirst\nsecond\nthird",
+        "run\nfirst\nsecond\nthird",
         LentFiles::new(params, drift, script),
         out,
         err,
@@ -138,7 +139,7 @@ pub extern "C" fn flexray_series(
 {
     answer_series(
         alloc,
-        b"first\nsecond\nthird",
+        "first\nsecond\nthird",
         LentFiles::new(params, drift, script),
         out,
         err,

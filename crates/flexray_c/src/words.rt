@@ -1,7 +1,6 @@
-ghost use Rattle.std.specs.Prelude.{◌≡◌, ◌==◌, map, string_bytes, IfOk, IsUtf8, [], MatchResult};
-ghost use Rattle.std.specs.List.{slice_split};
+ghost use Rattle.std.specs.Prelude.{◌≡◌, [], map, IfOk, IsUtf8};
 ghost use Rattle.fr_program.specs.Program.{texts};
-ghost use Rattle.flexray_c.specs.Words.{unended, words_in};
+ghost use Rattle.flexray_c.specs.Words.{lines_in, unended};
 
 use std::alloc::{AllocError, Global};
 use std::str;
@@ -16,26 +15,27 @@ fn unended(text: &[u8]) -> &[u8]
     }
 }
 
-// The lines of a text, each as a word. Bytes that are no UTF-8 are an empty text.
-pub(crate) fn words_of(alloc: Global, text: &[u8]) -> Result<Vec<String>, AllocError>
-    ensures text { IsUtf8 (unended text.now) → IfOk result (λ words. texts words.items ≡ words_in text.now) }
-    ensures no_text { ¬ IsUtf8 (unended text.now) → IfOk result (λ words. texts words.items ≡ words_in []) }
+// The text of which a caller gave the bytes, without the line feed at its end; an empty one where they are no UTF-8.
+pub(crate) fn text_of(bytes: &[u8]) -> &str
+    ensures text { IsUtf8 (unended bytes.now) → result.now ≡ unended bytes.now }
+    ensures no_text { ¬ IsUtf8 (unended bytes.now) → result.now ≡ [] }
 {
-    match str::from_utf8(unended(text)) {
-        Ok(text) => split_words(alloc, text),
-        Err(_) => split_words(alloc, ""),
+    match str::from_utf8(unended(bytes)) {
+        Ok(text) => text,
+        Err(_) => "",
     }
 }
 
-fn split_words(alloc: Global, text: &str) -> Result<Vec<String>, AllocError>
-    ensures { IfOk result (λ words. texts words.items ≡ slice_split (λ b. b == 10) text.now) }
+// The lines of a text, each as a word.
+pub(crate) fn words_of(alloc: Global, text: &str) -> Result<Vec<String>, AllocError>
+    ensures { IfOk result (λ words. texts words.items ≡ lines_in text.now) }
 {
     let parts = parts_in(alloc, text)?;
     owned(alloc, &parts)
 }
 
 fn parts_in(alloc: Global, text: &str) -> Result<Vec<&str>, AllocError>
-    ensures { IfOk result (λ parts. map (λ part. part.now) parts.items ≡ slice_split (λ b. b == 10) text.now) }
+    ensures { IfOk result (λ parts. map (λ part. part.now) parts.items ≡ lines_in text.now) }
 {
     text.split('\n').collect(alloc)
 }
