@@ -303,11 +303,21 @@ const RESULTS = {
       showResults();
     } }, ...Object.entries(names).map(([key, name]) => element("option", { value: key, selected: key === page.printed }, name)));
     const text = page.found.texts[page.printed];
-    return element("div", {}, element("div", { class: "row" }, choice, element("button", { type: "button", onclick: () => navigator.clipboard?.writeText(text) }, "Copy"),
+    return element("div", {}, element("div", { class: "row" }, choice, element("button", { type: "button", onclick: () => copy(text) }, "Copy"),
       element("button", { type: "button", onclick: () => download(`${page.name}-${page.printed}.txt`, text) }, "Save")),
     element("pre", { id: "printed", tabindex: "0" }, text));
   },
 };
+
+// A page from disk may have no clipboard of its own; a field that is selected has one.
+function copy(text) {
+  const area = element("textarea");
+  area.value = text;
+  document.body.append(area);
+  area.select();
+  state("ready", document.execCommand("copy") ? "copied" : "not copied");
+  area.remove();
+}
 
 function within(fields) {
   if (fields[0] === "-") return "it was never in sync";

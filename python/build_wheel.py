@@ -9,7 +9,7 @@ import sys
 import zipfile
 
 HERE = os.path.dirname(os.path.realpath(__file__))
-LIBRARY = "libflexray.so.1"
+LIBRARY = "libflexray.so.0"
 
 
 def _read(*parts):
@@ -28,7 +28,7 @@ def _metadata():
 
 
 def _library(given=None):
-    found = given or os.environ.get("FLEXRAY_LIBRARY") or os.path.join(HERE, "..", "out", "library", LIBRARY)
+    found = given or os.environ.get("FLEXRAY_LIBRARY") or os.path.join(HERE, "..", "out", "library", "lib", LIBRARY)
     return found if os.path.exists(found) else None
 
 

@@ -11,7 +11,7 @@ The requests are `bound`, `sharp_bound`, `run`, `series`, `sharp_series`, `trace
 `frame`, `capture`, `nm`, `make` and `upgrade`. What they answer is in `flexray.results`, what they raise in `flexray.errors`,
 and `request` has the program's own words. Times are in ticks, a millionth of a nominal microtick.
 
-The answers are computed by `libflexray.so.1`, whose functions are proved to answer what the program does; this module only
+The answers are computed by `libflexray.so.0`, whose functions are proved to answer what the program does; this module only
 hands bytes over and takes texts apart, and is tested. docs/PYTHON.md has more.
 """
 from . import results

@@ -78,7 +78,7 @@ class TooLong(FlexrayError):
 
 
 class LibraryMissing(FlexrayError, ImportError):
-    """The shared object `libflexray.so.1` is not found."""
+    """The shared object `libflexray.so.0` is not found."""
 
 
 BY_STATUS = {2: Usage, 3: ReadFault, 5: Refused, 6: NoMemory, 7: TooLong}

@@ -18,7 +18,8 @@ DONE, NO, USAGE, READ_FAULT, WRITE_FAULT, REFUSED, NO_MEMORY, TOO_LONG = range(8
 #: How many bytes a file may have.
 MOST = 16_777_216
 
-NAME = "libflexray.so.1"
+#: The shared object; its number is the first one of the version.
+NAME = "libflexray.so.0"
 # The first place for a text; the longest one of a request so far is kept in mind, since a text that does not fit is computed
 # a second time.
 _ROOM = 1 << 16
@@ -51,7 +52,7 @@ def _places() -> list[str]:
     if given:
         return [given]
     here = os.path.dirname(os.path.realpath(__file__))
-    found = [os.path.join(here, NAME), os.path.join(here, "..", "..", "out", "library", NAME)]
+    found = [os.path.join(here, NAME), os.path.join(here, "..", "..", "out", "library", "lib", NAME)]
     return [os.path.realpath(place) for place in found if os.path.exists(place)] + [NAME]
 
 
@@ -69,7 +70,7 @@ def _library() -> ctypes.CDLL:
                 except (OSError, AttributeError) as fault:
                     told = str(fault)
             else:
-                raise LibraryMissing(f"{NAME}: {told}; tools/library builds it, the package libflexray1 has it, and the "
+                raise LibraryMissing(f"{NAME}: {told}; tools/library builds it, the Debian package has it, and the "
                                      "variable FLEXRAY_LIBRARY names it elsewhere")
         return _loaded
 

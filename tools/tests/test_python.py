@@ -19,7 +19,7 @@ sys.path.insert(0, PACKAGE)
 
 import flexray  # noqa: E402
 from flexray import library  # noqa: E402
-from flexlab_lib import units  # noqa: E402
+from flexlab_lib import program, units  # noqa: E402
 
 try:
     library.version()
@@ -196,7 +196,8 @@ class Calls(Bench):
             self.assertEqual(flexray.sharp_series(params, drift, script).text, wanted)
 
     def test_the_version(self):
-        self.assertEqual(flexray.version(), Path(REPOSITORY, "VERSION").read_text().strip())
+        version = Path(REPOSITORY, "VERSION").read_text().strip()
+        self.assertEqual((flexray.version(), library.NAME), (version, f"libflexray.so.{version.split('.')[0]}"))
 
     def test_the_scripts_of_the_examples(self):
         env = {**os.environ, "PYTHONPATH": PACKAGE, "PYTHONDONTWRITEBYTECODE": "1"}
@@ -220,7 +221,55 @@ class Calls(Bench):
         ended = subprocess.run([sys.executable, "-c", "import flexray; print(flexray.make(7, 1).text, end=''); "
                                 "print(flexray.library.path())"], capture_output=True, text=True, check=True, env=env, cwd=self.room)
         self.assertEqual(ended.stdout, (EXAMPLES / "make" / "printed.txt").read_text()
-                         + os.path.realpath(self.path("site", "flexray", "libflexray.so.1")) + "\n")
+                         + os.path.realpath(self.path("site", "flexray", "libflexray.so.0")) + "\n")
+
+
+@unittest.skipIf(MISSING, f"the library is not built: {MISSING}")
+class Flexlab(Bench):
+    """flexlab by the library in its own process."""
+
+    def setUp(self):
+        super().setUp()
+        self.found = [program.by_library(FLEXRAY), SERIES and program.by_library(SERIES)]
+        if not self.found[0]:
+            self.skipTest("the program that is tested is not the one that flexlab finds, or newer than the library")
+
+    def test_each_call_is_that_of_the_program(self):
+        os.makedirs(self.path("folder.csv"))
+        self.write("params.csv", "param\n")
+        params, drift, script = map(str, OFFSET)
+        for words in (["bound", params], ["bound", params, "join"], ["bound", params, "sharp", "0"], ["bound", params, "sharp", "-1"],
+                      ["run", params, drift, script], ["run", params, drift], ["run", params, drift, self.path("none.csv")],
+                      ["run", self.path("params.csv"), self.path("none.csv"), script], ["bound", self.path("folder.csv")],
+                      ["settle", params, "1", "first"], ["make", "7", "1"], ["make", "first"], ["frame", "C", params],
+                      ["frame", "A", params], [], ["walk"], ["bound", "first"], ["check", params, script]):
+            self.assertEqual(program.call(FLEXRAY, words), self.by_process(FLEXRAY, words), words)
+        self.assertIsNotNone(program.answered(FLEXRAY, ["run", params, drift, script]))
+        if self.found[1]:
+            for words in ([params, drift, script], [params, drift, script, "sharp"], [params, drift, script, "blunt"], [params]):
+                self.assertEqual(program.call(SERIES, words), self.by_process(SERIES, words), words)
+
+    def by_process(self, name, words):
+        ended = subprocess.run([name, *words], capture_output=True, text=True, check=False)
+        return ended.returncode, ended.stdout, ended.stderr.strip()
+
+    def test_a_program_that_is_named_is_called(self):
+        other = self.write("flexray", "#!/bin/sh\necho called; exit 3\n")
+        os.chmod(other, 0o755)
+        self.assertEqual(program.call(other, ["bound", str(OFFSET[0])]), (3, "called\n", ""))
+
+    def test_pages_and_studies_are_the_same(self):
+        toml = str(EXAMPLES / "bench" / "bench.toml")
+        pages = []
+        for told in ("yes", "no"):
+            env = {"FLEXLAB_LIBRARY": told, "FLEXRAY_SERIES": SERIES or ""}
+            page = self.flexlab("run", "--out", "lab", toml, env=env)[0]
+            study = self.flexlab("study", toml, "--vary", "node[1].ppm", "--values", "0,50,100", "--out", told, "--keep", "none",
+                                 env=env)[0]
+            table = [line.split(",") for line in self.read(told, "study.csv").splitlines()]
+            seconds = table[0].index("seconds")
+            pages.append((page, [row[:seconds] + row[seconds + 1:] for row in table], study.count("\n")))
+        self.assertEqual(pages[0], pages[1])
 
 
 class Alone(Bench):
