@@ -45,11 +45,8 @@ const REASONS = {
 // Where no single field is at fault.
 const RULES = {
   "params node Role": "A coldstart node needs a key slot.",
-  "params node Repeated": "An earlier record is of this node.",
-  "params param Repeated": "An earlier record has this parameter.",
   "params version Role": "This record has to be the first one.",
   "params slot Role": "The repetition is 1, 2, 4, 8, 16, 32 or 64, and the base is below it.",
-  "params slot Repeated": "An earlier record has this slot.",
   "drift delay Role": "Sender and receiver are the same node.",
   "script arbitrary Role": "An arbitrary node needs a key slot, and these records stand before all others.",
   "script join Role": "A node cannot be its own reference, neither of both may be arbitrary, and the reference needs a key slot and "
@@ -75,9 +72,26 @@ const CONSTRAINTS = [
   (p) => ["gMaxWithoutClockCorrectionPassive is at most gMaxWithoutClockCorrectionFatal",
     `${p.gMaxWithoutClockCorrectionPassive} is more than ${p.gMaxWithoutClockCorrectionFatal}`],
   () => ["1 to 15 nodes have a key slot", "give at least one node a key slot, and at most fifteen"],
-  (p) => [`each key slot is at most gNumberOfStaticSlots (${p.gNumberOfStaticSlots}), and no two nodes have the same`, ""],
-  (p) => [`each further slot is at most gNumberOfStaticSlots (${p.gNumberOfStaticSlots}), and none is a key slot`, ""],
+  (p) => [`each key slot is at most gNumberOfStaticSlots (${p.gNumberOfStaticSlots}), and no two nodes have the same`,
+    p.keys.flatMap(([node, key], at) => [
+      key > p.gNumberOfStaticSlots ? `node ${node} has ${key}` : null,
+      ...p.keys.slice(0, at).filter((other) => other[1] === key).map((other) => `nodes ${other[0]} and ${node} have ${key}`),
+    ]).filter(Boolean).join(", ")],
+  (p) => [`each further slot is at most gNumberOfStaticSlots (${p.gNumberOfStaticSlots}), and none is a key slot`,
+    p.slots.filter((slot) => slot > p.gNumberOfStaticSlots || p.keys.some((key) => key[1] === slot)).map((slot) => `slot ${slot} is not so`).join(", ")],
 ];
+// Of which fields there may be one record, by the places of these.
+const KEYS = { param: [1], node: [1], slot: [1], doubles: [], start: [1], length: [1, 2], delay: [1, 2, 3, 4], arbitrary: [1], join: [2] };
+
+// An earlier record that is of the same, or undefined.
+function earlierOf(record, records) {
+  const key = ({ fields }) => {
+    const places = KEYS[fields[0]] || [1, 2, 3, 4];
+    const parts = places.map((at) => (/^-?\d+$/.test(fields[at]) ? Number(fields[at]) : fields[at]));
+    return [KEYS[fields[0]] ? fields[0] : "frame", ...parts].join();
+  };
+  return records.find((other) => other.number < record.number && key(other) === key(record));
+}
 
 function parametersOf(text) {
   return Object.fromEntries(recordsOf(text).filter((record) => record.fields[0] === "param").map(({ fields }) => fields.slice(1, 3)));
@@ -114,7 +128,9 @@ function fieldFault(reason, field, text, record, known) {
 // {title, lines, role, record} of the line of a failure: record is {at, text} where it is of one.
 function explain(line, files) {
   const found = /^(params|drift|script): record (\d+): (\w+)$/.exec(line);
-  const known = { ...parametersOf(files.params), nodes: recordsOf(files.params).filter((one) => one.fields[0] === "node").map((one) => Number(one.fields[1])) };
+  const of = (kind) => recordsOf(files.params).filter((one) => one.fields[0] === kind).map((one) => one.fields);
+  const known = { ...parametersOf(files.params), nodes: of("node").map((fields) => Number(fields[1])),
+    keys: of("node").filter((fields) => fields[2]).map((fields) => [fields[1], Number(fields[2])]), slots: of("slot").map((fields) => Number(fields[1])) };
   if (found) {
     const [, role, told, reason] = found, record = recordsOf(files[role])[Number(told) - 1];
     const title = `${role}.csv, record ${told}, is refused: ${reason}`;
@@ -128,6 +144,8 @@ function explain(line, files) {
       const text = record.fields[at + 1], why = text === undefined ? null : fieldFault(reason, field, text, record, known);
       if (why) lines.push(`${field.kind === "value" ? record.fields[1] : field.name || "Field " + (at + 2)} “${text}” ${why}.`);
     });
+    const same = reason === "Repeated" ? earlierOf(record, recordsOf(files[role])) : undefined;
+    if (same) lines.push(`Record ${same.number} is of the same: ${same.text}`);
     const rule = RULES[`${role} ${kind} ${reason}`];
     if (!lines.length && rule) lines.push(rule);
     return { title, lines: [REASONS[reason], ...lines], role, record };
