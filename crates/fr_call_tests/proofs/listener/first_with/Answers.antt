@@ -6,8 +6,8 @@ use Rattle.std.specs.Prelude.{IsNone, option_and_then}
 use Rattle.fr_node.specs.View.{NodeView}
 use Rattle.fr_node.specs.Listening.{caught_of_listener, follower_by}
 use Rattle.fr_reception.specs.Listening.{kept_if}
-use Rattle.fr_node_tests.proofs.Following.{of_each}
-use Rattle.fr_node_tests.proofs.listener.first_with.Goals as goal
+use Rattle.fr_call_tests.proofs.Following.{of_each}
+use Rattle.fr_call_tests.proofs.listener.first_with.Goals as goal
 
 pub returns-clause-between : goal.returns-clause-between
 returns-clause-between c =

@@ -1,6 +1,6 @@
 use Rattle.std.specs.Prelude.{◌≡◌, ◌≤◌, IsNone}
 use Rattle.fr_node.specs.Fits.{NodeFits}
-use Rattle.fr_node_tests.proofs.node.played.Given as goal
+use Rattle.fr_call_tests.proofs.node.played.Given as goal
 
 -- the node goes on fitting, between its cycles
 abbrev pub invariant-loop-offers : goal.invariant-loop-offers

@@ -1,6 +1,6 @@
 use Rattle.std.specs.Prelude.{◌≡◌, IsSome}
 use Rattle.fr_node.specs.Fits.{NodeFits}
-use Rattle.fr_node_tests.proofs.node.play.Given as goal
+use Rattle.fr_call_tests.proofs.node.play.Given as goal
 
 -- the node goes on fitting, in its cycle
 abbrev pub invariant-loop-offer : goal.invariant-loop-offer

@@ -1,5 +1,5 @@
 use Rattle.std.specs.Prelude.{◌≡◌}
-use Rattle.fr_node_tests.proofs.listener.listen.Given as goal
+use Rattle.fr_call_tests.proofs.listener.listen.Given as goal
 
 -- it stays the listener that it is
 abbrev pub invariant-loop-channel : goal.invariant-loop-channel

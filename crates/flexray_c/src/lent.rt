@@ -1,0 +1,66 @@
+ghost use Rattle.std.specs.Prelude.{◌≡◌, [], OnOk, OnErr, IfErr};
+ghost use Rattle.std.specs.Option.{option_map};
+ghost use Rattle.fr_base.specs.Device.{IsLoaded, IsOneLoadLater, StopsLoad, raised};
+ghost use Rattle.flexray_c.specs.Lent.{lent_shelf, lent_state, lent_under};
+
+use fr_base::{LoadFault, MAX_FILE, Shelf};
+
+/// A shelf over bytes of a caller: three files, called `first`, `second` and `third`. Of these no fault is ever counted. No
+/// other name has a file: all these have one count, which rises at each load. Counters stay at their last value.
+#[derive(Drop)]
+pub struct LentFiles<'a> {
+    first: &'a [u8],
+    second: &'a [u8],
+    third: &'a [u8],
+    missing: u64,
+    loads: u64,
+}
+
+impl<'a> LentFiles<'a> {
+    /// A shelf over these files, of which none was loaded. It takes no memory.
+    pub fn new(first: &'a [u8], second: &'a [u8], third: &'a [u8]) -> LentFiles<'a>
+        ensures { lent_state result ≡ lent_shelf first.now second.now third.now 0 0 }
+    {
+        LentFiles {
+            first,
+            second,
+            third,
+            missing: 0,
+            loads: 0,
+        }
+    }
+
+    // The file under a name.
+    fn under(&self, name: &str) -> Option<&'a [u8]>
+        ensures { option_map (λ bytes. bytes.now) result ≡
+            lent_under self.now.first.now self.now.second.now self.now.third.now name.now }
+    {
+        match name {
+            "first" => Some(self.first),
+            "second" => Some(self.second),
+            "third" => Some(self.third),
+            _ => None,
+        }
+    }
+}
+
+impl Shelf for LentFiles<'_> {
+    ghost state = { lent_state };
+
+    fn load(&mut self, name: &str, into: &mut Vec<u8>) -> Result<(), LoadFault> {
+        self.loads = self.loads.saturating_add(1);
+        let Some(bytes) = self.under(name) else {
+            self.missing = self.missing.saturating_add(1);
+            return Err(LoadFault::Failed);
+        };
+        if bytes.len() > MAX_FILE {
+            return Err(LoadFault::TooLong {
+                seen: bytes.len() as u64,
+            });
+        }
+        match into.extend_from_slice(bytes) {
+            Ok(()) => Ok(()),
+            Err(_) => Err(LoadFault::NoMemory),
+        }
+    }
+}

@@ -1,0 +1,224 @@
+"""The C library: callers in C over every example, small places, no memory, threads, the stack; and that header, pkg-config file
+and shared object fit each other. What tools/library wrote into out/library is tried; FLEXRAY_LIBRARY_FOLDER names another folder."""
+import os
+import re
+import shutil
+import subprocess
+import unittest
+
+from bench import REPOSITORY, TOOLS, Bench
+
+FOLDER = os.environ.get("FLEXRAY_LIBRARY_FOLDER") or os.path.join(REPOSITORY, "out", "library")
+ARCHIVE = os.path.join(FOLDER, "lib", "libflexray.a")
+HEADER = os.path.join(FOLDER, "include", "flexray.h")
+CALLER = os.path.join(TOOLS, "tests", "c", "caller.c")
+EXAMPLES = os.path.join(REPOSITORY, "examples")
+STRICT = ["-Wall", "-Wextra", "-Wpedantic", "-Werror"]
+MOST_STACK = 512 * 1024
+
+
+def version():
+    with open(os.path.join(REPOSITORY, "VERSION"), encoding="utf-8") as file:
+        return file.read().strip()
+
+
+def read(path, default=b""):
+    if not os.path.exists(path):
+        return default
+    with open(path, "rb") as file:
+        return file.read()
+
+
+def examples():
+    """Of each example that is a call: its folder, its words, its status, its text and its line."""
+    for name in sorted(os.listdir(EXAMPLES)):
+        folder = os.path.join(EXAMPLES, name)
+        if os.path.exists(os.path.join(folder, "words")):
+            words = read(os.path.join(folder, "words")).decode().split("\n")
+            words = words[:-1] if words[-1] == "" else words
+            if read(os.path.join(folder, "program")).strip() == b"flexray_series_cli":
+                words = ["flexray-series", *words]
+            yield (folder, words, int(read(os.path.join(folder, "status"), b"0")), read(os.path.join(folder, "printed.txt")),
+                   read(os.path.join(folder, "told.txt")))
+
+
+def built(*words):
+    """Calls a compiler."""
+    return subprocess.run(words, capture_output=True, text=True, check=False)
+
+
+def sanitizes(compiler):
+    """Whether this compiler links what looks for addresses and undefined behaviour."""
+    if not shutil.which(compiler):
+        return False
+    ended = subprocess.run([compiler, "-fsanitize=address,undefined", "-x", "c", "-", "-o", "/dev/null"], input="int main(void) { return 0; }",
+                           capture_output=True, text=True, check=False)
+    return ended.returncode == 0
+
+
+@unittest.skipUnless(shutil.which("cc"), "there is no C compiler cc")
+@unittest.skipUnless(os.path.exists(ARCHIVE), "tools/library has not built the library")
+class Library(Bench):
+    def compile(self, *words, compiler="cc"):
+        """A caller that is compiled with these words."""
+        caller = self.path("caller")
+        ended = built(compiler, "-std=c11", "-O1", "-g", *STRICT, f"-I{os.path.dirname(HEADER)}", CALLER, ARCHIVE, "-pthread",
+                      *words, "-o", caller)
+        self.assertEqual(ended.returncode, 0, ended.stderr)
+        return caller
+
+    def call(self, caller, how, words=(), folder=None, **env):
+        return subprocess.run([caller, how, *words], capture_output=True, check=False, cwd=folder, timeout=600, env={**os.environ, **env})
+
+    def fine(self, ended):
+        self.assertEqual((ended.returncode, ended.stderr), (0, b""))
+        return ended.stdout.decode()
+
+    def every_example(self, caller, how):
+        count = 0
+        for folder, words, status, text, line in examples():
+            ended = self.call(caller, how, words, folder)
+            self.assertEqual((ended.returncode, ended.stdout, ended.stderr), (status, text, line), folder)
+            count += 1
+        self.assertGreater(count, 30)
+
+    def test_every_example_by_its_words(self):
+        self.every_example(self.compile(), "request")
+
+    def test_every_example_by_its_own_call(self):
+        self.every_example(self.compile(), "typed")
+
+    def test_every_example_by_the_shared_object(self):
+        caller = self.path("caller")
+        ended = built("cc", "-std=c11", *STRICT, f"-I{os.path.dirname(HEADER)}", CALLER, f"-L{os.path.dirname(ARCHIVE)}",
+                      f"-Wl,-rpath,{os.path.dirname(ARCHIVE)}", "-Wl,-Bdynamic", "-lflexray", "-pthread", "-o", caller)
+        self.assertEqual(ended.returncode, 0, ended.stderr)
+        self.every_example(caller, "typed")
+
+    def test_sanitized(self):
+        compiler = next((one for one in ("cc", "clang") if sanitizes(one)), None)
+        if compiler is None:
+            self.skipTest("no compiler has the sanitizers of addresses and of undefined behaviour")
+        caller = self.compile("-fsanitize=address,undefined", "-fno-sanitize-recover=all", compiler=compiler)
+        for folder, words, status, text, line in examples():
+            ended = self.call(caller, "typed", words, folder, ASAN_OPTIONS="detect_leaks=0")
+            self.assertEqual((ended.returncode, ended.stdout, ended.stderr), (status, text, line), folder)
+        for name in ("offset", "breach", "capture"):
+            folder, words = next((one[0], one[1]) for one in examples() if one[0].endswith("/" + name))
+            self.assertEqual(self.fine(self.call(caller, "places", words, folder)), "37 rooms\n")
+        self.fine(self.call(caller, "bad", ASAN_OPTIONS="detect_leaks=0"))
+
+    def test_nothing_of_a_call_stays(self):
+        """Every block that a call takes is freed, also where memory ran out: found by the sanitizer of leaks."""
+        if not sanitizes("cc"):
+            self.skipTest("cc has no sanitizers")
+        self.write("leak.c", """#include <flexray.h>
+int main(void) {
+    static uint8_t out[100000], err[100];
+    flexray_texts texts;
+    return flexray_make(7, 3, out, sizeof out, err, sizeof err, &texts) != FLEXRAY_DONE || texts.out_length == 0;
+}
+""")
+        ended = built("cc", *STRICT, "-fsanitize=address", f"-I{os.path.dirname(HEADER)}", self.path("leak.c"), ARCHIVE, "-o", self.path("leak"))
+        self.assertEqual(ended.returncode, 0, ended.stderr)
+        ended = built(self.path("leak"))
+        if "LeakSanitizer has encountered a fatal error" in ended.stderr:
+            self.skipTest("the sanitizer of leaks does not run here")
+        self.assertEqual((ended.returncode, ended.stdout + ended.stderr), (0, ""))
+
+    def test_places_of_every_room(self):
+        caller = self.compile()
+        for folder, words, _, _, _ in examples():
+            if os.path.basename(folder) not in ("made", "walk", "driven-bench", "bench"):
+                self.assertEqual(self.fine(self.call(caller, "places", words, folder)), "37 rooms\n", folder)
+
+    def test_eight_threads(self):
+        caller = self.compile()
+        for name in ("offset", "breach", "capture", "sharp-series"):
+            folder, words = next((one[0], one[1]) for one in examples() if one[0].endswith("/" + name))
+            self.assertEqual(self.fine(self.call(caller, "threads", words, folder)), "8 threads\n", folder)
+
+    def test_stack(self):
+        caller = self.compile()
+        for folder, words, _, _, _ in examples():
+            used = int(self.fine(self.call(caller, "stack", words, folder)))
+            self.assertLess(used, MOST_STACK // 2, f"{folder}: half of what the header says stays free")
+
+    def test_no_memory(self):
+        """As many blocks as a call needs, and every number below: 6, with no text, and at most a line."""
+        caller = self.compile("-DCOUNTS_BLOCKS", "-Wl,--wrap=malloc", "-Wl,--wrap=realloc")
+        for name in ("offset", "frame", "breach", "capture", "nm", "startup", "settle", "series", "sharp-series", "upgrade", "make", "check",
+                     "joins-trace"):
+            folder, words = next((one[0], one[1]) for one in examples() if one[0].endswith("/" + name))
+            blocks = int(self.fine(self.call(caller, "memory", words, folder)))
+            self.assertGreater(blocks, 5, folder)
+
+    def test_bad_words_bytes_and_places(self):
+        usage = "usage: flexray COMMAND WORDS"
+        told = self.fine(self.call(self.compile(), "bad")).splitlines()
+        self.assertEqual(told[:8], [
+            f"2 0 {usage}", f"2 0 {usage}", f"2 0 {usage}",  # no words, and an empty one
+            told[3], f"2 0 {usage}",  # a line feed at the end is not needed, and a second one is a word
+            "3 0 params: read fault",  # no file is called so
+            f"2 0 {usage}",  # no UTF-8
+            "3 0 params: read fault",
+        ])
+        self.assertRegex(told[3], "^5 0 params: ")
+        for line, start in zip(told[8:13], ("5 0 params: ", "5 0 params: ", "1 0 ", "1 0 frame: ", f"2 0 {usage}"), strict=True):
+            self.assertTrue(line.startswith(start) or line.startswith("0 "), line)
+        self.assertTrue(told[13].startswith("2 0 "), told[13])
+        self.assertEqual(told[14], "7 0 params: too long 16777217")
+        self.assertRegex(told[15], "^5 0 params: ")
+        self.assertEqual(told[16:], [f"2 {len(usage) + 1}", f"2 {len(usage) + 1}", "1 7", "11 8", "7 0", "8 0", "6 0", "9 0", "10 0", "0 8",
+                                     "2047 0 63 1 1 0"])
+
+    def test_version(self):
+        major, minor, patch = map(int, version().split("."))
+        told = int(self.fine(self.call(self.compile(), "version")))
+        self.assertEqual(told, 10000 * major + 100 * minor + patch)
+        self.assertTrue(os.path.exists(os.path.join(FOLDER, "lib", f"libflexray.so.{major}")))
+
+    def test_the_program_of_the_examples(self):
+        ended = built("cc", *STRICT, f"-I{os.path.dirname(HEADER)}", os.path.join(EXAMPLES, "c", "run.c"), ARCHIVE, "-o", self.path("run"))
+        self.assertEqual(ended.returncode, 0, ended.stderr)
+        for folder, words, status, text, line in examples():
+            if words[0] == "run":
+                ended = self.call(self.path("run"), words[1], words[2:], folder)
+                self.assertEqual((ended.returncode, ended.stdout, ended.stderr), (status, text, line), folder)
+
+    def test_header_in_each_language(self):
+        self.write("empty.c", "#include <flexray.h>\nint main(void) { return 0; }\n")
+        for words in (["cc", "-std=c11"], ["c++", "-x", "c++", "-std=c++11"], ["clang", "-std=c11"], ["clang++", "-x", "c++", "-std=c++17"]):
+            if shutil.which(words[0]):
+                ended = built(*words, *STRICT, "-Wconversion", f"-I{os.path.dirname(HEADER)}", "-c", self.path("empty.c"), "-o", self.path("empty.o"))
+                self.assertEqual(ended.returncode, 0, ended.stderr)
+        self.assertEqual(read(HEADER), read(os.path.join(REPOSITORY, "include", "flexray.h")))
+
+    @unittest.skipUnless(shutil.which("nm"), "there is no nm")
+    def test_names_are_those_of_the_header(self):
+        declared = set(re.findall(r"^uint32_t (flexray_\w+)\(", read(HEADER).decode(), re.M))
+        major = version().split(".")[0]
+        told = built("nm", "-D", "--defined-only", os.path.join(FOLDER, "lib", f"libflexray.so.{major}")).stdout
+        self.assertEqual({line.split()[-1] for line in told.splitlines()}, declared)
+        self.assertIn("flexray_run", declared)
+
+    @unittest.skipUnless(shutil.which("pkg-config"), "there is no pkg-config")
+    def test_pkg_config(self):
+        env = {**os.environ, "PKG_CONFIG_PATH": os.path.join(FOLDER, "lib", "pkgconfig")}
+        told = subprocess.run(["pkg-config", "--cflags", "--libs", "--modversion", "flexray"], capture_output=True, text=True, check=False, env=env)
+        self.assertEqual(told.returncode, 0, told.stderr)
+        self.assertIn(version(), told.stdout)
+        self.assertIn("-lflexray", told.stdout)
+
+
+class Tool(Bench):
+    def test_words(self):
+        library = os.path.join(TOOLS, "library")
+        for words, status in ((["--help"], 0), (["--version"], 0), (["--fast"], 2), (["a", "b"], 2)):
+            self.assertEqual(built(library, *words).returncode, status, words)
+        ended = subprocess.run([shutil.which("python3"), library, self.room], capture_output=True, text=True, check=False, env={"PATH": "/nowhere"})
+        self.assertEqual(ended.returncode, 4, ended.stderr)
+
+
+if __name__ == "__main__":
+    unittest.main()
