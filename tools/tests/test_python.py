@@ -115,7 +115,7 @@ class Calls(Bench):
                 ((params, drift.replace("doubles,2", "doubles,0"), script), ("drift", 1, "OutOfRange")),
                 ((params, drift, "lose,0,9,1,A,,\n"), ("script", 1, "UnknownNode")),
                 ((re.sub("param,gdNIT.*\n", "", params), drift, script), ("params", None, "missing gdNIT")),
-                ((params.replace("gdNIT,2000", "gdNIT,2001"), drift, script), ("params", None, "constraint 1"))):
+                ((params.replace("gdNIT,800", "gdNIT,801"), drift, script), ("params", None, "constraint 1"))):
             with self.assertRaises(flexray.Refused) as raised:
                 flexray.run(*files)
             self.assertEqual((raised.exception.role, raised.exception.record, raised.exception.reason), wanted)
