@@ -66,10 +66,13 @@ def bound(text: str) -> Bound:
 def sharp_bound(text: str) -> SharpBound:
     lines = _Lines(text)
     flutter = lines.one(r"flutter (\d+)")
-    numbers = {kind: [lines.one(rf"{kind} {name} (\d+)") for name in ("lambda", "pi", "precision")]
-               for kind in ("alone", "beside")}
+    kinds = ("alone", "beside")
+    numbers = {kind: tuple(lines.one(rf"{kind} {name} (\d+)") for name in ("lambda", "pi", "precision")) for kind in kinds}
     both = lines.every(CHECK)
-    sides = {kind: SharpSide(*numbers[kind], checks=_checks(both + lines.every(f"{kind} {CHECK}"))) for kind in numbers}
+    sides = {}
+    for kind in kinds:
+        lambda_, pi, precision = numbers[kind]
+        sides[kind] = SharpSide(lambda_, pi, precision, _checks(both + lines.every(f"{kind} {CHECK}")))
     lasts = lines.take(r"lasts (on|\d+)")[0]
     return SharpBound(text, flutter, sides["alone"], sides["beside"], None if lasts == "on" else int(lasts))
 
@@ -89,14 +92,14 @@ def report(text: str) -> Report:
     precision = lines.one(r"precision (\d+)")
     covered, gap = lines.take(r"covered (yes|no)(?: (.+))?")
     in_sync, greatest = _in_sync(lines), _skew_line(lines)
-    sent = [Sent(int(frames), int(xor, 16)) for frames, xor in
-            (lines.take(rf"sent {channel} (\d+) xor ([0-9A-F]{{6}})") for channel in "AB")]
+    sent_a, sent_b = (Sent(int(frames), int(xor, 16)) for frames, xor in
+                      (lines.take(rf"sent {channel} (\d+) xor ([0-9A-F]{{6}})") for channel in "AB"))
     names = ("stored", "outside", "damaged", "id", "cycle", "length", "plain")
     heard = Heard(*_numbers(lines.take("heard " + " ".join(rf"{name} (\d+)" for name in names))))
     cut = lines.one(r"cut (\d+)")
     ends = lines.every(r"node (\d+) (active|passive|halt) next (\d+) rate (-?\d+) offset (-?\d+)")
     return Report(text, nodes, sync, arbitrary, doubles, precision, covered == "yes", tuple(gap.split()) if gap else (), in_sync,
-                  greatest, *sent, heard, cut, tuple(NodeEnd(int(node), state, int(start), int(rate), int(offset))
+                  greatest, sent_a, sent_b, heard, cut, tuple(NodeEnd(int(node), state, int(start), int(rate), int(offset))
                                                      for node, state, start, rate, offset in ends))
 
 
@@ -210,14 +213,15 @@ def frame(text: str) -> Frame:
     found = _Lines(text).take(rf"frame ([AB]) id (\d+) words (\d+) cycle (\d+) {bits} header ([0-9A-F]{{3}}) "
                               r"crc ([0-9A-F]{6}) payload (-|[0-9A-F]+)")
     reserved, preamble, valid, sync, coldstart = (bit == "1" for bit in found[4:9])
-    return Frame(text, found[0], *_numbers(found[1:4]), reserved, preamble, not valid, sync, coldstart, int(found[9], 16),
+    number, words, cycle = _numbers(found[1:4])
+    return Frame(text, found[0], number, words, cycle, reserved, preamble, not valid, sync, coldstart, int(found[9], 16),
                  int(found[10], 16), b"" if found[11] == "-" else bytes.fromhex(found[11]))
 
 
 def capture(text: str) -> Capture:
     lines = _Lines(text)
-    frames = tuple(CapturedFrame(*_numbers(groups[:4]), int(groups[4], 16)) for groups in
-                   lines.every(r"at (\d+) id (\d+) words (\d+) cycle (\d+) crc ([0-9A-F]{6})"))
+    frames = tuple(CapturedFrame(int(place), int(number), int(words), int(cycle), int(crc, 16))
+                   for place, number, words, cycle, crc in lines.every(r"at (\d+) id (\d+) words (\d+) cycle (\d+) crc ([0-9A-F]{6})"))
     count = lines.one(rf"frames {len(frames)} bytes (\d+)")
     place, fault = lines.take(r"fault (?:none|(\d+) (.+))")
     return Capture(text, frames, count, fault, int(place) if place else None)

@@ -1,5 +1,7 @@
 """The page in a headless Chromium, opened from disk: every example against its stored text, edits against the program, refusals,
 keyboard, narrow screens."""
+import base64
+import gzip
 import json
 import os
 import re
@@ -7,7 +9,7 @@ import subprocess
 import unittest
 from pathlib import Path
 
-from bench import FLEXRAY, REPOSITORY, SERIES, Bench
+from bench import FLEXRAY, REPOSITORY, SERIES, TOOLS, Bench
 from browser import Browser, chromium
 from test_python import examples
 
@@ -261,6 +263,35 @@ class Page(Bench):
         self.put("#doubles", "2")
         self.settle()
         self.assertEqual(self.text_of("report"), (EXAMPLES / "offset" / "printed.txt").read_text())
+
+
+class Builder(Bench):
+    """tools/page, as far as it needs no toolchain."""
+
+    def page(self, *words, status=0):
+        ended = subprocess.run([os.path.join(TOOLS, "page"), *words], capture_output=True, text=True, check=False, cwd=self.room)
+        self.assertEqual(ended.returncode, status, ended.stderr)
+        self.assertNotIn("Traceback", ended.stderr)
+        return ended.stdout + ended.stderr
+
+    def test_a_kept_module_makes_the_same_page_twice(self):
+        with open(self.path("module.wasm"), "wb") as file:
+            file.write(b"\0asm\1\0\0\0")
+        texts = []
+        for name in ("a.html", "b.html"):
+            self.assertEqual(self.page("--module", "module.wasm", "--out", name), f"{name}\n")
+            texts.append(self.read(name))
+        self.assertEqual(texts[0], texts[1])
+        self.assertIsNone(re.search(r"@[A-Z]+@", texts[0]))
+        found = re.search(r'id="module">([^<]*)<', texts[0])[1]
+        self.assertEqual(gzip.decompress(base64.b64decode(found)), b"\0asm\1\0\0\0")
+
+    def test_wrong_words(self):
+        self.assertIn("usage: tools/page", self.page("--help"))
+        self.assertEqual(self.page("--version"), f"tools/page {Path(REPOSITORY, 'VERSION').read_text()}")
+        for words in (["--out"], ["page.html"], ["--output", "page.html"], ["--kept", "--kept"]):
+            self.assertIn("usage: tools/page", self.page(*words, status=2))
+        self.assertIn("none.wasm: No such file", self.page("--module", "none.wasm", status=3))
 
 
 if __name__ == "__main__":
