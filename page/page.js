@@ -483,6 +483,34 @@ const EDITOR = {
   },
 };
 
+// The file of flexlab: what the form has, and back.
+EDITOR.TOML = () => {
+  const told = tomlOf(page.cluster), fault = element("p", { class: "bad-text", role: "alert", id: "toml-fault" });
+  const area = element("textarea", { id: "file-toml", class: "tall", spellcheck: "false", autocomplete: "off", "aria-label": "The TOML file of flexlab", oninput: () => {
+    try {
+      takeToml(area.value);
+      fault.textContent = "";
+    } catch (why) {
+      fault.textContent = why instanceof NoToml ? why.message : `this page cannot read it: ${why.message}`;
+      area.setAttribute("aria-invalid", "true");
+      return;
+    }
+    area.setAttribute("aria-invalid", "false");
+    later();
+  } });
+  area.value = told.text || "";
+  return element("div", {}, element("p", { class: "note" }, told.no ? `No such file of this cluster: ${told.no}.` : "The same cluster as flexlab reads it: edit it here, or paste one. Numbers that are drawn, and [[power]], are for flexlab alone."),
+    told.no ? null : area, fault);
+};
+
+function takeToml(text) {
+  const { files, microtick } = filesOfToml(text);
+  page.files = files;
+  page.microtick = microtick;
+  page.wrong = [];
+  page.cluster = readCluster(files, microtick);
+}
+
 function showEditor() {
   const panel = $("editor-panel");
   if (page.editor !== "Files" && (page.cluster === null || typeof page.cluster === "string")) {
@@ -517,6 +545,17 @@ async function opened(list) {
   const files = { ...page.files };
   let taken = 0;
   for (const file of list) {
+    if (/\.toml$/i.test(file.name)) {
+      try {
+        takeToml(await file.text());
+      } catch (why) {
+        state("ready", `${file.name}: ${why.message}`);
+        return;
+      }
+      $("example").value = "";
+      load(page.files, file.name.replace(/\.toml$/i, ""));
+      return;
+    }
     const role = ["params", "drift", "script"].find((name) => file.name.toLowerCase().includes(name));
     if (role) {
       files[role] = await file.text();
@@ -524,7 +563,7 @@ async function opened(list) {
     }
   }
   if (!taken) {
-    state("ready", "names have to hold params, drift or script");
+    state("ready", "a .toml file, or names that hold params, drift or script");
     return;
   }
   $("example").value = "";
@@ -553,6 +592,11 @@ async function begin() {
   $("files").onchange = (event) => opened(event.target.files);
   $("save").onclick = () => {
     for (const [name, text] of Object.entries(page.files)) download(`${name}.csv`, text);
+  };
+  $("save-toml").onclick = () => {
+    const told = page.cluster && typeof page.cluster !== "string" ? tomlOf(page.cluster) : { no: "the form cannot show these files" };
+    if (told.no) state("ready", told.no);
+    else download(`${page.name}.toml`, told.text);
   };
   $("stop").onclick = () => {
     clearTimeout(page.timer);

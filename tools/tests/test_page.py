@@ -21,6 +21,11 @@ WHY = ("chromium is not installed" if not chromium() else
 IDLE = 'document.documentElement.dataset.state !== "busy"'
 
 
+def significant(text):
+    """The records of a file in an order of their own; what holds where no record says it need not be written."""
+    return sorted(line for line in text.splitlines() if line and not re.fullmatch(r"start,\d+,0,0,,|length,\d+,0,1000000,,", line))
+
+
 @unittest.skipIf(WHY, WHY)
 class Page(Bench):
     browser = None
@@ -99,14 +104,8 @@ class Page(Bench):
                     written = self.run_in(f"(() => {{ const read = readCluster({json.dumps(files)}, '25'); return typeof read === "
                                           "'string' ? read : writeCluster(read); })()")
                     self.assertEqual(written["wrong"], [])
-
-                    def lines(text):
-                        # What holds where no record says it need not be written.
-                        return sorted(line for line in text.splitlines()
-                                      if line and not re.fullmatch(r"start,\d+,0,0,,|length,\d+,0,1000000,,", line))
-
                     for name in FILES:
-                        self.assertEqual(lines(written["files"][name]), lines(files[name]))
+                        self.assertEqual(significant(written["files"][name]), significant(files[name]))
 
     def test_an_edit_is_what_the_program_answers(self):
         self.take("bench")
@@ -140,6 +139,48 @@ class Page(Bench):
         text = (EXAMPLES / "bench" / "bench.toml").read_text().replace('"100-180"', f'"{row[1]}-120"').replace('"181-"', '"121-"')
         self.flexlab("build", "-o", self.path("made"), self.write("ramp.toml", text))
         self.assertEqual(sorted(self.run_in("page.files.drift").splitlines()), sorted(self.read("made", "drift.csv").splitlines()))
+
+    def files_of(self, text):
+        return self.run_in(f"filesOfToml({json.dumps(text)}).files")
+
+    def same_files(self, found, folder):
+        for name in FILES:
+            self.assertEqual(significant(found[name]), significant(self.read(folder, f"{name}.csv")), name)
+
+    def test_toml_is_that_of_flexlab(self):
+        """What the page makes of a TOML file is what flexlab makes of it."""
+        paths = [EXAMPLES / "bench" / "bench.toml", EXAMPLES / "sharp" / "sharp.toml", Path(TOOLS, "flexlab_lib", "example.toml")]
+        for path in paths:
+            with self.subTest(path.name):
+                self.flexlab("build", "-o", self.path("made"), str(path))
+                self.same_files(self.files_of(path.read_text()), "made")
+
+    def test_the_form_as_toml(self):
+        """flexlab makes of the TOML file of each example what its files are; and so does the page."""
+        for folder in sorted(EXAMPLES.iterdir()):
+            if (folder / "drift.csv").exists() and folder.name != "compensations":
+                with self.subTest(folder.name):
+                    files = {name: (folder / f"{name}.csv").read_text() for name in FILES}
+                    text = self.run_in(f"tomlOf(readCluster({json.dumps(files)}, '25')).text")
+                    self.flexlab("build", "-o", self.path("made"), self.write("form.toml", text))
+                    self.same_files(files, "made")
+                    self.same_files(self.files_of(text), "made")
+
+    def test_toml_that_cannot_be_read(self):
+        bench = (EXAMPLES / "bench" / "bench.toml").read_text()
+        self.take("bench")
+        self.run_in('selectTab("editor", "TOML")')
+        for old, new, wanted in (("ppm = 150", "ppm = { uniform = [0, 1] }", "line 36: numbers that are drawn are for flexlab alone"),
+                                 ("ppm = 150", "ppm = fast", "line 36: fast is no value that this page reads"),
+                                 ("double_cycles = 200", "", "double_cycles: it is missing"),
+                                 ("late = [2, 4]", "late = [2, 9]", "say: no two of these nodes")):
+            self.assertIn(old, bench)
+            self.put("#file-toml", bench.replace(old, new, 1))
+            self.assertIn(wanted, self.run_in('$("toml-fault").textContent'))
+        self.put("#file-toml", bench.replace("ppm = 150", "ppm = 200", 1))
+        self.settle()
+        self.assertEqual(self.run_in('$("toml-fault").textContent'), "")
+        self.assertIn("\nlength,1,0,999800,,\n", self.run_in("page.files.drift"))
 
     def test_what_is_not_understood_is_marked_and_nothing_is_run(self):
         self.take("offset")
