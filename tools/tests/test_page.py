@@ -170,8 +170,8 @@ class Page(Bench):
         bench = (EXAMPLES / "bench" / "bench.toml").read_text()
         self.take("bench")
         self.run_in('selectTab("editor", "TOML")')
-        for old, new, wanted in (("ppm = 150", "ppm = { uniform = [0, 1] }", "line 36: numbers that are drawn are for flexlab alone"),
-                                 ("ppm = 150", "ppm = fast", "line 36: fast is no value that this page reads"),
+        for old, new, wanted in (("ppm = 150", "ppm = { uniform = [0, 1] }", "line 39: numbers that are drawn are for flexlab alone"),
+                                 ("ppm = 150", "ppm = fast", "line 39: fast is no value that this page reads"),
                                  ("double_cycles = 200", "", "double_cycles: it is missing"),
                                  ("late = [2, 4]", "late = [2, 9]", "say: no two of these nodes")):
             self.assertIn(old, bench)
