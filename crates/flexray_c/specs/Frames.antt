@@ -109,4 +109,4 @@ pub record IsUnspelled (frame : Frame) (payload before after : List ℕ) (count 
 abbrev pub EncodeEnds : ℕ → Frame → List ℕ → List ℕ → List ℕ → ℕ → ℕ → Type 0
 EncodeEnds number frame payload before after count result =
     MatchOption (channel_numbered number) ((result ≡ 7) × (count ≡ 0) × (after ≡ before))
-        (λ channel. IsSpelled channel frame payload before after count result ⊎ IsUnspelled frame payload before after count result)
+    (λ channel. IsSpelled channel frame payload before after count result ⊎ IsUnspelled frame payload before after count result)

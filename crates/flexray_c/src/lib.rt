@@ -10,9 +10,6 @@ mod requests;
 mod shown;
 mod words;
 
-#[cfg(test)]
-mod tests;
-
 pub use frames::{Frame, flexray_frame_decode, flexray_frame_encode};
 pub use kept::KeptText;
 pub use lent::LentFiles;

@@ -35,10 +35,9 @@ pub(crate) fn hand_over(
     err: &mut [u8],
     told: &mut Texts,
 ) -> u32
-    ensures {
-        ((kept_faults text.now ≡ 0) × (kept_faults line.now ≡ 0)
-            × IsHandedOver status (kept_bytes text.now) (kept_bytes line.now)
-                (places_of out.old out.new err.old err.new told.new) result)
+    ensures { ((kept_faults text.now ≡ 0) × (kept_faults line.now ≡ 0)
+        × IsHandedOver status (kept_bytes text.now) (kept_bytes line.now)
+        (places_of out.old out.new err.old err.new told.new) result)
         ⊎ IsUnanswered (places_of out.old out.new err.old err.new told.new) result }
 {
     if !text.is_whole() || !line.is_whole() {
