@@ -36,10 +36,11 @@ function chart(points, levels, { most, since, sharp, label, width, first = 0, he
   }
   picture.append(drawn("text", { x: width - right, y: height - 2, "text-anchor": "end" }, "cycle"),
     drawn("text", { x: 2, y: top + high / 2, transform: `rotate(-90 11 ${top + high / 2})`, "text-anchor": "middle", class: "axis" }, "skew in us"));
+  const names = [];
   for (const [cycle, name, tall] of [[since, "in sync", 0], [sharp, "sharp sync", 14]]) {
     if (cycle !== null && cycle >= first && cycle < points.length) {
-      picture.append(drawn("line", { x1: x(cycle), x2: x(cycle), y1: top, y2: top + high, class: "since" }),
-        drawn("text", { x: x(cycle) + 4, y: top + 10 + tall, class: "since" }, name));
+      picture.append(drawn("line", { x1: x(cycle), x2: x(cycle), y1: top, y2: top + high, class: "since" }));
+      names.push(drawn("text", { x: x(cycle) + 4, y: top + 10 + tall, class: "since" }, name));
     }
   }
   // Of many cycles each column has its least and its greatest.
@@ -60,6 +61,7 @@ function chart(points, levels, { most, since, sharp, label, width, first = 0, he
     picture.append(drawn("line", { x1: left, x2: width - right, y1: y(level.value), y2: y(level.value), class: `level ${level.class}` }),
       drawn("text", { x: width - right - 4, y: at, "text-anchor": "end", class: level.class }, level.name));
   }
+  picture.append(...names);
   const cross = drawn("line", { y1: top, y2: top + high, class: "cross", visibility: "hidden" });
   const read = drawn("text", { y: top + 4, class: "read", visibility: "hidden" });
   picture.append(cross, read);

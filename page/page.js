@@ -161,9 +161,11 @@ function card(kind, title, big, ...lines) {
 }
 
 function showVerdict() {
+  markWrong();
   const found = page.found, failed = found.report.status !== 0 ? found.report : found.fault, cards = [];
   if (failed) {
-    const told = explain(failed.line, found.files);
+    const told = explain(failed.line, found.files), fields = told.record ? told.record.fields : [];
+    if (fields[0] === "param" && $(`parameter-${fields[1]}`)) $(`parameter-${fields[1]}`).setAttribute("aria-invalid", "true");
     cards.push(element("div", { class: "card bad refused", id: "refusal" }, element("h2", {}, `flexray: ${failed.line}`),
       element("div", { class: "big" }, told.title), ...told.lines.map((line) => element("p", {}, line)),
       told.record && element("p", {}, element("code", {}, told.record.text)),
@@ -172,7 +174,7 @@ function showVerdict() {
     $("verdict").replaceChildren(...cards);
     return;
   }
-  const { run, series, known, sharp } = found, { last } = series;
+  const { run, series, known } = found, { last } = series;
   const kind = last.sharp[1], first = last["sharp synced"][0], lasts = last["sharp synced"][1];
   const covered = last["sharp covered"][0] === "yes", cycle = Number(first) * 2;
   const ending = lasts === "on" || lasts === "" ? "" : `proved for ${lasts} double cycles from there on`;
@@ -191,7 +193,6 @@ function showVerdict() {
   cards.push(card("", "Greatest skew of all", `${us(run.greatest.ticks)} us`, `cycle ${run.greatest.cycle}, macrotick ${run.greatest.macrotick}`,
     run.inSync === null || run.greatest.cycle < 2 * run.inSync ? "before sync, so not to be held against a precision" : null));
   $("verdict").replaceChildren(...cards);
-  void sharp;
 }
 
 function showRecord({ role, record }) {
