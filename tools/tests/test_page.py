@@ -242,7 +242,7 @@ class Page(Bench):
     def test_keys(self):
         self.take("offset")
         self.run_in('selectTab("editor", "Cluster"); $("tab-editor-Cluster").focus()')
-        for key, wanted in (("ArrowRight", "Nodes"), ("ArrowLeft", "Cluster"), ("ArrowLeft", "Files")):
+        for key, wanted in (("ArrowRight", "Nodes"), ("ArrowLeft", "Cluster"), ("ArrowLeft", "TOML")):
             self.browser.key(key)
             self.assertEqual(self.run_in("[page.editor, document.activeElement.textContent]"), [wanted, wanted])
         turn = self.run_in("page.turn")
