@@ -1,4 +1,5 @@
-"""Studies: one run for each point of a grid of values, each draw, or each seed of make, side by side by GNU parallel."""
+"""Studies: one run for each point of a grid of values, each draw, or each seed of make, side by side in processes that call
+the library of flexray, or by GNU parallel."""
 import base64
 import contextlib
 import csv
@@ -6,6 +7,7 @@ import hashlib
 import io
 import itertools
 import json
+import multiprocessing
 import os
 import re
 import shlex
@@ -360,8 +362,41 @@ def jobs_of(plan, todo):
             yield f"{number}:{','.join(values)}:{draw}\n"
 
 
+def beside_of(words):
+    """How many runs go side by side."""
+    return max(1, int(words.jobs) if (words.jobs or "").isdigit() else os.cpu_count() or 1)
+
+
+def kept_folder(folder, plan, number):
+    return run_folder(folder, number) if plan["keep"] == "all" and "make" not in plan else None
+
+
+class Forked:
+    """A run in a copy of this process, where it is some calls of the library and starts no program."""
+
+    plan, folder = {}, ""
+
+    @staticmethod
+    def run(job):
+        number, values, draw = job
+        return run_one(Forked.plan, number, values, draw, kept_folder(Forked.folder, Forked.plan, number))
+
+
+def run_forked(folder, plan, todo, words, results):
+    """Runs what is to be done in copies of this process, as many as go side by side."""
+    Forked.plan, Forked.folder = plan, folder
+    count = min(beside_of(words), len(todo))
+    jobs = (point for point in points(plan) if point[0] in todo)
+    with multiprocessing.get_context("fork").Pool(count) as pool:
+        for line in pool.imap_unordered(Forked.run, jobs, max(1, min(50, len(todo) // (8 * count)))):
+            results.take(line)
+
+
 def run_all(folder, plan, todo, words, results):
-    """Runs what is to be done, by GNU parallel, or one after the other where it is missing."""
+    """Runs what is to be done: by the library, by GNU parallel, or one after the other where both are missing."""
+    if not words.hosts and not words.parallel and (words.jobs or "1").isdigit() and programs.by_library(plan["flexray"]):
+        run_forked(folder, plan, todo, words, results)
+        return
     flexlab = os.path.realpath(sys.argv[0])
     hosts = living_hosts(words, words.host_flexlab or flexlab)
     if words.hosts and not hosts:
@@ -372,14 +407,12 @@ def run_all(folder, plan, todo, words, results):
         print(f"flexlab: {stop.line}; runs go one after the other", file=sys.stderr)
         for number, values, draw in points(plan):
             if number in todo:
-                kept = run_folder(folder, number) if plan["keep"] == "all" and "make" not in plan else None
-                results.take(run_one(plan, number, values, draw, kept))
+                results.take(run_one(plan, number, values, draw, kept_folder(folder, plan, number)))
         return
     # A shell reads the command, of this machine or of another one.
     called = [words.host_flexlab or flexlab] if hosts else [sys.executable, flexlab]
     # A program that is started takes a few runs, so that in a large study starting it does not weigh.
-    beside = int(words.jobs) if (words.jobs or "").isdigit() else os.cpu_count() or 1
-    several = max(1, min(50, len(todo) // (8 * max(1, beside) * max(1, len(hosts)))))
+    several = max(1, min(50, len(todo) // (8 * beside_of(words) * max(1, len(hosts)))))
     wanted = [parallel, "--will-cite", "--line-buffer", *(["--jobs", words.jobs] if words.jobs else []),
               *(["--ssh", words.ssh, "--sshlogin", ",".join(hosts), "--retries", "3"] if hosts else []),
               *shlex.split(words.parallel), "--max-args", str(several),

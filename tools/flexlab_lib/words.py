@@ -103,9 +103,10 @@ def parser():
     explain.add_argument("words", metavar="WORDS", nargs="+")
 
     study = request("study", "run a cluster for each value of a list or a grid, each draw, or each seed of make",
-                    "\nSide by side by GNU parallel, here or on other hosts. The folder has study.csv and study.jsonl, a line a "
-                    "run,\na picture, and a folder of each run that is kept. A study that was stopped goes on with the same "
-                    "words;\nruns that have a line are not run again. A failed run is a line with its status.")
+                    "\nSide by side by the library of flexray where that is there, else by GNU parallel, also on other hosts. The "
+                    "folder has\nstudy.csv and study.jsonl, a line a run, a picture, and a folder of each run that is kept. A "
+                    "study that was\nstopped goes on with the same words; runs that have a line are not run again. A failed run is a "
+                    "line with its status.")
     study.add_argument("file", metavar="FILE.toml", nargs="?", help="the cluster; without it, seeds by --seeds")
     study.add_argument("--vary", metavar="KEY", action="append",
                        help="TABLE.KEY or TABLE[N].KEY, as values.drift or node[2].ppm; several, each with its --values, make "

@@ -61,9 +61,10 @@ class Bench(unittest.TestCase):
     def flexlab(self, *words, status=0, env=None, cwd=None):
         """Standard output and standard error of a call, whose status has to be the one that is expected.
 
-        A test that is for flexray-series names it; the others are the same where it is built and where it is not.
+        A test that is for flexray-series, or for the library, names it; the others are the same where it is built and where it is
+        not.
         """
-        env = {**os.environ, "FLEXRAY": FLEXRAY, "FLEXRAY_SERIES": "", **(env or {})}
+        env = {**os.environ, "FLEXRAY": FLEXRAY, "FLEXRAY_SERIES": "", "FLEXLAB_LIBRARY": "no", **(env or {})}
         ended = subprocess.run([sys.executable, FLEXLAB, *words], capture_output=True, text=True, check=False, env=env,
                                cwd=cwd or self.room)
         self.assertEqual(ended.returncode, status, f"{words}: {ended.stdout}{ended.stderr}")

@@ -1,0 +1,365 @@
+"""What calls answer. All times are in ticks, a millionth of a nominal microtick, where nothing else is said; each answer has
+the text as the program prints it, which `print(answer.text, end="")` shows."""
+from __future__ import annotations
+
+from dataclasses import dataclass, field
+
+__all__ = ["Check", "Bound", "SharpSide", "SharpBound", "Skew", "Sent", "Heard", "NodeEnd", "Report", "SeriesCycle", "Series",
+           "SharpSeries", "CycleRow", "Deviation", "Join", "Trace", "Verdict", "FailedCheck", "Settled", "SharpWay",
+           "SharpSettled", "Lead", "Startup", "Frame", "CapturedFrame", "Capture", "Vector", "Vectors", "Upgraded"]
+
+
+@dataclass(frozen=True)
+class Check:
+    """A check of a cluster, C1 to C9: it holds where `left` is enough for `right`. Sides of C4, C5, C8 and C9 are ticks times
+    macroticks, all others ticks."""
+
+    number: int
+    holds: bool
+    left: int
+    right: int
+
+
+@dataclass(frozen=True)
+class Bound:
+    """The bounds of a cluster (docs/PRECISION.md), with `reach` where it was asked for nodes that join."""
+
+    text: str = field(repr=False)
+    y1: int
+    lambda_: int
+    pi: int
+    precision: int
+    checks: tuple[Check, ...]
+    reach: int | None = None
+
+    @property
+    def failing(self) -> tuple[Check, ...]:
+        return tuple(check for check in self.checks if not check.holds)
+
+
+@dataclass(frozen=True)
+class SharpSide:
+    """The sharper bounds of runs without arbitrary sync nodes, `alone`, or beside such nodes."""
+
+    lambda_: int
+    pi: int
+    precision: int
+    checks: tuple[Check, ...]
+
+    @property
+    def failing(self) -> tuple[Check, ...]:
+        return tuple(check for check in self.checks if not check.holds)
+
+
+@dataclass(frozen=True)
+class SharpBound:
+    """The sharper bounds where delays flutter by at most `flutter`. `lasts` is for how many double cycles they hold, None
+    where they do on and on."""
+
+    text: str = field(repr=False)
+    flutter: int
+    alone: SharpSide
+    beside: SharpSide
+    lasts: int | None
+
+
+@dataclass(frozen=True)
+class Skew:
+    """How far nodes lie apart at most: the ticks, and the first cycle and macrotick at which they do."""
+
+    ticks: int
+    cycle: int
+    macrotick: int
+
+
+@dataclass(frozen=True)
+class Sent:
+    """The frames of a channel: how many correct nodes sent, and the exclusive or of their frame CRCs."""
+
+    frames: int
+    xor: int
+
+
+@dataclass(frozen=True)
+class Heard:
+    """The answers of correct nodes to frames that came to them, by what became of these (docs/FORMATS.md)."""
+
+    stored: int
+    outside: int
+    damaged: int
+    id: int
+    cycle: int
+    length: int
+    plain: int
+
+
+@dataclass(frozen=True)
+class NodeEnd:
+    """A node behind the last cycle: its state, the start of the cycle that would come next, its terms in microticks."""
+
+    node: int
+    state: str
+    next: int
+    rate: int
+    offset: int
+
+
+@dataclass(frozen=True)
+class Report:
+    """The report of a run. `gap` is empty where the run is covered, else the words of the first gap, as `("check", "1",
+    "999801", "1500300")`. `in_sync` is the first double cycle in sync, None where none is."""
+
+    text: str = field(repr=False)
+    nodes: int
+    sync: int
+    arbitrary: int
+    doubles: int
+    precision: int
+    covered: bool
+    gap: tuple[str, ...]
+    in_sync: int | None
+    greatest: Skew
+    sent_a: Sent
+    sent_b: Sent
+    heard: Heard
+    cut: int
+    ends: tuple[NodeEnd, ...]
+
+
+@dataclass(frozen=True)
+class SeriesCycle:
+    """A cycle of a series: whether its double cycle is in sync, and its greatest skew. `sharp` is whether it is in sharp sync,
+    None in a series that was not asked for it."""
+
+    cycle: int
+    in_sync: bool
+    skew: int
+    macrotick: int
+    sharp: bool | None = None
+
+
+@dataclass(frozen=True)
+class Series:
+    """The skew of each cycle. `greatest` is since the first double cycle in sync, `within` whether the skew stayed within the
+    precision since then, `beyond` the first cycle and macrotick at which it did not; None where no double cycle is in sync.
+    `synced` is whether the last double cycle is in sync, `lost` the one from which on none is."""
+
+    text: str = field(repr=False)
+    cycles: tuple[SeriesCycle, ...] = field(repr=False)
+    greatest: Skew | None
+    synced: bool
+    lost: int | None
+    within: bool | None
+    beyond: tuple[int, int] | None
+
+
+@dataclass(frozen=True)
+class SharpSeries(Series):
+    """A series held against the sharper precision too. `kind` is `alone` or `beside`; `sharp_synced` the first double cycle in
+    sharp sync; `lasts` for how many double cycles from there on it is proved, None where to the end."""
+
+    flutter: int
+    precision: int
+    kind: str
+    sharp_covered: bool
+    sharp_gap: tuple[str, ...]
+    sharp_synced: int | None
+    lasts: int | None
+    sharp_greatest: Skew | None
+    sharp_within: bool | None
+    sharp_beyond: tuple[int, int] | None
+
+
+@dataclass(frozen=True)
+class CycleRow:
+    """A cycle of a node: its start and the length of its microtick in ticks, its terms in microticks, its state."""
+
+    cycle: int
+    node: int
+    start: int
+    length: int
+    rate: int
+    offset: int
+    state: str
+
+
+@dataclass(frozen=True)
+class Deviation:
+    """What a node measured of the sync frame of a slot, in microticks; above 0 it came late."""
+
+    cycle: int
+    receiver: int
+    slot: int
+    channel: str
+    microticks: int
+
+
+@dataclass(frozen=True)
+class Join:
+    """A node that joins: it listens to its reference in this double cycle."""
+
+    node: int
+    reference: int
+    double: int
+
+
+@dataclass(frozen=True)
+class Trace:
+    """What each node did and measured, cycle by cycle. `text` is a trace file, which `check` takes."""
+
+    text: str = field(repr=False)
+    doubles: int
+    arbitrary: tuple[int, ...]
+    joins: tuple[Join, ...]
+    cycles: tuple[CycleRow, ...] = field(repr=False)
+    deviations: tuple[Deviation, ...] = field(repr=False)
+
+
+@dataclass(frozen=True)
+class Verdict:
+    """Whether a trace is lawful and covered. Where it is not, `line` says why: the record that breaks a law, or the first gap;
+    `record` is the number of that record, None of a gap, and the other fields are None."""
+
+    text: str = field(repr=False)
+    passes: bool
+    line: str = ""
+    record: int | None = None
+    nodes: int | None = None
+    arbitrary: int | None = None
+    doubles: int | None = None
+    precision: int | None = None
+    in_sync: int | None = None
+    greatest: Skew | None = None
+
+
+@dataclass(frozen=True)
+class FailedCheck:
+    """The check for the way to sync that fails, with both its sides."""
+
+    number: int
+    left: int
+    right: int
+
+
+@dataclass(frozen=True)
+class Settled:
+    """How soon clocks that begin apart are in sync: in double cycle `double` at the latest, from 0, on a way with no two
+    macroticks further apart than `peak`; or `failed`, the check that keeps this from being proved."""
+
+    text: str = field(repr=False)
+    start: int
+    rate: int
+    peak: int
+    double: int | None
+    failed: FailedCheck | None
+
+
+@dataclass(frozen=True)
+class SharpWay:
+    """The same of sharp sync, without arbitrary sync nodes (`alone`) or beside them."""
+
+    peak: int
+    double: int | None
+    failed: FailedCheck | None
+
+
+@dataclass(frozen=True)
+class SharpSettled:
+    """How soon clocks that begin apart are in sharp sync."""
+
+    text: str = field(repr=False)
+    start: int
+    rate: int
+    flutter: int
+    alone: SharpWay
+    beside: SharpWay
+
+
+@dataclass(frozen=True)
+class Lead:
+    """A node begins to lead a startup, at this macrotick from the begin of the run."""
+
+    node: int
+    macrotick: int
+
+
+@dataclass(frozen=True)
+class Startup:
+    """Who leads a startup. `apart` has the first two coldstart nodes that share no channel, None where all do; `leading` the
+    nodes that lead at the end."""
+
+    text: str = field(repr=False)
+    coldstart: int
+    cycles: int
+    apart: tuple[int, int] | None
+    leads: tuple[Lead, ...]
+    leading: tuple[int, ...]
+
+
+@dataclass(frozen=True)
+class Frame:
+    """A frame: `null_frame` is True where the payload is not valid, so `null 0` in the text. `words` is the payload's length
+    in two-byte words."""
+
+    text: str = field(repr=False)
+    channel: str
+    id: int
+    words: int
+    cycle: int
+    reserved: bool
+    preamble: bool
+    null_frame: bool
+    sync: bool
+    startup: bool
+    header_crc: int
+    frame_crc: int
+    payload: bytes
+
+
+@dataclass(frozen=True)
+class CapturedFrame:
+    """A frame of a recording: the place of its first byte, from 0."""
+
+    place: int
+    id: int
+    words: int
+    cycle: int
+    crc: int
+
+
+@dataclass(frozen=True)
+class Capture:
+    """The frames of a recording up to the first fault. `bytes` is how many they have together; `fault` says what stands at
+    `fault_place`, None where nothing is left."""
+
+    text: str = field(repr=False)
+    frames: tuple[CapturedFrame, ...]
+    bytes: int
+    fault: str | None
+    fault_place: int | None
+
+
+@dataclass(frozen=True)
+class Vector:
+    """The network management vector of a cycle, of so many frames."""
+
+    cycle: int
+    vector: bytes
+    frames: int
+
+
+@dataclass(frozen=True)
+class Vectors:
+    """The vectors of a recording; `frames` counted, `ignored` did not."""
+
+    text: str = field(repr=False)
+    cycles: tuple[Vector, ...]
+    frames: int
+    ignored: int
+
+
+@dataclass(frozen=True)
+class Upgraded:
+    """Parameters as a file of version 2; `text` is a parameter file."""
+
+    text: str

@@ -1,0 +1,238 @@
+"""The printed texts, taken apart. Their forms are those of docs/FORMATS.md; a line that fits none is a fault of this module."""
+from __future__ import annotations
+
+import re
+
+from .results import (Bound, Capture, CapturedFrame, Check, CycleRow, Deviation, FailedCheck, Frame, Heard, Join, Lead, NodeEnd,
+                      Report, Sent, Series, SeriesCycle, Settled, SharpBound, SharpSeries, SharpSettled, SharpSide, SharpWay,
+                      Skew, Startup, Trace, Upgraded, Vector, Vectors, Verdict)
+
+
+class _Lines:
+    """The lines of a text, taken one after the other by their form."""
+
+    def __init__(self, text: str) -> None:
+        self.lines = text.splitlines()
+        self.at = 0
+
+    @property
+    def more(self) -> bool:
+        return self.at < len(self.lines)
+
+    def maybe(self, form: str) -> tuple[str, ...] | None:
+        """The groups of the next line, where it has this form."""
+        found = re.fullmatch(form, self.lines[self.at]) if self.more else None
+        if found is None:
+            return None
+        self.at += 1
+        return found.groups()
+
+    def take(self, form: str) -> tuple[str, ...]:
+        found = self.maybe(form)
+        if found is None:
+            line = self.lines[self.at] if self.more else "the end of the text"
+            raise ValueError(f"flexray printed what this module does not understand: {line}")
+        return found
+
+    def one(self, form: str) -> int:
+        return int(self.take(form)[0])
+
+    def every(self, form: str) -> list[tuple[str, ...]]:
+        found = []
+        while (groups := self.maybe(form)) is not None:
+            found.append(groups)
+        return found
+
+
+def _numbers(groups: tuple[str, ...]) -> tuple[int, ...]:
+    return tuple(int(group) for group in groups)
+
+
+def _checks(groups: list[tuple[str, ...]]) -> tuple[Check, ...]:
+    return tuple(Check(int(number), holds == "holds", int(left), int(right)) for number, holds, left, right in groups)
+
+
+CHECK = r"C(\d) (holds|fails) (-?\d+) (-?\d+)"
+
+
+def bound(text: str) -> Bound:
+    lines = _Lines(text)
+    y1, lambda_, pi, precision = (lines.one(rf"{name} (\d+)") for name in ("y1", "lambda", "pi", "precision"))
+    checks = lines.every(CHECK)
+    reach = lines.one(r"reach (\d+)") if lines.more else None
+    return Bound(text, y1, lambda_, pi, precision, _checks(checks + lines.every(CHECK)), reach)
+
+
+def sharp_bound(text: str) -> SharpBound:
+    lines = _Lines(text)
+    flutter = lines.one(r"flutter (\d+)")
+    kinds = ("alone", "beside")
+    numbers = {kind: tuple(lines.one(rf"{kind} {name} (\d+)") for name in ("lambda", "pi", "precision")) for kind in kinds}
+    both = lines.every(CHECK)
+    sides = {}
+    for kind in kinds:
+        lambda_, pi, precision = numbers[kind]
+        sides[kind] = SharpSide(lambda_, pi, precision, _checks(both + lines.every(f"{kind} {CHECK}")))
+    lasts = lines.take(r"lasts (on|\d+)")[0]
+    return SharpBound(text, flutter, sides["alone"], sides["beside"], None if lasts == "on" else int(lasts))
+
+
+def _skew_line(lines: _Lines) -> Skew:
+    return Skew(*_numbers(lines.take(r"greatest skew (\d+) cycle (\d+) macrotick (\d+)")))
+
+
+def _in_sync(lines: _Lines) -> int | None:
+    double = lines.take(r"in sync (never|\d+)")[0]
+    return None if double == "never" else int(double)
+
+
+def report(text: str) -> Report:
+    lines = _Lines(text)
+    nodes, sync, arbitrary, doubles = _numbers(lines.take(r"nodes (\d+) sync (\d+) arbitrary (\d+) doubles (\d+)"))
+    precision = lines.one(r"precision (\d+)")
+    covered, gap = lines.take(r"covered (yes|no)(?: (.+))?")
+    in_sync, greatest = _in_sync(lines), _skew_line(lines)
+    sent_a, sent_b = (Sent(int(frames), int(xor, 16)) for frames, xor in
+                      (lines.take(rf"sent {channel} (\d+) xor ([0-9A-F]{{6}})") for channel in "AB"))
+    names = ("stored", "outside", "damaged", "id", "cycle", "length", "plain")
+    heard = Heard(*_numbers(lines.take("heard " + " ".join(rf"{name} (\d+)" for name in names))))
+    cut = lines.one(r"cut (\d+)")
+    ends = lines.every(r"node (\d+) (active|passive|halt) next (\d+) rate (-?\d+) offset (-?\d+)")
+    return Report(text, nodes, sync, arbitrary, doubles, precision, covered == "yes", tuple(gap.split()) if gap else (), in_sync,
+                  greatest, sent_a, sent_b, heard, cut, tuple(NodeEnd(int(node), state, int(start), int(rate), int(offset))
+                                                     for node, state, start, rate, offset in ends))
+
+
+def _greatest(groups: tuple[str, ...]) -> Skew | None:
+    return None if groups[0] == "-" else Skew(*_numbers(groups))
+
+
+def _within(groups: tuple[str, ...]) -> tuple[bool | None, tuple[int, int] | None]:
+    told, cycle, macrotick = groups
+    return (None if told == "-" else told == "yes"), ((int(cycle), int(macrotick)) if cycle else None)
+
+
+def series(text: str) -> Series:
+    lines = _Lines(text)
+    lines.take("cycle,in_sync,skew,macrotick")
+    rows = lines.every(r"(\d+),(yes|no),(\d+),(\d+)")
+    cycles = tuple(SeriesCycle(int(cycle), told == "yes", int(skew), int(macrotick)) for cycle, told, skew, macrotick in rows)
+    return Series(text, cycles, *_ends(lines, ""))
+
+
+def _ends(lines: _Lines, comma: str) -> tuple[Skew | None, bool, int | None, bool | None, tuple[int, int] | None]:
+    greatest = _greatest(lines.take(rf"greatest,(-|\d+),(-|\d+),(-|\d+){comma}"))
+    synced, lost = lines.take(rf"synced,(yes|no),(\d*),{comma}")
+    within, beyond = _within(lines.take(rf"within,(yes|no|-),(\d*),(\d*){comma}"))
+    return greatest, synced == "yes", int(lost) if lost else None, within, beyond
+
+
+def sharp_series(text: str) -> SharpSeries:
+    lines = _Lines(text)
+    lines.take("cycle,in_sync,skew,macrotick,sharp")
+    cycles = tuple(SeriesCycle(int(cycle), told == "yes", int(skew), int(macrotick), sharp == "yes")
+                   for cycle, told, skew, macrotick, sharp in lines.every(r"(\d+),(yes|no),(\d+),(\d+),(yes|no)"))
+    ends = _ends(lines, ",")
+    flutter = lines.one(r"flutter,(\d+),,,")
+    precision, kind = lines.take(r"sharp,(\d+),(alone|beside),,")
+    covered, gap = lines.take(r"sharp covered,(yes|no),,,(.*)")
+    synced, lasts = lines.take(r"sharp synced,(-|\d+),(on|\d*),,")
+    greatest = _greatest(lines.take(r"sharp greatest,(-|\d+),(-|\d+),(-|\d+),"))
+    within, beyond = _within(lines.take(r"sharp within,(yes|no|-),(\d*),(\d*),"))
+    return SharpSeries(text, cycles, *ends, flutter, int(precision), kind, covered == "yes", tuple(gap.split()),
+                       None if synced == "-" else int(synced), int(lasts) if lasts.isdigit() else None, greatest, within, beyond)
+
+
+def trace(text: str) -> Trace:
+    """Taken apart by its commas alone, since a trace may have millions of rows."""
+    doubles, arbitrary, joins, cycles, deviations = 0, [], [], [], []
+    for line in text.splitlines():
+        words = line.split(",")
+        if words[0] == "cycle":
+            cycles.append(CycleRow(int(words[1]), int(words[2]), int(words[3]), int(words[4]), int(words[5]), int(words[6]),
+                                   words[7]))
+        elif words[0] == "dev":
+            deviations.append(Deviation(int(words[1]), int(words[2]), int(words[3]), words[4], int(words[5])))
+        elif words[0] == "run":
+            doubles = int(words[1])
+        elif words[0] == "arbitrary":
+            arbitrary.append(int(words[1]))
+        elif words[0] == "join":
+            joins.append(Join(int(words[1]), int(words[2]), int(words[3])))
+        else:
+            raise ValueError(f"flexray printed what this module does not understand: {line}")
+    return Trace(text, doubles, tuple(arbitrary), tuple(joins), tuple(cycles), tuple(deviations))
+
+
+def verdict(text: str) -> Verdict:
+    lines = _Lines(text)
+    nodes, arbitrary, doubles = _numbers(lines.take(r"trace nodes (\d+) arbitrary (\d+) doubles (\d+)"))
+    precision = lines.one(r"precision (\d+)")
+    return Verdict(text, True, "", None, nodes, arbitrary, doubles, precision, _in_sync(lines), _skew_line(lines))
+
+
+def failed_verdict(line: str) -> Verdict:
+    found = re.match(r"trace: record (\d+) ", line)
+    return Verdict("", False, line, int(found[1]) if found else None)
+
+
+def _way(lines: _Lines, before: str) -> tuple[int, int | None, FailedCheck | None]:
+    peak = lines.one(rf"{before}peak (\d+)")
+    double = lines.maybe(rf"{before}settles (\d+)")
+    if double is not None:
+        return peak, int(double[0]), None
+    failed = lines.take(rf"{before}settles no check (\d) (-?\d+) (-?\d+)")
+    return peak, None, FailedCheck(*_numbers(failed))
+
+
+def settled(text: str) -> Settled:
+    lines = _Lines(text)
+    start, rate = _numbers(lines.take(r"start (\d+) rate (\d+)"))
+    return Settled(text, start, rate, *_way(lines, ""))
+
+
+def sharp_settled(text: str) -> SharpSettled:
+    lines = _Lines(text)
+    start, rate, flutter = _numbers(lines.take(r"start (\d+) rate (\d+) flutter (\d+)"))
+    return SharpSettled(text, start, rate, flutter, SharpWay(*_way(lines, "alone ")), SharpWay(*_way(lines, "beside ")))
+
+
+def startup(text: str) -> Startup:
+    lines = _Lines(text)
+    coldstart, cycles = _numbers(lines.take(r"coldstart (\d+) cycles (\d+)"))
+    first, second = lines.take(r"connected (?:yes|no (\d+) (\d+))")
+    leads = tuple(Lead(*_numbers(groups)) for groups in lines.every(r"lead (\d+) at (\d+)"))
+    leading = tuple(int(node) for (node,) in lines.every(r"leading (\d+)"))
+    if not leading:
+        lines.take("leading none")
+    return Startup(text, coldstart, cycles, (int(first), int(second)) if first else None, leads, leading)
+
+
+def frame(text: str) -> Frame:
+    bits = " ".join(rf"{name} ([01])" for name in ("reserved", "preamble", "null", "sync", "startup"))
+    found = _Lines(text).take(rf"frame ([AB]) id (\d+) words (\d+) cycle (\d+) {bits} header ([0-9A-F]{{3}}) "
+                              r"crc ([0-9A-F]{6}) payload (-|[0-9A-F]+)")
+    reserved, preamble, valid, sync, coldstart = (bit == "1" for bit in found[4:9])
+    number, words, cycle = _numbers(found[1:4])
+    return Frame(text, found[0], number, words, cycle, reserved, preamble, not valid, sync, coldstart, int(found[9], 16),
+                 int(found[10], 16), b"" if found[11] == "-" else bytes.fromhex(found[11]))
+
+
+def capture(text: str) -> Capture:
+    lines = _Lines(text)
+    frames = tuple(CapturedFrame(int(place), int(number), int(words), int(cycle), int(crc, 16))
+                   for place, number, words, cycle, crc in lines.every(r"at (\d+) id (\d+) words (\d+) cycle (\d+) crc ([0-9A-F]{6})"))
+    count = lines.one(rf"frames {len(frames)} bytes (\d+)")
+    place, fault = lines.take(r"fault (?:none|(\d+) (.+))")
+    return Capture(text, frames, count, fault, int(place) if place else None)
+
+
+def vectors(text: str) -> Vectors:
+    lines = _Lines(text)
+    cycles = tuple(Vector(int(cycle), bytes.fromhex(vector), int(frames)) for cycle, vector, frames in
+                   lines.every(r"cycle (\d+) vector ([0-9A-F]+) frames (\d+)"))
+    return Vectors(text, cycles, *_numbers(lines.take(r"frames (\d+) ignored (\d+)")))
+
+
+def upgraded(text: str) -> Upgraded:
+    return Upgraded(text)

@@ -1,0 +1,339 @@
+"""The page in a headless Chromium, opened from disk: every example against its stored text, edits against the program, refusals,
+keyboard, narrow screens."""
+import base64
+import gzip
+import json
+import os
+import re
+import subprocess
+import unittest
+from pathlib import Path
+
+from bench import FLEXRAY, REPOSITORY, SERIES, TOOLS, Bench
+from browser import Browser, chromium
+from test_python import examples
+
+PAGE = os.environ.get("FLEXRAY_PAGE") or os.path.join(REPOSITORY, "out", "page", "flexray.html")
+EXAMPLES = Path(REPOSITORY, "examples")
+FILES = ("params", "drift", "script")
+WHY = ("chromium is not installed" if not chromium() else
+       "the page is not built: tools/page builds it" if not os.path.exists(PAGE) else None)
+IDLE = 'document.documentElement.dataset.state !== "busy"'
+
+
+def significant(text):
+    """The records of a file in an order of their own; what holds where no record says it need not be written."""
+    return sorted(line for line in text.splitlines() if line and not re.fullmatch(r"start,\d+,0,0,,|length,\d+,0,1000000,,", line))
+
+
+@unittest.skipIf(WHY, WHY)
+class Page(Bench):
+    browser = None
+
+    @classmethod
+    def setUpClass(cls):
+        cls.browser = Browser()
+        cls.browser.open(PAGE)
+        cls.browser.until('document.documentElement.dataset.state === "ready"')
+
+    @classmethod
+    def tearDownClass(cls):
+        cls.browser.close()
+
+    def setUp(self):
+        super().setUp()
+        self.run_in = self.browser.evaluate
+
+    def tearDown(self):
+        self.assertEqual(self.browser.faults, [])
+
+    def settle(self):
+        self.browser.until(IDLE)
+
+    def take(self, name):
+        self.run_in(f'$("example").value = {json.dumps(name)}; $("example").onchange(); 0')
+        self.settle()
+
+    def text_of(self, name):
+        return self.run_in(f"page.found.texts[{json.dumps(name)}]")
+
+    def answered(self, words, files, is_series):
+        lists = json.dumps([list(data) for data in files])
+        return self.run_in(f"program.request({json.dumps(words)}, {lists}.map((list) => Uint8Array.from(list)), "
+                           f"{json.dumps(is_series)}).then(({{ status, text, line }}) => [status, text, line])")
+
+    def put(self, selector, value):
+        """Types into a field, as its events go."""
+        self.run_in(f'{{ const field = document.querySelector({json.dumps(selector)}); field.value = {json.dumps(value)}; '
+                    'field.dispatchEvent(new Event("input", { bubbles: true })); }')
+
+    def by_program(self, files):
+        """What the programs print of these files."""
+        paths = [self.write(f"{name}.csv", text) for name, text in zip(FILES, files)]
+        found = [subprocess.run([FLEXRAY, "run", *paths], capture_output=True, text=True, check=True).stdout]
+        if SERIES:
+            found.append(subprocess.run([SERIES, *paths, "sharp"], capture_output=True, text=True, check=True).stdout)
+        return found
+
+    def test_every_example_is_what_the_program_prints(self):
+        for name, is_series, words, files, status, text, line in examples():
+            with self.subTest(name):
+                self.assertEqual(self.answered(words, files, is_series), [status, text, line])
+
+    def test_each_example_that_the_page_offers(self):
+        names = self.run_in('[...$("example").options].map((option) => option.value).filter(Boolean)')
+        self.assertGreater(len(names), 15)
+        for name in names:
+            with self.subTest(name):
+                self.take(name)
+                self.assertEqual(self.run_in("document.documentElement.dataset.state"), "ready")
+                folder = EXAMPLES / name
+                printed = "series" if (folder / "program").exists() else "report"
+                self.assertEqual(self.text_of(printed), (folder / "printed.txt").read_text())
+                self.run_in(f'page.printed = "{printed}"; selectTab("answers", "As printed")')
+                self.assertEqual(self.run_in('$("printed").textContent'), (folder / "printed.txt").read_text())
+                self.run_in('selectTab("answers", "Summary")')
+                cycles = self.run_in("page.found.series.skew.length")
+                self.assertEqual(cycles, 2 * int(re.search(r"^doubles,(\d+)", (folder / "drift.csv").read_text(), re.M)[1]))
+
+    def test_the_form_writes_what_it_read(self):
+        for folder in sorted(EXAMPLES.iterdir()):
+            if (folder / "drift.csv").exists():
+                with self.subTest(folder.name):
+                    files = {name: (folder / f"{name}.csv").read_text() for name in FILES}
+                    written = self.run_in(f"(() => {{ const read = readCluster({json.dumps(files)}, '25'); return typeof read === "
+                                          "'string' ? read : writeCluster(read); })()")
+                    self.assertEqual(written["wrong"], [])
+                    for name in FILES:
+                        self.assertEqual(significant(written["files"][name]), significant(files[name]))
+
+    def test_an_edit_is_what_the_program_answers(self):
+        self.take("bench")
+        self.run_in('selectTab("editor", "Nodes")')
+        self.put('[aria-label="ppm, node 1"]', "200")
+        self.settle()
+        files = [(EXAMPLES / "bench" / f"{name}.csv").read_text() for name in FILES]
+        files[1] = files[1].replace("length,1,0,999850,,", "length,1,0,999800,,")
+        self.assertEqual([self.text_of("report"), self.text_of("series")][:len(self.by_program(files))], self.by_program(files))
+        self.assertNotEqual(self.text_of("report"), (EXAMPLES / "bench" / "printed.txt").read_text())
+
+    def test_units_of_a_bench(self):
+        self.take("offset")
+        self.run_in('selectTab("editor", "Nodes")')
+        self.assertEqual(self.run_in("document.querySelector('[aria-label=\"start, us, node 2\"]').value"), "0.0625")
+        for given, ticks in (("0.1", "4000000"), ("1.23456789", "49382716"), ("0,5", "20000000")):
+            self.put('[aria-label="start, us, node 2"]', given)
+            self.settle()
+            self.assertIn(f"\nstart,2,{ticks},0,,\n", self.run_in("page.files.drift"))
+        for ppm, length in (("150", 999850), ("-150", 1000150), ("1498.25", 998504), ("0.4", 1000000)):
+            self.assertEqual(self.run_in(f"String(lengthOf('{ppm}'))"), str(length))
+
+    def test_a_ramp_is_that_of_flexlab(self):
+        self.take("bench")
+        self.run_in('selectTab("editor", "Clocks and delays")')
+        row = [self.run_in(f"document.querySelector('[aria-label=\"{head}, change 1\"]').value")
+               for head in ("node", "from cycle", "ppm", "to cycle", "ppm there")]
+        self.assertEqual(row[0::2], ["3", "-40", "20"])
+        self.put('[aria-label="to cycle, change 1"]', "120")
+        self.settle()
+        text = (EXAMPLES / "bench" / "bench.toml").read_text().replace('"100-180"', f'"{row[1]}-120"').replace('"181-"', '"121-"')
+        self.flexlab("build", "-o", self.path("made"), self.write("ramp.toml", text))
+        self.assertEqual(sorted(self.run_in("page.files.drift").splitlines()), sorted(self.read("made", "drift.csv").splitlines()))
+
+    def files_of(self, text):
+        return self.run_in(f"filesOfToml({json.dumps(text)}).files")
+
+    def same_files(self, found, folder):
+        for name in FILES:
+            self.assertEqual(significant(found[name]), significant(self.read(folder, f"{name}.csv")), name)
+
+    def test_toml_is_that_of_flexlab(self):
+        """What the page makes of a TOML file is what flexlab makes of it."""
+        paths = [EXAMPLES / "bench" / "bench.toml", EXAMPLES / "sharp" / "sharp.toml", Path(TOOLS, "flexlab_lib", "example.toml")]
+        for path in paths:
+            with self.subTest(path.name):
+                self.flexlab("build", "-o", self.path("made"), str(path))
+                self.same_files(self.files_of(path.read_text()), "made")
+
+    def test_the_form_as_toml(self):
+        """flexlab makes of the TOML file of each example what its files are; and so does the page."""
+        for folder in sorted(EXAMPLES.iterdir()):
+            if (folder / "drift.csv").exists() and folder.name != "compensations":
+                with self.subTest(folder.name):
+                    files = {name: (folder / f"{name}.csv").read_text() for name in FILES}
+                    text = self.run_in(f"tomlOf(readCluster({json.dumps(files)}, '25')).text")
+                    self.flexlab("build", "-o", self.path("made"), self.write("form.toml", text))
+                    self.same_files(files, "made")
+                    self.same_files(self.files_of(text), "made")
+
+    def test_toml_that_cannot_be_read(self):
+        bench = (EXAMPLES / "bench" / "bench.toml").read_text()
+        self.take("bench")
+        self.run_in('selectTab("editor", "TOML")')
+        for old, new, wanted in (("ppm = 150", "ppm = { uniform = [0, 1] }", "line 39: numbers that are drawn are for flexlab alone"),
+                                 ("ppm = 150", "ppm = fast", "line 39: fast is no value that this page reads"),
+                                 ("double_cycles = 200", "", "double_cycles: it is missing"),
+                                 ("late = [2, 4]", "late = [2, 9]", "say: no two of these nodes")):
+            self.assertIn(old, bench)
+            self.put("#file-toml", bench.replace(old, new, 1))
+            self.assertIn(wanted, self.run_in('$("toml-fault").textContent'))
+        self.put("#file-toml", bench.replace("ppm = 150", "ppm = 200", 1))
+        self.settle()
+        self.assertEqual(self.run_in('$("toml-fault").textContent'), "")
+        self.assertIn("\nlength,1,0,999800,,\n", self.run_in("page.files.drift"))
+
+    def test_what_is_not_understood_is_marked_and_nothing_is_run(self):
+        self.take("offset")
+        self.run_in('selectTab("editor", "Nodes")')
+        self.put('[aria-label="ppm, node 1"]', "fast")
+        self.assertEqual(self.run_in("document.querySelector('[aria-label=\"ppm, node 1\"]').getAttribute('aria-invalid')"), "true")
+        self.assertEqual(self.run_in('$("state").textContent'), "1 field is not understood")
+        self.assertEqual(self.text_of("report"), (EXAMPLES / "offset" / "printed.txt").read_text())
+
+    def refused(self):
+        self.settle()
+        self.assertEqual(self.run_in("document.documentElement.dataset.state"), "failed")
+        return self.run_in('$("refusal").innerText')
+
+    def test_refusals_are_explained(self):
+        self.take("bench")
+        self.run_in('selectTab("editor", "Cluster")')
+        self.put("#parameter-gdNIT", "2001")
+        told = self.refused()
+        self.assertIn("constraint 1", told)
+        self.assertIn("5000 is not 60 · 50 + 2001 = 5001; with gdNIT 2000 it is", told)
+        self.put("#parameter-gdNIT", "2000")
+        self.put("#parameter-pClusterDriftDamping", "101")
+        self.assertIn("pClusterDriftDamping “101” is not from 0 to 100 microticks.", self.refused())
+        self.run_in('document.querySelector("#refusal button").click()')
+        self.assertEqual(self.run_in("(() => { const area = document.activeElement; return area.id + ' ' + "
+                                     "area.value.slice(area.selectionStart, area.selectionEnd); })()"),
+                         "file-params param,pClusterDriftDamping,101,,")
+        for name, text, wanted in (("script", "lose,0,9,1,A,,\n", "SENDER “9” is none of the nodes 1, 2, 3, 4, 5."),
+                                   ("script", "say,0,1,2,A,0,\n", "The sender has to be an arbitrary node"),
+                                   ("script", "lose,0,1,2,A,\n", "It has 6 fields, and a record of this file has 7"),
+                                   ("drift", "doubles,many,,,,\n", "COUNT “many” is no whole number"),
+                                   ("drift", "length,1,0,999900,,\n", "says how many double cycles the run has"),
+                                   ("drift", "speed,1,0,999900,,\n", "“speed” is none of doubles, start, length, delay"),
+                                   ("params", "param,gMacroPerCycle,5000,,\n", "gives no such line")):
+            self.take("bench")
+            self.run_in('selectTab("editor", "Files")')
+            self.put(f"#file-{name}", text)
+            told = self.refused()
+            if name == "params":
+                self.assertRegex(told, r"params.csv lacks pMicroPerCycle[\s\S]*10 to 640000")
+            else:
+                self.assertIn(wanted, told)
+
+    def test_a_file_that_the_form_cannot_show_is_run_all_the_same(self):
+        self.take("offset")
+        self.run_in('selectTab("editor", "Files")')
+        quoted = (EXAMPLES / "offset" / "drift.csv").read_text().replace("doubles,2", '"doubles",2')
+        self.put("#file-drift", quoted)
+        self.settle()
+        self.assertEqual(self.text_of("report"), (EXAMPLES / "offset" / "printed.txt").read_text())
+        self.run_in('selectTab("editor", "Nodes")')
+        self.assertIn("cannot show these files", self.run_in('$("editor-panel").innerText'))
+
+    def test_gaps_are_told(self):
+        self.take("lost")
+        self.assertIn("no channel carries the frames of node 1 to node 2", self.run_in('$("verdict").innerText'))
+
+    def test_keys(self):
+        self.take("offset")
+        self.run_in('selectTab("editor", "Cluster"); $("tab-editor-Cluster").focus()')
+        for key, wanted in (("ArrowRight", "Nodes"), ("ArrowLeft", "Cluster"), ("ArrowLeft", "TOML")):
+            self.browser.key(key)
+            self.assertEqual(self.run_in("[page.editor, document.activeElement.textContent]"), [wanted, wanted])
+        turn = self.run_in("page.turn")
+        self.browser.key("Enter", modifiers=2)
+        self.settle()
+        self.assertEqual(self.run_in("page.turn"), turn + 1)
+
+    def test_every_field_has_a_name(self):
+        self.take("bench")
+        for tab in self.run_in("Object.keys(EDITOR)"):
+            self.run_in(f"selectTab('editor', {json.dumps(tab)})")
+            self.assertEqual(self.run_in("[...document.querySelectorAll('#editor-panel input, #editor-panel select, #editor-panel "
+                                         "textarea')].filter((field) => !field.getAttribute('aria-label') && !field.labels.length)"
+                                         ".length"), 0, tab)
+
+    def test_nothing_is_wider_than_the_screen(self):
+        self.addCleanup(self.browser.dark, False)
+        self.addCleanup(self.browser.size, 1400, 1000)
+        for width in (1400, 820, 390, 320):
+            self.browser.size(width, 900)
+            for name in ("growing", "walk"):
+                self.take(name)
+                for tab in self.run_in("Object.keys(EDITOR)"):
+                    for answer in self.run_in("Object.keys(RESULTS)"):
+                        self.run_in(f"selectTab('editor', {json.dumps(tab)}); selectTab('answers', {json.dumps(answer)})")
+                        self.assertLessEqual(self.run_in("document.documentElement.scrollWidth"), width, (width, name, tab, answer))
+
+    def test_words_can_be_read_in_both_colours(self):
+        """The contrast of what is written to what is behind it, as WCAG reckons it."""
+        self.addCleanup(self.browser.dark, False)
+        self.take("lost")
+        contrast = """(() => {
+            const light = (text) => { const parts = text.match(/[\\d.]+/g).slice(0, 3).map((one) => one / 255)
+                .map((one) => (one <= 0.04045 ? one / 12.92 : ((one + 0.055) / 1.055) ** 2.4));
+                return 0.2126 * parts[0] + 0.7152 * parts[1] + 0.0722 * parts[2]; };
+            const behind = (one) => { for (let at = one; at; at = at.parentElement) {
+                const colour = getComputedStyle(at).backgroundColor; if (!/, 0\\)$/.test(colour)) return colour; } return "rgb(255,255,255)"; };
+            return Math.min(...[...document.querySelectorAll("h1, h2, h3, p, td, th, .big, label, small, button, legend, .name, span")]
+                .filter((one) => one.textContent.trim() && one.offsetParent).map((one) => {
+                    const both = [light(getComputedStyle(one).color), light(behind(one))].sort((low, high) => high - low);
+                    return (both[0] + 0.05) / (both[1] + 0.05); })); })()"""
+        for is_dark in (False, True):
+            self.browser.dark(is_dark)
+            self.assertGreater(self.run_in(contrast), 4.5, is_dark)
+
+    def test_it_asks_for_nothing_from_outside(self):
+        text = Path(PAGE).read_text(encoding="utf-8")
+        self.assertEqual(set(re.findall(r"https?://[^\s\"'`]*", text)), {"http://www.w3.org/2000/svg"})
+        self.assertIsNone(re.search(r"<(?:script|link|img|iframe)[^>]*(?:src|href)=", text))
+        self.assertIn("is covered by no proof", text)
+
+    def test_a_long_run_can_be_stopped(self):
+        self.take("offset")
+        self.run_in('selectTab("editor", "Cluster")')
+        self.put("#doubles", "100000")
+        self.browser.until('document.documentElement.dataset.state === "busy" && program.waiting.size === 1')
+        self.run_in('$("stop").click()')
+        self.assertEqual(self.run_in('$("state").textContent'), "stopped")
+        self.put("#doubles", "2")
+        self.settle()
+        self.assertEqual(self.text_of("report"), (EXAMPLES / "offset" / "printed.txt").read_text())
+
+
+class Builder(Bench):
+    """tools/page, as far as it needs no toolchain."""
+
+    def page(self, *words, status=0):
+        ended = subprocess.run([os.path.join(TOOLS, "page"), *words], capture_output=True, text=True, check=False, cwd=self.room)
+        self.assertEqual(ended.returncode, status, ended.stderr)
+        self.assertNotIn("Traceback", ended.stderr)
+        return ended.stdout + ended.stderr
+
+    def test_a_kept_module_makes_the_same_page_twice(self):
+        with open(self.path("module.wasm"), "wb") as file:
+            file.write(b"\0asm\1\0\0\0")
+        texts = []
+        for name in ("a.html", "b.html"):
+            self.assertEqual(self.page("--module", "module.wasm", "--out", name), f"{name}\n")
+            texts.append(self.read(name))
+        self.assertEqual(texts[0], texts[1])
+        self.assertIsNone(re.search(r"@[A-Z]+@", texts[0]))
+        found = re.search(r'id="module">([^<]*)<', texts[0])[1]
+        self.assertEqual(gzip.decompress(base64.b64decode(found)), b"\0asm\1\0\0\0")
+
+    def test_wrong_words(self):
+        self.assertIn("usage: tools/page", self.page("--help"))
+        self.assertEqual(self.page("--version"), f"tools/page {Path(REPOSITORY, 'VERSION').read_text()}")
+        for words in (["--out"], ["page.html"], ["--output", "page.html"], ["--kept", "--kept"]):
+            self.assertIn("usage: tools/page", self.page(*words, status=2))
+        self.assertIn("none.wasm: No such file", self.page("--module", "none.wasm", status=3))
+
+
+if __name__ == "__main__":
+    unittest.main()

@@ -1,0 +1,302 @@
+"""The Python package: every example against its stored text, what is raised, small places, threads, and that units are those of
+flexlab."""
+import os
+import random
+import re
+import subprocess
+import sys
+import threading
+import unittest
+import zipfile
+from concurrent.futures import ThreadPoolExecutor
+from fractions import Fraction
+from pathlib import Path
+
+from bench import FLEXRAY, REPOSITORY, SERIES, Bench
+
+PACKAGE = os.path.join(REPOSITORY, "python")
+sys.path.insert(0, PACKAGE)
+
+import flexray  # noqa: E402
+from flexray import library  # noqa: E402
+from flexlab_lib import program, units  # noqa: E402
+
+try:
+    library.version()
+    MISSING = None
+except flexray.LibraryMissing as missing:
+    MISSING = str(missing)
+
+EXAMPLES = Path(REPOSITORY, "examples")
+OFFSET = [Path(EXAMPLES, "offset", f"{name}.csv") for name in ("params", "drift", "script")]
+
+
+def examples():
+    """(name, whether it is of flexray-series, words, files in the order of the words, status, text, line)."""
+    for folder in sorted(EXAMPLES.iterdir()):
+        if (folder / "words").exists():
+            words = (folder / "words").read_text().split("\n")[:-1]
+            files, spelt = [], []
+            for word in words:
+                if (folder / word).is_file():
+                    spelt.append(("first", "second", "third")[len(files)])
+                    files.append((folder / word).read_bytes())
+                else:
+                    spelt.append(word)
+            text, told, status = ((folder / name).read_text() if (folder / name).exists() else ""
+                                  for name in ("printed.txt", "told.txt", "status"))
+            yield folder.name, (folder / "program").exists(), spelt, files, int(status or 0), text, told.strip()
+
+
+@unittest.skipIf(MISSING, f"the library is not built: {MISSING}")
+class Calls(Bench):
+    def test_every_example_is_what_the_program_prints(self):
+        for name, is_series, words, files, status, text, line in examples():
+            call = flexray.series_request if is_series else flexray.request
+            self.assertEqual(call(words, *files), flexray.Answer(status, text, line), name)
+
+    def test_every_example_as_a_typed_call(self):
+        calls = {"run": flexray.run, "trace": flexray.trace, "check": flexray.check, "cold": flexray.cold, "upgrade": flexray.upgrade}
+        seen = set()
+        for name, is_series, words, files, _, text, line in examples():
+            with self.subTest(name):
+                told = [word for word in words if word not in ("first", "second", "third")]
+                if is_series:
+                    found = (flexray.sharp_series if told else flexray.series)(*files)
+                elif words[0] == "bound" and "sharp" in told:
+                    found = flexray.sharp_bound(*files, flutter=int(told[2]))
+                elif words[0] == "bound":
+                    found = flexray.bound(*files, join="join" in told)
+                elif words[0] == "settle" and "sharp" in told:
+                    found = flexray.sharp_settle(*files, int(told[1]), int(told[2]), int(told[4]))
+                elif words[0] == "settle":
+                    found = flexray.settle(*files, int(told[1]), int(told[2]))
+                elif words[0] in ("frame", "capture"):
+                    found = getattr(flexray, words[0])(told[1], *files)
+                elif words[0] == "nm":
+                    found = flexray.nm(int(told[1]), *files)
+                elif words[0] == "make":
+                    found = flexray.make(int(told[1]), int(told[2]))
+                else:
+                    found = calls[words[0]](*files)
+                self.assertEqual(found.text, text)
+                if line:
+                    self.assertEqual((found.passes, found.line), (False, line))
+                seen.add(type(found).__name__)
+        self.assertEqual(len(seen), 14, sorted(seen))
+
+    def test_what_a_report_says(self):
+        report = flexray.run(*OFFSET)
+        self.assertEqual((report.nodes, report.covered, report.gap, report.in_sync), (2, True, (), 0))
+        self.assertEqual(report.greatest, flexray.Skew(2500000, 0, 0))
+        self.assertEqual(report.ends[1], flexray.NodeEnd(2, "active", 800001500000, 0, 0))
+        with self.assertRaises(AttributeError):
+            report.nodes = 3
+
+    def test_gaps_are_words(self):
+        report = flexray.run(*(Path(EXAMPLES, "lost", f"{name}.csv") for name in ("params", "drift", "script")))
+        self.assertEqual((report.covered, report.gap[0]), (False, "link"))
+
+    def test_bytes_texts_and_paths_are_the_same(self):
+        given = [path.read_bytes() for path in OFFSET]
+        for files in (OFFSET, [data.decode() for data in given], [bytearray(data) for data in given],
+                      [memoryview(data) for data in given]):
+            self.assertEqual(flexray.run(*files), flexray.run(*given))
+
+    def test_a_path_as_text_is_told(self):
+        with self.assertRaisesRegex(ValueError, r"params: 'params.csv' is no text of records; .*pathlib.Path"):
+            flexray.bound("params.csv")
+        with self.assertRaises(TypeError):
+            flexray.frame("A", "400404D0")
+
+    def test_refusals(self):
+        params, drift, script = (path.read_text() for path in OFFSET)
+        for files, wanted in (
+                ((params, drift.replace("doubles,2", "doubles,0"), script), ("drift", 1, "OutOfRange")),
+                ((params, drift, "lose,0,9,1,A,,\n"), ("script", 1, "UnknownNode")),
+                ((re.sub("param,gdNIT.*\n", "", params), drift, script), ("params", None, "missing gdNIT")),
+                ((params.replace("gdNIT,800", "gdNIT,801"), drift, script), ("params", None, "constraint 1"))):
+            with self.assertRaises(flexray.Refused) as raised:
+                flexray.run(*files)
+            self.assertEqual((raised.exception.role, raised.exception.record, raised.exception.reason), wanted)
+
+    def test_other_failures(self):
+        with self.assertRaises(flexray.ReadFault) as raised:
+            flexray.bound(Path(self.room, "none.csv"))
+        self.assertEqual(raised.exception.role, "params")
+        self.assertIsInstance(raised.exception.__cause__, FileNotFoundError)
+        with self.assertRaises(flexray.TooLong) as raised:
+            flexray.bound(b"\n" * (library.MOST + 1))
+        self.assertEqual(raised.exception.role, "params")
+        self.assertRaises(flexray.Usage, flexray.settle, OFFSET[0], -1, 0)
+        self.assertRaises(flexray.Usage, flexray.frame, "C", b"")
+        self.assertRaises(flexray.Usage, flexray.sharp_bound, OFFSET[0], 20000001)
+        self.assertRaises(TypeError, flexray.make, 1.5, 2)
+        with self.assertRaises(flexray.NoFrame) as raised:
+            flexray.frame("A", b"1234567")
+        self.assertEqual(raised.exception.reason, "short 7")
+        self.assertEqual(flexray.request(["run", "first", "nowhere", "third"], OFFSET[0].read_bytes()).status, library.READ_FAULT)
+        self.assertEqual(flexray.request([]).status, library.USAGE)
+
+    def test_a_word_with_a_line_feed_is_no_two_words(self):
+        self.assertRaises(ValueError, flexray.request, ["bound", "first\njoin"], OFFSET[0].read_bytes())
+
+    def test_small_places(self):
+        text = (EXAMPLES / "offset" / "printed.txt").read_text()
+        files = [path.read_bytes() for path in OFFSET]
+        for room in (0, 1, len(text) - 1, len(text), len(text) + 1):
+            self.assertEqual(flexray.request(["run", "first", "second", "third"], *files, room=room).text, text)
+        for room in (0, 1, 5, 512):
+            self.assertEqual(flexray.request(["run"], room=room, line_room=room).line, "usage: flexray COMMAND WORDS")
+
+    def test_bytes_at_random_are_answered(self):
+        chance = random.Random(7)
+        for _ in range(200):
+            data = bytes(chance.choice(b"param,node\n0123456789-AB\x00\xff\"") for _ in range(chance.randrange(200)))
+            self.assertIn(flexray.request(["bound", "first"], data).status, (library.DONE, library.REFUSED))
+
+    def test_eight_threads_at_once(self):
+        known, gate = list(examples()), threading.Barrier(8)
+
+        def all_of(shift):
+            gate.wait()
+            for name, is_series, words, files, status, text, line in known[shift:] + known[:shift]:
+                call = flexray.series_request if is_series else flexray.request
+                if call(words, *files) != flexray.Answer(status, text, line):
+                    return name
+            return None
+
+        with ThreadPoolExecutor(8) as pool:
+            self.assertEqual(list(pool.map(all_of, range(0, 32, 4))), [None] * 8)
+
+    def test_a_thread_with_the_stack_that_the_header_asks_for(self):
+        found = []
+        before = threading.stack_size(512 * 1024 + 128 * 1024)
+        try:
+            files = [Path(EXAMPLES, "bench", f"{name}.csv") for name in ("params", "drift", "script")]
+            thread = threading.Thread(target=lambda: found.append(flexray.run(*files).text))
+            thread.start()
+            thread.join()
+        finally:
+            threading.stack_size(before)
+        self.assertEqual(found, [(EXAMPLES / "bench" / "printed.txt").read_text()])
+
+    def test_a_run_that_the_examples_do_not_have(self):
+        """Where the programs are built: a long series, whose text does not fit the first place, and a trace."""
+        params, _, script = OFFSET
+        drift = "doubles,3000,,,,\nlength,1,0,999900,,\n"
+        path = Path(self.write("drift.csv", drift))
+        library._rooms.clear()
+        words = [str(params), str(path), str(script)]
+        wanted = subprocess.run([FLEXRAY, "trace", *words], capture_output=True, text=True, check=True).stdout
+        self.assertEqual(flexray.trace(params, path, script).text, wanted)
+        self.assertEqual(len(flexray.trace(params, path, script).cycles), 12000)
+        if SERIES:
+            wanted = subprocess.run([SERIES, *words, "sharp"], capture_output=True, text=True, check=True).stdout
+            self.assertEqual(flexray.sharp_series(params, drift, script).text, wanted)
+
+    def test_the_version(self):
+        version = Path(REPOSITORY, "VERSION").read_text().strip()
+        self.assertEqual((flexray.version(), library.NAME), (version, f"libflexray.so.{version.split('.')[0]}"))
+
+    def test_the_scripts_of_the_examples(self):
+        env = {**os.environ, "PYTHONPATH": PACKAGE, "PYTHONDONTWRITEBYTECODE": "1"}
+        for name in ("bench", "offset"):
+            ended = subprocess.run([sys.executable, EXAMPLES / "python" / "run.py", EXAMPLES / name], capture_output=True, text=True,
+                                   check=False, env=env)
+            self.assertEqual((ended.stdout, ended.stderr), ((EXAMPLES / name / "printed.txt").read_text(), ""))
+        ended = subprocess.run([sys.executable, EXAMPLES / "python" / "study.py"], capture_output=True, text=True, check=False, env=env)
+        self.assertEqual((ended.returncode, ended.stderr), (0, ""))
+        self.assertIn("\n      100 %       yes     3.420 us", ended.stdout)
+        self.assertTrue(ended.stdout.endswith("drift, record 1: OutOfRange\n"), ended.stdout)
+
+    def test_the_wheel(self):
+        ended = subprocess.run([sys.executable, "-B", os.path.join(PACKAGE, "build_wheel.py"), self.room, library.path()],
+                               capture_output=True, text=True, check=True)
+        path = ended.stdout.strip()
+        self.assertTrue(path.endswith("-py3-none-linux_x86_64.whl"), path)
+        with zipfile.ZipFile(path) as wheel:
+            wheel.extractall(self.path("site"))
+        env = {"PYTHONPATH": self.path("site"), "PATH": os.environ["PATH"]}
+        ended = subprocess.run([sys.executable, "-c", "import flexray; print(flexray.make(7, 1).text, end=''); "
+                                "print(flexray.library.path())"], capture_output=True, text=True, check=True, env=env, cwd=self.room)
+        self.assertEqual(ended.stdout, (EXAMPLES / "make" / "printed.txt").read_text()
+                         + os.path.realpath(self.path("site", "flexray", "libflexray.so.0")) + "\n")
+
+
+@unittest.skipIf(MISSING, f"the library is not built: {MISSING}")
+class Flexlab(Bench):
+    """flexlab by the library in its own process."""
+
+    def setUp(self):
+        super().setUp()
+        self.found = [program.by_library(FLEXRAY), SERIES and program.by_library(SERIES)]
+        if not self.found[0]:
+            self.skipTest("the program that is tested is not the one that flexlab finds, or newer than the library")
+
+    def test_each_call_is_that_of_the_program(self):
+        os.makedirs(self.path("folder.csv"))
+        self.write("params.csv", "param\n")
+        params, drift, script = map(str, OFFSET)
+        for words in (["bound", params], ["bound", params, "join"], ["bound", params, "sharp", "0"], ["bound", params, "sharp", "-1"],
+                      ["run", params, drift, script], ["run", params, drift], ["run", params, drift, self.path("none.csv")],
+                      ["run", self.path("params.csv"), self.path("none.csv"), script], ["bound", self.path("folder.csv")],
+                      ["settle", params, "1", "first"], ["make", "7", "1"], ["make", "first"], ["frame", "C", params],
+                      ["frame", "A", params], [], ["walk"], ["bound", "first"], ["check", params, script]):
+            self.assertEqual(program.call(FLEXRAY, words), self.by_process(FLEXRAY, words), words)
+        self.assertIsNotNone(program.answered(FLEXRAY, ["run", params, drift, script]))
+        if self.found[1]:
+            for words in ([params, drift, script], [params, drift, script, "sharp"], [params, drift, script, "blunt"], [params]):
+                self.assertEqual(program.call(SERIES, words), self.by_process(SERIES, words), words)
+
+    def by_process(self, name, words):
+        ended = subprocess.run([name, *words], capture_output=True, text=True, check=False)
+        return ended.returncode, ended.stdout, ended.stderr.strip()
+
+    def test_a_program_that_is_named_is_called(self):
+        other = self.write("flexray", "#!/bin/sh\necho called; exit 3\n")
+        os.chmod(other, 0o755)
+        self.assertEqual(program.call(other, ["bound", str(OFFSET[0])]), (3, "called\n", ""))
+
+    def test_pages_and_studies_are_the_same(self):
+        toml = str(EXAMPLES / "bench" / "bench.toml")
+        pages = []
+        for told in ("yes", "no"):
+            env = {"FLEXLAB_LIBRARY": told, "FLEXRAY_SERIES": SERIES or ""}
+            page = self.flexlab("run", "--out", "lab", toml, env=env)[0]
+            study = self.flexlab("study", toml, "--vary", "node[1].ppm", "--values", "0,50,100", "--out", told, "--keep", "none",
+                                 env=env)[0]
+            table = [line.split(",") for line in self.read(told, "study.csv").splitlines()]
+            seconds = table[0].index("seconds")
+            pages.append((page, [row[:seconds] + row[seconds + 1:] for row in table], study.count("\n")))
+        self.assertEqual(pages[0], pages[1])
+
+
+class Alone(Bench):
+    """What needs no library."""
+
+    def test_units_are_those_of_flexlab(self):
+        for ppm in ("0", "150", "-150", "0.1", "1498.25", "-700.5"):
+            self.assertEqual(flexray.length_of(ppm), units.length_of(Fraction(ppm)))
+        for ticks in (0, 1, -40000000, 252043600):
+            self.assertEqual(flexray.to_us(ticks, 25), float(units.us_of_ticks(ticks, 25)))
+            self.assertEqual(flexray.from_us(str(Fraction(ticks, 40000000)), 25), ticks)
+        self.assertEqual(flexray.from_ns(0.1, 12.5), units.ticks_of_ns(Fraction("0.1"), Fraction("12.5")))
+        self.assertEqual(flexray.from_microticks("-0.3"), -300000)
+        self.assertEqual(flexray.ppm_of(1000000), 0.0)
+
+    def test_a_missing_library_is_told(self):
+        env = {**os.environ, "PYTHONPATH": PACKAGE, "FLEXRAY_LIBRARY": self.path("none.so")}
+        ended = subprocess.run([sys.executable, "-B", "-c", "import flexray\ntry:\n    flexray.make(7, 1)\n"
+                                "except flexray.LibraryMissing as missing:\n    print(missing)\n"], capture_output=True, text=True,
+                               check=True, env=env)
+        self.assertIn("tools/library builds it", ended.stdout)
+
+    def test_what_is_not_understood_is_no_answer(self):
+        from flexray import texts
+        self.assertRaises(ValueError, texts.report, "nodes 2 sync 2 arbitrary 0 doubles 2\nprecision many\n")
+        self.assertRaises(ValueError, texts.trace, "run,1,,,,,,\nother,1\n")
+
+
+if __name__ == "__main__":
+    unittest.main()
