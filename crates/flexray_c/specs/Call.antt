@@ -11,7 +11,7 @@ use Rattle.flexray_c.specs.Lent.{is_lent}
 use Rattle.flexray_c.specs.Shown.{IsHandedOver, IsUnanswered, Places}
 
 -- the program's own answer to these words, of these files and to sinks that take all: its text, its line and its status are handed
--- over. Of the files some number of loads was counted, and no fault of one that is there
+-- over. Of the files that are there no fault was counted
 pub record IsAnswered {Asked : Type 0} (program : Program Asked) (words : List (List ℕ)) (files : Shelved) (places : Places) (result : ℕ) : Type 0 where
   pub left : Shelved
   pub faultless : (name : List ℕ) → IsTrue (is_lent name) → left.faults name ≡ 0

@@ -16,13 +16,14 @@ lent_under first second third name =
 abbrev pub is_lent : List ℕ → Bool
 is_lent name = bytes_eq name (codes "first") || bytes_eq name (codes "second") || bytes_eq name (codes "third")
 
--- a shelf of these files: no fault of theirs is ever counted, and all other names have one count
-abbrev pub lent_shelf : List ℕ → List ℕ → List ℕ → ℕ → ℕ → Shelved
-lent_shelf first second third missing loads = record {
+-- a shelf of these files: no fault of theirs is ever counted, all other names have one count, and it does not tell which names
+-- were asked for
+abbrev pub lent_shelf : List ℕ → List ℕ → List ℕ → ℕ → Shelved
+lent_shelf first second third missing = record {
   held = lent_under first second third;
   faults = λ name. if is_lent name then 0 else missing;
-  loads = loads;
+  asked = None;
 }
 
 abbrev pub lent_state : LentFiles → Shelved
-lent_state files = lent_shelf files.first.now files.second.now files.third.now files.missing files.loads
+lent_state files = lent_shelf files.first.now files.second.now files.third.now files.missing

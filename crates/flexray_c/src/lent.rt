@@ -6,27 +6,26 @@ ghost use Rattle.flexray_c.specs.Lent.{lent_shelf, lent_state, lent_under};
 use fr_base::{LoadFault, MAX_FILE, Shelf};
 
 /// A shelf over bytes of a caller: three files, called `first`, `second` and `third`. Of these no fault is ever counted. No
-/// other name has a file: all these have one count, which rises at each load. Counters stay at their last value.
+/// other name has a file: all these have one count, which rises at each load and stays at its last value. It does not tell
+/// which names were asked for.
 #[derive(Drop)]
 pub struct LentFiles<'a> {
     first: &'a [u8],
     second: &'a [u8],
     third: &'a [u8],
     missing: u64,
-    loads: u64,
 }
 
 impl<'a> LentFiles<'a> {
     /// A shelf over these files, of which none was loaded. It takes no memory.
     pub fn new(first: &'a [u8], second: &'a [u8], third: &'a [u8]) -> LentFiles<'a>
-        ensures { lent_state result ≡ lent_shelf first.now second.now third.now 0 0 }
+        ensures { lent_state result ≡ lent_shelf first.now second.now third.now 0 }
     {
         LentFiles {
             first,
             second,
             third,
             missing: 0,
-            loads: 0,
         }
     }
 
@@ -48,7 +47,6 @@ impl Shelf for LentFiles<'_> {
     ghost state = { lent_state };
 
     fn load(&mut self, name: &str, into: &mut Vec<u8>) -> Result<(), LoadFault> {
-        self.loads = self.loads.saturating_add(1);
         let Some(bytes) = self.under(name) else {
             self.missing = self.missing.saturating_add(1);
             return Err(LoadFault::Failed);

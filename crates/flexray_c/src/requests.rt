@@ -34,9 +34,9 @@ pub extern "C" fn flexray_request(
     told: &mut Texts,
 ) -> u32
     ensures text { IsUtf8 (unended words.now) → CallEnds flexray_program (words_in words.now)
-        (lent_shelf first.now second.now third.now 0 0) (places_of out.old out.new err.old err.new told.new) result }
+        (lent_shelf first.now second.now third.now 0) (places_of out.old out.new err.old err.new told.new) result }
     ensures no_text { ¬ IsUtf8 (unended words.now) → CallEnds flexray_program (words_in [])
-        (lent_shelf first.now second.now third.now 0 0) (places_of out.old out.new err.old err.new told.new) result }
+        (lent_shelf first.now second.now third.now 0) (places_of out.old out.new err.old err.new told.new) result }
 {
     answer_flexray(
         alloc,
@@ -61,9 +61,9 @@ pub extern "C" fn flexray_series_request(
     told: &mut Texts,
 ) -> u32
     ensures text { IsUtf8 (unended words.now) → CallEnds series_program (words_in words.now)
-        (lent_shelf first.now second.now third.now 0 0) (places_of out.old out.new err.old err.new told.new) result }
+        (lent_shelf first.now second.now third.now 0) (places_of out.old out.new err.old err.new told.new) result }
     ensures no_text { ¬ IsUtf8 (unended words.now) → CallEnds series_program (words_in [])
-        (lent_shelf first.now second.now third.now 0 0) (places_of out.old out.new err.old err.new told.new) result }
+        (lent_shelf first.now second.now third.now 0) (places_of out.old out.new err.old err.new told.new) result }
 {
     answer_series(
         alloc,
@@ -85,7 +85,7 @@ pub extern "C" fn flexray_bound(
     told: &mut Texts,
 ) -> u32
     ensures { CallEnds flexray_program (codes "bound" ∷ codes "first" ∷ [])
-        (lent_shelf params.now [] [] 0 0) (places_of out.old out.new err.old err.new told.new) result }
+        (lent_shelf params.now [] [] 0) (places_of out.old out.new err.old err.new told.new) result }
 {
     answer_flexray(
         alloc,
@@ -110,7 +110,7 @@ pub extern "C" fn flexray_run(
 ) -> u32
     ensures { CallEnds flexray_program
         (codes "run" ∷ codes "first" ∷ codes "second" ∷ codes "third" ∷ [])
-        (lent_shelf params.now drift.now script.now 0 0) (places_of out.old out.new err.old err.new told.new) result }
+        (lent_shelf params.now drift.now script.now 0) (places_of out.old out.new err.old err.new told.new) result }
 {
     answer_flexray(
         alloc,
@@ -135,7 +135,7 @@ pub extern "C" fn flexray_series(
 ) -> u32
     ensures { CallEnds series_program
         (codes "first" ∷ codes "second" ∷ codes "third" ∷ [])
-        (lent_shelf params.now drift.now script.now 0 0) (places_of out.old out.new err.old err.new told.new) result }
+        (lent_shelf params.now drift.now script.now 0) (places_of out.old out.new err.old err.new told.new) result }
 {
     answer_series(
         alloc,
