@@ -5,3 +5,4 @@ pub mod Chances
 pub mod Turns
 pub mod Worked
 pub mod Seeds
+pub mod MadeFiles

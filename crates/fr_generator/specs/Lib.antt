@@ -6,3 +6,4 @@ pub mod Steps
 pub mod Making
 pub mod Generated
 pub mod Seeds
+pub mod MadeFiles

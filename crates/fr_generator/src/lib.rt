@@ -10,5 +10,5 @@ mod places;
 mod script;
 
 pub use generated::{Generated, generate};
-pub use laws::a_seed_decides_one_cluster;
+pub use laws::{a_seed_decides_one_cluster, made_files_are_accepted};
 pub use places::{Chance, Link};

@@ -19,7 +19,7 @@ use Rattle.fr_trace.specs.declared.fault.TraceFault.TheVariants as fault
 some-same : (n m : ℕ) → Some n ≡ Some m → n ≡ m
 some-same n m e = cc e
 
-stands-same : (t u : TraceView) (records : List FileRecord) → TraceStandsFor t records → TraceStandsFor u records → t ≡ u
+pub stands-same : (t u : TraceView) (records : List FileRecord) → TraceStandsFor t records → TraceStandsFor u records → t ≡ u
 stands-same t u records a b =
     let doubles : t.doubles ≡ u.doubles = some-same t.doubles u.doubles (sym a.doubles ∙ b.doubles) in
     let arbitrary : t.arbitrary ≡ u.arbitrary = a.arbitrary ∙ sym b.arbitrary in

@@ -16,3 +16,7 @@ pub mod Counts
 pub mod Behind
 pub mod InOrder
 pub mod Places
+pub mod Spelling
+pub mod Telling
+pub mod Walking
+pub mod Baring

@@ -36,7 +36,7 @@ heard_text h r node devs =
     flat_map-map (λ (item : Item). line_text (line_of item)) (Item.Heard h r) (filter (λ dev. dev.receiver == node) devs)
     ∙ filtered (λ dev. dev.receiver == node) (λ dev. line (dev_text (length h) dev)) devs
 
-items_text-append : (a b : List Item) → items_text (a ++ b) ≡ items_text a ++ items_text b
+pub items_text-append : (a b : List Item) → items_text (a ++ b) ≡ items_text a ++ items_text b
 unfolding items_text
 items_text-append a b = flat_map-append (λ item. line_text (line_of item)) a b
 

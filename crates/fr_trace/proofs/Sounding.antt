@@ -31,7 +31,7 @@ use Rattle.fr_trace.proofs.Saying.{IsPlaced}
 use Rattle.fr_trace.proofs.Standing.{AreNodes, blank-begun, dev-put, known-low, over-at, row-put, way-low}
 
 proper-row : (cycle : ℕ) (clock : NodeRow) → IsProperClock cycle clock → IsTracedRow clock
-proper-row cycle clock proper = (proper.timed, proper.uncut)
+proper-row cycle clock proper = (proper.timed, proper.uncut, proper.early)
 
 -- a number of double cycles that is said is not 0
 some-double : (doubles : Option ℕ) → IsSome doubles → ((n : ℕ) → doubles ≡ Some n → IsProperTracedCount n) → 0 < 2 * doubles_or_0 doubles

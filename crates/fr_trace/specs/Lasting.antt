@@ -1,5 +1,5 @@
 -- What holds of every trace, whatever its cluster.
-use Rattle.std.specs.Prelude.{◌≡◌, ◌*◌, ◌<◌, ◌≤◌, pos, length, map, All, AllPairs, Contains}
+use Rattle.std.specs.Prelude.{◌≡◌, ◌*◌, ◌<◌, ◌≤◌, ◌≤ℤ◌, pos, length, map, All, AllPairs, Contains}
 use Rattle.fr_base.specs.Counts.{no_counts}
 use Rattle.fr_base.specs.Rows.{AreAscendingDevs, AreAscendingRows}
 use Rattle.fr_base.specs.Timed.{IsTimed}
@@ -8,9 +8,9 @@ use Rattle.fr_base.specs.declared.node_row.NodeRow.{NodeRow}
 use Rattle.fr_history.specs.History.{Record}
 use Rattle.fr_trace.specs.Trace.{TraceView}
 
--- a row whose numbers lie in their ranges, and which tells no cut
+-- a row whose numbers lie in their ranges, which tells no cut, and whose start is one that a file may have
 abbrev pub IsTracedRow : NodeRow → Type 0
-IsTracedRow row = IsTimed row × (row.cut ≡ 0)
+IsTracedRow row = IsTimed row × (row.cut ≡ 0) × (row.start ≤ℤ pos 900_000_000_000_000_000)
 
 -- a record of a trace: rows and deviations in their order, with numbers in their ranges, each deviation at a node with a row
 pub record IsTracedRecord (r : Record) : Type 0 where

@@ -16,3 +16,5 @@ pub mod Draft
 pub mod Told
 -- what the laws cite
 pub mod Numbered
+pub mod Bare
+pub mod ReadBack

@@ -145,6 +145,7 @@ pub record IsProperJoinRow (j : TracedJoin) : Type 0 where
 pub record IsProperClock (cycle : ℕ) (row : NodeRow) : Type 0 where
   pub cycle_to : cycle ≤ 199_999
   pub timed : IsTimed row
+  pub early : row.start ≤ℤ pos 900_000_000_000_000_000
   pub uncut : row.cut ≡ 0
 
 -- those of a deviation

@@ -20,3 +20,8 @@ pub mod Records
 pub mod Stepping
 pub mod Receivers
 mod Whole
+pub mod Stored
+pub mod Tracing
+pub mod Proper
+pub mod Ordering
+pub mod RunFits

@@ -14,3 +14,5 @@ pub mod Worked
 pub mod Sound
 pub mod Counted
 pub mod Doubles
+pub mod Runs
+pub mod RunFits

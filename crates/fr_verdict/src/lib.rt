@@ -6,6 +6,7 @@ mod covering;
 mod found;
 mod laws;
 mod ordered;
+mod run_laws;
 mod searching;
 mod unlawful;
 
@@ -16,4 +17,5 @@ pub use laws::{
     hearing_suffices, one_answer, worked_trace,
 };
 pub use ordered::devs_of;
+pub use run_laws::{a_run_breaks_no_law, a_run_is_read_back};
 pub use unlawful::{Unlawful, Verdict};

@@ -1,0 +1,20 @@
+ghost use Rattle.fr_verdict.specs.RunFits.{RunsAreReadBack, RunsFit};
+ghost use Rattle.fr_verdict.specs.Runs.{ProperRunsAreLawful, ProperRunsBreakNoOther, RunsBreakNoOther};
+
+/// A law: the trace of lawful cycles, whoever joins and whatever arbitrary nodes say, breaks no law of a trace but the
+/// sixth and the seventh: the one where a deviation lies outside of what both rows allow, the other where a node that
+/// joins has its first row in a double cycle that is not in sync. Where the frames of correct nodes are on their way as
+/// long as they may, and microticks last so, it does not break the sixth; and where no correct node joins it is lawful.
+pub fn a_run_breaks_no_law()
+    ensures others { RunsBreakNoOther }
+    ensures proper { ProperRunsBreakNoOther }
+    ensures lawful { ProperRunsAreLawful }
+{}
+
+/// A law: the trace of a run that no node joins, whose clocks, arbitrary nodes and said frames keep what files ask of
+/// them, is a trace that fits its cluster; and the text that is written of it is accepted as a trace file, and stands for
+/// it and for no other.
+pub fn a_run_is_read_back()
+    ensures fit { RunsFit }
+    ensures read { RunsAreReadBack }
+{}
