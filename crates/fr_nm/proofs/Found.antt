@@ -1,5 +1,5 @@
 -- The vector of a record is there where the record counts.
-use Rattle.std.proofs.Common.{◌≡◌, ℕ, ◌*◌, ◌%◌, ◌^◌, ◌<◌, ◌≤◌, List, length, Bool, true, false, ◌==◌, Some, None, Result, Ok, Err, refl, ap, sym, ◌∙◌, arith}
+use Rattle.std.proofs.Common.{◌≡◌, ℕ, ◌*◌, ◌%◌, ◌^◌, ◌<◌, ◌≤◌, List, length, Bool, true, false, ◌==◌, Option, Some, None, Result, Ok, Err, refl, ap, sym, ◌∙◌, arith}
 use Rattle.std.specs.Prelude.{All, IsTrue, ◌&&◌, is_some, nat_le, if◌then◌else◌}
 use Rattle.std.proofs.lemmas.Bool.Decides.{nat_tests}
 use Rattle.fr_base.specs.declared.channel.Channel.{Channel}
@@ -10,7 +10,7 @@ use Rattle.fr_frame.specs.Fault.{IsFirstFault}
 use Rattle.fr_frame.specs.Reading.{payload_in, read_as}
 use Rattle.fr_frame.proofs.Exact.{frame_payload, read_frame}
 use Rattle.fr_frame.proofs.Found.{fault_read, frame_read}
-use Rattle.fr_nm.specs.Vectors.{Counts, Recorded, has_vector, placed, vector_in, vector_read, vector_record}
+use Rattle.fr_nm.specs.Vectors.{Counts, HasVector, Recorded, has_vector, placed, vector_in, vector_read, vector_record}
 
 pub vector-fault : (width cycle : ℕ) (channel : Channel) (bytes : List ℕ) (fault : FrameFault) → IsFirstFault channel bytes fault → vector_in width (vector_record cycle channel bytes) ≡ None
 unfolding vector_in
@@ -67,9 +67,9 @@ pub vector-counts : (width : ℕ) (r : Recorded) → All (λ b. b < 2 ^ 8) r.byt
 unfolding vector_in
 vector-counts width r small is = counts-found width r (read_as r.channel r.bytes) refl small is
 
--- and where it counts it has one
-pub counts-vector : (width : ℕ) (r : Recorded) → Counts width r → is_some (vector_in width r) ≡ true
-counts-vector width r c =
+-- and where it counts it has the first bytes of its payload
+pub vector-is : (width : ℕ) (r : Recorded) → (c : Counts width r) → vector_in width r ≡ Some (placed width c.payload)
+vector-is width r c =
     let h = c.header in
     let f : IsFrameWith r.channel h c.payload c.frame.0 c.frame.1.0 r.bytes = c.frame.1.1 in
     let long : length c.payload ≡ 2 * h.words = f.payload_length in
@@ -77,7 +77,26 @@ counts-vector width r c =
     let all : has_vector width r.cycle h ≡ true =
     whole h.preamble h.null_bit (h.cycle == r.cycle % 64) (nat_le width (2 * h.words)) c.preamble c.null_bit (tie h.cycle (r.cycle % 64) c.cycle) (no-more width (2 * h.words) enough)
     in
-    ap is_some (vector-frame width r.cycle r.channel h c.payload r.bytes c.frame.0 c.frame.1.0 f ∙ ap (λ (b : Bool). if b then Some (placed width c.payload) else None) all)
+    vector-frame width r.cycle r.channel h c.payload r.bytes c.frame.0 c.frame.1.0 f ∙ ap (λ (b : Bool). if b then Some (placed width c.payload) else None) all
+
+pub counts-vector : (width : ℕ) (r : Recorded) → Counts width r → is_some (vector_in width r) ≡ true
+counts-vector width r c = ap is_some (vector-is width r c)
+
+-- what it has is that
+pub has-vector : (width : ℕ) (r : Recorded) (vector : List ℕ) → All (λ b. b < 2 ^ 8) r.bytes → vector_in width r ≡ Some vector → HasVector width r vector
+has-vector width r vector small some =
+    let c = vector-counts width r small (ap is_some some) in
+    record { counts = c; value = same-some vector (placed width c.payload) (sym some ∙ vector-is width r c) }
+  where
+    same-some : (a b : List ℕ) → Some a ≡ Some b → a ≡ b
+    same-some a b e = cc e
+
+pub has-none : (width : ℕ) (r : Recorded) → All (λ b. b < 2 ^ 8) r.bytes → (vector_in width r ≡ None → Counts width r → ⊥) × ((Counts width r → ⊥) → vector_in width r ≡ None)
+has-none width r small = (λ none c. absurd (let is = sym (ap is_some none) ∙ counts-vector width r c in cc is), λ never. by (vector_in width r) refl never)
+  where
+    by : (o : Option (List ℕ)) → vector_in width r ≡ o → (Counts width r → ⊥) → o ≡ None
+    by None e never = refl
+    by (Some vector) e never = absurd (never (vector-counts width r small (ap is_some e)))
 
 -- so a record without a vector does not count
 pub counts-none : (width : ℕ) (r : Recorded) → vector_in width r ≡ None → (IsTrue false → Counts width r) × (Counts width r → IsTrue false)

@@ -30,6 +30,11 @@ pub record Counts (width : ℕ) (r : Recorded) : Type 0 where
 abbrev pub placed : ℕ → List ℕ → List ℕ
 placed width payload = take width payload ++ drop width (replicate 12 0)
 
+-- a record counts, and this is the vector that its payload begins with
+pub record HasVector (width : ℕ) (r : Recorded) (vector : List ℕ) : Type 0 where
+  pub counts : Counts width r
+  pub value : vector ≡ placed width counts.payload
+
 -- byte by byte the bitwise OR
 unfoldable pub or_bytes : List ℕ → List ℕ → List ℕ
 or_bytes [] other = []

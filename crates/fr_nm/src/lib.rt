@@ -13,6 +13,7 @@ mod reading;
 mod rows;
 mod told;
 mod vector;
+mod vector_laws;
 mod vectors;
 mod writing;
 
@@ -25,4 +26,5 @@ pub use laws::{
     one_answer, order_changes_nothing, refused_for_the_least_reason, repeating_changes_no_vector,
     some_answer,
 };
+pub use vector_laws::a_record_that_counts_has_its_vector;
 pub use vectors::Vectors;
