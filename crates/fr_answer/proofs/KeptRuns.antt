@@ -3,7 +3,9 @@ use Rattle.std.proofs.Common.{ℕ, List, Ok, Err}
 use Rattle.fr_cluster.specs.Sane.{IsSane}
 use Rattle.fr_cluster.specs.Values.{Values}
 use Rattle.fr_base.specs.Device.{Shelved}
+use Rattle.fr_drift.specs.Files.{DriftFits}
 use Rattle.fr_drift.specs.View.{DriftView}
+use Rattle.fr_script.specs.Files.{ScriptFits}
 use Rattle.fr_script.specs.View.{ScriptView}
 use Rattle.fr_text.specs.Files.{IsTextOf}
 use Rattle.fr_program.specs.declared.failure.Failure.TheVariants.{Usage, Stopped, WriteFault}
@@ -12,33 +14,36 @@ use Rattle.fr_program.specs.Command.{CommandEnds}
 use Rattle.fr_report.specs.Files.{run_command, run_files}
 use Rattle.fr_report.specs.Names.{RunNames, names_in}
 use Rattle.fr_report.specs.RunText.{IsRunText}
+use Rattle.fr_sharp.specs.JoinedFiles.{CoveredFilesKeepSharplyJoined}
 use Rattle.fr_sharp.specs.SharpFiles.{CoveredFilesKeepSharply}
 use Rattle.fr_answer.specs.RunAnswer.{IsKeptRunText, kept_run_command}
 
-kept_text : CoveredFilesKeepSharply → (p : Values) (d : DriftView) (s : ScriptView) (text : List ℕ) → IsSane p → IsRunText p d s text → IsKeptRunText p d s text
-kept_text keep p d s text sane report = record {
+kept_text : CoveredFilesKeepSharply → CoveredFilesKeepSharplyJoined → (p : Values) (d : DriftView) (s : ScriptView) (text : List ℕ) → IsSane p → DriftFits p d → ScriptFits p s → IsRunText p d s text
+    → IsKeptRunText p d s text
+kept_text keep joined p d s text sane drift_fits script_fits report = record {
   report = report;
   sharply = λ flutter double covered synced. keep p d s flutter report.cycles double sane covered report.run synced;
+  joined = λ flutter double covered synced. joined p d s flutter report.cycles double sane drift_fits script_fits covered report.run synced;
 }
 
-kept_written : CoveredFilesKeepSharply → (names : RunNames) (shelf : Shelved) (text : List ℕ)
+kept_written : CoveredFilesKeepSharply → CoveredFilesKeepSharplyJoined → (names : RunNames) (shelf : Shelved) (text : List ℕ)
     → IsTextOf (run_files IsRunText) (names_in names) shelf text → IsTextOf (run_files IsKeptRunText) (names_in names) shelf text
-kept_written keep names shelf text w =
+kept_written keep joined names shelf text w =
     let p = w.0 in let d = w.2.0 in let s = w.2.2.0 in
-    (p, w.1, (d, w.2.1, (s, w.2.2.1, kept_text keep p d s text w.1.sound w.2.2.2)))
+    (p, w.1, (d, w.2.1, (s, w.2.2.1, kept_text keep joined p d s text w.1.sound w.2.1.sound w.2.2.1.sound.fits w.2.2.2)))
 
-pub kept_run_ends : CoveredFilesKeepSharply → (names : RunNames) (around : Around) (ending : Ending)
+pub kept_run_ends : CoveredFilesKeepSharply → CoveredFilesKeepSharplyJoined → (names : RunNames) (around : Around) (ending : Ending)
     → CommandEnds (run_command IsRunText names) around ending → CommandEnds (kept_run_command names) around ending
-kept_run_ends keep names around (Ok done) ends = record {
+kept_run_ends keep joined names around (Ok done) ends = record {
   text = ends.text;
-  defined = kept_written keep names around.shelf_before ends.text ends.defined;
+  defined = kept_written keep joined names around.shelf_before ends.text ends.defined;
   grew = ends.grew;
 }
-kept_run_ends keep names around (Err Usage) ends = absurd ends
-kept_run_ends keep names around (Err (Stopped why)) ends = ends
-kept_run_ends keep names around (Err WriteFault) ends = record {
+kept_run_ends keep joined names around (Err Usage) ends = absurd ends
+kept_run_ends keep joined names around (Err (Stopped why)) ends = ends
+kept_run_ends keep joined names around (Err WriteFault) ends = record {
   text = ends.text;
-  defined = kept_written keep names around.shelf_before ends.text ends.defined;
+  defined = kept_written keep joined names around.shelf_before ends.text ends.defined;
   counted = ends.counted;
   grew = ends.grew;
 }
