@@ -3,7 +3,9 @@ use Rattle.std.proofs.Common.{ℕ, List, Ok, Err}
 use Rattle.fr_cluster.specs.Sane.{IsSane}
 use Rattle.fr_cluster.specs.Values.{Values}
 use Rattle.fr_base.specs.Device.{Shelved}
+use Rattle.fr_drift.specs.Files.{DriftFits}
 use Rattle.fr_drift.specs.View.{DriftView}
+use Rattle.fr_script.specs.Files.{ScriptFits}
 use Rattle.fr_script.specs.View.{ScriptView}
 use Rattle.fr_program.specs.declared.failure.Failure.TheVariants.{Usage, Stopped, WriteFault}
 use Rattle.fr_program.specs.Around.{Around, Ending}
@@ -11,35 +13,38 @@ use Rattle.fr_program.specs.Command.{CommandEnds, IsCommandText}
 use Rattle.fr_report.specs.Files.{run_command}
 use Rattle.fr_report.specs.Names.{RunNames}
 use Rattle.fr_report.specs.RunText.{IsRunText}
+use Rattle.fr_sharp.specs.JoinedFiles.{CoveredFilesKeepSharplyJoined}
 use Rattle.fr_sharp.specs.SharpFiles.{CoveredFilesKeepSharply}
 use Rattle.fr_answer.specs.RunAnswer.{IsKeptRunText, kept_run_command}
 
-kept_text : CoveredFilesKeepSharply → (p : Values) (d : DriftView) (s : ScriptView) (text : List ℕ) → IsSane p → IsRunText p d s text → IsKeptRunText p d s text
-kept_text keep p d s text sane report = record {
+kept_text : CoveredFilesKeepSharply → CoveredFilesKeepSharplyJoined → (p : Values) (d : DriftView) (s : ScriptView) (text : List ℕ) → IsSane p → DriftFits p d → ScriptFits p s → IsRunText p d s text
+    → IsKeptRunText p d s text
+kept_text keep joined p d s text sane drift_fits script_fits report = record {
   report = report;
   sharply = λ flutter double covered synced. keep p d s flutter report.cycles double sane covered report.run synced;
+  joined = λ flutter double covered synced. joined p d s flutter report.cycles double sane drift_fits script_fits covered report.run synced;
 }
 
-kept_written : CoveredFilesKeepSharply → (names : RunNames) (before after : Shelved) (text : List ℕ)
+kept_written : CoveredFilesKeepSharply → CoveredFilesKeepSharplyJoined → (names : RunNames) (before after : Shelved) (text : List ℕ)
     → IsCommandText (run_command IsRunText names) before after text → IsCommandText (kept_run_command names) before after text
-kept_written keep names before after text written =
+kept_written keep joined names before after text written =
     let w = written.is_text in
     let p = w.0 in let d = w.2.0 in let s = w.2.2.0 in record {
-      is_text = (p, w.1, (d, w.2.1, (s, w.2.2.1, kept_text keep p d s text w.1.sound w.2.2.2)));
+      is_text = (p, w.1, (d, w.2.1, (s, w.2.2.1, kept_text keep joined p d s text w.1.sound w.2.1.sound w.2.2.1.sound.fits w.2.2.2)));
       asked = written.asked;
     }
 
-pub kept_run_ends : CoveredFilesKeepSharply → (names : RunNames) (around : Around) (ending : Ending)
+pub kept_run_ends : CoveredFilesKeepSharply → CoveredFilesKeepSharplyJoined → (names : RunNames) (around : Around) (ending : Ending)
     → CommandEnds (run_command IsRunText names) around ending → CommandEnds (kept_run_command names) around ending
-kept_run_ends keep names around (Ok done) ends = record {
+kept_run_ends keep joined names around (Ok done) ends = record {
   text = ends.text;
-  defined = kept_written keep names around.shelf_before around.shelf_after ends.text ends.defined;
+  defined = kept_written keep joined names around.shelf_before around.shelf_after ends.text ends.defined;
   put = ends.put;
 }
-kept_run_ends keep names around (Err Usage) ends = absurd ends
-kept_run_ends keep names around (Err (Stopped why)) ends = ends
-kept_run_ends keep names around (Err WriteFault) ends = record {
+kept_run_ends keep joined names around (Err Usage) ends = absurd ends
+kept_run_ends keep joined names around (Err (Stopped why)) ends = ends
+kept_run_ends keep joined names around (Err WriteFault) ends = record {
   text = ends.text;
-  defined = kept_written keep names around.shelf_before around.shelf_after ends.text ends.defined;
+  defined = kept_written keep joined names around.shelf_before around.shelf_after ends.text ends.defined;
   put = ends.put;
 }

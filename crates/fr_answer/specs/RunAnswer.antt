@@ -8,17 +8,24 @@ use Rattle.fr_report.specs.Files.{run_command}
 use Rattle.fr_report.specs.Names.{RunNames}
 use Rattle.fr_report.specs.RunText.{IsRunText}
 use Rattle.fr_script.specs.View.{ScriptView}
+use Rattle.fr_sharp.specs.JoinedFiles.{IsSharplyCoveredToJoin, KeepsSharplyJoined}
 use Rattle.fr_sharp.specs.SharpHistories.{IsInSharpSyncAt}
 use Rattle.fr_sharp.specs.SharpStatement.{has_arbitrary, IsSharplyCovered, KeepsSharply}
+use Rattle.fr_sharp.specs.SharpTested.{IsUnfollowedSharpSyncAt}
 
 -- a text is the report of the run that the files decide, with the promise of it; and where they are sharply covered, with any
--- flutter in ticks, the same run keeps the sharper precision from each double cycle in sharp sync on
+-- flutter in ticks, the same run keeps the sharper precision from each double cycle in sharp sync on; so it does where they are
+-- sharply covered to join, whoever joins, from each one in which no node follows
 pub record IsKeptRunText (params : Values) (drift : DriftView) (script : ScriptView) (text : List ℕ) : Type 0 where
   pub report : IsRunText params drift script text
   pub sharply :
       (flutter double : ℕ) → IsSharplyCovered params drift script flutter
       → IsInSharpSyncAt (has_arbitrary params script) params flutter (pos 0) report.cycles double
       → KeepsSharply (has_arbitrary params script) (setting_of params drift script) flutter report.cycles double
+  pub joined :
+      (flutter double : ℕ) → IsSharplyCoveredToJoin params drift script flutter
+      → IsUnfollowedSharpSyncAt (has_arbitrary params script) params flutter report.cycles double
+      → KeepsSharplyJoined (has_arbitrary params script) (setting_of params drift script) flutter report.cycles double
 
 abbrev pub kept_run_command : RunNames → Command
 kept_run_command names = run_command IsKeptRunText names

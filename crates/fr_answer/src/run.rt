@@ -8,13 +8,13 @@ ghost use Rattle.fr_answer.specs.RunAnswer.{kept_run_command};
 use fr_base::{Shelf, Sink};
 use fr_program::Failure;
 use fr_report::{RunFiles, answer_run};
-use fr_sharp::covered_files_keep_sharply;
+use fr_sharp::{covered_files_keep_sharply, covered_files_keep_sharply_joined};
 use std::alloc::Global;
 
 /// The report of a run, as `fr_report` answers it; of the same run it says what the sharper promise says, where the files
-/// are sharply covered. Each file is loaded once, and only where those before it are accepted. A failure comes where
-/// a file can't be loaded, is not accepted, or memory runs out (`Stopped`), or where the sink counted a fault
-/// (`WriteFault`).
+/// are sharply covered, or sharply covered to join. Each file is loaded once, and only where those before it are
+/// accepted. A failure comes where a file can't be loaded, is not accepted, or memory runs out (`Stopped`), or where the
+/// sink counted a fault (`WriteFault`).
 pub fn answer_kept_run<S: Shelf, O: Sink>(
     alloc: Global,
     files: RunFiles<'_>,
@@ -26,5 +26,6 @@ pub fn answer_kept_run<S: Shelf, O: Sink>(
     ensures unwritten { EndingWritesNothing result → out.new ≡ out.old }
 {
     covered_files_keep_sharply();
+    covered_files_keep_sharply_joined();
     answer_run(alloc, files, shelf, out)
 }
