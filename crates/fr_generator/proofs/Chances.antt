@@ -1,6 +1,6 @@
 -- The records that are drawn for a script are accepted.
-use Rattle.std.proofs.Common.{◌≡◌, ◌≢◌, ◌<◌, ◌≤◌, ◌+◌, ◌*◌, ℕ, zero, suc, ℤ, pos, negsuc, ◌≤ℤ◌, Bool, true, false, List, [], ◌∷◌, ◌++◌, Option, Some, None, Result, Ok, ap, sym, subst, ◌∙◌, refl, arith, add-one}
-use Rattle.std.specs.Prelude.{◌==◌, ◌&&◌, ◌||◌, ◌/◌, ◌%◌, neg_ℤ, if◌then◌else◌}
+use Rattle.std.proofs.Common.{◌≡◌, ◌<◌, ◌≤◌, ◌+◌, ℕ, zero, suc, ℤ, Bool, true, false, List, [], ◌∷◌, ◌++◌, Option, Some, None, Result, Ok, ap, subst, ◌∙◌, refl, arith, add-one}
+use Rattle.std.specs.Prelude.{◌==◌, ◌&&◌, ◌||◌, ◌/◌, ◌%◌, if◌then◌else◌}
 use Rattle.std.proofs.lemmas.Bool.Decides.{nat_tests}
 use Rattle.std.proofs.lemmas.Int.{ints}
 use Rattle.fr_base.specs.declared.channel.Channel.{Channel}
@@ -10,8 +10,8 @@ use Rattle.fr_text.specs.Fields.{is_channel, looked_up, or_else}
 use Rattle.fr_text.specs.Refusal.{NoneRefused}
 use Rattle.fr_text.proofs.Cuts.{none-empty, none-more}
 use Rattle.fr_script.specs.Deeds.{passage_of}
-use Rattle.fr_script.specs.Rows.{IsProperSay, farthest, script_row_of}
-use Rattle.fr_script.specs.Reasons.{deed_by, deed_reason, deed_said, is_misplaced, is_named_in, is_same_passage, names, script_reason_after, script_row_reason}
+use Rattle.fr_script.specs.Rows.{IsProperSay, script_row_of}
+use Rattle.fr_script.specs.Reasons.{deed_by, deed_reason, deed_said, is_misplaced, is_named_in, script_reason_after, script_row_reason}
 use Rattle.fr_script.specs.Written.{arbitrary_record, say_record}
 use Rattle.fr_script.specs.declared.deeds.Deed.{Deed}
 use Rattle.fr_script.specs.declared.deeds.Deed.TheVariants as deed
@@ -20,7 +20,7 @@ use Rattle.fr_script.specs.declared.rows.Row.TheVariants as row
 use Rattle.fr_script.proofs.Adding.{said_row, says-arbitrary, says-say}
 use Rattle.fr_script.proofs.Tables.{deed_by-more, is_named-more, or-false}
 use Rattle.fr_generator.specs.Cluster.{made_values, nodes_to}
-use Rattle.fr_generator.specs.Drawn.{Drawn, draw, drawn_from, in_turn, rest}
+use Rattle.fr_generator.specs.Drawn.{draw, drawn_from, in_turn, rest}
 use Rattle.fr_generator.specs.Places.{chance_at, channel_at}
 use Rattle.fr_generator.specs.Steps.{after_chance, said_of_chance, shift_drawn}
 use Rattle.fr_generator.proofs.MadeCluster.{both, known}

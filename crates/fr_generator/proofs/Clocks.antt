@@ -1,5 +1,5 @@
 -- The records that are drawn for a drift are accepted.
-use Rattle.std.proofs.Common.{◌≡◌, ◌≢◌, ◌<◌, ◌≤◌, ◌+◌, ℕ, zero, suc, ℤ, pos, negsuc, ◌≤ℤ◌, Bool, true, false, List, [], ◌∷◌, ◌++◌, Option, Some, None, Result, Ok, ap, sym, ◌∙◌, refl, arith, add-one, subst}
+use Rattle.std.proofs.Common.{◌≡◌, ◌<◌, ◌≤◌, ◌+◌, ℕ, zero, suc, pos, Bool, false, List, [], ◌∷◌, ◌++◌, Option, Some, None, Result, Ok, ap, ◌∙◌, refl, arith, add-one, subst}
 use Rattle.std.specs.Prelude.{◌==◌, ◌&&◌, ◌/◌, ◌%◌, if◌then◌else◌}
 use Rattle.std.proofs.lemmas.Int.{ints}
 use Rattle.fr_base.specs.declared.channel.Channel.{Channel}
@@ -10,17 +10,16 @@ use Rattle.fr_text.specs.Refusal.{NoneRefused}
 use Rattle.fr_text.proofs.Cuts.{none-more}
 use Rattle.fr_text.proofs.Lookups.{looked_up-more}
 use Rattle.fr_drift.specs.Rows.{IsProperCount, IsProperDelay, IsMicrotickLength, IsProperStart, drift_row_of}
-use Rattle.fr_drift.specs.Reasons.{delay_at, delay_in, delay_reason, drift_reason_after, drift_row_reason, is_delay_of, length_in, length_reason, length_said_at, start_at, start_in, start_reason}
+use Rattle.fr_drift.specs.Reasons.{delay_at, delay_in, delay_reason, drift_reason_after, drift_row_reason, length_in, length_reason, length_said_at, start_at, start_in, start_reason}
 use Rattle.fr_drift.specs.Written.{delay_record, doubles_record, length_record, start_record}
 use Rattle.fr_drift.specs.declared.rows.DelayRow.{DelayRow}
 use Rattle.fr_drift.specs.declared.rows.LengthRow.{LengthRow}
 use Rattle.fr_drift.specs.declared.rows.StartRow.{StartRow}
-use Rattle.fr_drift.specs.declared.rows.Start.{Start}
 use Rattle.fr_drift.specs.declared.rows.Row.{Row}
 use Rattle.fr_drift.specs.declared.rows.Row.TheVariants as row
 use Rattle.fr_drift.proofs.Adding.{even-accepted, says-delay, says-doubles, says-length, says-start}
 use Rattle.fr_generator.specs.Cluster.{made_values}
-use Rattle.fr_generator.specs.Drawn.{Drawn, draw, drawn_from, in_turn, rest}
+use Rattle.fr_generator.specs.Drawn.{Drawn, drawn_from, in_turn, rest}
 use Rattle.fr_generator.specs.Places.{beside, channel_at, link_at}
 use Rattle.fr_generator.specs.Generated.{IsMadeCount}
 use Rattle.fr_generator.specs.Steps.{after_clock, after_delay, delay_drawn, length_drawn, start_drawn}

@@ -1,6 +1,6 @@
 -- The cluster that is made is one.
-use Rattle.std.proofs.Common.{◌≡◌, ◌≤◌, ◌<◌, ◌≢◌, ◌+◌, ℕ, zero, suc, pos, Bool, true, false, Some, List, [], ◌∷◌, length, ap, sym, refl, arith, lit<}
-use Rattle.std.specs.Prelude.{slice_index_or, ◌-◌, ◌%◌, map}
+use Rattle.std.proofs.Common.{◌≡◌, ◌≤◌, ◌<◌, ◌≢◌, ◌+◌, ℕ, zero, suc, true, Some, List, [], ◌∷◌, refl, arith, lit<}
+use Rattle.std.specs.Prelude.{◌-◌, ◌%◌, map}
 use Rattle.std.specs.List.{All, AllPairs, Contains}
 use Rattle.std.proofs.lemmas.Int.{ints}
 use Rattle.std.proofs.lemmas.List.Elements.{All-cons}
@@ -12,7 +12,7 @@ use Rattle.fr_params.specs.Making.{IsMadeOf}
 use Rattle.fr_cluster.specs.Numbers.{number_in}
 use Rattle.fr_cluster.specs.Questions.{is_common, node_of}
 use Rattle.fr_cluster.specs.Ranges.{InRange}
-use Rattle.fr_cluster.specs.Sane.{AreSaneLists, IsSaneNode, IsSaneSlot}
+use Rattle.fr_cluster.specs.Sane.{IsSaneNode, IsSaneSlot}
 use Rattle.fr_cluster.specs.Values.{Values}
 use Rattle.fr_cluster.specs.declared.names.ParamName.{ParamName}
 use Rattle.fr_cluster.specs.declared.names.ParamName.TheVariants as name

@@ -1,10 +1,8 @@
 -- What a seed decides.
-use Rattle.std.proofs.Common.{◌≡◌, ℕ, ◌*◌, ◌≤◌, ◌∙◌, sym, subst, arith}
+use Rattle.std.proofs.Common.{◌≡◌, ◌*◌, ◌≤◌, ◌∙◌, sym, subst, arith}
 use Rattle.fr_cluster.specs.Values.{Values}
 use Rattle.fr_drift.specs.Files.{DriftStandsFor}
-use Rattle.fr_drift.specs.View.{DriftView}
 use Rattle.fr_drift.proofs.Outcomes.{stands-same as drift-same}
-use Rattle.fr_script.specs.View.{ScriptView}
 use Rattle.fr_script.proofs.Outcomes.{stands-same as script-same}
 use Rattle.fr_generator.specs.Drawn.{first_words}
 use Rattle.fr_generator.specs.Generated.{drift_of_seed, script_of_seed}

@@ -1,13 +1,12 @@
 -- A step more, in turn.
-use Rattle.std.proofs.Common.{◌≡◌, ◌+◌, ℕ, suc, List, sym, subst, ap, ◌∙◌, refl, add-one}
-use Rattle.fr_text.specs.Records.{FileRecord}
+use Rattle.std.proofs.Common.{◌≡◌, ◌+◌, ℕ, sym, subst, ap, ◌∙◌, refl, add-one}
 use Rattle.fr_cluster.specs.Values.{Values}
 use Rattle.fr_drift.specs.View.{DriftView}
 use Rattle.fr_drift.specs.Files.{DriftStandsFor}
 use Rattle.fr_script.specs.View.{ScriptView}
 use Rattle.fr_script.specs.Files.{ScriptStandsFor}
 use Rattle.fr_generator.specs.Drawn.{Drawn, draw, drawn_from, in_turn, rest}
-use Rattle.std.specs.Prelude.{ℤ, pos, Bool, true, false, ◌%◌, ◌==◌, [], ◌∷◌, ◌++◌, Result, Ok, Err}
+use Rattle.std.specs.Prelude.{pos, false, ◌%◌, ◌==◌, [], ◌∷◌, ◌++◌, Result, Ok, Err}
 use Rattle.fr_drift.specs.Adding.{AddsDriftRecord, HasDriftRecord}
 use Rattle.fr_drift.specs.Written.{length_record, start_record}
 use Rattle.fr_drift.specs.declared.fault.DriftFault.{DriftFault}

@@ -1,15 +1,15 @@
 -- What the steps do to a drift and to a script that stand for records.
-use Rattle.std.specs.Prelude.{◌≡◌, ℕ, List, Result, Ok, Err, ⊤}
+use Rattle.std.specs.Prelude.{◌≡◌, List, Result, Ok, Err, ⊤}
 use Rattle.fr_text.specs.Records.{FileRecord}
 use Rattle.fr_text.specs.Refusal.{NoneRefused}
 use Rattle.fr_cluster.specs.Values.{Values}
 use Rattle.fr_drift.specs.Reasons.{drift_reason_after}
 use Rattle.fr_drift.specs.View.{DriftView}
-use Rattle.fr_drift.specs.Files.{DriftFits, DriftStandsFor}
+use Rattle.fr_drift.specs.Files.{DriftStandsFor}
 use Rattle.fr_drift.specs.declared.fault.DriftFault.{DriftFault}
 use Rattle.fr_script.specs.Reasons.{script_reason_after}
 use Rattle.fr_script.specs.View.{ScriptView}
-use Rattle.fr_script.specs.Files.{ScriptFits, ScriptStandsFor}
+use Rattle.fr_script.specs.Files.{ScriptStandsFor}
 use Rattle.fr_script.specs.declared.fault.ScriptFault.{ScriptFault}
 use Rattle.fr_generator.specs.Drawn.{Drawn, drawn_from}
 use Rattle.rand_pcg.specs.Lcg.{Lcg}
