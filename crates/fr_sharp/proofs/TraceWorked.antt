@@ -1,6 +1,7 @@
 -- The premises of the laws of recorded traces are met by the worked trace of two nodes.
 use Rattle.std.proofs.Common.{◌≡◌, ℕ, ◌<◌, true, false, ℤ, pos, negsuc, [], ◌∷◌, All, refl, subst, inl, lit≤, lit<, rules, arith, IsSome}
 use Rattle.std.specs.Prelude.{◌≤ℤ◌, ◌-ℤ◌, neg_ℤ, AllPairs, Contains}
+use Rattle.std.proofs.lemmas.Int.{ints}
 use Rattle.std.proofs.lemmas.List.Elements.{All-cons, All-nil}
 use Rattle.std.proofs.lemmas.List.Kept.{AllPairs-cons}
 use Rattle.fr_base.specs.Rows.{dev_with, AreAscendingDevs, IsEarlierDev}
@@ -62,8 +63,12 @@ record_is one other first second here there = record {
   uncounted = refl;
 }
 
-row_is : (row : NodeRow) → pos 0 ≤ℤ row.start → row.start ≤ℤ pos 1_110_000_000_000_000_000 → row.length ≡ pos 1_000_000 → row.cut ≡ 0 → IsTracedRow row
-row_is row from to length cut = (record { start = record { low = from; high = to }; length = rw (length) (record { low = record { le = tt }; high = record { le = tt } }) }, cut)
+no-later : (z : ℤ) → z ≤ℤ pos 900_000_000_000_000_000 → z ≤ℤ pos 1_110_000_000_000_000_000
+no-later z to = omega (arith, ints, to)
+
+row_is : (row : NodeRow) → pos 0 ≤ℤ row.start → row.start ≤ℤ pos 900_000_000_000_000_000 → row.length ≡ pos 1_000_000 → row.cut ≡ 0 → IsTracedRow row
+row_is row from to length cut =
+    (record { start = record { low = from; high = no-later row.start to }; length = rw (length) (record { low = record { le = tt }; high = record { le = tt } }) }, cut, to)
 
 is_trace : IsTrace worked
 is_trace = record {

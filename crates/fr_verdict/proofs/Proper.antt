@@ -1,7 +1,7 @@
 -- Where delays and microticks are proper no deviation of a run lies outside of what both rows allow; and where no node joins, no
 -- row is the first of a node.
-use Rattle.std.proofs.Common.{◌≡◌, ◌≢◌, ◌⊎◌, inl, inr, ℕ, zero, suc, ◌+◌, ◌*◌, ◌<◌, ◌≤◌, ◌==◌, ℤ, pos, negsuc, ◌+ℤ◌, ◌-ℤ◌, ◌*ℤ◌, ◌≤ℤ◌, ◌<ℤ◌, Bool, true, false, not, ◌&&◌, List, [], ◌∷◌, ◌++◌, length, map, Option, Some, None, refl, ap, sym, ◌∙◌, subst, arith, append_assoc, length-append}
-use Rattle.std.specs.Prelude.{All, Contains, filter, find, is_some, neg_ℤ, option_and_then, if◌then◌else◌}
+use Rattle.std.proofs.Common.{◌≡◌, ◌≢◌, ◌⊎◌, inl, inr, ℕ, suc, ◌*◌, ◌<◌, ◌≤◌, ◌==◌, ℤ, pos, negsuc, ◌+ℤ◌, ◌-ℤ◌, ◌*ℤ◌, ◌≤ℤ◌, ◌<ℤ◌, Bool, true, false, not, List, [], ◌∷◌, ◌++◌, length, map, Option, Some, None, refl, ap, sym, ◌∙◌, subst, arith, append_assoc, length-append}
+use Rattle.std.specs.Prelude.{All, Contains, is_some, neg_ℤ, option_and_then, if◌then◌else◌}
 use Rattle.std.specs.Option.{option_map}
 use Rattle.std.proofs.lemmas.Int.{ints}
 use Rattle.std.proofs.lemmas.List.Elements.{All-append, All-contains_itself, All-map, All-nil, All-weaker}
@@ -21,7 +21,6 @@ use Rattle.fr_precision.proofs.OffsetLaws.{micro_lasts}
 use Rattle.fr_precision.specs.Deviations.{counted_of}
 use Rattle.fr_precision.specs.Instants.{gap_of}
 use Rattle.fr_precision.specs.Offsets.{IsDeviation}
-use Rattle.fr_precision.specs.Rows.{HasProperMicro}
 use Rattle.fr_reception.proofs.Early.{early}
 use Rattle.fr_runs.proofs.Nodes.{key_slot_there, node_there}
 use Rattle.fr_runs.specs.Links.{IsLinked, Share}
@@ -31,10 +30,9 @@ use Rattle.fr_time.specs.Cycles.{is_odd}
 use Rattle.fr_time.specs.Instant.{action_instant, instant_of}
 use Rattle.fr_time.specs.Position.{floor_of, grid_for}
 use Rattle.fr_time.specs.Slots.{action_point_of, slot_end_of}
-use Rattle.fr_history.proofs.Told.{told_length}
 use Rattle.fr_history.proofs.Unfollowed.{all_have_rows}
 use Rattle.fr_history.specs.Cycles.{Cycle, Cycles, some_joins, told_of}
-use Rattle.fr_history.specs.History.{AreRowsOf, History, Record, row_of}
+use Rattle.fr_history.specs.History.{AreRowsOf, History, row_of}
 use Rattle.fr_history.specs.Lawful.{IsLawful, ToldObeys}
 use Rattle.fr_history.specs.Rows.{uncorrected}
 use Rattle.fr_history.specs.Standing.{row_nodes}
@@ -42,9 +40,9 @@ use Rattle.fr_trace.specs.Bare.{bare_history, bare_record, bare_row}
 use Rattle.fr_trace.specs.Items.{Item, items_by, items_in}
 use Rattle.fr_trace.specs.Items.Item.{Clock, Heard}
 use Rattle.fr_verdict.proofs.Stored.{IsSaidBy, IsSentBy}
-use Rattle.fr_verdict.proofs.Tracing.{IsHeard, all-heard, bare_row-of, eq-is, eq-yes, item-of, items-all, long, no-row, of-sender, receiver-row, runs-break-no-other, some-same}
+use Rattle.fr_verdict.proofs.Tracing.{IsHeard, all-heard, bare_row-of, eq-is, eq-yes, item-of, items-all, no-row, of-sender, receiver-row, runs-break-no-other, some-same}
 use Rattle.fr_verdict.specs.Breach.{Breaks, IsDeviationOutside, is_first_row}
-use Rattle.fr_verdict.specs.Runs.{AreProper, IsFirstRowApart, IsOutside, ProperRunsAreLawful, ProperRunsBreakNoOther, trace_of_run}
+use Rattle.fr_verdict.specs.Runs.{KeepsArrivals, IsFirstRowApart, IsToldOutside, ProperRunsAreLawful, ProperRunsBreakNoOther, trace_of_run}
 use Rattle.fr_verdict.specs.declared.unlawful.Unlawful.{Unlawful}
 use Rattle.fr_verdict.specs.declared.unlawful.Unlawful.TheVariants as unlawful
 
@@ -133,7 +131,7 @@ row-node (r ∷ rows) node row e = by (r.node == node) refl e (row-node rows nod
 
 -- ---- law 6
 
-module _ (x : Setting) (sane : IsSane x.params) (whole : Cycles) (proper : AreProper x whole) where
+module _ (x : Setting) (sane : IsSane x.params) (whole : Cycles) (proper : KeepsArrivals x whole) where
   module _ (later g : Cycles) (c : Cycle) (parted : whole ≡ later ++ c ∷ g) (obeys : ToldObeys x g c) where
     -- a correct node of the cluster
     correct-of : (node : NodeSpec) → Contains (row_nodes x g) node → Contains (correct_nodes x) node
@@ -258,7 +256,7 @@ proper-runs-break-no-other x h u sane lawful proper b = by (runs-break-no-other 
     outside number kept low high (Clock g r row) is breaks = breaks
     outside number kept low high (Heard g r dev) is breaks = is kept low high breaks
 
-    by : IsFirstRowApart x.params (trace_of_run x h) u ⊎ IsOutside u → IsFirstRowApart x.params (trace_of_run x h) u
+    by : IsFirstRowApart x.params (trace_of_run x h) u ⊎ IsToldOutside u → IsFirstRowApart x.params (trace_of_run x h) u
     by (inl apart) = apart
     by (inr out) = absurd (outside out.number out.kept out.low out.high b.item there (subst (λ (v : Unlawful). Breaks x.params (trace_of_run x h) b.item v) out.told b.breaks))
 

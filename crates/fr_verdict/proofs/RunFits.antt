@@ -1,24 +1,20 @@
 -- The trace of a run that no node joins fits its cluster.
-use Rattle.std.proofs.Common.{◌≡◌, ◌≢◌, ◌⊎◌, inl, inr, ℕ, zero, suc, ◌+◌, ◌*◌, ◌<◌, ◌≤◌, ℤ, pos, negsuc, ◌+ℤ◌, ◌-ℤ◌, ◌*ℤ◌, ◌≤ℤ◌, ◌<ℤ◌, Bool, true, false, cond, not, ◌&&◌, ◌||◌, List, [], ◌∷◌, ◌++◌, length, map, get_or, Option, Some, None, refl, ap, sym, ◌∙◌, subst, arith}
-use Rattle.std.specs.Prelude.{All, AllPairs, Contains, IsSome, filter, int_le, int_lt, is_some, nat_abs, neg_ℤ, option_and_then, if◌then◌else◌}
+use Rattle.std.proofs.Common.{◌≡◌, ◌⊎◌, inl, inr, ℕ, suc, ◌+◌, ◌*◌, ◌<◌, ◌≤◌, ℤ, pos, negsuc, ◌+ℤ◌, ◌-ℤ◌, ◌*ℤ◌, ◌≤ℤ◌, ◌<ℤ◌, Bool, true, false, not, ◌&&◌, ◌||◌, List, [], ◌∷◌, ◌++◌, length, map, get_or, Option, Some, None, refl, ap, sym, ◌∙◌, subst, arith}
+use Rattle.std.specs.Prelude.{All, AllPairs, Contains, IsSome, filter, int_le, int_lt, is_some, nat_abs, if◌then◌else◌}
 use Rattle.std.specs.List.{flat_map, list_any}
-use Rattle.std.specs.Option.{option_map}
-use Rattle.std.proofs.lemmas.Bool.{cond_both, or_parts}
+use Rattle.std.proofs.lemmas.Bool.{or_parts}
 use Rattle.std.proofs.lemmas.Int.{by_lt_z, ints}
 use Rattle.std.proofs.lemmas.List.{length-map}
 use Rattle.std.proofs.lemmas.List.Elements.{All-contains, All-contains_itself, Contains-get_or, All-cons, All-head, All-map, All-nil, All-tail, All-weaker}
 use Rattle.std.proofs.lemmas.List.Kept.{AllPairs-cons, AllPairs-filter}
-use Rattle.fr_base.specs.Counts.{no_counts}
-use Rattle.fr_base.specs.Rows.{AreAscendingRows}
-use Rattle.fr_base.specs.Timed.{IsLength, IsTimed}
+use Rattle.fr_base.specs.Timed.{IsLength}
 use Rattle.fr_base.specs.Within.{IsBetween, IsWithin}
 use Rattle.fr_base.specs.declared.channel.Channel.{Channel}
 use Rattle.fr_base.specs.declared.channel.Channel.TheVariants as channel
 use Rattle.fr_base.specs.declared.dev.Dev.{Dev}
 use Rattle.fr_base.specs.declared.node_row.NodeRow.{NodeRow}
-use Rattle.fr_cluster.proofs.Elements.{filtered, kept_filtered}
-use Rattle.fr_cluster.specs.Questions.{compensation_of, has_channel, is_common, node_of, own_key}
-use Rattle.fr_cluster.specs.Sane.{IsSane}
+use Rattle.fr_cluster.proofs.Elements.{filtered}
+use Rattle.fr_cluster.specs.Questions.{compensation_of, is_common, own_key}
 use Rattle.fr_cluster.specs.Setting.{Setting, correct_nodes, is_correct}
 use Rattle.fr_cluster.specs.Values.{Values, amount}
 use Rattle.fr_cluster.specs.declared.names.ParamName.TheVariants as name
@@ -26,13 +22,11 @@ use Rattle.fr_cluster.specs.declared.nodes.NodeSpec.{NodeSpec}
 use Rattle.fr_frame.specs.Reading.{read_as}
 use Rattle.fr_correct.proofs.There.{term_lies_within}
 use Rattle.fr_midpoint.proofs.Products.{mulz-lez, mulz-lez_left, mulz_from}
-use Rattle.fr_midpoint.specs.Midpoint.{midpoint_by_ranks}
-use Rattle.fr_correct.specs.Terms.{offset_term_of, rate_term_of}
-use Rattle.fr_measure.specs.Deviations.{offset_values_by, rate_values_by}
+use Rattle.fr_measure.specs.Deviations.{offset_values_by}
 use Rattle.fr_precision.proofs.PlacementLaws.{share_from}
-use Rattle.fr_reception.specs.Answers.{ArrivesInSlot, answer_by, answer_of}
-use Rattle.fr_reception.specs.Offers.{Offer, deviation_of}
-use Rattle.fr_reception.specs.declared.heard.Heard.TheVariants.{Ignored, Stored}
+use Rattle.fr_reception.specs.Answers.{answer_by, answer_of}
+use Rattle.fr_reception.specs.Offers.{Offer}
+use Rattle.fr_reception.specs.declared.heard.Heard.TheVariants.{Ignored}
 use Rattle.fr_reception.specs.declared.heard.Ignored.TheVariants as reason
 use Rattle.fr_time.proofs.Floors.{share_le}
 use Rattle.fr_time.proofs.Placing.{can_place}
@@ -40,14 +34,13 @@ use Rattle.fr_time.specs.Instant.{next_start_of, slot_begins, slot_ends}
 use Rattle.fr_time.specs.Position.{floor_of, grid_for}
 use Rattle.fr_history.proofs.Unfollowed.{all_have_rows}
 use Rattle.fr_history.specs.Cycles.{Cycle, Cycles, some_joins, told_of}
-use Rattle.fr_history.specs.History.{AreRowsOf, History, Record, row_of}
+use Rattle.fr_history.specs.History.{AreRowsOf, row_of}
 use Rattle.fr_history.specs.Lawful.{IsLawful, ToldObeys}
-use Rattle.fr_history.specs.Laws.{rate_of_next, rate_by_rows, start_by_rows, start_of_next}
-use Rattle.fr_history.specs.Rows.{is_corrected, offset_after, rate_by, uncorrected}
+use Rattle.fr_history.specs.Laws.{start_by_rows}
+use Rattle.fr_history.specs.Rows.{is_corrected, uncorrected}
 use Rattle.fr_history.specs.Standing.{row_nodes}
 use Rattle.fr_history.specs.Terms.{latest_devs}
 use Rattle.fr_cluster.specs.Questions.{own_index}
-use Rattle.fr_trace.proofs.Nodes.{found-first}
 use Rattle.fr_trace.specs.Bare.{bare_history, bare_record, bare_row}
 use Rattle.fr_trace.specs.Lasting.{IsTrace, IsTracedRecord, IsTracedRow}
 use Rattle.fr_history.specs.History.{row_for}
@@ -84,7 +77,6 @@ use Rattle.fr_verdict.proofs.Stored.{IsSaidBy, IsSentBy}
 use Rattle.fr_verdict.proofs.Tracing.{IsHeard, all-heard, ascending, named-is, rows-ascend}
 use Rattle.fr_verdict.specs.Runs.{trace_of_run}
 use Rattle.fr_verdict.proofs.Proper.{node-of-row}
-use Rattle.fr_verdict.proofs.Tracing.{row-found}
 use Rattle.fr_verdict.specs.RunFits.{KeepsRanges, RunsAreReadBack, RunsFit}
 
 -- ---- starts

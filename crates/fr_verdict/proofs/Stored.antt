@@ -1,6 +1,6 @@
 -- Where the deviations of a run's cycle come from: each is of a sender that sends and a receiver that hears.
-use Rattle.std.proofs.Common.{◌≡◌, ◌≢◌, ◌⊎◌, inl, inr, ℕ, zero, suc, ◌==◌, ◌≤◌, ◌<◌, ℤ, ◌+ℤ◌, ◌*ℤ◌, Bool, true, false, cond, not, ◌&&◌, ◌||◌, List, [], ◌∷◌, ◌++◌, length, map, Option, Some, None, Result, Ok, Err, IfSome, refl, ap, sym, ◌∙◌, subst, arith}
-use Rattle.std.specs.Prelude.{All, Contains, count_by, find, int_le, int_lt, is_none, is_some, nat_lt, option_and_then, if◌then◌else◌}
+use Rattle.std.proofs.Common.{◌≡◌, ◌≢◌, ◌⊎◌, inl, inr, ℕ, ◌==◌, ℤ, ◌+ℤ◌, ◌*ℤ◌, Bool, true, false, cond, not, ◌&&◌, ◌||◌, List, [], ◌∷◌, map, Option, Some, None, Result, Ok, Err, IfSome, refl, ap, sym, ◌∙◌, subst, arith}
+use Rattle.std.specs.Prelude.{All, Contains, count_by, int_le, int_lt, is_none, nat_lt, option_and_then, if◌then◌else◌}
 use Rattle.std.specs.List.{filter_map, flat_map, list_any}
 use Rattle.std.specs.Option.{option_map, option_or, option_to_list}
 use Rattle.std.proofs.lemmas.Bool.{cond_both}
@@ -37,14 +37,14 @@ use Rattle.fr_time.specs.Cycles.{cycle_count}
 use Rattle.fr_time.specs.Instant.{action_instant, slot_begins, slot_ends}
 use Rattle.fr_time.specs.Senders.{sender_of, sync_sending, further_sending, further_slot_of}
 use Rattle.fr_time.specs.declared.senders.Sending.{Sending}
-use Rattle.fr_history.proofs.Devs.{devs_are_stored, stored_among, stored_at, stored_of}
+use Rattle.fr_history.proofs.Devs.{devs_are_stored, stored_at, stored_of}
 use Rattle.fr_history.proofs.Found.{receptions_found}
 use Rattle.fr_history.proofs.Lists.{All-flat_map}
 use Rattle.fr_history.proofs.Marks.{HasMarks, offer_in-marked}
 use Rattle.fr_history.specs.History.{row_of}
-use Rattle.fr_history.specs.Offers.{AreReceptions, Reception, active_offer, arrived_of, channels, devs_among, devs_between, is_on, offer_in, said_in_event, said_offer, sender_offer, sent_offer, static_slots_of, stored_in, value_of}
+use Rattle.fr_history.specs.Offers.{AreReceptions, Reception, active_offer, arrived_of, channels, devs_among, is_on, offer_in, said_in_event, said_offer, sender_offer, sent_offer, static_slots_of, stored_in, value_of}
 use Rattle.fr_history.specs.Rows.{uncorrected}
-use Rattle.fr_runs.proofs.Known.{is_deaf, offer_with, stored_value}
+use Rattle.fr_runs.proofs.Known.{offer_with, stored_value}
 
 -- ---- a deviation is what some row stores
 

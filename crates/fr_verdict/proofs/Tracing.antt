@@ -1,35 +1,27 @@
 -- The trace of a lawful run breaks none of the laws 1 to 5, nor the sixth where delays and microticks are proper.
-use Rattle.std.proofs.Common.{◌≡◌, ◌≢◌, ◌⊎◌, inl, inr, ℕ, zero, suc, ◌+◌, ◌*◌, ◌<◌, ◌≤◌, ◌==◌, ℤ, pos, ◌+ℤ◌, ◌-ℤ◌, ◌*ℤ◌, ◌≤ℤ◌, ◌<ℤ◌, Bool, true, false, not, ◌&&◌, ◌||◌, List, [], ◌∷◌, ◌++◌, length, map, get_or, Option, Some, None, refl, ap, ap₂, sym, ◌∙◌, subst, arith, append_assoc}
-use Rattle.std.specs.Prelude.{All, AllPairs, Contains, filter, find, is_some, option_and_then, if◌then◌else◌}
-use Rattle.std.specs.List.{list_any}
+use Rattle.std.proofs.Common.{◌≡◌, ◌≢◌, ◌⊎◌, inl, inr, ℕ, zero, suc, ◌<◌, ◌==◌, ℤ, pos, Bool, true, false, not, ◌&&◌, List, [], ◌∷◌, ◌++◌, length, map, get_or, Option, Some, None, refl, ap, sym, ◌∙◌, subst, arith}
+use Rattle.std.specs.Prelude.{All, AllPairs, Contains, filter, is_some, option_and_then, if◌then◌else◌}
 use Rattle.std.specs.Option.{option_map, option_map_or}
 use Rattle.std.proofs.lemmas.Bool.Decides.{nat_tests}
-use Rattle.std.proofs.lemmas.Int.{ints}
 use Rattle.std.proofs.lemmas.List.{length-map}
-use Rattle.std.proofs.lemmas.List.Elements.{All-append, All-contains, All-cons, All-filter, All-head, All-map, All-nil, All-tail, All-weaker, All-contains_itself}
+use Rattle.std.proofs.lemmas.List.Elements.{All-append, All-cons, All-filter, All-head, All-map, All-nil, All-tail, All-weaker, All-contains_itself}
 use Rattle.std.proofs.lemmas.List.Kept.{AllPairs-cons, AllPairs-filter}
-use Rattle.fr_base.specs.Counts.{no_counts}
 use Rattle.fr_base.specs.Rows.{AreAscendingRows}
 use Rattle.fr_base.specs.States.{is_active, is_halted}
 use Rattle.fr_base.specs.declared.dev.Dev.{Dev}
 use Rattle.fr_base.specs.declared.node_row.NodeRow.{NodeRow}
-use Rattle.fr_base.specs.declared.state.State.{State}
-use Rattle.fr_bound.specs.Bounds.{arrival_error}
-use Rattle.fr_cluster.proofs.Elements.{Contains-here, Contains-none, Contains-there, filtered}
+use Rattle.fr_cluster.proofs.Elements.{Contains-none, filtered}
 use Rattle.fr_cluster.proofs.KeyNodes.{AllPairs-first, AllPairs-rest, Contains-cons_cases}
 use Rattle.fr_cluster.specs.Sane.{IsSane}
-use Rattle.fr_cluster.specs.Searches.{key_node_in, node_in}
 use Rattle.fr_cluster.specs.Setting.{Setting, correct_nodes, is_correct}
 use Rattle.fr_cluster.specs.Values.{Values}
 use Rattle.fr_cluster.specs.declared.nodes.NodeSpec.{NodeSpec}
 use Rattle.fr_time.specs.Cycles.{is_odd}
-use Rattle.fr_time.specs.Instant.{next_start_of}
-use Rattle.fr_time.specs.Position.{grid_for}
 use Rattle.fr_history.specs.Cycles.{Cycle, Cycles, told_of}
 use Rattle.fr_history.specs.History.{AreRowsOf, History, Record, row_of}
-use Rattle.fr_history.specs.Lawful.{IsLawful, Obeys, ToldObeys}
+use Rattle.fr_history.specs.Lawful.{IsLawful, ToldObeys}
 use Rattle.fr_history.specs.Laws.{rate_by_rows, rate_of_next, start_by_rows, start_of_next}
-use Rattle.fr_history.specs.Rows.{is_corrected, offset_after, rate_by, uncorrected}
+use Rattle.fr_history.specs.Rows.{offset_after, rate_by, uncorrected}
 use Rattle.fr_history.specs.Standing.{row_nodes}
 use Rattle.fr_history.specs.Terms.{latest_devs, offset_term_by, outcomes_by, outcomes_in, rate_term_by, status_in}
 use Rattle.fr_cluster.specs.Questions.{own_index}
@@ -37,15 +29,14 @@ use Rattle.fr_poc.specs.Control.{control_of}
 use Rattle.fr_poc.specs.Limits.{limits_of}
 use Rattle.fr_runs.proofs.Nodes.{node_there}
 use Rattle.fr_trace.proofs.Walking.{any-node}
-use Rattle.fr_trace.specs.Bare.{bare_history, bare_record, bare_row, bare_trace}
+use Rattle.fr_trace.specs.Bare.{bare_history, bare_record, bare_row}
 use Rattle.fr_trace.specs.Items.{IsAt, Item, item_in, items_by, items_in}
 use Rattle.fr_trace.specs.Items.Item.{Clock, Heard}
-use Rattle.fr_trace.specs.Text.{arbitrary_in, trace_in}
 use Rattle.fr_trace.specs.Trace.{TraceView, is_named}
 use Rattle.fr_verdict.proofs.Lawful.{IsRow}
-use Rattle.fr_verdict.proofs.Stored.{HasKeyNode, IsSaidBy, IsSent, IsSentBy, IsStoredBy, all-stored, sent-of}
-use Rattle.fr_verdict.specs.Breach.{Breaks, IsApartRow, IsBreach, IsDeviationOutside, halted_state, is_away, rate_from, record_of_breach, sender_is_away, sender_row, silent_in, silent_state, start_from, traced_rate, traced_start}
-use Rattle.fr_verdict.specs.Runs.{AreProper, IsFirstRowApart, IsOutside, ProperRunsBreakNoOther, RunsBreakNoOther, trace_of_run}
+use Rattle.fr_verdict.proofs.Stored.{IsSaidBy, IsSent, IsSentBy, IsStoredBy, all-stored, sent-of}
+use Rattle.fr_verdict.specs.Breach.{Breaks, IsApartRow, IsDeviationOutside, halted_state, is_away, rate_from, record_of_breach, sender_is_away, sender_row, silent_in, silent_state, start_from, traced_rate, traced_start}
+use Rattle.fr_verdict.specs.Runs.{IsFirstRowApart, IsToldOutside, RunsBreakNoOther, trace_of_run}
 use Rattle.fr_verdict.specs.declared.unlawful.Unlawful.{Unlawful}
 use Rattle.fr_verdict.specs.declared.unlawful.Unlawful.TheVariants as unlawful
 
@@ -380,7 +371,7 @@ runs-break-no-other x h u sane lawful b =
     let named : (sender : NodeSpec) → Contains x.params.nodes sender → is_named t sender.id ≡ x.is_arbitrary sender.id = λ sender there. named-is x h sender sane there in
     by b.item b.at (item-of (Little x sane t named) (items_in (bare_history (told_of h))) b.at.place b.item b.at.found (all-little x sane t named h lawful) u b.breaks)
   where
-    by : (item : Item) → IsAt (trace_of_run x h) (record_of_breach u) item → May x sane (trace_of_run x h) (λ sender there. named-is x h sender sane there) item u → IsFirstRowApart x.params (trace_of_run x h) u ⊎ IsOutside u
+    by : (item : Item) → IsAt (trace_of_run x h) (record_of_breach u) item → May x sane (trace_of_run x h) (λ sender there. named-is x h sender sane there) item u → IsFirstRowApart x.params (trace_of_run x h) u ⊎ IsToldOutside u
     by (Clock g r row) at m =
         inl (record {
           number = m.0;

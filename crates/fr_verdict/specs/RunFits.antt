@@ -1,5 +1,5 @@
 -- The trace of a run that no node joins fits its cluster, and its text is read back.
-use Rattle.std.specs.Prelude.{◌≡◌, ℕ, ◌*◌, ◌≤◌, ℤ, pos, true, Contains, List, length, Option, None, Some, IsSome}
+use Rattle.std.specs.Prelude.{◌≡◌, ℕ, ◌*◌, ◌≤◌, ℤ, pos, true, Contains, List, length, Option, None, IsSome}
 use Rattle.fr_base.specs.Event.Event.{Say}
 use Rattle.fr_base.specs.Timed.{IsLength}
 use Rattle.fr_base.specs.Within.{IsBetween, IsWithin}

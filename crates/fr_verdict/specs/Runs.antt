@@ -38,7 +38,7 @@ pub record IsFirstRowApart (p : Values) (t : TraceView) (u : Unlawful) : Type 0 
   pub apart : IsApartRow p t h row double
 
 -- a deviation outside of what both rows allow
-pub record IsOutside (u : Unlawful) : Type 0 where
+pub record IsToldOutside (u : Unlawful) : Type 0 where
   pub number : ℕ
   pub kept : ℤ
   pub low : ℤ
@@ -49,11 +49,11 @@ pub record IsOutside (u : Unlawful) : Type 0 where
 abbrev pub RunsBreakNoOther : Type 0
 RunsBreakNoOther =
     (x : Setting) (h : Cycles) (u : Unlawful) → IsSane x.params → IsLawful x h → IsBreach x.params (trace_of_run x h) u
-    → IsFirstRowApart x.params (trace_of_run x h) u ⊎ IsOutside u
+    → IsFirstRowApart x.params (trace_of_run x h) u ⊎ IsToldOutside u
 
 -- in each cycle the frames of correct nodes are on their way as long as they may, and each microtick of a node with a row lasts as
 -- long as it may
-pub record AreProper (x : Setting) (h : Cycles) : Type 0 where
+pub record KeepsArrivals (x : Setting) (h : Cycles) : Type 0 where
   pub micros : (later g : Cycles) (c : Cycle) (row : NodeRow) → h ≡ later ++ c ∷ g → Contains c.told.rows row → HasProperMicro x.params row
   pub delays :
       (cycle slot : ℕ) (sender receiver : NodeSpec) (channel : Channel)
@@ -63,10 +63,10 @@ pub record AreProper (x : Setting) (h : Cycles) : Type 0 where
 -- there deviations lie within
 abbrev pub ProperRunsBreakNoOther : Type 0
 ProperRunsBreakNoOther =
-    (x : Setting) (h : Cycles) (u : Unlawful) → IsSane x.params → IsLawful x h → AreProper x h → IsBreach x.params (trace_of_run x h) u
+    (x : Setting) (h : Cycles) (u : Unlawful) → IsSane x.params → IsLawful x h → KeepsArrivals x h → IsBreach x.params (trace_of_run x h) u
     → IsFirstRowApart x.params (trace_of_run x h) u
 
 -- and where no correct node joins, the trace is lawful
 abbrev pub ProperRunsAreLawful : Type 0
 ProperRunsAreLawful =
-    (x : Setting) (h : Cycles) → IsSane x.params → IsLawful x h → AreProper x h → some_joins x ≡ false → IsLawfulTrace x.params (trace_of_run x h)
+    (x : Setting) (h : Cycles) → IsSane x.params → IsLawful x h → KeepsArrivals x h → some_joins x ≡ false → IsLawfulTrace x.params (trace_of_run x h)
