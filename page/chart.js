@@ -31,8 +31,9 @@ function chart(points, levels, { most, since, sharp, label, width, first = 0, he
     picture.append(drawn("line", { x1: left, x2: width - right, y1: y(at), y2: y(at), class: "grid" }),
       drawn("text", { x: left - 7, y: y(at) + 4, "text-anchor": "end" }, String(at)));
   }
-  for (const at of steps(last - first, width / 90)) {
-    if (Number.isInteger(at)) picture.append(drawn("text", { x: x(first + at), y: height - bottom + 17, "text-anchor": "middle" }, String(first + at)));
+  const step = steps(last - first, width / 90)[1] || 1;
+  for (let at = Math.ceil(first / step) * step; at <= last; at += step) {
+    if (Number.isInteger(at)) picture.append(drawn("text", { x: x(at), y: height - bottom + 17, "text-anchor": "middle" }, String(at)));
   }
   picture.append(drawn("text", { x: width - right, y: height - 2, "text-anchor": "end" }, "cycle"),
     drawn("text", { x: 2, y: top + high / 2, transform: `rotate(-90 11 ${top + high / 2})`, "text-anchor": "middle", class: "axis" }, "skew in us"));

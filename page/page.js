@@ -375,6 +375,7 @@ function input(row, key, label, { type = "text", options, width, title } = {}) {
   } else {
     found = element("input", { value: row[key], "aria-label": label, autocomplete: "off", spellcheck: "false", size: width || 6, oninput: (event) => change(event.target.value) });
   }
+  if (width && found.size) found.style.width = `${width + 1.7}ch`;
   found.row = row;
   found.dataset.field = key;
   if (title) found.dataset.title = found.title = title;
@@ -440,14 +441,14 @@ const EDITOR = {
     const next = (rows, key) => String(Math.max(0, ...rows.map((row) => Number(row[key]) || 0)) + 1);
     return element("div", {}, editTable("Nodes", "A node with a key slot sends sync frames. An arbitrary one has no clock, and says what Faults have it say. One that joins listens to another in that double cycle, and takes part six cycles behind its begin.",
       page.cluster.nodes, [
-        { key: "id", head: "node", width: 3 }, { key: "key", head: "key slot", width: 4, title: "empty: it sends no sync frames" },
+        { key: "id", head: "node", width: 2 }, { key: "key", head: "key slot", width: 3, title: "empty: it sends no sync frames" },
         { key: "channels", head: "channels", ...CHANNELS }, { key: "cold", head: "cold-start", type: "check" },
         { key: "arbitrary", head: "arbitrary", type: "check" },
         { key: "ppm", head: "ppm", width: 6, title: "of its oscillator; above 0 it is fast" },
         { key: "start", head: "start, us", width: 6, title: "when its first cycle starts" },
-        { key: "rate", head: "first rate", width: 3, title: "microticks" },
-        { key: "double", head: "joins in", width: 3, title: "the double cycle in which it listens; empty: it is there from the beginning" },
-        { key: "reference", head: "listens to", width: 3, title: "the node that it listens to as it joins" },
+        { key: "rate", head: "first rate", width: 2, title: "microticks" },
+        { key: "double", head: "joins in", width: 2, title: "the double cycle in which it listens; empty: it is there from the beginning" },
+        { key: "reference", head: "listens to", width: 2, title: "the node that it listens to as it joins" },
       ], () => ({ id: next(page.cluster.nodes, "id"), key: next(page.cluster.nodes, "key"), channels: "AB", cold: false, arbitrary: false, ppm: "0", start: "0", rate: "0", double: "", reference: "" }), "node"),
     editTable("Further slots", "", page.cluster.slots, [{ key: "slot", head: "slot", width: 4 }, { key: "node", head: "node", width: 3 }, { key: "base", head: "base", width: 3 }, { key: "repetition", head: "repetition", width: 4 }],
       () => ({ slot: next(page.cluster.slots.concat(page.cluster.nodes.map((node) => ({ slot: node.key }))), "slot"), node: page.cluster.nodes[0]?.id || "1", base: "0", repetition: "1" }), "slot"));
