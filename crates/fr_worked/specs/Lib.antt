@@ -16,3 +16,6 @@ pub mod UnevenCycles
 pub mod FarCycles
 pub mod Late
 pub mod Edge
+pub mod RunFiles
+pub mod JoinedFiles
+pub mod SharplyJoinedFiles
