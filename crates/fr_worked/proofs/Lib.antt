@@ -25,3 +25,5 @@ pub mod FilesKept
 pub mod JoinedFilesAre
 pub mod UnevenFilesAre
 pub mod SharplyJoinedAre
+pub mod TracesFit
+pub mod TracesAre

@@ -19,3 +19,4 @@ pub mod Edge
 pub mod RunFiles
 pub mod JoinedFiles
 pub mod SharplyJoinedFiles
+pub mod Traces

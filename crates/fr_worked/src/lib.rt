@@ -24,6 +24,7 @@ mod joined_files;
 mod late;
 mod laws;
 mod sharply_joined_files;
+mod traces;
 mod uneven;
 
 pub use edge::the_precision_is_reached;
@@ -33,6 +34,7 @@ pub use joined_files::{joined_files_keep_their_precision, uneven_files_keep_thei
 pub use late::the_promise_begins_in_sync;
 pub use laws::{a_joined_run_keeps_together, a_joined_run_keeps_up, a_joined_run_stays_together};
 pub use sharply_joined_files::joined_files_keep_their_sharper_precision;
+pub use traces::{a_trace_beside_an_arbitrary_node, a_trace_that_comes_sharp};
 pub use uneven::{an_uneven_run, an_uneven_run_stays_together};
 
 /// A law: two clocks that start two and a half microticks apart come within half a microtick.
