@@ -45,7 +45,7 @@ pub use bounds::{sharp_bounds_are_below, sharp_checks_suffice, walks_are_bounded
 pub use checking::{sharp_checks, sharp_side};
 pub use driven_run::a_driven_run;
 pub use ends::ends_come_near;
-pub use far_run::far_runs_reach;
+pub use far_run::{each_cluster_has_a_far_run, far_runs_reach};
 pub use files::{covered_files_keep_sharply, files_are_steady, files_keep_sharp_precision};
 pub use following::followers_hear_steadily;
 pub use grouping::sharp_groups_are_kept;
