@@ -1,9 +1,11 @@
 ghost use Rattle.fr_midpoint.specs.Receivers.{FewAreDiscarded, OneReceiver, TwoReceivers};
 ghost use Rattle.fr_midpoint.specs.Said.{OneBetween, TwoReceiversAlone, TwoReceiversApart};
 
-/// The law of two receivers, value by value: their midpoints lie half as far apart as the two values of one sender and any
-/// two values of senders do together, whatever arbitrary senders say; where there are none, no further apart than the two
-/// values of one sender. In both cases halving toward zero adds a unit. The midpoint of one lies among the values.
+/// The law of two receivers, value by value, each of which has a value of every sender and no more further values than it
+/// discards at each end. Where both together discard fewer values at an end than there are senders, so that the two values
+/// of one sender remain, their midpoints lie half as far apart as the two values of a sender and any two values of senders
+/// may do together, whatever the further values are; where they have none, no further apart than the two values of a
+/// sender may. In both cases halving toward zero adds a unit. The midpoint of one lies among its values of senders.
 pub fn midpoints_agree()
     ensures apart { TwoReceiversApart }
     ensures alone { TwoReceiversAlone }
