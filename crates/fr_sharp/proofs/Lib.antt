@@ -41,6 +41,7 @@ pub mod FarNumbers
 pub mod RunFar
 pub mod RunFarOlder
 pub mod FarWorked
+pub mod FarFound
 pub mod FromFiles
 pub mod TestedLemmas
 pub mod FreeLemmas

@@ -1,6 +1,6 @@
 -- Of any cluster a run that reaches nearly all of the sharper precision in its first double cycle: one node begins first and is
 -- fast, and all others begin later and are slow.
-use Rattle.std.specs.Prelude.{◌≡◌, ◌≢◌, ◌==◌, ◌+◌, ◌*◌, ◌≤◌, ◌≤ℤ◌, ◌+ℤ◌, ◌-ℤ◌, ◌*ℤ◌, ℕ, ℤ, pos, Bool, false, ◌&&◌, if◌then◌else◌, Contains, None}
+use Rattle.std.specs.Prelude.{◌≡◌, ◌≢◌, ◌==◌, ◌+◌, ◌*◌, ◌≤◌, ◌≤ℤ◌, ◌+ℤ◌, ◌-ℤ◌, ◌*ℤ◌, ℕ, ℤ, pos, Bool, false, ◌&&◌, if◌then◌else◌, Contains, None, Some}
 use Rattle.fr_base.specs.Event.Event.{Regular}
 use Rattle.fr_base.specs.declared.channel.Channel.{Channel}
 use Rattle.fr_cluster.specs.Questions.{compensation_of}
@@ -11,17 +11,18 @@ use Rattle.fr_cluster.specs.declared.names.ParamName.TheVariants as name
 use Rattle.fr_cluster.specs.declared.nodes.NodeSpec.{NodeSpec}
 use Rattle.fr_midpoint.specs.Receivers.{AreFew}
 use Rattle.fr_time.specs.Position.{even_position, grid_for}
-use Rattle.fr_bound.specs.Bounds.{lambda_of, longest_micro, nominal, pi_of, precision_of, shortest_micro}
+use Rattle.fr_bound.specs.Bounds.{cycle_change, lambda_of, longest_micro, nominal, pi_of, precision_of, shortest_micro}
 use Rattle.fr_bound.specs.Checks.{AllChecksHold}
 use Rattle.fr_precision.specs.Round.{sync_count}
 use Rattle.fr_history.specs.Cycles.{told_of}
+use Rattle.fr_history.specs.Lawful.{IsLawful}
 use Rattle.fr_history.specs.Skew.{skew_at}
 use Rattle.fr_history.specs.Unfollowed.{RowsAreInSyncAt}
 use Rattle.fr_runs.specs.Links.{IsLinked, Share}
 use Rattle.fr_runs.specs.Stated.{all_cycles, IsCoveredRun}
 use Rattle.fr_runs.specs.Supplied.{stays_on}
 use Rattle.fr_sharp.specs.DrivenRun.{driven_cluster}
-use Rattle.fr_sharp.specs.SharpBounds.{sharp_lambda, sharp_pi}
+use Rattle.fr_sharp.specs.SharpBounds.{sharp_lambda, sharp_pi, sharp_precision}
 use Rattle.fr_sharp.specs.SharpHistories.{IsInSharpSyncAt, IsSteadyRun}
 use Rattle.fr_sharp.specs.SteadyRuns.{MayHaveArbitrary}
 use Rattle.fr_sharp.specs.WorkedRun.{steady_cluster, OfBytes, Said}
@@ -123,6 +124,63 @@ FarSkewsAreNear =
     ((f.params.macros *ℤ far_skew f) +ℤ ((f.params.macros -ℤ f.params.correction) *ℤ pos lengths))
     +ℤ (f.params.macros *ℤ ((f.params.micros +ℤ f.params.micros) +ℤ pos more))
     )
+
+-- ---- of any parameters such a run
+
+-- how far the skew may stay below a precision, in ticks times the macroticks of a cycle, where lengths lie so far apart: by their share
+-- behind the start of the offset correction; and by two ticks for each microtick of a cycle, by as much as two microticks may differ,
+-- by two microticks, and by what cycles change
+abbrev pub left_below : Values → ℕ → ℕ → ℤ
+left_below p lengths changes =
+    ((p.macros -ℤ p.correction) *ℤ pos lengths)
+    +ℤ (p.macros *ℤ ((p.micros +ℤ p.micros) +ℤ pos (2 * amount p name.xRateBound + 2 * longest_micro p + changes)))
+
+-- the skew of a run comes so near to a precision, in ticks, where the offset correction of its second cycle starts
+abbrev pub ComesNear : Setting → ℕ → ℤ → Type 0
+ComesNear x precision left =
+    (x.params.macros *ℤ pos precision)
+    ≤ℤ ((x.params.macros *ℤ skew_at x.params (told_of (all_cycles x)) 1 (amount x.params name.gOffsetCorrectionStart)) +ℤ left)
+
+-- a cluster may have such a run: it has two nodes, a node shares a channel with each that has a key slot, and microticks may differ by
+-- so much that lengths lie so far apart, in ticks
+pub record AllowsFar (p : Values) (lengths : ℕ) : Type 0 where
+  pub one : NodeSpec
+  pub other : NodeSpec
+  pub here : Contains p.nodes one
+  pub there : Contains p.nodes other
+  pub differ : other.id ≢ one.id
+  pub shares :
+      (sender receiver : NodeSpec) (slot : ℕ) → Contains p.nodes sender → Contains p.nodes receiver
+      → sender.key ≡ Some slot → sender.id ≢ receiver.id → (channel : Channel) × Share sender receiver channel
+  pub fits : lengths ≤ amount p name.pMicroPerCycle * (2 * amount p name.xRateBound) + amount p name.pMicroPerCycle
+
+-- so it has one: a covered lawful run, in sync in its first double cycle, that comes near the older precision where the older checks
+-- hold
+pub record HasFarRun (p : Values) : Type 0 where
+  pub run : Setting
+  pub params : run.params ≡ p
+  pub covered : IsCoveredRun run
+  pub lawful : IsLawful run (all_cycles run)
+  pub synced : RowsAreInSyncAt run.params (all_cycles run) 0
+  pub near : ComesNear run (precision_of run.params) (left_below run.params (lambda_of run.params) 0)
+
+abbrev pub SomeRunComesNear : Type 0
+SomeRunComesNear = (p : Values) → IsSane p → AllChecksHold p → AllowsFar p (lambda_of p) → HasFarRun p
+
+-- and a steady one, in sharp sync in its first double cycle, that comes near the sharper precision, whatever the checks say; it has no
+-- arbitrary node
+pub record HasSharpFarRun (beside : Bool) (p : Values) : Type 0 where
+  pub run : Setting
+  pub params : run.params ≡ p
+  pub steady : IsSteadyRun beside run 0 (all_cycles run)
+  pub synced : IsInSharpSyncAt beside run.params 0 (pos 0) (all_cycles run) 0
+  pub near :
+      ComesNear run (sharp_precision beside run.params 0)
+      (left_below run.params (sharp_lambda beside run.params 0) (2 * cycle_change run.params))
+
+abbrev pub SomeRunComesNearSharply : Type 0
+SomeRunComesNearSharply =
+    (beside : Bool) (p : Values) → IsSane p → AllowsFar p (sharp_lambda beside p 0) → HasSharpFarRun beside p
 
 -- ---- worked: the steady cluster, without an arbitrary node and beside node 4 as one
 

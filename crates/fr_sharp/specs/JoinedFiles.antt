@@ -40,7 +40,8 @@ pub record KeepsSharplyJoined (beside : Bool) (x : Setting) (flutter : ℕ) (h :
   pub keeps :
       (passed : ℕ) → double + passed < x.doubles → ((m : ℕ) → m < passed → FirstRatesLast x.params flutter m)
       → StaysJoined beside x flutter h double passed
-  -- where the first of the sharper checks holds too it is so to the end of the run, with lengths in their range
+  -- where the first of the sharper checks holds too it is so to the end of the run, with even lengths in their
+  -- range
   pub always :
       sharp_holds_of 1 flutter (sharp_reach beside x.params flutter) x.params ≡ true → (passed : ℕ) → double + passed < x.doubles
       → IsInSharpSyncAt beside x.params flutter (pos 0) h (double + passed)

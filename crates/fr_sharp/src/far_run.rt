@@ -1,4 +1,4 @@
-ghost use Rattle.fr_sharp.specs.FarRun.{FarRunsReach, FarRunsReachSharply, FarSkewsAreNear, WorkedFarRuns, WorkedOlderFarRun};
+ghost use Rattle.fr_sharp.specs.FarRun.{FarRunsReach, FarRunsReachSharply, FarSkewsAreNear, SomeRunComesNear, SomeRunComesNearSharply, WorkedFarRuns, WorkedOlderFarRun};
 
 use fr_history::one_lawful_run;
 
@@ -12,6 +12,18 @@ pub fn far_runs_reach()
     ensures near { FarSkewsAreNear }
     ensures met { WorkedFarRuns }
     ensures older_met { WorkedOlderFarRun }
+{
+    one_lawful_run();
+}
+
+/// A law: so there is such a run of any parameters of a cluster that has two nodes, in which a node shares a channel with each
+/// other that has a key slot, and whose microticks may differ by as much as lengths may: a lawful run of one double cycle, in
+/// sync or in sharp sync. Its skew stays below the precision, in ticks, by no more than the share of the lengths behind the
+/// start of the offset correction, two ticks for each microtick of a cycle, two microticks and the greatest difference of two,
+/// and what cycles change. The older precision is reached so where the older checks hold, the sharper one whatever they say.
+pub fn each_cluster_has_a_far_run()
+    ensures older { SomeRunComesNear }
+    ensures sharply { SomeRunComesNearSharply }
 {
     one_lawful_run();
 }

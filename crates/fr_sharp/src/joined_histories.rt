@@ -2,7 +2,7 @@ ghost use Rattle.fr_sharp.specs.JoinedHistories.{FirstRatesLastOn, FirstRatesLas
 ghost use Rattle.fr_sharp.specs.JoinedHistories.{JoinedHistoriesKeepSharpPrecision, JoinedHistoriesKeepSharpSync, JoinedListenersJoin};
 
 /// The law of lawful histories of runs that nodes join, where delays flutter little: from a double cycle in sharp sync
-/// in which no node follows, with lengths in their range, the nodes with rows are in sharp sync in each later one, no
+/// in which no node follows, with even lengths in their range, the nodes with rows are in sharp sync in each later one, no
 /// macroticks of theirs lie further apart than the sharper precision, in ticks, and no term of them or of those that
 /// follow is cut, for as long as the rate limit holds the walk and suffices for first rates. Under the first of the
 /// sharper checks that is to the end of the run, and without it for as many double cycles as are told. Where it is to

@@ -1,7 +1,9 @@
 ghost use Rattle.fr_sharp.specs.SharpJoining.{FollowersComeNearer, OlderJoinChecksSuffice, SharpJoinChecksSuffice};
 
-/// A law: a node that follows comes nearer. Its second start, in ticks, lies no further from the others' than its first
-/// one, and the sharper reach takes in where its action points lie in its second double cycle, and in sharp sync.
+/// A law: the bounds of a node that follows come nearer, in ticks. Its second lengths may lie no further from the others'
+/// than its first ones, and its second start no further than its first one; and the sharper reach takes in how far action
+/// points may lie apart in its second double cycle, and in sharp sync. It is of the bounds alone: of how far each one may
+/// lie, and not of where it lies.
 pub fn followers_come_nearer()
     ensures { FollowersComeNearer }
 {}

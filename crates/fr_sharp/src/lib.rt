@@ -1,7 +1,9 @@
-//! Why clocks keep a sharper precision where delays change little from one cycle of a double cycle to the next: laws over
-//! rows and values, over the lawful histories of runs that no node joins and of runs that nodes join, without arbitrary
-//! nodes and beside them, of recorded traces, and of what the files of such a run promise. The bounds, the checks, how long
-//! they hold and when clocks come there are computed here too, and which of the two a run is.
+//! Why clocks keep a sharper precision where delays change little from one cycle of a double cycle to the next, without
+//! arbitrary nodes and beside them. The bounds, the checks, how long these hold and when clocks come there are computed
+//! here, and whether a run has an arbitrary node. Laws over rows and values, over the lawful histories of runs that no
+//! node joins and of runs that nodes join, over recorded traces that no node joins, and over what the files of a run
+//! promise. And worked runs and a worked trace that meet what these ask, runs that come near the precision, in closed
+//! form too, and runs that lose it where a check fails.
 #![tactic(auto)]
 
 mod arbitrary;
@@ -44,7 +46,7 @@ pub use bounds::{sharp_bounds_are_below, sharp_checks_suffice, walks_are_bounded
 pub use checking::{sharp_checks, sharp_side};
 pub use driven_run::a_driven_run;
 pub use ends::ends_come_near;
-pub use far_run::far_runs_reach;
+pub use far_run::{each_cluster_has_a_far_run, far_runs_reach};
 pub use files::{covered_files_keep_sharply, files_are_steady, files_keep_sharp_precision};
 pub use following::followers_hear_steadily;
 pub use grouping::sharp_groups_are_kept;

@@ -2,10 +2,10 @@ ghost use Rattle.fr_sharp.specs.SharpTraces.{CheckedTracesAreSteady, PassingTrac
 ghost use Rattle.fr_sharp.specs.WorkedTrace.{WorkedTraceKeepsPrecision, WorkedTraceMeetsPremises};
 
 /// The law of recorded traces: where no node joins, a lawful trace keeps the sharper precision, in ticks, with both errors
-/// of an arrival for the flutter. From a double cycle in sharp sync on, with lengths in their range and under the second
+/// of an arrival for the flutter. From a double cycle in sharp sync on, with even lengths in their range and under the second
 /// and the third check, it is in sharp sync in each double cycle, for as many as the rate limit holds the walk: no term by
 /// its recorded deviations is cut or missing, and each node is active behind. Where the first check holds too, all that is
-/// so in each cycle to the end, with each length in its range. A lawful trace without a gap but of the older checks is such
+/// so in each cycle to the end, with even lengths in their range. A lawful trace without a gap but of the older checks is such
 /// a one, from its first double cycle in sync on. One that passes, so under the older checks, comes into sharp sync as many
 /// double cycles after it as the spreads from the older pi and lambda take to come to rest.
 pub fn traces_keep_sharp_sync()
@@ -15,7 +15,7 @@ pub fn traces_keep_sharp_sync()
     ensures passing { PassingTracesComeSharp }
 {}
 
-/// A law: from stated numbers for starts and even lengths, in ticks, each length in its range, such a trace keeps to the
+/// A law: from stated numbers for starts and even lengths, in ticks, these in their range, such a trace keeps to the
 /// spreads by double cycle, under the second and the third check with a reach for the whole way, and is in sharp sync when
 /// these have come to rest, as long as the walk lasts.
 pub fn traces_settle_sharply()

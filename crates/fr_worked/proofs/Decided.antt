@@ -27,7 +27,7 @@ use Rattle.fr_script.specs.declared.deeds.Deed.TheVariants.{Say}
 use Rattle.fr_script.specs.declared.deeds.Passage.{Passage}
 use Rattle.fr_cluster.specs.Setting.{Setting}
 use Rattle.fr_cluster.specs.declared.join.Join.{Join}
-use Rattle.fr_worked.specs.Files.{no_joins, plain_script, says_to, steady_drift}
+use Rattle.fr_worked.specs.Files.{no_join, no_joins, plain_script, says_to, steady_drift}
 use Rattle.fr_coverage.specs.Decided.{setting_of}
 
 -- each question is answered as the run has it
@@ -107,9 +107,6 @@ steady_delays doubles sender receiver A cycle i = unwrap_or (nothing_held cycle 
 steady_delays doubles sender receiver B cycle i = unwrap_or (nothing_held cycle i) (pos 0)
 
 -- ---- scripts
-
-abbrev no_join : Option Join
-no_join = None
 
 pub none_marked : (count node : ℕ) → slice_index_or (replicate count false) node false ≡ false
 none_marked zero node = refl

@@ -20,3 +20,10 @@ pub mod UnevenKept
 pub mod FarComes
 pub mod LateBegins
 pub mod EdgeReached
+pub mod Accepted
+pub mod FilesKept
+pub mod JoinedFilesAre
+pub mod UnevenFilesAre
+pub mod SharplyJoinedAre
+pub mod TracesFit
+pub mod TracesAre

@@ -102,7 +102,7 @@ five_keys : (P : ℕ → Type 0) → P 1 → P 2 → P 3 → P 4 → P 5 → All
 five_keys P one two three four five =
     All-cons P 1 (2 ∷ 3 ∷ 4 ∷ 5 ∷ []) one (All-cons P 2 (3 ∷ 4 ∷ 5 ∷ []) two (All-cons P 3 (4 ∷ 5 ∷ []) three (All-cons P 4 (5 ∷ []) four (All-cons P 5 [] five (All-nil P)))))
 
-is_sane : IsSane small_cluster
+pub is_sane : IsSane small_cluster
 is_sane = record {
   ranges = in_range;
   constraints = record {
@@ -127,7 +127,7 @@ is_sane = record {
   };
 }
 
-three_bytes : All (λ (byte : ℕ). byte < 256) (1 ∷ 2 ∷ 3 ∷ [])
+pub three_bytes : All (λ (byte : ℕ). byte < 256) (1 ∷ 2 ∷ 3 ∷ [])
 three_bytes =
     let Byte : ℕ → Type 0 = λ byte. byte < 256 in
     All-cons Byte 1 (2 ∷ 3 ∷ []) (lit< tt) (All-cons Byte 2 (3 ∷ []) (lit< tt) (All-cons Byte 3 [] (lit< tt) (All-nil Byte)))

@@ -38,8 +38,11 @@ abbrev pub no_arbitrary : List Bool
 no_arbitrary = replicate 65 false
 
 -- no node joins
+abbrev pub no_join : Option Join
+no_join = None
+
 abbrev pub no_joins : List (Option Join)
-no_joins = replicate 65 None
+no_joins = replicate 65 no_join
 
 -- a script without rows: all nodes are correct
 abbrev pub plain_script : ScriptView

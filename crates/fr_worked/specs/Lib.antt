@@ -16,3 +16,7 @@ pub mod UnevenCycles
 pub mod FarCycles
 pub mod Late
 pub mod Edge
+pub mod RunFiles
+pub mod JoinedFiles
+pub mod SharplyJoinedFiles
+pub mod Traces

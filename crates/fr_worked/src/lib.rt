@@ -1,5 +1,7 @@
 //! Worked runs of a cluster, computed from the definitions alone: what happens cycle by cycle, the greatest skew,
-//! the first double cycle in sync, the report, and that they meet what the laws of runs ask. Nothing here runs.
+//! the first double cycle in sync, the report, and that they meet what the laws of runs ask. And worked files of runs
+//! that nodes join, by their bytes, and worked traces: they meet what is asked where something is promised of such, by
+//! the older bounds and by the sharper ones. Nothing here runs.
 #![tactic(auto)]
 
 ghost use Rattle.std.specs.Prelude.{◌≡◌, None, false, pos, true};
@@ -18,15 +20,21 @@ ghost use Rattle.fr_worked.specs.Working.{IsAsWritten, WorkedRunKeepsPrecision};
 
 mod edge;
 mod far;
+mod joined_files;
 mod late;
 mod laws;
+mod sharply_joined_files;
+mod traces;
 mod uneven;
 
 pub use edge::the_precision_is_reached;
 pub use far::a_far_follower;
 use fr_history::{a_joined_run, one_lawful_run};
+pub use joined_files::{joined_files_keep_their_precision, uneven_files_keep_their_precision};
 pub use late::the_promise_begins_in_sync;
 pub use laws::{a_joined_run_keeps_together, a_joined_run_keeps_up, a_joined_run_stays_together};
+pub use sharply_joined_files::joined_files_keep_their_sharper_precision;
+pub use traces::{a_trace_beside_an_arbitrary_node, a_trace_that_comes_sharp};
 pub use uneven::{an_uneven_run, an_uneven_run_stays_together};
 
 /// A law: two clocks that start two and a half microticks apart come within half a microtick.
