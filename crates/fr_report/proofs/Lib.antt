@@ -6,3 +6,5 @@ pub mod Texts
 pub mod TraceDecided
 pub mod RunDecided
 pub mod Written
+pub mod MadeStatus
+pub mod RunStatus

@@ -16,3 +16,4 @@ pub mod SharpPlaces
 pub mod SeriesFigures
 pub mod Stops
 pub mod CyclePeaks
+pub mod SeriesStatus

@@ -19,3 +19,4 @@ pub mod Loading
 -- what the laws cite
 pub mod Texts
 pub mod ReadBack
+pub mod Defined

@@ -16,3 +16,4 @@ pub mod Counts
 pub mod Behind
 pub mod InOrder
 pub mod Places
+pub mod TraceSound

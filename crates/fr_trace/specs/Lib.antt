@@ -16,3 +16,4 @@ pub mod Draft
 pub mod Told
 -- what the laws cite
 pub mod Numbered
+pub mod Sound

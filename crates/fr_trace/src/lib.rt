@@ -17,7 +17,7 @@ mod writing;
 
 pub use fault::TraceFault;
 pub use kind::TraceFile;
-pub use laws::{one_answer, refused_for_the_least_reason, some_answer};
+pub use laws::{one_answer, refused_for_the_least_reason, some_answer, trace_of_a_file_is_sound};
 pub use numbered::records_in_order;
 pub use reading::read;
 pub use trace::{Trace, TracedCycle, TracedJoin};
