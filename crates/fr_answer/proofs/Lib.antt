@@ -3,3 +3,9 @@ mod Undone
 pub mod FrameDecided
 pub mod BoundDecided
 pub mod KeptRuns
+pub mod Settlings
+pub mod ParameterStatus
+pub mod RecordingStatus
+pub mod CheckStatus
+pub mod FilesStatus
+pub mod RequestStatus

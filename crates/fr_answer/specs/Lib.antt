@@ -10,3 +10,4 @@ pub mod SettleText
 pub mod RunAnswer
 pub mod SharpText
 pub mod SharpSettleText
+pub mod Statuses

@@ -1,7 +1,7 @@
 //! The program's answer as a call: words, a shelf and two sinks in, a status out. What `flexray frame CHANNEL FILE`, `flexray
 //! bound PARAMS`, also with the word `join` or with `sharp FLUTTER`, and `flexray settle PARAMS START RATE`, also with
 //! `sharp FLUTTER`, answer is made here, the answer to each other command in the crate of its subject; of a run it says
-//! here what the sharper promise says of it.
+//! here what the sharper promise says of it. And that the bytes of the files of each request define one status.
 #![tactic(auto)]
 
 mod bound;
@@ -16,6 +16,7 @@ mod request;
 mod run;
 mod settle;
 mod settle_sharp;
+mod status_laws;
 mod top;
 
 pub use bound::answer_bound;
@@ -32,4 +33,9 @@ pub use frame_laws::file_decides_the_line;
 pub use run::answer_kept_run;
 pub use settle::answer_settle;
 pub use settle_sharp::answer_settle_sharp;
+pub use status_laws::{
+    a_capture_has_one_status, a_check_has_one_status, a_frame_has_one_status, a_run_has_one_status,
+    a_startup_has_one_status, an_upgrade_has_one_status, bounds_have_one_status,
+    each_request_has_one_status, settlings_have_one_status, vectors_have_one_status,
+};
 pub use top::flexray;

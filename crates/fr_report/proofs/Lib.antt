@@ -6,3 +6,9 @@ pub mod Texts
 pub mod TraceDecided
 pub mod RunDecided
 pub mod Written
+pub mod MadeStatus
+pub mod RunStatus
+pub mod Defining
+pub mod RowsRead
+pub mod ScriptSound
+pub mod TraceSound

@@ -5,3 +5,5 @@ pub mod MakeAnswer
 pub mod TraceAnswer
 pub mod Files
 pub mod Names
+pub mod Defined
+pub mod Sound

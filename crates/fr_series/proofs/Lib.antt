@@ -17,3 +17,4 @@ pub mod SharpPlaces
 pub mod SeriesFigures
 pub mod Stops
 pub mod CyclePeaks
+pub mod SeriesStatus

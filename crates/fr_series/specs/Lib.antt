@@ -12,3 +12,4 @@ pub mod SharpAnswer
 pub mod SharpCovered
 pub mod SharpMeaning
 pub mod SharpText
+pub mod Statuses

@@ -15,6 +15,7 @@ mod sharp_lines;
 mod sharp_series;
 mod sharp_writing;
 mod spread;
+mod status_laws;
 mod tally;
 mod top;
 mod writing;
@@ -33,6 +34,7 @@ pub use sharp_laws::{
 };
 pub use sharp_series::answer_sharp_series;
 pub use sharp_writing::write_sharp_series;
+pub use status_laws::{a_series_has_one_status, each_series_request_has_one_status};
 pub use tally::Tally;
 pub use top::flexray_series;
 pub use writing::write_series;

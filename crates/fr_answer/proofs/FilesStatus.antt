@@ -1,0 +1,46 @@
+-- The files of a run define one status of its report with the promises, and those of a startup one.
+use Rattle.std.proofs.Common.{ℕ, List, inl, refl}
+use Rattle.fr_cluster.specs.Sane.{IsSane}
+use Rattle.fr_cluster.specs.Values.{Values}
+use Rattle.fr_cold.specs.ColdAnswer.{cold_files}
+use Rattle.fr_cold.specs.ColdText.{IsColdText, cold_text}
+use Rattle.fr_cold.specs.Files.{PowerFits, power_file}
+use Rattle.fr_cold.specs.View.{PowerView}
+use Rattle.fr_drift.specs.View.{DriftView}
+use Rattle.fr_params.specs.Files.{params_file}
+use Rattle.fr_params.specs.Upgrades.{AcceptedAreSane}
+use Rattle.fr_script.specs.View.{ScriptView}
+use Rattle.fr_text.specs.Kind.{HasOneAnswer, HasSomeAnswer}
+use Rattle.fr_report.specs.RunText.{IsRunText}
+use Rattle.fr_sharp.specs.JoinedFiles.{CoveredFilesKeepSharplyJoined}
+use Rattle.fr_sharp.specs.SharpFiles.{CoveredFilesKeepSharply}
+use Rattle.fr_answer.specs.RunAnswer.{IsKeptRunText}
+use Rattle.fr_report.specs.Defined.{DefinesOneStatus}
+use Rattle.fr_report.proofs.RunStatus.{IsDefinedText}
+use Rattle.fr_report.proofs.Defining.{one_status, some_status}
+
+-- the report with the sharper promise
+pub kept_defined : CoveredFilesKeepSharply → CoveredFilesKeepSharplyJoined → (shown : Values → DriftView → ScriptView → List ℕ) → IsDefinedText IsRunText shown → IsDefinedText IsKeptRunText shown
+kept_defined keep joined shown defined p d s sane fits script proper =
+    let report = defined p d s sane fits script proper in
+    record {
+      report = report;
+      sharply = λ flutter double covered synced. keep p d s flutter report.cycles double sane covered report.run synced;
+      joined = λ flutter double covered synced. joined p d s flutter report.cycles double sane fits script covered report.run synced;
+    }
+
+-- ---- a startup
+
+pub cold_status : HasOneAnswer params_file → HasSomeAnswer params_file → ((p : Values) → HasOneAnswer (power_file p)) → ((p : Values) → HasSomeAnswer (power_file p)) → AcceptedAreSane
+    → ((p : Values) (v : PowerView) → IsSane p → PowerFits p v → IsColdText p v (cold_text p v)) → DefinesOneStatus cold_files 2
+cold_status one some power_one power_some sane defined = record {
+  one = one_status cold_files (one, λ p. (power_one p, λ v written said is never. never));
+  some = some_status cold_files 2 (
+    some,
+    λ bytes p octets accepted. (
+      power_some p,
+      λ power v octets_too fits.
+          (refl, inl (cold_text p v, defined p v (sane p bytes accepted.accepted) (record { records = _; none_refused = fits.accepted.none_refused; stands = fits.accepted.stands }))),
+    ),
+  );
+}
