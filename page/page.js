@@ -3,7 +3,7 @@ const STATUSES = { 0: "Done", 1: "No", 2: "Usage", 3: "ReadFault", 4: "WriteFaul
 const MOST_FLUTTER = 20000000;
 const $ = (id) => document.getElementById(id);
 
-// ---- small helpers
+// ---- small functions
 
 function element(name, attributes = {}, ...inside) {
   const found = document.createElement(name);

@@ -31,13 +31,13 @@ class Browser:
                                         stderr=subprocess.DEVNULL)
         os.close(their_in)
         os.close(their_out)
-        self.number, self.kept, self.faults, self.session = 0, b"", [], None
+        self.number, self.kept, self.faults, self.tab = 0, b"", [], None
         # What hangs is ended, so that a read of the pipe ends too.
         self.watch = threading.Timer(300, self.process.kill)
         self.watch.daemon = True
         self.watch.start()
         target = self.send("Target.createTarget", url="about:blank")["targetId"]
-        self.session = self.send("Target.attachToTarget", targetId=target, flatten=True)["sessionId"]
+        self.tab = self.send("Target.attachToTarget", targetId=target, flatten=True)["sessionId"]
         for name in ("Page.enable", "Runtime.enable", "Log.enable"):
             self.send(name)
         self.size(width, height)
@@ -59,8 +59,8 @@ class Browser:
     def send(self, method, **words):
         self.number += 1
         whole = {"id": self.number, "method": method, "params": words}
-        if self.session:
-            whole["sessionId"] = self.session
+        if self.tab:
+            whole["sessionId"] = self.tab
         data = json.dumps(whole).encode() + b"\0"
         while data:
             data = data[os.write(self.out, data):]
