@@ -167,7 +167,7 @@ int main(void) {
         for line, start in zip(told[8:13], ("5 0 params: ", "5 0 params: ", "1 0 ", "1 0 frame: ", f"2 0 {usage}"), strict=True):
             self.assertTrue(line.startswith(start) or line.startswith("0 "), line)
         self.assertTrue(told[13].startswith("2 0 "), told[13])
-        self.assertEqual(told[14], "7 0 params: too long 16777217")
+        self.assertEqual(told[14], "7 0 params: too long")
         self.assertRegex(told[15], "^5 0 params: ")
         self.assertEqual(told[16:], [f"2 {len(usage) + 1}", f"2 {len(usage) + 1}", "1 7", "11 8", "7 0", "8 0", "6 0", "9 0", "10 0", "0 8",
                                      "2047 0 63 1 1 0"])
