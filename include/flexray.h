@@ -127,6 +127,13 @@ typedef struct {
    bytes from byte 5 on. Else it answers the first fault, and the frame stays as it was. It takes no memory. */
 uint32_t flexray_frame_decode(uint32_t channel, const uint8_t *bytes, size_t length, flexray_frame *frame);
 
+/* Reads the frame that begins the bytes on the channel, whatever stands behind it, and answers FLEXRAY_NO_FAULT; `count` is then the
+   number of its bytes, and its payload the 2 * words bytes from byte 5 on. So a recording is read in pieces: keep what is left,
+   and put the next piece behind it. FLEXRAY_SHORT says that the bytes end before the frame does, and `count` how many are to be
+   there before more can be said. With every other fault no bytes behind mend it, and `count` is 0. The frame stays as it was but
+   with FLEXRAY_NO_FAULT. It takes no memory. */
+uint32_t flexray_frame_next(uint32_t channel, const uint8_t *bytes, size_t length, flexray_frame *frame, size_t *count);
+
 /* Writes the frame of this header and payload on the channel to the front of its place, and answers FLEXRAY_NO_FAULT; `length`
    is then the number of its bytes, 8 more than the payload has. Else it answers the first fault, the place stays as it was, and
    `length` is 0, or with FLEXRAY_ROOM the number of bytes that are needed. It takes no memory. */

@@ -172,6 +172,15 @@ int main(void) {
         self.assertEqual(told[16:], [f"2 {len(usage) + 1}", f"2 {len(usage) + 1}", "1 7", "11 8", "7 0", "8 0", "6 0", "9 0", "10 0", "0 8",
                                      "2047 0 63 1 1 0"])
 
+    def test_a_recording_in_pieces(self):
+        folder, _, _, text, _ = next(one for one in examples() if one[0].endswith("/capture"))
+        found = re.findall(r"^at (\d+) id (\d+)", text.decode(), re.M)
+        end = re.search(r"^frames 2 bytes (\d+)$", text.decode(), re.M).group(1)
+        bytes_given = os.path.getsize(os.path.join(folder, "capture.bin"))
+        told = self.fine(self.call(self.compile(), "pieces", ["capture.bin"], folder))
+        wanted = " ".join(f"{place}/{number}" for place, number in found)
+        self.assertEqual(told, "".join(f"{size}: {wanted} then 1 at {end} of {bytes_given}\n" for size in (1, 7, 100, 4096)))
+
     def test_version(self):
         major, minor, patch = map(int, version().split("."))
         told = int(self.fine(self.call(self.compile(), "version")))

@@ -1,5 +1,5 @@
 -- A frame of C, and how it is read and written.
-use Rattle.std.specs.Prelude.{◌≡◌, ℕ, ◌==◌, ◌⊎◌, Bool, not, List, length, Option, Some, None, MatchOption, if◌then◌else◌}
+use Rattle.std.specs.Prelude.{◌≡◌, ℕ, ◌<◌, ◌≤◌, ◌==◌, ◌⊎◌, Bool, not, nat_lt, List, length, take, Option, Some, None, MatchOption, if◌then◌else◌}
 use Rattle.fr_base.specs.declared.channel.Channel.{Channel}
 use Rattle.fr_base.specs.declared.channel.Channel.TheVariants.{A, B}
 use Rattle.fr_frame.specs.declared.header.Header.{Header}
@@ -7,6 +7,7 @@ use Rattle.fr_frame.specs.declared.fault.FrameFault.{FrameFault}
 use Rattle.fr_frame.specs.declared.fault.FrameFault.TheVariants as read
 use Rattle.fr_frame.specs.declared.fault.EncodeFault.{EncodeFault}
 use Rattle.fr_frame.specs.declared.fault.EncodeFault.TheVariants as write
+use Rattle.fr_capture.specs.Rest.{has_right_header, size_of}
 use Rattle.fr_frame.specs.Fault.{IsFirstFault}
 use Rattle.fr_frame.specs.Frame.{IsFrameWith, bit}
 use Rattle.fr_frame.specs.Refusal.{IsEncoded, IsFirstRefusal}
@@ -86,6 +87,40 @@ pub record IsFaulted (channel : Channel) (bytes : List ℕ) (before after : Fram
 abbrev pub DecodeEnds : ℕ → List ℕ → Frame → Frame → ℕ → Type 0
 DecodeEnds number bytes before after result =
     MatchOption (channel_numbered number) ((result ≡ 7) × (after ≡ before)) (λ channel. IsDecoded channel bytes after result ⊎ IsFaulted channel bytes before after result)
+
+-- how many bytes are to be there before more can be said of the frame that begins these: as many as its header states, where its
+-- header CRC is right, and else as many as the shortest frame has
+abbrev pub expected : List ℕ → ℕ
+expected bytes = if nat_lt (length bytes) 8 then 8 else (if has_right_header bytes then size_of bytes else 8)
+
+-- the bytes end before that: it is told how many are expected
+pub record IsAwaited (bytes : List ℕ) (before after : Frame) (count result : ℕ) : Type 0 where
+  pub few : length bytes < expected bytes
+  pub counted : count ≡ expected bytes
+  pub short : result ≡ 1
+  pub unchanged : after ≡ before
+
+-- the frame is there, and how many bytes it has is told
+pub record IsReadFirst (channel : Channel) (bytes : List ℕ) (after : Frame) (count result : ℕ) : Type 0 where
+  pub within : expected bytes ≤ length bytes
+  pub decoded : IsDecoded channel (take (expected bytes) bytes) after result
+  pub counted : count ≡ expected bytes
+
+-- so many bytes are there, and are no frame
+pub record IsFaultedFirst (channel : Channel) (bytes : List ℕ) (before after : Frame) (count result : ℕ) : Type 0 where
+  pub within : expected bytes ≤ length bytes
+  pub faulted : IsFaulted channel (take (expected bytes) bytes) before after result
+  pub counted : count ≡ 0
+
+-- what is told of the frame that begins the bytes
+abbrev pub IsNext : Channel → List ℕ → Frame → Frame → ℕ → ℕ → Type 0
+IsNext channel bytes before after count result =
+    IsAwaited bytes before after count result ⊎ IsReadFirst channel bytes after count result ⊎ IsFaultedFirst channel bytes before after count result
+
+-- how a reading of a front ends: 7 where there is no such channel
+abbrev pub NextEnds : ℕ → List ℕ → Frame → Frame → ℕ → ℕ → Type 0
+NextEnds number bytes before after count result =
+    MatchOption (channel_numbered number) ((result ≡ 7) × (count ≡ 0) × (after ≡ before)) (λ channel. IsNext channel bytes before after count result)
 
 -- the frame of this header and payload was written, and the rest of the place is as it was
 pub record IsSpelled (channel : Channel) (frame : Frame) (payload before after : List ℕ) (count result : ℕ) : Type 0 where

@@ -1,8 +1,8 @@
-ghost use Rattle.std.specs.Prelude.{◌≡◌};
-ghost use Rattle.flexray_c.specs.Frames.{DecodeEnds, EncodeEnds, channel_numbered, decode_number, encode_number, flag_given, frame_told, header_given};
+ghost use Rattle.std.specs.Prelude.{◌≡◌, ◌⊎◌};
+ghost use Rattle.flexray_c.specs.Frames.{DecodeEnds, EncodeEnds, IsDecoded, IsFaulted, IsNext, NextEnds, channel_numbered, expected, decode_number, encode_number, flag_given, frame_told, header_given};
 
 use fr_base::Channel;
-use fr_frame::{EncodeFault, FrameFault, Header, decode, encode};
+use fr_frame::{EncodeFault, FrameFault, Header, decode, encode, front_of};
 
 /// A frame without its payload. Indicators are told as 0 or 1; where they are given, every number but 0 is set.
 #[derive(Clone, Copy)]
@@ -39,15 +39,28 @@ const NO_CHANNEL: u32 = 7;
 pub extern "C" fn flexray_frame_decode(channel: u32, bytes: &[u8], frame: &mut Frame) -> u32
     ensures { DecodeEnds channel bytes.now frame.old frame.new result }
 {
-    let Some(channel) = channel_of(channel) else {
-        return NO_CHANNEL;
-    };
-    match decode(channel, bytes) {
-        Ok(found) => {
-            *frame = told(&found.header, found.header_crc, found.frame_crc);
-            0
-        }
-        Err(fault) => number_of(fault),
+    match channel_of(channel) {
+        Some(channel) => read(channel, bytes, frame),
+        None => NO_CHANNEL,
+    }
+}
+
+/// Reads the frame that begins the bytes on the channel of this number, whatever stands behind it: 0, the frame without its
+/// payload, and the number of its bytes. Where the bytes end before it does, 1, and how many are to be there before more can
+/// be said. Else the number of the first fault, 2, 4, 5 or 6, or 7 where there is no such channel, and `count` is 0.
+#[unsafe(no_mangle)]
+pub extern "C" fn flexray_frame_next(
+    channel: u32,
+    bytes: &[u8],
+    frame: &mut Frame,
+    count: &mut usize,
+) -> u32
+    ensures { NextEnds channel bytes.now frame.old frame.new count.new result }
+{
+    *count = 0;
+    match channel_of(channel) {
+        Some(channel) => read_next(channel, bytes, frame, count),
+        None => NO_CHANNEL,
     }
 }
 
@@ -79,6 +92,52 @@ pub extern "C" fn flexray_frame_encode(
             }
             refusal_number(fault)
         }
+    }
+}
+
+// Reads the frame that the bytes are, all of them.
+fn read(channel: Channel, bytes: &[u8], frame: &mut Frame) -> u32
+    ensures { IsDecoded channel bytes.now frame.new result
+        ⊎ IsFaulted channel bytes.now frame.old frame.new result }
+{
+    match decode(channel, bytes) {
+        Ok(found) => {
+            *frame = told(&found.header, found.header_crc, found.frame_crc);
+            0
+        }
+        Err(fault) => number_of(fault),
+    }
+}
+
+// Reads the frame that begins the bytes, where all of it is there.
+fn read_next(channel: Channel, bytes: &[u8], frame: &mut Frame, count: &mut usize) -> u32
+    requires { count.old ≡ 0 }
+    ensures { IsNext channel bytes.now frame.old frame.new count.new result }
+{
+    let whole = expected_in(bytes);
+    if bytes.len() < whole {
+        *count = whole;
+        return 1;
+    }
+    let ended = read(channel, &bytes[..whole], frame);
+    if ended == 0 {
+        *count = whole;
+    }
+    ended
+}
+
+// How many bytes are to be there before more can be said of the frame that begins these.
+fn expected_in(bytes: &[u8]) -> usize
+    ensures { result ≡ expected bytes.now }
+{
+    if bytes.len() < 8 {
+        return 8;
+    }
+    let front = front_of(bytes);
+    if front.kept == front.computed {
+        8 + 2 * usize::from(front.header.words)
+    } else {
+        8
     }
 }
 

@@ -10,7 +10,7 @@ mod requests;
 mod shown;
 mod words;
 
-pub use frames::{Frame, flexray_frame_decode, flexray_frame_encode};
+pub use frames::{Frame, flexray_frame_decode, flexray_frame_encode, flexray_frame_next};
 pub use kept::KeptText;
 pub use lent::LentFiles;
 pub use requests::{

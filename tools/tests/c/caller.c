@@ -6,6 +6,8 @@
      threads WORD ..   the same by eight threads, 40 times each
      stack WORD ..     prints how many bytes of a thread's stack were written
      memory WORD ..    the same with ever more calls of malloc and realloc that succeed; prints how many statuses came, and which
+     pieces FILE       the frames of a recording on channel A that is given in pieces of 1, 7, 100 and 4096 bytes: prints where
+                       each begins, and how it ends
      bad               words that are no request, bytes that are no file, places that are null: prints what came
    Texts go to standard output, lines to standard error, and the status of the call is that of the program. */
 #define _GNU_SOURCE
@@ -259,6 +261,34 @@ static int memory(void) {
     return 0;
 }
 
+/* Reads a recording in pieces: what is left of one stands before the next. */
+static int pieces(void) {
+    static const size_t sizes[] = {1, 7, 100, 4096};
+    uint8_t held[262 + 4096];
+    for (size_t n = 0; n < 4; n++) {
+        size_t at = 0, length = 0, place = 0, given = 0, count;
+        uint32_t fault = FLEXRAY_SHORT;
+        flexray_frame frame;
+        printf("%zu:", sizes[n]);
+        while (fault == FLEXRAY_SHORT && given < files[0].length) {
+            size_t piece = files[0].length - given < sizes[n] ? files[0].length - given : sizes[n];
+            memmove(held, held + at, length);
+            memcpy(held + length, files[0].bytes + given, piece);
+            at = 0;
+            length += piece;
+            given += piece;
+            while ((fault = flexray_frame_next(FLEXRAY_A, held + at, length, &frame, &count)) == FLEXRAY_NO_FAULT) {
+                printf(" %zu/%u", place, frame.id);
+                at += count;
+                length -= count;
+                place += count;
+            }
+        }
+        printf(" then %u at %zu of %zu\n", fault, place, files[0].length);
+    }
+    return 0;
+}
+
 static void one_bad(const char *given, size_t length, const uint8_t *first, size_t first_length) {
     uint8_t out[4096], err[4096];
     flexray_texts texts;
@@ -352,6 +382,7 @@ int main(int count, char **given) {
     gather(count - 2, given + 2);
     if (!strcmp(how, "places")) return places();
     if (!strcmp(how, "threads")) return threads();
+    if (!strcmp(how, "pieces")) return pieces();
     if (!strcmp(how, "stack")) return stack();
     if (!strcmp(how, "memory")) return memory();
     out = room_of(room);
