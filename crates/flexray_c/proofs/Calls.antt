@@ -1,5 +1,5 @@
 -- How a call ends: by the program's answer, and by the same words and files told otherwise.
-use Rattle.std.proofs.Common.{◌≡◌, ℕ, ◌⊎◌, List, [], Some, IsTrue, ap, subst, rules}
+use Rattle.std.proofs.Common.{◌≡◌, ℕ, ◌⊎◌, List, [], Some, None, IsTrue, ap, subst, rules}
 use Rattle.fr_base.specs.Device.{Shelved, Sunk}
 use Rattle.fr_text.specs.declared.status.Status.{Status}
 use Rattle.fr_text.specs.declared.status.Status.TheVariants as status
@@ -17,7 +17,7 @@ faultless : (left : LentFiles) (name : List ℕ) → IsTrue (is_lent name) → (
 faultless left name lent = search rules
 
 whole : (sink : KeptText) → kept_faults sink ≡ 0 → kept_state sink ≡ kept (kept_bytes sink)
-whole sink no_fault = ap (λ (n : ℕ). record { written = Some (kept_bytes sink); faults = n }) no_fault
+whole sink no_fault = ap (λ (n : ℕ). record { written = Some (kept_bytes sink); faults = n; puts = None }) no_fault
 
 -- a sink of no bytes that was left as it was
 empty : (before after : KeptText) → kept_state before ≡ kept [] → after ≡ before → kept_bytes after ≡ []
