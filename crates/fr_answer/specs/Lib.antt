@@ -8,5 +8,6 @@ pub mod BoundText
 pub mod SettleAnswer
 pub mod SettleText
 pub mod RunAnswer
+pub mod SharpJoinText
 pub mod SharpText
 pub mod SharpSettleText
