@@ -12,7 +12,7 @@ use Rattle.fr_sharp.specs.SharpWay.{OneSharpWay}
 use Rattle.fr_text.specs.Kind.{HasOneAnswer}
 use Rattle.fr_text.specs.Files.{IsDecided}
 use Rattle.fr_text.proofs.Commands.{decided}
-use Rattle.fr_answer.specs.BoundAnswer.{bound_files, join_files, sharp_files}
+use Rattle.fr_answer.specs.BoundAnswer.{bound_files, join_files, sharp_files, sharp_join_files}
 use Rattle.fr_answer.specs.SettleAnswer.{IsSettlingFor, settle_files, sharp_settle_files}
 use Rattle.fr_answer.specs.SettleText.{settle_text}
 use Rattle.fr_answer.specs.SharpSettleText.{sharp_settle_text}
@@ -25,6 +25,9 @@ one_join_bounds one = decided join_files (one, λ p written again is more. is �
 
 pub one_sharp_bounds : HasOneAnswer params_file → (flutter : ℕ) → IsDecided (sharp_files flutter)
 one_sharp_bounds one flutter = decided (sharp_files flutter) (one, λ p written again is more. is ∙ sym more)
+
+pub one_sharp_join_bounds : HasOneAnswer params_file → (flutter : ℕ) → IsDecided (sharp_join_files flutter)
+one_sharp_join_bounds one flutter = decided (sharp_join_files flutter) (one, λ p written again is more. is ∙ sym more)
 
 -- numbers that are not negative are the same where their amounts are
 same_amount : (a b : ℤ) → pos 0 ≤ℤ a → pos 0 ≤ℤ b → nat_abs a ≡ nat_abs b → a ≡ b

@@ -9,11 +9,12 @@ use Rattle.fr_params.specs.UpgradeAnswer.{IsUpgrade, upgrade_files}
 use Rattle.fr_params.specs.Upgrades.{FilesAreUpgraded}
 use Rattle.fr_text.specs.Files.{IsNeverSaid, file, text}
 use Rattle.fr_text.specs.Kind.{AreBytes, HasOneAnswer, HasSomeAnswer}
-use Rattle.fr_answer.specs.BoundAnswer.{bound_files, join_files, sharp_files}
+use Rattle.fr_answer.specs.BoundAnswer.{bound_files, join_files, sharp_files, sharp_join_files}
 use Rattle.fr_answer.specs.BoundText.{bound_text, with_join_text}
 use Rattle.fr_answer.specs.SettleAnswer.{IsSettling, IsSharpSettling, settle_files, sharp_settle_files}
 use Rattle.fr_answer.specs.SettleText.{settle_text}
 use Rattle.fr_answer.specs.SharpSettleText.{sharp_settle_text}
+use Rattle.fr_answer.specs.SharpJoinText.{sharp_with_join_text}
 use Rattle.fr_answer.specs.SharpText.{sharp_text}
 use Rattle.fr_report.specs.Defined.{DefinesOneStatus}
 use Rattle.fr_report.proofs.Defining.{one_status, some_status}
@@ -36,6 +37,10 @@ join_status one some = of_params (λ p written. written ≡ with_join_text p) on
 
 pub sharp_status : HasOneAnswer params_file → HasSomeAnswer params_file → (flutter : ℕ) → DefinesOneStatus (sharp_files flutter) 1
 sharp_status one some flutter = of_params (λ p written. written ≡ sharp_text p flutter) one some (λ bytes p accepted. (sharp_text p flutter, refl))
+
+pub sharp_join_status : HasOneAnswer params_file → HasSomeAnswer params_file → (flutter : ℕ) → DefinesOneStatus (sharp_join_files flutter) 1
+sharp_join_status one some flutter =
+    of_params (λ p written. written ≡ sharp_with_join_text p flutter) one some (λ bytes p accepted. (sharp_with_join_text p flutter, refl))
 
 pub upgrade_status : HasOneAnswer params_file → HasSomeAnswer params_file → FilesAreUpgraded → DefinesOneStatus upgrade_files 1
 upgrade_status one some upgraded =

@@ -9,9 +9,9 @@ use Rattle.fr_nm.specs.NmAnswer.{nm_files}
 use Rattle.fr_params.specs.UpgradeAnswer.{upgrade_files}
 use Rattle.fr_report.specs.Files.{run_files}
 use Rattle.fr_report.specs.TraceAnswer.{IsTraceText}
-use Rattle.fr_answer.specs.BoundAnswer.{bound_files, join_files, sharp_files}
+use Rattle.fr_answer.specs.BoundAnswer.{bound_files, join_files, sharp_files, sharp_join_files}
 use Rattle.fr_answer.specs.FrameAnswer.{frame_files}
-use Rattle.fr_answer.specs.Request.{bound, bound_join, bound_sharp, capture, check, cold, frame, make, nm, run, settle, settle_sharp, trace, upgrade}
+use Rattle.fr_answer.specs.Request.{bound, bound_join, bound_sharp, bound_sharp_join, capture, check, cold, frame, make, nm, run, settle, settle_sharp, trace, upgrade}
 use Rattle.fr_answer.specs.RunAnswer.{IsKeptRunText}
 use Rattle.fr_answer.specs.SettleAnswer.{settle_files, sharp_settle_files}
 use Rattle.fr_report.specs.Defined.{DefinesOneStatus}
@@ -25,6 +25,7 @@ pub record Commands : Type 0 where
   pub bounds : DefinesOneStatus bound_files 1
   pub joins : DefinesOneStatus join_files 1
   pub sharps : (flutter : ℕ) → DefinesOneStatus (sharp_files flutter) 1
+  pub sharp_joins : (flutter : ℕ) → DefinesOneStatus (sharp_join_files flutter) 1
   pub upgrades : DefinesOneStatus upgrade_files 1
   pub settles : (start rate : ℕ) → start ≤ most_stated → rate ≤ most_stated → DefinesOneStatus (settle_files start rate) 1
   pub sharp_settles : (start rate flutter : ℕ) → start ≤ most_stated → rate ≤ most_stated → DefinesOneStatus (sharp_settle_files start rate flutter) 1
@@ -41,6 +42,7 @@ each_request commands words (frame channel file) asks = commands.frames channel
 each_request commands words (bound file) asks = commands.bounds
 each_request commands words (bound_join file) asks = commands.joins
 each_request commands words (bound_sharp file flutter) asks = commands.sharps flutter
+each_request commands words (bound_sharp_join file flutter) asks = commands.sharp_joins flutter
 each_request commands words (upgrade file) asks = commands.upgrades
 each_request commands words (settle file start rate) asks =
     commands.settles start rate (natural_read 0 most_stated asks.start_text start asks.start_is).1 (natural_read 0 most_stated asks.rate_text rate asks.rate_is).1

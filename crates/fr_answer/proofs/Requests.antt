@@ -13,7 +13,7 @@ use Rattle.fr_base.specs.declared.numbers.NumberFault.{NumberFault}
 use Rattle.fr_bound.specs.Settling.{most_stated}
 use Rattle.fr_text.specs.Fields.{natural_of}
 use Rattle.fr_program.specs.Program.{texts}
-use Rattle.fr_answer.specs.Request.{most_stated_flutter, Asked, AsksFor, frame, bound, bound_join, bound_sharp, upgrade, settle, settle_sharp, run, capture, nm, cold, make, trace, check}
+use Rattle.fr_answer.specs.Request.{most_stated_flutter, Asked, AsksFor, frame, bound, bound_join, bound_sharp, bound_sharp_join, upgrade, settle, settle_sharp, run, capture, nm, cold, make, trace, check}
 
 -- two numbers that are there
 abbrev settle_in : List ℕ → Result ℕ NumberFault → Result ℕ NumberFault → Option Asked
@@ -39,6 +39,10 @@ abbrev bound_sharp_in : List ℕ → List ℕ → Result ℕ NumberFault → Opt
 bound_sharp_in file word (Ok flutter) = if bytes_eq word (codes "sharp") then Some (bound_sharp file flutter) else None
 bound_sharp_in file word (Err fault) = None
 
+abbrev bound_sharp_join_in : List ℕ → Result ℕ NumberFault → Option Asked
+bound_sharp_join_in file (Ok flutter) = Some (bound_sharp_join file flutter)
+bound_sharp_join_in file (Err fault) = None
+
 -- three words
 abbrev asked_in_three : List ℕ → List ℕ → List ℕ → Option Asked
 asked_in_three command first second =
@@ -58,6 +62,13 @@ asked_in_four command first second third =
     else (if bytes_eq command (codes "settle") then settle_in first (natural_of 0 most_stated second) (natural_of 0 most_stated third)
     else (if bytes_eq command (codes "bound") then bound_sharp_in first second (natural_of 0 most_stated_flutter third) else None)))
 
+-- five words
+abbrev asked_in_five : List ℕ → List ℕ → List ℕ → List ℕ → List ℕ → Option Asked
+asked_in_five command first second third fourth =
+    if bytes_eq command (codes "bound")
+    then (if bytes_eq second (codes "sharp") then (if bytes_eq fourth (codes "join") then bound_sharp_join_in first (natural_of 0 most_stated_flutter third) else None) else None)
+    else None
+
 -- six words
 abbrev asked_in_six : List ℕ → List ℕ → List ℕ → List ℕ → List ℕ → List ℕ → Option Asked
 asked_in_six command first second third fourth fifth =
@@ -68,6 +79,7 @@ abbrev asked_in : List (List ℕ) → Option Asked
 asked_in (command ∷ file ∷ []) = if bytes_eq command (codes "bound") then Some (bound file) else (if bytes_eq command (codes "upgrade") then Some (upgrade file) else None)
 asked_in (command ∷ first ∷ second ∷ []) = asked_in_three command first second
 asked_in (command ∷ first ∷ second ∷ third ∷ []) = asked_in_four command first second third
+asked_in (command ∷ first ∷ second ∷ third ∷ fourth ∷ []) = asked_in_five command first second third fourth
 asked_in (command ∷ first ∷ second ∷ third ∷ fourth ∷ fifth ∷ []) = asked_in_six command first second third fourth fifth
 asked_in other = None
 
@@ -77,6 +89,7 @@ asked_again words (frame B file) asks = ap asked_in asks
 asked_again words (bound file) asks = ap asked_in asks
 asked_again words (bound_join file) asks = ap asked_in asks
 asked_again words (bound_sharp file flutter) asks = ap asked_in asks.spelt ∙ ap (bound_sharp_in file (codes "sharp")) asks.flutter_is
+asked_again words (bound_sharp_join file flutter) asks = ap asked_in asks.spelt ∙ ap (bound_sharp_join_in file) asks.flutter_is
 asked_again words (upgrade file) asks = ap asked_in asks
 asked_again words (settle file start rate) asks = ap asked_in asks.spelt ∙ ap₂ (settle_in file) asks.start_is asks.rate_is
 asked_again words (settle_sharp file start rate flutter) asks =
@@ -93,48 +106,36 @@ asked_again words (make seed doubles) asks = ap asked_in asks.spelt ∙ ap₂ ma
 asked_again words (trace names) asks = ap asked_in asks
 asked_again words (check params recorded) asks = ap asked_in asks
 
--- they are two to four, or six
+-- they are two to six
 record HasLength (words : List (List ℕ)) : Type 0 where
   two : 2 ≤ length words
   six : length words ≤ 6
-  not_five : length words ≡ 5 → ⊥
 
-has_length : (words : List (List ℕ)) (n : ℕ) → length words ≡ n → 2 ≤ n → n ≤ 6 → (n ≡ 5 → ⊥) → HasLength words
-has_length words n is from to other = record {
-  two = omega (arith, is, from);
-  six = omega (arith, is, to);
-  not_five = λ five. other (sym is ∙ five);
-}
+has_length : (words : List (List ℕ)) (n : ℕ) → length words ≡ n → 2 ≤ n → n ≤ 6 → HasLength words
+has_length words n is from to = record { two = omega (arith, is, from); six = omega (arith, is, to) }
 
 asks_length : (words : List (List ℕ)) (asked : Asked) → AsksFor words asked → HasLength words
-asks_length words (frame channel file) asks = has_length words 3 (ap length asks) (lit≤ tt) (lit≤ tt) (λ five. absurd (omega (arith, five)))
-asks_length words (bound file) asks = has_length words 2 (ap length asks) (lit≤ tt) (lit≤ tt) (λ five. absurd (omega (arith, five)))
-asks_length words (bound_join file) asks = has_length words 3 (ap length asks) (lit≤ tt) (lit≤ tt) (λ five. absurd (omega (arith, five)))
-asks_length words (bound_sharp file flutter) asks = has_length words 4 (ap length asks.spelt) (lit≤ tt) (lit≤ tt) (λ five. absurd (omega (arith, five)))
-asks_length words (upgrade file) asks = has_length words 2 (ap length asks) (lit≤ tt) (lit≤ tt) (λ five. absurd (omega (arith, five)))
-asks_length words (settle file start rate) asks = has_length words 4 (ap length asks.spelt) (lit≤ tt) (lit≤ tt) (λ five. absurd (omega (arith, five)))
-asks_length words (settle_sharp file start rate flutter) asks = has_length words 6 (ap length asks.spelt) (lit≤ tt) (lit≤ tt) (λ five. absurd (omega (arith, five)))
-asks_length words (run names) asks = has_length words 4 (ap length asks) (lit≤ tt) (lit≤ tt) (λ five. absurd (omega (arith, five)))
-asks_length words (capture channel file) asks = has_length words 3 (ap length asks) (lit≤ tt) (lit≤ tt) (λ five. absurd (omega (arith, five)))
-asks_length words (nm width file) asks = has_length words 3 (ap length asks.spelt) (lit≤ tt) (lit≤ tt) (λ five. absurd (omega (arith, five)))
-asks_length words (cold params power) asks = has_length words 3 (ap length asks) (lit≤ tt) (lit≤ tt) (λ five. absurd (omega (arith, five)))
-asks_length words (make seed doubles) asks = has_length words 3 (ap length asks.spelt) (lit≤ tt) (lit≤ tt) (λ five. absurd (omega (arith, five)))
-asks_length words (trace names) asks = has_length words 4 (ap length asks) (lit≤ tt) (lit≤ tt) (λ five. absurd (omega (arith, five)))
-asks_length words (check params recorded) asks = has_length words 3 (ap length asks) (lit≤ tt) (lit≤ tt) (λ five. absurd (omega (arith, five)))
+asks_length words (frame channel file) asks = has_length words 3 (ap length asks) (lit≤ tt) (lit≤ tt)
+asks_length words (bound file) asks = has_length words 2 (ap length asks) (lit≤ tt) (lit≤ tt)
+asks_length words (bound_join file) asks = has_length words 3 (ap length asks) (lit≤ tt) (lit≤ tt)
+asks_length words (bound_sharp file flutter) asks = has_length words 4 (ap length asks.spelt) (lit≤ tt) (lit≤ tt)
+asks_length words (bound_sharp_join file flutter) asks = has_length words 5 (ap length asks.spelt) (lit≤ tt) (lit≤ tt)
+asks_length words (upgrade file) asks = has_length words 2 (ap length asks) (lit≤ tt) (lit≤ tt)
+asks_length words (settle file start rate) asks = has_length words 4 (ap length asks.spelt) (lit≤ tt) (lit≤ tt)
+asks_length words (settle_sharp file start rate flutter) asks = has_length words 6 (ap length asks.spelt) (lit≤ tt) (lit≤ tt)
+asks_length words (run names) asks = has_length words 4 (ap length asks) (lit≤ tt) (lit≤ tt)
+asks_length words (capture channel file) asks = has_length words 3 (ap length asks) (lit≤ tt) (lit≤ tt)
+asks_length words (nm width file) asks = has_length words 3 (ap length asks.spelt) (lit≤ tt) (lit≤ tt)
+asks_length words (cold params power) asks = has_length words 3 (ap length asks) (lit≤ tt) (lit≤ tt)
+asks_length words (make seed doubles) asks = has_length words 3 (ap length asks.spelt) (lit≤ tt) (lit≤ tt)
+asks_length words (trace names) asks = has_length words 4 (ap length asks) (lit≤ tt) (lit≤ tt)
+asks_length words (check params recorded) asks = has_length words 3 (ap length asks) (lit≤ tt) (lit≤ tt)
 
 pub asks_not_short : (words : List (String Global)) (asked : Asked) → AsksFor (texts words) asked → length words < 2 → ⊥
 asks_not_short words asked asks short =
     let long = (asks_length (texts words) asked asks).two in
     let same : length (texts words) ≡ length words = length-map words string_bytes in
     absurd (omega (arith, long, same, short))
-
-pub asks_not_five : (words : List (String Global)) (asked : Asked) → AsksFor (texts words) asked → 4 < length words → length words < 6 → ⊥
-asks_not_five words asked asks more less =
-    let same : length (texts words) ≡ length words = length-map words string_bytes in
-    (asks_length (texts words) asked asks).not_five (same ∙ five (length words) more less)
-  where
-    five : (n : ℕ) → 4 < n → n < 6 → n ≡ 5
-    five n more less = omega (arith, more, less)
 
 pub asks_not_long : (words : List (String Global)) (asked : Asked) → AsksFor (texts words) asked → 6 < length words → ⊥
 asks_not_long words asked asks more =
@@ -164,6 +165,25 @@ four_texts (w ∷ x ∷ y ∷ z ∷ []) a b c d one two three four more less is_
     let z_is : four ≡ string_bytes z = last ∙ ap string_bytes is_d in
     cc
 four_texts (v ∷ w ∷ x ∷ y ∷ z ∷ words) a b c d one two three four more less is_a is_b is_c is_d first second third last = absurd (omega (arith, less))
+
+-- of five
+pub five_texts : (words : List (String Global)) (a b c d e : String Global) (one two three four five : List ℕ) → 5 ≤ length words → length words < 6
+    → a ≡ get_or words 0 a → b ≡ get_or words 1 b → c ≡ get_or words 2 c → d ≡ get_or words 3 d → e ≡ get_or words 4 e
+    → one ≡ string_bytes a → two ≡ string_bytes b → three ≡ string_bytes c → four ≡ string_bytes d → five ≡ string_bytes e
+    → one ∷ two ∷ three ∷ four ∷ five ∷ [] ≡ texts words
+five_texts [] a b c d e one two three four five more less is_a is_b is_c is_d is_e first second third fourth last = absurd (omega (arith, more))
+five_texts (u ∷ []) a b c d e one two three four five more less is_a is_b is_c is_d is_e first second third fourth last = absurd (omega (arith, more))
+five_texts (u ∷ v ∷ []) a b c d e one two three four five more less is_a is_b is_c is_d is_e first second third fourth last = absurd (omega (arith, more))
+five_texts (u ∷ v ∷ w ∷ []) a b c d e one two three four five more less is_a is_b is_c is_d is_e first second third fourth last = absurd (omega (arith, more))
+five_texts (u ∷ v ∷ w ∷ x ∷ []) a b c d e one two three four five more less is_a is_b is_c is_d is_e first second third fourth last = absurd (omega (arith, more))
+five_texts (u ∷ v ∷ w ∷ x ∷ y ∷ []) a b c d e one two three four five more less is_a is_b is_c is_d is_e first second third fourth last =
+    let u_is : one ≡ string_bytes u = first ∙ ap string_bytes is_a in
+    let v_is : two ≡ string_bytes v = second ∙ ap string_bytes is_b in
+    let w_is : three ≡ string_bytes w = third ∙ ap string_bytes is_c in
+    let x_is : four ≡ string_bytes x = fourth ∙ ap string_bytes is_d in
+    let y_is : five ≡ string_bytes y = last ∙ ap string_bytes is_e in
+    cc
+five_texts (t ∷ u ∷ v ∷ w ∷ x ∷ y ∷ words) a b c d e one two three four five more less is_a is_b is_c is_d is_e first second third fourth last = absurd (omega (arith, less))
 
 -- and of six
 pub six_texts : (words : List (String Global)) (a b c d e f : String Global) (one two three four five six : List ℕ) → 6 ≤ length words → length words < 7

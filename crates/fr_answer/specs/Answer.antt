@@ -3,7 +3,7 @@ use Rattle.std.specs.Prelude.{codes}
 use Rattle.fr_program.specs.Command.{Command}
 use Rattle.fr_program.specs.Program.{Program}
 use Rattle.fr_report.specs.Files.{run_command}
-use Rattle.fr_answer.specs.BoundAnswer.{bound_command, join_command, sharp_command}
+use Rattle.fr_answer.specs.BoundAnswer.{bound_command, join_command, sharp_command, sharp_join_command}
 use Rattle.fr_answer.specs.RunAnswer.{kept_run_command}
 use Rattle.fr_answer.specs.SettleAnswer.{settle_command, sharp_settle_command}
 use Rattle.fr_capture.specs.CaptureAnswer.{capture_command}
@@ -14,7 +14,7 @@ use Rattle.fr_nm.specs.NmAnswer.{nm_command}
 use Rattle.fr_report.specs.MakeAnswer.{make_command}
 use Rattle.fr_report.specs.TraceAnswer.{IsTraceText}
 use Rattle.fr_params.specs.UpgradeAnswer.{upgrade_command}
-use Rattle.fr_answer.specs.Request.{Asked, AsksFor, frame, bound, bound_join, bound_sharp, upgrade, settle, settle_sharp, run, capture, nm, cold, make, trace, check}
+use Rattle.fr_answer.specs.Request.{Asked, AsksFor, frame, bound, bound_join, bound_sharp, bound_sharp_join, upgrade, settle, settle_sharp, run, capture, nm, cold, make, trace, check}
 
 -- the files of what was asked for, and what may be written of them
 abbrev pub command_of : Asked → Command
@@ -22,6 +22,7 @@ command_of (frame channel file) = frame_command channel file
 command_of (bound file) = bound_command file
 command_of (bound_join file) = join_command file
 command_of (bound_sharp file flutter) = sharp_command file flutter
+command_of (bound_sharp_join file flutter) = sharp_join_command file flutter
 command_of (upgrade file) = upgrade_command file
 command_of (settle file start rate) = settle_command file start rate
 command_of (settle_sharp file start rate flutter) = sharp_settle_command file start rate flutter

@@ -6,6 +6,7 @@ use Rattle.fr_params.specs.Told.{params_says}
 use Rattle.fr_program.specs.Command.{Command}
 use Rattle.fr_text.specs.Files.{Files, IsNeverSaid, file, text}
 use Rattle.fr_answer.specs.BoundText.{bound_text, with_join_text}
+use Rattle.fr_answer.specs.SharpJoinText.{sharp_with_join_text}
 use Rattle.fr_answer.specs.SharpText.{sharp_text}
 
 -- the lines of the parameters in a file
@@ -28,3 +29,11 @@ sharp_files flutter = file params_file params_says (λ (p : Values). text (λ (w
 
 abbrev pub sharp_command : List ℕ → ℕ → Command
 sharp_command name flutter = record { names = name ∷ []; files = sharp_files flutter }
+
+-- these and those of a cluster that nodes join
+abbrev pub sharp_join_files : ℕ → Files
+sharp_join_files flutter =
+    file params_file params_says (λ (p : Values). text (λ (written : List ℕ). written ≡ sharp_with_join_text p flutter) IsNeverSaid)
+
+abbrev pub sharp_join_command : List ℕ → ℕ → Command
+sharp_join_command name flutter = record { names = name ∷ []; files = sharp_join_files flutter }

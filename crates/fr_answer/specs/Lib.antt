@@ -8,6 +8,7 @@ pub mod BoundText
 pub mod SettleAnswer
 pub mod SettleText
 pub mod RunAnswer
+pub mod SharpJoinText
 pub mod SharpText
 pub mod SharpSettleText
 pub mod Statuses

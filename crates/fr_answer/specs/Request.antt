@@ -7,20 +7,22 @@ use Rattle.fr_generator.specs.Generated.{IsMadeCount}
 use Rattle.fr_text.specs.Fields.{natural_of}
 use Rattle.fr_answer.specs.declared.request.Request.{Request}
 use Rattle.fr_report.specs.Names.{RunNames, run_names_of}
-use Rattle.fr_answer.specs.declared.request.Request.TheVariants.{Frame, Bound, BoundJoin, BoundSharp, Upgrade, Settle, SettleSharp, Run, Capture, Nm, Cold, Make, Trace, Check}
+use Rattle.fr_answer.specs.declared.request.Request.TheVariants.{Frame, Bound, BoundJoin, BoundSharp, BoundSharpJoin, Upgrade, Settle, SettleSharp, Run, Capture, Nm, Cold, Make, Trace, Check}
 
 -- decode the bytes of the file as a frame on the channel; print the bounds and checks of the parameters in the file;
 -- print these and those of a cluster that nodes join; print the sharper ones where delays flutter by no more than so many
--- ticks; print the parameters as a file of version 2; print how long clocks that begin so far apart take until they are in
--- sync, or in sharp sync where delays flutter by no more than so many ticks; run the cluster that the files decide, or the cluster of a seed over
--- so many double cycles, and print the report; list the frames of the recording in the file; print the network management
--- vectors of the recording in the file, of so many bytes; print who leads the startup that the files decide; print the trace
--- of the run that the files decide; say whether a recorded trace is that of a lawful and covered run
+-- ticks, of each cluster, or these and those of one that nodes join; print the parameters as a file of version 2; print how long
+-- clocks that begin so far apart take until they are in sync, or in sharp sync where delays flutter by no more than so many ticks;
+-- run the cluster that the files decide, or the cluster of a seed over so many double cycles, and print the report; list the frames
+-- of the recording in the file; print the network management vectors of the recording in the file, of so many bytes; print who
+-- leads the startup that the files decide; print the trace of the run that the files decide; say whether a recorded trace is that
+-- of a lawful and covered run
 pub data Asked : Type 0 where
   frame : (channel : Channel) (file : List ℕ) → Asked
   bound : (file : List ℕ) → Asked
   bound_join : (file : List ℕ) → Asked
   bound_sharp : (file : List ℕ) (flutter : ℕ) → Asked
+  bound_sharp_join : (file : List ℕ) (flutter : ℕ) → Asked
   upgrade : (file : List ℕ) → Asked
   settle : (file : List ℕ) (start rate : ℕ) → Asked
   settle_sharp : (file : List ℕ) (start rate flutter : ℕ) → Asked
@@ -40,6 +42,12 @@ most_stated_flutter = 20_000_000
 pub record AsksBoundSharp (words : List (List ℕ)) (file : List ℕ) (flutter : ℕ) : Type 0 where
   pub flutter_text : List ℕ
   pub spelt : words ≡ codes "bound" ∷ file ∷ codes "sharp" ∷ flutter_text ∷ []
+  pub flutter_is : natural_of 0 most_stated_flutter flutter_text ≡ Ok flutter
+
+-- `bound PARAMS sharp FLUTTER join`, with a number of ticks
+pub record AsksBoundSharpJoin (words : List (List ℕ)) (file : List ℕ) (flutter : ℕ) : Type 0 where
+  pub flutter_text : List ℕ
+  pub spelt : words ≡ codes "bound" ∷ file ∷ codes "sharp" ∷ flutter_text ∷ codes "join" ∷ []
   pub flutter_is : natural_of 0 most_stated_flutter flutter_text ≡ Ok flutter
 
 -- `settle PARAMS START RATE`, with two numbers of ticks
@@ -75,13 +83,15 @@ pub record AsksNm (words : List (List ℕ)) (width : ℕ) (file : List ℕ) : Ty
   pub width_is : natural_of 1 12 width_text ≡ Ok width
 
 -- the words ask for this: `frame A FILE` or `frame B FILE`; `bound PARAMS`; `bound PARAMS join`; `bound
--- PARAMS sharp FLUTTER`; `upgrade PARAMS`; `settle PARAMS START RATE`; `settle PARAMS START RATE sharp FLUTTER`; `run PARAMS DRIFT SCRIPT`; `make SEED DOUBLES`; `trace PARAMS DRIFT SCRIPT`;
--- `capture A FILE` or `capture B FILE`; `nm WIDTH FILE`; `cold PARAMS POWER`; `check PARAMS TRACE`
+-- PARAMS sharp FLUTTER`; `bound PARAMS sharp FLUTTER join`; `upgrade PARAMS`; `settle PARAMS START RATE`; `settle PARAMS START RATE
+-- sharp FLUTTER`; `run PARAMS DRIFT SCRIPT`; `make SEED DOUBLES`; `trace PARAMS DRIFT SCRIPT`; `capture A FILE` or `capture B FILE`;
+-- `nm WIDTH FILE`; `cold PARAMS POWER`; `check PARAMS TRACE`
 abbrev pub AsksFor : List (List ℕ) → Asked → Type 0
 AsksFor words (frame channel file) = words ≡ codes "frame" ∷ letter channel ∷ file ∷ []
 AsksFor words (bound file) = words ≡ codes "bound" ∷ file ∷ []
 AsksFor words (bound_join file) = words ≡ codes "bound" ∷ file ∷ codes "join" ∷ []
 AsksFor words (bound_sharp file flutter) = AsksBoundSharp words file flutter
+AsksFor words (bound_sharp_join file flutter) = AsksBoundSharpJoin words file flutter
 AsksFor words (upgrade file) = words ≡ codes "upgrade" ∷ file ∷ []
 AsksFor words (settle file start rate) = AsksSettle words file start rate
 AsksFor words (settle_sharp file start rate flutter) = AsksSettleSharp words file start rate flutter
@@ -99,6 +109,7 @@ asked_of (Frame channel file) = frame channel file.now
 asked_of (Bound file) = bound file.now
 asked_of (BoundJoin file) = bound_join file.now
 asked_of (BoundSharp file flutter) = bound_sharp file.now flutter
+asked_of (BoundSharpJoin file flutter) = bound_sharp_join file.now flutter
 asked_of (Upgrade file) = upgrade file.now
 asked_of (Settle file start rate) = settle file.now start rate
 asked_of (SettleSharp file start rate flutter) = settle_sharp file.now start rate flutter
@@ -118,6 +129,7 @@ IsRequestOf words (Some request) = AsksFor words (asked_of request)
 -- its numbers lie in their ranges
 abbrev pub IsInRange : Request → Type 0
 IsInRange (BoundSharp file flutter) = flutter ≤ most_stated_flutter
+IsInRange (BoundSharpJoin file flutter) = flutter ≤ most_stated_flutter
 IsInRange (Settle file start rate) = (start ≤ most_stated) × (rate ≤ most_stated)
 IsInRange (SettleSharp file start rate flutter) = (start ≤ most_stated) × (rate ≤ most_stated) × (flutter ≤ most_stated_flutter)
 IsInRange (Make seed doubles) = IsMadeCount doubles

@@ -1,6 +1,6 @@
 ghost use Rattle.std.specs.Prelude.{ℕ};
 ghost use Rattle.fr_text.specs.Files.{IsDecided};
-ghost use Rattle.fr_answer.specs.BoundAnswer.{bound_files, join_files, sharp_files};
+ghost use Rattle.fr_answer.specs.BoundAnswer.{bound_files, join_files, sharp_files, sharp_join_files};
 ghost use Rattle.fr_answer.specs.SettleAnswer.{settle_files, sharp_settle_files};
 
 use fr_bound::one_settling;
@@ -24,6 +24,13 @@ pub fn file_decides_the_bounds_of_joining()
 /// A law: so do the bytes of the file and the flutter, in ticks, decide the sharper bounds.
 pub fn file_decides_the_sharper_bounds()
     ensures { (flutter : ℕ) → IsDecided (sharp_files flutter) }
+{
+    fr_params::one_answer();
+}
+
+/// A law: so they do with the sharper lines of a cluster that nodes join.
+pub fn file_decides_the_sharper_bounds_of_joining()
+    ensures { (flutter : ℕ) → IsDecided (sharp_join_files flutter) }
 {
     fr_params::one_answer();
 }

@@ -44,7 +44,12 @@ pub fn answer_bound_sharp<S: Shelf, O: Sink>(
     Ok(())
 }
 
-fn print_sharp<O: Sink>(params: &Params, flutter: u64, out: &mut O) -> Result<(), PutFault>
+// Writes the sharper bounds and checks of each cluster.
+pub(crate) fn print_sharp<O: Sink>(
+    params: &Params,
+    flutter: u64,
+    out: &mut O,
+) -> Result<(), PutFault>
     requires { flutter ≤ most_flutter }
     ensures { Puts result (O.state out.old) (O.state out.new) (sharp_text params.now flutter) }
 {
@@ -108,7 +113,7 @@ fn precision_line(params: &Params, beside: bool, flutter: u64) -> Line
     )
 }
 
-fn kind_line(beside: bool, label: &[u8], value: u64) -> Line
+pub(crate) fn kind_line(beside: bool, label: &[u8], value: u64) -> Line
     requires { length label.now ≤ 20 }
     ensures { result ≡ line (kind_text beside ++ label.now ++ decimal value) }
 {

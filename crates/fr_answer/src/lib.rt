@@ -1,13 +1,14 @@
 //! The program's answer as a call: words, a shelf and two sinks in, a status out. What `flexray frame CHANNEL FILE`, `flexray
-//! bound PARAMS`, also with the word `join` or with `sharp FLUTTER`, and `flexray settle PARAMS START RATE`, also with
-//! `sharp FLUTTER`, answer is made here, the answer to each other command in the crate of its subject; of a run it says
-//! here what the sharper promise says of it. And that the bytes of the files of each request define one status.
+//! bound PARAMS`, also with the word `join`, with `sharp FLUTTER` or with both, and `flexray settle PARAMS START RATE`, also
+//! with `sharp FLUTTER`, answer is made here, the answer to each other command in the crate of its subject; of a run it
+//! says here what the sharper promise says of it. And that the bytes of the files of each request define one status.
 #![tactic(auto)]
 
 mod bound;
 mod bound_join;
 mod bound_laws;
 mod bound_sharp;
+mod bound_sharp_join;
 mod fault_line;
 mod frame;
 mod frame_laws;
@@ -23,9 +24,11 @@ pub use bound::answer_bound;
 pub use bound_join::answer_bound_join;
 pub use bound_laws::{
     file_decides_the_bounds, file_decides_the_bounds_of_joining, file_decides_the_settling,
-    file_decides_the_sharper_bounds, file_decides_the_sharper_settling,
+    file_decides_the_sharper_bounds, file_decides_the_sharper_bounds_of_joining,
+    file_decides_the_sharper_settling,
 };
 pub use bound_sharp::answer_bound_sharp;
+pub use bound_sharp_join::answer_bound_sharp_join;
 pub use fr_report::play;
 pub use fr_text::Status;
 pub use frame::answer_frame;

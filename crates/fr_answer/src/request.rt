@@ -35,6 +35,11 @@ pub enum Request<'a> {
         file: &'a str,
         flutter: u64,
     },
+    /// Print these, and the sharper ones of a cluster that nodes join.
+    BoundSharpJoin {
+        file: &'a str,
+        flutter: u64,
+    },
     /// Print the parameters in the file as a file of version 2.
     Upgrade {
         file: &'a str,
@@ -79,7 +84,7 @@ pub enum Request<'a> {
 }
 
 /// Reads the words by position. It takes no memory.
-#[tactic(auto, using(crate::proofs::Requests::asks_not_short, crate::proofs::Requests::asks_not_five, crate::proofs::Requests::asks_not_long))]
+#[tactic(auto, using(crate::proofs::Requests::asks_not_short, crate::proofs::Requests::asks_not_long))]
 pub fn request_of(words: &[String]) -> Option<Request<'_>>
     ensures asks { IsRequestOf (texts words.now) result }
     ensures range { IfSome result IsInRange }
@@ -94,6 +99,13 @@ pub fn request_of(words: &[String]) -> Option<Request<'_>>
             first.as_str(),
             second.as_str(),
             third.as_str(),
+        ),
+        [command, first, second, third, fourth] => request_of_five(
+            command.as_str(),
+            first.as_str(),
+            second.as_str(),
+            third.as_str(),
+            fourth.as_str(),
         ),
         [command, first, second, third, fourth, fifth] => request_of_six(
             command.as_str(),
@@ -244,6 +256,46 @@ fn settle_request<'a>(file: &'a str, start: &str, rate: &str) -> Option<Request<
             Err(_) => None,
         },
         Err(_) => None,
+    }
+}
+
+fn request_of_five<'a>(
+    command: &str,
+    first: &'a str,
+    second: &str,
+    third: &str,
+    fourth: &str,
+) -> Option<Request<'a>>
+    ensures asks { IsRequestOf (command.now ∷ first.now ∷ second.now ∷ third.now ∷ fourth.now ∷ []) result }
+    ensures range { IfSome result IsInRange }
+{
+    match command {
+        "bound" => bound_by_words(first, second, third, fourth),
+        _ => None,
+    }
+}
+
+fn bound_by_words<'a>(file: &'a str, word: &str, flutter: &str, last: &str) -> Option<Request<'a>>
+    ensures asks { IsRequestOf (codes "bound" ∷ file.now ∷ word.now ∷ flutter.now ∷ last.now ∷ []) result }
+    ensures range { IfSome result IsInRange }
+{
+    match word {
+        "sharp" => bound_sharp_by_word(file, flutter, last),
+        _ => None,
+    }
+}
+
+fn bound_sharp_by_word<'a>(file: &'a str, flutter: &str, last: &str) -> Option<Request<'a>>
+    ensures asks { IsRequestOf
+        (codes "bound" ∷ file.now ∷ codes "sharp" ∷ flutter.now ∷ last.now ∷ []) result }
+    ensures range { IfSome result IsInRange }
+{
+    match last {
+        "join" => match natural(flutter.as_bytes(), 0, MOST_FLUTTER) {
+            Ok(flutter) => Some(Request::BoundSharpJoin { file, flutter }),
+            Err(_) => None,
+        },
+        _ => None,
     }
 }
 

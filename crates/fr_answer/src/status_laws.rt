@@ -8,7 +8,7 @@ ghost use Rattle.fr_nm.specs.NmAnswer.{nm_files};
 ghost use Rattle.fr_params.specs.UpgradeAnswer.{upgrade_files};
 ghost use Rattle.fr_report.specs.Files.{run_files};
 ghost use Rattle.fr_report.specs.Defined.{DefinesOneStatus};
-ghost use Rattle.fr_answer.specs.BoundAnswer.{bound_files, join_files, sharp_files};
+ghost use Rattle.fr_answer.specs.BoundAnswer.{bound_files, join_files, sharp_files, sharp_join_files};
 ghost use Rattle.fr_answer.specs.FrameAnswer.{frame_files};
 ghost use Rattle.fr_answer.specs.RunAnswer.{IsKeptRunText};
 ghost use Rattle.fr_answer.specs.SettleAnswer.{settle_files, sharp_settle_files};
@@ -23,11 +23,12 @@ use fr_sharp::{covered_files_keep_sharply, covered_files_keep_sharply_joined};
 use fr_verdict::a_passing_trace_keeps_its_precision;
 
 /// A law: the bytes of the file of a request for bounds define one status, also with the lines of a cluster that nodes
-/// join, and of the sharper bounds with a flutter in ticks.
+/// join, and of the sharper bounds with a flutter in ticks, and with both.
 pub fn bounds_have_one_status()
     ensures bound { DefinesOneStatus bound_files 1 }
     ensures join { DefinesOneStatus join_files 1 }
     ensures sharp { (flutter : ℕ) → DefinesOneStatus (sharp_files flutter) 1 }
+    ensures sharp_join { (flutter : ℕ) → DefinesOneStatus (sharp_join_files flutter) 1 }
 {
     fr_params::one_answer();
     fr_params::some_answer();

@@ -88,6 +88,9 @@ fn carry_out<S: Shelf, O: Sink>(
         Request::BoundSharp { file, flutter } => {
             crate::answer_bound_sharp(alloc, file, flutter, shelf, out)
         }
+        Request::BoundSharpJoin { file, flutter } => {
+            crate::answer_bound_sharp_join(alloc, file, flutter, shelf, out)
+        }
         Request::Upgrade { file } => fr_params::answer_upgrade(alloc, file, shelf, out),
         Request::Settle { file, start, rate } => {
             crate::answer_settle(alloc, file, start, rate, shelf, out)

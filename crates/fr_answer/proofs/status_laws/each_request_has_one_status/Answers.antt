@@ -7,6 +7,7 @@ returns c = each_request (record {
   bounds = c.bounds_have_one_status.ensures.bound;
   joins = c.bounds_have_one_status.ensures.join;
   sharps = c.bounds_have_one_status.ensures.sharp;
+  sharp_joins = c.bounds_have_one_status.ensures.sharp_join;
   upgrades = c.an_upgrade_has_one_status.ensures;
   settles = c.settlings_have_one_status.ensures.older;
   sharp_settles = c.settlings_have_one_status.ensures.sharp;
