@@ -1,4 +1,4 @@
-ghost use Rattle.std.specs.Prelude.{◌≡◌, ◌+◌, ◌≤◌, length};
+ghost use Rattle.std.specs.Prelude.{◌≡◌, ◌≤◌, length};
 ghost use Rattle.fr_base.specs.Device.{Puts};
 ghost use Rattle.fr_sharp.specs.JoinedHistories.{first_rates_last};
 ghost use Rattle.fr_sharp.specs.SharpBounds.{most_flutter};
@@ -35,7 +35,6 @@ pub fn answer_bound_sharp_join<S: Shelf, O: Sink>(
     requires { flutter ≤ most_flutter }
     ensures ends { CommandEnds (sharp_join_command file.now flutter)
         (around_of (S.state shelf.old) (S.state shelf.new) (O.state out.old) (O.state out.new)) result }
-    ensures loads { (S.state shelf.new).loads ≤ (S.state shelf.old).loads + 1 }
     ensures unwritten { EndingWritesNothing result → out.new ≡ out.old }
 {
     let params = accepted(alloc, &ParamsFile {}, file, shelf)?;
