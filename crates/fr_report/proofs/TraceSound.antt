@@ -74,6 +74,7 @@ proper_clock a b c d e f state =
         start = record { low = start.0; high = let to = start.1 in omega (arith, ints, to) };
         length = record { low = long.0; high = long.1 };
       };
+      early = start.1;
       uncut = refl;
     })
 

@@ -376,7 +376,7 @@ alone_joins w = record {
   listens = refl;
   soon = lit< tt;
   joined =
-      w.keeps.joins w.check (on_a 5) (record { double = 0; reference = 1 })
+      w.keeps.joins (w.keeps.on w.check) (on_a 5) (record { double = 0; reference = 1 })
       (Contains-there (on_a 1) (on_a 2 ∷ on_a 3 ∷ on_a 4 ∷ on_a 5 ∷ []) (on_a 5)
       (Contains-there (on_a 2) (on_a 3 ∷ on_a 4 ∷ on_a 5 ∷ []) (on_a 5)
       (Contains-there (on_a 3) (on_a 4 ∷ on_a 5 ∷ []) (on_a 5)
@@ -389,7 +389,7 @@ beside_joins w = record {
   listens = refl;
   soon = lit< tt;
   joined =
-      w.keeps.joins w.check (on_a 5) (record { double = 0; reference = 1 })
+      w.keeps.joins (w.keeps.on w.check) (on_a 5) (record { double = 0; reference = 1 })
       (Contains-there (on_a 1) (on_a 2 ∷ on_a 3 ∷ on_a 5 ∷ []) (on_a 5)
       (Contains-there (on_a 2) (on_a 3 ∷ on_a 5 ∷ []) (on_a 5)
       (Contains-there (on_a 3) (on_a 5 ∷ []) (on_a 5) (Contains-here (on_a 5) [])))) refl (lit≤ tt);

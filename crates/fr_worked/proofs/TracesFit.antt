@@ -59,22 +59,26 @@ contains_if n (x ∷ xs) is = by (x == n) refl (λ later. contains_if n xs later
 abbrev pub is_traced_row : NodeRow → Bool
 is_traced_row row =
     int_le (pos 0) row.start
-    && (int_le row.start (pos 1_110_000_000_000_000_000) && (int_le (pos 500_000) row.length && (int_le row.length (pos 1_500_000) && (row.cut == 0))))
+    && (int_le row.start (pos 900_000_000_000_000_000) && (int_le (pos 500_000) row.length && (int_le row.length (pos 1_500_000) && (row.cut == 0))))
 
 no_more : (a b : ℤ) → int_le a b ≡ true → a ≤ℤ b
 no_more a b is = grind (arith, ints)
 
+no_later : (a : ℤ) → a ≤ℤ pos 900_000_000_000_000_000 → a ≤ℤ pos 1_110_000_000_000_000_000
+no_later a to = omega (arith, ints, to)
+
 traced_row : (row : NodeRow) → is_traced_row row ≡ true → IsTracedRow row
 traced_row row is =
-    let first = and_parts (int_le (pos 0) row.start) (int_le row.start (pos 1_110_000_000_000_000_000) && (int_le (pos 500_000) row.length && (int_le row.length (pos 1_500_000) && (row.cut == 0)))) is in
-    let second = and_parts (int_le row.start (pos 1_110_000_000_000_000_000)) (int_le (pos 500_000) row.length && (int_le row.length (pos 1_500_000) && (row.cut == 0))) first.1 in
+    let first = and_parts (int_le (pos 0) row.start) (int_le row.start (pos 900_000_000_000_000_000) && (int_le (pos 500_000) row.length && (int_le row.length (pos 1_500_000) && (row.cut == 0)))) is in
+    let second = and_parts (int_le row.start (pos 900_000_000_000_000_000)) (int_le (pos 500_000) row.length && (int_le row.length (pos 1_500_000) && (row.cut == 0))) first.1 in
     let third = and_parts (int_le (pos 500_000) row.length) (int_le row.length (pos 1_500_000) && (row.cut == 0)) second.1 in
     let fourth = and_parts (int_le row.length (pos 1_500_000)) (row.cut == 0) third.1 in (
       record {
-        start = record { low = no_more (pos 0) row.start first.0; high = no_more row.start (pos 1_110_000_000_000_000_000) second.0 };
+        start = record { low = no_more (pos 0) row.start first.0; high = no_later row.start (no_more row.start (pos 900_000_000_000_000_000) second.0) };
         length = record { low = no_more (pos 500_000) row.length third.0; high = no_more row.length (pos 1_500_000) fourth.0 };
       },
       eqb-true row.cut 0 fourth.1,
+      no_more row.start (pos 900_000_000_000_000_000) second.0,
     )
 
 less_if : (a b : ℕ) → nat_lt a b ≡ true → a < b
