@@ -60,29 +60,34 @@ SHARP_WHY = {
        "together",
     2: WHY[2],
     3: "the offset limit has to suffice for how far action points lie apart in sharp sync",
-    4: WHY[4],
-    5: WHY[5],
+    **{number: WHY[number] for number in (4, 5, 6, 7, 8, 9)},
 }
 SHARP_FORMULA = {
     1: "pClusterDriftDamping * Qm + 1 >= Qm + flutter + J + J1", 2: FORMULA[2],
     **{number: FORMULA[number].replace("precision", "near") for number in (3, 4, 5)},
+    6: "pRateCorrectionOut * Qm >= 2 * pMicroPerCycle * xRateBound + flutter + J + Qp",
+    **{number: FORMULA[number] for number in (7, 8, 9)},
 }
 SHARP_LETTERS = (LETTERS + "; J1 = (pMicroPerCycle + pRateCorrectionOut + pOffsetCorrectionOut + 1) * xChangeBound, and near is "
-                 "how far action points lie apart in sharp sync")
+                 "how far action points lie apart in sharp sync, reach how far those of a node that follows lie from the others")
 SHARP_OR = {
     1: "let delays flutter less within a double cycle, or lower xChangeBound",
     2: OR[2],
     3: "lower xDelayError, xChangeBound, what delays flutter, or pClusterDriftDamping",
     4: "lower these (as for C3), or make a macrotick longer",
     5: "lower these (as for C3), or gdActionPointOffset",
+    6: "lower xRateBound, xChangeBound or what delays flutter",
+    7: "lower xDelayError, xChangeBound, what delays flutter, or pClusterDriftDamping",
+    8: "lower these (as for C7), or make a macrotick longer",
+    9: "lower these (as for C7), or gdActionPointOffset",
 }
 # Those for the way to sharp sync have how far action points lie apart on it; the first one is asked where the walk does not
 # last so long.
 SHARP_WAY_WHY = {number: WHY[number] if number != 3 else "the offset limit has to suffice for how far action points lie apart on "
                  "the way" for number in (3, 4, 5)}
 SHARP_WAY_FORMULA = {number: text.replace("near", "reach") for number, text in SHARP_FORMULA.items()}
-SHARP_WAY_LETTERS = SHARP_LETTERS.replace("near is how far action points lie apart in sharp sync",
-                                          "reach is how far action points lie apart on the way to sharp sync")
+SHARP_WAY_LETTERS = SHARP_LETTERS.split(", and near is")[0] + (", and reach is how far action points lie apart on the way to "
+                                                               "sharp sync")
 TURNS = {1: "pClusterDriftDamping", 2: "pRateCorrectionOut", 3: "pOffsetCorrectionOut",
          4: "gdActionPointOffset", 5: "gdStaticSlot", 6: "pRateCorrectionOut", 7: "pOffsetCorrectionOut",
          8: "gdActionPointOffset", 9: "gdStaticSlot"}

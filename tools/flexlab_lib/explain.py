@@ -28,7 +28,7 @@ ROLES = {
 }
 USAGE = {
     "frame": "frame A FILE or frame B FILE",
-    "bound": "bound PARAMS, bound PARAMS join or bound PARAMS sharp FLUTTER", "upgrade": "upgrade PARAMS",
+    "bound": "bound PARAMS, bound PARAMS join, bound PARAMS sharp FLUTTER or bound PARAMS sharp FLUTTER join", "upgrade": "upgrade PARAMS",
     "settle": "settle PARAMS START RATE or settle PARAMS START RATE sharp FLUTTER",
     "nm": "nm WIDTH FILE", "run": "run PARAMS DRIFT SCRIPT", "trace": "trace PARAMS DRIFT SCRIPT",
     "check": "check PARAMS TRACE", "make": "make SEED DOUBLES", "capture": "capture A FILE or capture B "
@@ -252,11 +252,11 @@ def explain_check(number, left, right, words, way=False):
 
 
 def explain_sharp_check(name, number, left, right, words):
-    """A failing check of the sharper bounds, of a kind by its name, as `bound .. sharp FLUTTER` and `settle .. sharp FLUTTER` tell
-    it."""
+    """A failing check of the sharper bounds, of a kind by its name, as `bound .. sharp FLUTTER`, also with `join`, and
+    `settle .. sharp FLUTTER` tell it."""
     known, way = known_of(words), words[0] == "settle"
     parameters = {name: value for name, (value, _) in known.values.items()}
-    kind = Kind(name == "beside", int(words[-1]), max(key for _, key, _ in known.keys()))
+    kind = Kind(name == "beside", int(words[words.index("sharp", 2) + 1]), max(key for _, key, _ in known.keys()))
     told = (sharp_way_words if way else sharp_check_words)(number, left, right, parameters, kind)
     formula, letters = (SHARP_WAY_FORMULA, SHARP_WAY_LETTERS) if way else (SHARP_FORMULA, SHARP_LETTERS)
     turned = TURNS[number]
@@ -267,8 +267,8 @@ def explain_answer(text, words):
     """What an accepted request's text says that needs explanation: failing checks, and the first gap."""
     found = []
     for line in text.splitlines():
-        sharp = re.fullmatch(r"(alone |beside |)(?:C([1-5]) fails|settles no check ([1-5])) (\d+) (\d+)", line)
-        if sharp and words[-2:-1] == ["sharp"]:
+        sharp = re.fullmatch(r"(alone |beside |)(?:C([1-9]) fails|settles no check ([1-5])) (\d+) (\d+)", line)
+        if sharp and "sharp" in words[2:]:
             numbers = int(sharp[2] or sharp[3]), int(sharp[4]), int(sharp[5])
             told = explain_sharp_check(sharp[1].strip(), *numbers, words)
             found += [line, *("  " + part for part in told)]

@@ -46,8 +46,6 @@ def gap_words(gap, cluster):
     if kind == "flutter":
         return [f"a delay differs by {microseconds(numbers[0], unit)} between the two cycles of a double cycle, which is more than "
                 "any limits.delay_error allows for, twice 10 microticks"]
-    if kind == "join":
-        return ["nodes join it, and no program asks for the checks under which the sharper precision is proved of such a run"]
     if kind == "count":
         return [f"{numbers[0]} correct sync nodes do not outweigh {numbers[1]} arbitrary ones: none needs 1, "
                 "one needs 3, two need 6 (nodes that join do not count)"]

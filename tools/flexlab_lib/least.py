@@ -70,8 +70,8 @@ def bounds_of(p, join=False):
 
 
 def sharp_bounds_of(p, kind):
-    """The sharper bounds of a cluster and both sides of their checks, as `flexray bound PARAMS sharp FLUTTER` prints them;
-    with how far action points lie apart, and for how many double cycles the walk lasts (None: on and on)."""
+    """The sharper bounds of a cluster and both sides of their checks, as `flexray bound PARAMS sharp FLUTTER join` prints them;
+    with how far action points lie apart, and for how many double cycles the walk and first rates last (None: on and on)."""
     longest, shortest, error, change = common_of(p)
     micros, damping, most = p["pMicroPerCycle"], p["pClusterDriftDamping"], p["pRateCorrectionOut"]
     wide = (micros + most + p["pOffsetCorrectionOut"] + 1) * p["xChangeBound"]
@@ -80,12 +80,18 @@ def sharp_bounds_of(p, kind):
     starts = 3 * lengths + 4 * change + 4 * error + 7 * longest if kind.beside else odd + 2 * error + 3 * longest
     last = (kind.last - 1) * p["gdStaticSlot"] + p["gdActionPointOffset"]
     near = starts + lengths + last * odd // p["gMacroPerCycle"] + longest
+    first = lengths + 2 * (kind.flutter + longest - 1 + wide) + damping * longest + 4 * change
+    begins = starts + 2 * lengths + 4 * change + 2 * error + kind.flutter + 4 * longest
+    reach = begins + first + last * (first + 2 * change) // p["gMacroPerCycle"] + longest
     walk = kind.flutter + change + wide - 1 + (shortest - damping * shortest if damping else longest)
     room = most * shortest - 2 * micros * p["xRateBound"]
+    counted = kind.flutter + change + longest
     return {"lambda": lengths, "pi": starts, "precision": starts + lengths + odd + 2 * longest, "near": near,
-            "lasts": 0 if room < 0 else None if walk <= 0 else room // walk,
+            "reach": reach, "lasts": 0 if room < 0 else None if walk <= 0 else room // walk,
+            "first rates": 0 if room < counted else None if walk <= 0 else min(room // walk, (room - counted) // walk + 1),
             1: (damping * shortest + 1, shortest + kind.flutter + change + wide),
-            2: (most * shortest, 2 * micros * p["xRateBound"]), **slot_sides(p, 3, near)}
+            2: (most * shortest, 2 * micros * p["xRateBound"]), **slot_sides(p, 3, near),
+            6: (most * shortest, 2 * micros * p["xRateBound"] + counted), **slot_sides(p, 7, reach)}
 
 
 def holds(number, sides):

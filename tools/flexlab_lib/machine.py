@@ -51,15 +51,13 @@ def sync_object(first, lost, cluster):
 
 
 def sharp_object(run):
-    """The sharper side of a run; of one that nodes join only that it is not covered."""
+    """The sharper side of a run."""
     cluster, bounds, (known, gap) = run.cluster, run.sharp.bounds, gap_of(run)
     kind, p = kind_of(cluster, run.sharp.flutter), cluster.parameters
     is_check = gap is not None and gap[0] == "check"
-    found = {"covered": gap is None if known else None, "gap": gap and " ".join(gap),
-             "gap_told": sharp_check_words(*map(int, gap[1:]), p, kind) if is_check else gap_words(gap, cluster) if gap else []}
-    if cluster.joins:
-        return found
-    return {**found, "kind": bounds.kind,
+    return {"covered": gap is None if known else None, "gap": gap and " ".join(gap),
+            "gap_told": sharp_check_words(*map(int, gap[1:]), p, kind) if is_check else gap_words(gap, cluster) if gap else [],
+            "kind": bounds.kind,
             "flutter": {"ticks": run.sharp.flutter, "us": us(run.sharp.flutter, cluster)},
             "precision": {"ticks": bounds.precision, "us": us(bounds.precision, cluster)},
             "in_sharp_sync": sync_object(first_of(run), lost_of(run), cluster),

@@ -164,18 +164,19 @@ def window_lines(run):
 
 
 def check_lines(run):
+    """The sharper checks, and the older ones, which the promise of a run that nodes join may rest on."""
     if not run.cluster.joins:
         return sharp_check_lines(run, field) + older_lines(run, field)
     found = []
     for number, _, left, right in run.bounds.failing:
         words = check_words(number, left, right, run.cluster.parameters)
-        found += field("" if found else "Checks", *words)
+        found += field("" if found else "Older checks", *words)
     if not found:
         count = len(run.bounds.checks)
         tight = max(run.bounds.checks, key=lambda check: Fraction(check[3], check[2]) if check[2] else 0)
-        return field("Checks", f"C1 to C{count} hold; C{tight[0]} is the tightest, used to "
-                               f"{percent(tight[3], tight[2])}")
-    return found
+        found = field("Older checks", f"C1 to C{count} hold; C{tight[0]} is the tightest, used to "
+                                      f"{percent(tight[3], tight[2])}")
+    return sharp_check_lines(run, field) + found
 
 
 def node_lines(run):

@@ -39,12 +39,13 @@ def read_bounds(text):
 @dataclass
 class SharpBounds:
     """The sharper bounds of one kind, `alone` or `beside` arbitrary nodes, where delays flutter so much; for how many double
-    cycles the walk lasts, None where it does on and on."""
+    cycles the walk lasts, and where nodes join first rates too, None where it does on and on; and the reach where nodes join."""
     kind: str
     flutter: int = 0
     lambda_: int = 0
     pi: int = 0
     precision: int = 0
+    reach: int | None = None
     checks: list = field(default_factory=list)
     lasts: int | None = None
 
@@ -59,17 +60,17 @@ class SharpBounds:
 
 
 def read_sharp_bounds(text):
-    """What `bound PARAMS sharp FLUTTER` printed: the bounds of each kind."""
+    """What `bound PARAMS sharp FLUTTER` printed, also with `join` behind it: the bounds of each kind."""
     both = [SharpBounds("alone"), SharpBounds("beside")]
     for line in text.splitlines():
         words = line.split()
         kinds = [kind for kind in both if kind.kind == words[0]] or both
         words = words[words[0] in ("alone", "beside"):]
         for kind in kinds:
-            if words[0] in ("lambda", "pi", "precision", "flutter"):
+            if words[0] in ("lambda", "pi", "precision", "flutter", "reach"):
                 setattr(kind, words[0] + ("_" if words[0] == "lambda" else ""), int(words[1]))
-            elif words[0] == "lasts":
-                kind.lasts = None if words[1] == "on" else int(words[1])
+            elif words[:-1] in (["lasts"], ["first", "rates", "last"]):
+                kind.lasts = None if words[-1] == "on" else int(words[-1])
             elif re.fullmatch(r"C\d (holds|fails) -?\d+ -?\d+", " ".join(words)):
                 kind.checks.append((int(words[0][1:]), words[1] == "holds", int(words[2]), int(words[3])))
             else:

@@ -115,7 +115,7 @@ def run_cluster(cluster, folder, program, begin=None):
 
 def call_sharp(run, program):
     flutter = flutter_of(run.cluster)
-    text = answer(program, sharp_words(run.files[0], flutter))
+    text = answer(program, sharp_words(run.files[0], flutter, bool(run.cluster.joins)))
     keep(run.folder, "sharp.txt", text)
     return sharp_of(run.cluster, flutter, text, run.cycles)
 

@@ -44,9 +44,9 @@ def kind_of(cluster, flutter):
     return Kind(bool(cluster.arbitrary), min(flutter, MOST), last)
 
 
-def sharp_words(path, flutter):
-    """What `bound` is asked for of the sharper bounds."""
-    return ["bound", path, "sharp", str(min(flutter, MOST))]
+def sharp_words(path, flutter, join=False):
+    """What `bound` is asked for of the sharper bounds, of a cluster that nodes join too."""
+    return ["bound", path, "sharp", str(min(flutter, MOST))] + (["join"] if join else [])
 
 
 def sharp_of(cluster, flutter, text, cycles):
@@ -63,7 +63,7 @@ def unlike(sharp, told, doubles):
     if sharp.flutter <= MOST and (told.kind, told.precision) != (sharp.bounds.kind, sharp.bounds.precision):
         return "flexray-series tells another sharper precision than flexray bound"
     if sharp.flutter <= MOST and told.synced is not None and told.lasts != sharp.bounds.lasts:
-        return "flexray-series tells another number of double cycles for which the walk lasts than flexray bound"
+        return "flexray-series tells another number of double cycles for which sharp sync lasts than flexray bound"
     if sharp.flutter <= MOST and doubles and told.rows[::2] != sharp.rows:
         return "flexray-series says of a double cycle that it is in sharp sync, and the trace does not, or back"
     return None
@@ -77,8 +77,6 @@ def gap_of(run):
     of the report, where that names no older check, or has none that fails: the others are the same. Delays that flutter by
     more than twice the greatest delay error have the gap `flutter` here; one of them is outside its limit."""
     sharp = run.sharp
-    if run.cluster.joins:
-        return True, ["join"]
     if sharp.flutter > MOST:
         return True, ["flutter", str(sharp.flutter)]
     if sharp.told:
@@ -95,10 +93,12 @@ def is_covered(run):
 
 
 def first_of(run):
-    """The first double cycle in sharp sync, or None."""
+    """The first double cycle in sharp sync in which no node follows, or None. Without flexray-series it is not told who follows:
+    only nodes that join can, in the two double cycles behind that in which they listen."""
     if run.sharp.told:
         return run.sharp.told.synced
-    return next((at for at, good in enumerate(run.sharp.rows) if good), None)
+    following = {double + ago for double, _ in run.cluster.joins.values() for ago in (1, 2)}
+    return next((at for at, good in enumerate(run.sharp.rows) if good and at not in following), None)
 
 
 def lost_of(run):

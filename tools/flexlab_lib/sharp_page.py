@@ -46,7 +46,8 @@ def sync_words(run, ms_of_cycle):
 
 
 def lasting_words(run, ms_of_cycle):
-    """For how long what is proved holds, where the first check fails; None where it is to the end of the run."""
+    """For how long what is proved holds, where the first check fails; None where it is to the end of the run. Where nodes join it
+    is so as long as the rate limit suffices for first rates too."""
     lasts, end = run.sharp.bounds.lasts, ends_of(run)
     if lasts is None or not is_covered(run) or first_of(run) is None:
         return None
@@ -76,10 +77,8 @@ def skew_lines(run, field):
 
 
 def sharp_lines(run, field, ms_of_cycle):
-    """The lines of the page; of a run that nodes join only why there are none."""
+    """The lines of the page."""
     found = field("Sharply covered", *covered_words(run))
-    if run.cluster.joins:
-        return found
     bounds, unit = run.sharp.bounds, run.cluster.microtick_ns
     proved = lasting_words(run, ms_of_cycle)
     found += field("In sharp sync", sync_words(run, ms_of_cycle), *([proved] if proved else []))
@@ -101,7 +100,8 @@ def check_lines(run, field):
     if found:
         return found
     tight = max(bounds.checks, key=lambda check: Fraction(check[3], check[2]) if check[2] else 0)
+    count = len(bounds.checks)
     own, least = p["pClusterDriftDamping"], least_sharp_damping(p, kind)
     less = f"; a damping of {least} would suffice" if least < own else ""
-    return field("Checks", f"C1 to C5 hold, those of the sharp precision; C{tight[0]} is the tightest, used to "
+    return field("Checks", f"C1 to C{count} hold, those of the sharp precision; C{tight[0]} is the tightest, used to "
                            f"{percent(tight[3], tight[2])}{less}")

@@ -206,11 +206,9 @@ def measured(run_report, unit, in_sync_skew, at_end, later=None):
 
 
 def sharply(run, unit):
-    """The columns of the sharper bounds; of a run that nodes join only that it is not covered."""
+    """The columns of the sharper bounds."""
     known, gap = sharp.gap_of(run)
     found = {"sharply_covered": ("yes" if gap is None else "no") if known else "", "sharp_gap": " ".join(gap or [])}
-    if run.cluster.joins:
-        return found
     first, skew = sharp.first_of(run), sharp.skew_of(run)
     return {**found, "sharp_precision_us": decimal(us_of_ticks(run.sharp.bounds.precision, unit), 6),
             "in_sharp_sync_double": "never" if first is None else first,

@@ -32,9 +32,9 @@ class Case(Bench):
     def cluster(self, text):
         return read_cluster(self.write("a.toml", text))
 
-    def told(self, flutter, folder="a.lab"):
+    def told(self, flutter, *last, folder="a.lab"):
         """What flexray bound prints of the sharper bounds."""
-        status, text, _ = self.flexray("bound", f"{folder}/params.csv", "sharp", str(flutter))
+        status, text, _ = self.flexray("bound", f"{folder}/params.csv", "sharp", str(flutter), *last)
         self.assertEqual(status, 0)
         return report.read_sharp_bounds(text)
 
@@ -47,7 +47,7 @@ class Formulas(Case):
             cluster = self.cluster(text)
             self.flexlab("build", "a.toml")
             for flutter in (0, 1, 2000000, sharp.MOST):
-                told = self.told(flutter)
+                told, joined = self.told(flutter), self.told(flutter, "join")
                 for beside, name in ((False, "alone"), (True, "beside")):
                     last = max(node.key_slot or 0 for node in cluster.nodes.values())
                     found, bounds = least.sharp_bounds_of(cluster.parameters, least.Kind(beside, flutter, last)), told[name]
@@ -56,6 +56,10 @@ class Formulas(Case):
                     self.assertEqual([(number, least.holds(number, found[number]), *found[number]) for number in range(1, 6)],
                                      bounds.checks)
                     self.assertEqual(bounds.flutter, flutter)
+                    bounds = joined[name]
+                    self.assertEqual((found["reach"], found["first rates"]), (bounds.reach, bounds.lasts))
+                    self.assertEqual([(number, least.holds(number, found[number]), *found[number]) for number in range(1, 10)],
+                                     bounds.checks)
 
     def test_the_least_value_that_meets_a_check(self):
         p = dict(self.cluster(produced(("Damping = 2", "Damping = 0"), ("pRateCorrectionOut = 601", "pRateCorrectionOut = 30"),
@@ -257,12 +261,19 @@ class Pages(Case):
         self.assertIn("no values of these parameters are found with which all checks hold", page)
         self.assertIn("flexray bound a.lab/advised/1/params.csv: checks fail", page)
 
-    def test_nodes_that_join_are_left_to_the_older_bound(self):
+    @needs_series
+    def test_nodes_that_join(self):
         page = self.page(produced(SHORT) + JOINS)
-        self.assertIn("Sharply covered NO: nothing is promised of this run's sharp precision nodes join it, and no program asks for "
-                      "the checks under which the sharper precision is proved of such a run", page)
-        self.assertNotIn("Sharp precision", page)
-        self.assertIn("check C8 fails", page)
+        self.assertIn("Sharply covered yes: in sharp sync no macroticks of correct nodes lie further apart than the sharp precision", page)
+        self.assertIn("Sharp precision 0.900 us", page)
+        self.assertIn("Checks C1 to C9 hold, those of the sharp precision", page)
+        self.assertIn("Older checks check C1 fails", page)
+        page = self.page(produced(SHORT) + JOINS + TWO_FACED)
+        self.assertIn("Sharply covered NO: nothing is promised of this run's sharp precision check C7 fails, see below", page)
+        self.assertIn("Checks check C7 fails: 126987300 against 136866544; the offset limit has to suffice for the reach of a node that "
+                      "joins turn pOffsetCorrectionOut: it is 127, and with all else as it is C7 asks for 137 at least", page)
+        page = self.page(produced(SHORT) + JOINS, series=False)
+        self.assertIn("Sharply covered not known: a check of the older bound fails", page)
 
     def test_what_is_known_without_the_second_program(self):
         page = self.page(produced(SHORT), series=False)
@@ -378,7 +389,7 @@ class Machines(Case):
     def test_what_is_required_and_not_met(self):
         env = {"FLEXRAY_SERIES": SERIES}
         for text, told in ((produced(SHORT, ("pOffsetCorrectionOut = 127", "pOffsetCorrectionOut = 20")), "sharp covered no check 3 "),
-                           (produced(SHORT) + JOINS, "sharp covered no join"),
+                           (produced(SHORT) + JOINS + TWO_FACED, "sharp covered no check 7 126987300 136866544"),
                            (produced(("double_cycles = 60", "double_cycles = 1")), "never in sharp sync"),
                            (produced(*WALK, ("double_cycles = 60", "double_cycles = 70")) + EVEN_AND_ODD,
                             "what is proved ends before double cycle 6")):
@@ -387,7 +398,7 @@ class Machines(Case):
                 err = self.flexlab("run", "--require", "sharply-covered", "a.toml", status=7, env=env)[1]
                 self.assertIn(f"not met: sharply-covered: {told}", err)
         for text, told in ((produced(SHORT, ("pOffsetCorrectionOut = 127", "pOffsetCorrectionOut = 20")), "turn pOffsetCorrectionOut"),
-                           (produced(SHORT) + JOINS, "nodes join it")):
+                           (produced(SHORT) + JOINS + TWO_FACED, "turn pOffsetCorrectionOut")):
             self.write("a.toml", text)
             found = json.loads(self.flexlab("run", "--json", "a.toml", env=env)[0])["sharp"]
             self.assertEqual(found["covered"], False)
