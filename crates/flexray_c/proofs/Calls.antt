@@ -1,5 +1,5 @@
 -- How a call ends: by the program's answer, and by the same words and files told otherwise.
-use Rattle.std.proofs.Common.{◌≡◌, ℕ, ◌⊎◌, List, [], Some, None, IsTrue, ap, subst, rules}
+use Rattle.std.proofs.Common.{◌≡◌, ℕ, ◌⊎◌, List, [], Some, None, IsTrue, ap, subst, rules, inl, inr}
 use Rattle.fr_base.specs.Device.{Shelved, Sunk}
 use Rattle.fr_text.specs.declared.status.Status.{Status}
 use Rattle.fr_text.specs.declared.status.Status.TheVariants as status
