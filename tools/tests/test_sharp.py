@@ -316,7 +316,7 @@ class Pages(Case):
         for old, new, told in (("\nflutter,0,", "\nflutter,5,", "delays flutter by 5 ticks, and by the file it is 0"),
                                ("\nsharp,36003994,alone", "\nsharp,36003993,alone", "tells another sharper precision"),
                                ("\nsharp,36003994,alone", "\nsharp,36003994,beside", "tells another sharper precision"),
-                               (",on,,\n", ",7,,\n", "tells another number of double cycles for which the walk lasts"),
+                               (",on,,\n", ",7,,\n", "tells another number of double cycles for which sharp sync lasts"),
                                ("\nsharp within,yes", "\nsharp inside,yes", "not understood: sharp inside,yes")):
             with self.subTest(new=new):
                 self.assertIn(old, text)
@@ -361,9 +361,9 @@ class Table(Case):
     def test_where_nothing_is_proved(self):
         page = self.one_line(self.table(produced(SHORT, ("pOffsetCorrectionOut = 127", "pOffsetCorrectionOut = 20"))))
         self.assertRegex(page, r"Sharp nothing is proved of this run, which has a gap \(check 3 \d+ \d+\)")
-        page = self.one_line(self.table(produced(SHORT) + JOINS))
-        self.assertIn("Sharp nothing is proved of this run, which has a gap (join)", page)
-        self.assertNotIn("that of this cluster ", page)
+        page = self.one_line(self.table(produced(SHORT, ("pOffsetCorrectionOut = 127", "pOffsetCorrectionOut = 50")) + JOINS))
+        self.assertRegex(page, r"Sharp nothing is proved of this run, which has a gap \(check 7 \d+ \d+\)")
+        self.assertIn("Sharp proved of this run, without arbitrary nodes", self.one_line(self.table(produced(SHORT) + JOINS)))
 
 
 class Machines(Case):
