@@ -67,9 +67,10 @@ def bound(params: Input, *, join: bool = False) -> Bound:
     return texts.bound(_asked("bound", "first", *(["join"] if join else []), params=params))
 
 
-def sharp_bound(params: Input, flutter: int = 0) -> SharpBound:
-    """The sharper bounds where delays flutter by at most so many ticks, 0 to 20,000,000."""
-    return texts.sharp_bound(_asked("bound", "first", "sharp", _whole(flutter), params=params))
+def sharp_bound(params: Input, flutter: int = 0, *, join: bool = False) -> SharpBound:
+    """The sharper bounds where delays flutter by at most so many ticks, 0 to 20,000,000; with `join` the reach and the checks
+    of a cluster that nodes join too."""
+    return texts.sharp_bound(_asked("bound", "first", "sharp", _whole(flutter), *(["join"] if join else []), params=params), join)
 
 
 def upgrade(params: Input) -> Upgraded:

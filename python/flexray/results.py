@@ -45,6 +45,7 @@ class SharpSide:
     pi: int
     precision: int
     checks: tuple[Check, ...]
+    reach: int | None = None
 
     @property
     def failing(self) -> tuple[Check, ...]:
@@ -54,13 +55,16 @@ class SharpSide:
 @dataclass(frozen=True)
 class SharpBound:
     """The sharper bounds where delays flutter by at most `flutter`. `lasts` is for how many double cycles they hold, None
-    where they do on and on."""
+    where they do on and on. Where `joins`, each side has its reach and the checks from 6 to 9 too, and `first_rates_last` is
+    for how many double cycles the rate limit suffices for the rate that a node begins to follow with, None for on and on."""
 
     text: str = field(repr=False)
     flutter: int
     alone: SharpSide
     beside: SharpSide
     lasts: int | None
+    joins: bool = False
+    first_rates_last: int | None = None
 
 
 @dataclass(frozen=True)

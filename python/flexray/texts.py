@@ -63,7 +63,7 @@ def bound(text: str) -> Bound:
     return Bound(text, y1, lambda_, pi, precision, _checks(checks + lines.every(CHECK)), reach)
 
 
-def sharp_bound(text: str) -> SharpBound:
+def sharp_bound(text: str, join: bool = False) -> SharpBound:
     lines = _Lines(text)
     flutter = lines.one(r"flutter (\d+)")
     kinds = ("alone", "beside")
@@ -74,7 +74,17 @@ def sharp_bound(text: str) -> SharpBound:
         lambda_, pi, precision = numbers[kind]
         sides[kind] = SharpSide(lambda_, pi, precision, _checks(both + lines.every(f"{kind} {CHECK}")))
     lasts = lines.take(r"lasts (on|\d+)")[0]
-    return SharpBound(text, flutter, sides["alone"], sides["beside"], None if lasts == "on" else int(lasts))
+    rates = "on"
+    if join:
+        reaches = {kind: lines.one(rf"{kind} reach (\d+)") for kind in kinds}
+        both = lines.every(CHECK)
+        for kind in kinds:
+            more = _checks(both + lines.every(f"{kind} {CHECK}"))
+            side = sides[kind]
+            sides[kind] = SharpSide(side.lambda_, side.pi, side.precision, side.checks + more, reaches[kind])
+        rates = lines.take(r"first rates last (on|\d+)")[0]
+    return SharpBound(text, flutter, sides["alone"], sides["beside"], None if lasts == "on" else int(lasts), join,
+                      None if rates == "on" else int(rates))
 
 
 def _skew_line(lines: _Lines) -> Skew:

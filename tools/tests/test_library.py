@@ -105,7 +105,7 @@ class Library(Bench):
             self.assertEqual((ended.returncode, ended.stdout, ended.stderr), (status, text, line), folder)
         for name in ("offset", "breach", "capture"):
             folder, words = next((one[0], one[1]) for one in examples() if one[0].endswith("/" + name))
-            self.assertEqual(self.fine(self.call(caller, "places", words, folder)), "37 rooms\n")
+            self.assertEqual(self.fine(self.call(caller, "places", words, folder, ASAN_OPTIONS="detect_leaks=0")), "37 rooms\n")
         self.fine(self.call(caller, "bad", ASAN_OPTIONS="detect_leaks=0"))
 
     def test_nothing_of_a_call_stays(self):

@@ -64,7 +64,7 @@ class Calls(Bench):
                 if is_series:
                     found = (flexray.sharp_series if told else flexray.series)(*files)
                 elif words[0] == "bound" and "sharp" in told:
-                    found = flexray.sharp_bound(*files, flutter=int(told[2]))
+                    found = flexray.sharp_bound(*files, flutter=int(told[2]), join="join" in told)
                 elif words[0] == "bound":
                     found = flexray.bound(*files, join="join" in told)
                 elif words[0] == "settle" and "sharp" in told:
