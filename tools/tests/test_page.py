@@ -34,7 +34,7 @@ class Page(Bench):
     def setUpClass(cls):
         cls.browser = Browser()
         cls.browser.open(PAGE)
-        cls.browser.until('document.documentElement.dataset.state === "ready"')
+        cls.browser.until('document.documentElement !== null && document.documentElement.dataset.state === "ready"')
 
     @classmethod
     def tearDownClass(cls):
