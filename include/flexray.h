@@ -14,10 +14,10 @@
  * they fit or not, as snprintf tells: where a length is above the room, call again with that room. A place of no bytes is fine.
  * Only FLEXRAY_DONE has a text, and every other status has a line, but for a want of memory that left none.
  *
- * What is owed. Pointers are valid for their lengths and not null (where a length is 0, null is fine; `texts` and `frame` are
- * never null); what is written to (places, texts, frame) overlaps nothing else that is passed, and no other thread uses it
- * meanwhile; 512 KiB of stack are free; malloc, realloc and free are those of one allocator; no call is made from a signal
- * handler or in the child of a fork from a process with threads. Everything else is answered: all bytes, words and numbers,
+ * What is owed. Pointers are valid for their lengths and not null (where a length is 0, null is fine; `texts`, `frame`, `length`
+ * and `count` are never null); what is written to (places, texts, frame, length, count) overlaps nothing else that is passed,
+ * and no other thread uses it meanwhile; 512 KiB of stack are free; malloc, realloc and free are those of one allocator and
+ * align blocks as C says; no call is made from a signal handler or in the child of a fork from a process with threads. Everything else is answered: all bytes, words and numbers,
  * want of memory too. No call ends the process, waits, or keeps anything behind its end.
  *
  * Threads. Calls share nothing: any number of threads may call at once, each with places of its own; files may be shared.
@@ -92,7 +92,8 @@ uint32_t flexray_series(const uint8_t *params, size_t params_length,
 /* A channel. Every other number is none. */
 enum flexray_channel { FLEXRAY_A = 0, FLEXRAY_B = 1 };
 
-/* Why bytes are no frame, or why none is written: of several causes the first in the order of docs/FORMATS.md. */
+/* Why bytes are no frame: of several causes the first of 1 to 6. Why none is written: the first of 8, 9, 10, 6, 11 in this
+   order. 7 comes before all others. */
 enum flexray_fault {
     FLEXRAY_NO_FAULT = 0,         /* it is a frame, or one was written */
     FLEXRAY_SHORT = 1,            /* fewer than 8 bytes */
