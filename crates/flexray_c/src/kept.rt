@@ -1,4 +1,5 @@
-ghost use Rattle.std.specs.Prelude.{◌≡◌, ◌↔◌, [], IsTrue};
+ghost use Rattle.std.specs.Prelude.{◌≡◌, ◌↔◌, [], OnErr, OnOk, IsTrue};
+ghost use Rattle.fr_base.specs.Device.{PutsPiece, raised};
 ghost use Rattle.flexray_c.specs.Kept.{kept, kept_bytes, kept_faults, kept_state};
 
 use fr_base::{PutFault, Sink};
@@ -41,7 +42,14 @@ impl KeptText {
 impl Sink for KeptText {
     ghost state = { kept_state };
 
-    fn put(&mut self, piece: &[u8]) -> Result<(), PutFault> {
+    fn put(&mut self, piece: &[u8]) -> Result<(), PutFault>
+        // what every sink promises
+        ensures promised { PutsPiece result (kept_state self.old) (kept_state self.new) piece.now }
+
+        // A fault is counted once, and nothing else is.
+        ensures counted { OnErr result (kept_faults self.new ≡ raised (kept_faults self.old)) }
+        ensures quiet { OnOk result (kept_faults self.new ≡ kept_faults self.old) }
+    {
         if self.bytes.extend_from_slice(piece).is_ok() {
             return Ok(());
         }
