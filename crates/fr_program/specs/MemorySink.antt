@@ -1,8 +1,8 @@
 -- What a sink in memory has, and which pieces it takes.
-use Rattle.std.specs.Prelude.{◌≡◌, [], ℕ, ◌+◌, List, Bool, ◌==◌, ◌&&◌, length, nat_le, not, Option, Some, IsSome}
+use Rattle.std.specs.Prelude.{◌≡◌, [], ℕ, ◌+◌, List, Bool, ◌==◌, ◌&&◌, ◌↔◌, length, nat_le, not, Option, Some, IsSome}
 use Rattle.std.specs.List.{list_any}
 use Rattle.fr_base.specs.Device.{Put, raised, Sunk}
-use Rattle.fr_program.specs.PutLog.{CanKeep, kept_puts, log_room, log_puts}
+use Rattle.fr_program.specs.PutLog.{CanTell, kept_puts}
 use Rattle.fr_program.specs.declared.memory_sink.MemorySink.{MemorySink}
 
 -- the bytes put so far
@@ -37,11 +37,16 @@ failing_puts sink = sink.failing.items
 abbrev pub takes : MemorySink → List ℕ → Bool
 takes sink piece = not (list_any (λ number. number == raised (puts_of sink)) (failing_puts sink)) && nat_le (length (bytes_in sink) + length piece) (room_of sink)
 
--- where it told its puts and has room to keep one more, it tells that one too
-abbrev pub TellsOn : MemorySink → MemorySink → List ℕ → Type 0
-TellsOn before after piece = CanKeep before.log piece → IsSome (told_puts after)
+-- how many puts it tells at most
+abbrev pub most_told : ℕ
+most_told = 100
 
--- it has this room and no bytes, nothing was counted or chosen, and it tells its puts, up to 100 with as many bytes as its room
+-- after a put of this piece it tells its puts exactly where it told them before, and with this one they are at most 100 and
+-- their pieces have no more bytes than its room
+abbrev pub TellsOn : MemorySink → MemorySink → List ℕ → Type 0
+TellsOn before after piece = IsSome (told_puts after) ↔ CanTell (told_puts before) (room_of before) most_told piece
+
+-- it has this room and no bytes, nothing was counted or chosen, and it tells that nothing was put
 pub record IsNewSink (room : ℕ) (sink : MemorySink) : Type 0 where
   pub empty : bytes_in sink ≡ []
   pub room_is : room_of sink ≡ room
@@ -49,8 +54,6 @@ pub record IsNewSink (room : ℕ) (sink : MemorySink) : Type 0 where
   pub no_puts : puts_of sink ≡ 0
   pub none_failing : failing_puts sink ≡ []
   pub none_put : told_puts sink ≡ Some []
-  pub told_room : log_room sink.log ≡ Some room
-  pub told_most : log_puts sink.log ≡ Some 100
 
 -- bytes, room, counts and puts stay
 pub record KeepsSink (before after : MemorySink) : Type 0 where

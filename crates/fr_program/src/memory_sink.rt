@@ -1,5 +1,7 @@
-ghost use Rattle.std.specs.Prelude.{◌≡◌, ◌≤◌, ◌↔◌, ◌++◌, ◌∷◌, [], false, OnOk, OnErr, IfOk, IsTrue, IsOk, vec_len, vec_capacity};
+ghost use Rattle.std.specs.Prelude.{◌≡◌, ◌≤◌, ◌↔◌, ◌++◌, ◌∷◌, [], false, OnOk, OnErr, IfOk, IfSome, IsTrue, IsOk, vec_len, vec_capacity};
+ghost use Rattle.std.proofs.Props.{props};
 ghost use Rattle.fr_base.specs.Device.{PutsPiece, raised};
+ghost use Rattle.fr_program.specs.PutLog.{HasRoom};
 
 use crate::put_log::PutLog;
 use fr_base::{PutFault, Sink};
@@ -21,6 +23,7 @@ pub struct MemorySink {
     log: Option<PutLog>,
     ghost reserved: { room ≤ vec_capacity bytes },
     ghost within: { vec_len bytes ≤ room },
+    ghost telling: { IfSome log (HasRoom room 100) } by { Prim.hlevel props },
 }
 
 // One call: a derived drop is opened in each function that drops a value, and proved there.
@@ -100,7 +103,7 @@ impl Sink for MemorySink {
         ensures quiet { OnOk result (sink_faults self.new ≡ sink_faults self.old) }
         ensures later { IsOnePutLater self.old self.new }
 
-        // It tells this put too, where it told all others and has room to keep it.
+        // It tells this put too exactly where it told all others and has room to keep it.
         ensures told { TellsOn self.old self.new piece.now }
     {
         let taken = self.is_taken(piece);

@@ -1,4 +1,4 @@
-ghost use Rattle.std.specs.Prelude.{◌≡◌, ◌≤◌, ◌++◌, ◌∷◌, [], Some, IfOk, IfSome, IsSome, IsTrue, ◌↔◌, length, vec_len, vec_capacity};
+ghost use Rattle.std.specs.Prelude.{◌≡◌, ℕ, ◌≤◌, ◌++◌, ◌∷◌, [], Some, IfOk, IfSome, IsSome, IsTrue, ◌↔◌, length, vec_len, vec_capacity};
 ghost use Rattle.fr_base.specs.Device.{AddsPuts};
 ghost use Rattle.fr_program.specs.PutMarks.{lengths_of};
 
@@ -37,13 +37,12 @@ impl Drop for PutLog {
 }
 
 impl PutLog {
-    ghost use Rattle.fr_program.specs.PutLog.{Fits, CanKeep, puts_in, kept_puts};
+    ghost use Rattle.fr_program.specs.PutLog.{CanTell, Fits, HasRoom, puts_in, kept_puts};
 
     // No puts, with room for so many bytes and puts. `AllocError` where memory ran out.
     pub(crate) fn new(alloc: Global, room: usize, most: usize) -> Result<PutLog, AllocError>
         ensures none { IfOk result (λ log. puts_in log ≡ []) }
-        ensures room { IfOk result (λ log. log.room ≡ room) }
-        ensures most { IfOk result (λ log. log.most ≡ most) }
+        ensures room { IfOk result (HasRoom room most) }
     {
         let bytes = Vec::with_capacity(alloc, room)?;
         let marks = Vec::with_capacity(alloc, most)?;
@@ -66,7 +65,8 @@ impl PutLog {
     fn with_put(self, piece: &[u8], is_whole: bool) -> Option<PutLog>
         ensures added { IfSome result (λ log.
             puts_in log ≡ puts_in self ++ record { piece = piece.now; is_whole = is_whole } ∷ []) }
-        ensures kept { Fits self piece.now → IsSome result }
+        ensures kept { IsSome result ↔ Fits self piece.now }
+        ensures room { IfSome result (HasRoom self.room self.most) }
     {
         if !self.has_room(piece) {
             return None;
@@ -96,7 +96,9 @@ impl PutLog {
     pub(crate) fn noted(log: Option<PutLog>, piece: &[u8], is_whole: bool) -> Option<PutLog>
         ensures added { AddsPuts (kept_puts log) (kept_puts result)
             (record { piece = piece.now; is_whole = is_whole } ∷ []) }
-        ensures kept { CanKeep log piece.now → IsSome (kept_puts result) }
+        ensures kept { (room most : ℕ) → IfSome log (HasRoom room most)
+            → IsSome (kept_puts result) ↔ CanTell (kept_puts log) room most piece.now }
+        ensures room { (room most : ℕ) → IfSome log (HasRoom room most) → IfSome result (HasRoom room most) }
     {
         match log {
             Some(log) => log.with_put(piece, is_whole),
