@@ -18,9 +18,9 @@ use fr_world::World;
 /// first place over all its macroticks beside the precision, whether the run is covered, from which double
 /// cycle on the clocks are in sync and no node follows, what was sent and heard, and where each node with a row
 /// ends. Each line is one put. A fault comes only where the sink counted it, and then a front of the text was
-/// put; all cycles are run also then. It takes no memory. With either result the text is the report of the one
-/// lawful run, whose figures mean what they are called; where it is covered, the run keeps its precision from its first
-/// double cycle in sync on in which no node follows.
+/// put; all cycles are run also then. It takes no memory but what the sink does. With either result the text is the
+/// report of the one lawful run, whose figures mean what they are called; where it is covered, the run keeps its
+/// precision from its first double cycle in sync on in which no node follows.
 pub fn play<O: Sink>(world: &mut World, out: &mut O) -> Result<(), PutFault>
     requires { world.old.cycles ≡ 0 }
     ensures ran { world.new ≡ record world.old { cycles = 2 * doubles_of world.old.drift } }
