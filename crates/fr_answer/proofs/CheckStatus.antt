@@ -4,9 +4,13 @@ use Rattle.fr_cluster.specs.Sane.{IsSane}
 use Rattle.fr_cluster.specs.Values.{Values}
 use Rattle.fr_params.specs.Files.{params_file}
 use Rattle.fr_params.specs.Upgrades.{AcceptedAreSane}
+use Rattle.fr_text.specs.Defined.{DefinesOneStatus}
 use Rattle.fr_text.specs.Kind.{HasOneAnswer, HasSomeAnswer}
+use Rattle.fr_text.proofs.Defining.{one_status, some_status}
 use Rattle.fr_trace.specs.Files.{trace_file}
+use Rattle.fr_trace.specs.Sound.{IsSoundTrace}
 use Rattle.fr_trace.specs.Trace.{TraceView}
+use Rattle.fr_trace.proofs.TraceSound.{sound_trace}
 use Rattle.fr_verdict.specs.Answer.{IsJudgement, OneAnswer, SomeAnswer}
 use Rattle.fr_verdict.specs.Precision.{CheckedTracesKeepPrecision}
 use Rattle.fr_verdict.specs.declared.unlawful.Unlawful.{Unlawful}
@@ -14,10 +18,6 @@ use Rattle.fr_verdict.specs.declared.unlawful.Verdict.{Verdict}
 use Rattle.fr_check.specs.CheckAnswer.{IsUnlawfulSaid, IsVerdictText, check_files}
 use Rattle.fr_check.specs.UnlawfulText.{unlawful_text}
 use Rattle.fr_check.specs.VerdictText.{verdict_text}
-use Rattle.fr_report.specs.Defined.{DefinesOneStatus}
-use Rattle.fr_report.specs.Sound.{IsSoundTrace}
-use Rattle.fr_report.proofs.Defining.{one_status, some_status}
-use Rattle.fr_report.proofs.TraceSound.{sound_trace}
 
 -- a trace that is judged passes or does not, and its text or its line is defined
 judged : SomeAnswer → CheckedTracesKeepPrecision → (p : Values) (t : TraceView) → IsSane p → IsSoundTrace p t → ((written : List ℕ) × IsVerdictText p t written) ⊎ ((said : List ℕ) × IsUnlawfulSaid p t said)

@@ -10,14 +10,14 @@ use Rattle.fr_drift.specs.View.{DriftView}
 use Rattle.fr_params.specs.Files.{params_file}
 use Rattle.fr_params.specs.Upgrades.{AcceptedAreSane}
 use Rattle.fr_script.specs.View.{ScriptView}
+use Rattle.fr_text.specs.Defined.{DefinesOneStatus}
 use Rattle.fr_text.specs.Kind.{HasOneAnswer, HasSomeAnswer}
+use Rattle.fr_text.proofs.Defining.{one_status, some_status}
 use Rattle.fr_report.specs.RunText.{IsRunText}
 use Rattle.fr_sharp.specs.JoinedFiles.{CoveredFilesKeepSharplyJoined}
 use Rattle.fr_sharp.specs.SharpFiles.{CoveredFilesKeepSharply}
 use Rattle.fr_answer.specs.RunAnswer.{IsKeptRunText}
-use Rattle.fr_report.specs.Defined.{DefinesOneStatus}
 use Rattle.fr_report.proofs.RunStatus.{IsDefinedText}
-use Rattle.fr_report.proofs.Defining.{one_status, some_status}
 
 -- the report with the sharper promise
 pub kept_defined : CoveredFilesKeepSharply → CoveredFilesKeepSharplyJoined → (shown : Values → DriftView → ScriptView → List ℕ) → IsDefinedText IsRunText shown → IsDefinedText IsKeptRunText shown

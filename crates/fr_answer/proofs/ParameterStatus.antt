@@ -7,8 +7,10 @@ use Rattle.fr_params.specs.Told.{params_says}
 use Rattle.fr_params.specs.Texts.{upgraded_text}
 use Rattle.fr_params.specs.UpgradeAnswer.{IsUpgrade, upgrade_files}
 use Rattle.fr_params.specs.Upgrades.{FilesAreUpgraded}
+use Rattle.fr_text.specs.Defined.{DefinesOneStatus}
 use Rattle.fr_text.specs.Files.{IsNeverSaid, file, text}
 use Rattle.fr_text.specs.Kind.{AreBytes, HasOneAnswer, HasSomeAnswer}
+use Rattle.fr_text.proofs.Defining.{one_status, some_status}
 use Rattle.fr_answer.specs.BoundAnswer.{bound_files, join_files, sharp_files, sharp_join_files}
 use Rattle.fr_answer.specs.BoundText.{bound_text, with_join_text}
 use Rattle.fr_answer.specs.SettleAnswer.{IsSettling, IsSharpSettling, settle_files, sharp_settle_files}
@@ -16,8 +18,6 @@ use Rattle.fr_answer.specs.SettleText.{settle_text}
 use Rattle.fr_answer.specs.SharpSettleText.{sharp_settle_text}
 use Rattle.fr_answer.specs.SharpJoinText.{sharp_with_join_text}
 use Rattle.fr_answer.specs.SharpText.{sharp_text}
-use Rattle.fr_report.specs.Defined.{DefinesOneStatus}
-use Rattle.fr_report.proofs.Defining.{one_status, some_status}
 use Rattle.fr_answer.proofs.Settlings.{some_settling, some_ways}
 
 -- a text of the parameters in a file that nothing is said against, of which there is one

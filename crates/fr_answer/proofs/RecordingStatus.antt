@@ -7,8 +7,10 @@ use Rattle.fr_frame.specs.Frame.{IsFrame, IsNoFrame}
 use Rattle.fr_frame.specs.Reading.{payload_in, read_as}
 use Rattle.fr_frame.specs.declared.fault.FrameFault.{FrameFault}
 use Rattle.fr_frame.specs.declared.header.Header.{Header}
+use Rattle.fr_text.specs.Defined.{AreOctets, DefinesOneStatus}
 use Rattle.fr_text.specs.Kind.{HasOneAnswer, HasSomeAnswer}
 use Rattle.fr_text.specs.Loading.{any_file}
+use Rattle.fr_text.proofs.Defining.{one_status, some_status}
 use Rattle.fr_text.proofs.Shelves.{any_one}
 use Rattle.fr_answer.specs.FrameAnswer.{IsFrameLine, IsNoFrameSaid, frame_files}
 use Rattle.fr_answer.specs.FrameText.{fault_text, frame_line}
@@ -19,8 +21,6 @@ use Rattle.fr_capture.specs.Walk.{frames_in}
 use Rattle.fr_nm.specs.Files.{vectors_file}
 use Rattle.fr_nm.specs.NmAnswer.{nm_files}
 use Rattle.fr_nm.specs.Text.{nm_text}
-use Rattle.fr_report.specs.Defined.{AreOctets, DefinesOneStatus}
-use Rattle.fr_report.proofs.Defining.{one_status, some_status}
 
 any_some : HasSomeAnswer any_file
 any_some bytes = (Ok bytes, (λ e. absurd cc), refl)

@@ -14,10 +14,10 @@ use Rattle.fr_answer.specs.FrameAnswer.{frame_files}
 use Rattle.fr_answer.specs.Request.{bound, bound_join, bound_sharp, bound_sharp_join, capture, check, cold, frame, make, nm, run, settle, settle_sharp, trace, upgrade}
 use Rattle.fr_answer.specs.RunAnswer.{IsKeptRunText}
 use Rattle.fr_answer.specs.SettleAnswer.{settle_files, sharp_settle_files}
-use Rattle.fr_report.specs.Defined.{DefinesOneStatus}
 use Rattle.fr_answer.specs.Statuses.{HasOneStatusEach}
 use Rattle.fr_report.proofs.MadeStatus.{OneReport}
-use Rattle.fr_report.proofs.RowsRead.{natural_read}
+use Rattle.fr_text.specs.Defined.{DefinesOneStatus}
+use Rattle.fr_text.proofs.RowsRead.{natural_read}
 
 -- so it is of each command
 pub record Commands : Type 0 where

@@ -7,7 +7,7 @@ ghost use Rattle.fr_cold.specs.ColdAnswer.{cold_files};
 ghost use Rattle.fr_nm.specs.NmAnswer.{nm_files};
 ghost use Rattle.fr_params.specs.UpgradeAnswer.{upgrade_files};
 ghost use Rattle.fr_report.specs.Files.{run_files};
-ghost use Rattle.fr_report.specs.Defined.{DefinesOneStatus};
+ghost use Rattle.fr_text.specs.Defined.{DefinesOneStatus};
 ghost use Rattle.fr_answer.specs.BoundAnswer.{bound_files, join_files, sharp_files, sharp_join_files};
 ghost use Rattle.fr_answer.specs.FrameAnswer.{frame_files};
 ghost use Rattle.fr_answer.specs.RunAnswer.{IsKeptRunText};

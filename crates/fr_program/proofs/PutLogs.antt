@@ -6,7 +6,7 @@ use Rattle.std.proofs.lemmas.List.Sums.{sum_by-cons}
 use Rattle.fr_base.specs.Device.{Put}
 use Rattle.fr_program.specs.declared.put_log.PutLog.{PutLog}
 use Rattle.fr_program.specs.declared.put_log.PutMark.{PutMark}
-use Rattle.fr_program.specs.PutLog.{CanTell, Fits, FitsBehind, HasRoom, kept_puts, piece_bytes, puts_in}
+use Rattle.fr_program.specs.PutLog.{CanTell, Fits, FitsBehind, LogHasRoom, kept_puts, piece_bytes, puts_in}
 use Rattle.fr_program.specs.PutMarks.{lengths_of, puts_by}
 
 -- as many puts as marks, and as many bytes
@@ -26,7 +26,7 @@ piece_bytes-puts_by (m ∷ marks) bytes even =
     omega (arith, first, others, more)
 
 -- there is room for a put of a piece exactly where it fits behind the puts that are kept
-pub fits-told : (log : PutLog) (room most : ℕ) (piece : List ℕ) → lengths_of log.marks.items ≡ length log.bytes.items → HasRoom room most log
+pub fits-told : (log : PutLog) (room most : ℕ) (piece : List ℕ) → lengths_of log.marks.items ≡ length log.bytes.items → LogHasRoom room most log
     → Fits log piece ↔ FitsBehind (puts_in log) room most piece
 fits-told log room most piece even has =
     let puts : length (puts_in log) ≡ length log.marks.items = length-puts_by log.marks.items log.bytes.items in
@@ -43,10 +43,10 @@ is-told (Some log) = (λ some. some, λ some. some)
 
 -- a put is told exactly where the puts before it are told, and it fits behind them
 pub told-where : (before after : Option PutLog) (log : PutLog) (piece : List ℕ) → before ≡ Some log → lengths_of log.marks.items ≡ length log.bytes.items → IsSome after ↔ Fits log piece
-    → (room most : ℕ) → IfSome before (HasRoom room most) → IsSome (kept_puts after) ↔ CanTell (kept_puts before) room most piece
+    → (room most : ℕ) → IfSome before (LogHasRoom room most) → IsSome (kept_puts after) ↔ CanTell (kept_puts before) room most piece
 told-where before after log piece is even fits room most =
     subst
-    (λ (o : Option PutLog). IfSome o (HasRoom room most) → IsSome (kept_puts after) ↔ CanTell (kept_puts o) room most piece)
+    (λ (o : Option PutLog). IfSome o (LogHasRoom room most) → IsSome (kept_puts after) ↔ CanTell (kept_puts o) room most piece)
     (sym is)
     (λ has. let both = fits-told log room most piece even has in let told = is-told after in (λ some. both.0 (fits.0 (told.1 some)), λ can. told.0 (fits.1 (both.1 can))))
 

@@ -15,7 +15,7 @@ abbrev pub kept_puts : Option PutLog → Option (List Put)
 kept_puts log = option_map puts_in log
 
 -- it has room for so many bytes and puts in all
-pub record HasRoom (room most : ℕ) (log : PutLog) : Type 0 where
+pub record LogHasRoom (room most : ℕ) (log : PutLog) : Type 0 where
   pub bytes : log.room ≡ room
   pub puts : log.most ≡ most
 

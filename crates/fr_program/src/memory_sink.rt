@@ -1,7 +1,7 @@
 ghost use Rattle.std.specs.Prelude.{◌≡◌, ◌≤◌, ◌↔◌, ◌++◌, ◌∷◌, [], false, OnOk, OnErr, IfOk, IfSome, IsTrue, IsOk, vec_len, vec_capacity};
 ghost use Rattle.std.proofs.Props.{props};
 ghost use Rattle.fr_base.specs.Device.{PutsPiece, raised};
-ghost use Rattle.fr_program.specs.PutLog.{HasRoom};
+ghost use Rattle.fr_program.specs.PutLog.{LogHasRoom};
 
 use crate::put_log::PutLog;
 use fr_base::{PutFault, Sink};
@@ -23,7 +23,7 @@ pub struct MemorySink {
     log: Option<PutLog>,
     ghost reserved: { room ≤ vec_capacity bytes },
     ghost within: { vec_len bytes ≤ room },
-    ghost telling: { IfSome log (HasRoom room 100) } by { Prim.hlevel props },
+    ghost telling: { IfSome log (LogHasRoom room 100) } by { Prim.hlevel props },
 }
 
 // One call: a derived drop is opened in each function that drops a value, and proved there.

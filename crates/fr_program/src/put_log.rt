@@ -37,12 +37,12 @@ impl Drop for PutLog {
 }
 
 impl PutLog {
-    ghost use Rattle.fr_program.specs.PutLog.{CanTell, Fits, HasRoom, puts_in, kept_puts};
+    ghost use Rattle.fr_program.specs.PutLog.{CanTell, Fits, LogHasRoom, puts_in, kept_puts};
 
     // No puts, with room for so many bytes and puts. `AllocError` where memory ran out.
     pub(crate) fn new(alloc: Global, room: usize, most: usize) -> Result<PutLog, AllocError>
         ensures none { IfOk result (λ log. puts_in log ≡ []) }
-        ensures room { IfOk result (HasRoom room most) }
+        ensures room { IfOk result (LogHasRoom room most) }
     {
         let bytes = Vec::with_capacity(alloc, room)?;
         let marks = Vec::with_capacity(alloc, most)?;
@@ -66,7 +66,7 @@ impl PutLog {
         ensures added { IfSome result (λ log.
             puts_in log ≡ puts_in self ++ record { piece = piece.now; is_whole = is_whole } ∷ []) }
         ensures kept { IsSome result ↔ Fits self piece.now }
-        ensures room { IfSome result (HasRoom self.room self.most) }
+        ensures room { IfSome result (LogHasRoom self.room self.most) }
     {
         if !self.has_room(piece) {
             return None;
@@ -96,9 +96,9 @@ impl PutLog {
     pub(crate) fn noted(log: Option<PutLog>, piece: &[u8], is_whole: bool) -> Option<PutLog>
         ensures added { AddsPuts (kept_puts log) (kept_puts result)
             (record { piece = piece.now; is_whole = is_whole } ∷ []) }
-        ensures kept { (room most : ℕ) → IfSome log (HasRoom room most)
+        ensures kept { (room most : ℕ) → IfSome log (LogHasRoom room most)
             → IsSome (kept_puts result) ↔ CanTell (kept_puts log) room most piece.now }
-        ensures room { (room most : ℕ) → IfSome log (HasRoom room most) → IfSome result (HasRoom room most) }
+        ensures room { (room most : ℕ) → IfSome log (LogHasRoom room most) → IfSome result (LogHasRoom room most) }
     {
         match log {
             Some(log) => log.with_put(piece, is_whole),

@@ -8,7 +8,3 @@ pub mod RunDecided
 pub mod Written
 pub mod MadeStatus
 pub mod RunStatus
-pub mod Defining
-pub mod RowsRead
-pub mod ScriptSound
-pub mod TraceSound

@@ -38,18 +38,18 @@ use Rattle.fr_script.specs.View.{ScriptView}
 use Rattle.fr_script.specs.Written.{arbitrary_record, say_record}
 use Rattle.fr_script.specs.declared.fault.ScriptFault.{ScriptFault}
 use Rattle.fr_script.specs.declared.fault.ScriptFault.TheVariants as script_fault
+use Rattle.fr_script.proofs.ScriptSound.{sound_script}
+use Rattle.fr_text.specs.Defined.{DefinesOneStatus}
 use Rattle.fr_text.specs.Fields.{looked_up, or_else}
 use Rattle.fr_text.specs.Kind.{HasSomeAnswer, Reads}
 use Rattle.fr_text.specs.Records.{FileRecord, records_of}
 use Rattle.fr_text.specs.Refusal.{NoneRefused}
 use Rattle.fr_text.specs.Texts.{first_byte, is_plain_field, is_plain_record, text_of_records}
 use Rattle.fr_text.proofs.Cuts.{refused-none}
+use Rattle.fr_text.proofs.Defining.{one_status, some_status}
 use Rattle.fr_text.proofs.Plain.{decimal-plain, signed-plain}
 use Rattle.fr_text.proofs.RecordLines.{records-read-back}
-use Rattle.fr_report.specs.Defined.{DefinesOneStatus}
-use Rattle.fr_report.proofs.Defining.{one_status, some_status}
 use Rattle.fr_report.proofs.RunStatus.{IsDefinedText}
-use Rattle.fr_report.proofs.ScriptSound.{sound_script}
 
 -- ---- the records of a seed can be written, and are read back
 

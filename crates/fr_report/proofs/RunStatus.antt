@@ -8,11 +8,11 @@ use Rattle.fr_params.specs.Files.{params_file}
 use Rattle.fr_params.specs.Upgrades.{AcceptedAreSane}
 use Rattle.fr_script.specs.Files.{ScriptFits, script_file}
 use Rattle.fr_script.specs.View.{IsScript, ScriptView}
+use Rattle.fr_script.proofs.ScriptSound.{sound_script}
+use Rattle.fr_text.specs.Defined.{DefinesOneStatus}
 use Rattle.fr_text.specs.Kind.{HasOneAnswer, HasSomeAnswer}
+use Rattle.fr_text.proofs.Defining.{one_status, some_status}
 use Rattle.fr_report.specs.Files.{run_files}
-use Rattle.fr_report.specs.Defined.{DefinesOneStatus}
-use Rattle.fr_report.proofs.Defining.{one_status, some_status}
-use Rattle.fr_report.proofs.ScriptSound.{sound_script}
 
 -- each of the three kinds has one answer to all bytes, and parameters that are read are sane
 pub record RunKinds : Type 0 where

@@ -5,5 +5,3 @@ pub mod MakeAnswer
 pub mod TraceAnswer
 pub mod Files
 pub mod Names
-pub mod Defined
-pub mod Sound

@@ -1,6 +1,6 @@
 ghost use Rattle.std.specs.Prelude.{ℕ};
 ghost use Rattle.fr_generator.specs.Generated.{IsMadeCount};
-ghost use Rattle.fr_report.specs.Defined.{DefinesOneStatus};
+ghost use Rattle.fr_text.specs.Defined.{DefinesOneStatus};
 ghost use Rattle.fr_report.specs.Files.{run_files};
 ghost use Rattle.fr_report.specs.MakeAnswer.{make_files};
 ghost use Rattle.fr_report.specs.TraceAnswer.{IsTraceText};

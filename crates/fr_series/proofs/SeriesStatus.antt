@@ -1,6 +1,6 @@
 -- Whatever words of `flexray-series` ask for, the bytes of the files define one status.
-use Rattle.fr_report.specs.Defined.{DefinesOneStatus}
 use Rattle.fr_report.specs.Files.{run_files}
+use Rattle.fr_text.specs.Defined.{DefinesOneStatus}
 use Rattle.fr_series.specs.Request.{series, sharp_series}
 use Rattle.fr_series.specs.SeriesAnswer.{IsSeriesText}
 use Rattle.fr_series.specs.SharpAnswer.{IsSharpSeriesText}

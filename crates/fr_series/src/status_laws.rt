@@ -1,5 +1,5 @@
 ghost use Rattle.fr_report.specs.Files.{run_files};
-ghost use Rattle.fr_report.specs.Defined.{DefinesOneStatus};
+ghost use Rattle.fr_text.specs.Defined.{DefinesOneStatus};
 ghost use Rattle.fr_series.specs.SeriesAnswer.{IsSeriesText};
 ghost use Rattle.fr_series.specs.SharpAnswer.{IsSharpSeriesText};
 ghost use Rattle.fr_series.specs.Statuses.{HasOneStatusEachSeries};

@@ -3,13 +3,13 @@ use Rattle.std.proofs.Common.{◌≡◌, ℕ, suc, zero, ◌<◌, ◌≤◌, ◌
 use Rattle.std.specs.Prelude.{◌≢◌}
 use Rattle.std.proofs.lemmas.List.Elements.{All-head, All-tail}
 use Rattle.fr_base.specs.declared.shelf.TheConstants.{MAX_FILE}
+use Rattle.fr_text.specs.Defined.{AreOctets, HasOneEnd, HasOneStatus, HasSomeEnd, HasSomeStatus}
 use Rattle.fr_text.specs.Files.{Files, IsEndStatus, IsStatusOf, IsStopStatus, file, text}
 use Rattle.fr_text.specs.Kind.{AreBytes, HasOneAnswer, HasSomeAnswer, IsRefusal, Kind, Reads}
 use Rattle.fr_text.specs.Status.{code_of}
 use Rattle.fr_text.specs.declared.kind.Stop.{Stop}
 use Rattle.fr_text.specs.declared.status.Status.{Status}
 use Rattle.fr_text.specs.declared.status.Status.TheVariants as status
-use Rattle.fr_report.specs.Defined.{AreOctets, HasOneEnd, HasOneStatus, HasSomeEnd, HasSomeStatus}
 
 -- ---- which status a file defines that is not accepted
 

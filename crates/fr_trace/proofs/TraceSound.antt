@@ -17,6 +17,7 @@ use Rattle.fr_text.specs.Fields.{both_of, field_of, is_blank, natural_of}
 use Rattle.fr_text.specs.Records.{FileRecord, records_of}
 use Rattle.fr_text.specs.Refusal.{NoneRefused}
 use Rattle.fr_text.proofs.Lookups.{looked_up-nil}
+use Rattle.fr_text.proofs.RowsRead.{both_read, natural_read, of_either, of_read, within_read}
 use Rattle.fr_trace.specs.Draft.{AreOver, AreSaid, CanEnd, IsAtLast, IsAtTurn, IsBeforeCycles, IsDraftSound, IsNodeNumber, IsOver, IsProperHead, doubles_with, over_with, part_with}
 use Rattle.fr_trace.specs.Files.{IsTraceFile, is_whole_by}
 use Rattle.fr_trace.specs.Fits.{TraceFits, TracedJoinIsProper}
@@ -26,6 +27,7 @@ use Rattle.fr_trace.specs.Order.{before_at, clock_turn, cycle_of, doubles_or_0, 
 use Rattle.fr_trace.specs.Reasons.{row_reason, trace_reason_after, trace_row_reason}
 use Rattle.fr_trace.specs.Rows.{IsProperTraceRow, IsProperTracedCount, are_blank, clock_in, clock_named, clock_with, dev_row, heard_row, join_with, run_row, span_in, state_of, terms_in, trace_file_row, trace_row_of, traced_arbitrary_row, traced_join_row, traced_short_row, value_in}
 use Rattle.fr_trace.specs.Said.{history_said, joins_at, last_row_at, named_at, named_in, no_record, record_said, traced_doubles_at, traced_doubles_in, traced_joins_in}
+use Rattle.fr_trace.specs.Sound.{IsSoundTrace}
 use Rattle.fr_trace.specs.Trace.{TraceView}
 use Rattle.fr_trace.specs.declared.order.Turn.{Turn}
 use Rattle.fr_trace.specs.declared.rows.Row.{Row}
@@ -37,8 +39,6 @@ use Rattle.fr_trace.proofs.Saying.{doubles-more, joins-more, last-more, named-mo
 use Rattle.fr_trace.proofs.Sounding.{stays-sound}
 use Rattle.fr_trace.proofs.Standing.{AreNodes, all-named, over-at, over-blank}
 use Rattle.fr_trace.proofs.Taking.{sane-nodes}
-use Rattle.fr_report.specs.Sound.{IsSoundTrace}
-use Rattle.fr_report.proofs.RowsRead.{both_read, natural_read, of_either, of_read, within_read}
 
 -- ---- a row that is read is proper
 

@@ -13,6 +13,7 @@ use Rattle.fr_base.specs.declared.reason.Reason.TheVariants as reason
 use Rattle.fr_cluster.specs.Values.{Values}
 use Rattle.fr_text.specs.Fields.{both_of, field_of, hex_digits_in, is_blank, is_channel, looked_up, natural_of, or_else}
 use Rattle.fr_text.specs.Records.{FileRecord}
+use Rattle.fr_text.proofs.RowsRead.{both_read, digits_read, natural_read, of_either, of_read, within_read}
 use Rattle.fr_script.specs.Files.{IsScriptFile, IsSoundScript}
 use Rattle.fr_script.specs.Reasons.{deed_by, deed_said, is_same_passage}
 use Rattle.fr_script.specs.Rows.{IsProperDeed, IsProperScriptRow, arbitrary_row, deed_row, farthest, flip_row, is_channel_last, is_node_alone, is_reference_last, join_in, join_row, joining, lose_row, passage_in, said_bytes, said_in, say_deed, say_row, script_file_row, script_row_of, shift_in}
@@ -25,7 +26,6 @@ use Rattle.fr_script.specs.declared.rows.JoinRow.{JoinRow}
 use Rattle.fr_script.specs.declared.rows.Row.{Row}
 use Rattle.fr_script.specs.declared.rows.Row.TheVariants as row
 use Rattle.fr_script.proofs.Said.{decoded-said}
-use Rattle.fr_report.proofs.RowsRead.{both_read, digits_read, natural_read, of_either, of_read, within_read}
 
 -- ---- a row that is read is proper
 

@@ -1,5 +1,0 @@
-use Rattle.fr_report.proofs.TraceSound.{sound_trace}
-use Rattle.fr_report.proofs.sound_laws.trace_of_a_file_is_sound.Goals as goal
-
-pub returns : goal.returns
-returns c = sound_trace
