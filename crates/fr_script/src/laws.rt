@@ -6,7 +6,7 @@ ghost use Rattle.fr_cluster.specs.Sane.{IsSane};
 ghost use Rattle.fr_script.specs.Reasons.{script_reason_after};
 ghost use Rattle.fr_script.specs.Holding.{script_holds};
 ghost use Rattle.fr_script.specs.View.{ScriptView};
-ghost use Rattle.fr_script.specs.Files.{ScriptFits, IsScriptFile, script_file};
+ghost use Rattle.fr_script.specs.Files.{ScriptFits, IsScriptFile, IsSoundScript, script_file};
 ghost use Rattle.fr_script.specs.Promises.{AreProperEvents, FlipsBitsOfFrames, HaveKeySlots, NodesJoinProperly};
 
 /// The answer to a file is determined by its bytes and the parameters: two that are not want of memory are
@@ -30,6 +30,12 @@ pub fn refused_for_the_least_reason()
 /// The script of an accepted file fits the parameters with which the file is accepted.
 pub fn script_of_a_file_fits()
     ensures { (p : Values) (s : ScriptView) (bytes : List ℕ) → IsScriptFile p s bytes → ScriptFits p s }
+{}
+
+/// What holds of each script that is read follows from its file alone: it fits the parameters with which the file is
+/// accepted, and the numbers of its deeds lie in their ranges.
+pub fn script_of_a_file_is_sound()
+    ensures { (p : Values) (s : ScriptView) (bytes : List ℕ) → IsScriptFile p s bytes → IsSoundScript p s }
 {}
 
 /// A node that a script names arbitrary has a key slot in the parameters that the script fits.

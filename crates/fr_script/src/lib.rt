@@ -20,7 +20,7 @@ pub use kind::ScriptFile;
 pub use laws::{
     arbitrary_node_has_key_slot, events_are_proper, flipped_bit_is_of_a_frame,
     joining_nodes_have_references, one_answer, refused_for_the_least_reason, script_of_a_file_fits,
-    some_answer,
+    script_of_a_file_is_sound, some_answer,
 };
 pub use reading::read;
 pub use script::{Event, Script};

@@ -11,3 +11,5 @@ pub mod Shelves
 pub mod Commands
 pub mod Plain
 pub mod RecordLines
+pub mod RowsRead
+pub mod Defining

@@ -16,6 +16,7 @@ pub mod Status
 pub mod Told
 pub mod Files
 pub mod Loading
+pub mod Defined
 -- what the laws cite
 pub mod Texts
 pub mod ReadBack

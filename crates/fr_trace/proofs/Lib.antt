@@ -20,3 +20,4 @@ pub mod Spelling
 pub mod Telling
 pub mod Walking
 pub mod Baring
+pub mod TraceSound

@@ -12,6 +12,7 @@ pub mod Reasons
 pub mod Holding
 pub mod Text
 pub mod Files
+pub mod Sound
 pub mod Draft
 pub mod Told
 -- what the laws cite

@@ -18,7 +18,7 @@ mod writing;
 
 pub use fault::TraceFault;
 pub use kind::TraceFile;
-pub use laws::{one_answer, refused_for_the_least_reason, some_answer};
+pub use laws::{one_answer, refused_for_the_least_reason, some_answer, trace_of_a_file_is_sound};
 pub use numbered::records_in_order;
 pub use read_back::{texts_are_read_back, texts_tell_no_counts};
 pub use reading::read;
