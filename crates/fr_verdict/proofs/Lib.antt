@@ -25,3 +25,6 @@ pub mod Tracing
 pub mod Proper
 pub mod Ordering
 pub mod RunFits
+pub mod BareRows
+pub mod CoveredRuns
+pub mod VerdictTells

@@ -1,3 +1,6 @@
+ghost use Rattle.fr_verdict.specs.CoveredRuns.{CoveredRunsKeepArrivals, CoveredRunsPass};
+ghost use Rattle.fr_verdict.specs.CoveredRuns.{VerdictsTellGreatest, VerdictsTellSync};
+ghost use Rattle.fr_verdict.specs.CoveredRuns.{VerdictsTellSyncAlone};
 ghost use Rattle.fr_verdict.specs.RunFits.{RunsAreReadBack, RunsFit};
 ghost use Rattle.fr_verdict.specs.Runs.{ProperRunsAreLawful, ProperRunsBreakNoOther, RunsBreakNoOther};
 
@@ -17,4 +20,21 @@ pub fn a_run_breaks_no_law()
 pub fn a_run_is_read_back()
     ensures fit { RunsFit }
     ensures read { RunsAreReadBack }
+{}
+
+/// A law: the trace of all cycles of a covered run, whoever joins, breaks no law and has no gap: its delays and microticks
+/// keep within their bounds, each node that joins has its first row in a double cycle in sync where an earlier one is, and
+/// from the first double cycle on that is in sync by the trace each node has a deviation of each other sender.
+pub fn a_covered_run_passes()
+    ensures arrivals { CoveredRunsKeepArrivals }
+    ensures passes { CoveredRunsPass }
+{}
+
+/// A law: a verdict on the trace of a run tells the greatest skew of the run, with its first place. Of a covered run it
+/// tells the first double cycle, from the first one in sync on in which none follows, in which none may follow by what the
+/// trace tells; where no node joins that is the first one in sync itself, covered or not.
+pub fn a_verdict_tells_of_the_run()
+    ensures greatest { VerdictsTellGreatest }
+    ensures synced { VerdictsTellSync }
+    ensures alone { VerdictsTellSyncAlone }
 {}
