@@ -28,3 +28,4 @@ pub mod RunFits
 pub mod BareRows
 pub mod CoveredRuns
 pub mod VerdictTells
+pub mod FileRanges

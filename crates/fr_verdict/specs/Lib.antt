@@ -17,3 +17,4 @@ pub mod Doubles
 pub mod Runs
 pub mod RunFits
 pub mod CoveredRuns
+pub mod FileRuns

@@ -19,5 +19,6 @@ pub use laws::{
 pub use ordered::devs_of;
 pub use run_laws::{
     a_covered_run_passes, a_run_breaks_no_law, a_run_is_read_back, a_verdict_tells_of_the_run,
+    files_are_read_back,
 };
 pub use unlawful::{Unlawful, Verdict};

@@ -1,6 +1,7 @@
 ghost use Rattle.fr_verdict.specs.CoveredRuns.{CoveredRunsKeepArrivals, CoveredRunsPass};
 ghost use Rattle.fr_verdict.specs.CoveredRuns.{VerdictsTellGreatest, VerdictsTellSync};
 ghost use Rattle.fr_verdict.specs.CoveredRuns.{VerdictsTellSyncAlone};
+ghost use Rattle.fr_verdict.specs.FileRuns.{FilesKeepRanges, RunsOfFilesAreReadBack};
 ghost use Rattle.fr_verdict.specs.RunFits.{RunsAreReadBack, RunsFit};
 ghost use Rattle.fr_verdict.specs.Runs.{ProperRunsAreLawful, ProperRunsBreakNoOther, RunsBreakNoOther};
 
@@ -20,6 +21,13 @@ pub fn a_run_breaks_no_law()
 pub fn a_run_is_read_back()
     ensures fit { RunsFit }
     ensures read { RunsAreReadBack }
+{}
+
+/// A law: the run of a drift and of a script that fit the parameters of a cluster keeps what is asked of it there, where no
+/// correct node joins; so the text of its trace is accepted as a trace file, and stands for that trace and for no other.
+pub fn files_are_read_back()
+    ensures ranges { FilesKeepRanges }
+    ensures read { RunsOfFilesAreReadBack }
 {}
 
 /// A law: the trace of all cycles of a covered run, whoever joins, breaks no law and has no gap: its delays and microticks
