@@ -9,3 +9,4 @@ pub mod RecordingStatus
 pub mod CheckStatus
 pub mod FilesStatus
 pub mod RequestStatus
+pub mod RoundTrips
