@@ -1,4 +1,4 @@
-ghost use Rattle.fr_answer.specs.Rounds.{WhatIsTracedIsChecked};
+ghost use Rattle.fr_answer.specs.Rounds.{WhatIsTracedAloneIsChecked, WhatIsTracedIsChecked};
 
 use fr_history::one_lawful_run;
 use fr_promise::covered_files_are_stated;
@@ -7,11 +7,13 @@ use fr_verdict::{
     a_verdict_tells_of_the_run, files_are_read_back, one_answer,
 };
 
-/// A law: of files without a gap that no correct node joins, what `trace` writes is accepted by `check` as the file of one
-/// trace, which breaks no law and has no gap; and the verdict tells what the report of `run` tells of the same files: the
-/// precision, the first double cycle in sync, and the greatest skew with its first place.
+/// A law: of files without a gap, whoever joins, what `trace` writes is accepted by `check` as the file of one trace, which
+/// breaks no law and has no gap; and the verdict tells the precision and the greatest skew with its first place as the
+/// report of `run` of the same files does, and the first double cycle, from the report's first one in sync on, in which no
+/// node may follow by the trace. Where no correct node joins that is the report's own.
 pub fn what_is_traced_is_checked()
-    ensures { WhatIsTracedIsChecked }
+    ensures joined { WhatIsTracedIsChecked }
+    ensures alone { WhatIsTracedAloneIsChecked }
 {
     one_lawful_run();
     covered_files_are_stated();

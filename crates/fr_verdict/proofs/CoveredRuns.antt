@@ -1,6 +1,6 @@
 -- The trace of a covered run passes, whoever joins.
 use Rattle.std.proofs.Common.{◌≡◌, ◌≢◌, ◌⊎◌, inl, inr, ℕ, suc, ◌+◌, ◌*◌, ◌<◌, ◌≤◌, ◌==◌, ℤ, pos, ◌+ℤ◌, ◌-ℤ◌, ◌≤ℤ◌, Bool, true, false, not, ◌&&◌, ◌||◌, List, [], ◌∷◌, ◌++◌, length, Option, Some, None, refl, ap, sym, ◌∙◌, subst, arith, add-one, length-append}
-use Rattle.std.specs.Prelude.{All, AllPairs, Contains, IsSome, count_by, filter, find, int_lt, is_none, is_some, nat_le, nat_lt, option_and_then, if◌then◌else◌}
+use Rattle.std.specs.Prelude.{All, Contains, IsSome, count_by, filter, int_lt, is_none, is_some, nat_le, nat_lt, option_and_then, if◌then◌else◌}
 use Rattle.std.specs.List.{flat_map, list_any}
 use Rattle.std.specs.Option.{option_map}
 use Rattle.std.proofs.lemmas.Bool.{and_parts, eqb-true, or_parts}
@@ -15,7 +15,7 @@ use Rattle.fr_base.specs.declared.channel.Channel.TheVariants as channel
 use Rattle.fr_base.specs.declared.node_row.NodeRow.{NodeRow}
 use Rattle.fr_bound.specs.Bounds.{longest_micro, shortest_micro}
 use Rattle.fr_cluster.proofs.Elements.{Contains-here, Contains-none, Contains-there, filtered, found, kept_filtered}
-use Rattle.fr_cluster.proofs.KeyNodes.{AllPairs-first, AllPairs-rest, Contains-cons_cases}
+use Rattle.fr_cluster.proofs.KeyNodes.{Contains-cons_cases}
 use Rattle.fr_cluster.specs.Sane.{IsSane}
 use Rattle.fr_cluster.specs.Setting.{Setting, correct_nodes, is_correct}
 use Rattle.fr_cluster.specs.Values.{amount}
@@ -51,10 +51,10 @@ use Rattle.fr_runs.specs.Whole.{KeepsTogether}
 use Rattle.fr_trace.specs.Bare.{bare_record, bare_row}
 use Rattle.fr_trace.specs.Items.{Item, items_by, items_in}
 use Rattle.fr_trace.specs.Items.Item.{Clock, Heard}
-use Rattle.fr_trace.specs.Joins.{join_among}
 use Rattle.fr_trace.specs.Text.{joined_by}
-use Rattle.fr_trace.specs.Trace.{TraceView, is_named, row_at, traced_join_in}
+use Rattle.fr_trace.specs.Trace.{TraceView, is_named, row_at}
 use Rattle.fr_trace.specs.declared.trace.TracedJoin.{TracedJoin}
+use Rattle.fr_verdict.proofs.JoinsTold.{join-is}
 use Rattle.fr_verdict.proofs.BareRows.{bare-at, sync-bare}
 use Rattle.fr_verdict.proofs.Proper.{node-of-row, proper-runs-break-no-other}
 use Rattle.fr_verdict.proofs.Syncing.{is_in_sync_at, to_is_sync_at}
@@ -91,56 +91,6 @@ none-covers x double (n ∷ nodes) node join none there at =
         in
         (or_parts (nat_lt join.double double && nat_lt double (join.double + 3)) false e).0
     by (inr there) mine later = later there at
-
--- how a node joins is told of it
-not-same : (a b : ℕ) → a ≢ b → (a == b) ≡ false
-not-same a b ne = grind (arith, nat_tests, ne)
-
-none-joined : (x : Setting) (nodes : List NodeSpec) (id : ℕ) → ((node : NodeSpec) → Contains nodes node → node.id ≢ id) → join_among (flat_map (λ n. joined_by n.id (x.join n.id)) nodes) id ≡ None
-none-joined x [] id other = refl
-none-joined x (n ∷ nodes) id other = by (x.join n.id) (none-joined x nodes id (λ node there. other node (Contains-there n nodes node there)))
-  where
-    by : (o : Option Join) → join_among (flat_map (λ m. joined_by m.id (x.join m.id)) nodes) id ≡ None → join_among (joined_by n.id o ++ flat_map (λ m. joined_by m.id (x.join m.id)) nodes) id ≡ None
-    by None rest = rest
-    by (Some join) rest =
-        let rows : List TracedJoin = flat_map (λ m. joined_by m.id (x.join m.id)) nodes in
-        let own : TracedJoin = record { node = n.id; join = join } in
-        ap (λ (b : Bool). option_map (λ (j : TracedJoin). j.join) (if b then Some own else find (λ (j : TracedJoin). j.node == id) rows)) (not-same n.id id (other n (Contains-here n nodes))) ∙ rest
-
-joined-there : (x : Setting) (nodes : List NodeSpec) (node : NodeSpec) → AllPairs (λ (a b : NodeSpec). a.id < b.id) nodes → Contains nodes node
-    → join_among (flat_map (λ n. joined_by n.id (x.join n.id)) nodes) node.id ≡ x.join node.id
-joined-there x [] node ascend there = absurd (Contains-none node there)
-joined-there x (n ∷ nodes) node ascend there =
-    by (Contains-cons_cases n nodes node there) (x.join n.id) refl
-    (joined-there x nodes node (AllPairs-rest (λ (a b : NodeSpec). a.id < b.id) n nodes ascend))
-  where
-    Rest : List TracedJoin
-    Rest = flat_map (λ m. joined_by m.id (x.join m.id)) nodes
-
-    yes : (n.id == node.id) ≡ true → (o : Option Join) → x.join n.id ≡ o → join_among Rest node.id ≡ None → join_among (joined_by n.id o ++ Rest) node.id ≡ o
-    yes same None at none = none
-    yes same (Some join) at none =
-        let own : TracedJoin = record { node = n.id; join = join } in
-        ap (λ (b : Bool). option_map (λ (j : TracedJoin). j.join) (if b then Some own else find (λ (j : TracedJoin). j.node == node.id) Rest)) same
-
-    no : (n.id == node.id) ≡ false → (o : Option Join) → join_among (joined_by n.id o ++ Rest) node.id ≡ join_among Rest node.id
-    no other None = refl
-    no other (Some join) =
-        let own : TracedJoin = record { node = n.id; join = join } in
-        ap (λ (b : Bool). option_map (λ (j : TracedJoin). j.join) (if b then Some own else find (λ (j : TracedJoin). j.node == node.id) Rest)) other
-
-    by : (n ≡ node) ⊎ Contains nodes node → (o : Option Join) → x.join n.id ≡ o → (Contains nodes node → join_among Rest node.id ≡ x.join node.id) → join_among (joined_by n.id (x.join n.id) ++ Rest) node.id ≡ x.join node.id
-    by (inl same) o at rest =
-        let ids : n.id ≡ node.id = ap (λ (m : NodeSpec). m.id) same in
-        let here : (n.id == node.id) ≡ true = grind (arith, nat_tests, ids) in
-        let none = none-joined x nodes node.id (λ m there is. let lt = AllPairs-first (λ (a b : NodeSpec). a.id < b.id) n nodes m ascend there in absurd (omega (arith, lt, is, ids))) in
-        yes here (x.join n.id) refl none ∙ ap x.join ids
-    by (inr there) o at rest =
-        let lt = AllPairs-first (λ (a b : NodeSpec). a.id < b.id) n nodes node ascend there in
-        no (not-same n.id node.id (λ is. absurd (omega (arith, lt, is)))) (x.join n.id) ∙ rest there
-
-pub join-is : (x : Setting) (h : Cycles) (node : NodeSpec) → IsSane x.params → Contains x.params.nodes node → traced_join_in (trace_of_run x h) node.id ≡ x.join node.id
-join-is x h node sane there = joined-there x x.params.nodes node sane.lists.nodes_ascend there
 
 -- ---- where none may follow, none follows
 

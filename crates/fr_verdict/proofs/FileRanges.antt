@@ -1,11 +1,14 @@
 -- The files of a run keep the ranges that the trace of the run is asked for.
-use Rattle.std.proofs.Common.{◌≡◌, ℕ, ◌≤◌, ◌==◌, ℤ, pos, negsuc, ◌≤ℤ◌, Bool, true, false, List, [], ◌∷◌, ◌++◌, length, Option, Some, None, Result, Ok, Err, refl, ap, sym, ◌∙◌, subst, arith}
+use Rattle.std.proofs.Common.{◌≡◌, ℕ, ◌≤◌, ◌==◌, ℤ, pos, negsuc, ◌*ℤ◌, ◌≤ℤ◌, Bool, true, false, List, [], ◌∷◌, ◌++◌, length, Option, Some, None, Result, Ok, Err, refl, ap, sym, ◌∙◌, subst, arith}
 use Rattle.std.specs.Prelude.{IfSome, IsSome, int_lt, is_some, nat_lt, not, unwrap_or, ◌||◌, ◌&&◌, codes, if◌then◌else◌}
 use Rattle.std.specs.Option.{option_map_or}
 use Rattle.std.specs.Str.{bytes_eq}
 use Rattle.std.proofs.lemmas.Bool.{and_parts}
 use Rattle.std.proofs.lemmas.Bool.Decides.{nat_tests}
 use Rattle.std.proofs.lemmas.Int.{ints}
+use Rattle.fr_midpoint.proofs.Products.{mulz-lez}
+use Rattle.fr_base.specs.Channels.{channel_of}
+use Rattle.fr_cluster.specs.declared.names.ParamName.TheVariants as name
 use Rattle.fr_base.specs.Event.{Event}
 use Rattle.fr_base.specs.Event as event
 use Rattle.fr_base.specs.Number.{number_of, within}
@@ -18,7 +21,7 @@ use Rattle.fr_base.specs.declared.numbers.NumberFault.TheVariants as fault
 use Rattle.fr_base.specs.declared.reason.Reason.{Reason}
 use Rattle.fr_base.specs.declared.reason.Reason.TheVariants as reason
 use Rattle.fr_cluster.proofs.Elements.{found, kept_filtered}
-use Rattle.fr_cluster.specs.Questions.{is_common, key_in, node_of}
+use Rattle.fr_cluster.specs.Questions.{compensation_of, is_common, key_in, node_of}
 use Rattle.fr_cluster.specs.Sane.{IsSane}
 use Rattle.fr_cluster.specs.Setting.{is_correct}
 use Rattle.fr_cluster.specs.Values.{Values}
@@ -29,14 +32,13 @@ use Rattle.fr_drift.proofs.Limits.{start-within, zero-within}
 use Rattle.fr_drift.proofs.Lines.{held-proper}
 use Rattle.fr_drift.specs.Files.{DriftFits, IsRateWithin}
 use Rattle.fr_drift.specs.Held.{held}
-use Rattle.fr_drift.specs.Questions.{doubles_of, length_of, rate_of, start_of}
-use Rattle.fr_drift.specs.Reasons.{doubles_in, length_in, start_in}
-use Rattle.fr_drift.specs.Rows.{IsProperCount, delay_row, doubles_row, drift_file_row, drift_row_of, length_row, length_with, rate_in, short_row, start_row, start_with}
-use Rattle.fr_drift.specs.View.{DriftView, length_rows, start_rows}
+use Rattle.fr_drift.specs.Questions.{delay_of, doubles_of, length_of, rate_of, start_of}
+use Rattle.fr_drift.specs.Reasons.{delay_in, doubles_in, is_delay_of, length_in, start_in}
+use Rattle.fr_drift.specs.Rows.{IsProperCount, delay_on, delay_row, doubles_row, drift_file_row, drift_row_of, length_row, length_with, rate_in, short_row, start_row, start_with}
+use Rattle.fr_drift.specs.View.{DriftView, compensation_on, delay_rows, length_rows, start_rows}
 use Rattle.fr_drift.specs.declared.rows.Row.{Row}
 use Rattle.fr_drift.specs.declared.rows.Row.TheVariants as row
 use Rattle.fr_drift.specs.declared.rows.Start.{Start}
-use Rattle.fr_history.specs.Cycles.{some_joins}
 use Rattle.fr_runs.proofs.Nodes.{node_there}
 use Rattle.fr_runs.proofs.Reach.{some_joins_by}
 use Rattle.fr_script.proofs.Joining.{fits-join}
@@ -54,7 +56,7 @@ use Rattle.fr_script.specs.declared.rows.Row.TheVariants as script_row
 use Rattle.fr_text.specs.Fields.{both_of, field_of, is_blank, is_channel, looked_up, natural_of, natural_within, or_else, or_reason}
 use Rattle.fr_text.specs.Records.{FileRecord}
 use Rattle.fr_verdict.proofs.RunFits.{runs-are-read-back}
-use Rattle.fr_verdict.specs.FileRuns.{FilesKeepRanges, RunsOfFilesAreReadBack}
+use Rattle.fr_verdict.specs.FileRuns.{FilesKeepRanges, FilesThatNoneJoins, RunsOfFilesAreReadBack}
 
 -- ---- what a row of a drift file says lies in its range
 
@@ -62,7 +64,7 @@ abbrev Says : Result Row Reason → Type 0
 Says (Ok (row.Doubles n)) = IsProperCount n
 Says (Ok (row.Start t)) = IsBetween (pos 0) (pos 1_000_000_000_000) t.start.ticks
 Says (Ok (row.Length l)) = IsLength l.ticks
-Says (Ok (row.Delay d)) = Unit {0}
+Says (Ok (row.Delay d)) = d.ticks ≤ℤ pos 1_000_000_000
 Says (Err why) = Unit {0}
 
 says-if : (b : Bool) (x y : Result Row Reason) → Says x → Says y → Says (if b then x else y)
@@ -141,6 +143,20 @@ says-length (Err fault.OutOfRange) from z f = out (both_of from z)
     out (Ok q) = tt
     out (Err why) = tt
 
+says-delay : (ch : Option Channel) (nodes : Result (ℕ × ℕ) NumberFault) (from : Result ℕ NumberFault) (ticks : Result ℤ NumberFault) → LiesIn (pos 0) (pos 1_000_000_000) ticks
+    → Says (or_reason (delay_on ch) (both_of nodes (both_of from ticks)))
+says-delay ch (Ok n) (Ok from) (Ok z) f = f.high
+says-delay ch (Ok n) (Ok from) (Err why) f = tt
+says-delay ch (Ok n) (Err fault.NotDigits) z f = tt
+says-delay ch (Ok n) (Err fault.OutOfRange) (Ok z) f = tt
+says-delay ch (Ok n) (Err fault.OutOfRange) (Err why) f = tt
+says-delay ch (Err fault.NotDigits) from z f = tt
+says-delay ch (Err fault.OutOfRange) from z f = out (both_of from z)
+  where
+    out : (x : Result (ℕ × ℤ) NumberFault) → Says (or_reason (delay_on ch) (both_of (Err fault.OutOfRange) x))
+    out (Ok q) = tt
+    out (Err why) = tt
+
 says-row : (r : FileRecord) → Says (drift_row_of r)
 unfolding drift_row_of
 says-row r =
@@ -161,9 +177,8 @@ says-row r =
     (says-short fourth fifth (length_row first second third)
     (says-length (natural_of 1 64 first) (natural_of 0 199_999 second) (within (pos 500_000) (pos 1_500_000) (number_of third)) (lies-within (pos 500_000) (pos 1_500_000) (number_of third))))
     (says-if (bytes_eq kind (codes "delay")) (delay_row first second third fourth fifth) (Err reason.UnknownName)
-    (says-read _
-    (both_of (both_of (natural_of 1 64 first) (natural_of 1 64 second)) (both_of (natural_of 0 199_999 fourth) (within (pos 0) (pos 1_000_000_000) (number_of fifth))))
-    (λ numbers. tt))
+    (says-delay (channel_of third) (both_of (natural_of 1 64 first) (natural_of 1 64 second)) (natural_of 0 199_999 fourth) (within (pos 0) (pos 1_000_000_000) (number_of fifth))
+    (lies-within (pos 0) (pos 1_000_000_000) (number_of fifth)))
     tt))))
     tt
 
@@ -204,6 +219,17 @@ length-by node from (Ok (row.Length l)) v f e = subst IsLength (taken ((l.node =
 length-by node from (Ok (row.Delay d)) v f e = absurd (cc e)
 length-by node from (Err why) v f e = absurd (cc e)
 
+delay-by : (sender receiver : ℕ) (ch : Channel) (from : ℕ) (x : Result Row Reason) (v : ℤ) → Says x → delay_in sender receiver ch from x ≡ Some v → v ≤ℤ pos 1_000_000_000
+delay-by sender receiver ch from (Ok (row.Doubles m)) v f e = absurd (cc e)
+delay-by sender receiver ch from (Ok (row.Start t)) v f e = absurd (cc e)
+delay-by sender receiver ch from (Ok (row.Length l)) v f e = absurd (cc e)
+delay-by sender receiver ch from (Ok (row.Delay d)) v f e =
+    subst (λ (z : ℤ). z ≤ℤ pos 1_000_000_000) (taken (is_channel ch d.channel && is_delay_of sender receiver from d) d.ticks v e) f
+delay-by sender receiver ch from (Err why) v f e = absurd (cc e)
+
+abbrev IsShort : ℤ → Type 0
+IsShort ticks = ticks ≤ℤ pos 1_000_000_000
+
 module _ (p : Values) (d : DriftView) (fits : DriftFits p d) where
   doubles-proper : IsProperCount (doubles_of d)
   unfolding doubles_of
@@ -240,6 +266,38 @@ module _ (p : Values) (d : DriftView) (fits : DriftFits p d) where
           by : (o : Option ℤ) → length_rows d node from ≡ o → IfSome o IsLength
           by None is = tt
           by (Some v) is = looked (λ r. length_in node from (drift_row_of r)) IsLength (λ r w told. length-by node from (drift_row_of r) w (says-row r) told) fits.records v (sym (fits.stands.lengths node from) ∙ is)
+
+  -- the compensation of a channel, as ticks, where no row says how long a frame is on its way
+  default-proper : IsSane p → (ch : Channel) → (compensation_on d ch *ℤ pos 1_000_000) ≤ℤ pos 1_000_000_000
+  default-proper sane ch = subst (λ (u : ℤ). (u *ℤ pos 1_000_000) ≤ℤ pos 1_000_000_000) (sym (fits.stands.compensation ch)) (by ch)
+    where
+      few : (u : ℤ) → u ≤ℤ pos 200 → (u *ℤ pos 1_000_000) ≤ℤ pos 1_000_000_000
+      few u le =
+          let most = mulz-lez u (pos 200) (pos 1_000_000) le (omega (arith, ints)) in
+          step (u *ℤ pos 1_000_000) most
+        where
+          step : (z : ℤ) → z ≤ℤ pos 200_000_000 → z ≤ℤ pos 1_000_000_000
+          step z h = omega (arith, ints, h)
+
+      by : (ch : Channel) → (compensation_of p ch *ℤ pos 1_000_000) ≤ℤ pos 1_000_000_000
+      by channel.A = few p.compensation_a (sane.ranges name.pDelayCompensationA).1
+      by channel.B = few p.compensation_b (sane.ranges name.pDelayCompensationB).1
+
+  delay-proper : IsSane p → (sender receiver : ℕ) (ch : Channel) (cycle : ℕ) → delay_of d sender receiver ch cycle ≤ℤ pos 1_000_000_000
+  unfolding delay_of
+  delay-proper sane sender receiver ch cycle = out (held (delay_rows d sender receiver ch) cycle) (held-proper IsShort (delay_rows d sender receiver ch) cycle rows)
+    where
+      out : (o : Option ℤ) → IfSome o IsShort → unwrap_or o (compensation_on d ch *ℤ pos 1_000_000) ≤ℤ pos 1_000_000_000
+      out None f = default-proper sane ch
+      out (Some v) f = f
+
+      rows : (from : ℕ) → IfSome (delay_rows d sender receiver ch from) IsShort
+      rows from = by (delay_rows d sender receiver ch from) refl
+        where
+          by : (o : Option ℤ) → delay_rows d sender receiver ch from ≡ o → IfSome o IsShort
+          by None is = tt
+          by (Some v) is =
+              looked (λ r. delay_in sender receiver ch from (drift_row_of r)) IsShort (λ r w told. delay-by sender receiver ch from (drift_row_of r) w (says-row r) told) fits.records v (sym (fits.stands.delays sender receiver ch from) ∙ is)
 
 -- ---- what a script lets arbitrary nodes say
 
@@ -330,7 +388,7 @@ said-in-common p s cycle sender receiver ch shift bytes f h =
 
 -- ---- where no correct node joins, none does
 
-none-joins : (p : Values) (d : DriftView) (s : ScriptView) (node : ℕ) → ScriptFits p s → some_joins (setting_of p d s) ≡ false → join_of s node ≡ None
+pub none-joins : FilesThatNoneJoins
 none-joins p d s node fits alone = by (join_of s node) refl
   where
     by_node : (join : Join) → join_of s node ≡ Some join → (o : Option NodeSpec) → node_of p node ≡ o → IsSome o → is_arbitrary s node ≡ false → join_of s node ≡ None
@@ -350,7 +408,7 @@ none-joins p d s node fits alone = by (join_of s node) refl
         by_node join at (node_of p node) refl proper.known proper.correct
 
 pub files-keep-ranges : FilesKeepRanges
-files-keep-ranges p d s sane drift script alone =
+files-keep-ranges p d s sane drift script =
     let count = doubles-proper p d drift in
     record {
       sane = sane;
@@ -362,9 +420,23 @@ files-keep-ranges p d s sane drift script alone =
       keyed = λ node there arbitrary.
           sym (ap (λ (o : Option NodeSpec). is_some (key_in o)) (node_there p node sane there)) ∙ fits-key p s node.id script arbitrary;
       heard = λ cycle sender receiver ch shift bytes arbitrary says. said-in-common p s cycle sender receiver ch shift bytes script says;
-      alone = λ node. none-joins p d s node script alone;
+      joins = λ node join at.
+          let proper = fits-join p s script node join at in
+          record {
+            known = proper.known;
+            correct = proper.correct;
+            known_reference = proper.known_reference;
+            correct_reference = proper.correct_reference;
+            key = proper.key;
+            other = proper.other;
+            stays = proper.stays;
+            channel = proper.channel;
+            common = proper.common;
+            double = proper.double;
+            delays = λ sender cycle ch. delay-proper p d drift sane sender node ch cycle;
+          };
     }
 
 pub runs-of-files-are-read-back : RunsOfFilesAreReadBack
-runs-of-files-are-read-back p d s h sane drift script alone lawful whole =
-    runs-are-read-back (setting_of p d s) h (files-keep-ranges p d s sane drift script alone) lawful whole
+runs-of-files-are-read-back p d s h sane drift script lawful whole =
+    runs-are-read-back (setting_of p d s) h (files-keep-ranges p d s sane drift script) lawful whole

@@ -1,7 +1,7 @@
 ghost use Rattle.fr_verdict.specs.CoveredRuns.{CoveredRunsKeepArrivals, CoveredRunsPass};
 ghost use Rattle.fr_verdict.specs.CoveredRuns.{VerdictsTellGreatest, VerdictsTellSync};
 ghost use Rattle.fr_verdict.specs.CoveredRuns.{VerdictsTellSyncAlone};
-ghost use Rattle.fr_verdict.specs.FileRuns.{FilesKeepRanges, RunsOfFilesAreReadBack};
+ghost use Rattle.fr_verdict.specs.FileRuns.{FilesKeepRanges, FilesThatNoneJoins, RunsOfFilesAreReadBack};
 ghost use Rattle.fr_verdict.specs.RunFits.{RunsAreReadBack, RunsFit};
 ghost use Rattle.fr_verdict.specs.Runs.{ProperRunsAreLawful, ProperRunsBreakNoOther, RunsBreakNoOther};
 
@@ -15,18 +15,19 @@ pub fn a_run_breaks_no_law()
     ensures lawful { ProperRunsAreLawful }
 {}
 
-/// A law: the trace of a run that no node joins, whose clocks, arbitrary nodes and said frames keep what files ask of
-/// them, is a trace that fits its cluster; and the text that is written of it is accepted as a trace file, and stands for
-/// it and for no other.
+/// A law: the trace of a run, whoever joins, whose clocks, arbitrary nodes, said frames and joining nodes keep what files
+/// ask of them, is a trace that fits its cluster; and the text that is written of it is accepted as a trace file, and
+/// stands for it and for no other.
 pub fn a_run_is_read_back()
     ensures fit { RunsFit }
     ensures read { RunsAreReadBack }
 {}
 
-/// A law: the run of a drift and of a script that fit the parameters of a cluster keeps what is asked of it there, where no
-/// correct node joins; so the text of its trace is accepted as a trace file, and stands for that trace and for no other.
+/// A law: the run of a drift and of a script that fit the parameters of a cluster keeps what is asked of it there, whoever
+/// joins; so the text of its trace is accepted as a trace file, and stands for that trace and for no other.
 pub fn files_are_read_back()
     ensures ranges { FilesKeepRanges }
+    ensures alone { FilesThatNoneJoins }
     ensures read { RunsOfFilesAreReadBack }
 {}
 
