@@ -10,3 +10,4 @@ pub mod CheckStatus
 pub mod FilesStatus
 pub mod RequestStatus
 pub mod RoundTrips
+pub mod FilesChecked

@@ -1,14 +1,12 @@
 -- What is traced is checked: the verdict on the trace of covered files tells what the report of their run tells.
-use Rattle.std.proofs.Common.{◌≡◌, ◌⊎◌, inl, inr, ℕ, ◌*◌, ◌≤◌, ℤ, pos, false, List, [], ◌∷◌, ◌++◌, codes, length, map, Option, None, Some, Result, Ok, Err, refl, ap, sym, ◌∙◌, subst, arith}
-use Rattle.std.specs.Prelude.{Contains, filter}
+use Rattle.std.proofs.Common.{◌≡◌, inl, inr, ℕ, List, ◌++◌, codes, length, Option, None, Some, Result, Ok, Err, refl, ap, sym, ◌∙◌, subst}
+use Rattle.std.specs.Prelude.{filter}
 use Rattle.std.specs.Fmt.{decimal}
 use Rattle.std.specs.Option.{option_map}
 use Rattle.std.proofs.lemmas.List.{length-map}
-use Rattle.fr_base.specs.declared.shelf.TheConstants.{MAX_FILE}
 use Rattle.fr_bound.specs.Bounds.{precision_of}
-use Rattle.fr_check.specs.CheckAnswer.{IsUnlawfulSaid, IsVerdictText, check_files}
-use Rattle.fr_check.specs.VerdictText.{counts_text, verdict_text}
-use Rattle.fr_cluster.specs.Sane.{IsSane}
+use Rattle.fr_check.specs.CheckAnswer.{IsUnlawfulSaid, IsVerdictText}
+use Rattle.fr_check.specs.VerdictText.{verdict_text}
 use Rattle.fr_cluster.specs.Setting.{Setting}
 use Rattle.fr_cluster.specs.Values.{Values}
 use Rattle.fr_cluster.specs.declared.nodes.NodeSpec.{NodeSpec}
@@ -17,30 +15,21 @@ use Rattle.fr_coverage.specs.Decided.{setting_of}
 use Rattle.fr_coverage.specs.Order.{HasNoGap}
 use Rattle.fr_coverage.specs.Phrases.{precision_text, skew_text, sync_text}
 use Rattle.fr_coverage.specs.declared.gap.Gap.{Gap}
-use Rattle.fr_drift.specs.Files.{DriftFits}
-use Rattle.fr_drift.specs.Questions.{doubles_of}
 use Rattle.fr_drift.specs.View.{DriftView}
-use Rattle.fr_history.specs.Cycles.{Cycles, some_joins, told_of}
+use Rattle.fr_history.specs.Cycles.{Cycles, told_of}
 use Rattle.fr_history.specs.Lawful.{IsLawful}
 use Rattle.fr_history.specs.Next.{cycles_of}
 use Rattle.fr_history.specs.Skew.{greatest_skew_of}
 use Rattle.fr_history.specs.Unfollowed.{first_unfollowed_sync_of}
 use Rattle.fr_lines.specs.Text.{greatest_line, report_of, told_text}
 use Rattle.fr_lines.specs.Told.{run_told}
-use Rattle.fr_lines.specs.declared.told.Told.{Told}
-use Rattle.fr_params.specs.Files.{params_file}
 use Rattle.fr_promise.specs.Files.{CoveredFilesAreStated}
 use Rattle.fr_report.specs.RunText.{IsGapFound, IsRunText}
 use Rattle.fr_report.specs.TraceAnswer.{IsTraceText}
-use Rattle.fr_script.specs.Files.{IsSoundScript}
 use Rattle.fr_script.specs.View.{ScriptView}
 use Rattle.fr_skew.specs.declared.peak.Peak.{Peak}
-use Rattle.fr_text.specs.Files.{IsStatusOf}
-use Rattle.fr_text.specs.Kind.{AreBytes}
 use Rattle.fr_text.specs.Lines.{shown}
 use Rattle.fr_text.specs.Pieces.{line}
-use Rattle.fr_text.specs.declared.status.Status.TheVariants as status
-use Rattle.fr_trace.specs.Files.{IsTraceFile}
 use Rattle.fr_trace.specs.ReadBack.{IsReadBack}
 use Rattle.fr_trace.specs.Trace.{TraceView}
 use Rattle.fr_verdict.specs.Answer.{IsJudgement, IsVerdict, SomeAnswer}
@@ -51,7 +40,7 @@ use Rattle.fr_verdict.specs.RunFits.{IsFitting, RunsFit}
 use Rattle.fr_verdict.specs.Runs.{trace_of_run}
 use Rattle.fr_verdict.specs.declared.unlawful.Unlawful.{Unlawful}
 use Rattle.fr_verdict.specs.declared.unlawful.Verdict.{Verdict}
-use Rattle.fr_answer.specs.Rounds.{IsCheckedAs, TellTheSame, WhatIsTracedAloneIsChecked, WhatIsTracedIsChecked, verdict_of}
+use Rattle.fr_answer.specs.Rounds.{WhatIsTracedAloneIsChecked, WhatIsTracedIsChecked, verdict_of}
 
 -- ---- a trace that passes has a verdict
 

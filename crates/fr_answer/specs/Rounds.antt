@@ -9,15 +9,17 @@ use Rattle.fr_cluster.specs.Values.{Values}
 use Rattle.fr_coverage.specs.Decided.{setting_of}
 use Rattle.fr_coverage.specs.Order.{HasNoGap}
 use Rattle.fr_coverage.specs.Phrases.{precision_text, sync_text}
-use Rattle.fr_drift.specs.Files.{DriftFits}
+use Rattle.fr_drift.specs.Files.{DriftFits, IsDriftFile}
 use Rattle.fr_drift.specs.View.{DriftView}
+use Rattle.fr_generator.specs.Generated.{IsGenerated, IsMadeCount}
+use Rattle.fr_generator.specs.declared.generated.Generated.{Generated}
 use Rattle.fr_history.specs.Cycles.{some_joins}
 use Rattle.fr_lines.specs.Text.{greatest_line, told_text}
 use Rattle.fr_lines.specs.declared.told.Told.{Told}
-use Rattle.fr_params.specs.Files.{params_file}
+use Rattle.fr_params.specs.Files.{IsParamsFile, params_file}
 use Rattle.fr_report.specs.RunText.{IsRunText}
 use Rattle.fr_report.specs.TraceAnswer.{IsTraceText}
-use Rattle.fr_script.specs.Files.{IsSoundScript}
+use Rattle.fr_script.specs.Files.{IsScriptFile, IsSoundScript}
 use Rattle.fr_script.specs.View.{ScriptView}
 use Rattle.fr_text.specs.Files.{IsStatusOf}
 use Rattle.fr_text.specs.Kind.{AreBytes}
@@ -82,3 +84,18 @@ WhatIsTracedAloneIsChecked =
     → IsSane p → DriftFits p d → IsSoundScript p s → some_joins (setting_of p d s) ≡ false → HasNoGap p d s
     → IsTraceText p d s traced → IsRunText p d s report
     → IsTraceFile p t traced → IsVerdictText p t verdict → TellTheSame IsSameSync verdict report
+
+-- so it is by the bytes of the three files
+abbrev pub TracedFilesAreChecked : Type 0
+TracedFilesAreChecked =
+    (p : Values) (d : DriftView) (s : ScriptView) (params drift script traced report : List ℕ)
+    → IsParamsFile p params → IsDriftFile p d drift → IsScriptFile p s script → HasNoGap p d s
+    → IsTraceText p d s traced → IsRunText p d s report → IsCheckedAs p traced report
+
+-- and of the cluster of a seed, whose texts are such files
+abbrev pub MadeRunsAreChecked : Type 0
+MadeRunsAreChecked =
+    (seed doubles : ℕ) (made : Generated) (traced report : List ℕ)
+    → IsMadeCount doubles → IsGenerated seed doubles made → HasNoGap made.params made.drift made.script
+    → IsTraceText made.params made.drift made.script traced → IsRunText made.params made.drift made.script report
+    → IsCheckedAs made.params traced report

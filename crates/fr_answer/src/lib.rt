@@ -34,7 +34,7 @@ pub use fr_report::play;
 pub use fr_text::Status;
 pub use frame::answer_frame;
 pub use frame_laws::file_decides_the_line;
-pub use round_laws::what_is_traced_is_checked;
+pub use round_laws::{traced_files_are_checked, what_is_traced_is_checked};
 pub use run::answer_kept_run;
 pub use settle::answer_settle;
 pub use settle_sharp::answer_settle_sharp;
