@@ -9,3 +9,5 @@ pub mod RecordingStatus
 pub mod CheckStatus
 pub mod FilesStatus
 pub mod RequestStatus
+pub mod RoundTrips
+pub mod FilesChecked

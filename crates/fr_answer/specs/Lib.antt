@@ -12,3 +12,4 @@ pub mod SharpJoinText
 pub mod SharpText
 pub mod SharpSettleText
 pub mod Statuses
+pub mod Rounds

@@ -24,4 +24,9 @@ pub mod Stored
 pub mod Tracing
 pub mod Proper
 pub mod Ordering
+pub mod JoinsTold
 pub mod RunFits
+pub mod BareRows
+pub mod CoveredRuns
+pub mod VerdictTells
+pub mod FileRanges

@@ -16,3 +16,5 @@ pub mod Counted
 pub mod Doubles
 pub mod Runs
 pub mod RunFits
+pub mod CoveredRuns
+pub mod FileRuns

@@ -1,12 +1,13 @@
--- The trace of a run that no node joins fits its cluster, and its text is read back.
-use Rattle.std.specs.Prelude.{◌≡◌, ℕ, ◌*◌, ◌≤◌, ℤ, pos, true, Contains, List, length, Option, None, IsSome}
+-- The trace of a run, whoever joins, fits its cluster, and its text is read back.
+use Rattle.std.specs.Prelude.{◌≡◌, ◌≢◌, ℕ, ◌*◌, ◌<◌, ◌≤◌, ◌≤ℤ◌, ℤ, pos, true, false, Contains, List, length, Option, None, Some, IsSome}
 use Rattle.fr_base.specs.Event.Event.{Say}
 use Rattle.fr_base.specs.Timed.{IsLength}
 use Rattle.fr_base.specs.Within.{IsBetween, IsWithin}
 use Rattle.fr_base.specs.declared.channel.Channel.{Channel}
-use Rattle.fr_cluster.specs.Questions.{is_common}
+use Rattle.fr_cluster.specs.Questions.{is_common, node_of, own_key}
 use Rattle.fr_cluster.specs.Sane.{IsSane}
 use Rattle.fr_cluster.specs.Setting.{Setting}
+use Rattle.fr_cluster.specs.declared.join.Join.{Join}
 use Rattle.fr_cluster.specs.declared.nodes.NodeSpec.{NodeSpec}
 use Rattle.fr_history.specs.Cycles.{Cycles, told_of}
 use Rattle.fr_history.specs.Lawful.{IsLawful}
@@ -16,8 +17,23 @@ use Rattle.fr_trace.specs.ReadBack.{IsReadBack}
 use Rattle.fr_trace.specs.Text.{text_of, trace_in}
 use Rattle.fr_verdict.specs.Runs.{trace_of_run}
 
--- what a run's files keep: ranges of clocks, arbitrary nodes have key slots and say something to nodes with which they have the
--- channel in common; and here no node joins
+-- what a run's files keep of a node that joins: it is a correct one of the cluster, and so is its reference, which is another one
+-- with a key slot and a channel in common and joins nobody itself; and no frame is on its way to it for longer than a file lets it
+pub record JoinsInRange (x : Setting) (node : ℕ) (join : Join) : Type 0 where
+  pub known : IsSome (node_of x.params node)
+  pub correct : x.is_arbitrary node ≡ false
+  pub known_reference : IsSome (node_of x.params join.reference)
+  pub correct_reference : x.is_arbitrary join.reference ≡ false
+  pub key : IsSome (own_key x.params join.reference)
+  pub other : join.reference ≢ node
+  pub stays : x.join join.reference ≡ None
+  pub channel : Channel
+  pub common : is_common x.params node join.reference channel ≡ true
+  pub double : join.double < 100_000
+  pub delays : (sender cycle : ℕ) (ch : Channel) → x.delay sender node ch cycle ≤ℤ pos 1_000_000_000
+
+-- and of all: ranges of clocks, and arbitrary nodes have key slots and say something to nodes with which they have the channel in
+-- common
 pub record KeepsRanges (x : Setting) : Type 0 where
   pub sane : IsSane x.params
   pub doubles_from : 1 ≤ x.doubles
@@ -29,7 +45,7 @@ pub record KeepsRanges (x : Setting) : Type 0 where
   pub heard :
       (cycle sender receiver : ℕ) (channel : Channel) (shift : ℤ) (bytes : Option (List ℕ))
       → x.is_arbitrary sender ≡ true → x.event cycle sender receiver channel ≡ Say shift bytes → is_common x.params sender receiver channel ≡ true
-  pub alone : (node : ℕ) → x.join node ≡ None
+  pub joins : (node : ℕ) (join : Join) → x.join node ≡ Some join → JoinsInRange x node join
 
 -- the trace of all cycles of such a run is one and fits
 pub record IsFitting (x : Setting) (h : Cycles) : Type 0 where

@@ -17,5 +17,8 @@ pub use laws::{
     hearing_suffices, one_answer, worked_trace,
 };
 pub use ordered::devs_of;
-pub use run_laws::{a_run_breaks_no_law, a_run_is_read_back};
+pub use run_laws::{
+    a_covered_run_passes, a_run_breaks_no_law, a_run_is_read_back, a_verdict_tells_of_the_run,
+    files_are_read_back,
+};
 pub use unlawful::{Unlawful, Verdict};

@@ -24,6 +24,7 @@ pub mod Accepted
 pub mod FilesKept
 pub mod JoinedFilesAre
 pub mod UnevenFilesAre
+pub mod FilesTraced
 pub mod SharplyJoinedAre
 pub mod TracesFit
 pub mod TracesAre

@@ -20,3 +20,4 @@ pub mod RunFiles
 pub mod JoinedFiles
 pub mod SharplyJoinedFiles
 pub mod Traces
+pub mod TracedFiles

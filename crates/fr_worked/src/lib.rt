@@ -30,7 +30,9 @@ mod uneven;
 pub use edge::the_precision_is_reached;
 pub use far::a_far_follower;
 use fr_history::{a_joined_run, one_lawful_run};
-pub use joined_files::{joined_files_keep_their_precision, uneven_files_keep_their_precision};
+pub use joined_files::{
+    joined_files_are_traced, joined_files_keep_their_precision, uneven_files_keep_their_precision,
+};
 pub use late::the_promise_begins_in_sync;
 pub use laws::{a_joined_run_keeps_together, a_joined_run_keeps_up, a_joined_run_stays_together};
 pub use sharply_joined_files::joined_files_keep_their_sharper_precision;
