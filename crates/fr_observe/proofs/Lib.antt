@@ -1,0 +1,9 @@
+pub mod Decoded
+pub mod Looked
+pub mod Tables
+pub mod Taken
+pub mod Ending
+pub mod OneAnswer
+pub mod SomeAnswer
+pub mod LeastReason
+pub mod Fitting
