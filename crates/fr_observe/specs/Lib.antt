@@ -1,0 +1,5 @@
+-- what the public contract cites
+pub mod Readings
+pub mod Course
+pub mod Spread
+pub mod Terms
