@@ -1,1 +1,4 @@
+pub mod Floors
+pub mod Readings
+pub mod Intervals
 pub mod WorkedRows

@@ -1,2 +1,3 @@
 -- what the public contract cites
+pub mod Clocks
 pub mod WorkedStamps

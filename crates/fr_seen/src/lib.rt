@@ -2,6 +2,8 @@
 //! runs.
 #![tactic(auto)]
 
+mod clocks;
 mod worked;
 
+pub use clocks::{intervals_are_shared, readings_are_near_ticks, stamps_place_action_points};
 pub use worked::worked_row;
