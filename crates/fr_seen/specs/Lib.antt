@@ -1,3 +1,4 @@
 -- what the public contract cites
 pub mod Clocks
+pub mod Courses
 pub mod WorkedStamps

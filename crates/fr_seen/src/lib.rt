@@ -3,7 +3,9 @@
 #![tactic(auto)]
 
 mod clocks;
+mod courses;
 mod worked;
 
 pub use clocks::{intervals_are_shared, readings_are_near_ticks, stamps_place_action_points};
+pub use courses::{corners_lie, courses_hold};
 pub use worked::worked_row;
