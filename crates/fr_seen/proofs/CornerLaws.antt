@@ -15,9 +15,9 @@ use Rattle.fr_bound.specs.Sync.{cycle_length_of}
 use Rattle.fr_precision.specs.Rows.{HasProperMicro, Lasts}
 use Rattle.fr_precision.proofs.InstantLaws.{early_on_line, even_on_line, odd_start_is}
 use Rattle.fr_observe.specs.Readings.{ceiling_of, scale_of, Interval, Scale}
-use Rattle.fr_observe.specs.Course.{even_start, even_turn, mean_from, mean_to, odd_macrotick, odd_start, share_from, share_to, Course}
+use Rattle.fr_observe.specs.Course.{even_start, even_turn, mean_from, mean_to, odd_macrotick, odd_start, odd_turn, share_from, share_to, Course}
 use Rattle.fr_seen.specs.Clocks.{reading_at, reading_of, HasReading, ReadsIn, StraightClock}
-use Rattle.fr_seen.specs.Courses.{even_action, odd_action, rounded_down, CornersLie, HasCorners, HoldsCourse, IsSeenNode}
+use Rattle.fr_seen.specs.Courses.{even_action, odd_action, rounded_down, CornersLie, HasCorners, HoldsCourse, IsSeenNode, PointReadsIn}
 use Rattle.fr_seen.proofs.Readings.{most_reading_lem}
 use Rattle.fr_seen.proofs.Shares.{all_parts, mean_parts, meet_by, of_all_parts, parts_back, reads_back, reads_down, reads_near, reads_on, reads_up, shared, some_parts}
 use Rattle.fr_seen.proofs.Doubles.{numbers_of, rows_apart, LiesApart, Numbers}
@@ -84,6 +84,13 @@ from_le x is = grind (arith, ints)
 
 from_more : (x : ℤ) → int_le (pos 0) x ≡ false → x ≤ℤ pos 0
 from_more x is = grind (arith, ints)
+
+-- a point of the line on which an action point lies
+point : (ge gs al ml nl x : ℤ) → ge ≡ (gs +ℤ al) -ℤ x → nl ≡ ml -ℤ al → (ge +ℤ nl) +ℤ x ≡ gs +ℤ ml
+point ge gs al ml nl x h i = omega (arith, ints)
+
+twice : (g n : ℤ) → g -ℤ (g -ℤ n) ≡ n
+twice g n = omega (arith, ints)
 
 -- ---- the corners
 
@@ -167,14 +174,14 @@ module _
     odd_lasts : Lasts p odd
     odd_lasts = lasts_of p odd numbers.shortest_from seen.regular.odd_micro
 
-    even_line : (macrotick : ℤ) → HasLine clock g most macrotick s l (reading_at clock (instant_of (grid_for p) even false macrotick))
+    pub even_line : (macrotick : ℤ) → HasLine clock g most macrotick s l (reading_at clock (instant_of (grid_for p) even false macrotick))
     even_line macrotick = lines even.start (cycle_length_of p even) even.length macrotick (instant_of (grid_for p) even false macrotick) (even_on_line p even macrotick seen.sane even_lasts)
 
-    odd_line : (macrotick : ℤ) → macrotick ≤ℤ p.correction → HasLine clock g most macrotick s' l' (reading_at clock (instant_of (grid_for p) odd true macrotick))
+    pub odd_line : (macrotick : ℤ) → macrotick ≤ℤ p.correction → HasLine clock g most macrotick s' l' (reading_at clock (instant_of (grid_for p) odd true macrotick))
     odd_line macrotick to = lines odd.start (cycle_length_of p odd) odd.length macrotick (instant_of (grid_for p) odd true macrotick) (early_on_line p odd macrotick seen.sane odd_lasts to)
 
     -- the odd cycle starts an even length later
-    starts_on : s' ≡ s +ℤ l
+    pub starts_on : s' ≡ s +ℤ l
     starts_on =
         sum (clock.counts *ℤ even.start) (clock.counts *ℤ cycle_length_of p even) (clock.counts *ℤ odd.start) clock.zero
         (ap (λ x. clock.counts *ℤ x) (odd_start_is p even odd seen.regular.double) ∙ mulz-addz even.start (cycle_length_of p even) clock.counts)
@@ -285,6 +292,37 @@ module _
         (reads_down fine (record { low = one.low; high = one.high +ℤ most }) most (((g *ℤ action_reads) +ℤ (n *ℤ long)) +ℤ line.less) other.less
         (reads_up fine one most ((g *ℤ action_reads) +ℤ (n *ℤ long)) line.less first line.bounds) other.bounds)
 
+    -- the point at which the offset correction would start, before it is rounded down
+    on_to_point : (n start long action_reads : ℤ) (line : HasLine clock g most a start long action_reads) → n ≡ p.correction -ℤ a
+        → ((g *ℤ action_reads) +ℤ (n *ℤ long)) +ℤ line.less ≡ (g *ℤ start) +ℤ (p.correction *ℤ long)
+    on_to_point n start long action_reads line is =
+        point (g *ℤ action_reads) (g *ℤ start) (a *ℤ long) (p.correction *ℤ long) (n *ℤ long) line.less line.is (ap (λ x. x *ℤ long) is ∙ subz-mulz p.correction a long)
+
+    up_to_point : (one : Interval) (n start long action_reads : ℤ) (line : HasLine clock g most a start long action_reads) → n ≡ p.correction -ℤ a
+        → HasReading fine one ((g *ℤ action_reads) +ℤ (n *ℤ long))
+        → HasReading fine (record { low = one.low; high = one.high +ℤ most }) ((g *ℤ start) +ℤ (p.correction *ℤ long))
+    up_to_point one n start long action_reads line is first =
+        subst (λ r. HasReading fine (record { low = one.low; high = one.high +ℤ most }) r) (on_to_point n start long action_reads line is)
+        (reads_up fine one most ((g *ℤ action_reads) +ℤ (n *ℤ long)) line.less first line.bounds)
+
+    again : g -ℤ (g -ℤ ahead) ≡ ahead
+    again = twice g ahead
+
+    even_point : PointReadsIn clock g (even_turn scale course) even.start p.correction (cycle_length_of p even)
+    even_point =
+        let line = even_line a in
+        let before = g -ℤ ahead in
+        meet_by fine (λ x. x) (λ x. x +ℤ most) (ahead_by ahead) (mean_by before) ((g *ℤ s) +ℤ (p.correction *ℤ l))
+        (up_to_point (ahead_by ahead) ahead s l e line refl (ahead_one ahead ahead_from))
+        (up_to_point (mean_by before) (g -ℤ before) s l e line again (ahead_two before before_from (subst (λ x. pos 0 ≤ℤ x) (sym again) ahead_from)))
+
+    odd_point : PointReadsIn clock g (odd_turn scale course) odd.start p.correction (cycle_length_of p odd)
+    unfolding share_of
+    odd_point =
+        up_to_point (record { low = course.odd.low +ℤ share_from scale ahead course.length.low; high = course.odd.high +ℤ share_to scale ahead course.length.high }) ahead s' l' o
+        (odd_line a seen.acts_to) refl
+        (reads_on fine course.odd (share_of ahead) (g *ℤ o) (ahead *ℤ l') whole_odd (some_parts g ahead clock course.length l' g_some ticks_from ahead_from holds.odd_lasts))
+
     even_turns : ReadsIn clock (rounded_down scale (even_turn scale course)) (instant_of (grid_for p) even false p.correction)
     even_turns =
         let at = reading_at clock (instant_of (grid_for p) even false p.correction) in
@@ -293,11 +331,8 @@ module _
         let before = g -ℤ ahead in
         let one = up_and_down (ahead_by ahead) ahead s l e at line p.correction other refl (ahead_one ahead ahead_from) in
         let two =
-        up_and_down (mean_by before) (g -ℤ before) s l e at line p.correction other (again g ahead) (ahead_two before before_from (subst (λ x. pos 0 ≤ℤ x) (sym (again g ahead)) ahead_from)) in
+        up_and_down (mean_by before) (g -ℤ before) s l e at line p.correction other again (ahead_two before before_from (subst (λ x. pos 0 ≤ℤ x) (sym again) ahead_from)) in
         of_all_parts g clock (rounded_down scale (even_turn scale course)) at g_some (meet_by fine (λ x. x -ℤ most) (λ x. x +ℤ most) (ahead_by ahead) (mean_by before) (g *ℤ at) one two)
-      where
-        again : (g n : ℤ) → g -ℤ (g -ℤ n) ≡ n
-        again g n = omega (arith, ints)
 
     -- a macrotick of the odd cycle, ahead of the action point or behind it
     odd_ahead : (macrotick : ℤ) → macrotick ≤ℤ p.correction → pos 0 ≤ℤ (macrotick -ℤ a)
@@ -357,6 +392,8 @@ module _
         record {
           even_starts = even_starts;
           odd_starts = odd_starts;
+          even_point = even_point;
+          odd_point = odd_point;
           even_turns = even_turns;
           odd_turns = odd_ahead p.correction (itself p.correction) ahead_from;
           macroticks = odd_macroticks;

@@ -5,4 +5,7 @@ pub mod Shares
 pub mod Doubles
 pub mod CourseLaws
 pub mod CornerLaws
+pub mod Pairs
+pub mod SkewLaws
+pub mod OddLaws
 pub mod WorkedRows

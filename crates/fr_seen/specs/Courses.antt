@@ -1,7 +1,8 @@
 -- What a course says of a node: where its action points lie, how far apart, and how long its cycles are; and then where its
--- cycles start, where the macroticks lie at which an offset correction starts, and all of the odd cycle up to there.
-use Rattle.std.specs.Prelude.{ℕ, ◌≡◌, false, true, ℤ, pos, ◌-ℤ◌, ◌≤ℤ◌, Option, Some}
+-- cycles start, where an offset correction would start in both, and all macroticks of the odd cycle up to there.
+use Rattle.std.specs.Prelude.{ℕ, ◌≡◌, false, true, ℤ, pos, ◌+ℤ◌, ◌-ℤ◌, ◌*ℤ◌, ◌≤ℤ◌, Option, Some}
 use Rattle.std.specs.Option.{ForSome}
+use Rattle.fr_base.specs.Within.{IsBetween}
 use Rattle.fr_base.specs.declared.node_row.NodeRow.{NodeRow}
 use Rattle.fr_cluster.specs.Values.{Values}
 use Rattle.fr_cluster.specs.Sane.{IsSane}
@@ -11,7 +12,7 @@ use Rattle.fr_bound.specs.Sync.{cycle_length_of}
 use Rattle.fr_precision.specs.Placement.{IsRegular}
 use Rattle.fr_observe.specs.Readings.{scale_of, Interval, Scale}
 use Rattle.fr_observe.specs.Course.{course_from, even_start, even_turn, is_empty, odd_macrotick, odd_start, odd_turn, Course}
-use Rattle.fr_seen.specs.Clocks.{IsWithinDrift, LastsIn, ReadsIn, StraightClock}
+use Rattle.fr_seen.specs.Clocks.{reading_at, reading_of, IsWithinDrift, LastsIn, ReadsIn, StraightClock}
 
 -- the instants of a node's action points in both cycles
 abbrev pub even_action : Values → NodeRow → ℤ → ℤ
@@ -65,9 +66,17 @@ CoursesAreThere =
 abbrev pub rounded_down : Scale → Interval → Interval
 rounded_down scale point = record { low = point.low -ℤ scale.micro_to; high = point.high }
 
+-- the point so many parts of a length after a start lies in an interval; it need not be a whole number
+abbrev pub PointReadsIn : StraightClock → ℤ → Interval → ℤ → ℤ → ℤ → Type 0
+PointReadsIn clock parts interval start macrotick long =
+    IsBetween ((parts *ℤ clock.ticks) *ℤ interval.low) ((parts *ℤ clock.ticks) *ℤ interval.high)
+    ((parts *ℤ reading_at clock start) +ℤ (macrotick *ℤ reading_of clock long))
+
 pub record HasCorners (p : Values) (scale : Scale) (clock : StraightClock) (course : Course) (even odd : NodeRow) : Type 0 where
   pub even_starts : ReadsIn clock (even_start scale course) even.start
   pub odd_starts : ReadsIn clock (odd_start scale course) odd.start
+  pub even_point : PointReadsIn clock p.macros (even_turn scale course) even.start p.correction (cycle_length_of p even)
+  pub odd_point : PointReadsIn clock p.macros (odd_turn scale course) odd.start p.correction (cycle_length_of p odd)
   pub even_turns : ReadsIn clock (rounded_down scale (even_turn scale course)) (instant_of (grid_for p) even false p.correction)
   pub odd_turns : ReadsIn clock (rounded_down scale (odd_turn scale course)) (instant_of (grid_for p) odd true p.correction)
   pub macroticks :
