@@ -8,4 +8,5 @@ pub mod CornerLaws
 pub mod Pairs
 pub mod SkewLaws
 pub mod OddLaws
+pub mod TermLaws
 pub mod WorkedRows

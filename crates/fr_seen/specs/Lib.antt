@@ -2,4 +2,5 @@
 pub mod Clocks
 pub mod Courses
 pub mod Skews
+pub mod TermsSeen
 pub mod WorkedStamps

@@ -5,9 +5,11 @@
 mod clocks;
 mod courses;
 mod skews;
+mod terms;
 mod worked;
 
 pub use clocks::{intervals_are_shared, readings_are_near_ticks, stamps_place_action_points};
 pub use courses::{corners_lie, courses_hold};
 pub use skews::{odd_skews_are_kept, skews_are_seen};
+pub use terms::terms_are_seen;
 pub use worked::worked_row;
