@@ -3,3 +3,4 @@ pub mod Readings
 pub mod Course
 pub mod Spread
 pub mod Terms
+pub mod Numbering

@@ -2,7 +2,7 @@
 -- rate of one clock against the other within the drift, so many ticks are from the one to the other number on the
 -- observer's clock (a *reading*), and a reading is from one number of ticks to another. Ticks and readings are below
 -- 4,000,000,000,000 on either side, and the drift is at most 1,000: so no product passes 63 bits.
-use Rattle.std.specs.Prelude.{ℕ, ℤ, pos, neg_ℤ, ◌+ℤ◌, ◌-ℤ◌, ◌*ℤ◌, int_lt, Option, Some, None, if◌then◌else◌}
+use Rattle.std.specs.Prelude.{ℕ, ℤ, pos, neg_ℤ, ◌+ℤ◌, ◌-ℤ◌, ◌*ℤ◌, int_lt, List, [], ◌∷◌, Option, Some, None, if◌then◌else◌}
 use Rattle.std.specs.Int.{int_max, int_min}
 use Rattle.fr_cluster.specs.Values.{Values, amount}
 use Rattle.fr_cluster.specs.declared.names.ParamName.TheVariants as name
@@ -50,6 +50,11 @@ meet one other = record { low = int_max one.low other.low; high = int_min one.hi
 abbrev pub meet_if : Option Interval → Interval → Interval
 meet_if None other = other
 meet_if (Some one) other = meet one other
+
+-- in all of some; none without one
+unfoldable pub meet_all : List Interval → Option Interval
+meet_all [] = None
+meet_all (one ∷ others) = Some (meet_if (meet_all others) one)
 
 -- the numbers of a cluster as readings
 pub record Scale : Type 0 where

@@ -9,4 +9,6 @@ pub mod Pairs
 pub mod SkewLaws
 pub mod OddLaws
 pub mod TermLaws
+pub mod RunLaws
+pub mod ObservedLaws
 pub mod WorkedRows

@@ -192,7 +192,7 @@ above_by q x l from some le =
     contrary : (x y : ℤ) → pos 0 <ℤ x → x ≤ℤ y → y ≤ℤ pos 0 → ⊥
     contrary x y h i j = omega (arith, ints)
 
-product_some : (a b : ℤ) → pos 0 <ℤ a → pos 0 <ℤ b → pos 0 <ℤ (a *ℤ b)
+pub product_some : (a b : ℤ) → pos 0 <ℤ a → pos 0 <ℤ b → pos 0 <ℤ (a *ℤ b)
 product_some a b h k = up (a *ℤ b) (pos 1 *ℤ b) b (mulz-lez (pos 1) a b (one a h) (no_less b k)) (once b) k
   where
     one : (a : ℤ) → pos 0 <ℤ a → pos 1 ≤ℤ a

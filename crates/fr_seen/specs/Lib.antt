@@ -3,4 +3,6 @@ pub mod Clocks
 pub mod Courses
 pub mod Skews
 pub mod TermsSeen
+pub mod RunRows
+pub mod Observed
 pub mod WorkedStamps
