@@ -1,0 +1,14 @@
+pub mod Floors
+pub mod Readings
+pub mod Intervals
+pub mod Shares
+pub mod Doubles
+pub mod CourseLaws
+pub mod CornerLaws
+pub mod Pairs
+pub mod SkewLaws
+pub mod OddLaws
+pub mod TermLaws
+pub mod RunLaws
+pub mod ObservedLaws
+pub mod WorkedRows

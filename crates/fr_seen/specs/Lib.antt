@@ -1,0 +1,8 @@
+-- what the public contract cites
+pub mod Clocks
+pub mod Courses
+pub mod Skews
+pub mod TermsSeen
+pub mod RunRows
+pub mod Observed
+pub mod WorkedStamps

@@ -1,0 +1,19 @@
+//! Why what one observer's stamps tell of clocks is so: laws over rows of nodes and stamps of their frames. Nothing here
+//! runs.
+#![tactic(auto)]
+
+mod clocks;
+mod courses;
+mod observed;
+mod runs;
+mod skews;
+mod terms;
+mod worked;
+
+pub use clocks::{intervals_are_shared, readings_are_near_ticks, stamps_place_action_points};
+pub use courses::{corners_lie, courses_hold};
+pub use observed::{numbers_are_found, seen_courses_hold};
+pub use runs::nodes_run_regularly;
+pub use skews::{odd_skews_are_kept, skews_are_seen};
+pub use terms::terms_are_seen;
+pub use worked::worked_row;
