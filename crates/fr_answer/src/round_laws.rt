@@ -5,7 +5,7 @@ use fr_generator::made_files_are_accepted;
 use fr_history::one_lawful_run;
 use fr_params::accepted_are_sane;
 use fr_promise::{covered_files_are_stated, drift_of_a_file_fits};
-use fr_report::script_of_a_file_is_sound;
+use fr_script::script_of_a_file_is_sound;
 use fr_verdict::{
     a_covered_run_passes, a_passing_trace_keeps_its_precision, a_run_is_read_back,
     a_verdict_tells_of_the_run, files_are_read_back, one_answer,
