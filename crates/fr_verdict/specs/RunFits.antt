@@ -16,8 +16,8 @@ use Rattle.fr_trace.specs.ReadBack.{IsReadBack}
 use Rattle.fr_trace.specs.Text.{text_of, trace_in}
 use Rattle.fr_verdict.specs.Runs.{trace_of_run}
 
--- what a run's files keep: ranges of clocks, arbitrary nodes have key slots and say something to nodes with which they have the
--- channel in common; and here no node joins
+-- what a run's files keep: sane parameters, 1 to 100,000 double cycles, ranges of clocks; arbitrary nodes have key slots, and say
+-- something only to nodes with which they have the channel in common; and here no node joins
 pub record KeepsRanges (x : Setting) : Type 0 where
   pub sane : IsSane x.params
   pub doubles_from : 1 ≤ x.doubles
