@@ -44,6 +44,6 @@ TextEnds IsText Stops before after (Err WriteFault) = IsCutShort IsText before a
 TextEnds IsText Stops before after (Err (Stopped why)) = Stops why
 TextEnds IsText Stops before after (Err Usage) = ⊥
 
--- a line was put, in one put, and nothing else was
+-- there was one put, of a line, which took it or failed, and no other
 abbrev pub IsLinePut : Sunk → Sunk → List ℕ → Type 0
 IsLinePut before after line = (result : Result (Unit {0}) PutFault) × PutsPiece result before after line

@@ -9,10 +9,8 @@ use Rattle.fr_cluster.specs.declared.names.ParamName.TheVariants as name
 use Rattle.fr_coverage.specs.Coverage.{some_join}
 use Rattle.fr_coverage.specs.Decided.{setting_of}
 use Rattle.fr_coverage.specs.Flutter.{flutter_of}
-use Rattle.fr_drift.specs.Files.{DriftFits}
 use Rattle.fr_drift.specs.Questions.{doubles_of}
 use Rattle.fr_drift.specs.View.{DriftView}
-use Rattle.fr_script.specs.Files.{ScriptFits}
 use Rattle.fr_script.specs.View.{ScriptView}
 use Rattle.fr_history.specs.History.{History, Record}
 use Rattle.fr_history.specs.Skew.{skew_at}
@@ -36,7 +34,7 @@ use Rattle.fr_sharp.proofs.FreeLemmas.{first_sharp_sync_is, first_sharp_sync_is_
 use Rattle.fr_series.specs.Basis.{sharp_figures_of, sharp_held}
 use Rattle.fr_series.specs.Figures.{DoubleTest, above_from, figures_by}
 use Rattle.fr_series.specs.Scale.{above_at, first_above}
-use Rattle.fr_series.specs.SharpAnswer.{KeepsAndTells, TellsSharply}
+use Rattle.fr_series.specs.SharpAnswer.{FitsToJoin, KeepsAndTells, TellsSharply}
 use Rattle.fr_series.specs.SharpCovered.{IsCoveredSharply}
 use Rattle.fr_series.specs.SharpText.{sharp_within_text}
 use Rattle.fr_series.specs.declared.scale.Scale.{Scale}
@@ -233,17 +231,17 @@ told_for p d s h first lasts whole at apart =
     let is : first_sharp_sync_of beside p flutter h ≡ Some first = found_is beside p flutter h first at (first_sharp_sync_of beside p flutter h) refl in
     subst P (sym is) (tells_by p bounds limit test lasts (doubles_of d) first h whole apart)
 
-pub stays_sharp : CoveredFilesKeepSharply → CoveredFilesKeepSharplyJoined → (p : Values) (d : DriftView) (s : ScriptView) (h : Cycles) (first : ℕ) → IsSane p → DriftFits p d → ScriptFits p s
+pub stays_sharp : CoveredFilesKeepSharply → CoveredFilesKeepSharplyJoined → (p : Values) (d : DriftView) (s : ScriptView) (h : Cycles) (first : ℕ) → IsSane p → FitsToJoin p d s
     → IsCoveredSharply p d s (flutter_of p d s)
     → IsLawful (setting_of p d s) h → length h ≡ 2 * doubles_of d → IsFirstSharpSync (has_arbitrary p s) p (flutter_of p d s) h first → KeepsAndTells p d s h first
-stays_sharp keeps joined p d s h first sane drift_fits script_fits covered lawful whole at =
+stays_sharp keeps joined p d s h first sane fits covered lawful whole at =
     record { keeps = alone_keeps; joined = joined_keeps; tells = by (some_join p s) refl }
   where
     alone_keeps : some_join p s ≡ false → KeepsSharply (has_arbitrary p s) (setting_of p d s) (flutter_of p d s) h first
     alone_keeps none = keeps p d s (flutter_of p d s) h first sane (covered.alone none) (record { lawful = lawful; whole = whole }) at.unfollowed.synced
 
     joined_keeps : some_join p s ≡ true → KeepsSharplyJoined (has_arbitrary p s) (setting_of p d s) (flutter_of p d s) h first
-    joined_keeps some = joined p d s (flutter_of p d s) h first sane drift_fits script_fits (covered.joined some) (record { lawful = lawful; whole = whole }) at.unfollowed
+    joined_keeps some = joined p d s (flutter_of p d s) h first sane (fits some).0 (fits some).1 (covered.joined some) (record { lawful = lawful; whole = whole }) at.unfollowed
 
     by : (joins : Bool) → some_join p s ≡ joins
         → TellsSharply (sharp_held (some_join p s) (has_arbitrary p s) p (flutter_of p d s)) (doubles_of d) first (sharp_figures_of (has_arbitrary p s) p (flutter_of p d s) h)

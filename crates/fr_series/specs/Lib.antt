@@ -5,11 +5,11 @@ pub mod Figures
 pub mod Scale
 pub mod SeriesText
 pub mod Writing
-pub mod Stopping
 pub mod SeriesMeaning
 pub mod Basis
 pub mod SharpAnswer
 pub mod SharpCovered
 pub mod SharpMeaning
 pub mod SharpText
+pub mod Stopping
 pub mod Statuses

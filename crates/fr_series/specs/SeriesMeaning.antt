@@ -27,7 +27,8 @@ abbrev pub IsPeakFound : Values → ℕ → List NodeRow → Option Peak → Typ
 IsPeakFound p cycle rows None = ⊥
 IsPeakFound p cycle rows (Some place) = IsPeakOf p cycle rows place
 
--- a history is out of sync from a double cycle on, to its end: it is in sync in none of them, and in the one before
+-- a history is out of sync from a double cycle on, to its end: it is in sync in none of them, and in the one before,
+-- if there is one
 pub record IsOutFrom (p : Values) (h : History) (double : ℕ) : Type 0 where
   pub inside : suc (2 * double) < length h
   pub none : (later : ℕ) → double ≤ later → IsInSyncAt p h later → ⊥

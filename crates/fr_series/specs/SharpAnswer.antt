@@ -4,8 +4,10 @@ use Rattle.fr_cluster.specs.Values.{Values}
 use Rattle.fr_coverage.specs.Coverage.{some_join}
 use Rattle.fr_coverage.specs.Decided.{setting_of}
 use Rattle.fr_coverage.specs.Flutter.{flutter_of}
+use Rattle.fr_drift.specs.Files.{DriftFits}
 use Rattle.fr_drift.specs.Questions.{doubles_of}
 use Rattle.fr_drift.specs.View.{DriftView}
+use Rattle.fr_script.specs.Files.{ScriptFits}
 use Rattle.fr_script.specs.View.{ScriptView}
 use Rattle.fr_skew.specs.declared.peak.Peak.{Peak}
 use Rattle.fr_history.specs.Cycles.{Cycles}
@@ -26,6 +28,10 @@ pub record TellsSharply (lasts : Option ℕ) (doubles first : ℕ) (figures : Fi
   pub within :
       IfSome lasts (λ held. doubles ≤ first + held) → sharp_within_text figures.synced figures.above ≡ sharp_above_text None
   pub late : (peak : Peak) → figures.above ≡ Some peak → IfSome lasts (λ held. 2 * (first + held) ≤ peak.cycle)
+
+-- where a correct node joins, the drift and the script fit the parameters
+abbrev pub FitsToJoin : Values → DriftView → ScriptView → Type 0
+FitsToJoin p d s = some_join p s ≡ true → DriftFits p d × ScriptFits p s
 
 -- what a run keeps from its first double cycle in sharp sync on in which no node follows, where no correct node joins and where one
 -- does, and what is told of it

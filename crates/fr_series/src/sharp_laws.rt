@@ -3,10 +3,8 @@ ghost use Rattle.fr_cluster.specs.Sane.{IsSane};
 ghost use Rattle.fr_cluster.specs.Values.{Values};
 ghost use Rattle.fr_coverage.specs.Decided.{setting_of};
 ghost use Rattle.fr_coverage.specs.Flutter.{flutter_of};
-ghost use Rattle.fr_drift.specs.Files.{DriftFits};
 ghost use Rattle.fr_drift.specs.Questions.{doubles_of};
 ghost use Rattle.fr_drift.specs.View.{DriftView};
-ghost use Rattle.fr_script.specs.Files.{ScriptFits};
 ghost use Rattle.fr_script.specs.View.{IsScript, ScriptView};
 ghost use Rattle.fr_history.specs.Cycles.{Cycles};
 ghost use Rattle.fr_history.specs.Lawful.{IsLawful};
@@ -14,7 +12,7 @@ ghost use Rattle.fr_text.specs.Files.{IsDecided};
 ghost use Rattle.fr_report.specs.Files.{run_files};
 ghost use Rattle.fr_sharp.specs.SharpStatement.{has_arbitrary};
 ghost use Rattle.fr_sharp.specs.SharpTested.{IsFirstSharpSync};
-ghost use Rattle.fr_series.specs.SharpAnswer.{IsSharpSeriesText, KeepsAndTells};
+ghost use Rattle.fr_series.specs.SharpAnswer.{FitsToJoin, IsSharpSeriesText, KeepsAndTells};
 ghost use Rattle.fr_series.specs.SharpCovered.{first_sharp_gap, IsCoveredSharply};
 ghost use Rattle.fr_series.specs.SharpText.{sharp_series_text};
 
@@ -27,11 +25,11 @@ use fr_world::files_decide_one_run;
 
 /// A law: the text of the sharper series of some parameters, a drift and a script is that of their one lawful run over all
 /// cycles; it says that this is sharply covered exactly where it is, and then the run keeps the sharper precision as the
-/// promise says, whoever joins, and the text tells it; and its figures are what they are called. The drift and the script
-/// fit the parameters; the other premises are the invariants of `Params` and of `Script`.
+/// promise says, whoever joins, and the text tells it; and its figures are what they are called. Where a correct node joins
+/// the drift and the script fit the parameters; the other premises are the invariants of `Params` and of `Script`.
 pub fn a_sharp_series_is_lawful()
     ensures { (p : Values) (d : DriftView) (s : ScriptView) →
-        IsSane p → DriftFits p d → ScriptFits p s → IsScript s → IsSharpSeriesText p d s (sharp_series_text p d s) }
+        IsSane p → FitsToJoin p d s → IsScript s → IsSharpSeriesText p d s (sharp_series_text p d s) }
 {
     one_lawful_run();
     files_decide_one_run();
@@ -64,10 +62,11 @@ pub fn a_gap_is_told()
 /// A law: where the run is sharply covered it keeps, from its first double cycle in sharp sync on in which no node follows,
 /// what the promise says, whoever joins: as long as the rate limit holds the walk, and suffices for first rates where a
 /// node joins, no macroticks lie further apart than the sharper precision. So the last line of its series names no place
-/// in those double cycles, and says yes where they reach to the end of the run.
+/// in those double cycles, and says yes where they reach to the end of the run. Where a correct node joins the drift and
+/// the script fit the parameters.
 pub fn a_covered_run_stays_in_sharp_sync()
     ensures { (p : Values) (d : DriftView) (s : ScriptView) (h : Cycles) (first : ℕ) →
-        IsSane p → DriftFits p d → ScriptFits p s → IsCoveredSharply p d s (flutter_of p d s) →
+        IsSane p → FitsToJoin p d s → IsCoveredSharply p d s (flutter_of p d s) →
         IsLawful (setting_of p d s) h → length h ≡ 2 * doubles_of d →
         IsFirstSharpSync (has_arbitrary p s) p (flutter_of p d s) h first →
         KeepsAndTells p d s h first }

@@ -10,6 +10,7 @@ ghost use Rattle.fr_world.specs.World.{setting_after};
 ghost use Rattle.fr_series.specs.Basis.{scales_of, tallied, tally_of, AreScales};
 ghost use Rattle.fr_series.specs.Scale.{IsScale};
 ghost use Rattle.fr_series.specs.SharpText.{sharp_rows, sharp_series_text};
+ghost use Rattle.fr_series.specs.Stopping.{RowsEnd, SharpSeriesEnds, sharp_rows_before};
 ghost use Rattle.fr_series.specs.Writing.{IsAtDouble, is_double_followed, rows_of, sharp_text_of_double};
 
 use crate::basis::{Basis, Scales};
@@ -24,12 +25,13 @@ use fr_world::World;
 
 /// Runs all cycles of a world that has run none, and writes the sharper series of the run: a line for each cycle, as
 /// soon as its double cycle was run, and nine lines at the end. Each line is one put. A fault comes only where the sink
-/// counted it, and then a front of the text was put, and no further cycle is run. It takes no memory but what the sink
-/// does.
+/// counted it, and then a front of the text was put, and no further cycle is run: of the double cycles that were run
+/// the lines of all but the last had been put whole. It takes no memory but what the sink does.
 pub fn write_sharp_series<O: Sink>(world: &mut World, out: &mut O) -> Result<(), PutFault>
     requires { world.old.cycles ≡ 0 }
-    ensures { Puts result (O.state out.old) (O.state out.new)
+    ensures text { Puts result (O.state out.old) (O.state out.new)
         (sharp_series_text world.old.params world.old.drift world.old.script) }
+    ensures ran { SharpSeriesEnds result world.old world.new (O.state out.old) (O.state out.new) }
 {
     let basis = Basis::of(world.params(), world.drift(), world.script());
     let mut tally = Tally::none();
@@ -50,6 +52,8 @@ fn write_sharp_rows<O: Sink>(
     requires scales { basis.now.scales ≡ scales_of basis.now.beside world.old.params basis.now.flutter }
     requires proper { AreScales (grid_for world.old.params) basis.now.scales }
     requires none { tally.old ≡ tally_of basis.now.beside world.old.params basis.now.flutter [] }
+    ensures ran { RowsEnd (sharp_rows_before basis.now world.old) result world.old world.new
+        (O.state out.old) (O.state out.new) }
     ensures text { Puts result (O.state out.old) (O.state out.new)
         (sharp_rows basis.now.beside world.old.params basis.now.flutter
         (told_of (cycles_of (setting_after world.old) (2 * doubles_of world.old.drift)))) }

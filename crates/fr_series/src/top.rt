@@ -12,8 +12,9 @@ use fr_text::Status;
 use std::alloc::Global;
 
 /// Does what the words ask for, which are those after the program's name: the names of three files, and `sharp` behind them
-/// where the sharper series is asked for. It loads the files from the shelf, each once, puts the series of their run into
-/// `out`, and where the answer is not `Done` one line into `err`. Nothing is put into `out` before every file was accepted.
+/// where the sharper series is asked for. It loads the files from the shelf, in their order up to the first that is not
+/// accepted, each as often as it is named; puts the series of their run into `out`, and where the answer is not `Done` one
+/// line into `err`. Nothing is put into `out` before every file was accepted.
 pub fn flexray_series<S: Shelf, O: Sink, E: Sink>(
     alloc: Global,
     words: &[String],

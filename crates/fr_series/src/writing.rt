@@ -10,7 +10,7 @@ ghost use Rattle.fr_world.specs.World.{setting_after};
 ghost use Rattle.fr_series.specs.Figures.{figures_of};
 ghost use Rattle.fr_series.specs.Scale.{IsScale, followed, scale_of};
 ghost use Rattle.fr_series.specs.SeriesText.{double_by, series_end, series_rows, series_text};
-ghost use Rattle.fr_series.specs.Stopping.{RowsEnd, SeriesEnds};
+ghost use Rattle.fr_series.specs.Stopping.{RowsEnd, SeriesEnds, rows_before};
 ghost use Rattle.fr_series.specs.Writing.{IsAtDouble, is_double_followed, is_followed, rows_of, text_of_double};
 
 use crate::figures::Figures;
@@ -45,7 +45,7 @@ fn write_rows<O: Sink>(
 ) -> Result<(), PutFault>
     requires fresh { world.old.cycles ≡ 0 }
     requires none { figures.old ≡ figures_of world.old.params [] }
-    ensures ran { RowsEnd result world.old world.new (O.state out.old) (O.state out.new) }
+    ensures ran { RowsEnd (rows_before world.old) result world.old world.new (O.state out.old) (O.state out.new) }
     ensures text { Puts result (O.state out.old) (O.state out.new)
         (series_rows world.old.params
         (told_of (cycles_of (setting_after world.old) (2 * doubles_of world.old.drift)))) }

@@ -39,7 +39,7 @@ use Rattle.fr_sharp.specs.SteadyRuns.{IsSteadySetting}
 use Rattle.fr_sharp.proofs.BoundLemmas.{first_check_stops_walk}
 use Rattle.fr_sharp.proofs.FromFiles.{arbitrary_is_told, files_are_steady}
 use Rattle.fr_sharp.proofs.JoinedCycles.{joined_histories_keep_sharp_precision}
-use Rattle.fr_sharp.proofs.JoinedListeners.{joined_listeners_join}
+use Rattle.fr_sharp.proofs.JoinedListeners.{joined_listeners_join, joined_listeners_join_up_to}
 use Rattle.fr_sharp.proofs.JoinedStarts.{steady_starts_are_natural}
 use Rattle.fr_sharp.proofs.RowsSupplied.{double_within}
 use Rattle.fr_sharp.proofs.JoinedRuns.{first_rates_last_on, joined_histories_keep_sharp_sync, still_zero}
@@ -131,6 +131,10 @@ covered_files_keep_sharply_joined p d s flutter h double sane drift_fits script_
           (subst At (still_zero (rate_walk p flutter) (pos passed *ℤ rate_walk p flutter) still) stays.synced, stays.keeps (last passed));
       on = λ first m within. first_rates_last_on beside p flutter (sharp_reach beside p flutter) m sane first covered.checks;
       cycles = joined_histories_keep_sharp_precision beside x flutter h double w sync;
+      joins_up_to =
+          λ passed within last node join there at from.
+          joined_listeners_join_up_to beside x flutter h double passed node join w sync within last there at from
+          (reference_starts p d s flutter h sane drift_fits w node join there at);
       joins =
           λ last node join there at from.
           joined_listeners_join beside x flutter h double node join w sync last there at from

@@ -1,5 +1,5 @@
--- Of any cluster a run that reaches nearly all of the sharper precision in its first double cycle: one node begins first and is
--- fast, and all others begin later and are slow.
+-- Runs whose skew comes near a precision, the sharper or the older one, in their one double cycle: one node begins at 0 with the
+-- shorter microticks, and all others begin so many ticks later with the longer ones. A cluster that allows such a run has one.
 use Rattle.std.specs.Prelude.{◌≡◌, ◌≢◌, ◌==◌, ◌+◌, ◌*◌, ◌≤◌, ◌≤ℤ◌, ◌+ℤ◌, ◌-ℤ◌, ◌*ℤ◌, ℕ, ℤ, pos, Bool, false, ◌&&◌, if◌then◌else◌, Contains, None, Some}
 use Rattle.fr_base.specs.Event.Event.{Regular}
 use Rattle.fr_base.specs.declared.channel.Channel.{Channel}
@@ -167,8 +167,7 @@ pub record HasFarRun (p : Values) : Type 0 where
 abbrev pub SomeRunComesNear : Type 0
 SomeRunComesNear = (p : Values) → IsSane p → AllChecksHold p → AllowsFar p (lambda_of p) → HasFarRun p
 
--- and a steady one, in sharp sync in its first double cycle, that comes near the sharper precision, whatever the checks say; it has no
--- arbitrary node
+-- and a steady one, in sharp sync in its first double cycle, that comes near the sharper precision, whatever the checks say
 pub record HasSharpFarRun (beside : Bool) (p : Values) : Type 0 where
   pub run : Setting
   pub params : run.params ≡ p

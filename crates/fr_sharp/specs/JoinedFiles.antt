@@ -1,7 +1,7 @@
--- What the files of a run that nodes join promise, where they are sharply covered to join. The words of it, from the top: `IsLawful`
--- (what a run is), `IsSharplyCoveredToJoin` (what is asked of the files), `sharp_precision`, `IsUnfollowedSharpSyncAt`,
--- `FirstRatesLast`, `KeepsJoined`, `CyclesKeepJoined`.
-use Rattle.std.specs.Prelude.{◌≡◌, ◌<◌, ◌≤◌, ◌+◌, ℕ, pos, Bool, true, List, Contains, Some}
+-- What the files of a run that nodes may join promise, where they are sharply covered to join. The words of it, from the top:
+-- `IsLawful` (what a run is), `IsSharplyCoveredToJoin` (what is asked of the files), `IsUnfollowedSharpSyncAt`, `FirstRatesLast`,
+-- `sharp_precision`, `StaysJoined`, `KeepsJoined`, `CyclesKeepJoined`, `IsJoinedUpTo`, `IsJoined`.
+use Rattle.std.specs.Prelude.{◌≡◌, ◌<◌, ◌≤◌, ◌+◌, ◌*◌, ℕ, suc, pos, Bool, true, List, Contains, Some}
 use Rattle.fr_cluster.specs.Sane.{IsSane}
 use Rattle.fr_cluster.specs.Setting.{Setting, correct_nodes}
 use Rattle.fr_cluster.specs.Values.{Values}
@@ -17,7 +17,7 @@ use Rattle.fr_coverage.specs.Order.{HasNoGapOfRun}
 use Rattle.fr_history.specs.Cycles.{Cycles}
 use Rattle.fr_promise.specs.Statement.{IsRunOf}
 use Rattle.fr_runs.specs.Whole.{IsJoined}
-use Rattle.fr_sharp.specs.JoinedHistories.{CyclesKeepJoined, FirstRatesLast, FirstRatesLastToEnd, KeepsJoined, StaysJoined}
+use Rattle.fr_sharp.specs.JoinedHistories.{CyclesKeepJoined, FirstRatesLast, FirstRatesLastToEnd, IsJoinedUpTo, KeepsJoined, StaysJoined}
 use Rattle.fr_sharp.specs.SharpBounds.{sharp_precision}
 use Rattle.fr_sharp.specs.SharpChecks.{sharp_holds_of}
 use Rattle.fr_sharp.specs.SharpHistories.{IsInSharpSyncAt}
@@ -25,8 +25,8 @@ use Rattle.fr_sharp.specs.SharpJoining.{sharp_reach, SharpJoinChecksHold}
 use Rattle.fr_sharp.specs.SharpStatement.{has_arbitrary}
 use Rattle.fr_sharp.specs.SharpTested.{IsUnfollowedSharpSyncAt}
 
--- the four sharper checks of nodes that join hold, and with them those from 2 to 5; the run itself has no gap; and its delays
--- flutter by no more than so many ticks. Correct nodes may join
+-- the four sharper checks of nodes that join hold, and so those from 2 to 5 (`SharpJoinChecksSuffice`); the run itself has no gap;
+-- and its delays flutter by no more than so many ticks. Correct nodes may join
 pub record IsSharplyCoveredToJoin (p : Values) (d : DriftView) (s : ScriptView) (flutter : ℕ) : Type 0 where
   pub checks : SharpJoinChecksHold (has_arbitrary p s) flutter p
   pub none : HasNoGapOfRun p d s
@@ -34,9 +34,10 @@ pub record IsSharplyCoveredToJoin (p : Values) (d : DriftView) (s : ScriptView) 
 
 -- what is kept from a double cycle on, whoever joins
 pub record KeepsSharplyJoined (beside : Bool) (x : Setting) (flutter : ℕ) (h : Cycles) (double : ℕ) : Type 0 where
-  -- each double cycle is in sharp sync as long as first rates have lasted in those before it, and while they last no corresponding
-  -- macroticks of nodes with rows lie further apart than the sharper precision, in ticks, and no term is cut, of a node with a row
-  -- or of one that follows
+  -- each double cycle is in sharp sync, with even lengths as far beyond their range as they may have walked, and those that follow
+  -- lie near the nodes with rows, as long as first rates have lasted in those before it; and while they last no corresponding
+  -- macroticks of nodes with rows lie further apart than the sharper precision, in ticks, no term is cut or missing, of a node with
+  -- a row or of one that follows, no row of them tells a cut, and each correct node stands active behind it
   pub keeps :
       (passed : ℕ) → double + passed < x.doubles → ((m : ℕ) → m < passed → FirstRatesLast x.params flutter m)
       → StaysJoined beside x flutter h double passed
@@ -52,7 +53,13 @@ pub record KeepsSharplyJoined (beside : Bool) (x : Setting) (flutter : ℕ) (h :
   -- and where they do it is so by the cycle, to the end of the run
   pub cycles :
       FirstRatesLastToEnd x flutter double → CyclesKeepJoined x h double (sharp_precision beside x.params flutter)
-  -- and whoever listens in a double cycle e from this one on follows in cycles 2 e + 2 to 2 e + 5, and takes part from 2 e + 6 on
+  -- whoever listens in a double cycle e from this one on follows in cycles 2 e + 2 to 2 e + 5, and takes part from 2 e + 6 on, as
+  -- far as to the last double cycle before which first rates have lasted
+  pub joins_up_to :
+      (passed : ℕ) → double + passed < x.doubles → ((m : ℕ) → m < passed → FirstRatesLast x.params flutter m) → (node : NodeSpec) (join : Join)
+      → Contains (correct_nodes x) node → x.join node.id ≡ Some join → double ≤ join.double
+      → IsJoinedUpTo h node.id join (2 * suc (double + passed))
+  -- and to the end of the run where they last to it
   pub joins :
       FirstRatesLastToEnd x flutter double → (node : NodeSpec) (join : Join)
       → Contains (correct_nodes x) node → x.join node.id ≡ Some join → double ≤ join.double → IsJoined h node.id join

@@ -1,6 +1,6 @@
 -- A lawful history of a run that nodes join and whose delays flutter little: from a double cycle in sharp sync in which no node
 -- follows it stays so, for as many double cycles as the rate limit holds the walk and suffices for first rates.
-use Rattle.std.specs.Prelude.{◌≡◌, ◌↔◌, ◌<◌, ◌≤◌, ◌+◌, ◌-◌, ◌*◌, ◌/◌, ◌≤ℤ◌, ℕ, ℤ, pos, nat_abs, int_le, min, Bool, true, false, if◌then◌else◌, ◌∷◌, length, All, Contains, IfSome, Option, Some, None}
+use Rattle.std.specs.Prelude.{◌≡◌, ◌↔◌, ◌<◌, ◌≤◌, ◌+◌, ◌-◌, ◌*◌, ◌/◌, ◌≤ℤ◌, ℕ, suc, ℤ, pos, nat_abs, int_le, min, Bool, true, false, if◌then◌else◌, ◌∷◌, length, All, Contains, IfSome, IsSome, Option, Some, None}
 use Rattle.fr_base.specs.declared.state.State.TheVariants.{Active}
 use Rattle.fr_cluster.specs.Sane.{IsSane}
 use Rattle.fr_cluster.specs.Setting.{Setting, correct_nodes}
@@ -9,7 +9,7 @@ use Rattle.fr_cluster.specs.declared.join.Join.{Join}
 use Rattle.fr_cluster.specs.declared.names.ParamName.TheVariants as name
 use Rattle.fr_cluster.specs.declared.nodes.NodeSpec.{NodeSpec}
 use Rattle.fr_history.specs.Cycles.{Cycle, Cycles, cycle_at, told_of}
-use Rattle.fr_history.specs.History.{row_for}
+use Rattle.fr_history.specs.History.{row_for, row_of}
 use Rattle.fr_history.specs.Skew.{skew_at}
 use Rattle.fr_history.specs.Terms.{status_in}
 use Rattle.fr_promise.specs.Statement.{TermsAreWithin}
@@ -59,7 +59,7 @@ FirstRatesLastOn =
     → IsSane p → sharp_holds_of 1 flutter reach p ≡ true → SharpJoinChecksHold beside flutter p → FirstRatesLast p flutter passed
 
 -- how a double cycle ends, behind earlier cycles: no term of a node with a row or of one that follows is cut or missing, no row of
--- them tells a cut, and each correct node is active behind it, one that joins there or later too
+-- them tells a cut, and each correct node stands active behind it, one of which no term was told yet too, since it begins so
 pub record NoneIsCut (x : Setting) (earlier : Cycles) (even odd : Cycle) : Type 0 where
   pub within : TermsAreWithin x earlier even odd
   pub uncut_even : All (λ row. row.cut ≡ 0) even.told.rows × All (λ row. row.cut ≡ 0) even.followers
@@ -113,8 +113,30 @@ JoinedHistoriesKeepSharpPrecision =
     → IsSteadyJoined beside x flutter h → IsUnfollowedSharpSyncAt beside x.params flutter h double
     → FirstRatesLastToEnd x flutter double → CyclesKeepJoined x h double (sharp_precision beside x.params flutter)
 
--- so a node that listens in that double cycle or in a later one joins, where first rates last to the end of the run and its
--- reference's start is not below 0 where it listens: it follows in the next four cycles, and has a row in those behind them
+-- in the cycles before one a node that listens follows in the four behind the double cycle in which it does, and has a row in those
+-- behind these
+abbrev pub IsJoinedUpTo : Cycles → ℕ → Join → ℕ → Type 0
+IsJoinedUpTo h node join before =
+    (cycle : ℕ) (c : Cycle) → cycle < before → cycle_at h cycle ≡ Some c
+    → (2 * join.double + 2 ≤ cycle → cycle < 2 * join.double + 6 → IsSome (row_of c.followers node))
+    × (2 * join.double + 6 ≤ cycle → IsSome (row_of c.told.rows node))
+
+-- so a node that listens in that double cycle or in a later one joins, up to the last double cycle before which first rates have
+-- lasted, where its reference's start is not below 0 where it listens
+abbrev pub JoinedListenersJoinUpTo : Type 0
+JoinedListenersJoinUpTo =
+    (beside : Bool) (x : Setting) (flutter : ℕ) (h : Cycles) (double passed : ℕ) (node : NodeSpec) (join : Join)
+    → IsSteadyJoined beside x flutter h → IsUnfollowedSharpSyncAt beside x.params flutter h double
+    → double + passed < x.doubles → ((m : ℕ) → m < passed → FirstRatesLast x.params flutter m)
+    → Contains (correct_nodes x) node → x.join node.id ≡ Some join → double ≤ join.double
+    → (
+    (earlier : Cycles) (even odd : Cycle) → IsDoubleOf h join.double earlier even odd
+    → pos 0 ≤ℤ (row_for even.told.rows join.reference).start
+    )
+    → IsJoinedUpTo h node.id join (2 * suc (double + passed))
+
+-- and where first rates last to the end of the run it joins so: it follows in the next four cycles, and has a row in those behind
+-- them
 abbrev pub JoinedListenersJoin : Type 0
 JoinedListenersJoin =
     (beside : Bool) (x : Setting) (flutter : ℕ) (h : Cycles) (double : ℕ) (node : NodeSpec) (join : Join)

@@ -32,8 +32,8 @@ pub record JoinsInRange (x : Setting) (node : ℕ) (join : Join) : Type 0 where
   pub double : join.double < 100_000
   pub delays : (sender cycle : ℕ) (ch : Channel) → x.delay sender node ch cycle ≤ℤ pos 1_000_000_000
 
--- and of all: ranges of clocks, and arbitrary nodes have key slots and say something to nodes with which they have the channel in
--- common
+-- and of all: sane parameters, 1 to 100,000 double cycles, ranges of clocks; arbitrary nodes have key slots, and say something only
+-- to nodes with which they have the channel in common
 pub record KeepsRanges (x : Setting) : Type 0 where
   pub sane : IsSane x.params
   pub doubles_from : 1 ≤ x.doubles

@@ -51,8 +51,8 @@ RunsBreakNoOther =
     (x : Setting) (h : Cycles) (u : Unlawful) → IsSane x.params → IsLawful x h → IsBreach x.params (trace_of_run x h) u
     → IsFirstRowApart x.params (trace_of_run x h) u ⊎ IsToldOutside u
 
--- in each cycle the frames of correct nodes are on their way as long as they may, and each microtick of a node with a row lasts as
--- long as it may
+-- in each cycle the delay from a correct node with a key slot to another correct node, on a channel that both have, lies within its
+-- bounds, and so does the microtick of each node with a row
 pub record KeepsArrivals (x : Setting) (h : Cycles) : Type 0 where
   pub micros : (later g : Cycles) (c : Cycle) (row : NodeRow) → h ≡ later ++ c ∷ g → Contains c.told.rows row → HasProperMicro x.params row
   pub delays :

@@ -13,7 +13,7 @@ use Rattle.fr_series.proofs.SharpFigures.{sharp_figures_are, sharp_gap_found}
 use Rattle.fr_series.proofs.sharp_laws.a_sharp_series_is_lawful.Goals as goal
 
 pub returns : goal.returns
-returns c = λ p d s sane drift_fits script_fits proper.
+returns c = λ p d s sane fits proper.
     let h : Cycles = cycles_of (setting_of p d s) (2 * doubles_of d) in
     let lawful : IsLawful (setting_of p d s) h = c.files_decide_one_run.ensures.lawful p d s (2 * doubles_of d) sane proper in
     let whole : length h ≡ 2 * doubles_of d = c.one_lawful_run.ensures.long (setting_of p d s) (2 * doubles_of d) in
@@ -26,7 +26,7 @@ returns c = λ p d s sane drift_fits script_fits proper.
       whole = whole;
       shown = refl;
       covered = c.a_gap_is_told.ensures p d s sane;
-      keeps = λ covered first at. c.a_covered_run_stays_in_sharp_sync.ensures p d s h first sane drift_fits script_fits covered lawful whole at;
+      keeps = λ covered first at. c.a_covered_run_stays_in_sharp_sync.ensures p d s h first sane fits covered lawful whole at;
       figures = record {
         flutter = c.flutter_is_the_greatest.ensures.greatest p d s;
         gap = sharp_gap_found p d s flutter (c.found_gap_of_run_is_first.ensures p d s sane) (omega arith) (first_sharp_gap p d s flutter) refl;

@@ -12,12 +12,12 @@ pub returns-in-Ok-clause-ends : goal.returns-in-Ok-clause-ends
 returns-in-Ok-clause-ends g c =
     let world : WorldView = c.in_ok-world.world in
     let files = c.in_ok-world.ensures.files in
-    let shown = c.a_sharp_series_is_lawful.ensures world.params world.drift world.script files.has_params.sound files.has_drift.sound files.has_script.sound.fits files.has_script.sound.proper in
-    whole {read = g.S.Shelf.state c.world_of.new.shelf} files c.in_ok-world.ensures.asked shown c.in-Ok.ensures
+    let shown = c.a_sharp_series_is_lawful.ensures world.params world.drift world.script files.has_params.sound (λ joins. (files.has_drift.sound, files.has_script.sound.fits)) files.has_script.sound.proper in
+    whole {read = g.S.Shelf.state c.world_of.new.shelf} files c.in_ok-world.ensures.asked shown c.in-Ok.ensures.text
 
 pub returns-clause-ends : goal.returns-clause-ends
 returns-clause-ends g c =
     let world : WorldView = c.in_ok-world.world in
     let files = c.in_ok-world.ensures.files in
-    let shown = c.a_sharp_series_is_lawful.ensures world.params world.drift world.script files.has_params.sound files.has_drift.sound files.has_script.sound.fits files.has_script.sound.proper in
-    cut_short {read = g.S.Shelf.state c.world_of.new.shelf} files c.in_ok-world.ensures.asked shown c.in-Err.ensures
+    let shown = c.a_sharp_series_is_lawful.ensures world.params world.drift world.script files.has_params.sound (λ joins. (files.has_drift.sound, files.has_script.sound.fits)) files.has_script.sound.proper in
+    cut_short {read = g.S.Shelf.state c.world_of.new.shelf} files c.in_ok-world.ensures.asked shown c.in-Err.ensures.text

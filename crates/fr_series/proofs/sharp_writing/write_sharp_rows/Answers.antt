@@ -1,4 +1,4 @@
-use Rattle.std.proofs.Common.{◌≡◌, ◌+◌, ◌*◌, ◌<◌, ◌≤◌, ℕ, List, ◌++◌, Ok, ap, sym, ◌∙◌, subst, arith}
+use Rattle.std.proofs.Common.{◌≡◌, suc, ◌+◌, ◌*◌, ◌<◌, ◌≤◌, ℕ, List, ◌++◌, Ok, ap, sym, ◌∙◌, subst, arith}
 use Rattle.fr_base.specs.Device.{Puts}
 use Rattle.fr_base.proofs.Putting.{cut, then, puts_none}
 use Rattle.fr_drift.specs.Questions.{doubles_of}
@@ -7,9 +7,12 @@ use Rattle.fr_time.specs.Position.{grid_for}
 use Rattle.fr_world.specs.World.{WorldView, setting_after}
 use Rattle.fr_series.specs.Basis.{tally_of, AreScales}
 use Rattle.fr_series.specs.SharpText.{sharp_rows}
+use Rattle.fr_series.specs.Stopping.{sharp_rows_before}
+use Rattle.fr_series.specs.Writing.{rows_of, sharp_text_of_double}
 use Rattle.fr_series.proofs.Doubles.{told-none, told-upto}
 use Rattle.fr_series.proofs.SharpFollowing.{sharp_double, sharp_grows}
 use Rattle.fr_series.proofs.SharpWorlds.{sharp-text-more, sharp_upto, tally-first, tally-more}
+use Rattle.fr_series.proofs.Stops.{stops_rows}
 use Rattle.fr_series.proofs.Worlds.{two-more}
 use Rattle.fr_series.proofs.sharp_writing.write_sharp_rows.Goals as goal
 
@@ -52,6 +55,29 @@ returns-in_err-write_sharp_double-clause-text g c =
     let far = cut c.from_residual.result rest.0 both c.from_residual.ensures.0 in
     let P : List ℕ → Type 0 = λ l. Puts c.from_residual.result (g.O.Sink.state c.args.out.now) (g.O.Sink.state c.write_sharp_double.new.out) l in
     subst P (ap (λ (l : List ℕ). l ++ rest.0) (sharp-text-more b.beside b.flutter w c.loop-double.world n b.scales inv.ran c.requires.scales) ∙ sym rest.1) far
+
+pub returns-in_err-write_sharp_double-clause-ran : goal.returns-in_err-write_sharp_double-clause-ran
+returns-in_err-write_sharp_double-clause-ran g c =
+    let w : WorldView = c.args.world.now in
+    let b = c.args.basis.now in
+    let inv = c.loop-double.invariant in
+    let n = c.loop-double.double in
+    let doubles : c.doubles-doubles.result ≡ doubles_of w.drift = c.doubles-doubles.ensures.value ∙ ap doubles_of c.drift.ensures.value in
+    let below : n < doubles_of w.drift = omega (arith, doubles) in
+    let next : n + 1 ≡ suc n = omega arith in
+    let rest = told-upto (sharp_rows b.beside w.params b.flutter) (sharp_double b.beside w.params b.flutter) (sharp_grows b.beside w.params b.flutter) (setting_after w) (n + 1) (doubles_of w.drift) (omega (arith, below)) in
+    let text = sharp_text_of_double b.scales n (rows_of c.loop-double.world c.loop-double.world.cycles) (rows_of c.loop-double.world (c.loop-double.world.cycles + 1)) in
+    stops_rows (sharp_rows_before b w) c.from_residual.result w c.write_sharp_double.new.world (g.O.Sink.state c.args.out.now) (g.O.Sink.state c.loop-double.out) (g.O.Sink.state c.write_sharp_double.new.out)
+    n text rest.0 c.from_residual.ensures.0 below
+    (two-more w c.loop-double.world c.write_sharp_double.new.world n inv.ran c.in_err-write_sharp_double.ensures.ran ∙ ap (λ (k : ℕ). record w { cycles = 2 * k }) next)
+    (rest.1 ∙ ap (λ (l : List ℕ). l ++ rest.0) (sym (sharp-text-more b.beside b.flutter w c.loop-double.world n b.scales inv.ran c.requires.scales))) inv.text c.in_err-write_sharp_double.ensures.text
+
+pub returns-clause-ran : goal.returns-clause-ran
+returns-clause-ran g c =
+    let w : WorldView = c.args.world.now in
+    let doubles : c.doubles-doubles.result ≡ doubles_of w.drift = c.doubles-doubles.ensures.value ∙ ap doubles_of c.drift.ensures.value in
+    let end : c.loop-double.double ≡ doubles_of w.drift = omega (arith, doubles) in
+    c.loop-double.invariant.ran ∙ ap (λ (n : ℕ). record w { cycles = 2 * n }) end
 
 pub returns-clause-text : goal.returns-clause-text
 returns-clause-text g c =

@@ -7,6 +7,7 @@ use Rattle.fr_world.specs.World.{WorldView, setting_after}
 use Rattle.fr_series.specs.Figures.{figures_of}
 use Rattle.fr_series.specs.Scale.{scale_of}
 use Rattle.fr_series.proofs.SeriesRows.{rows-none, rows-upto, text_upto}
+use Rattle.fr_series.specs.Stopping.{rows_before}
 use Rattle.fr_series.specs.Writing.{rows_of, text_of_double}
 use Rattle.fr_series.proofs.Stops.{stops_rows}
 use Rattle.fr_series.proofs.Worlds.{figures-first, figures-more, text-more, two-more}
@@ -63,7 +64,7 @@ returns-in_err-write_double-clause-ran g c =
     let next : n + 1 ≡ suc n = omega arith in
     let rest = rows-upto x (n + 1) (doubles_of w.drift) (omega (arith, below)) in
     let text = text_of_double c.of-scale.result n (rows_of c.loop-double.world c.loop-double.world.cycles) (rows_of c.loop-double.world (c.loop-double.world.cycles + 1)) in
-    stops_rows c.from_residual.result w c.write_double.new.world (g.O.Sink.state c.args.out.now) (g.O.Sink.state c.loop-double.out) (g.O.Sink.state c.write_double.new.out) n text rest.0 c.from_residual.ensures.0 below
+    stops_rows (rows_before w) c.from_residual.result w c.write_double.new.world (g.O.Sink.state c.args.out.now) (g.O.Sink.state c.loop-double.out) (g.O.Sink.state c.write_double.new.out) n text rest.0 c.from_residual.ensures.0 below
     (two-more w c.loop-double.world c.write_double.new.world n inv.ran c.in_err-write_double.ensures.ran ∙ ap (λ (k : ℕ). record w { cycles = 2 * k }) next)
     (rest.1 ∙ ap (λ (l : List ℕ). l ++ rest.0) (sym (text-more w c.loop-double.world n c.of-scale.result inv.ran scale))) inv.text c.in_err-write_double.ensures.text
 

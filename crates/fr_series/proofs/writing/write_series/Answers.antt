@@ -9,9 +9,11 @@ use Rattle.fr_text.specs.Lines.{joined_lines}
 use Rattle.fr_text.specs.Pieces.{line}
 use Rattle.fr_world.specs.World.{setting_after}
 use Rattle.fr_series.specs.Figures.{figures_of}
-use Rattle.fr_series.specs.SeriesText.{series_end, series_head, series_rows, series_of}
+use Rattle.fr_series.specs.SeriesText.{series_end, series_head, series_rows, series_of, series_text}
+use Rattle.fr_series.specs.Stopping.{rows_before}
 use Rattle.fr_series.proofs.Following.{figures-none}
-use Rattle.fr_series.proofs.Stops.{ends_with, stops_at_head, stops_in_rows}
+use Rattle.fr_series.proofs.SeriesRows.{rows-upto}
+use Rattle.fr_series.proofs.Stops.{end_of, ends_with, series-parts, stops_at_head, stops_in_rows}
 use Rattle.fr_series.proofs.writing.write_series.Goals as goal
 
 pub write_rows-requires-clause-none : goal.write_rows-requires-clause-none
@@ -63,14 +65,16 @@ returns-in_err-put_line-clause-ran g c =
     let head : c.head_line.result ≡ line series_head = c.head_line.ensures in
     let P : List ℕ → Type 0 = λ l. Puts c.from_residual.result (g.O.Sink.state c.args.out.now) (g.O.Sink.state c.put_line.new.out) l in
     let text = subst P (ap (λ (l : List ℕ). l ++ rest) head ∙ sym (append_assoc (line series_head) (series_rows w.params (told_of h)) (series_end (figures_of w.params h)))) (cut c.from_residual.result rest c.in_err-put_line.ensures c.from_residual.ensures.0) in
-    stops_at_head c.from_residual.result w (g.O.Sink.state c.args.out.now) (g.O.Sink.state c.put_line.new.out) c.from_residual.ensures.0 c.requires text
+    stops_at_head (line series_head) (rows_before w) (series_text w.params w.drift w.script) w c.from_residual.result (g.O.Sink.state c.args.out.now) (g.O.Sink.state c.put_line.new.out) c.from_residual.ensures.0 c.requires text
 
 pub returns-in_err-write_rows-clause-ran : goal.returns-in_err-write_rows-clause-ran
 returns-in_err-write_rows-clause-ran g c =
+    let w = c.args.world.now in
     let head : c.head_line.result ≡ line series_head = c.head_line.ensures in
     let P : List ℕ → Type 0 = λ l. Puts (Ok tt) (g.O.Sink.state c.args.out.now) (g.O.Sink.state c.put_line.new.out) l in
-    stops_in_rows c.from_residual-in_err-write_rows.result c.args.world.now c.write_rows.new.world (g.O.Sink.state c.args.out.now) (g.O.Sink.state c.put_line.new.out) (g.O.Sink.state c.write_rows.new.out)
-    c.from_residual-in_err-write_rows.ensures.0 (subst P head c.in_ok-put_line.ensures) c.in_err-write_rows.ensures.ran
+    stops_in_rows (line series_head) (rows_before w) (series_text w.params w.drift w.script) w c.from_residual-in_err-write_rows.result (end_of w) c.write_rows.new.world
+    (g.O.Sink.state c.args.out.now) (g.O.Sink.state c.put_line.new.out) (g.O.Sink.state c.write_rows.new.out) c.from_residual-in_err-write_rows.ensures.0 (series-parts w)
+    (subst P head c.in_ok-put_line.ensures) c.in_err-write_rows.ensures.ran
 
 pub returns-clause-ran : goal.returns-clause-ran
 returns-clause-ran g c =
@@ -82,5 +86,6 @@ returns-clause-ran g c =
     let ends : joined_lines c.end_lines.result ≡ series_end (figures_of w.params h) = c.end_lines.ensures ∙ ap series_end figures in
     let P : List ℕ → Type 0 = λ l. Puts (Ok tt) (g.O.Sink.state c.args.out.now) (g.O.Sink.state c.put_line.new.out) l in
     let Q : List ℕ → Type 0 = λ l. Puts c.put_lines.result (g.O.Sink.state c.write_rows.new.out) (g.O.Sink.state c.put_lines.new.out) l in
-    ends_with c.put_lines.result w c.write_rows.new.world (g.O.Sink.state c.args.out.now) (g.O.Sink.state c.put_line.new.out) (g.O.Sink.state c.write_rows.new.out) (g.O.Sink.state c.put_lines.new.out)
+    ends_with (line series_head) (rows_before w) (series_text w.params w.drift w.script) w c.put_lines.result (end_of w) c.write_rows.new.world (g.O.Sink.state c.args.out.now)
+    (g.O.Sink.state c.put_line.new.out) (g.O.Sink.state c.write_rows.new.out) (g.O.Sink.state c.put_lines.new.out) (series-parts w) (λ last le. rows-upto (setting_after w) last (doubles_of w.drift) le)
     c.in_ok-write_rows.ensures.ran (subst P head c.in_ok-put_line.ensures) c.in_ok-write_rows.ensures.text (subst Q ends c.put_lines.ensures)

@@ -1,6 +1,6 @@
 use Rattle.fr_sharp.proofs.FirstRates.{first_rates_last_so}
 use Rattle.fr_sharp.proofs.JoinedCycles.{joined_histories_keep_sharp_precision}
-use Rattle.fr_sharp.proofs.JoinedListeners.{joined_listeners_join}
+use Rattle.fr_sharp.proofs.JoinedListeners.{joined_listeners_join, joined_listeners_join_up_to}
 use Rattle.fr_sharp.proofs.JoinedRuns.{first_rates_last_on, joined_histories_keep_sharp_sync}
 use Rattle.fr_sharp.proofs.joined_histories.joined_histories_keep_sharp_sync.Goals as goal
 
@@ -18,3 +18,6 @@ returns-clause-cycles c = joined_histories_keep_sharp_precision
 
 pub returns-clause-join : goal.returns-clause-join
 returns-clause-join c = joined_listeners_join
+
+pub returns-clause-join_up_to : goal.returns-clause-join_up_to
+returns-clause-join_up_to c = joined_listeners_join_up_to
