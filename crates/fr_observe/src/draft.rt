@@ -5,7 +5,7 @@ ghost use Rattle.fr_cluster.specs.Questions.{has_channel};
 ghost use Rattle.fr_observe.specs.Draft.{EndsLog, IsLogDraft, TakesLogRow, TakesLogRowAtOnce, log_drafted, number_in_table};
 ghost use Rattle.fr_observe.specs.Files.{lacks_delay, lacks_limits, lacks_on};
 ghost use Rattle.fr_observe.specs.Numbers.{IsHeadNumber, head_place};
-ghost use Rattle.fr_observe.specs.Reasons.{are_crossed, has_entry, is_arbitrary_by, is_below_last, is_beyond_last, is_misfit, comes_out_of_turn, delay_limits_by, log_reason_after, number_by};
+ghost use Rattle.fr_observe.specs.Reasons.{are_crossed, comes_out_of_turn, delay_limits_by, has_entry, is_arbitrary_by, is_below_last, is_beyond_last, is_misfit, log_reason_after, number_by};
 ghost use Rattle.fr_observe.specs.Rows.{IsProperCame, IsProperLogRow, last_stamp};
 ghost use Rattle.fr_observe.specs.declared.rows.HeadNumber.TheVariants as head;
 ghost use Rattle.fr_observe.specs.declared.rows.Row.TheVariants as said;

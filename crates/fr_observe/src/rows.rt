@@ -1,8 +1,8 @@
 ghost use Rattle.std.specs.Prelude.{◌≡◌, ◌≤◌, length, IfOk, IfSome};
 ghost use Rattle.csv.specs.Records.{fields_of};
 ghost use Rattle.fr_text.specs.Fields.{field_of, hex_digits_in, is_blank};
-ghost use Rattle.fr_observe.specs.Numbers.{greatest_number, head_number_of, least_number, head_place};
-ghost use Rattle.fr_observe.specs.Rows.{AreEntryBytes, IsProperLogRow, log_delay_row, each_row, entry_bytes_in, entry_row, is_alone, limits_in, link_row, log_file_row, log_row_of, log_node_row, number_row, other_row, whole_row};
+ghost use Rattle.fr_observe.specs.Numbers.{greatest_number, head_number_of, head_place, least_number};
+ghost use Rattle.fr_observe.specs.Rows.{AreEntryBytes, IsProperLogRow, each_row, entry_bytes_in, entry_row, is_alone, limits_in, link_row, log_delay_row, log_file_row, log_node_row, log_row_of, number_row, other_row, whole_row};
 
 use crate::entry::{EntryBytes, EntryKind};
 use csv::ByteRecord;
