@@ -17,9 +17,9 @@ use Rattle.fr_cluster.specs.Searches.{node_in}
 use Rattle.fr_cluster.specs.Values.{Values}
 use Rattle.fr_cluster.specs.declared.nodes.NodeSpec.{NodeSpec}
 use Rattle.fr_observe.specs.Files.{HaveLimits, HaveOwnSlots, LogFits, lacks_limits, lacks_on}
-use Rattle.fr_observe.specs.Reasons.{log_node_reason, each_by, has_entry, is_arbitrary_by, delay_limits_by, log_reason_after, log_row_reason, names_arbitrary}
+use Rattle.fr_observe.specs.Reasons.{delay_limits_by, each_by, has_entry, is_arbitrary_by, log_node_reason, log_reason_after, log_row_reason, names_arbitrary}
 use Rattle.fr_observe.specs.Rows.{log_row_of}
-use Rattle.fr_observe.specs.View.{LogView, is_arbitrary_in, delay_limits_of}
+use Rattle.fr_observe.specs.View.{LogView, delay_limits_of, is_arbitrary_in}
 use Rattle.fr_observe.specs.declared.rows.Row.{Row}
 use Rattle.fr_observe.specs.declared.rows.Row.TheVariants as row
 

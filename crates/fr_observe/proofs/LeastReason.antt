@@ -17,10 +17,10 @@ use Rattle.fr_text.proofs.LeastReasons.{least-first}
 use Rattle.fr_text.proofs.FormFacts.{IsFault, IsFormed, IsFormedBy, IsRead, formed-if, formed-one, formed-read, formed-sized, formed-two, is_overfull, least-formed, natural-read, never, read-both}
 use Rattle.fr_cluster.specs.Questions.{has_channel, node_of, own_key}
 use Rattle.fr_cluster.specs.Values.{Values}
-use Rattle.fr_observe.specs.Holding.{comes_too_late, log_delay_form, each_form, entry_form, form_by, has_no_bytes, is_off_node, is_there_already, limit_fields, link_form, log_form, log_holds, may_not_come, log_node_form, names_no_node, number_form, whole_form}
+use Rattle.fr_observe.specs.Holding.{comes_too_late, each_form, entry_form, form_by, has_no_bytes, is_off_node, is_there_already, limit_fields, link_form, log_delay_form, log_form, log_holds, log_node_form, may_not_come, names_no_node, number_form, whole_form}
 use Rattle.fr_observe.specs.Numbers.{greatest_number, head_number_of, least_number}
-use Rattle.fr_observe.specs.Reasons.{are_crossed, each_by, has_entry, is_arbitrary_by, is_beyond_last, is_misfit, comes_out_of_turn, is_log_whole, delay_limits_by, log_reason_after, log_row_reason, number_by}
-use Rattle.fr_observe.specs.Rows.{came_row, log_delay_row, each_row, entry_row, last_stamp, limits_in, limits_with, link_row, log_file_row, log_row_of, most_delay, log_node_row, number_row, log_row_by, whole_row}
+use Rattle.fr_observe.specs.Reasons.{are_crossed, comes_out_of_turn, delay_limits_by, each_by, has_entry, is_arbitrary_by, is_beyond_last, is_log_whole, is_misfit, log_reason_after, log_row_reason, number_by}
+use Rattle.fr_observe.specs.Rows.{came_row, each_row, entry_row, last_stamp, limits_in, limits_with, link_row, log_delay_row, log_file_row, log_node_row, log_row_by, log_row_of, most_delay, number_row, whole_row}
 use Rattle.fr_observe.specs.declared.entry.EntryKind.{EntryKind}
 use Rattle.fr_observe.specs.declared.entry.EntryKind.TheVariants as kind
 use Rattle.fr_observe.specs.declared.rows.DelayLimits.{DelayLimits}

@@ -10,7 +10,7 @@ use Rattle.fr_text.specs.Fields.{or_else}
 use Rattle.fr_text.specs.Records.{FileRecord}
 use Rattle.fr_text.proofs.Lookups.{looked_up-more}
 use Rattle.fr_observe.specs.Rows.{log_row_of}
-use Rattle.fr_observe.specs.Reasons.{each_by, each_said, entries_by, entry_said, is_arbitrary_by, is_log_whole, delay_limits_by, limits_said, names_arbitrary, number_by, number_said, whole_said}
+use Rattle.fr_observe.specs.Reasons.{delay_limits_by, each_by, each_said, entries_by, entry_said, is_arbitrary_by, is_log_whole, limits_said, names_arbitrary, number_by, number_said, whole_said}
 use Rattle.fr_observe.specs.declared.rows.HeadNumber.{HeadNumber}
 use Rattle.fr_observe.specs.declared.rows.Row.{Row}
 

@@ -10,7 +10,7 @@ use Rattle.fr_text.specs.Refusal.{FirstRefused, NoneRefused}
 use Rattle.fr_text.proofs.Cuts.{none-or-first-refused}
 use Rattle.fr_cluster.specs.Values.{Values}
 use Rattle.fr_observe.specs.Files.{LogStandsFor, lacks_delay, log_file}
-use Rattle.fr_observe.specs.Reasons.{each_by, entries_by, is_arbitrary_by, is_log_whole, delay_limits_by, log_reason_after, number_by}
+use Rattle.fr_observe.specs.Reasons.{delay_limits_by, each_by, entries_by, is_arbitrary_by, is_log_whole, log_reason_after, number_by}
 use Rattle.fr_observe.specs.View.{LogView, is_arbitrary_in, own_limits}
 use Rattle.fr_observe.specs.declared.fault.LogFault.{LogFault}
 use Rattle.fr_observe.specs.declared.fault.LogFault.TheVariants as fault

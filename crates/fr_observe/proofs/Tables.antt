@@ -18,7 +18,7 @@ use Rattle.fr_text.specs.Records.{FileRecord}
 use Rattle.fr_text.proofs.Lookups.{looked_up-nil, or_else-none}
 use Rattle.fr_observe.specs.Numbers.{head_place}
 use Rattle.fr_observe.specs.Rows.{AreEntryBytes, last_stamp, log_row_of}
-use Rattle.fr_observe.specs.Reasons.{each_by, each_said, entries_by, entry_said, has_entry, is_below_last, is_beyond_last, comes_out_of_turn, is_some_entry, delay_limits_by, limits_said, names_arbitrary, number_by, number_said, whole_said}
+use Rattle.fr_observe.specs.Reasons.{comes_out_of_turn, delay_limits_by, each_by, each_said, entries_by, entry_said, has_entry, is_below_last, is_beyond_last, is_some_entry, limits_said, names_arbitrary, number_by, number_said, whole_said}
 use Rattle.fr_observe.specs.View.{AreAllLimits, AreDelayLimits, IsEntry}
 use Rattle.fr_observe.specs.Draft.{AreProperTables, IsLogDraft, IsTakenNumber, number_in_table}
 use Rattle.fr_observe.specs.declared.draft.Draft.{Draft}

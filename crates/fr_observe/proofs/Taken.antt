@@ -8,7 +8,7 @@ use Rattle.fr_text.specs.Records.{FileRecord}
 use Rattle.fr_cluster.specs.Questions.{has_channel, node_of}
 use Rattle.fr_cluster.specs.Values.{Values}
 use Rattle.fr_observe.specs.Rows.{most_delay}
-use Rattle.fr_observe.specs.Reasons.{are_crossed, each_by, each_reason, has_entry, is_misfit, delay_limits_by, limits_reason, number_by, number_reason}
+use Rattle.fr_observe.specs.Reasons.{are_crossed, delay_limits_by, each_by, each_reason, has_entry, is_misfit, limits_reason, number_by, number_reason}
 use Rattle.fr_observe.specs.View.{AreDelayLimits}
 use Rattle.fr_observe.specs.declared.rows.DelayLimits.{DelayLimits}
 use Rattle.fr_observe.specs.declared.rows.DelayRow.{DelayRow}

@@ -8,7 +8,7 @@ use Rattle.fr_text.specs.Takes.{TakesRow}
 use Rattle.fr_cluster.specs.Values.{Values}
 use Rattle.fr_observe.specs.Files.{LogStandsFor, lacks_delay}
 use Rattle.fr_observe.specs.Numbers.{IsHeadNumber, head_place}
-use Rattle.fr_observe.specs.Reasons.{each_by, entries_by, is_arbitrary_by, is_misfit, is_log_whole, delay_limits_by, log_row_reason, number_by}
+use Rattle.fr_observe.specs.Reasons.{delay_limits_by, each_by, entries_by, is_arbitrary_by, is_log_whole, is_misfit, log_row_reason, number_by}
 use Rattle.fr_observe.specs.Rows.{log_row_of}
 use Rattle.fr_observe.specs.View.{AreAllLimits, AreDelayLimits, IsEntry, IsLog, LogView}
 use Rattle.fr_observe.specs.declared.draft.Draft.{Draft}

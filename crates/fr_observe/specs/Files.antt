@@ -10,8 +10,8 @@ use Rattle.fr_text.specs.Refusal.{FirstRefused, NoneRefused}
 use Rattle.fr_cluster.specs.Questions.{has_channel, node_of, own_key}
 use Rattle.fr_cluster.specs.Values.{Values}
 use Rattle.fr_cluster.specs.declared.nodes.NodeSpec.{NodeSpec}
-use Rattle.fr_observe.specs.Reasons.{each_by, entries_by, is_arbitrary_by, is_log_whole, delay_limits_by, log_reason_after, number_by}
-use Rattle.fr_observe.specs.View.{IsLog, LogView, is_arbitrary_in, delay_limits_of, own_limits}
+use Rattle.fr_observe.specs.Reasons.{delay_limits_by, each_by, entries_by, is_arbitrary_by, is_log_whole, log_reason_after, number_by}
+use Rattle.fr_observe.specs.View.{IsLog, LogView, delay_limits_of, is_arbitrary_in, own_limits}
 use Rattle.fr_observe.specs.declared.fault.LogFault.{LogFault}
 use Rattle.fr_observe.specs.declared.fault.LogFault.TheVariants as fault
 use Rattle.fr_observe.specs.declared.rows.HeadNumber.TheVariants as head
@@ -96,11 +96,12 @@ log_file p = record { is_file_of = IsLogFile p; refuses = RefusesLog p; is_sound
 
 -- ---- what a log that fits promises
 
--- the delay of each correct node with a key slot is limited on each channel that it has
+-- a correct node with a key slot
 pub record IsSyncSender (p : Values) (l : LogView) (node : ℕ) : Type 0 where
   pub key : IsSome (own_key p node)
   pub correct : is_arbitrary_in l node ≡ false
 
+-- the delay of the frames of each is limited on each channel that it has
 abbrev pub HaveLimits : Values → LogView → Type 0
 HaveLimits p l = (node : ℕ) (ch : Channel) → node ≤ 64 → IsSyncSender p l node → has_channel (node_of p node) ch ≡ true → IsSome (delay_limits_of l node ch)
 

@@ -12,7 +12,7 @@ use Rattle.fr_text.specs.Least.{row_passes}
 use Rattle.fr_cluster.specs.Questions.{has_channel, node_of, own_key}
 use Rattle.fr_cluster.specs.Values.{Values}
 use Rattle.fr_observe.specs.Numbers.{greatest_number, head_number_of, least_number}
-use Rattle.fr_observe.specs.Reasons.{are_crossed, each_by, has_entry, is_arbitrary_by, is_beyond_last, is_misfit, comes_out_of_turn, is_log_whole, delay_limits_by, number_by}
+use Rattle.fr_observe.specs.Reasons.{are_crossed, comes_out_of_turn, delay_limits_by, each_by, has_entry, is_arbitrary_by, is_beyond_last, is_log_whole, is_misfit, number_by}
 use Rattle.fr_observe.specs.Rows.{last_stamp, log_row_of, most_delay}
 use Rattle.fr_observe.specs.declared.rows.HeadNumber.{HeadNumber}
 use Rattle.fr_observe.specs.declared.rows.Row.{Row}

@@ -5,7 +5,7 @@ ghost use Rattle.fr_cluster.specs.Questions.{has_channel};
 ghost use Rattle.fr_observe.specs.Draft.{EndsLog, IsLogDraft, TakesLogRow, TakesLogRowAtOnce, log_drafted, number_in_table};
 ghost use Rattle.fr_observe.specs.Files.{lacks_delay, lacks_limits, lacks_on};
 ghost use Rattle.fr_observe.specs.Numbers.{IsHeadNumber, head_place};
-ghost use Rattle.fr_observe.specs.Reasons.{are_crossed, has_entry, is_arbitrary_by, is_below_last, is_beyond_last, is_misfit, comes_out_of_turn, delay_limits_by, log_reason_after, number_by};
+ghost use Rattle.fr_observe.specs.Reasons.{comes_out_of_turn, delay_limits_by, has_entry, is_arbitrary_by, is_below_last, is_beyond_last, is_misfit, log_reason_after, number_by};
 ghost use Rattle.fr_observe.specs.Rows.{IsProperCame, IsProperLogRow, last_stamp};
 ghost use Rattle.fr_observe.specs.declared.rows.HeadNumber.TheVariants as head;
 ghost use Rattle.fr_observe.specs.declared.rows.Row.TheVariants as said;
@@ -142,7 +142,7 @@ impl<'a> Draft<'a> {
         let Some(channel) = row.channel else {
             return Some(Reason::BadChannel);
         };
-        if are_crossed(&row.limits) || self.has_entry() {
+        if row.limits.high < row.limits.low || self.has_entry() {
             return Some(Reason::Role);
         }
         if !has(spec, channel) {
@@ -162,7 +162,7 @@ impl<'a> Draft<'a> {
         requires { limits.high ≤ 1_000_000_000 }
         ensures { TakesLogRowAtOnce self.old self.new (said.EachDelay limits) result }
     {
-        if are_crossed(&limits) || self.has_entry() {
+        if limits.high < limits.low || self.has_entry() {
             return Some(Reason::Role);
         }
         if self.each.is_some() {
@@ -342,12 +342,6 @@ fn is_misfit(name: HeadNumber, number: u64) -> bool
         HeadNumber::Since => number % 2 == 1,
         HeadNumber::Unit | HeadNumber::Drift | HeadNumber::Error | HeadNumber::Jitter => false,
     }
-}
-
-fn are_crossed(limits: &DelayLimits) -> bool
-    ensures { result ≡ are_crossed limits.now }
-{
-    limits.high < limits.low
 }
 
 // Whether an instant of so many units comes after the greatest.

@@ -1,6 +1,6 @@
 ghost use Rattle.std.specs.Prelude.{◌≡◌, ◌≤◌, All, IfSome};
 ghost use Rattle.std.specs.List.Sorted.{IsNonDecreasingBy};
-ghost use Rattle.fr_observe.specs.View.{AreDelayLimits, IsEntry, IsEvenCycle, IsLog, is_arbitrary_in, jitter_of, jitter_within, delay_limits_of, own_limits};
+ghost use Rattle.fr_observe.specs.View.{AreDelayLimits, IsEntry, IsEvenCycle, IsLog, delay_limits_of, is_arbitrary_in, jitter_of, jitter_within, own_limits};
 
 use crate::entry::Entry;
 use crate::rows::DelayLimits;
@@ -23,7 +23,7 @@ pub struct Log {
 }
 
 impl Model for Log {
-    ghost use Rattle.fr_observe.specs.View.{LogView, IsLog};
+    ghost use Rattle.fr_observe.specs.View.{IsLog, LogView};
 
     ghost Value = { LogView };
 

@@ -1,8 +1,8 @@
 ghost use Rattle.std.specs.Prelude.{◌≡◌, ◌≤◌, length, IfOk, IfSome};
 ghost use Rattle.csv.specs.Records.{fields_of};
 ghost use Rattle.fr_text.specs.Fields.{field_of, hex_digits_in, is_blank};
-ghost use Rattle.fr_observe.specs.Numbers.{greatest_number, head_number_of, least_number, head_place};
-ghost use Rattle.fr_observe.specs.Rows.{AreEntryBytes, IsProperLogRow, log_delay_row, each_row, entry_bytes_in, entry_row, is_alone, limits_in, link_row, log_file_row, log_row_of, log_node_row, number_row, other_row, whole_row};
+ghost use Rattle.fr_observe.specs.Numbers.{greatest_number, head_number_of, head_place, least_number};
+ghost use Rattle.fr_observe.specs.Rows.{AreEntryBytes, IsProperLogRow, each_row, entry_bytes_in, entry_row, is_alone, limits_in, link_row, log_delay_row, log_node_row, log_row_of, number_row, other_row, whole_row};
 
 use crate::entry::{EntryBytes, EntryKind};
 use csv::ByteRecord;
@@ -120,13 +120,7 @@ impl HeadNumber {
         ensures value { result ≡ head_place self }
         ensures low { result ≤ 4 }
     {
-        match self {
-            HeadNumber::Unit => 0,
-            HeadNumber::Drift => 1,
-            HeadNumber::Error => 2,
-            HeadNumber::Jitter => 3,
-            HeadNumber::Since => 4,
-        }
+        self as usize
     }
 }
 
@@ -140,14 +134,6 @@ pub fn read_row(alloc: Global, row: &ByteRecord) -> Result<Result<Row, Reason>, 
     if row.len() != 5 {
         return Ok(Err(Reason::Shape));
     }
-    read_kind(alloc, row)
-}
-
-fn read_kind(alloc: Global, row: &ByteRecord) -> Result<Result<Row, Reason>, AllocError>
-    requires { length (fields_of row.now) ≡ 5 }
-    ensures said { IfOk result (λ said. said ≡ log_file_row (fields_of row.now)) }
-    ensures proper { IfOk result (λ said. IfOk said IsProperLogRow) }
-{
     match HeadNumber::spelt(field(row, 0)) {
         Some(name) => Ok(read_number(name, row)),
         None => read_other(alloc, row),

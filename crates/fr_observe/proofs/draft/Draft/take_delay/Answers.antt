@@ -4,7 +4,7 @@ use Rattle.fr_base.specs.declared.channel.Channel.TheVariants as channel
 use Rattle.fr_base.specs.declared.reason.Reason.{Reason}
 use Rattle.fr_text.specs.Records.{FileRecord}
 use Rattle.fr_observe.specs.Draft.{IsLogDraft}
-use Rattle.fr_observe.specs.Reasons.{log_delay_reason, limits_reason}
+use Rattle.fr_observe.specs.Reasons.{limits_reason, log_delay_reason}
 use Rattle.fr_observe.specs.declared.rows.DelayLimits.{DelayLimits}
 use Rattle.fr_observe.specs.declared.rows.Row.{Row}
 use Rattle.fr_observe.specs.declared.rows.Row.TheVariants as row
