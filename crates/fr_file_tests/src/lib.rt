@@ -7,6 +7,8 @@ mod coverage;
 #[cfg(test)]
 mod drift;
 #[cfg(test)]
+mod faults;
+#[cfg(test)]
 mod params;
 #[cfg(test)]
 mod records;

@@ -38,11 +38,11 @@ cycle,7,1,0,1000000,0,0,active\ncycle,7,2,0,1000000,0,0,active\ncycle,7,3,0,1000
 // A node that joins, the double cycle in which it listens, and the node to which.
 type Joining = (u8, u32, u8);
 
-// The nodes of a cluster, a trace, how many double cycles, arbitrary nodes and cycles it has, and who joins.
-const SAID: &[(&str, &str, u32, u32, usize, &[Joining])] = &[
-    (TWO_ON_A, TRACE, 1, 0, 2, &[]),
-    (TWO_ON_A, ARBITRARY, 2, 2, 4, &[]),
-    (THREE_ON_A, JOINED, 4, 0, 8, &[(3, 0, 1)]),
+// The nodes of a cluster, a trace, how many double cycles and cycles it has, which nodes are arbitrary, and who joins.
+const SAID: &[(&str, &str, u32, usize, &[u8], &[Joining])] = &[
+    (TWO_ON_A, TRACE, 1, 2, &[], &[]),
+    (TWO_ON_A, ARBITRARY, 2, 4, &[1, 2], &[]),
+    (THREE_ON_A, JOINED, 4, 8, &[], &[(3, 0, 1)]),
 ];
 
 fn trace_of(alloc: Global, params: &Params, text: &str) -> Result<Trace, Fail> {
@@ -69,13 +69,23 @@ fn has_joins(trace: &Trace, joins: &[Joining]) -> bool {
     trace.joins().len() == joins.len()
 }
 
+fn has_arbitrary(trace: &Trace, nodes: &[u8]) -> bool {
+    let named = trace.arbitrary_nodes();
+    trace.arbitrary() as usize == nodes.len()
+        && named.len() == nodes.len()
+        && named
+            .iter()
+            .zip(nodes)
+            .all(|(node, number)| node.0 == *number)
+}
+
 // The place of the first row of which a trace says otherwise.
 fn first_wrong(alloc: Global) -> Result<Option<usize>, Fail> {
-    for (place, (nodes, text, doubles, arbitrary, cycles, joins)) in SAID.iter().enumerate() {
+    for (place, (nodes, text, doubles, cycles, arbitrary, joins)) in SAID.iter().enumerate() {
         let params = params_of(alloc, &[], nodes, &[])?;
         let trace = trace_of(alloc, &params, text)?;
-        let counts = (trace.doubles(), trace.arbitrary(), trace.cycles().len());
-        if counts != (*doubles, *arbitrary, *cycles) || !has_joins(&trace, joins) {
+        let named = has_arbitrary(&trace, arbitrary) && has_joins(&trace, joins);
+        if (trace.doubles(), trace.cycles().len()) != (*doubles, *cycles) || !named {
             return Ok(Some(place));
         }
     }

@@ -5,7 +5,7 @@ use fr_program::{
     DiskShelf, MemoryShelf, MemorySink, StreamSink, SureShelf, SureSink, request_words,
 };
 use fr_text::Piece::{Bytes, Hex, Natural, Signed, Word};
-use fr_text::{line_of, put_lines, row_of};
+use fr_text::{Draft, Line, line_of, put_line, put_lines, row_of};
 use std::alloc::{AllocError, Global};
 use std::fs;
 use std::test::Fail;
@@ -211,12 +211,24 @@ fn are_shown() -> bool {
         && row.bytes() == b"say,18446744073709551615,A,AB09\n".as_slice()
 }
 
+// Whether a line is spelt in the place of another one, behind a front.
+fn is_spelt() -> bool {
+    let mut front = Draft::new();
+    front.spell_front(b"dev", &[Natural(7), Word(b"x")]);
+    let mut line = Line::new();
+    line.spell(&[Word(b"before")]);
+    let before = line.bytes() == b"before\n".as_slice();
+    line.spell_row(front.bytes(), &[Signed(-3), Word(b"")]);
+    before && front.bytes() == b"dev,7,x".as_slice() && line.bytes() == b"dev,7,x,-3,\n".as_slice()
+}
+
 #[test]
 fn a_line_shows_numbers(rt: HostRuntime) {
     for (value, text) in SIGNED {
         assert!(rt; line_of(&[Signed(*value)]).bytes() == *text);
     }
     assert!(rt; are_shown());
+    assert!(rt; is_spelt());
 }
 
 // The put that fails, and what is written then.
@@ -233,6 +245,13 @@ fn is_put(sink: &mut MemorySink, written: &[u8]) -> bool {
     put_lines(&lines, sink) == Err(PutFault::Failed) && sink.bytes() == written
 }
 
+// Whether two lines are put one after the other.
+fn are_put(sink: &mut MemorySink) -> bool {
+    put_line(&line_of(&[Word(b"one")]), sink).is_ok()
+        && put_line(&Line::new(), sink).is_ok()
+        && sink.bytes() == b"one\n\n".as_slice()
+}
+
 #[test]
 fn each_line_is_one_put(rt: HostRuntime) -> Result<(), Fail> {
     for (failing, written) in FAILING {
@@ -240,6 +259,7 @@ fn each_line_is_one_put(rt: HostRuntime) -> Result<(), Fail> {
         sink.fail_at(*failing)?;
         assert!(rt; is_put(&mut sink, written));
     }
+    assert!(rt; are_put(&mut MemorySink::new(rt.alloc(), 100)?));
     Ok(())
 }
 

@@ -2,7 +2,7 @@
 ghost use Rattle.std.specs.Prelude.{IsTrue};
 
 use fr_base::Channel;
-use fr_frame::{EncodeFault, Frame, FrameFault, Header, decode, encode};
+use fr_frame::{EncodeFault, Frame, FrameFault, Front, Header, decode, encode, front_of};
 
 const HEADER: Header = Header {
     reserved: false,
@@ -83,6 +83,58 @@ fn rows_are_read_and_faults_are_the_first(rt: HostRuntime) {
         assert!(rt; decode(*channel, bytes).err() == Some(*fault));
     }
     assert!(rt; is_read());
+}
+
+const SYNC: Header = Header {
+    reserved: false,
+    preamble: false,
+    null_bit: false,
+    sync: true,
+    startup: true,
+    id: 1,
+    words: 0,
+    cycle: 0,
+};
+
+const ONE_WORD: Header = Header { words: 1, ..SYNC };
+
+// Five bytes, and more behind them, and what they say: a header with the CRC that it keeps and the one that is computed of it.
+const FRONTS: &[(&[u8], Front)] = &[
+    (
+        b"\x18\x01\x00\x6F\x00",
+        Front {
+            header: SYNC,
+            kept: 0x1BC,
+            computed: 0x1BC,
+        },
+    ),
+    (
+        b"\x18\x01\x02\x6F\x00\x9A\xE5",
+        Front {
+            header: ONE_WORD,
+            kept: 0x1BC,
+            computed: 0x239,
+        },
+    ),
+    (
+        b"\x27\xFF\xFE\x4D\x7F",
+        Front {
+            header: HEADER,
+            kept: 0x135,
+            computed: 0x135,
+        },
+    ),
+];
+
+fn is_front(bytes: &[u8], front: &Front) -> bool {
+    bytes.len() >= 5 && front_of(bytes) == *front
+}
+
+#[test]
+fn the_front_of_a_frame_is_read(rt: HostRuntime) {
+    for (bytes, front) in FRONTS {
+        assert!(rt; is_front(bytes, front));
+    }
 }
 
 // What is written is read back: proved for every frame, and run for one.

@@ -20,3 +20,5 @@ mod pool;
 mod terms;
 #[cfg(test)]
 mod time;
+#[cfg(test)]
+mod words;
