@@ -25,5 +25,9 @@ lent_shelf first second third missing = record {
   asked = None;
 }
 
+-- how many loads of other names were counted
+abbrev pub missing_faults : LentFiles → ℕ
+missing_faults files = files.missing
+
 abbrev pub lent_state : LentFiles → Shelved
-lent_state files = lent_shelf files.first.now files.second.now files.third.now files.missing
+lent_state files = lent_shelf files.first.now files.second.now files.third.now (missing_faults files)

@@ -1,7 +1,7 @@
-ghost use Rattle.std.specs.Prelude.{◌≡◌, [], OnOk, OnErr, IfErr};
+ghost use Rattle.std.specs.Prelude.{◌≡◌, ◌↔◌, [], false, OnOk, OnErr, IfErr, IsErrOf};
 ghost use Rattle.std.specs.Option.{option_map};
 ghost use Rattle.fr_base.specs.Device.{IsLoaded, IsOneLoadLater, StopsLoad, raised};
-ghost use Rattle.flexray_c.specs.Lent.{lent_shelf, lent_state, lent_under};
+ghost use Rattle.flexray_c.specs.Lent.{is_lent, lent_shelf, lent_state, lent_under, missing_faults};
 
 use fr_base::{LoadFault, MAX_FILE, Shelf};
 
@@ -46,7 +46,20 @@ impl<'a> LentFiles<'a> {
 impl Shelf for LentFiles<'_> {
     ghost state = { lent_state };
 
-    fn load(&mut self, name: &str, into: &mut Vec<u8>) -> Result<(), LoadFault> {
+    fn load(&mut self, name: &str, into: &mut Vec<u8>) -> Result<(), LoadFault>
+        requires { into.old.items ≡ [] }
+
+        // what every shelf promises
+        ensures loaded { OnOk result (IsLoaded (lent_state self.old) name.now into.new.items) }
+        ensures stops { IfErr result (StopsLoad (lent_state self.old) (lent_state self.new) name.now) }
+        ensures emptied { OnErr result (into.new.items ≡ []) }
+        ensures later { IsOneLoadLater (lent_state self.old) (lent_state self.new) name.now }
+
+        // A load fails exactly where the name is none of the three. It is counted once then, and nothing else is.
+        ensures failed { IsErrOf result LoadFault.Failed ↔ (is_lent name.now ≡ false) }
+        ensures counted { IsErrOf result LoadFault.Failed → missing_faults self.new ≡ raised (missing_faults self.old) }
+        ensures quiet { (IsErrOf result LoadFault.Failed → ⊥) → missing_faults self.new ≡ missing_faults self.old }
+    {
         let Some(bytes) = self.under(name) else {
             self.missing = self.missing.saturating_add(1);
             return Err(LoadFault::Failed);
