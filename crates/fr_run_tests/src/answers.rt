@@ -26,7 +26,26 @@ C4 holds 1394154113400 1262718000000\n\
 C5 holds 4592218372600 1262718000000\n\
 ";
 
-const LONG_IDLE: Lines = &[("param,gdNIT", "param,gdNIT,801,,")];
+pub(crate) const BOUND_JOIN: &[&str] = &["bound", "p", "join"];
+
+pub(crate) const JOIN_BOUNDS: &str = "\
+y1 3000400\n\
+lambda 30005200\n\
+pi 190032800\n\
+precision 252043600\n\
+C1 holds 3999200 3000400\n\
+C2 holds 80983800 80000000\n\
+C3 holds 253949200 253543800\n\
+C4 holds 1394154113400 1262718000000\n\
+C5 holds 4592218372600 1262718000000\n\
+reach 452077600\n\
+C6 fails 80983800 83000400\n\
+C7 fails 253949200 453577800\n\
+C8 fails 1394154113400 2262888000000\n\
+C9 holds 4592218372600 2262888000000\n\
+";
+
+pub(crate) const LONG_IDLE: Lines = &[("param,gdNIT", "param,gdNIT,801,,")];
 
 const BOUND_ROWS: &[Row] = &[
     (
@@ -49,6 +68,13 @@ const BOUND_ROWS: &[Row] = &[
         Refused,
         "",
         "params: record 21: Role\n",
+    ),
+    (
+        BOUND_JOIN,
+        &[Params(LONG_IDLE, TWO_ON_A)],
+        Refused,
+        "",
+        "params: constraint 1\n",
     ),
     (BOUND, &[], ReadFault, "", "params: read fault\n"),
     (
@@ -212,6 +238,97 @@ const RUNS: &[Row] = &[
     ),
 ];
 
+pub(crate) const UPGRADE: &[&str] = &["upgrade", "p"];
+
+pub(crate) const UPGRADED: &str = "\
+version,2,,,\n\
+param,gMacroPerCycle,5000,,\n\
+param,pMicroPerCycle,200000,,\n\
+param,gNumberOfStaticSlots,140,,\n\
+param,gdStaticSlot,30,,\n\
+param,gdActionPointOffset,7,,\n\
+param,gdNIT,800,,\n\
+param,gPayloadLengthStatic,0,,\n\
+param,gOffsetCorrectionStart,4900,,\n\
+param,gMaxWithoutClockCorrectionPassive,2,,\n\
+param,gMaxWithoutClockCorrectionFatal,4,,\n\
+param,pAllowHaltDueToClock,1,,\n\
+param,pAllowPassiveToActive,2,,\n\
+param,pClusterDriftDamping,4,,\n\
+param,pOffsetCorrectionOut,254,,\n\
+param,pRateCorrectionOut,81,,\n\
+param,pDelayCompensationA,0,,\n\
+param,pDelayCompensationB,0,,\n\
+param,xRateBound,200,,\n\
+param,xChangeBound,0,,\n\
+param,xDelayError,500000,,\n\
+node,1,1,A,1\n\
+node,2,2,A,1\n\
+";
+
+pub(crate) const COLD: &[&str] = &["cold", "p", "w"];
+
+// Both nodes are switched on at the start.
+pub(crate) const POWER: File = Bytes("w", b"cycles,10,\non,1,0\non,2,0\n");
+
+pub(crate) const STARTUP_LINES: &str = "\
+coldstart 2 cycles 10\n\
+connected yes\n\
+lead 1 at 30001\n\
+leading 1\n\
+";
+
+pub(crate) const NM: &[&str] = &["nm", "2", "v"];
+
+pub(crate) const VECTORS: File = Bytes(
+    "v",
+    b"9,A,600502b3891234dbef87\n9,A,600602344941801eadbd\n",
+);
+
+pub(crate) const VECTOR_LINES: &str = "\
+cycle 9 vector 53B4 frames 2\n\
+frames 2 ignored 0\n\
+";
+
+// What these three answer of files that are not accepted.
+const OTHER_FILES: &[Row] = &[
+    (
+        UPGRADE,
+        &[Params(&[], "node,1,1,A,1\nnode,2,,A,1\n")],
+        Refused,
+        "",
+        "params: record 21: Role\n",
+    ),
+    (
+        COLD,
+        &[Params(LONG_IDLE, TWO_ON_A), POWER],
+        Refused,
+        "",
+        "params: constraint 1\n",
+    ),
+    (
+        COLD,
+        &[CLUSTER, Bytes("w", b"cycles,10,\non,3,0\n")],
+        Refused,
+        "",
+        "power: record 2: UnknownNode\n",
+    ),
+    (
+        COLD,
+        &[CLUSTER, Bytes("w", b"")],
+        Refused,
+        "",
+        "power: missing cycles\n",
+    ),
+    (
+        NM,
+        &[Bytes("v", b"9,A,6005\n9,A,600\n")],
+        Refused,
+        "",
+        "vectors: record 2: NotHex\n",
+    ),
+];
+
 // The report of the cluster of seed 7 over one double cycle: the correct nodes send 18 frames a cycle and channel.
 pub(crate) const MADE_REPORT: &str = "\
 nodes 8 sync 8 arbitrary 2 doubles 1\n\
@@ -255,6 +372,28 @@ in sync 0\n\
 greatest skew 2500000 cycle 0 macrotick 0\n\
 ";
 
+// The trace of two clocks that hear nothing of each other.
+const QUIET: &str = "\
+run,1,,,,,,\n\
+cycle,0,1,0,1000000,0,0,active\n\
+cycle,0,2,2500000,1000000,0,0,active\n\
+cycle,1,1,200000000000,1000000,0,0,active\n\
+cycle,1,2,200002500000,1000000,0,0,active\n\
+";
+
+const FAST: Lines = &[
+    ("cycle,0,2", "cycle,0,2,0,1000201,0,0,active"),
+    ("cycle,1,2", "cycle,1,2,200040200000,1000201,0,0,active"),
+];
+
+const FASTER: Lines = &[("cycle,1,2", "cycle,1,2,200002500000,1000001,0,0,active")];
+
+// An offset limit that is a microtick too small for the third check.
+const TIGHT: Lines = &[(
+    "param,pOffsetCorrectionOut",
+    "param,pOffsetCorrectionOut,253,,",
+)];
+
 const LATER_START: Lines = &[("cycle,1,1", "cycle,1,1,200000000001,1000000,0,1,active")];
 
 const CHECKS: &[Row] = &[
@@ -275,6 +414,48 @@ const CHECKS: &[Row] = &[
         "",
         "trace: not covered count 0 2\n",
     ),
+    (
+        CHECK,
+        &[CLUSTER, Text("t", QUIET, FAST)],
+        No,
+        "",
+        "trace: not covered length 2 0 1000201\n",
+    ),
+    (
+        CHECK,
+        &[CLUSTER, Text("t", QUIET, FASTER)],
+        No,
+        "",
+        "trace: not covered change 2 1 1\n",
+    ),
+    (
+        CHECK,
+        &[CLUSTER, Text("t", QUIET, &[])],
+        No,
+        "",
+        "trace: not covered link 1 2 0\n",
+    ),
+    (
+        CHECK,
+        &[Params(TIGHT, TWO_ON_A), Text("t", QUIET, &[])],
+        No,
+        "",
+        "trace: not covered check 3 252949400 253543800\n",
+    ),
+    (
+        CHECK,
+        &[CLUSTER, Bytes("t", b"")],
+        Refused,
+        "",
+        "trace: incomplete 0\n",
+    ),
+    (
+        CHECK,
+        &[CLUSTER, Bytes("t", b"run,1,,,,,,\n")],
+        Refused,
+        "",
+        "trace: incomplete 1\n",
+    ),
 ];
 
 const USAGE: &str = "usage: flexray COMMAND WORDS\n";
@@ -293,7 +474,15 @@ const OTHER_WORDS: &[Row] = &[
     (&["make", "4294967296", "1"], &[], Usage, "", USAGE),
 ];
 
-const TABLES: &[&[Row]] = &[BOUND_ROWS, FRAMES, RECORDINGS, RUNS, CHECKS, OTHER_WORDS];
+const TABLES: &[&[Row]] = &[
+    BOUND_ROWS,
+    FRAMES,
+    RECORDINGS,
+    RUNS,
+    OTHER_FILES,
+    CHECKS,
+    OTHER_WORDS,
+];
 
 #[test]
 fn rows_are_answered(rt: HostRuntime) -> Result<(), Fail> {

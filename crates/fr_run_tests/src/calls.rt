@@ -110,17 +110,36 @@ pub(crate) fn answers(
     ends(alloc, program, &words, &mut shelf, (put, tell), wanted)
 }
 
-// Whether `flexray` answers a row so, where these fail.
-pub(crate) fn is_row(alloc: Global, row: &Row<'_>, faults: Faults) -> Result<bool, AllocError> {
+// Whether a program answers a row so, where these fail.
+pub(crate) fn is_row(
+    alloc: Global,
+    program: Program,
+    row: &Row<'_>,
+    faults: Faults,
+) -> Result<bool, AllocError> {
     let (words, files, status, out, err) = row;
     let wanted = (*status, out.as_bytes(), *err);
-    answers(alloc, Program::Flexray, words, files, faults, wanted)
+    answers(alloc, program, words, files, faults, wanted)
 }
 
-// The place of the first of these that it answers otherwise.
+// The place of the first of these that `flexray` answers otherwise.
 pub(crate) fn first_other(alloc: Global, rows: &[Row<'_>]) -> Result<Option<usize>, AllocError> {
     for (place, row) in rows.iter().enumerate() {
-        if !is_row(alloc, row, NONE)? {
+        if !is_row(alloc, Program::Flexray, row, NONE)? {
+            return Ok(Some(place));
+        }
+    }
+    Ok(None)
+}
+
+// The place of the first of these, of which something may fail, that a program answers otherwise.
+pub(crate) fn first_unfailing(
+    alloc: Global,
+    program: Program,
+    rows: &[(Faults, Row<'_>)],
+) -> Result<Option<usize>, AllocError> {
+    for (place, (faults, row)) in rows.iter().enumerate() {
+        if !is_row(alloc, program, row, *faults)? {
             return Ok(Some(place));
         }
     }

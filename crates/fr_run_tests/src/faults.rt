@@ -1,12 +1,14 @@
 // Devices that fail, and those that never do.
 use crate::answers::{
-    BOUND, BOUNDS, CALM, CHECK, CLUSTER, DRIFT, LATE, LINE, MADE_REPORT, ON_A, ON_B, RECORDED, RUN,
-    SYNC, TRACE, TWO, TWO_LINES, VERDICT,
+    BOUND, BOUND_JOIN, BOUNDS, CALM, CHECK, CLUSTER, COLD, DRIFT, JOIN_BOUNDS, LATE, LINE,
+    MADE_REPORT, NM, ON_A, ON_B, POWER, RECORDED, RUN, STARTUP_LINES, SYNC, TRACE, TWO, TWO_LINES,
+    UPGRADE, UPGRADED, VECTOR_LINES, VECTORS, VERDICT,
 };
 use crate::calls::File::{Bytes, Text, TooLong};
 use crate::calls::{
-    Faults, File, NONE, Program, Row, Wanted, answers, ends, is_row, shelf_of, words_of,
+    Faults, File, NONE, Program, Row, Wanted, answers, ends, first_unfailing, shelf_of, words_of,
 };
+use crate::series::{APART_FILES, APART_SERIES, HELD_FILES, HELD_FOR_NONE, SERIES, SHARP_SERIES};
 use fr_answer::Status::{Done, No, ReadFault, Refused, Usage, WriteFault};
 use fr_answer::{Status, flexray};
 use fr_base::PutFault;
@@ -17,6 +19,10 @@ use std::alloc::{AllocError, Global};
 use std::test::Fail;
 
 const CHECKED: &[File] = &[CLUSTER, Text("t", TRACE, &[])];
+
+const STARTED: &[File] = &[CLUSTER, POWER];
+
+const SHARP_JOIN: &[&str] = &["bound", "p", "sharp", "1000000", "join"];
 
 const FRAME: &[File] = &[Bytes("f", SYNC)];
 
@@ -75,21 +81,50 @@ const FAILING: &[(Faults, Row)] = &[
         (2, 5, 2),
         (CHECK, CHECKED, ReadFault, "", "trace: read fault\n"),
     ),
+    (
+        (1, 1, 2),
+        (
+            BOUND_JOIN,
+            &[CLUSTER],
+            ReadFault,
+            "",
+            "params: read fault\n",
+        ),
+    ),
+    (
+        (1, 1, 2),
+        (
+            SHARP_JOIN,
+            &[CLUSTER],
+            ReadFault,
+            "",
+            "params: read fault\n",
+        ),
+    ),
+    (
+        (1, 1, 2),
+        (UPGRADE, &[CLUSTER], ReadFault, "", "params: read fault\n"),
+    ),
+    (
+        (1, 1, 2),
+        (COLD, STARTED, ReadFault, "", "params: read fault\n"),
+    ),
+    (
+        (2, 1, 2),
+        (COLD, STARTED, ReadFault, "", "power: read fault\n"),
+    ),
+    (
+        (1, 1, 2),
+        (NM, &[VECTORS], ReadFault, "", "vectors: read fault\n"),
+    ),
 ];
-
-// The place of the first of these that is answered otherwise.
-fn first_unfailing(alloc: Global) -> Result<Option<usize>, AllocError> {
-    for (place, (faults, row)) in FAILING.iter().enumerate() {
-        if !is_row(alloc, row, *faults)? {
-            return Ok(Some(place));
-        }
-    }
-    Ok(None)
-}
 
 #[test]
 fn devices_fail(rt: HostRuntime) -> Result<(), Fail> {
-    assert_eq!(rt; first_unfailing(rt.alloc())?, None);
+    assert_eq!(rt;
+        first_unfailing(rt.alloc(), Program::Flexray, FAILING)?,
+        None
+    );
     Ok(())
 }
 
@@ -142,6 +177,35 @@ beside C5 holds 4592218372600 573558080000\n\
 lasts on\n\
 ";
 
+const SHARP_JOIN_BOUNDS: &str = "\
+flutter 1000000\n\
+alone lambda 13002198\n\
+alone pi 17002798\n\
+alone precision 45007594\n\
+beside lambda 26004396\n\
+beside pi 87014588\n\
+beside precision 141023780\n\
+C1 holds 3999201 1999800\n\
+C2 holds 80983800 80000000\n\
+alone C3 holds 253949200 32601612\n\
+alone C4 holds 1394154113400 158007060000\n\
+alone C5 holds 4592218372600 158007060000\n\
+beside C3 holds 253949200 115711816\n\
+beside C4 holds 1394154113400 573558080000\n\
+beside C5 holds 4592218372600 573558080000\n\
+lasts on\n\
+alone reach 71167015\n\
+beside reach 180281615\n\
+C6 fails 80983800 82000200\n\
+alone C7 holds 253949200 72667215\n\
+alone C8 holds 1394154113400 358335075000\n\
+alone C9 holds 4592218372600 358335075000\n\
+beside C7 holds 253949200 181781815\n\
+beside C8 holds 1394154113400 903908075000\n\
+beside C9 holds 4592218372600 903908075000\n\
+first rates last 0\n\
+";
+
 const SHARP_WAYS: &str = "\
 start 190032800 rate 30005200 flutter 1000000\n\
 alone peak 252043600\n\
@@ -150,42 +214,60 @@ beside peak 252043600\n\
 beside settles 29\n\
 ";
 
-// Words and files whose answer has several lines, the answer, and how many puts it has with one behind it.
-const WRITTEN: &[(&[&str], &[File], &str, usize)] = &[
-    (BOUND, &[CLUSTER], BOUNDS, 10),
+// A program, words and files whose answer has several lines, the answer, and how many puts it has with one behind it.
+const WRITTEN: &[(Program, &[&str], &[File], &str, usize)] = &[
+    (Program::Flexray, BOUND, &[CLUSTER], BOUNDS, 10),
     (
+        Program::Flexray,
         &["settle", "p", "190032800", "30005200"],
         &[CLUSTER],
         "start 190032800 rate 30005200\npeak 252043600\nsettles 0\n",
         4,
     ),
     (
+        Program::Flexray,
         &["bound", "p", "sharp", "1000000"],
         &[CLUSTER],
         SHARP_BOUNDS,
         17,
     ),
     (
+        Program::Flexray,
         &["settle", "p", "190032800", "30005200", "sharp", "1000000"],
         &[CLUSTER],
         SHARP_WAYS,
         6,
     ),
-    (RECORDED, &[Bytes("f", TWO)], TWO_LINES, 5),
-    (RUN, FILES, LATER_REPORT, 12),
-    (&["make", "7", "1"], &[], MADE_REPORT, 16),
+    (Program::Flexray, BOUND_JOIN, &[CLUSTER], JOIN_BOUNDS, 15),
     (
+        Program::Flexray,
+        SHARP_JOIN,
+        &[CLUSTER],
+        SHARP_JOIN_BOUNDS,
+        27,
+    ),
+    (Program::Flexray, UPGRADE, &[CLUSTER], UPGRADED, 24),
+    (Program::Flexray, COLD, STARTED, STARTUP_LINES, 5),
+    (Program::Flexray, NM, &[VECTORS], VECTOR_LINES, 3),
+    (Program::Flexray, RECORDED, &[Bytes("f", TWO)], TWO_LINES, 5),
+    (Program::Flexray, RUN, FILES, LATER_REPORT, 12),
+    (Program::Flexray, &["make", "7", "1"], &[], MADE_REPORT, 16),
+    (
+        Program::Flexray,
         &["trace", "p", "d", "s"],
         &[CLUSTER, DRIFT, CALM],
         TRACE,
         10,
     ),
-    (CHECK, CHECKED, VERDICT, 5),
+    (Program::Flexray, CHECK, CHECKED, VERDICT, 5),
+    (Program::Series, SERIES, APART_FILES, APART_SERIES, 9),
+    (Program::Series, SHARP_SERIES, HELD_FILES, HELD_FOR_NONE, 13),
 ];
 
 // Whether the lines before a put, so many bytes, were written where it fails.
 fn is_kept(
     alloc: Global,
+    program: Program,
     words: &[&str],
     files: &[File<'_>],
     front: Option<&[u8]>,
@@ -194,7 +276,7 @@ fn is_kept(
     match front {
         Some(front) => {
             let wanted = (WriteFault, front, "write fault\n");
-            answers(alloc, Program::Flexray, words, files, (0, put, 2), wanted)
+            answers(alloc, program, words, files, (0, put, 2), wanted)
         }
         None => Ok(false),
     }
@@ -203,6 +285,7 @@ fn is_kept(
 // How many of the puts of an answer, and of one behind them, which is never made, are answered so where they fail.
 fn kept(
     alloc: Global,
+    program: Program,
     words: &[&str],
     files: &[File<'_>],
     text: &str,
@@ -211,14 +294,21 @@ fn kept(
     let mut front = 0usize;
     let mut put = 1u64;
     for line in text.lines() {
-        if is_kept(alloc, words, files, text.as_bytes().get(..front), put)? {
+        if is_kept(
+            alloc,
+            program,
+            words,
+            files,
+            text.as_bytes().get(..front),
+            put,
+        )? {
             kept = kept.saturating_add(1);
         }
         front = front.saturating_add(line.len()).saturating_add(1);
         put = put.saturating_add(1);
     }
     let wanted = (Done, text.as_bytes(), "");
-    if answers(alloc, Program::Flexray, words, files, (0, put, 2), wanted)? {
+    if answers(alloc, program, words, files, (0, put, 2), wanted)? {
         kept = kept.saturating_add(1);
     }
     Ok(kept)
@@ -227,8 +317,8 @@ fn kept(
 // Each put of an answer fails in its turn, and one behind it, which is never made.
 #[test]
 fn each_line_is_a_put(rt: HostRuntime) -> Result<(), Fail> {
-    for (words, files, text, puts) in WRITTEN {
-        assert_eq!(rt; kept(rt.alloc(), words, files, text)?, *puts);
+    for (program, words, files, text, puts) in WRITTEN {
+        assert_eq!(rt; kept(rt.alloc(), *program, words, files, text)?, *puts);
     }
     Ok(())
 }

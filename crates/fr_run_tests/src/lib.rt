@@ -11,4 +11,6 @@ mod faults;
 #[cfg(test)]
 mod series;
 #[cfg(test)]
+mod verdict;
+#[cfg(test)]
 mod world;

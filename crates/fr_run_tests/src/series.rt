@@ -1,32 +1,50 @@
 // The second program's answers.
-use crate::answers::{CALM, CLUSTER};
-use crate::calls::File::{Bytes, Params};
-use crate::calls::{Faults, Lines, NONE, Program, answers};
+use crate::answers::{CALM, CLUSTER, LONG_IDLE};
+use crate::calls::File::{Bytes, Params, Text, TooLong};
+use crate::calls::{Faults, File, Lines, NONE, Program, Row, first_unfailing};
 use fr_answer::Status;
-use fr_answer::Status::{Done, Usage, WriteFault};
-use fr_samples::TWO_ON_A;
-use std::alloc::{AllocError, Global};
+use fr_answer::Status::{Done, ReadFault, Refused, Usage, WriteFault};
+use fr_samples::{APART, TWO_ON_A};
 use std::test::Fail;
 
-const FILES: &[&str] = &["p", "d", "s"];
+pub(crate) const SERIES: &[&str] = &["p", "d", "s"];
 
-const SHARP: &[&str] = &["p", "d", "s", "sharp"];
+pub(crate) const SHARP_SERIES: &[&str] = &["p", "d", "s", "sharp"];
 
-const APART: &[u8] = b"doubles,2,,,,\nlength,1,0,1000100,,\nlength,2,0,999900,,\n";
+const FAR: File = Text("d", APART, &[]);
+
+pub(crate) const APART_FILES: &[File] = &[CLUSTER, FAR, CALM];
 
 // An oscillator that is 1,500 parts in a million slower from cycle 2 on: 60,000 ticks a macrotick, so that macrotick
 // 4,201 is the first to lie further apart than the precision, 252,043,600 ticks, and macrotick 651 than the sharper one,
 // 39,007,594 ticks. From cycle 4 on node 2 is halted.
-const LATE: &[u8] = b"doubles,3,,,,\nlength,1,0,1000000,,\nlength,1,2,1001500,,\n";
+const LATE_FILES: &[File] = &[
+    CLUSTER,
+    Bytes(
+        "d",
+        b"doubles,3,,,,\nlength,1,0,1000000,,\nlength,1,2,1001500,,\n",
+    ),
+    CALM,
+];
 
 // The same from cycle 0 on: never in sync.
-const NEVER: &[u8] = b"doubles,2,,,,\nlength,1,0,1001500,,\n";
+const NEVER_FILES: &[File] = &[
+    CLUSTER,
+    Bytes("d", b"doubles,2,,,,\nlength,1,0,1001500,,\n"),
+    CALM,
+];
 
 // A rate limit that is a microtick too small for the second check: lengths do not walk, and yet sharp sync lasts for no
 // double cycle.
 const TIGHT: Lines = &[("param,pRateCorrectionOut", "param,pRateCorrectionOut,80,,")];
 
-const HELD_FOR_NONE: &str = "\
+pub(crate) const HELD_FILES: &[File] = &[
+    Params(TIGHT, TWO_ON_A),
+    Bytes("d", b"doubles,1,,,,\n"),
+    CALM,
+];
+
+pub(crate) const HELD_FOR_NONE: &str = "\
 cycle,in_sync,skew,macrotick,sharp\n\
 0,yes,0,0,yes\n\
 1,yes,0,0,yes\n\
@@ -41,16 +59,26 @@ sharp greatest,0,0,0,\n\
 sharp within,yes,,,\n\
 ";
 
+pub(crate) const APART_SERIES: &str = "\
+cycle,in_sync,skew,macrotick\n\
+0,no,39992000,4999\n\
+1,no,79200000,4900\n\
+2,yes,48991900,4999\n\
+3,yes,56495900,4687\n\
+greatest,56495900,3,4687\n\
+synced,yes,,\n\
+within,yes,,\n\
+";
+
 const USAGE: &str = "usage: flexray-series PARAMS DRIFT SCRIPT\n";
 
-// The words, the drift, what fails, and the answer: a series is written line by line. The one whose last put fails lies
-// whole in examples/series.
-const SERIES: &[(&[&str], &[u8], Faults, (Status, &str, &str))] = &[
+// What fails, and the answer: a series is written line by line.
+const ANSWERS: &[(Faults, Row)] = &[
     (
-        FILES,
-        LATE,
         NONE,
         (
+            SERIES,
+            LATE_FILES,
             Done,
             "\
 cycle,in_sync,skew,macrotick\n\
@@ -68,10 +96,10 @@ within,no,2,4201\n\
         ),
     ),
     (
-        FILES,
-        NEVER,
         NONE,
         (
+            SERIES,
+            NEVER_FILES,
             Done,
             "\
 cycle,in_sync,skew,macrotick\n\
@@ -86,40 +114,11 @@ within,-,,\n\
             "",
         ),
     ),
-    (FILES, APART, (0, 1, 2), (WriteFault, "", "write fault\n")),
     (
-        FILES,
-        APART,
-        (0, 2, 2),
-        (
-            WriteFault,
-            "cycle,in_sync,skew,macrotick\n",
-            "write fault\n",
-        ),
-    ),
-    (
-        FILES,
-        APART,
-        (0, 8, 2),
-        (
-            WriteFault,
-            "\
-cycle,in_sync,skew,macrotick\n\
-0,no,39992000,4999\n\
-1,no,79200000,4900\n\
-2,yes,48991900,4999\n\
-3,yes,56495900,4687\n\
-greatest,56495900,3,4687\n\
-synced,yes,,\n\
-",
-            "write fault\n",
-        ),
-    ),
-    (
-        SHARP,
-        LATE,
         NONE,
         (
+            SHARP_SERIES,
+            LATE_FILES,
             Done,
             "\
 cycle,in_sync,skew,macrotick,sharp\n\
@@ -143,10 +142,10 @@ sharp within,no,2,651,\n\
         ),
     ),
     (
-        SHARP,
-        APART,
         (0, 14, 2),
         (
+            SHARP_SERIES,
+            APART_FILES,
             WriteFault,
             "\
 cycle,in_sync,skew,macrotick,sharp\n\
@@ -166,44 +165,98 @@ sharp greatest,-,-,-,\n\
             "write fault\n",
         ),
     ),
-    (&["p", "d"], APART, NONE, (Usage, "", USAGE)),
-    (&["p", "d", "s", "t"], APART, NONE, (Usage, "", USAGE)),
     (
-        &["p", "d", "s", "sharp", "t"],
-        APART,
-        NONE,
-        (Usage, "", USAGE),
+        (1, 1, 2),
+        (SERIES, APART_FILES, ReadFault, "", "params: read fault\n"),
     ),
-    (&[], APART, NONE, (Usage, "", USAGE)),
+    (
+        (2, 1, 2),
+        (SERIES, APART_FILES, ReadFault, "", "drift: read fault\n"),
+    ),
+    (
+        (3, 1, 2),
+        (SERIES, APART_FILES, ReadFault, "", "script: read fault\n"),
+    ),
+    (
+        (3, 1, 2),
+        (
+            SHARP_SERIES,
+            APART_FILES,
+            ReadFault,
+            "",
+            "script: read fault\n",
+        ),
+    ),
+    (
+        NONE,
+        (
+            SERIES,
+            &[Params(LONG_IDLE, TWO_ON_A), FAR, CALM],
+            Refused,
+            "",
+            "params: constraint 1\n",
+        ),
+    ),
+    (
+        NONE,
+        (
+            SERIES,
+            &[CLUSTER, Bytes("d", b""), CALM],
+            Refused,
+            "",
+            "drift: missing doubles\n",
+        ),
+    ),
+    (
+        NONE,
+        (
+            SHARP_SERIES,
+            &[CLUSTER, FAR, Bytes("s", b"say,0,1,2,A,0,\n")],
+            Refused,
+            "",
+            "script: record 1: Role\n",
+        ),
+    ),
+    (
+        NONE,
+        (
+            SHARP_SERIES,
+            &[TooLong("p")],
+            Status::TooLong,
+            "",
+            "params: too long\n",
+        ),
+    ),
+    (
+        NONE,
+        (
+            SERIES,
+            &[CLUSTER, FAR, TooLong("s")],
+            Status::TooLong,
+            "",
+            "script: too long\n",
+        ),
+    ),
+    (NONE, (&["p", "d"], APART_FILES, Usage, "", USAGE)),
+    (NONE, (&["p", "d", "s", "t"], APART_FILES, Usage, "", USAGE)),
+    (
+        NONE,
+        (
+            &["p", "d", "s", "sharp", "t"],
+            APART_FILES,
+            Usage,
+            "",
+            USAGE,
+        ),
+    ),
+    (NONE, (&[], APART_FILES, Usage, "", USAGE)),
 ];
-
-// The place of the first of these that is answered otherwise.
-fn first_other(alloc: Global) -> Result<Option<usize>, AllocError> {
-    for (place, (words, drift, faults, wanted)) in SERIES.iter().enumerate() {
-        let (status, out, err) = wanted;
-        let files = [CLUSTER, Bytes("d", drift), CALM];
-        let wanted = (*status, out.as_bytes(), *err);
-        if !answers(alloc, Program::Series, words, &files, *faults, wanted)? {
-            return Ok(Some(place));
-        }
-    }
-    Ok(None)
-}
 
 #[test]
 fn series_of_runs_are_written(rt: HostRuntime) -> Result<(), Fail> {
-    assert_eq!(rt; first_other(rt.alloc())?, None);
-    Ok(())
-}
-
-#[test]
-fn a_walk_is_held_for_no_double_cycle(rt: HostRuntime) -> Result<(), Fail> {
-    let files = [
-        Params(TIGHT, TWO_ON_A),
-        Bytes("d", b"doubles,1,,,,\n"),
-        CALM,
-    ];
-    let wanted = (Done, HELD_FOR_NONE.as_bytes(), "");
-    assert!(rt; answers(rt.alloc(), Program::Series, SHARP, &files, NONE, wanted)?);
+    assert_eq!(rt;
+        first_unfailing(rt.alloc(), Program::Series, ANSWERS)?,
+        None
+    );
     Ok(())
 }

@@ -1,6 +1,8 @@
 // A world run cycle by cycle: its rows, its nodes, its cells, and its report.
 ghost use Rattle.std.specs.Prelude.{◌≡◌, ◌<◌, IsNone};
 
+use crate::answers::TRACE;
+use crate::series::APART_SERIES;
 use fr_answer::play;
 use fr_base::{Channel, Counts, CycleRow, Dev, NodeId, NodeRow, PutFault, Slot, State};
 use fr_coverage::covered;
@@ -12,6 +14,9 @@ use fr_samples::{
     APART, APART_REPORT, FOUR_ON_A, LATER, LATER_REPORT, ONE, THREE_ON_A, TWO_FACED, TWO_ON_A,
     params_of,
 };
+use fr_series::write_series;
+use fr_trace::{write_cycle, write_head};
+use fr_verdict::devs_of;
 use fr_world::World;
 use std::alloc::Global;
 use std::test::Fail;
@@ -30,6 +35,10 @@ enum Question {
     Told(u64, Result<Told, PutFault>, &'static str, usize),
     // The report of its run.
     Played(&'static str),
+    // The trace of its run.
+    Traced(&'static str),
+    // The series of its run.
+    Drawn(&'static str),
 }
 
 // Start, length, rate term and offset term of a clock in a cycle.
@@ -107,6 +116,8 @@ fn is_row(row: &CycleRow, wanted: &Kept) -> bool {
     ];
     row.rows.as_slice() == rows.as_slice()
         && row.devs.as_slice() == devs.as_slice()
+        && devs_of(row.devs.as_slice(), NodeId(1)) == &devs[..1]
+        && devs_of(row.devs.as_slice(), NodeId(3)).is_empty()
         && row.counts == COUNTS
 }
 
@@ -245,6 +256,38 @@ fn plays(alloc: Global, world: &mut World, report: &str) -> Result<bool, Fail>
     )
 }
 
+// Writes the trace of all cycles of a fresh world.
+fn trace(world: &mut World, out: &mut MemorySink) -> Result<(), PutFault>
+    requires { world.old.cycles ≡ 0 }
+{
+    write_head(world.params(), world.drift(), world.script(), out)?;
+    let cycles = 2 * world.drift().doubles();
+    for _done in 0..cycles {
+        if let Some(row) = world.cycle() {
+            write_cycle(row, out)?;
+        }
+    }
+    Ok(())
+}
+
+fn traces(alloc: Global, world: &mut World, text: &str) -> Result<bool, Fail>
+    requires { world.old.cycles ≡ 0 }
+{
+    let mut written = MemorySink::new(alloc, 1000)?;
+    Ok(trace(world, &mut written).is_ok() && written.bytes() == text.as_bytes())
+}
+
+fn draws(alloc: Global, world: &mut World, series: &str) -> Result<bool, Fail>
+    requires { world.old.cycles ≡ 0 }
+{
+    let mut written = MemorySink::new(alloc, 1000)?;
+    Ok(
+        write_series(world, &mut written).is_ok()
+            && written.bytes() == series.as_bytes()
+            && world.cycle().is_none(),
+    )
+}
+
 fn answers(alloc: Global, world: &mut World, question: &Question) -> Result<bool, Fail>
     requires { world.old.cycles ≡ 0 }
 {
@@ -263,6 +306,8 @@ fn answers(alloc: Global, world: &mut World, question: &Question) -> Result<bool
             tells(alloc, world, *put, *wanted, (text, *lines))
         }
         Question::Played(report) => plays(alloc, world, report),
+        Question::Traced(text) => traces(alloc, world, text),
+        Question::Drawn(series) => draws(alloc, world, series),
     }
 }
 
@@ -309,6 +354,18 @@ cut 0\n\
 node 1 active next 400000000000 rate 0 offset 0\n\
 node 2 active next 400000000000 rate 0 offset 0\n\
 node 3 active next 400000000000 rate 0 offset 0\n\
+";
+
+// A run of one double cycle in which node 2 starts two and a half microticks later.
+const LATER_ONE: &str = "doubles,1,,,,\nstart,2,2500000,0,,\n";
+
+// The trace of a run with an arbitrary node, which says nothing, and one that joins too late to have rows.
+const NAMED: &str = "\
+run,1,,,,,,\n\
+arbitrary,2,,,,,,\n\
+join,3,1,0,,,,\n\
+cycle,0,1,0,1000000,0,0,active\n\
+cycle,1,1,200000000000,1000000,0,0,active\n\
 ";
 
 // Nodes, a drift, a script, and what is answered: of a node none where it is arbitrary or unknown; of cells where nothing
@@ -422,6 +479,14 @@ const ANSWERS: &[(&str, &str, &str, Question)] = &[
         TWO_FACED,
         Question::Played(TWO_FACED_REPORT),
     ),
+    (TWO_ON_A, LATER_ONE, "", Question::Traced(TRACE)),
+    (
+        THREE_ON_A,
+        ONE,
+        "arbitrary,2,,,,,\njoin,0,3,1,,,\n",
+        Question::Traced(NAMED),
+    ),
+    (TWO_ON_A, APART, "", Question::Drawn(APART_SERIES)),
 ];
 
 // The place of the first of these that is answered otherwise.
