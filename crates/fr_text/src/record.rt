@@ -1,4 +1,4 @@
-ghost use Rattle.std.specs.Prelude.{◌≡◌, ◌<◌, false, [], ◌∷◌, length, slice_index_or, IfOk, IfSome};
+ghost use Rattle.std.specs.Prelude.{◌≡◌, ◌<◌, false, [], ◌∷◌, None, length, slice_index_or, IfOk, IfSome};
 ghost use Rattle.std.specs.Bool.{MatchBool};
 ghost use Rattle.fr_text.specs.Plain.{IsCut, fields_of};
 
@@ -73,7 +73,7 @@ impl<'a> Record<'a> {
     pub(crate) fn cut(&mut self, text: &'a [u8]) -> Result<Option<&'a [u8]>, AllocError>
         ensures { IfOk result (λ cut. IfSome cut (λ rest. IsCut text.now (fields_of self.new) rest.now)) }
     {
-        self.other = None;
+        forget(&mut self.other);
         cut(text, &mut self.fields)
     }
 
@@ -95,5 +95,14 @@ impl<'a> Record<'a> {
         let found = records.next(&mut row)?;
         self.other = Some(row);
         Ok(found)
+    }
+}
+
+// Lets go of what `csv` read, mostly nothing.
+fn forget(other: &mut Option<ByteRecord>)
+    ensures { other.new ≡ None }
+{
+    if other.is_some() {
+        *other = None;
     }
 }
