@@ -10,7 +10,7 @@ pub record Command : Type 1 where
   pub names : List (List ℕ)
   pub files : Files
 
--- a text of its files, of which all were asked for, in their order, each once, and no other
+-- a text of its files; their names were asked for, all of them in their order, and no other
 pub record IsCommandText (command : Command) (before after : Shelved) (written : List ℕ) : Type 0 where
   pub is_text : IsTextOf command.files command.names before written
   pub asked : Asks before.asked after.asked command.names

@@ -10,10 +10,10 @@ use std::alloc::{AllocError, Global};
 // How many puts a sink in memory keeps to tell them.
 const PUTS_TOLD: usize = 100;
 
-/// A sink in memory, with a room in bytes that is reserved when it is made. A piece that does not fit
-/// the room fails, and so do the puts that are chosen to. It tells its puts, failed ones too, as long as
-/// there are at most 100 and their pieces have no more bytes than its room. Counters stay at their last
-/// value.
+/// A sink in memory, with a room in bytes. A piece that does not fit the room fails, and so do the puts
+/// that are chosen to. It tells its puts, failed ones too, as long as there are at most 100 and their
+/// pieces have no more bytes than its room. Making it reserves the room twice, for its bytes and for the
+/// pieces of the puts that it tells, and room for 100 puts besides. Counters stay at their last value.
 pub struct MemorySink {
     bytes: Vec<u8>,
     room: usize,

@@ -39,6 +39,10 @@ pub record MarksSenders (marks : List Bool) (deeds : List (Passage × Deed)) : T
   pub long : length marks ≡ 65
   pub silent : (passage : Passage) → slice_index_or marks passage.sender true ≡ false → deed_in deeds passage ≡ None
 
+-- a sender has no deed
+abbrev pub HasNoDeed : List (Passage × Deed) → ℕ → Type 0
+HasNoDeed deeds sender = (receiver cycle : ℕ) → deed_in deeds (passage_of sender receiver cycle) ≡ None
+
 -- no deed of a pair of nodes lies from one cycle on and before another
 abbrev pub IsQuiet : List (Passage × Deed) → ℕ → ℕ → ℕ → ℕ → Type 0
 IsQuiet deeds sender receiver from to = (cycle : ℕ) → from ≤ cycle → cycle < to → deed_in deeds (passage_of sender receiver cycle) ≡ None

@@ -1,6 +1,6 @@
-ghost use Rattle.std.specs.Prelude.{◌≡◌, ◌≤◌, ◌<◌, ◌&&◌, [], None, is_none, is_some, not, IfOk, IsSome, OnErr, OnOk};
+ghost use Rattle.std.specs.Prelude.{◌≡◌, ◌≤◌, ◌<◌, ◌&&◌, ◌||◌, [], None, false, true, is_none, is_some, not, slice_index_or, IfOk, IsSome, OnErr, OnOk};
 ghost use Rattle.std.specs.Option.{option_copied};
-ghost use Rattle.fr_script.specs.Deeds.{DeedsAscend, IsDeedPut, IsNextCycle, IsQuiet, MarksSenders, deed_in, passage_of};
+ghost use Rattle.fr_script.specs.Deeds.{DeedsAscend, HasNoDeed, IsDeedPut, IsNextCycle, IsQuiet, MarksSenders, deed_in, passage_of};
 
 use crate::sayings::Sayings;
 use fr_base::NodeId;
@@ -142,6 +142,16 @@ impl DeedTable {
         }
     }
 
+    // Whether a sender may have a deed.
+    pub(crate) fn may_have(&self, sender: NodeId) -> bool
+        ensures { result ≡ false → HasNoDeed self.now sender }
+    {
+        either_of(
+            is_marked(&self.senders, sender),
+            is_marked(&self.sayers, sender),
+        )
+    }
+
     // Puts a deed under its passage in one search, and tells whether the passage was free.
     pub(crate) fn put(&mut self, passage: Passage, deed: Deed) -> Result<bool, AllocError>
         ensures there { OnOk result (IsDeedPut self.old self.new passage deed) }
@@ -172,6 +182,19 @@ impl DeedTable {
         let said = next_said(&self.sayers, &self.said, sender, receiver, cycle, end);
         next_in(&self.rows, sender, receiver, cycle, said)
     }
+}
+
+// Whether a sender is marked.
+fn is_marked(marks: &[bool; 65], sender: NodeId) -> bool
+    ensures { result ≡ slice_index_or marks.now sender true }
+{
+    marks[place(sender)]
+}
+
+fn either_of(first: bool, second: bool) -> bool
+    ensures { result ≡ (first || second) }
+{
+    first || second
 }
 
 fn is_saying(deed: &Deed) -> bool {

@@ -11,10 +11,9 @@ ghost use Rattle.fr_script.specs.declared.rows.Row.TheVariants as said;
 use crate::deeds::{Deed, DeedTable, Passage};
 use crate::rows::{DeedRow, Row, read_row};
 use crate::script::Script;
-use csv::ByteRecord;
 use fr_base::{Channel, NodeId, Reason};
 use fr_cluster::{Join, Params};
-use fr_text::Table;
+use fr_text::{Record, RecordTable};
 use std::alloc::{AllocError, Global};
 
 // What the records so far say: which nodes are arbitrary, which join and which are their references, by their number,
@@ -257,12 +256,12 @@ fn bits_of(params: &Params) -> usize
     8 * params.frame_bytes()
 }
 
-impl<'a> Table for Draft<'a> {
+impl<'a> RecordTable for Draft<'a> {
     ghost reason = { λ draft. script_reason_after draft.params.now };
 
     ghost holds = { λ draft records. IsScriptDraft draft records };
 
-    fn add(&mut self, row: &ByteRecord) -> Result<Option<Reason>, AllocError> {
+    fn add(&mut self, row: &Record<'_>) -> Result<Option<Reason>, AllocError> {
         match read_row(self.alloc, row)? {
             Err(why) => Ok(Some(why)),
             Ok(said) => self.take(said),

@@ -6,7 +6,7 @@ use crate::draft::Draft;
 use crate::fault::ScriptFault;
 use crate::script::Script;
 use fr_cluster::Params;
-use fr_text::{RowFault, read_all};
+use fr_text::{RowFault, read_records};
 use std::alloc::Global;
 
 /// Reads the fault script of a cluster with these parameters: which nodes are arbitrary and which join the running
@@ -20,7 +20,7 @@ pub fn read(alloc: Global, params: &Params, bytes: &[u8]) -> Result<Script, Scri
     ensures sound { IfOk result (IsSoundScript params.now) }
 {
     let mut draft = Draft::new(alloc, params);
-    match read_all(alloc, bytes, &mut draft) {
+    match read_records(alloc, bytes, &mut draft) {
         Ok(()) => Ok(draft.into_script()),
         Err(RowFault::Row { number, reason }) => Err(ScriptFault::Row { number, reason }),
         Err(RowFault::NoMemory) => Err(ScriptFault::NoMemory),

@@ -1,14 +1,13 @@
 ghost use Rattle.std.specs.Prelude.{◌≡◌, ◌≤◌, ◌<◌, length, IfOk, IfSome, pos, neg_ℤ, ◌≤ℤ◌};
-ghost use Rattle.csv.specs.Records.{fields_of};
+ghost use Rattle.fr_text.specs.Plain.{fields_of};
 ghost use Rattle.fr_text.specs.Fields.{field_of, hex_digits_in, is_blank};
 ghost use Rattle.fr_script.specs.Said.{AreSaidBytes};
 ghost use Rattle.fr_script.specs.Rows.{IsProperDeed, IsProperScriptRow, arbitrary_row, deed_row, farthest, flip_row, is_channel_last, is_node_alone, is_reference_last, join_in, join_row, script_file_row, lose_row, passage_in, script_row_of, said_in, say_deed, say_row, shift_in};
 
 use crate::deeds::{Deed, Passage, SaidBytes};
-use csv::ByteRecord;
 use fr_base::{Channel, NodeId, NumberFault, Reason, number};
 use fr_cluster::Join;
-use fr_text::{both, field, natural, reason_of};
+use fr_text::{Record, both, natural, reason_of};
 use hex::FromHexError;
 use std::alloc::{AllocError, Global};
 
@@ -52,7 +51,7 @@ pub enum Row {
 /// What a record says, or the least of the reasons that it shows by itself: Shape, UnknownName, NotNumber,
 /// OutOfRange. `AllocError` where memory ran out.
 #[tactic(auto, unfolding(crate::specs::Rows::script_row_of))]
-pub fn read_row(alloc: Global, row: &ByteRecord) -> Result<Result<Row, Reason>, AllocError>
+pub fn read_row(alloc: Global, row: &Record<'_>) -> Result<Result<Row, Reason>, AllocError>
     ensures said { IfOk result (λ said. said ≡ script_row_of (fields_of row.now)) }
     ensures proper { IfOk result (λ said. IfOk said IsProperScriptRow) }
 {
@@ -62,12 +61,12 @@ pub fn read_row(alloc: Global, row: &ByteRecord) -> Result<Result<Row, Reason>, 
     read_kind(alloc, row)
 }
 
-fn read_kind(alloc: Global, row: &ByteRecord) -> Result<Result<Row, Reason>, AllocError>
+fn read_kind(alloc: Global, row: &Record<'_>) -> Result<Result<Row, Reason>, AllocError>
     requires { length (fields_of row.now) ≡ 7 }
     ensures said { IfOk result (λ said. said ≡ script_file_row (fields_of row.now)) }
     ensures proper { IfOk result (λ said. IfOk said IsProperScriptRow) }
 {
-    let kind = field(row, 0);
+    let kind = row.field(0);
     if kind == b"arbitrary".as_slice() {
         Ok(read_arbitrary(row))
     } else if kind == b"say".as_slice() {
@@ -83,7 +82,7 @@ fn read_kind(alloc: Global, row: &ByteRecord) -> Result<Result<Row, Reason>, All
     }
 }
 
-fn read_arbitrary(row: &ByteRecord) -> Result<Row, Reason>
+fn read_arbitrary(row: &Record<'_>) -> Result<Row, Reason>
     requires { length (fields_of row.now) ≡ 7 }
     ensures said { result ≡ arbitrary_row (fields_of row.now) }
     ensures proper { IfOk result IsProperScriptRow }
@@ -91,25 +90,25 @@ fn read_arbitrary(row: &ByteRecord) -> Result<Row, Reason>
     if !is_node_alone(row) {
         return Err(Reason::Shape);
     }
-    match natural(field(row, 1), 1, 64) {
+    match natural(row.field(1), 1, 64) {
         Ok(node) => Ok(Row::Arbitrary(NodeId(node as u8))),
         Err(fault) => Err(reason_of(fault)),
     }
 }
 
-fn is_node_alone(row: &ByteRecord) -> bool
+fn is_node_alone(row: &Record<'_>) -> bool
     requires { length (fields_of row.now) ≡ 7 }
     ensures { result ≡ is_node_alone (fields_of row.now) }
 {
-    field(row, 2).is_empty() && field(row, 3).is_empty() && is_reference_last(row)
+    row.field(2).is_empty() && row.field(3).is_empty() && is_reference_last(row)
 }
 
-fn read_say(alloc: Global, row: &ByteRecord) -> Result<Result<Row, Reason>, AllocError>
+fn read_say(alloc: Global, row: &Record<'_>) -> Result<Result<Row, Reason>, AllocError>
     requires { length (fields_of row.now) ≡ 7 }
     ensures said { IfOk result (λ said. said ≡ say_row (fields_of row.now)) }
     ensures proper { IfOk result (λ said. IfOk said IsProperScriptRow) }
 {
-    let text = field(row, 6);
+    let text = row.field(6);
     let numbers = both(read_passage(row), both(read_shift(row), few_digits(text)));
     match numbers {
         Err(fault) => Ok(Err(reason_of(fault))),
@@ -120,12 +119,12 @@ fn read_say(alloc: Global, row: &ByteRecord) -> Result<Result<Row, Reason>, Allo
     }
 }
 
-fn read_lose(row: &ByteRecord) -> Result<Row, Reason>
+fn read_lose(row: &Record<'_>) -> Result<Row, Reason>
     requires { length (fields_of row.now) ≡ 7 }
     ensures said { result ≡ lose_row (fields_of row.now) }
     ensures proper { IfOk result IsProperScriptRow }
 {
-    if !field(row, 5).is_empty() || !field(row, 6).is_empty() {
+    if !row.field(5).is_empty() || !row.field(6).is_empty() {
         return Err(Reason::Shape);
     }
     match read_passage(row) {
@@ -134,21 +133,21 @@ fn read_lose(row: &ByteRecord) -> Result<Row, Reason>
     }
 }
 
-fn read_flip(row: &ByteRecord) -> Result<Row, Reason>
+fn read_flip(row: &Record<'_>) -> Result<Row, Reason>
     requires { length (fields_of row.now) ≡ 7 }
     ensures said { result ≡ flip_row (fields_of row.now) }
     ensures proper { IfOk result IsProperScriptRow }
 {
-    if !field(row, 6).is_empty() {
+    if !row.field(6).is_empty() {
         return Err(Reason::Shape);
     }
-    match both(read_passage(row), natural(field(row, 5), 0, LAST_BIT)) {
+    match both(read_passage(row), natural(row.field(5), 0, LAST_BIT)) {
         Ok((passage, bit)) => Ok(deed_of(row, passage, Some(Deed::Flip(bit as u32)))),
         Err(fault) => Err(reason_of(fault)),
     }
 }
 
-fn read_join(row: &ByteRecord) -> Result<Row, Reason>
+fn read_join(row: &Record<'_>) -> Result<Row, Reason>
     requires { length (fields_of row.now) ≡ 7 }
     ensures said { result ≡ join_row (fields_of row.now) }
     ensures proper { IfOk result IsProperScriptRow }
@@ -162,21 +161,21 @@ fn read_join(row: &ByteRecord) -> Result<Row, Reason>
     }
 }
 
-fn is_reference_last(row: &ByteRecord) -> bool
+fn is_reference_last(row: &Record<'_>) -> bool
     requires { length (fields_of row.now) ≡ 7 }
     ensures { result ≡ is_reference_last (fields_of row.now) }
 {
-    field(row, 4).is_empty() && field(row, 5).is_empty() && field(row, 6).is_empty()
+    row.field(4).is_empty() && row.field(5).is_empty() && row.field(6).is_empty()
 }
 
-fn read_joining(row: &ByteRecord) -> Result<JoinRow, NumberFault>
+fn read_joining(row: &Record<'_>) -> Result<JoinRow, NumberFault>
     requires { length (fields_of row.now) ≡ 7 }
     ensures said { result ≡ join_in (fields_of row.now) }
     ensures proper { IfOk result (λ said. said.join.double < 100_000) }
 {
     let (double, (node, reference)) = both(
-        natural(field(row, 1), 0, 99_999),
-        both(natural(field(row, 2), 1, 64), natural(field(row, 3), 1, 64)),
+        natural(row.field(1), 0, 99_999),
+        both(natural(row.field(2), 1, 64), natural(row.field(3), 1, 64)),
     )?;
     Ok(JoinRow {
         node: NodeId(node as u8),
@@ -187,24 +186,24 @@ fn read_joining(row: &ByteRecord) -> Result<JoinRow, NumberFault>
     })
 }
 
-fn deed_of(row: &ByteRecord, passage: Passage, deed: Option<Deed>) -> Row
+fn deed_of(row: &Record<'_>, passage: Passage, deed: Option<Deed>) -> Row
     requires { length (fields_of row.now) ≡ 7 }
     ensures { result ≡ deed_row (fields_of row.now) passage deed }
 {
     Row::Deed(DeedRow {
         passage,
-        channel: Channel::spelt(field(row, 4)),
+        channel: Channel::spelt(row.field(4)),
         deed,
     })
 }
 
-fn read_passage(row: &ByteRecord) -> Result<Passage, NumberFault>
+fn read_passage(row: &Record<'_>) -> Result<Passage, NumberFault>
     requires { length (fields_of row.now) ≡ 7 }
     ensures { result ≡ passage_in (fields_of row.now) }
 {
     let (cycle, (sender, receiver)) = both(
-        natural(field(row, 1), 0, 199_999),
-        both(natural(field(row, 2), 1, 64), natural(field(row, 3), 1, 64)),
+        natural(row.field(1), 0, 199_999),
+        both(natural(row.field(2), 1, 64), natural(row.field(3), 1, 64)),
     )?;
     Ok(Passage {
         sender: NodeId(sender as u8),
@@ -213,12 +212,12 @@ fn read_passage(row: &ByteRecord) -> Result<Passage, NumberFault>
     })
 }
 
-fn read_shift(row: &ByteRecord) -> Result<i64, NumberFault>
+fn read_shift(row: &Record<'_>) -> Result<i64, NumberFault>
     requires { length (fields_of row.now) ≡ 7 }
     ensures said { result ≡ shift_in (fields_of row.now) }
     ensures range { IfOk result (λ shift. (neg_ℤ farthest ≤ℤ shift) × (shift ≤ℤ farthest)) }
 {
-    number(field(row, 5), -FARTHEST, FARTHEST)
+    number(row.field(5), -FARTHEST, FARTHEST)
 }
 
 fn few_digits(text: &[u8]) -> Result<usize, NumberFault>

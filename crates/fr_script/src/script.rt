@@ -1,9 +1,10 @@
-ghost use Rattle.std.specs.Prelude.{◌≡◌, ◌<◌, ◌≤◌, ◌⊎◌, ℕ, Some, None, IsSome};
+ghost use Rattle.std.specs.Prelude.{◌≡◌, ◌<◌, ◌≤◌, ◌⊎◌, ℕ, Some, None, false, IsSome};
 ghost use Rattle.std.specs.Option.{option_copied};
 ghost use Rattle.fr_base.specs.declared.channel.Channel.{Channel as Line};
 ghost use Rattle.fr_base.specs.declared.channel.Channel.TheVariants as line;
 ghost use Rattle.fr_script.specs.View.{IsNextAct, IsScript, deed_of, deeds_on, is_arbitrary, join_of};
-ghost use Rattle.fr_script.specs.Events.{IsProperEvent, done_by, event_of, event_seen, event_of_deed};
+ghost use Rattle.fr_script.specs.Deeds.{HasNoDeed};
+ghost use Rattle.fr_script.specs.Events.{IsProperEvent, done_by, event_by, event_of, event_seen, event_of_deed};
 
 use crate::deeds::{Deed, DeedTable, Passage};
 use fr_base::{Channel, NodeId};
@@ -100,11 +101,37 @@ impl Script {
         ensures value { event_seen result ≡ event_of self.now cycle sender receiver channel }
         ensures proper { IsProperEvent (event_of self.now cycle sender receiver channel) }
     {
+        if self.may_have_deed(sender, channel) {
+            self.by_deed(cycle, sender, receiver, channel)
+        } else {
+            self.without_deed(sender)
+        }
+    }
+
+    // The same, by the deed of the passage.
+    #[inline(never)]
+    #[tactic(auto, unfolding(crate::specs::Events::event_of))]
+    fn by_deed(&self, cycle: u32, sender: NodeId, receiver: NodeId, channel: Channel) -> Event<'_>
+        ensures value { event_seen result ≡ event_of self.now cycle sender receiver channel }
+        ensures proper { IsProperEvent (event_of self.now cycle sender receiver channel) }
+    {
         let deed = self.deed(cycle, sender, receiver, channel);
         if self.arbitrary(sender) {
             said(deed)
         } else {
             done(deed)
+        }
+    }
+
+    // What becomes of a frame of a sender without a deed.
+    fn without_deed(&self, sender: NodeId) -> Event<'_>
+        ensures value { event_seen result ≡ event_by (is_arbitrary self.now sender) None }
+        ensures sane { IsScript self.now }
+    {
+        if self.arbitrary(sender) {
+            Event::Silent
+        } else {
+            Event::Regular
         }
     }
 
@@ -118,6 +145,16 @@ impl Script {
         let on_a = self.on_a.next(sender, receiver, cycle, end);
         let on_b = self.on_b.next(sender, receiver, cycle, end);
         on_a.min(on_b)
+    }
+
+    // Whether a sender may have a deed on a channel.
+    fn may_have_deed(&self, sender: NodeId, channel: Channel) -> bool
+        ensures { result ≡ false → HasNoDeed (deeds_on self.now channel) sender }
+    {
+        match channel {
+            Channel::A => self.on_a.may_have(sender),
+            Channel::B => self.on_b.may_have(sender),
+        }
     }
 
     #[tactic(auto, unfolding(crate::specs::View::deed_of))]

@@ -105,7 +105,7 @@ unfolding rest_of records_from
 rest_of-step s text = rw add-one refl
 
 -- a record, and then the rest
-rest-more : (s : State) (text : List ℕ) (p : Read) → ends_at_end s ≡ false → next_record default_config s [] [] text ≡ Some p
+pub rest-more : (s : State) (text : List ℕ) (p : Read) → ends_at_end s ≡ false → next_record default_config s [] [] text ≡ Some p
     → rest_of s text ≡ p.0 ∷ rest_of p.1 p.2
 unfolding rest_of
 rest-more s text p b e =
@@ -118,7 +118,7 @@ rest-read : (s t : State) (text rest : List ℕ) (p : Read) (fields : FileRecord
     → fields ≡ p.0 → p.1 ≡ t → p.2 ≡ rest → rest_of s text ≡ fields ∷ rest_of t rest
 rest-read s t text rest p fields b e f g h = rest-more s text p b e ∙ rw (f, ← g, ← h) refl
 
-rest-end : (s : State) (text : List ℕ) → next_record default_config s [] [] text ≡ None → rest_of s text ≡ []
+pub rest-end : (s : State) (text : List ℕ) → next_record default_config s [] [] text ≡ None → rest_of s text ≡ []
 rest-end s text e = rest_of-step s text ∙ rw e refl
 
 -- a text has no more records than bytes

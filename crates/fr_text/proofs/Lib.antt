@@ -12,4 +12,5 @@ pub mod Commands
 pub mod Plain
 pub mod RecordLines
 pub mod RowsRead
+pub mod LineCuts
 pub mod Defining

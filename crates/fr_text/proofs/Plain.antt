@@ -14,7 +14,7 @@ not-equal : (a b : ℕ) → b < a → (a == b) ≡ false
 not-equal a b more = grind arith
 
 -- a byte above the comma is plain
-above-comma : (c : ℕ) → 44 < c → is_plain_byte c ≡ true
+pub above-comma : (c : ℕ) → 44 < c → is_plain_byte c ≡ true
 above-comma c more = rw (not-equal c 44 more, not-equal c 34 (omega arith), not-equal c 13 (omega arith), not-equal c 10 (omega arith)) refl
 
 digits-plain : (ds : List ℕ) → AllDigits 10 ds → is_plain_field ds ≡ true

@@ -73,7 +73,7 @@ same-back [] shows = cc shows
 same-back (x ∷ xs) shows = refl
 
 -- and its line is read as this record
-line-read : (fields : FileRecord) (tail : List ℕ) → is_plain_record fields ≡ true
+pub line-read : (fields : FileRecord) (tail : List ℕ) → is_plain_record fields ≡ true
     → next_record default_config st.StartRecord [] [] (line_of_record fields ++ tail) ≡ Some (fields, st.StartRecord, tail)
 line-read fields tail e =
     let plain = and-left _ _ e in
@@ -104,7 +104,7 @@ long-enough (r ∷ rs) =
     let end = length-append (with_commas r) (10 ∷ []) in
     omega (arith, more, first, end)
 
-no-mark : (text : List ℕ) → first_byte text ≢ 0xEF → strip_bom text ≡ text
+pub no-mark : (text : List ℕ) → first_byte text ≢ 0xEF → strip_bom text ≡ text
 unfolding strip_bom
 no-mark [] n = refl
 no-mark (a ∷ []) n = refl

@@ -17,6 +17,7 @@ pub mod Told
 pub mod Files
 pub mod Loading
 pub mod Defined
+pub mod Plain
 -- what the laws cite
 pub mod Texts
 pub mod ReadBack

@@ -5,8 +5,10 @@
 //! told of that, and the exit statuses.
 #![tactic(auto)]
 
+mod cutting;
 mod draft;
 mod fields;
+mod filling;
 mod kind;
 mod laws;
 mod line;
@@ -16,14 +18,17 @@ mod numbers;
 mod piece;
 mod putting;
 mod reader;
+mod record;
 mod records;
 mod status;
+mod stream;
 mod table;
 mod told;
 mod words;
 
 pub use draft::Draft;
 pub use fields::{both, field, natural, reason_of};
+pub use filling::{RecordTable, read_records};
 pub use kind::{FileKind, Stop, accepted};
 pub use laws::{first_refused_excludes_none, one_first_refused, refused_or_none};
 pub use line::Line;
@@ -33,8 +38,10 @@ pub use numbers::{fields_are_plain, numbers_are_read_back};
 pub use piece::Piece;
 pub use putting::{put_line, put_lines, put_text};
 pub use reader::Records;
+pub use record::Record;
 pub use records::{records_are_read_back, rows_are_records};
 pub use status::Status;
+pub use stream::Stream;
 pub use table::{RowFault, Table, read_all};
 pub use told::{Shown, Told, record_line, stop_told};
 pub use words::{letter_of, state_of};

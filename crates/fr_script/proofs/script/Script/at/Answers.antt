@@ -1,8 +1,15 @@
+use Rattle.std.proofs.Common.{◌≡◌, ◌∙◌, Option, None, ap, sym}
+use Rattle.fr_script.specs.Events.{event_by, event_of}
+use Rattle.fr_script.specs.View.{deed_of, is_arbitrary}
+use Rattle.fr_script.specs.declared.deeds.Deed.{Deed}
 use Rattle.fr_script.proofs.Proper.{event-proper}
 use Rattle.fr_script.proofs.script.Script.at.Goals as goal
 
-pub returns-then-arbitrary-clause-proper : goal.returns-then-arbitrary-clause-proper
-returns-then-arbitrary-clause-proper c = event-proper c.args.self.now c.args.cycle c.args.sender c.args.receiver c.args.channel c.arbitrary.ensures.sane
+pub returns-else-may_have_deed-clause-value : goal.returns-else-may_have_deed-clause-value
+unfolding event_of deed_of
+returns-else-may_have_deed-clause-value c =
+    c.without_deed.ensures.value
+    ∙ ap (λ (o : Option Deed). event_by (is_arbitrary c.args.self.now c.args.sender) o) (sym (c.may_have_deed.ensures c.if-may_have_deed.false c.args.receiver c.args.cycle))
 
-pub returns-else-arbitrary-clause-proper : goal.returns-else-arbitrary-clause-proper
-returns-else-arbitrary-clause-proper c = event-proper c.args.self.now c.args.cycle c.args.sender c.args.receiver c.args.channel c.arbitrary.ensures.sane
+pub returns-else-may_have_deed-clause-proper : goal.returns-else-may_have_deed-clause-proper
+returns-else-may_have_deed-clause-proper c = event-proper c.args.self.now c.args.cycle c.args.sender c.args.receiver c.args.channel c.without_deed.ensures.sane

@@ -1,10 +1,10 @@
 use Rattle.std.proofs.Common.{◌≡◌, ◌∙◌, sym, Ok}
-use Rattle.csv.specs.Records.{fields_of}
+use Rattle.fr_text.specs.Plain.{fields_of}
 use Rattle.fr_text.proofs.Lookups.{takes-said}
 use Rattle.fr_script.specs.Rows.{script_row_of}
 use Rattle.fr_script.specs.Reasons.{script_row_reason}
 use Rattle.fr_script.specs.Draft.{IsScriptDraft}
-use Rattle.fr_script.proofs.draft.DraftTable.add.Goals as goal
+use Rattle.fr_script.proofs.draft.DraftRecordTable.add.Goals as goal
 
 pub returns-in-Ok-clause-takes : goal.returns-in-Ok-clause-takes
 returns-in-Ok-clause-takes c =
