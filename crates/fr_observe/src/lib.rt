@@ -1,23 +1,3 @@
-//! What one bus analyzer tells for certain of a cluster's clocks: its log, each frame that came with a stamp of one clock.
+//! What one bus analyzer tells for certain of a cluster's clocks: which frames of its log say where a sender's clock
+//! was.
 #![tactic(auto)]
-
-mod draft;
-mod entry;
-mod fault;
-mod file_laws;
-mod kind;
-mod log;
-mod reading;
-mod rows;
-mod told;
-
-pub use entry::{Entry, EntryBytes, EntryKind};
-pub use fault::LogFault;
-pub use file_laws::{
-    arbitrary_node_of_a_log_has_key_slot, log_of_a_file_fits, one_answer,
-    refused_for_the_least_reason, some_answer, sync_frames_of_a_log_have_limits,
-};
-pub use kind::LogFile;
-pub use log::Log;
-pub use reading::read;
-pub use rows::DelayLimits;

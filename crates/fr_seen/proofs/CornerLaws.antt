@@ -14,8 +14,8 @@ use Rattle.fr_bound.specs.Bounds.{cycle_change, longest_micro, shortest_micro}
 use Rattle.fr_bound.specs.Sync.{cycle_length_of}
 use Rattle.fr_precision.specs.Rows.{HasProperMicro, Lasts}
 use Rattle.fr_precision.proofs.InstantLaws.{early_on_line, even_on_line, odd_start_is}
-use Rattle.fr_observe.specs.Readings.{ceiling_of, scale_of, Interval, Scale}
-use Rattle.fr_observe.specs.Course.{even_start, even_turn, mean_from, mean_to, odd_macrotick, odd_start, odd_turn, share_from, share_to, Course}
+use Rattle.fr_course.specs.Readings.{ceiling_of, reading_scale, Interval, Scale}
+use Rattle.fr_course.specs.Course.{even_start, even_turn, mean_from, mean_to, odd_macrotick, odd_start, odd_turn, share_from, share_to, Course}
 use Rattle.fr_seen.specs.Clocks.{reading_at, reading_of, HasReading, ReadsIn, StraightClock}
 use Rattle.fr_seen.specs.Courses.{even_action, odd_action, rounded_down, CornersLie, HasCorners, HoldsCourse, IsSeenNode, PointReadsIn}
 use Rattle.fr_seen.proofs.Readings.{most_reading_lem}
@@ -105,10 +105,10 @@ module _
     a = course.action
 
     abbrev scale : Scale
-    scale = scale_of drift p
+    scale = reading_scale drift p
 
     abbrev most : ℤ
-    most = (scale_of drift p).micro_to
+    most = (reading_scale drift p).micro_to
 
     abbrev fine : StraightClock
     fine = shared p.macros clock

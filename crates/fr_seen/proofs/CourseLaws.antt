@@ -11,8 +11,8 @@ use Rattle.fr_midpoint.proofs.Products.{mulz-lez_left, mulz-negz, mulz-subz}
 use Rattle.fr_bound.specs.Bounds.{cycle_change, longest_micro, shortest_micro}
 use Rattle.fr_bound.specs.Checks.{least_cycle}
 use Rattle.fr_bound.specs.Sync.{cycle_length_of}
-use Rattle.fr_observe.specs.Readings.{least_reading, meet, meet_if, most_cycle, most_reading, scale_of, Interval, Scale}
-use Rattle.fr_observe.specs.Course.{allowed, apart_by, between, course_back, course_by, course_from, course_on, length_by, Course}
+use Rattle.fr_course.specs.Readings.{least_reading, meet, meet_if, most_cycle, most_reading, reading_scale, Interval, Scale}
+use Rattle.fr_course.specs.Course.{allowed, apart_by, between, course_back, course_by, course_from, course_on, length_seen, Course}
 use Rattle.fr_seen.specs.Clocks.{reading_at, reading_of, HasReading, IsWithinDrift, LastsIn, StraightClock}
 use Rattle.fr_seen.specs.Courses.{even_action, odd_action, AreSeen, CoursesAreThere, CoursesHold, HoldsCourse, IsSeenNode}
 use Rattle.fr_seen.proofs.Readings.{least_reading_lem, most_reading_lem}
@@ -94,7 +94,7 @@ module _ (p : Values) (drift : ℕ) (clock : StraightClock) (action : ℤ) (even
   mo = odd_action p odd action
 
   abbrev scale : Scale
-  scale = scale_of drift p
+  scale = reading_scale drift p
 
   rows : LiesApart shortest longest (pos (cycle_change p)) (cycle_length_of p even) (cycle_length_of p odd) (mo -ℤ me)
   rows = rows_apart p even odd action seen.sane seen.regular seen.acts_from seen.acts_to
@@ -110,7 +110,7 @@ module _ (p : Values) (drift : ℕ) (clock : StraightClock) (action : ℤ) (even
 
   -- a length near how far the action points lie apart
   lasts_near : (apart : Interval) (long : ℤ) → LastsIn clock apart (mo -ℤ me) → LastsIn clock (allowed scale) long
-      → IsWithin (pos (cycle_change p)) (long -ℤ (mo -ℤ me)) → LastsIn clock (length_by scale apart) long
+      → IsWithin (pos (cycle_change p)) (long -ℤ (mo -ℤ me)) → LastsIn clock (length_seen scale apart) long
   lasts_near apart long lies within near =
       intervals_meet clock (record { low = apart.low -ℤ scale.change; high = apart.high +ℤ scale.change }) (allowed scale) (reading_of clock long)
       (reads_near clock apart scale.change (reading_of clock (mo -ℤ me)) (reading_of clock long) lies (change_reads drift clock (pos (cycle_change p)) long (mo -ℤ me) seen.within_drift near))

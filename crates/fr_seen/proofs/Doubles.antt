@@ -19,7 +19,7 @@ use Rattle.fr_precision.specs.Placement.{IsRegular}
 use Rattle.fr_precision.proofs.Figures.{natural}
 use Rattle.fr_precision.proofs.InstantLaws.{before_correction, odd_start_is}
 use Rattle.fr_precision.proofs.PlacementLaws.{share_from}
-use Rattle.fr_observe.specs.Readings.{most_cycle}
+use Rattle.fr_course.specs.Readings.{most_cycle}
 use Rattle.fr_seen.specs.Courses.{even_action, odd_action}
 
 pub record LiesApart (shortest longest change even_length odd_length apart : ℤ) : Type 0 where

@@ -5,7 +5,7 @@ use Rattle.std.proofs.lemmas.Int.{ints, by_lt_z}
 use Rattle.fr_midpoint.proofs.Products.{addz-mulz, mulz-lez, mulz-lez_left, negz-mulz}
 use Rattle.fr_time.specs.Position.{floor_of}
 use Rattle.fr_time.proofs.Lines.{rest_of}
-use Rattle.fr_observe.specs.Readings.{ceiling_of}
+use Rattle.fr_course.specs.Readings.{ceiling_of}
 
 pub floor_below : (n d : ℤ) → pos 0 <ℤ d → (floor_of n d *ℤ d) ≤ℤ n
 floor_below n d some = low n (floor_of n d *ℤ d) (rest_of n d some).from

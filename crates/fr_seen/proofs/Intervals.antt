@@ -4,8 +4,8 @@ use Rattle.std.specs.Prelude.{◌+ℤ◌, ◌-ℤ◌, ◌*ℤ◌, ◌≤ℤ◌, 
 use Rattle.std.specs.Int.{int_max, int_min}
 use Rattle.std.proofs.lemmas.Int.{ints}
 use Rattle.fr_midpoint.proofs.Products.{lez_of_mulz-lez, mulz-addz, mulz-lez_left, mulz-subz, mulz_comm}
-use Rattle.fr_observe.specs.Readings.{least_reading, most_reading}
-use Rattle.fr_observe.specs.Course.{breadth_of}
+use Rattle.fr_course.specs.Readings.{least_reading, most_reading}
+use Rattle.fr_course.specs.Course.{breadth_of}
 use Rattle.fr_seen.specs.Clocks.{IntervalsAreThere, IntervalsMeet, SpansPlace, StampsPlace}
 use Rattle.fr_seen.proofs.Readings.{least_reading_lem, most_reading_lem}
 

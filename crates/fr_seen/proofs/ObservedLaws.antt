@@ -22,14 +22,14 @@ use Rattle.fr_time.proofs.Placing.{action_point_lt, before_correction as slot_en
 use Rattle.fr_precision.proofs.InstantLaws.{before_correction}
 use Rattle.fr_history.specs.Cycles.{Cycle, Cycles, cycle_at}
 use Rattle.fr_history.specs.History.{row_of}
-use Rattle.fr_observe.specs.Readings.{meet_all, meet_if, Interval}
-use Rattle.fr_observe.specs.Course.{Course, Delays, Observer}
-use Rattle.fr_observe.specs.Numbering.{nominal_cycle, scheduled}
+use Rattle.fr_course.specs.Readings.{meet_all, meet_if, Interval}
+use Rattle.fr_course.specs.Course.{Course, Delays, Observer}
+use Rattle.fr_course.specs.Numbering.{nominal_cycle, scheduled}
 use Rattle.fr_seen.specs.Clocks.{reading_at, reading_of, HasReading, IsStamped, LastsIn, ReadsIn, StraightClock}
 use Rattle.fr_seen.specs.Courses.{even_action, odd_action, AreSeen, IsSeenNode}
 use Rattle.fr_seen.specs.Skews.{IsOnCourse}
 use Rattle.fr_seen.specs.RunRows.{IsTimedRun}
-use Rattle.fr_seen.specs.Observed.{ArePaired, ArePicked, HasRows, IsCourseBy, IsInWindow, IsSeen, IsSentBy, IsSentIn, NumbersAreFound, Picked, SeenCoursesHold, SeenNodesGoOn, SeenNumbersAreFound, SentFrame, TimelyFramesAreNear, box_of, sent_at, span_between, stamped_apart}
+use Rattle.fr_seen.specs.Observed.{ArePaired, ArePicked, HasRows, IsCourseBy, IsInWindow, IsSeenOf, IsSentBy, IsSentIn, NumbersAreFound, Picked, SeenCoursesHold, SeenNodesGoOn, SeenNumbersAreFound, SentFrame, TimelyFramesAreNear, box_of, sent_macrotick, span_between, stamped_apart}
 use Rattle.fr_seen.proofs.Intervals.{spans_place, stamps_place}
 use Rattle.fr_seen.proofs.CourseLaws.{courses_hold_lem, meets_if}
 use Rattle.fr_seen.proofs.RunLaws.{nodes_go_on, nodes_run_regularly}
@@ -189,8 +189,8 @@ seen_numbers_are_found x h base observer delays clock log frame later sane seen 
     let second = is_action x.params later.frame.slot sane other.slot_from other.slot_to in
     let cycles = later.frame.number -ℤ frame.frame.number in
     let near =
-    timely_frames_are_near x.params (stamped_apart observer frame later) cycles (sent_at x later -ℤ sent_at x frame) sane (seen.timely frame later here there silent) silent
-    (above (sent_at x frame) (sent_at x later) x.params.macros first.less second.from) (below (sent_at x frame) (sent_at x later) x.params.macros first.from second.less) in
+    timely_frames_are_near x.params (stamped_apart observer frame later) cycles (sent_macrotick x later -ℤ sent_macrotick x frame) sane (seen.timely frame later here there silent) silent
+    (above (sent_macrotick x frame) (sent_macrotick x later) x.params.macros first.less second.from) (below (sent_macrotick x frame) (sent_macrotick x later) x.params.macros first.from second.less) in
     numbers_are_found frame.frame.number later.frame.number (pos (later.cycle / 64) -ℤ pos (base / 64)) later.frame.count (turns_of x h base later seen.whole_base other)
     (record { low = wide cycles near.low; high = near.high })
   where
@@ -220,7 +220,7 @@ all_meet {X = X} clock interval (s ∷ xs) reading all =
 
 module _
     (x : Setting) (h : Cycles) (base : ℕ) (observer : Observer) (delays : ℕ → Channel → Delays) (clock : ℕ → StraightClock) (log : List SentFrame)
-    (seen : IsSeen x h base observer delays clock log)
+    (seen : IsSeenOf x h base observer delays clock log)
   where
     -- a frame of a cycle has the row that its node has there
     row_of_sent : (node slot cycle : ℕ) (c : Cycle) (row : NodeRow) (sent : SentFrame) → cycle_at h cycle ≡ Some c → row_of c.told.rows node ≡ Some row → IsSentBy log node slot cycle sent

@@ -19,9 +19,9 @@ use Rattle.fr_bound.specs.Sync.{cycle_length_of}
 use Rattle.fr_skew.specs.Spreads.{spread_of}
 use Rattle.fr_precision.specs.Rows.{corrected_end_of, Lasts}
 use Rattle.fr_precision.proofs.InstantLaws.{before_correction}
-use Rattle.fr_observe.specs.Readings.{most_ticks, scale_of, Scale}
-use Rattle.fr_observe.specs.Course.{even_start, odd_start, odd_turn}
-use Rattle.fr_observe.specs.Spread.{most_at, most_spread}
+use Rattle.fr_course.specs.Readings.{most_ticks, reading_scale, Scale}
+use Rattle.fr_course.specs.Course.{even_start, odd_start, odd_turn}
+use Rattle.fr_course.specs.Spread.{most_at, most_spread}
 use Rattle.fr_seen.specs.Clocks.{reading_at, reading_of, IsWithinDrift, ReadsIn, StraightClock}
 use Rattle.fr_seen.specs.Courses.{PointReadsIn}
 use Rattle.fr_seen.specs.Skews.{spread_among, IsOnCourses, OddSkewIsKept, SeenTwice}
@@ -92,10 +92,10 @@ end_reads clock start long end is =
 
 module _ (p : Values) (drift : ℕ) (clock : StraightClock) (sane : IsSane p) (is : IsWithinDrift drift clock) (nodes : List SeenTwice) (all : All (IsOnCourses p drift clock) nodes) where
   abbrev scale : Scale
-  scale = scale_of drift p
+  scale = reading_scale drift p
 
   abbrev most : ℤ
-  most = (scale_of drift p).micro_to
+  most = (reading_scale drift p).micro_to
 
   abbrev On : SeenTwice → Type 0
   On = IsOnCourses p drift clock

@@ -7,8 +7,8 @@ use Rattle.std.proofs.lemmas.List.Elements.{All-cons, All-contains, All-contains
 use Rattle.fr_midpoint.proofs.Products.{mulz-lez_left, mulz-subz, mulz_from}
 use Rattle.fr_skew.specs.Spreads.{spread_of}
 use Rattle.fr_skew.proofs.Differences.{spread_from}
-use Rattle.fr_observe.specs.Readings.{Interval}
-use Rattle.fr_observe.specs.Spread.{least_apart, least_from, least_spread, most_apart, most_from, most_spread}
+use Rattle.fr_course.specs.Readings.{Interval}
+use Rattle.fr_course.specs.Spread.{least_distance, least_from, least_spread, most_distance, most_from, most_spread}
 use Rattle.fr_seen.specs.Clocks.{HasReading, StraightClock}
 use Rattle.fr_seen.proofs.Intervals.{on_max}
 
@@ -48,7 +48,7 @@ wider ticks a b x from le under = trans x (ticks *ℤ a) (ticks *ℤ b) under (m
 pub most_from_above : (point : Interval) (others : List Interval) → pos 0 ≤ℤ most_from point others
 unfolding most_from
 most_from_above point [] = le_itself (pos 0)
-most_from_above point (other ∷ others) = above (most_apart point other) (most_from point others) (most_from_above point others) (max_right (most_apart point other) (most_from point others))
+most_from_above point (other ∷ others) = above (most_distance point other) (most_from point others) (most_from_above point others) (max_right (most_distance point other) (most_from point others))
   where
     above : (a b : ℤ) → pos 0 ≤ℤ b → b ≤ℤ int_max a b → pos 0 ≤ℤ int_max a b
     above a b h k = trans (pos 0) b (int_max a b) h k
@@ -84,7 +84,7 @@ module _ {X : Type 0} (clock : StraightClock) (ticks_from : pos 0 ≤ℤ clock.t
   one_most a [] here all = All-nil (λ b. Within (pos 0) a b × Within (pos 0) b a)
   one_most a (b ∷ xs) here all =
       let there = All-head Lies b xs all in
-      let apart = most_apart (c a) (c b) in
+      let apart = most_distance (c a) (c b) in
       let rest = most_from (c a) (map c xs) in
       let most = int_max apart rest in
       let Both : ℤ → X → Type 0 = λ bound x. Within bound a x × Within bound x a in
@@ -151,7 +151,7 @@ module _ {X : Type 0} (ticks reach : ℤ) (reach_from : pos 0 ≤ℤ reach) (c :
   one_least a (b ∷ xs) all =
       let Both : X → Type 0 = λ b. Apart a b × Apart b a in
       let both = All-head Both b xs all in
-      on_max Reaches (least_apart (c a) (c b)) (least_from (c a) (map c xs))
+      on_max Reaches (least_distance (c a) (c b)) (least_from (c a) (map c xs))
       (on_max Reaches ((c a).low -ℤ (c b).high) ((c b).low -ℤ (c a).high) both.0 both.1)
       (one_least a xs (All-tail Both b xs all))
 

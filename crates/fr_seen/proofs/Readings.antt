@@ -5,7 +5,7 @@ use Rattle.std.proofs.lemmas.Int.{ints, by_lt_z}
 use Rattle.fr_midpoint.proofs.Products.{lez_of_mulz-lez, mulz-lez, mulz-lez_left, mulz-negz, mulz_assoc, mulz_comm}
 use Rattle.fr_time.specs.Position.{floor_of}
 use Rattle.fr_bound.specs.Bounds.{nominal}
-use Rattle.fr_observe.specs.Readings.{ceiling_of, fast_million, least_reading, least_ticks, most_reading, most_ticks, slow_million}
+use Rattle.fr_course.specs.Readings.{ceiling_of, fast_million, least_reading, least_ticks, most_reading, most_ticks, slow_million}
 use Rattle.fr_seen.specs.Clocks.{IsWithinDrift, ReadingsHaveTicks, StraightClock, TicksHaveReadings}
 use Rattle.fr_seen.proofs.Floors.{ceiling_below, floor_below, mulz-lez_down}
 

@@ -19,9 +19,9 @@ use Rattle.fr_bound.specs.Sync.{cycle_length_of}
 use Rattle.fr_skew.specs.Spreads.{spread_of}
 use Rattle.fr_skew.proofs.Differences.{within_spread}
 use Rattle.fr_precision.proofs.InstantLaws.{before_correction}
-use Rattle.fr_observe.specs.Readings.{least_ticks, most_ticks, scale_of, Interval, Scale}
-use Rattle.fr_observe.specs.Course.{even_start, even_turn, odd_start, odd_turn, Course}
-use Rattle.fr_observe.specs.Spread.{least_at, least_spread, most_at, most_spread}
+use Rattle.fr_course.specs.Readings.{least_ticks, most_ticks, reading_scale, Interval, Scale}
+use Rattle.fr_course.specs.Course.{even_start, even_turn, odd_start, odd_turn, Course}
+use Rattle.fr_course.specs.Spread.{least_at, least_spread, most_at, most_spread}
 use Rattle.fr_seen.specs.Clocks.{reading_at, reading_of, HasReading, IsWithinDrift, ReadsIn, StraightClock}
 use Rattle.fr_seen.specs.Courses.{rounded_down, HasCorners}
 use Rattle.fr_seen.specs.Skews.{spread_among, EvenSkewIsSeen, HasSkew, IsOnCourse, OddSkewIsReached, SeenNode}
@@ -178,10 +178,10 @@ sum a x m h k l = omega (arith, ints)
 
 module _ (p : Values) (drift : ℕ) (clock : StraightClock) (sane : IsSane p) (is : IsWithinDrift drift clock) where
   abbrev scale : Scale
-  scale = scale_of drift p
+  scale = reading_scale drift p
 
   abbrev most : ℤ
-  most = (scale_of drift p).micro_to
+  most = (reading_scale drift p).micro_to
 
   pub ticks_from : pos 0 ≤ℤ clock.ticks
   ticks_from = no_less clock.ticks is.ticks_from

@@ -13,9 +13,9 @@ use Rattle.fr_bound.specs.Bounds.{cycle_change, longest_micro, nominal, shortest
 use Rattle.fr_bound.specs.Checks.{least_cycle}
 use Rattle.fr_bound.specs.Sync.{cycle_length_of}
 use Rattle.fr_precision.proofs.Figures.{natural}
-use Rattle.fr_observe.specs.Readings.{ceiling_of, least_reading, micros_from, micros_to, most_cycle, most_reading, scale_of, slow_million, fast_million, Interval, Scale}
-use Rattle.fr_observe.specs.Course.{between, share_from, share_to, Course}
-use Rattle.fr_observe.specs.Terms.{offset_reading, onward, step_reading}
+use Rattle.fr_course.specs.Readings.{ceiling_of, least_reading, micros_from, micros_to, most_cycle, most_reading, reading_scale, slow_million, fast_million, Interval, Scale}
+use Rattle.fr_course.specs.Course.{between, share_from, share_to, Course}
+use Rattle.fr_course.specs.Terms.{offset_reading, onward, step_reading}
 use Rattle.fr_seen.specs.Clocks.{reading_at, reading_of, HasReading, IsWithinDrift, LastsIn, ReadsIn, StraightClock}
 use Rattle.fr_seen.specs.Courses.{even_action, odd_action}
 use Rattle.fr_seen.specs.Skews.{SeenTwice}
@@ -236,7 +236,7 @@ slow_enough drift q to from = by (int_lt q (pos 0)) refl
         (floor_above (q *ℤ slow_million drift) (pos nominal) (pos 1) million (enough q (slow_million drift) from (slow drift to)))
 
 micro_reads : (p : Values) (drift : ℕ) (clock : StraightClock) → IsSane p → IsWithinDrift drift clock
-    → MicroReads clock.counts clock.ticks (pos (shortest_micro p)) (pos (longest_micro p)) (scale_of drift p).micro_from (scale_of drift p).micro_to
+    → MicroReads clock.counts clock.ticks (pos (shortest_micro p)) (pos (longest_micro p)) (reading_scale drift p).micro_from (reading_scale drift p).micro_to
 micro_reads p drift clock sane is =
     let range = sane.ranges name.xRateBound in
     let short : pos 2 ≤ℤ pos (shortest_micro p) = omega (arith, ints, natural p.rate_bound (omega (arith, ints, range.0)), range.1) in
@@ -267,7 +267,7 @@ term_of_points gd ge go gn gs gl gt al' al rl x y h i j k m = omega (arith, ints
 
 module _ (p : Values) (drift : ℕ) (clock : StraightClock) (node : SeenTwice) (span : Option Interval) (goes : GoesOn p drift clock node span) where
   abbrev scale : Scale
-  scale = scale_of drift p
+  scale = reading_scale drift p
 
   abbrev g : ℤ
   g = p.macros
@@ -279,7 +279,7 @@ module _ (p : Values) (drift : ℕ) (clock : StraightClock) (node : SeenTwice) (
   rest = p.macros -ℤ node.first.course.action
 
   abbrev most : ℤ
-  most = (scale_of drift p).micro_to
+  most = (reading_scale drift p).micro_to
 
   abbrev fine : StraightClock
   fine = shared p.macros clock
@@ -386,7 +386,7 @@ module _ (p : Values) (drift : ℕ) (clock : StraightClock) (node : SeenTwice) (
       even_way.bounds)
       odd_way.bounds))
 
-  micros : MicroReads clock.counts clock.ticks (pos (shortest_micro p)) (pos (longest_micro p)) (scale_of drift p).micro_from (scale_of drift p).micro_to
+  micros : MicroReads clock.counts clock.ticks (pos (shortest_micro p)) (pos (longest_micro p)) (reading_scale drift p).micro_from (reading_scale drift p).micro_to
   micros = micro_reads p drift clock goes.sane goes.within_drift
 
   -- how many microticks of the odd cycle lie in an interval

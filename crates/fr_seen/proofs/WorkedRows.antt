@@ -1,6 +1,6 @@
 -- The worked row, computed.
 use Rattle.std.proofs.Common.{refl}
-use Rattle.fr_observe.specs.Spread.{least_from, least_spread, most_from, most_spread}
+use Rattle.fr_course.specs.Spread.{least_from, least_spread, most_from, most_spread}
 use Rattle.fr_seen.specs.WorkedStamps.{WorkedRow}
 
 pub worked_row_lem : WorkedRow

@@ -10,8 +10,8 @@ use Rattle.fr_time.specs.Position.{grid_for}
 use Rattle.fr_time.specs.Instant.{instant_of}
 use Rattle.fr_bound.specs.Sync.{cycle_length_of}
 use Rattle.fr_precision.specs.Placement.{IsRegular}
-use Rattle.fr_observe.specs.Readings.{scale_of, Interval, Scale}
-use Rattle.fr_observe.specs.Course.{course_from, even_start, even_turn, is_empty, odd_macrotick, odd_start, odd_turn, Course}
+use Rattle.fr_course.specs.Readings.{reading_scale, Interval, Scale}
+use Rattle.fr_course.specs.Course.{course_from, even_start, even_turn, is_empty, odd_macrotick, odd_start, odd_turn, Course}
 use Rattle.fr_seen.specs.Clocks.{reading_at, reading_of, IsWithinDrift, LastsIn, ReadsIn, StraightClock}
 
 -- the instants of a node's action points in both cycles
@@ -47,7 +47,7 @@ abbrev pub CoursesHold : Type 0
 CoursesHold =
     (p : Values) (drift : ℕ) (clock : StraightClock) (action : ℤ) (even odd : NodeRow) (early late span : Option Interval) (course : Course)
     → IsSeenNode p drift clock action even odd → AreSeen p clock action even odd early late span
-    → course_from (scale_of drift p) action early late span ≡ Some course
+    → course_from (reading_scale drift p) action early late span ≡ Some course
     → (course.action ≡ action) × HoldsCourse p clock course even odd
 
 -- no interval of a course that holds is empty
@@ -87,4 +87,4 @@ abbrev pub CornersLie : Type 0
 CornersLie =
     (p : Values) (drift : ℕ) (clock : StraightClock) (course : Course) (even odd : NodeRow)
     → IsSeenNode p drift clock course.action even odd → HoldsCourse p clock course even odd
-    → HasCorners p (scale_of drift p) clock course even odd
+    → HasCorners p (reading_scale drift p) clock course even odd

@@ -17,9 +17,9 @@ use Rattle.fr_history.specs.Cycles.{Cycle, Cycles, cycle_at}
 use Rattle.fr_history.specs.History.{row_of}
 use Rattle.fr_history.specs.Offers.{is_on}
 use Rattle.fr_runs.specs.Numbers.{HasDouble}
-use Rattle.fr_observe.specs.Numbering.{is_timely, longest_silence, next_number}
-use Rattle.fr_observe.specs.Readings.{meet_all, scale_of, Interval}
-use Rattle.fr_observe.specs.Course.{course_from, span_of, stamped, Course, Delays, Observer}
+use Rattle.fr_course.specs.Numbering.{is_timely, longest_silence, next_number}
+use Rattle.fr_course.specs.Readings.{meet_all, reading_scale, Interval}
+use Rattle.fr_course.specs.Course.{course_from, span_of, stamped, Course, Delays, Observer}
 use Rattle.fr_seen.specs.Clocks.{IsStamped, IsWithinDrift, StraightClock}
 use Rattle.fr_seen.specs.RunRows.{IsTimedRun}
 use Rattle.fr_seen.specs.Skews.{IsOnCourse}
@@ -80,8 +80,8 @@ abbrev pub IsInWindow : ℕ → ℕ → Type 0
 IsInWindow cycle double = (double_cycle_of cycle ≡ double) ⊎ (double_cycle_of cycle ≡ suc double)
 
 -- how many macroticks behind the start of its cycle a frame is sent
-abbrev pub sent_at : Setting → SentFrame → ℤ
-sent_at x sent = pos (action_point_of x.params sent.frame.slot)
+abbrev pub sent_macrotick : Setting → SentFrame → ℤ
+sent_macrotick x sent = pos (action_point_of x.params sent.frame.slot)
 
 -- how much later one frame of a log is stamped than another, in ticks of the observer's clock
 abbrev pub stamped_apart : Observer → SentFrame → SentFrame → ℤ
@@ -90,7 +90,7 @@ stamped_apart observer sent later = pos observer.unit *ℤ (later.frame.stamp -�
 -- a log is seen of a run: its frames are sent there; over two double cycles that follow each other the observer's clock is
 -- straight, with a rate within its drift, and stamps each of their frames at its arrival; delays keep their limits and their
 -- jitter; no frame is there twice; and where no long silence lies between two of them they come in time
-pub record IsSeen
+pub record IsSeenOf
     (x : Setting) (h : Cycles) (base : ℕ) (observer : Observer) (delays : ℕ → Channel → Delays) (clock : ℕ → StraightClock)
     (log : List SentFrame)
     : Type 0 where
@@ -113,7 +113,7 @@ pub record IsSeen
       (frame later : SentFrame) → Contains log frame → Contains log later
       → IsBetween (pos 0) (longest_silence x.params) (stamped_apart observer frame later)
       → is_timely x.params (stamped_apart observer frame later) (later.frame.number -ℤ frame.frame.number)
-      (sent_at x later -ℤ sent_at x frame)
+      (sent_macrotick x later -ℤ sent_macrotick x frame)
       ≡ true
 
 -- then the numbers of its frames are found from each to any later one that no long silence lies before
@@ -121,7 +121,7 @@ abbrev pub SeenNumbersAreFound : Type 0
 SeenNumbersAreFound =
     (x : Setting) (h : Cycles) (base : ℕ) (observer : Observer) (delays : ℕ → Channel → Delays) (clock : ℕ → StraightClock)
     (log : List SentFrame) (frame later : SentFrame)
-    → IsSane x.params → IsSeen x h base observer delays clock log → Contains log frame → Contains log later
+    → IsSane x.params → IsSeenOf x h base observer delays clock log → Contains log frame → Contains log later
     → IsBetween (pos 0) (longest_silence x.params) (stamped_apart observer frame later)
     → next_number frame.frame.number later.frame.count ≡ later.frame.number
 
@@ -162,7 +162,7 @@ pub record ArePicked (log : List SentFrame) (node slot double : ℕ) (picked : P
 -- a course is that of the node by these frames
 abbrev pub IsCourseBy : Setting → Observer → (ℕ → Channel → Delays) → ℕ → Picked → Course → Type 0
 IsCourseBy x observer delays slot picked course =
-    course_from (scale_of observer.drift x.params) (pos (action_point_of x.params slot))
+    course_from (reading_scale observer.drift x.params) (pos (action_point_of x.params slot))
     (meet_all (map (box_of observer delays) picked.even))
     (meet_all (map (box_of observer delays) picked.odd))
     (meet_all (map (span_between observer delays) picked.pairs))
@@ -183,7 +183,7 @@ abbrev pub SeenCoursesHold : Type 0
 SeenCoursesHold =
     (x : Setting) (h : Cycles) (base : ℕ) (observer : Observer) (delays : ℕ → Channel → Delays) (clock : ℕ → StraightClock)
     (log : List SentFrame) (node slot double window : ℕ) (even odd : NodeRow) (picked : Picked) (course : Course)
-    → IsTimedRun x h → IsSeen x h base observer delays clock log → HasRows x h node slot double even odd
+    → IsTimedRun x h → IsSeenOf x h base observer delays clock log → HasRows x h node slot double even odd
     → ArePicked log node slot double picked → (double ≡ window) ⊎ (double ≡ suc window)
     → IsCourseBy x observer delays slot picked course
     → IsOnCourse x.params observer.drift (clock window) (record { course = course; even = even; odd = odd })
@@ -194,7 +194,7 @@ SeenNodesGoOn =
     (x : Setting) (h : Cycles) (base : ℕ) (observer : Observer) (delays : ℕ → Channel → Delays) (clock : ℕ → StraightClock)
     (log : List SentFrame) (node slot double : ℕ) (even odd next_even next_odd : NodeRow) (picked next_picked : Picked)
     (course next_course : Course) (onward : List (SentFrame × SentFrame))
-    → IsTimedRun x h → IsSeen x h base observer delays clock log
+    → IsTimedRun x h → IsSeenOf x h base observer delays clock log
     → HasRows x h node slot double even odd → HasRows x h node slot (suc double) next_even next_odd
     → ArePicked log node slot double picked → ArePicked log node slot (suc double) next_picked
     → All (ArePaired log node slot (suc (2 * double)) (2 * suc double)) onward

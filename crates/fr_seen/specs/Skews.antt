@@ -7,9 +7,9 @@ use Rattle.fr_time.specs.Position.{grid_for}
 use Rattle.fr_time.specs.Instant.{instant_of}
 use Rattle.fr_skew.specs.Spreads.{spread_of}
 use Rattle.fr_precision.specs.Rows.{corrected_end_of}
-use Rattle.fr_observe.specs.Readings.{scale_of}
-use Rattle.fr_observe.specs.Course.{Course}
-use Rattle.fr_observe.specs.Spread.{least_even_skew, least_odd_skew, most_even_skew, most_odd_skew}
+use Rattle.fr_course.specs.Readings.{reading_scale}
+use Rattle.fr_course.specs.Course.{Course}
+use Rattle.fr_course.specs.Spread.{least_even_skew, least_odd_skew, most_even_skew, most_odd_skew}
 use Rattle.fr_seen.specs.Clocks.{IsWithinDrift, StraightClock}
 use Rattle.fr_seen.specs.Courses.{HoldsCourse, IsSeenNode}
 
@@ -44,14 +44,14 @@ abbrev pub EvenSkewIsSeen : Type 0
 EvenSkewIsSeen =
     (p : Values) (drift : ℕ) (clock : StraightClock) (nodes : List SeenNode)
     → IsSane p → IsWithinDrift drift clock → All (IsOnCourse p drift clock) nodes
-    → HasSkew p false (map (λ node. node.even) nodes) (least_even_skew (scale_of drift p) (map (λ node. node.course) nodes))
-    × StaysWithin p false (map (λ node. node.even) nodes) (most_even_skew (scale_of drift p) (map (λ node. node.course) nodes))
+    → HasSkew p false (map (λ node. node.even) nodes) (least_even_skew (reading_scale drift p) (map (λ node. node.course) nodes))
+    × StaysWithin p false (map (λ node. node.even) nodes) (most_even_skew (reading_scale drift p) (map (λ node. node.course) nodes))
 
 abbrev pub OddSkewIsReached : Type 0
 OddSkewIsReached =
     (p : Values) (drift : ℕ) (clock : StraightClock) (nodes : List SeenNode)
     → IsSane p → IsWithinDrift drift clock → All (IsOnCourse p drift clock) nodes
-    → HasSkew p true (map (λ node. node.odd) nodes) (least_odd_skew (scale_of drift p) (map (λ node. node.course) nodes))
+    → HasSkew p true (map (λ node. node.odd) nodes) (least_odd_skew (reading_scale drift p) (map (λ node. node.course) nodes))
 
 -- a node that was seen in two double cycles, one after the other
 pub record SeenTwice : Type 0 where
@@ -69,4 +69,4 @@ OddSkewIsKept =
     (p : Values) (drift : ℕ) (clock : StraightClock) (nodes : List SeenTwice)
     → IsSane p → IsWithinDrift drift clock → All (IsOnCourses p drift clock) nodes
     → StaysWithin p true (map (λ node. node.first.odd) nodes)
-    (most_odd_skew (scale_of drift p) (map (λ node. node.first.course) nodes) (map (λ node. node.second.course) nodes))
+    (most_odd_skew (reading_scale drift p) (map (λ node. node.first.course) nodes) (map (λ node. node.second.course) nodes))

@@ -5,8 +5,8 @@ use Rattle.fr_base.specs.Within.{IsBetween}
 use Rattle.fr_cluster.specs.Values.{Values}
 use Rattle.fr_cluster.specs.Sane.{IsSane}
 use Rattle.fr_precision.specs.Rows.{IsSteady}
-use Rattle.fr_observe.specs.Readings.{scale_of, Interval}
-use Rattle.fr_observe.specs.Terms.{offset_seen, rate_step_seen}
+use Rattle.fr_course.specs.Readings.{reading_scale, Interval}
+use Rattle.fr_course.specs.Terms.{offset_seen, rate_step_seen}
 use Rattle.fr_seen.specs.Clocks.{IsWithinDrift, LastsIn, StraightClock}
 use Rattle.fr_seen.specs.Courses.{even_action, odd_action}
 use Rattle.fr_seen.specs.Skews.{IsOnCourses, SeenTwice}
@@ -28,12 +28,12 @@ pub record GoesOn (p : Values) (drift : ℕ) (clock : StraightClock) (node : See
 abbrev pub OffsetsAreSeen : Type 0
 OffsetsAreSeen =
     (p : Values) (drift : ℕ) (clock : StraightClock) (node : SeenTwice) (span : Option Interval) → GoesOn p drift clock node span
-    → IsBetween (offset_seen (scale_of drift p) node.first.course node.second.course span).low
-    (offset_seen (scale_of drift p) node.first.course node.second.course span).high node.first.odd.offset
+    → IsBetween (offset_seen (reading_scale drift p) node.first.course node.second.course span).low
+    (offset_seen (reading_scale drift p) node.first.course node.second.course span).high node.first.odd.offset
 
 abbrev pub RateStepsAreSeen : Type 0
 RateStepsAreSeen =
     (p : Values) (drift : ℕ) (clock : StraightClock) (node : SeenTwice) (span : Option Interval) → GoesOn p drift clock node span
-    → IsBetween (rate_step_seen (scale_of drift p) node.first.course node.second.course).low
-    (rate_step_seen (scale_of drift p) node.first.course node.second.course).high
+    → IsBetween (rate_step_seen (reading_scale drift p) node.first.course node.second.course).low
+    (rate_step_seen (reading_scale drift p) node.first.course node.second.course).high
     (node.second.even.rate -ℤ node.first.odd.rate)

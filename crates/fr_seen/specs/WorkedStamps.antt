@@ -1,10 +1,10 @@
 -- A worked row: two nodes that send 2.5 microticks apart, as an observer stamps their frames by whole nanoseconds.
 use Rattle.std.specs.Prelude.{ℕ, ◌≡◌, ℤ, pos, neg_ℤ, [], ◌∷◌, Option, Some, None}
 use Rattle.fr_cluster.specs.Values.{Values}
-use Rattle.fr_observe.specs.Readings.{scale_of, Interval, Scale}
-use Rattle.fr_observe.specs.Course.{course_from, even_start, span_of, stamped, Course, Delays, Observer}
-use Rattle.fr_observe.specs.Spread.{even_skew, odd_skew}
-use Rattle.fr_observe.specs.Terms.{offset_seen, rate_step_seen}
+use Rattle.fr_course.specs.Readings.{reading_scale, Interval, Scale}
+use Rattle.fr_course.specs.Course.{course_from, even_start, span_of, stamped, Course, Delays, Observer}
+use Rattle.fr_course.specs.Spread.{even_skew, odd_skew}
+use Rattle.fr_course.specs.Terms.{offset_seen, rate_step_seen}
 
 -- a cycle of 5 ms at a microtick of 25 ns
 abbrev pub worked_values : Values
@@ -41,7 +41,7 @@ abbrev pub worked_delays : Delays
 worked_delays = record { least = 0; most = 0; jitter = 0 }
 
 abbrev pub worked_scale : Scale
-worked_scale = scale_of 0 worked_values
+worked_scale = reading_scale 0 worked_values
 
 abbrev pub worked_box : ℕ → Interval
 worked_box stamp = stamped worked_observer worked_delays (pos stamp)

@@ -1,0 +1,6 @@
+-- what the public contract cites
+pub mod Readings
+pub mod Course
+pub mod Spread
+pub mod Terms
+pub mod Numbering

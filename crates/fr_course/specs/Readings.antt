@@ -1,0 +1,101 @@
+-- Numbers on an observer's clock, and ticks. The clock is straight, and within a drift of so many parts per million: for a
+-- rate of one clock against the other within the drift, so many ticks are from the one to the other number on the
+-- observer's clock (a *reading*), and a reading is from one number of ticks to another. Ticks and readings are below
+-- 4,000,000,000,000 on either side, and the drift is at most 1,000: so no product passes 63 bits.
+use Rattle.std.specs.Prelude.{ℕ, ℤ, pos, neg_ℤ, ◌+ℤ◌, ◌-ℤ◌, ◌*ℤ◌, int_lt, List, [], ◌∷◌, Option, Some, None, if◌then◌else◌}
+use Rattle.std.specs.Int.{int_max, int_min}
+use Rattle.fr_cluster.specs.Values.{Values, amount}
+use Rattle.fr_cluster.specs.declared.names.ParamName.TheVariants as name
+use Rattle.fr_time.specs.Position.{floor_of}
+use Rattle.fr_bound.specs.Bounds.{cycle_change, longest_micro, nominal, shortest_micro}
+use Rattle.fr_bound.specs.Checks.{least_cycle}
+
+-- a quotient rounded up; the divisor is above 0
+abbrev pub ceiling_of : ℤ → ℤ → ℤ
+ceiling_of n d = neg_ℤ (floor_of (neg_ℤ n) d)
+
+-- what a million is on the slowest and on the fastest clock of a drift
+abbrev pub slow_million : ℕ → ℤ
+slow_million drift = pos nominal -ℤ pos drift
+
+abbrev pub fast_million : ℕ → ℤ
+fast_million drift = pos nominal +ℤ pos drift
+
+-- the least and the greatest reading that so many ticks can be: rounded outwards
+abbrev pub least_reading : ℕ → ℤ → ℤ
+least_reading drift ticks =
+    floor_of (ticks *ℤ (if int_lt ticks (pos 0) then fast_million drift else slow_million drift)) (pos nominal)
+
+abbrev pub most_reading : ℕ → ℤ → ℤ
+most_reading drift ticks = neg_ℤ (least_reading drift (neg_ℤ ticks))
+
+-- the least and the greatest number of ticks that a reading can be: whole numbers
+abbrev pub least_ticks : ℕ → ℤ → ℤ
+least_ticks drift reading =
+    ceiling_of (reading *ℤ pos nominal) (if int_lt reading (pos 0) then slow_million drift else fast_million drift)
+
+abbrev pub most_ticks : ℕ → ℤ → ℤ
+most_ticks drift reading = neg_ℤ (least_ticks drift (neg_ℤ reading))
+
+-- from one number to another; where the one is above the other, nothing lies there
+pub record Interval : Type 0 where
+  pub low : ℤ
+  pub high : ℤ
+
+-- what lies in both
+abbrev pub meet : Interval → Interval → Interval
+meet one other = record { low = int_max one.low other.low; high = int_min one.high other.high }
+
+-- in one that may be without limits, and in another
+abbrev pub meet_if : Option Interval → Interval → Interval
+meet_if None other = other
+meet_if (Some one) other = meet one other
+
+-- in all of some; none without one
+unfoldable pub meet_all : List Interval → Option Interval
+meet_all [] = None
+meet_all (one ∷ others) = Some (meet_if (meet_all others) one)
+
+-- the numbers of a cluster as readings
+pub record Scale : Type 0 where
+  -- the drift of the observer's clock, in parts per million
+  pub drift : ℕ
+  -- the macroticks of a cycle, and that at which the offset correction starts
+  pub macros : ℤ
+  pub correction : ℤ
+  -- the least and the greatest length of a cycle before its offset correction
+  pub length_from : ℤ
+  pub length_to : ℤ
+  -- by how much a length changes from one cycle to the next
+  pub change : ℤ
+  -- the shortest and the longest microtick
+  pub micro_from : ℤ
+  pub micro_to : ℤ
+
+-- the most microticks of a cycle before its offset correction
+abbrev pub most_cycle : Values → ℤ
+most_cycle p = pos (amount p name.pMicroPerCycle) +ℤ pos (amount p name.pRateCorrectionOut)
+
+abbrev pub reading_scale : ℕ → Values → Scale
+reading_scale drift p =
+    record {
+      drift = drift;
+      macros = p.macros;
+      correction = p.correction;
+      length_from = least_reading drift (pos (least_cycle p) *ℤ pos (shortest_micro p));
+      length_to = most_reading drift (most_cycle p *ℤ pos (longest_micro p));
+      change = most_reading drift (pos (cycle_change p));
+      micro_from = least_reading drift (pos (shortest_micro p));
+      micro_to = most_reading drift (pos (longest_micro p));
+    }
+
+-- the least and the greatest number of microticks that so long can be, in readings
+abbrev pub micros_from : Scale → ℤ → ℤ
+micros_from scale long = ceiling_of long (if int_lt long (pos 0) then scale.micro_from else scale.micro_to)
+
+abbrev pub micros_to : Scale → ℤ → ℤ
+micros_to scale long = floor_of long (if int_lt long (pos 0) then scale.micro_to else scale.micro_from)
+
+-- all of them
+abbrev pub micros_in : Scale → Interval → Interval
+micros_in scale long = record { low = micros_from scale long.low; high = micros_to scale long.high }

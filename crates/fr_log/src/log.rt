@@ -1,0 +1,159 @@
+ghost use Rattle.std.specs.Prelude.{◌≡◌, ◌≤◌, All, IfSome};
+ghost use Rattle.std.specs.List.Sorted.{IsNonDecreasingBy};
+ghost use Rattle.fr_log.specs.View.{AreDelayLimits, IsEntry, IsEvenCycle, IsLog, delay_limits_of, is_arbitrary_in, jitter_of, jitter_within, own_limits};
+
+use crate::entry::Entry;
+use crate::rows::DelayLimits;
+use fr_base::{Channel, NodeId};
+use std::marker::Model;
+
+/// What an observer of a cluster says of itself and of the frames that came: its log, as an accepted file has it.
+pub struct Log {
+    pub(crate) unit: u64,
+    pub(crate) drift: u64,
+    pub(crate) error: u64,
+    pub(crate) jitter: Option<u64>,
+    pub(crate) since: Option<u32>,
+    pub(crate) whole: bool,
+    pub(crate) arbitrary: [bool; 65],
+    pub(crate) on_a: [Option<DelayLimits>; 65],
+    pub(crate) on_b: [Option<DelayLimits>; 65],
+    pub(crate) each: Option<DelayLimits>,
+    pub(crate) entries: Vec<Entry>,
+}
+
+impl Model for Log {
+    ghost use Rattle.fr_log.specs.View.{IsLog, LogView};
+
+    ghost Value = { LogView };
+
+    ghost use Rattle.fr_log.specs.Fields.{log_seen};
+
+    ghost view = { log_seen };
+
+    ghost invariant = { λ a. IsLog (log_seen a) };
+}
+
+// One call: a derived drop is opened in each function that drops a value, and proved there.
+impl Drop for Log {
+    fn drop(self) {
+        let Log {
+            unit: _,
+            drift: _,
+            error: _,
+            jitter: _,
+            since: _,
+            whole: _,
+            arbitrary: _,
+            on_a: _,
+            on_b: _,
+            each: _,
+            entries: _,
+        } = self;
+    }
+}
+
+impl Log {
+    /// How long a unit of stamps is on the observer's clock, in ticks.
+    pub fn unit(&self) -> u64
+        ensures value { result ≡ self.now.unit }
+        ensures from { 1 ≤ result }
+        ensures to { result ≤ 1_000_000_000 }
+    {
+        self.unit
+    }
+
+    /// How far the observer's clock is off at most, in parts per million.
+    pub fn drift(&self) -> u64
+        ensures value { result ≡ self.now.drift }
+        ensures to { result ≤ 1000 }
+    {
+        self.drift
+    }
+
+    /// What a stamp is off beside rounding, in ticks: 0 where no record says it.
+    pub fn error(&self) -> u64
+        ensures value { result ≡ self.now.error }
+        ensures to { result ≤ 1_000_000_000 }
+    {
+        self.error
+    }
+
+    /// The limits of the delay of a node's frames on a channel to the observer, in ticks: those of its row, or those of
+    /// all delays that have none; `None` exactly where no record says either.
+    #[tactic(auto, unfolding(crate::specs::View::delay_limits_of))]
+    pub fn limits_of(&self, node: NodeId, channel: Channel) -> Option<DelayLimits>
+        ensures value { result ≡ delay_limits_of self.now node channel }
+        ensures proper { IfSome result AreDelayLimits }
+    {
+        self.own_limits(node, channel).or(self.each)
+    }
+
+    /// How much two delays of a node's frames on a channel differ at most, in ticks: what lies between their limits, or
+    /// what the log says where that is less; `None` exactly where the delay has no limits.
+    #[tactic(auto, unfolding(crate::specs::View::jitter_of))]
+    pub fn jitter_of(&self, node: NodeId, channel: Channel) -> Option<u64>
+        ensures value { result ≡ jitter_of self.now node channel }
+        ensures most { IfSome result (λ jitter. jitter ≤ 1_000_000_000) }
+    {
+        match self.limits_of(node, channel) {
+            Some(limits) => Some(self.jitter_within(&limits)),
+            None => None,
+        }
+    }
+
+    /// Whether the log names the node arbitrary.
+    #[tactic(auto, unfolding(crate::specs::View::is_arbitrary_in))]
+    pub fn is_arbitrary(&self, node: NodeId) -> bool
+        ensures { result ≡ is_arbitrary_in self.now node }
+    {
+        self.arbitrary[usize::from(node.0)]
+    }
+
+    /// Whether the observer missed no frame.
+    pub fn is_whole(&self) -> bool
+        ensures { result ≡ self.now.whole }
+    {
+        self.whole
+    }
+
+    /// The even cycle of the log from which on the cluster is in sync, where the log says one.
+    pub fn since(&self) -> Option<u32>
+        ensures value { result ≡ self.now.since }
+        ensures proper { IfSome result IsEvenCycle }
+    {
+        self.since
+    }
+
+    /// The frames that came, in the order of the file: their stamps do not fall.
+    pub fn entries(&self) -> &[Entry]
+        ensures value { result.now ≡ self.now.entries }
+        ensures proper { All (IsEntry self.now.unit) result.now }
+        ensures ascending { IsNonDecreasingBy (λ e. e.stamp) result.now }
+    {
+        self.entries.as_slice()
+    }
+
+    #[tactic(auto, unfolding(crate::specs::View::own_limits))]
+    fn own_limits(&self, node: NodeId, channel: Channel) -> Option<DelayLimits>
+        ensures value { result ≡ own_limits self.now node channel }
+        ensures proper { IfSome result AreDelayLimits }
+    {
+        match channel {
+            Channel::A => self.on_a[usize::from(node.0)],
+            Channel::B => self.on_b[usize::from(node.0)],
+        }
+    }
+
+    fn jitter_within(&self, limits: &DelayLimits) -> u64
+        requires { AreDelayLimits limits.now }
+        ensures value { result ≡ jitter_within self.now.jitter limits.now }
+        ensures most { result ≤ 1_000_000_000 }
+    {
+        let width = limits.high - limits.low;
+        match self.jitter {
+            Some(jitter) => jitter.min(width),
+            None => width,
+        }
+    }
+}
