@@ -3,7 +3,7 @@ use crate::faults::first_other;
 use crate::params::params_of;
 use fr_base::{Channel, Reason};
 use fr_cluster::Params;
-use fr_observe::{Entry, EntryKind, Log, LogFault, LogFile, read};
+use fr_log::{Entry, EntryKind, Log, LogFault, LogFile, read};
 use fr_samples::node;
 use fr_text::{FileKind, Shown};
 use std::alloc::{AllocError, Global};
