@@ -1,7 +1,7 @@
 use Rattle.std.proofs.Common.{rules, ◌≡◌, ◌∙◌, ap, sym, true, ℕ, List, [], ◌∷◌, ◌++◌, slice_index_or, Bor, drop}
 use Rattle.std.specs.List.{list_all}
 use Rattle.std.proofs.lemmas.List.{map-append, take-append-drop}
-use Rattle.fr_text.specs.Plain.{IsCut, bytes_of}
+use Rattle.fr_text.specs.Plain.{bytes_of}
 use Rattle.fr_text.specs.Texts.{is_plain_field, with_commas}
 use Rattle.fr_text.proofs.LineCuts.{cut-last, first-byte, plain-more}
 use Rattle.fr_text.proofs.cutting.cut.Goals as goal
