@@ -34,7 +34,7 @@ use Rattle.fr_seen.proofs.Intervals.{spans_place, stamps_place}
 use Rattle.fr_seen.proofs.CourseLaws.{courses_hold_lem, meets_if}
 use Rattle.fr_seen.proofs.RunLaws.{nodes_go_on, nodes_run_regularly}
 use Rattle.fr_seen.proofs.Doubles.{numbers_of}
-use Rattle.fr_seen.proofs.Floors.{floor_above, floor_below}
+use Rattle.fr_course.proofs.Floors.{floor_above, floor_below}
 use Rattle.fr_seen.proofs.TermLaws.{product_some}
 
 -- ---- numbers

@@ -8,7 +8,7 @@ use Rattle.fr_midpoint.proofs.Products.{lez_of_mulz-lez, mulz-addz, mulz-lez_lef
 use Rattle.fr_time.specs.Position.{floor_of}
 use Rattle.fr_course.specs.Readings.{ceiling_of, Interval}
 use Rattle.fr_seen.specs.Clocks.{HasReading, StraightClock}
-use Rattle.fr_seen.proofs.Floors.{ceiling_above, floor_below, mulz-lez_down}
+use Rattle.fr_course.proofs.Floors.{ceiling_above, floor_below, mulz-lez_down}
 use Rattle.fr_seen.proofs.Intervals.{on_max, on_min}
 
 -- ---- sums

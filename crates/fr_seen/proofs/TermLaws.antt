@@ -20,7 +20,7 @@ use Rattle.fr_seen.specs.Clocks.{reading_at, reading_of, HasReading, IsWithinDri
 use Rattle.fr_seen.specs.Courses.{even_action, odd_action}
 use Rattle.fr_seen.specs.Skews.{SeenTwice}
 use Rattle.fr_seen.specs.TermsSeen.{GoesOn, OffsetsAreSeen, RateStepsAreSeen}
-use Rattle.fr_seen.proofs.Floors.{ceiling_below, floor_above, mulz-lez_down}
+use Rattle.fr_course.proofs.Floors.{ceiling_below, floor_above, mulz-lez_down}
 use Rattle.fr_seen.proofs.Readings.{least_reading_lem, most_reading_lem}
 use Rattle.fr_seen.proofs.Shares.{all_parts, of_all_parts, reads_back, reads_down, reads_near, reads_up, shared, some_parts}
 use Rattle.fr_seen.proofs.Doubles.{micros_of, numbers_of}

@@ -1,0 +1,71 @@
+-- How far quotients, weighed sums and what lies in two intervals lie from 0.
+use Rattle.std.proofs.Common.{◌≡◌, ℤ, pos, Option, Some, None, IfSome, arith}
+use Rattle.std.specs.Prelude.{◌+ℤ◌, ◌-ℤ◌, ◌*ℤ◌, ◌≤ℤ◌, ◌<ℤ◌, neg_ℤ}
+use Rattle.std.proofs.lemmas.Int.{ints, clamps}
+use Rattle.fr_base.specs.Within.{IsWithin}
+use Rattle.fr_midpoint.proofs.Products.{lez_of_mulz-lez, mulz_comm, mulz_within, negz-mulz, subz-mulz}
+use Rattle.fr_time.specs.Position.{floor_of}
+use Rattle.fr_course.specs.Readings.{ceiling_of, meet, meet_if, Interval}
+use Rattle.fr_course.specs.Near.{LieBetween}
+use Rattle.fr_course.proofs.Floors.{floor_above, floor_below}
+
+-- a quotient lies within a bound where the number lies within as many divisors
+pub floor_within : (n d bound : ℤ) → pos 1 ≤ℤ d → IsWithin (d *ℤ bound) n → IsWithin bound (floor_of n d)
+floor_within n d bound from near =
+    let some : pos 0 <ℤ d = above d from in
+    let turned : bound *ℤ d ≡ d *ℤ bound = mulz_comm bound d in
+    let under : neg_ℤ bound *ℤ d ≡ neg_ℤ (bound *ℤ d) = negz-mulz bound d in
+    record {
+      low = floor_above n d (neg_ℤ bound) some (below (neg_ℤ bound *ℤ d) (bound *ℤ d) (d *ℤ bound) n under turned near.low);
+      high = lez_of_mulz-lez (floor_of n d) bound d some (over (floor_of n d *ℤ d) n (d *ℤ bound) (bound *ℤ d) (floor_below n d some) near.high turned);
+    }
+  where
+    above : (d : ℤ) → pos 1 ≤ℤ d → pos 0 <ℤ d
+    above d h = omega (arith, ints)
+
+    below : (a b c n : ℤ) → a ≡ neg_ℤ b → b ≡ c → neg_ℤ c ≤ℤ n → a ≤ℤ n
+    below a b c n e f h = omega (arith, ints)
+
+    over : (a n b c : ℤ) → a ≤ℤ n → n ≤ℤ b → c ≡ b → a ≤ℤ c
+    over a n b c h k e = omega (arith, ints)
+
+turned_within : (bound x : ℤ) → IsWithin bound x → IsWithin bound (neg_ℤ x)
+turned_within bound x near = record { low = omega (arith, ints, near.high); high = omega (arith, ints, near.low) }
+
+pub ceiling_within : (n d bound : ℤ) → pos 1 ≤ℤ d → IsWithin (d *ℤ bound) n → IsWithin bound (ceiling_of n d)
+ceiling_within n d bound from near =
+    turned_within bound (floor_of (neg_ℤ n) d) (floor_within (neg_ℤ n) d bound from (turned_within (d *ℤ bound) n near))
+
+-- a sum of two numbers within a bound, of which each counts so many of a number of parts
+pub weighed_within : (parts before x y bound : ℤ) → pos 0 ≤ℤ before → before ≤ℤ parts → IsWithin bound x → IsWithin bound y
+    → IsWithin (parts *ℤ bound) ((before *ℤ x) +ℤ ((parts -ℤ before) *ℤ y))
+weighed_within parts before x y bound from to near also =
+    let left = mulz_within before x before bound from (itself before) near in
+    let right = mulz_within (parts -ℤ before) y (parts -ℤ before) bound (rest parts before to) (itself (parts -ℤ before)) also in
+    let whole : (parts -ℤ before) *ℤ bound ≡ (parts *ℤ bound) -ℤ (before *ℤ bound) = subz-mulz parts before bound in
+    both (before *ℤ x) ((parts -ℤ before) *ℤ y) (before *ℤ bound) ((parts -ℤ before) *ℤ bound) (parts *ℤ bound) left right whole
+  where
+    itself : (a : ℤ) → a ≤ℤ a
+    itself a = omega (arith, ints)
+
+    rest : (a b : ℤ) → b ≤ℤ a → pos 0 ≤ℤ (a -ℤ b)
+    rest a b h = omega (arith, ints)
+
+    both : (p q r s t : ℤ) → IsWithin r p → IsWithin s q → s ≡ t -ℤ r → IsWithin t (p +ℤ q)
+    both p q r s t a b e = record { low = omega (arith, ints, a.low, b.low); high = omega (arith, ints, a.high, b.high) }
+
+-- what lies in two intervals ends where they do
+pub meet_between : (least greatest : ℤ) (one other : Interval) → LieBetween least greatest one → LieBetween least greatest other
+    → LieBetween least greatest (meet one other)
+meet_between least greatest one other a b =
+    record {
+      low_from = omega (arith, ints, clamps, a.low_from, b.low_from);
+      low_to = omega (arith, ints, clamps, a.low_to, b.low_to);
+      high_from = omega (arith, ints, clamps, a.high_from, b.high_from);
+      high_to = omega (arith, ints, clamps, a.high_to, b.high_to);
+    }
+
+pub meet_if_between : (least greatest : ℤ) (one : Option Interval) (other : Interval) → IfSome one (LieBetween least greatest)
+    → LieBetween least greatest other → LieBetween least greatest (meet_if one other)
+meet_if_between least greatest None other a b = b
+meet_if_between least greatest (Some one) other a b = meet_between least greatest one other a b

@@ -1,0 +1,46 @@
+ghost use Rattle.std.specs.Prelude.{◌≡◌, ℤ, IfSome};
+ghost use Rattle.fr_course.specs.Course.{is_empty};
+ghost use Rattle.fr_course.specs.Near.{LieBetween};
+ghost use Rattle.fr_course.specs.Readings.{meet, meet_if};
+
+/// From one number to another; where the one is above the other, nothing lies there.
+#[derive(Clone, Copy, Debug, PartialEq, Eq)]
+pub struct Interval {
+    pub low: i128,
+    pub high: i128,
+}
+
+/// What lies in both intervals. Where the ends of both lie between two numbers, so do its ends.
+pub fn meet(one: &Interval, other: &Interval) -> Interval
+    ensures value { result ≡ meet one.now other.now }
+    ensures near { (least greatest : ℤ) →
+        LieBetween least greatest one.now →
+        LieBetween least greatest other.now →
+        LieBetween least greatest result }
+{
+    Interval {
+        low: one.low.max(other.low),
+        high: one.high.min(other.high),
+    }
+}
+
+/// What lies in one interval, which may be without limits, and in another.
+pub fn meet_if(one: Option<Interval>, other: &Interval) -> Interval
+    ensures value { result ≡ meet_if one other.now }
+    ensures near { (least greatest : ℤ) →
+        IfSome one (LieBetween least greatest) →
+        LieBetween least greatest other.now →
+        LieBetween least greatest result }
+{
+    match one {
+        None => *other,
+        Some(one) => meet(&one, other),
+    }
+}
+
+// Whether nothing lies there.
+pub(crate) fn is_empty(interval: &Interval) -> bool
+    ensures { result ≡ is_empty interval.now }
+{
+    interval.high < interval.low
+}
