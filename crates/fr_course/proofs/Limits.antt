@@ -1,5 +1,6 @@
 -- How far quotients, weighed sums and what lies in two intervals lie from 0.
-use Rattle.std.proofs.Common.{◌≡◌, ℤ, pos, Option, Some, None, IfSome, arith}
+use Rattle.std.proofs.Common.{◌≡◌, ℤ, pos, Option, Some, None, IfSome, FitsSigned, arith}
+use mir.Syntax.{w128}
 use Rattle.std.specs.Prelude.{◌+ℤ◌, ◌-ℤ◌, ◌*ℤ◌, ◌≤ℤ◌, ◌<ℤ◌, neg_ℤ}
 use Rattle.std.proofs.lemmas.Int.{ints, clamps}
 use Rattle.fr_base.specs.Within.{IsWithin}
@@ -69,3 +70,9 @@ pub meet_if_between : (least greatest : ℤ) (one : Option Interval) (other : In
     → LieBetween least greatest other → LieBetween least greatest (meet_if one other)
 meet_if_between least greatest None other a b = b
 meet_if_between least greatest (Some one) other a b = meet_between least greatest one other a b
+
+-- so many macroticks of a cycle times a reading are a number of the machine
+pub product_fits : (macroticks x : ℤ) → pos 0 ≤ℤ macroticks → macroticks ≤ℤ pos 16_000 → IsWithin (pos 1_900_000_000_000_000_000) x → FitsSigned w128 (macroticks *ℤ x)
+product_fits macroticks x from to near =
+    let within = mulz_within macroticks x (pos 16_000) (pos 1_900_000_000_000_000_000) from to near in
+    omega (arith, ints, within.low, within.high)

@@ -16,7 +16,9 @@ pub(crate) fn least_reading(drift: u64, ticks: i128) -> i128
     ensures some { pos 2 ≤ℤ ticks → pos 1 ≤ℤ result }
     ensures less { ticks ≤ℤ neg_ℤ (pos 1) → result ≤ℤ neg_ℤ (pos 1) }
 {
-    floor(ticks * outer_million(drift, ticks), NOMINAL)
+    let million = outer_million(drift, ticks);
+    let parts = ticks * million;
+    floor(parts, NOMINAL)
 }
 
 // The greatest reading that so many ticks can be.
@@ -37,7 +39,9 @@ pub(crate) fn least_ticks(drift: u64, reading: i128) -> i128
     ensures value { result ≡ least_ticks drift reading }
     ensures within { IsWithin (pos 6_200_000_000_000_000_000) result }
 {
-    ceiling(reading * NOMINAL, inner_million(drift, reading))
+    let million = inner_million(drift, reading);
+    let parts = reading * NOMINAL;
+    ceiling(parts, million)
 }
 
 // The greatest number of ticks that a reading can be.

@@ -14,7 +14,8 @@ pub(crate) fn share_from(scale: &Scale, macroticks: i128, length: i128) -> i128
     ensures value { result ≡ share_from scale.now macroticks length }
     ensures within { IsWithin (pos 930_000_000_000_000_000) result }
 {
-    floor(macroticks * length, scale.macros)
+    let whole = macroticks * length;
+    floor(whole, scale.macros)
 }
 
 // The same at most.
@@ -25,7 +26,8 @@ pub(crate) fn share_to(scale: &Scale, macroticks: i128, length: i128) -> i128
     ensures value { result ≡ share_to scale.now macroticks length }
     ensures within { IsWithin (pos 930_000_000_000_000_000) result }
 {
-    ceiling(macroticks * length, scale.macros)
+    let whole = macroticks * length;
+    ceiling(whole, scale.macros)
 }
 
 // A point between two others that lie a cycle apart, so many macroticks before the second, at least.
@@ -61,5 +63,8 @@ fn weighed(scale: &Scale, before: i128, first: i128, second: i128) -> i128
     ensures value { result ≡ (before *ℤ first) +ℤ ((scale.now.macros -ℤ before) *ℤ second) }
     ensures within { IsWithin (scale.now.macros *ℤ pos 1_900_000_000_000_000_000) result }
 {
-    before * first + (scale.macros - before) * second
+    let one = before * first;
+    let behind = scale.macros - before;
+    let other = behind * second;
+    one + other
 }
