@@ -1,13 +1,15 @@
 -- How far quotients, weighed sums and what lies in two intervals lie from 0.
 use Rattle.std.proofs.Common.{◌≡◌, ℤ, pos, Option, Some, None, IfSome, FitsSigned, arith}
 use mir.Syntax.{w128}
+use Rattle.std.specs.Int.{int_max, int_min}
 use Rattle.std.specs.Prelude.{◌+ℤ◌, ◌-ℤ◌, ◌*ℤ◌, ◌≤ℤ◌, ◌<ℤ◌, neg_ℤ}
 use Rattle.std.proofs.lemmas.Int.{ints, clamps}
-use Rattle.fr_base.specs.Within.{IsWithin}
+use Rattle.fr_base.specs.Within.{IsBetween, IsWithin}
 use Rattle.fr_midpoint.proofs.Products.{lez_of_mulz-lez, mulz_comm, mulz_within, negz-mulz, subz-mulz}
 use Rattle.fr_time.specs.Position.{floor_of}
-use Rattle.fr_course.specs.Readings.{ceiling_of, meet, meet_if, Interval}
-use Rattle.fr_course.specs.Near.{LieBetween}
+use Rattle.fr_course.specs.Readings.{ceiling_of, meet, meet_if, Interval, Scale}
+use Rattle.fr_course.specs.Course.{length_seen}
+use Rattle.fr_course.specs.Near.{IsBox, IsScale, IsSpan, LieBetween, LieWithin}
 use Rattle.fr_course.proofs.Floors.{floor_above, floor_below}
 
 -- a quotient lies within a bound where the number lies within as many divisors
@@ -76,3 +78,68 @@ pub product_fits : (macroticks x : ℤ) → pos 0 ≤ℤ macroticks → macrotic
 product_fits macroticks x from to near =
     let within = mulz_within macroticks x (pos 16_000) (pos 1_900_000_000_000_000_000) from to near in
     omega (arith, ints, within.low, within.high)
+
+-- what lies within a bound lies within a greater one
+pub wider : (bound other : ℤ) (interval : Interval) → bound ≤ℤ other → LieWithin bound interval → LieWithin other interval
+wider bound other interval le near =
+    record {
+      low_from = omega (arith, ints, near.low_from);
+      low_to = omega (arith, ints, near.low_to);
+      high_from = omega (arith, ints, near.high_from);
+      high_to = omega (arith, ints, near.high_to);
+    }
+
+pub span_wider : (span : Option Interval) → IfSome span IsSpan → IfSome span (LieWithin (pos 920_000_000_000_000_000))
+span_wider None near = near
+span_wider (Some span) near = wider (pos 910_000_000_000_000_000) (pos 920_000_000_000_000_000) span (omega (arith, ints)) near
+
+-- where action points can lie by others that lie so far apart from them
+pub before_within : (even odd apart : Interval) → IsBox even → IsBox odd → LieWithin (pos 920_000_000_000_000_000) apart
+    → LieWithin (pos 1_900_000_000_000_000_000) (record { low = int_max even.low (odd.low -ℤ apart.high); high = int_min even.high (odd.high -ℤ apart.low) })
+before_within even odd apart a b d =
+    record {
+      low_from = omega (arith, ints, clamps, a.low_from);
+      low_to = omega (arith, ints, clamps, a.low_to, b.low_to, d.high_from);
+      high_from = omega (arith, ints, clamps, a.high_from, b.high_from, d.low_to);
+      high_to = omega (arith, ints, clamps, a.high_to);
+    }
+
+pub behind_within : (even odd apart : Interval) → IsBox even → IsBox odd → LieWithin (pos 920_000_000_000_000_000) apart
+    → LieWithin (pos 1_900_000_000_000_000_000) (record { low = int_max odd.low (even.low +ℤ apart.low); high = int_min odd.high (even.high +ℤ apart.high) })
+behind_within even odd apart a b d =
+    record {
+      low_from = omega (arith, ints, clamps, b.low_from);
+      low_to = omega (arith, ints, clamps, b.low_to, a.low_to, d.low_to);
+      high_from = omega (arith, ints, clamps, b.high_from, a.high_from, d.high_from);
+      high_to = omega (arith, ints, clamps, b.high_to);
+    }
+
+pub length_within : (scale : Scale) (apart : Interval) → IsScale scale → LieWithin (pos 920_000_000_000_000_000) apart
+    → LieWithin (pos 930_000_000_000_000_000) (length_seen scale apart)
+length_within scale apart is near =
+    record {
+      low_from = omega (arith, ints, clamps, is.length_from.low);
+      low_to = omega (arith, ints, clamps, is.length_from.high, is.change.low, near.low_to);
+      high_from = omega (arith, ints, clamps, is.length_to.low, is.change.low, near.high_from);
+      high_to = omega (arith, ints, clamps, is.length_to.high);
+    }
+
+-- a number less than none by so much
+pub less_than_none : (x : ℤ) → pos 0 -ℤ x ≡ neg_ℤ x
+less_than_none x = omega (arith, ints)
+
+-- the greater and the lesser of two numbers within a bound
+pub max_within : (bound x y : ℤ) → IsWithin bound x → IsWithin bound y → IsWithin bound (int_max x y)
+max_within bound x y a b = record { low = omega (arith, ints, clamps, a.low, b.low); high = omega (arith, ints, clamps, a.high, b.high) }
+
+pub min_within : (bound x y : ℤ) → IsWithin bound x → IsWithin bound y → IsWithin bound (int_min x y)
+min_within bound x y a b = record { low = omega (arith, ints, clamps, a.low, b.low); high = omega (arith, ints, clamps, a.high, b.high) }
+
+-- with a microtick more
+pub sum_fits : (x micro : ℤ) → IsWithin (pos 2_900_000_000_000_000_000) x → IsBetween (pos 1) (pos 1_001_000_000_000) micro → FitsSigned w128 (x +ℤ micro)
+sum_fits x micro near short = omega (arith, ints, near.low, near.high, short.low, short.high)
+
+pub sum_within : (x micro : ℤ) → IsWithin (pos 2_900_000_000_000_000_000) x → IsBetween (pos 1) (pos 1_001_000_000_000) micro
+    → IsWithin (pos 3_000_000_000_000_000_000) (x +ℤ micro)
+sum_within x micro near short =
+    record { low = omega (arith, ints, near.low, short.low); high = omega (arith, ints, near.high, short.high) }
