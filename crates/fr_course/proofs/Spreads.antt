@@ -6,6 +6,12 @@ use Rattle.fr_course.specs.Readings.{Interval, Scale}
 use Rattle.fr_course.specs.Course.{Course}
 use Rattle.fr_course.specs.Spread.{least_distance, least_from, least_spread, most_distance, most_from, most_spread}
 
+-- a course of zeros, where a list has no other
+abbrev pub nowhere : Course
+nowhere =
+    let none : Interval = record { low = pos 0; high = pos 0 } in
+    record { action = pos 0; even = none; odd = none; apart = none; length = none }
+
 pub least_from-more : (point : Interval) (f : Course → Interval) (courses : List Course) (place : ℕ) (d : Course) → place < length courses
     → least_from point (map f (drop place courses)) ≡ int_max (least_distance point (f (get_or courses place d))) (least_from point (map f (drop (place + 1) courses)))
 unfolding least_from

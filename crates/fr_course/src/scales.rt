@@ -2,7 +2,7 @@ ghost use Rattle.std.specs.Prelude.{◌≡◌, ◌≤◌, ◌*◌, ◌≤ℤ◌,
 ghost use Rattle.fr_base.specs.Within.{IsBetween};
 ghost use Rattle.fr_bound.specs.Bounds.{cycle_change, longest_micro, shortest_micro};
 ghost use Rattle.fr_bound.specs.Checks.{least_cycle};
-ghost use Rattle.fr_course.specs.Near.{IsScale};
+ghost use Rattle.fr_course.specs.Near.{IsReadingScale};
 ghost use Rattle.fr_course.specs.Readings.{most_cycle, reading_scale};
 
 use crate::readings::{least_reading, most_reading};
@@ -36,7 +36,7 @@ impl Scale {
     pub fn of(params: &Params, drift: u64) -> Scale
         requires { drift ≤ 1000 }
         ensures value { result ≡ reading_scale drift params.now }
-        ensures sane { IsScale result }
+        ensures sane { IsReadingScale result }
     {
         let grid = grid_of(params);
         Scale {

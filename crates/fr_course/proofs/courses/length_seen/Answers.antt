@@ -4,7 +4,7 @@ use Rattle.std.specs.Int.{int_max, int_min}
 use mir.Syntax.{w128}
 use Rattle.std.proofs.lemmas.Int.{ints, clamps, to_z-of_z}
 use Rattle.fr_base.specs.Within.{IsBetween, IsWithin}
-use Rattle.fr_course.specs.Near.{LieWithin}
+use Rattle.fr_course.specs.Near.{EndWithin}
 use Rattle.fr_course.specs.Readings.{Interval}
 use Rattle.fr_course.proofs.Limits.{length_within}
 use Rattle.fr_course.proofs.courses.length_seen.Goals as goal
@@ -26,5 +26,5 @@ returns-clause-value c =
 
 pub returns-clause-near : goal.returns-clause-near
 returns-clause-near c =
-    let near : Interval → Type 0 = LieWithin (pos 930_000_000_000_000_000) in
+    let near : Interval → Type 0 = EndWithin (pos 930_000_000_000_000_000) in
     subst near (sym (returns-clause-value c)) (length_within c.args.scale.now c.args.apart.now c.requires.scale c.requires.apart)

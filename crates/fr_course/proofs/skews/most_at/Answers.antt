@@ -4,17 +4,20 @@ use Rattle.std.specs.Int.{int_max, int_min}
 use mir.Syntax.{w128}
 use Rattle.std.proofs.lemmas.Int.{ints, clamps, to_z-of_z}
 use Rattle.fr_base.specs.Within.{IsBetween, IsWithin}
-use Rattle.fr_course.specs.Corners.{place_of}
-use Rattle.fr_course.specs.Near.{IsNearCourse}
+use Rattle.std.proofs.Common.{ℕ, ◌+◌, ◌-◌, ◌<◌, All, List, length, get_or, take, drop, map}
 use Rattle.std.proofs.lemmas.List.Elements.{All-drop}
-use Rattle.std.proofs.Common.{◌+◌, ◌-◌, All, List}
 use Rattle.fr_course.specs.Course.{Course}
-use Rattle.fr_course.proofs.Spreads.{most_spread-none, most_spread-more, tail_is}
+use Rattle.fr_course.specs.Readings.{Interval}
+use Rattle.fr_course.specs.Corners.{corner_place}
+use Rattle.fr_course.specs.Near.{IsNearCourse}
+use Rattle.fr_course.specs.Spread.{most_from, most_spread}
+use Rattle.fr_course.proofs.Limits.{greater_between}
+use Rattle.fr_course.proofs.Spreads.{nowhere, most_spread-none, most_spread-more, tail_is}
 use Rattle.fr_course.proofs.skews.most_at.Goals as goal
 
 pub loop-place-init : goal.loop-place-init
 loop-place-init c =
-    record { within = record { low = omega (arith, ints); high = omega (arith, ints) }; value = sym (most_spread-none (place_of c.args.corner c.args.scale.now) c.args.courses.now) }
+    record { within = record { low = omega (arith, ints); high = omega (arith, ints) }; value = sym (most_spread-none (corner_place c.args.corner c.args.scale.now) c.args.courses.now) }
 
 pub most_from-requires-clause-courses : goal.most_from-requires-clause-courses
 most_from-requires-clause-courses c =
