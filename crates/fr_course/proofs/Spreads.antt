@@ -1,8 +1,8 @@
 -- How far corners of courses lie apart, course by course.
-use Rattle.std.proofs.Common.{◌≡◌, ℕ, ◌+◌, ◌-◌, ◌<◌, ℤ, pos, List, length, get_or, take, drop, map, ap, arith}
+use Rattle.std.proofs.Common.{◌≡◌, ℕ, ◌+◌, ◌-◌, ◌<◌, pos, List, length, get_or, take, drop, map, ap, arith}
 use Rattle.std.specs.Int.{int_max}
 use Rattle.std.proofs.lemmas.List.{drop_more, drop_all, length-drop, take_all}
-use Rattle.fr_course.specs.Readings.{Interval, Scale}
+use Rattle.fr_course.specs.Readings.{Interval}
 use Rattle.fr_course.specs.Course.{Course}
 use Rattle.fr_course.specs.Spread.{least_distance, least_from, least_spread, most_distance, most_from, most_spread}
 

@@ -1,5 +1,5 @@
 -- The ranges of what is computed of stamps: no sum and no product of it passes 127 bits, and what is printed fits 63 bits.
-use Rattle.std.specs.Prelude.{ℕ, ◌≤◌, ℤ, pos, neg_ℤ, ◌≤ℤ◌}
+use Rattle.std.specs.Prelude.{◌≤◌, ℤ, pos, neg_ℤ, ◌≤ℤ◌}
 use Rattle.fr_base.specs.Within.{IsBetween, IsWithin}
 use Rattle.fr_course.specs.Readings.{Interval, Scale}
 use Rattle.fr_course.specs.Course.{Course, Delays, Observer}

@@ -1,10 +1,10 @@
-use Rattle.std.proofs.Common.{◌≡◌, ◌∙◌, FitsSigned, ℤ, pos, subst, sym, ap, refl, arith, rules}
-use Rattle.std.specs.Prelude.{◌+ℤ◌, ◌-ℤ◌, ◌*ℤ◌, ◌≤ℤ◌, neg_ℤ}
-use Rattle.std.specs.Int.{int_max, int_min}
+use Rattle.std.proofs.Common.{◌≡◌, ◌∙◌, FitsSigned, pos, ap, refl, arith, rules}
+use Rattle.std.specs.Prelude.{◌+ℤ◌, ◌-ℤ◌}
+use Rattle.std.specs.Int.{int_max}
 use mir.Syntax.{w128}
-use Rattle.std.proofs.lemmas.Int.{ints, clamps, to_z-of_z}
-use Rattle.fr_base.specs.Within.{IsBetween, IsWithin}
-use Rattle.fr_course.proofs.Limits.{max_within, sum_fits, sum_within}
+use Rattle.std.proofs.lemmas.Int.{ints, to_z-of_z}
+use Rattle.fr_base.specs.Within.{IsWithin}
+use Rattle.fr_course.proofs.Limits.{max_within}
 use Rattle.fr_course.proofs.corners.odd_start_from.Goals as goal
 
 pub returns-clause-value : goal.returns-clause-value

@@ -1,9 +1,6 @@
-use Rattle.std.proofs.Common.{◌≡◌, ◌∙◌, FitsSigned, ℤ, pos, subst, sym, ap, refl, arith, rules}
-use Rattle.std.specs.Prelude.{◌+ℤ◌, ◌-ℤ◌, ◌*ℤ◌, ◌≤ℤ◌, neg_ℤ}
-use Rattle.std.specs.Int.{int_max, int_min}
-use mir.Syntax.{w128}
-use Rattle.std.proofs.lemmas.Int.{ints, clamps, to_z-of_z}
-use Rattle.fr_base.specs.Within.{IsBetween, IsWithin}
+use Rattle.std.proofs.Common.{pos, arith}
+use Rattle.std.specs.Prelude.{neg_ℤ}
+use Rattle.std.proofs.lemmas.Int.{ints}
 use Rattle.fr_course.proofs.Limits.{span_wider, wider}
 use Rattle.fr_course.proofs.courses.apart_by.Goals as goal
 

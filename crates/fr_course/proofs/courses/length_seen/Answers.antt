@@ -1,9 +1,8 @@
-use Rattle.std.proofs.Common.{◌≡◌, ◌∙◌, FitsSigned, ℤ, pos, subst, sym, ap, refl, arith, rules}
-use Rattle.std.specs.Prelude.{◌+ℤ◌, ◌-ℤ◌, ◌*ℤ◌, ◌≤ℤ◌, neg_ℤ}
+use Rattle.std.proofs.Common.{◌≡◌, FitsSigned, pos, subst, sym, refl, arith, rules}
+use Rattle.std.specs.Prelude.{◌+ℤ◌, ◌-ℤ◌}
 use Rattle.std.specs.Int.{int_max, int_min}
 use mir.Syntax.{w128}
-use Rattle.std.proofs.lemmas.Int.{ints, clamps, to_z-of_z}
-use Rattle.fr_base.specs.Within.{IsBetween, IsWithin}
+use Rattle.std.proofs.lemmas.Int.{ints, to_z-of_z}
 use Rattle.fr_course.specs.Near.{EndWithin}
 use Rattle.fr_course.specs.Readings.{Interval}
 use Rattle.fr_course.proofs.Limits.{length_within}

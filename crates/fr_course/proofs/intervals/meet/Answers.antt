@@ -1,9 +1,7 @@
-use Rattle.std.proofs.Common.{◌≡◌, ◌∙◌, FitsSigned, ℤ, pos, subst, sym, ap, refl, arith, rules}
-use Rattle.std.specs.Prelude.{◌+ℤ◌, ◌-ℤ◌, ◌*ℤ◌, ◌≤ℤ◌, neg_ℤ}
+use Rattle.std.proofs.Common.{◌≡◌, FitsSigned, rules}
 use Rattle.std.specs.Int.{int_max, int_min}
 use mir.Syntax.{w128}
-use Rattle.std.proofs.lemmas.Int.{ints, clamps, to_z-of_z}
-use Rattle.fr_base.specs.Within.{IsBetween, IsWithin}
+use Rattle.std.proofs.lemmas.Int.{to_z-of_z}
 use Rattle.fr_course.proofs.Limits.{meet_between}
 use Rattle.fr_course.proofs.intervals.meet.Goals as goal
 

@@ -1,6 +1,4 @@
-use Rattle.std.proofs.Common.{◌≡◌, ◌∙◌, ℕ, ◌+◌, ◌-◌, ◌<◌, List, Option, Some, IfSome, length, get_or, drop, pos, sym, ap, arith, rules}
-use Rattle.std.specs.Prelude.{ℤ}
-use Rattle.fr_course.specs.Near.{EndBetween}
+use Rattle.std.proofs.Common.{◌≡◌, ◌∙◌, ℕ, ◌+◌, ◌-◌, ◌<◌, List, Option, Some, length, get_or, drop, pos, sym, ap, arith, rules}
 use Rattle.fr_course.specs.Readings.{Interval, meet_all, meet_if}
 use Rattle.fr_course.proofs.Meets.{meet_all-more, meet_all-none, meet_all_between}
 use Rattle.fr_course.proofs.intervals.meet_all.Goals as goal

@@ -1,9 +1,7 @@
-use Rattle.std.proofs.Common.{◌≡◌, ◌∙◌, FitsSigned, ℤ, pos, subst, sym, ap, refl, arith, rules}
-use Rattle.std.specs.Prelude.{◌+ℤ◌, ◌-ℤ◌, ◌*ℤ◌, ◌≤ℤ◌, neg_ℤ}
-use Rattle.std.specs.Int.{int_max, int_min}
+use Rattle.std.proofs.Common.{◌≡◌, ◌∙◌, FitsSigned, ℤ, pos, subst, sym, ap, arith, rules}
+use Rattle.std.specs.Int.{int_max}
 use mir.Syntax.{w128}
-use Rattle.std.proofs.lemmas.Int.{ints, clamps, to_z-of_z}
-use Rattle.fr_base.specs.Within.{IsBetween, IsWithin}
+use Rattle.std.proofs.lemmas.Int.{ints, to_z-of_z}
 use Rattle.std.proofs.Common.{ℕ, ◌+◌, ◌-◌, ◌<◌, All, List, length, get_or, take, drop, map}
 use Rattle.std.proofs.lemmas.List.Elements.{All-drop}
 use mir.Val.{to_z}
