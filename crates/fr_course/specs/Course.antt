@@ -1,30 +1,19 @@
 -- Where the clock of a node can lie in a double cycle, by the stamps of the frames that it sent in its slot: readings of an
--- observer's clock, counted from the first stamp of the double cycle. So none passes 4,000,000,000,000 on either side, and
--- no product with the macroticks of a cycle, at most 16,000, passes 63 bits.
-use Rattle.std.specs.Prelude.{ℕ, ◌+◌, ℤ, pos, ◌+ℤ◌, ◌-ℤ◌, ◌*ℤ◌, Bool, int_le, int_lt, Option, Some, None, if◌then◌else◌}
+-- observer's clock. None passes 3,000,000,000,000,000,000 on either side, and no product with the macroticks of a cycle, at
+-- most 16,000, passes 127 bits.
+use Rattle.std.specs.Prelude.{◌+◌, ℤ, pos, ◌+ℤ◌, ◌-ℤ◌, ◌*ℤ◌, Bool, not, ◌||◌, int_le, int_lt, Option, Some, None, if◌then◌else◌}
 use Rattle.std.specs.Int.{int_max, int_min}
 use Rattle.fr_time.specs.Position.{floor_of}
+pub use Rattle.fr_course.specs.declared.courses.Course.{Course}
+pub use Rattle.fr_course.specs.declared.stamps.Delays.{Delays}
+pub use Rattle.fr_course.specs.declared.stamps.Observer.{Observer}
 use Rattle.fr_course.specs.Readings.{ceiling_of, least_reading, most_reading, meet, meet_if, Interval, Scale}
 
 -- ---- stamps
 
--- an observer's clock: a unit of its stamps in ticks, by how many parts per million it may be off, and by how many ticks a
--- stamp may be off beside rounding
-pub record Observer : Type 0 where
-  pub unit : ℕ
-  pub drift : ℕ
-  pub error : ℕ
-
 -- how far a stamp may lie before what it stamps
 abbrev pub breadth_of : Observer → ℤ
 breadth_of observer = pos (observer.unit + observer.error)
-
--- the limits of the delay of a sender's frames on a channel to the observer, and by how much two such delays in double cycles
--- that follow each other, or in one, may differ; in ticks
-pub record Delays : Type 0 where
-  pub least : ℕ
-  pub most : ℕ
-  pub jitter : ℕ
 
 -- where the action point of a stamped frame can lie; the stamp in units
 abbrev pub stamped : Observer → Delays → ℤ → Interval
@@ -42,15 +31,6 @@ span_of observer delays stamp later =
     record { low = units -ℤ off; high = units +ℤ off }
 
 -- ---- a double cycle
-
--- what is known of a node in a double cycle: the macrotick at which it sends; where the action points of both cycles can
--- lie, and how far apart; and how long the cycles can be, before their offset correction
-pub record Course : Type 0 where
-  pub action : ℤ
-  pub even : Interval
-  pub odd : Interval
-  pub apart : Interval
-  pub length : Interval
 
 -- the same counted from an instant so much earlier
 abbrev pub later_by : ℤ → Interval → Interval
@@ -204,3 +184,9 @@ odd_macrotick scale course macrotick =
       low = (course.odd.low +ℤ share_from scale ahead course.length.high) -ℤ scale.micro_to;
       high = (course.odd.high +ℤ share_to scale ahead course.length.low) +ℤ scale.micro_to;
     }
+
+-- ---- whether it is there
+
+-- no interval of a course is empty
+abbrev pub is_there : Course → Bool
+is_there course = not (is_empty course.even || is_empty course.odd || is_empty course.apart || is_empty course.length)

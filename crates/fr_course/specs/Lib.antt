@@ -4,3 +4,6 @@ pub mod Course
 pub mod Spread
 pub mod Terms
 pub mod Numbering
+pub mod Near
+-- what only functions inside cite
+pub mod Corners

@@ -1,7 +1,7 @@
 -- Numbers on an observer's clock, and ticks. The clock is straight, and within a drift of so many parts per million: for a
 -- rate of one clock against the other within the drift, so many ticks are from the one to the other number on the
 -- observer's clock (a *reading*), and a reading is from one number of ticks to another. Ticks and readings are below
--- 4,000,000,000,000 on either side, and the drift is at most 1,000: so no product passes 63 bits.
+-- 7,000,000,000,000,000,000 on either side, and the drift is at most 1,000: so no product passes 127 bits.
 use Rattle.std.specs.Prelude.{ℕ, ℤ, pos, neg_ℤ, ◌+ℤ◌, ◌-ℤ◌, ◌*ℤ◌, int_lt, List, [], ◌∷◌, Option, Some, None, if◌then◌else◌}
 use Rattle.std.specs.Int.{int_max, int_min}
 use Rattle.fr_cluster.specs.Values.{Values, amount}
@@ -9,6 +9,8 @@ use Rattle.fr_cluster.specs.declared.names.ParamName.TheVariants as name
 use Rattle.fr_time.specs.Position.{floor_of}
 use Rattle.fr_bound.specs.Bounds.{cycle_change, longest_micro, nominal, shortest_micro}
 use Rattle.fr_bound.specs.Checks.{least_cycle}
+pub use Rattle.fr_course.specs.declared.intervals.Interval.{Interval}
+pub use Rattle.fr_course.specs.declared.scales.Scale.{Scale}
 
 -- a quotient rounded up; the divisor is above 0
 abbrev pub ceiling_of : ℤ → ℤ → ℤ
@@ -37,11 +39,6 @@ least_ticks drift reading =
 abbrev pub most_ticks : ℕ → ℤ → ℤ
 most_ticks drift reading = neg_ℤ (least_ticks drift (neg_ℤ reading))
 
--- from one number to another; where the one is above the other, nothing lies there
-pub record Interval : Type 0 where
-  pub low : ℤ
-  pub high : ℤ
-
 -- what lies in both
 abbrev pub meet : Interval → Interval → Interval
 meet one other = record { low = int_max one.low other.low; high = int_min one.high other.high }
@@ -55,22 +52,6 @@ meet_if (Some one) other = meet one other
 unfoldable pub meet_all : List Interval → Option Interval
 meet_all [] = None
 meet_all (one ∷ others) = Some (meet_if (meet_all others) one)
-
--- the numbers of a cluster as readings
-pub record Scale : Type 0 where
-  -- the drift of the observer's clock, in parts per million
-  pub drift : ℕ
-  -- the macroticks of a cycle, and that at which the offset correction starts
-  pub macros : ℤ
-  pub correction : ℤ
-  -- the least and the greatest length of a cycle before its offset correction
-  pub length_from : ℤ
-  pub length_to : ℤ
-  -- by how much a length changes from one cycle to the next
-  pub change : ℤ
-  -- the shortest and the longest microtick
-  pub micro_from : ℤ
-  pub micro_to : ℤ
 
 -- the most microticks of a cycle before its offset correction
 abbrev pub most_cycle : Values → ℤ

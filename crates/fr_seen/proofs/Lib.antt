@@ -1,4 +1,3 @@
-pub mod Floors
 pub mod Readings
 pub mod Intervals
 pub mod Shares

@@ -7,7 +7,7 @@ use Rattle.fr_time.specs.Position.{floor_of}
 use Rattle.fr_bound.specs.Bounds.{nominal}
 use Rattle.fr_course.specs.Readings.{ceiling_of, fast_million, least_reading, least_ticks, most_reading, most_ticks, slow_million}
 use Rattle.fr_seen.specs.Clocks.{IsWithinDrift, ReadingsHaveTicks, StraightClock, TicksHaveReadings}
-use Rattle.fr_seen.proofs.Floors.{ceiling_below, floor_below, mulz-lez_down}
+use Rattle.fr_course.proofs.Floors.{ceiling_below, floor_below, mulz-lez_down}
 
 itself : (a : ℤ) → a ≤ℤ a
 itself a = omega (arith, ints)

@@ -13,14 +13,17 @@ use Rattle.fr_bound.specs.Bounds.{cycle_change, longest_micro, nominal, shortest
 use Rattle.fr_bound.specs.Checks.{least_cycle}
 use Rattle.fr_bound.specs.Sync.{cycle_length_of}
 use Rattle.fr_precision.proofs.Figures.{natural}
-use Rattle.fr_course.specs.Readings.{ceiling_of, least_reading, micros_from, micros_to, most_cycle, most_reading, reading_scale, slow_million, fast_million, Interval, Scale}
-use Rattle.fr_course.specs.Course.{between, share_from, share_to, Course}
+use Rattle.fr_course.specs.declared.intervals.Interval.{Interval}
+use Rattle.fr_course.specs.declared.scales.Scale.{Scale}
+use Rattle.fr_course.specs.Readings.{ceiling_of, least_reading, micros_from, micros_to, most_cycle, most_reading, reading_scale, slow_million, fast_million}
+use Rattle.fr_course.specs.declared.courses.Course.{Course}
+use Rattle.fr_course.specs.Course.{between, share_from, share_to}
 use Rattle.fr_course.specs.Terms.{offset_reading, onward, step_reading}
 use Rattle.fr_seen.specs.Clocks.{reading_at, reading_of, HasReading, IsWithinDrift, LastsIn, ReadsIn, StraightClock}
 use Rattle.fr_seen.specs.Courses.{even_action, odd_action}
 use Rattle.fr_seen.specs.Skews.{SeenTwice}
 use Rattle.fr_seen.specs.TermsSeen.{GoesOn, OffsetsAreSeen, RateStepsAreSeen}
-use Rattle.fr_seen.proofs.Floors.{ceiling_below, floor_above, mulz-lez_down}
+use Rattle.fr_course.proofs.Floors.{ceiling_below, floor_above, mulz-lez_down}
 use Rattle.fr_seen.proofs.Readings.{least_reading_lem, most_reading_lem}
 use Rattle.fr_seen.proofs.Shares.{all_parts, of_all_parts, reads_back, reads_down, reads_near, reads_up, shared, some_parts}
 use Rattle.fr_seen.proofs.Doubles.{micros_of, numbers_of}

@@ -1,0 +1,166 @@
+ghost use Rattle.std.specs.Prelude.{◌≡◌, pos, map, All};
+ghost use Rattle.fr_base.specs.Within.{IsBetween, IsWithin};
+ghost use Rattle.fr_course.specs.Corners.{corner_place};
+ghost use Rattle.fr_course.specs.Near.{IsNearCourse, IsReadingScale, EndWithin};
+ghost use Rattle.fr_course.specs.Spread.{least_at, least_distance, least_even_skew, least_from, least_odd_skew, most_at, most_distance, most_even_skew, most_from, most_odd_skew};
+
+use crate::corners::{even_start, even_turn, odd_start, odd_turn};
+use crate::courses::Course;
+use crate::intervals::Interval;
+use crate::readings::{least_ticks, most_ticks};
+use crate::scales::Scale;
+
+// A corner of a course.
+#[derive(Clone, Copy)]
+pub(crate) enum Corner {
+    EvenStart,
+    EvenTurn,
+    OddStart,
+    OddTurn,
+}
+
+/// The skew of the even cycle of nodes with these courses is no less, in ticks; 0 of none.
+pub fn least_even_skew(scale: &Scale, courses: &[Course]) -> i64
+    requires scale { IsReadingScale scale.now }
+    requires courses { All (IsNearCourse scale.now) courses.now }
+    ensures value { result ≡ least_even_skew scale.now courses.now }
+{
+    let starts = least_at(scale, Corner::EvenStart, courses);
+    let turns = least_at(scale, Corner::EvenTurn, courses) - scale.micro_to;
+    least_ticks(scale.drift, starts.max(turns)) as i64
+}
+
+/// The skew of the even cycle of nodes with these courses is no greater, in ticks.
+pub fn most_even_skew(scale: &Scale, courses: &[Course]) -> i64
+    requires scale { IsReadingScale scale.now }
+    requires courses { All (IsNearCourse scale.now) courses.now }
+    ensures value { result ≡ most_even_skew scale.now courses.now }
+{
+    let starts = most_at(scale, Corner::EvenStart, courses);
+    let ends = most_at(scale, Corner::OddStart, courses);
+    most_ticks(scale.drift, starts.max(ends) + scale.micro_to) as i64
+}
+
+/// The skew of the odd cycle of nodes with these courses is no less, in ticks; 0 of none.
+pub fn least_odd_skew(scale: &Scale, courses: &[Course]) -> i64
+    requires scale { IsReadingScale scale.now }
+    requires courses { All (IsNearCourse scale.now) courses.now }
+    ensures value { result ≡ least_odd_skew scale.now courses.now }
+{
+    let starts = least_at(scale, Corner::OddStart, courses);
+    let turns = least_at(scale, Corner::OddTurn, courses) - scale.micro_to;
+    least_ticks(scale.drift, starts.max(turns)) as i64
+}
+
+/// The skew of the odd cycle of nodes with these courses is no greater, in ticks; `next` are the courses of the same
+/// nodes in the next double cycle.
+pub fn most_odd_skew(scale: &Scale, courses: &[Course], next: &[Course]) -> i64
+    requires scale { IsReadingScale scale.now }
+    requires courses { All (IsNearCourse scale.now) courses.now }
+    requires next { All (IsNearCourse scale.now) next.now }
+    ensures value { result ≡ most_odd_skew scale.now courses.now next.now }
+{
+    let starts = most_at(scale, Corner::OddStart, courses);
+    let turns = most_at(scale, Corner::OddTurn, courses) + scale.micro_to;
+    let ends = most_at(scale, Corner::EvenStart, next);
+    most_ticks(scale.drift, starts.max(turns.max(ends)) + scale.micro_to) as i64
+}
+
+// How far apart a corner of any two courses lies at least: 0 of one alone and of none.
+fn least_at(scale: &Scale, corner: Corner, courses: &[Course]) -> i128
+    requires scale { IsReadingScale scale.now }
+    requires courses { All (IsNearCourse scale.now) courses.now }
+    ensures value { result ≡ least_at scale.now (corner_place corner) courses.now }
+    ensures within { IsBetween (pos 0) (pos 6_000_000_000_000_000_000) result }
+{
+    let mut least = 0;
+    for place in (0..courses.len()).rev() {
+        let point = corner_place(scale, corner, &courses[place]);
+        let others = &courses[place + 1..];
+        least = least_from(scale, corner, &point, others).max(least);
+    }
+    least
+}
+
+// The same at most.
+fn most_at(scale: &Scale, corner: Corner, courses: &[Course]) -> i128
+    requires scale { IsReadingScale scale.now }
+    requires courses { All (IsNearCourse scale.now) courses.now }
+    ensures value { result ≡ most_at scale.now (corner_place corner) courses.now }
+    ensures within { IsBetween (pos 0) (pos 6_000_000_000_000_000_000) result }
+{
+    let mut most = 0;
+    for place in (0..courses.len()).rev() {
+        let point = corner_place(scale, corner, &courses[place]);
+        let others = &courses[place + 1..];
+        most = most_from(scale, corner, &point, others).max(most);
+    }
+    most
+}
+
+// How far a point lies at least from that corner of one of these courses.
+fn least_from(scale: &Scale, corner: Corner, point: &Interval, courses: &[Course]) -> i128
+    requires scale { IsReadingScale scale.now }
+    requires courses { All (IsNearCourse scale.now) courses.now }
+    requires point { EndWithin (pos 3_000_000_000_000_000_000) point.now }
+    ensures value { result ≡ least_from point.now (map (corner_place corner scale.now) courses.now) }
+    ensures within { IsBetween (pos 0) (pos 6_000_000_000_000_000_000) result }
+{
+    let mut least = 0;
+    for place in (0..courses.len()).rev() {
+        let other = corner_place(scale, corner, &courses[place]);
+        least = least_distance(point, &other).max(least);
+    }
+    least
+}
+
+// How far at most from that of any.
+fn most_from(scale: &Scale, corner: Corner, point: &Interval, courses: &[Course]) -> i128
+    requires scale { IsReadingScale scale.now }
+    requires courses { All (IsNearCourse scale.now) courses.now }
+    requires point { EndWithin (pos 3_000_000_000_000_000_000) point.now }
+    ensures value { result ≡ most_from point.now (map (corner_place corner scale.now) courses.now) }
+    ensures within { IsBetween (pos 0) (pos 6_000_000_000_000_000_000) result }
+{
+    let mut most = 0;
+    for place in (0..courses.len()).rev() {
+        let other = corner_place(scale, corner, &courses[place]);
+        most = most_distance(point, &other).max(most);
+    }
+    most
+}
+
+// Where a corner of a course can lie.
+fn corner_place(scale: &Scale, corner: Corner, course: &Course) -> Interval
+    requires scale { IsReadingScale scale.now }
+    requires course { IsNearCourse scale.now course.now }
+    ensures value { result ≡ corner_place corner scale.now course.now }
+    ensures near { EndWithin (pos 3_000_000_000_000_000_000) result }
+{
+    match corner {
+        Corner::EvenStart => even_start(scale, course),
+        Corner::EvenTurn => even_turn(scale, course),
+        Corner::OddStart => odd_start(scale, course),
+        Corner::OddTurn => odd_turn(scale, course),
+    }
+}
+
+// How far apart two points lie at least that lie in two intervals.
+fn least_distance(one: &Interval, other: &Interval) -> i128
+    requires one { EndWithin (pos 3_000_000_000_000_000_000) one.now }
+    requires other { EndWithin (pos 3_000_000_000_000_000_000) other.now }
+    ensures value { result ≡ least_distance one.now other.now }
+    ensures within { IsWithin (pos 6_000_000_000_000_000_000) result }
+{
+    (one.low - other.high).max(other.low - one.high)
+}
+
+// How far apart they lie at most.
+fn most_distance(one: &Interval, other: &Interval) -> i128
+    requires one { EndWithin (pos 3_000_000_000_000_000_000) one.now }
+    requires other { EndWithin (pos 3_000_000_000_000_000_000) other.now }
+    ensures value { result ≡ most_distance one.now other.now }
+    ensures within { IsWithin (pos 6_000_000_000_000_000_000) result }
+{
+    (one.high - other.low).max(other.high - one.low)
+}
