@@ -1,0 +1,6 @@
+pub mod Quotients
+pub mod Headers
+pub mod Senders
+pub mod Proper
+pub mod Passed
+pub mod Rising
