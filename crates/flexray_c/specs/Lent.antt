@@ -1,7 +1,10 @@
 -- The files that a caller lends, as a shelf.
-use Rattle.std.specs.Prelude.{ℕ, List, Option, Some, None, codes, Bool, ◌||◌, if◌then◌else◌}
+use Rattle.std.specs.Prelude.{◌≡◌, ℕ, ◌<◌, ◌≤◌, List, length, Option, Some, None, Result, Ok, Err, codes, Bool, ◌||◌, if◌then◌else◌}
 use Rattle.std.specs.Str.{bytes_eq}
 use Rattle.fr_base.specs.Device.{Shelved}
+use Rattle.fr_base.specs.declared.shelf.TheConstants.{MAX_FILE}
+use Rattle.fr_base.specs.declared.shelf.LoadFault.{LoadFault}
+use Rattle.fr_base.specs.declared.shelf.LoadFault.TheVariants.{Failed, TooLong, NoMemory}
 use Rattle.flexray_c.specs.declared.lent.LentFiles.{LentFiles}
 
 -- the bytes under a name: of three files, called first, second and third
@@ -31,3 +34,20 @@ missing_faults files = files.missing
 
 abbrev pub lent_state : LentFiles → Shelved
 lent_state files = lent_shelf files.first.now files.second.now files.third.now (missing_faults files)
+
+-- the bytes under a name, of what was lent
+abbrev pub lent_in : LentFiles → List ℕ → Option (List ℕ)
+lent_in files name = lent_under files.first.now files.second.now files.third.now name
+
+-- How a load ends of the file under a name, by what it gave. Where there is none, it fails. Where there is one, it gives these
+-- bytes, all of them, if a file may have as many, and else tells how many they are. Only of a file that it would give memory
+-- may run out.
+abbrev pub GivesLent : Option (List ℕ) → Result (Unit {0}) LoadFault → List ℕ → Type 0
+GivesLent None (Ok done) given = ⊥
+GivesLent None (Err Failed) given = Unit {0}
+GivesLent None (Err (TooLong seen)) given = ⊥
+GivesLent None (Err NoMemory) given = ⊥
+GivesLent (Some bytes) (Ok done) given = (given ≡ bytes) × (length bytes ≤ MAX_FILE)
+GivesLent (Some bytes) (Err Failed) given = ⊥
+GivesLent (Some bytes) (Err (TooLong seen)) given = (seen ≡ length bytes) × (MAX_FILE < length bytes)
+GivesLent (Some bytes) (Err NoMemory) given = length bytes ≤ MAX_FILE

@@ -1,7 +1,7 @@
 ghost use Rattle.std.specs.Prelude.{◌≡◌, ◌↔◌, [], false, OnOk, OnErr, IfErr, IsErrOf};
 ghost use Rattle.std.specs.Option.{option_map};
 ghost use Rattle.fr_base.specs.Device.{IsLoaded, IsOneLoadLater, StopsLoad, raised};
-ghost use Rattle.flexray_c.specs.Lent.{is_lent, lent_shelf, lent_state, lent_under, missing_faults};
+ghost use Rattle.flexray_c.specs.Lent.{GivesLent, is_lent, lent_in, lent_shelf, lent_state, lent_under, missing_faults};
 
 use fr_base::{LoadFault, MAX_FILE, Shelf};
 
@@ -54,6 +54,9 @@ impl Shelf for LentFiles<'_> {
         ensures stops { IfErr result (StopsLoad (lent_state self.old) (lent_state self.new) name.now) }
         ensures emptied { OnErr result (into.new.items ≡ []) }
         ensures later { IsOneLoadLater (lent_state self.old) (lent_state self.new) name.now }
+
+        // What is given of the file under the name, and when nothing is.
+        ensures gives { GivesLent (lent_in self.old name.now) result into.new.items }
 
         // A load fails exactly where the name is none of the three. It is counted once then, and nothing else is.
         ensures failed { IsErrOf result LoadFault.Failed ↔ (is_lent name.now ≡ false) }
