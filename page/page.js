@@ -106,6 +106,14 @@ function readBounds(text) {
   return found;
 }
 
+// Of the checks that are asked where nodes join, which fail: {holds, text}. Some are of one side alone, without arbitrary nodes
+// or beside them.
+function ofJoins({ checks }, side) {
+  const failing = checks.filter((check) => check.number > 5 && !check.holds && (!check.side || check.side === side));
+  const names = failing.map((check) => `C${check.number}`).join(", ");
+  return { holds: !failing.length, text: failing.length ? `${names} ${failing.length > 1 ? "fail" : "fails"}` : "C6 to C9 hold" };
+}
+
 // ---- computing
 
 function state(name, text) {
@@ -137,12 +145,12 @@ async function compute() {
     const bound = await program.request(joins ? ["bound", "first", "join"] : ["bound", "first"], given.slice(0, 1));
     if (turn !== page.turn) return;
     const told = readSeries(series.text), flutter = Math.min(MOST_FLUTTER, Number(told.last.flutter?.[0] || 0));
-    const sharp = await program.request(["bound", "first", "sharp", String(flutter)], given.slice(0, 1));
+    const sharp = await program.request(["bound", "first", "sharp", String(flutter), ...(joins ? ["join"] : [])], given.slice(0, 1));
     if (turn !== page.turn) return;
     found.fault = [series, bound, sharp].find((answer) => answer.status !== 0);
     Object.assign(found.texts, { series: series.text, bound: bound.text, sharp: sharp.text });
     Object.assign(found, { run: readReport(report.text), series: told, bound: readBounds(bound.text), sharp: readBounds(sharp.text),
-      joins, known: parametersOf(files.params) });
+      flutter, joins, known: parametersOf(files.params) });
   }
   page.found = found;
   const failed = report.status !== 0 ? report : found.fault;
@@ -174,19 +182,21 @@ function showVerdict() {
     $("verdict").replaceChildren(...cards);
     return;
   }
-  const { run, series, known } = found, { last } = series;
+  const { run, series, bound, sharp, joins, known } = found, { last } = series;
   const kind = last.sharp[1], first = last["sharp synced"][0], lasts = last["sharp synced"][1];
   const covered = last["sharp covered"][0] === "yes", cycle = Number(first) * 2;
   const ending = lasts === "on" || lasts === "" ? "" : `proved for ${lasts} double cycles from there on`;
   cards.push(card(covered ? "good" : "bad", "Sharply covered", covered ? "yes" : "no",
-    covered ? "in sharp sync no macroticks lie further apart than the sharp precision" : gapWords(last["sharp covered"][3], show)));
+    covered ? "in sharp sync no macroticks lie further apart than the sharp precision" : gapWords(last["sharp covered"][3], show),
+    joins && `nodes that join: ${ofJoins(sharp, kind).text}`));
   cards.push(card(first === "-" ? "bad" : "good", "In sharp sync", first === "-" ? "never" : `from ${msOfCycle(cycle, known)} ms`,
     first === "-" ? null : `double cycle ${first}, cycle ${cycle}`, ending));
   const skew = last["sharp greatest"][0];
   cards.push(card("", `Sharp precision, ${kind === "beside" ? "beside arbitrary nodes" : "no arbitrary node"}`, `${us(last.sharp[0])} us`,
     skew === "-" ? null : `the skew was ${us(skew)} us at most since, ${percent(skew, last.sharp[0])} of it`));
   cards.push(card(run.covered ? "good" : "bad", "Covered, by the older bound", run.covered ? "yes" : "no",
-    run.covered ? null : gapWords(run.gap, show), run.inSync === null ? "never in sync" : `in sync from double cycle ${run.inSync} (${msOfCycle(2 * run.inSync, known)} ms)`));
+    run.covered ? null : gapWords(run.gap, show), run.inSync === null ? "never in sync" : `in sync from double cycle ${run.inSync} (${msOfCycle(2 * run.inSync, known)} ms)`,
+    joins && `nodes that join: ${ofJoins(bound).text}`));
   const since = last.greatest[0];
   cards.push(card("", "Older precision", `${us(run.precision)} us`,
     since === "-" ? null : `the skew in sync was ${us(since)} us at most, ${percent(since, run.precision)} of it`));
@@ -241,6 +251,18 @@ function plainTable(heads, rows) {
     element("td", { class: heads[at].startsWith(" ") ? "number" : null }, cell)))))));
 }
 
+// The three precisions in words, that of this run's kind in bold; and where nodes join, whether their checks hold.
+function precisionsLine() {
+  const { run, series, bound, sharp, joins } = page.found, kind = series.last.sharp[1];
+  const one = (name, text, isOfThisRun) => element(isOfThisRun ? "strong" : "span", { class: `key ${name}` }, text);
+  const checks = (told) => element("span", { class: told.holds ? "good-text" : "bad-text" }, told.text);
+  return element("p", { id: "precisions" },
+    one("alone", `sharp precision ${us(sharp["alone precision"])} us with no arbitrary node`, kind === "alone"),
+    one("beside", `${us(sharp["beside precision"])} us beside arbitrary nodes`, kind === "beside"),
+    one("older", `older precision ${us(run.precision)} us`, false),
+    joins && element("span", {}, "for nodes that join: sharper ", checks(ofJoins(sharp, kind)), ", older ", checks(ofJoins(bound))));
+}
+
 function showChart() {
   const { run, series, sharp } = page.found, { last, skew } = series;
   const points = skew.map(usNumber), first = last["sharp synced"][0];
@@ -250,7 +272,7 @@ function showChart() {
     { value: usNumber(sharp["alone precision"]), name: `sharp, no arbitrary node ${us(sharp["alone precision"])}`, class: "alone" }];
   const most = Math.max(...levels.map(({ value }) => value), ...(points.length < 50000 ? points : [usNumber(run.greatest.ticks)])) * 1.14 || 1;
   const width = Math.max(320, Math.min(1100, $("chart").clientWidth || 760));
-  const charts = [chart(points, levels, { most, since, sharp: sharply, width, label: "Greatest skew of each cycle, beside the precisions" })];
+  const charts = [chart(points, levels, { most, since, sharp: sharply, width, label: "Greatest skew of each cycle, beside the precisions" }), precisionsLine()];
   const from = sharply ?? since, late = points.slice(from === null ? points.length : Math.min(points.length - 1, from + 4));
   const high = late.reduce((one, other) => Math.max(one, other), 0) * 1.25;
   if (late.length > 4 && high > 0 && high < most * 0.6) {
@@ -266,7 +288,7 @@ addEventListener("resize", () => {
 
 const RESULTS = {
   Summary() {
-    const { run, series, known, joins } = page.found, { last } = series, list = [];
+    const { run, series, bound, sharp, known, joins } = page.found, { last } = series, list = [];
     const add = (name, text) => list.push([name, text]);
     add("Cluster", `${run.counts.nodes} nodes, ${run.counts.sync} with a key slot, ${run.counts.arbitrary} arbitrary`);
     add("Run", `${2 * run.counts.doubles} cycles of ${msOfCycle(1, known)} ms, ${msOfCycle(2 * run.counts.doubles, known)} ms in all`);
@@ -277,7 +299,7 @@ const RESULTS = {
     add("Frames sent", `${run.sentA} on channel A, ${run.sentB} on B`);
     add("Heard", run.heard);
     add("Terms cut to their limit", run.cut);
-    if (joins) add("Nodes that join", "the sharper precision is told of no such run; the older one holds where it says covered");
+    if (joins) add("Nodes that join", `by the sharper bound ${ofJoins(sharp, last.sharp[1]).text}, by the older one ${ofJoins(bound).text}`);
     return plainTable(["", ""], list);
   },
   Nodes() {
@@ -288,17 +310,20 @@ const RESULTS = {
       element("p", { class: "note" }, `Terms are in microticks; above 0 they lengthen the cycle. Limits: ${known.pRateCorrectionOut} and ${known.pOffsetCorrectionOut}.`));
   },
   Checks() {
-    const { bound, sharp, series } = page.found, kind = series.last.sharp[1];
+    const { bound, sharp, series, joins } = page.found, kind = series.last.sharp[1], lasts = sharp[joins ? "first rates last" : "lasts"];
     const of = (checks) => checks.map((check) => [`C${check.number}`, element("span", { class: check.holds ? "good-text" : "bad-text" }, check.holds ? "holds" : "fails"),
       percent(check.right, check.left), check.holds ? WHY[check.number][0] : `${WHY[check.number][0]}: turn ${WHY[check.number][1]}`]);
     return element("div", {}, element("h3", {}, `Of the sharper bound, ${kind === "beside" ? "beside arbitrary nodes" : "without arbitrary nodes"}`),
       plainTable(["check", "", " used", "what it is for"], of(sharp.checks.filter((check) => !check.side || check.side === kind))),
       element("h3", {}, "Of the older bound"), plainTable(["check", "", " used", "what it is for"], of(bound.checks)),
+      joins && element("p", { class: "note" }, "C6 to C9 are of nodes that join: the action points of one that follows lie at most "
+        + `${us(sharp[`${kind} reach`])} us from those of the others, by the older bound ${us(bound.reach)} us.`),
       element("p", { class: "note" }, "That an older check fails is no fault where the sharper ones hold: the sharper precision does not rest on it. "
-        + `The walk of rates lasts for ${sharp.lasts === "on" ? "ever" : sharp.lasts + " double cycles"} by the first sharper check.`));
+        + `The rate limit holds the walk of rates${joins ? ", and suffices for first rates," : ""} ${lasts === "on" ? "on and on" : `for ${lasts} double cycles`}.`));
   },
   "As printed"() {
-    const names = { report: "flexray run", series: "flexray-series .. sharp", bound: "flexray bound", sharp: "flexray bound .. sharp" };
+    const join = page.found.joins ? " join" : "", names = { report: "flexray run PARAMS DRIFT SCRIPT", series: "flexray-series PARAMS DRIFT SCRIPT sharp",
+      bound: `flexray bound PARAMS${join}`, sharp: `flexray bound PARAMS sharp ${page.found.flutter}${join}` };
     const choice = element("select", { "aria-label": "Which text", onchange: (event) => {
       page.printed = event.target.value;
       showResults();

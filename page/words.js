@@ -186,6 +186,5 @@ function gapWords(gap, show) {
   if (kind === "change") return `In cycle ${rest[1]} the oscillator of node ${rest[0]} changes by ${rest[2]} ppm or so, more than xChangeBound says.`;
   if (kind === "delay") return `In cycle ${rest[3]} frames of node ${rest[0]} travel ${show.ns(rest[4])} ns to node ${rest[1]} on channel ${rest[2]}, further from the compensation than xDelayError says.`;
   if (kind === "link") return `In double cycle ${rest[2]} no channel carries the frames of node ${rest[0]} to node ${rest[1]} in both cycles.`;
-  if (kind === "join") return "A node joins it, and the sharper precision is told of no such run.";
   return gap;
 }

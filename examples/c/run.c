@@ -2,11 +2,13 @@
        cc run.c -lflexray -o run && ./run ../offset/params.csv ../offset/drift.csv ../offset/script.csv */
 #include <flexray.h>
 #include <stdio.h>
+#include <stdlib.h>
 
 static size_t whole(const char *name, uint8_t *bytes, size_t room) {
     FILE *file = fopen(name, "rb");
-    size_t length = file ? fread(bytes, 1, room, file) : 0;
-    if (file) fclose(file);
+    if (!file) perror(name), exit(FLEXRAY_READ_FAULT);
+    size_t length = fread(bytes, 1, room, file);
+    fclose(file);
     return length;
 }
 

@@ -5,6 +5,7 @@ import re
 import shutil
 import subprocess
 import unittest
+import zipfile
 
 from bench import REPOSITORY, TOOLS, Bench
 
@@ -194,6 +195,9 @@ int main(void) {
             if words[0] == "run":
                 ended = self.call(self.path("run"), words[1], words[2:], folder)
                 self.assertEqual((ended.returncode, ended.stdout, ended.stderr), (status, text, line), folder)
+        ended = self.call(self.path("run"), self.path("none.csv"), ["drift.csv", "script.csv"])
+        self.assertEqual((ended.returncode, ended.stdout), (3, b""))
+        self.assertIn(b"none.csv: No such file", ended.stderr)
 
     def test_header_in_each_language(self):
         self.write("empty.c", "#include <flexray.h>\nint main(void) { return 0; }\n")
@@ -218,6 +222,17 @@ int main(void) {
             told = subprocess.run(["pkg-config", *words, "flexray"], capture_output=True, text=True, check=False, env=env)
             self.assertEqual(told.returncode, 0, told.stderr)
             self.assertIn(wanted, told.stdout)
+
+
+    def test_wheel(self):
+        """The wheel beside the library has that library, and the modules of the package."""
+        number = version()
+        with zipfile.ZipFile(os.path.join(FOLDER, f"flexray-{number}-py3-none-linux_x86_64.whl")) as wheel:
+            names = set(wheel.namelist())
+            self.assertEqual(wheel.read("flexray/libflexray.so." + number.split(".")[0]),
+                             read(os.path.join(FOLDER, "lib", "libflexray.so")))
+        modules = {f"flexray/{name}" for name in os.listdir(os.path.join(REPOSITORY, "python", "flexray")) if name.endswith(".py")}
+        self.assertLessEqual(modules | {"flexray/py.typed"}, names)
 
 
 class Tool(Bench):

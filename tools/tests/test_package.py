@@ -1,11 +1,17 @@
-"""The Debian package: installed under another root it runs, its pages are shown, and bash completes words."""
+"""The Debian package: installed under another root it runs, its pages are shown, its library is called from C and Python, and
+bash completes words."""
+import glob
 import os
 import re
 import shutil
 import subprocess
+import sys
 import unittest
 
 from bench import EXAMPLE, FLEXRAY, REPOSITORY, TOOLS, Bench, needs
+
+LIBRARY = os.environ.get("FLEXRAY_LIBRARY_FOLDER") or os.path.join(REPOSITORY, "out", "library")
+PAGE = os.environ.get("FLEXRAY_PAGE") or os.path.join(REPOSITORY, "out", "page", "flexray.html")
 
 
 class Package(Bench):
@@ -46,6 +52,35 @@ class Package(Bench):
             self.assertEqual(printed, file.read())
         for name in ("README.md", "docs/FORMATS.md", "docs/FLEXLAB.md", "docs/GLOSSARY.md", "docs/skew.svg"):
             self.assertTrue(os.path.exists(os.path.join(root, "usr/share/doc/flexray", name)), name)
+
+    @needs("dpkg-deb")
+    @needs("cc")
+    @needs("pkg-config")
+    @unittest.skipUnless(os.path.exists(os.path.join(LIBRARY, "lib", "libflexray.a")), "tools/library has not built the library")
+    def test_the_library_is_called(self):
+        """The C program and the Python script of the examples run a cluster by what the package has."""
+        root = self.install()
+        lib, = (os.path.dirname(path) for path in glob.glob(os.path.join(root, "usr/lib/*/libflexray.a")))
+        examples = os.path.join(root, "usr/share/doc/flexray/examples")
+        env = {**os.environ, "PKG_CONFIG_PATH": os.path.join(lib, "pkgconfig"), "PKG_CONFIG_SYSROOT_DIR": root,
+               "LD_LIBRARY_PATH": lib, "PYTHONPATH": os.path.join(root, "usr/lib/python3/dist-packages"), "PYTHONDONTWRITEBYTECODE": "1"}
+        env.pop("FLEXRAY_LIBRARY", None)
+        flags = subprocess.run(["pkg-config", "--cflags", "--libs", "flexray"], capture_output=True, text=True, check=True, env=env)
+        ended = subprocess.run(["cc", os.path.join(examples, "c/run.c"), *flags.stdout.split(), "-o", self.path("run")],
+                               capture_output=True, text=True, check=False)
+        self.assertEqual(ended.returncode, 0, ended.stderr)
+        bench = os.path.join(examples, "bench")
+        for words in ([self.path("run"), *(os.path.join(bench, f"{name}.csv") for name in ("params", "drift", "script"))],
+                      [sys.executable, os.path.join(examples, "python/run.py")]):
+            ended = subprocess.run(words, capture_output=True, text=True, check=False, env=env, cwd=self.room)
+            with open(os.path.join(bench, "printed.txt"), encoding="ascii") as file:
+                self.assertEqual((ended.stdout, ended.stderr, ended.returncode), (file.read(), "", 0))
+
+    @needs("dpkg-deb")
+    @unittest.skipUnless(os.path.exists(PAGE), "tools/page has not built the page")
+    def test_the_page_is_in_it(self):
+        with open(os.path.join(self.install(), "usr/share/doc/flexray/flexray.html"), "rb") as packed, open(PAGE, "rb") as built:
+            self.assertEqual(packed.read(), built.read())
 
     @needs("dpkg-deb")
     def test_it_depends_on_what_its_libraries_are_of(self):

@@ -239,6 +239,40 @@ class Page(Bench):
         self.take("lost")
         self.assertIn("no channel carries the frames of node 1 to node 2", self.run_in('$("verdict").innerText'))
 
+    def bounds_of(self, name, *words):
+        """What `flexray bound` prints of the parameters of an example."""
+        return subprocess.run([FLEXRAY, "bound", str(EXAMPLES / name / "params.csv"), *words], capture_output=True, text=True,
+                              check=True).stdout
+
+    def test_three_precisions_stand_beside_the_curve(self):
+        self.take("bench")
+        told = self.run_in('$("precisions").innerText')
+        for text, size in ((self.bounds_of("bench", "sharp", "0"), 40000000), (self.bounds_of("bench"), 40000000)):
+            for ticks in re.findall(r"^(?:\w+ )?precision (\d+)$", text, re.M):
+                self.assertIn(f"{int(ticks) / size:.3f} us", told)
+        self.assertRegex(self.run_in('document.querySelector("#precisions strong").innerText'), "beside arbitrary nodes")
+        self.assertNotIn("join", told)
+        self.assertEqual(self.run_in('document.querySelectorAll("#chart svg:first-child line.level").length'), 3)
+
+    def test_checks_of_nodes_that_join(self):
+        """The bounds are those of a cluster that nodes join, and whether C6 to C9 hold is told."""
+        for name in ("sharp-series-joins", "joins", "growing", "missed"):
+            with self.subTest(name):
+                self.take(name)
+                texts = [self.bounds_of(name, "sharp", self.run_in("String(page.found.flutter)"), "join"), self.bounds_of(name, "join")]
+                self.assertEqual([self.text_of("sharp"), self.text_of("bound")], texts)
+                kind, told = self.run_in("page.found.series.last.sharp[1]"), []
+                for text in texts:
+                    failing = re.findall(rf"^(?:{kind} )?(C[6-9]) fails", text, re.M)
+                    told.append(f"{', '.join(failing)} fail{'s' if len(failing) == 1 else ''}" if failing else "C6 to C9 hold")
+                self.assertIn(f"for nodes that join: sharper {told[0]}, older {told[1]}", self.run_in('$("precisions").innerText'))
+                for part in told:
+                    self.assertIn(f"nodes that join: {part}", self.run_in('$("verdict").innerText'))
+                self.run_in('selectTab("answers", "Checks")')
+                rows = self.run_in('[...document.querySelectorAll("#results-panel td:first-child")].map((cell) => cell.textContent)')
+                self.assertEqual(rows, 2 * [f"C{number}" for number in range(1, 10)])
+                self.run_in('selectTab("answers", "Summary")')
+
     def test_keys(self):
         self.take("offset")
         self.run_in('selectTab("editor", "Cluster"); $("tab-editor-Cluster").focus()')
