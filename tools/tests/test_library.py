@@ -195,9 +195,8 @@ int main(void) {
             if words[0] == "run":
                 ended = self.call(self.path("run"), words[1], words[2:], folder)
                 self.assertEqual((ended.returncode, ended.stdout, ended.stderr), (status, text, line), folder)
-        ended = self.call(self.path("run"), self.path("none.csv"), ["drift.csv", "script.csv"])
-        self.assertEqual((ended.returncode, ended.stdout), (3, b""))
-        self.assertIn(b"none.csv: No such file", ended.stderr)
+        ended = self.call(self.path("run"), "none.csv", ["drift.csv", "script.csv"], os.path.join(EXAMPLES, "offset"))
+        self.assertEqual((ended.returncode, ended.stdout, ended.stderr), (3, b"", b"none.csv: No such file or directory\n"))
 
     def test_header_in_each_language(self):
         self.write("empty.c", "#include <flexray.h>\nint main(void) { return 0; }\n")
