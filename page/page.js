@@ -254,13 +254,13 @@ function plainTable(heads, rows) {
 // The three precisions in words, that of this run's kind in bold; and where nodes join, whether their checks hold.
 function precisionsLine() {
   const { run, series, bound, sharp, joins } = page.found, kind = series.last.sharp[1];
-  const one = (name, text, isOfThisRun) => element(isOfThisRun ? "strong" : "span", { class: `key ${name}` }, text);
+  const one = (name, text, ofThisRun) => element(ofThisRun ? "strong" : "span", { class: `key ${name}` }, ofThisRun ? `${text}, this run's` : text);
   const checks = (told) => element("span", { class: told.holds ? "good-text" : "bad-text" }, told.text);
-  return element("p", { id: "precisions" },
-    one("alone", `sharp precision ${us(sharp["alone precision"])} us with no arbitrary node`, kind === "alone"),
-    one("beside", `${us(sharp["beside precision"])} us beside arbitrary nodes`, kind === "beside"),
-    one("older", `older precision ${us(run.precision)} us`, false),
-    joins && element("span", {}, "for nodes that join: sharper ", checks(ofJoins(sharp, kind)), ", older ", checks(ofJoins(bound))));
+  return element("p", { id: "precisions" }, element("span", {}, "Precisions:"),
+    one("alone", `sharp, no arbitrary node ${us(sharp["alone precision"])} us`, kind === "alone"),
+    one("beside", `sharp, beside arbitrary nodes ${us(sharp["beside precision"])} us`, kind === "beside"),
+    one("older", `older ${us(run.precision)} us`, false),
+    joins && element("span", {}, "Nodes that join: sharper ", checks(ofJoins(sharp, kind)), ", older ", checks(ofJoins(bound))));
 }
 
 function showChart() {
