@@ -14,11 +14,12 @@
  * they fit or not, as snprintf tells: where a length is above the room, call again with that room. A place of no bytes is fine.
  * Only FLEXRAY_DONE has a text, and every other status has a line, but for a want of memory that left none.
  *
- * What is owed. Pointers are valid for their lengths and not null (where a length is 0, null is fine; `texts`, `frame`, `length`
- * and `count` are never null); what is written to (places, texts, frame, length, count) overlaps nothing else that is passed,
- * and no other thread uses it meanwhile; 512 KiB of stack are free; malloc, realloc and free are those of one allocator and
- * align blocks as C says; no call is made from a signal handler or in the child of a fork from a process with threads. Everything else is answered: all bytes, words and numbers,
- * want of memory too. No call ends the process, waits, or keeps anything behind its end.
+ * What is owed. Pointers are valid for their lengths and not null (where a length is 0, null is fine; `texts`, `frame`,
+ * `length` and `count` are never null); what is written to (places, texts, frame, length, count) overlaps nothing else that is
+ * passed, and no other thread uses it meanwhile; 512 KiB of stack are free; malloc, realloc and free are those of one
+ * allocator and align blocks as C says; no call is made from a signal handler or in the child of a fork from a process with
+ * threads. Everything else is answered: all bytes, words and numbers, want of memory too. No call ends the process, waits, or
+ * keeps anything behind its end.
  *
  * Threads. Calls share nothing: any number of threads may call at once, each with places of its own; files may be shared.
  */
