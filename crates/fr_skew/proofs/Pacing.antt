@@ -1,5 +1,5 @@
 -- How far apart nodes lie that have the same macroticks: no macrotick between two lies further apart than these.
-use Rattle.std.proofs.Common.{◌≡◌, ◌∙◌, ℕ, ◌*◌, ◌/◌, ◌<◌, ◌≤◌, Bool, true, false, ℤ, pos, negsuc, List, [], ◌∷◌, All, None, refl, ap, sym, subst, arith}
+use Rattle.std.proofs.Common.{◌≡◌, ◌∙◌, ◌⊎◌, ℕ, ◌*◌, ◌/◌, ◌<◌, ◌≤◌, Bool, true, false, ℤ, pos, negsuc, List, [], ◌∷◌, All, None, refl, inl, inr, ap, sym, subst, arith}
 use Rattle.std.specs.Prelude.{◌+ℤ◌, ◌-ℤ◌, ◌*ℤ◌, ◌≤ℤ◌, ◌<ℤ◌, not, slice_get}
 use Rattle.std.proofs.Math.Nat.{div-add-mod'}
 use Rattle.std.proofs.lemmas.Int.{ints, by_lt_z}
@@ -15,9 +15,9 @@ use Rattle.fr_time.specs.Placed.{IsPlacedRow}
 use Rattle.fr_time.specs.Position.{corrected_micros, corrected_position, even_position, floor_of, position_of, IsPlaceable}
 use Rattle.fr_time.specs.declared.grid.Grid.{Grid}
 use Rattle.fr_time.proofs.Ends.{corrected_micros_from}
-use Rattle.fr_skew.specs.Alike.{AreAlike, HasTerms}
+use Rattle.fr_skew.specs.Alike.{AreAlike, HasRate, HasTerms, HaveOneRate, KeepPace}
 use Rattle.fr_skew.specs.Spreads.{running, spread_at}
-use Rattle.fr_skew.proofs.Bounds.{apart_at, int_lt_false, int_lt_true, pair_apart, spread_of_pairs}
+use Rattle.fr_skew.proofs.Bounds.{apart_at, before_correction, int_lt_false, int_lt_true, pair_apart, spread_of_pairs}
 use Rattle.fr_skew.proofs.Sections.{between}
 
 -- ---- a later macrotick lies no earlier
@@ -179,4 +179,73 @@ alike_bounded grid cycle rows from macrotick to bound placed alike above below b
     let kept : NodeRow → Bool = λ row. not (is_halted row.state) in
     rows_alike grid (is_odd cycle) (running rows) alike.rate alike.offset (pos from) (pos macrotick) (pos to) bound
     (All-filter kept (IsPlacedRow grid) rows placed) (All-filter kept (HasTerms alike.rate alike.offset) rows alike.each)
+    (omega (arith, ints)) (omega (arith, ints, above)) (omega (arith, ints, below)) bound_from begins ends
+
+-- ---- rows with the same rate, where no offset correction moves them
+
+pub none_of_one_rate : (rows : List NodeRow) → None ≡ slice_get rows 0 → HaveOneRate rows
+none_of_one_rate [] first = record { rate = pos 0; each = All-nil (HasRate (pos 0)) }
+none_of_one_rate (row ∷ rows) first = absurd (cc)
+
+evenly_at : (grid : Grid) (rate m : ℤ) (row : NodeRow) → HasRate rate row → instant_of grid row false m ≡ row.start +ℤ (even_position grid rate m *ℤ row.length)
+evenly_at grid rate m row has = ap (λ (x : ℤ). row.start +ℤ (even_position grid x m *ℤ row.length)) has.rate_is
+
+pair_even : (grid : Grid) (rate a m b bound : ℤ) (one other : NodeRow) → IsPlacedRow grid one → HasRate rate one → HasRate rate other
+    → pos 0 ≤ℤ a → a ≤ℤ m → m ≤ℤ b
+    → (instant_of grid one false a -ℤ instant_of grid other false a) ≤ℤ bound → (instant_of grid one false b -ℤ instant_of grid other false b) ≤ℤ bound
+    → (instant_of grid one false m -ℤ instant_of grid other false m) ≤ℤ bound
+pair_even grid rate a m b bound one other here has there from below above near_a near_b =
+    let P : ℤ → Type 0 = λ x. IsPlaceable grid x one.offset in
+    let can : IsPlaceable grid rate one.offset = subst P has.rate_is here.placeable in
+    let p : ℤ → ℤ = even_position grid rate in
+    let apart : (x : ℤ) → (instant_of grid one false x -ℤ instant_of grid other false x) ≡ (one.start -ℤ other.start) +ℤ (p x *ℤ (one.length -ℤ other.length)) =
+    (λ x. difference one.start other.start (p x) one.length other.length (instant_of grid one false x) (instant_of grid other false x) (evenly_at grid rate x one has) (evenly_at grid rate x other there)) in
+    back (instant_of grid one false m -ℤ instant_of grid other false m) _ bound (apart m)
+    (between (one.start -ℤ other.start) (one.length -ℤ other.length) (p a) (p m) (p b) bound
+    (even_grows grid rate one.offset a m can from below) (even_grows grid rate one.offset m b can (chain (pos 0) a m from below) above)
+    (back _ (instant_of grid one false a -ℤ instant_of grid other false a) bound (sym (apart a)) near_a)
+    (back _ (instant_of grid one false b -ℤ instant_of grid other false b) bound (sym (apart b)) near_b))
+  where
+    back : (x y bound : ℤ) → x ≡ y → y ≤ℤ bound → x ≤ℤ bound
+    back x y bound is le = omega (arith, ints)
+
+pair_paced : (grid : Grid) (odd : Bool) (rate a m b bound : ℤ) (one other : NodeRow) → (odd ≡ false) ⊎ (b ≤ℤ grid.correction) → IsPlacedRow grid one → HasRate rate one → HasRate rate other
+    → pos 0 ≤ℤ a → a ≤ℤ m → m ≤ℤ b
+    → (instant_of grid one odd a -ℤ instant_of grid other odd a) ≤ℤ bound → (instant_of grid one odd b -ℤ instant_of grid other odd b) ≤ℤ bound
+    → (instant_of grid one odd m -ℤ instant_of grid other odd m) ≤ℤ bound
+pair_paced grid false rate a m b bound one other before here has there from below above near_a near_b =
+    pair_even grid rate a m b bound one other here has there from below above near_a near_b
+pair_paced grid true rate a m b bound one other (inl even) here has there from below above near_a near_b = absurd (cc)
+pair_paced grid true rate a m b bound one other (inr early) here has there from below above near_a near_b =
+    let o = grid.correction in
+    let m_early : m ≤ℤ o = chain m b o above early in
+    let a_early : a ≤ℤ o = chain a m o below m_early in
+    same bound (instant_of grid one false m) (instant_of grid one true m) (instant_of grid other false m) (instant_of grid other true m)
+    (sym (before_correction grid one m m_early)) (sym (before_correction grid other m m_early))
+    (pair_even grid rate a m b bound one other here has there from below above
+    (same bound (instant_of grid one true a) (instant_of grid one false a) (instant_of grid other true a) (instant_of grid other false a) (before_correction grid one a a_early) (before_correction grid other a a_early) near_a)
+    (same bound (instant_of grid one true b) (instant_of grid one false b) (instant_of grid other true b) (instant_of grid other false b) (before_correction grid one b early) (before_correction grid other b early) near_b))
+  where
+    same : (bound x x' y y' : ℤ) → x ≡ x' → y ≡ y' → (x -ℤ y) ≤ℤ bound → (x' -ℤ y') ≤ℤ bound
+    same bound x x' y y' e g within = omega (arith, ints)
+
+rows_paced : (grid : Grid) (odd : Bool) (rows : List NodeRow) (rate a m b bound : ℤ) → (odd ≡ false) ⊎ (b ≤ℤ grid.correction) → All (IsPlacedRow grid) rows → All (HasRate rate) rows
+    → pos 0 ≤ℤ a → a ≤ℤ m → m ≤ℤ b → pos 0 ≤ℤ bound
+    → apart_at grid odd rows a ≤ℤ bound → apart_at grid odd rows b ≤ℤ bound → apart_at grid odd rows m ≤ℤ bound
+rows_paced grid odd rows rate a m b bound before placed paced from below above bound_from near_a near_b =
+    let at : ℤ → NodeRow → ℤ = λ x row. instant_of grid row odd x in
+    spread_of_pairs (at m) bound rows bound_from
+    (λ one other here there.
+    pair_paced grid odd rate a m b bound one other before (All-contains (IsPlacedRow grid) rows one placed here) (All-contains (HasRate rate) rows one paced here) (All-contains (HasRate rate) rows other paced there) from below above
+    (pair_apart (at a) bound rows one other near_a here there) (pair_apart (at b) bound rows one other near_b here there))
+
+-- where the instants at two macroticks lie within a bound, those between them do
+pub paced_bounded : (grid : Grid) (cycle : ℕ) (rows : List NodeRow) (from macrotick to : ℕ) (bound : ℤ) → All (IsPlacedRow grid) rows → KeepPace grid cycle rows to
+    → from ≤ macrotick → macrotick ≤ to → pos 0 ≤ℤ bound → spread_at grid cycle rows from ≤ℤ bound → spread_at grid cycle rows to ≤ℤ bound
+    → spread_at grid cycle rows macrotick ≤ℤ bound
+unfolding spread_at
+paced_bounded grid cycle rows from macrotick to bound placed keep above below bound_from begins ends =
+    let kept : NodeRow → Bool = λ row. not (is_halted row.state) in
+    rows_paced grid (is_odd cycle) (running rows) keep.one_rate.rate (pos from) (pos macrotick) (pos to) bound keep.before
+    (All-filter kept (IsPlacedRow grid) rows placed) (All-filter kept (HasRate keep.one_rate.rate) rows keep.one_rate.each)
     (omega (arith, ints)) (omega (arith, ints, above)) (omega (arith, ints, below)) bound_from begins ends

@@ -7,7 +7,7 @@ ghost use Rattle.fr_skew.specs.Spreads.{spread_at};
 ghost use Rattle.fr_skew.specs.Stretches.{IsNoGreater, IsReached, IsStretch};
 ghost use Rattle.fr_skew.specs.Sweep.{greatest_after, greatest_within};
 
-use crate::alike::are_alike;
+use crate::alike::{are_alike, keep_pace};
 use crate::bound::{MOST, correction, wider_end};
 use crate::courses::{Course, courses_of, go_all, next_spread};
 use crate::peak::{Peak, greater, macroticks};
@@ -54,7 +54,7 @@ fn swept_along(
     let mut peak = before;
     let mut from = 0;
     while from < macros {
-        let to = stretch_end(grid, cycle, from);
+        let to = next_end(grid, cycle, rows, from, known, peak);
         peak = swept_or_left(grid, cycle, rows, courses, from, to, known, peak);
         from = to;
     }
@@ -116,7 +116,7 @@ fn is_no_greater(skew: i64, peak: Option<Peak>) -> bool
 }
 
 // How far at most the instants of any macrotick of a stretch lie apart, in ticks: within a stretch each node's instants
-// lie on a line, but for a microtick, and not even that matters where all nodes have the same macroticks.
+// lie on a line, but for a microtick, and not even that matters where all nodes have the same macroticks in it.
 fn stretch_bound(grid: &Grid, cycle: u32, rows: &[NodeRow], from: u32, to: u32) -> i64
     requires grid { IsGrid grid.now }
     requires rows { All (IsPlacedRow grid.now) rows.now }
@@ -127,8 +127,54 @@ fn stretch_bound(grid: &Grid, cycle: u32, rows: &[NodeRow], from: u32, to: u32) 
     let widest = wider_end(grid, cycle, rows, from, to);
     if are_alike(rows) {
         widest
+    } else if keep_pace(grid, cycle, rows, to) {
+        widest
     } else {
         widest + 2 * MOST
+    }
+}
+
+// Where the sweep goes on that has come to a macrotick: behind all macroticks that follow one rule, where that stretch is
+// left out as a whole, or else behind a short one.
+fn next_end(
+    grid: &Grid,
+    cycle: u32,
+    rows: &[NodeRow],
+    from: u32,
+    known: i64,
+    before: Option<Peak>,
+) -> u32
+    requires grid { IsGrid grid.now }
+    requires rows { All (IsPlacedRow grid.now) rows.now }
+    requires within { from < nat_abs grid.now.macros }
+    ensures { IsStretch grid.now cycle from result }
+{
+    if 0 < from && from != correction(grid) {
+        return stretch_end(grid, cycle, from);
+    }
+    let far = rule_end(grid, cycle, from);
+    let whole = stretch_bound(grid, cycle, rows, from, far);
+    if whole < known {
+        return far;
+    }
+    if is_no_greater(whole, before) {
+        return far;
+    }
+    stretch_end(grid, cycle, from)
+}
+
+// Up to where macroticks follow the rule of one.
+fn rule_end(grid: &Grid, cycle: u32, from: u32) -> u32
+    requires grid { IsGrid grid.now }
+    requires within { from < nat_abs grid.now.macros }
+    ensures { IsStretch grid.now cycle from result }
+{
+    let macros = macroticks(grid);
+    let correction = correction(grid);
+    if is_odd(cycle) && from < correction {
+        correction
+    } else {
+        macros
     }
 }
 

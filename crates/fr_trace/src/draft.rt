@@ -1,4 +1,4 @@
-ghost use Rattle.std.specs.Prelude.{◌≡◌, ◌==◌, ◌≤◌, ◌≤ℤ◌, [], is_none, length, pos, negsuc, OnOk};
+ghost use Rattle.std.specs.Prelude.{◌≡◌, ◌==◌, ◌≤◌, ◌≤ℤ◌, [], is_none, length, pos, negsuc, IfOk, OnOk};
 ghost use Rattle.fr_cluster.specs.Questions.{is_known, own_key};
 ghost use Rattle.std.specs.List.{list_any};
 ghost use Rattle.fr_cluster.specs.Values.{Values};
@@ -12,7 +12,7 @@ ghost use Rattle.fr_base.specs.Within.{lies_within};
 ghost use Rattle.fr_trace.specs.Rows.{IsProperTraceRow};
 ghost use Rattle.fr_trace.specs.declared.rows.Row.TheVariants as said;
 
-use crate::order::{SoFar, is_among, join_among, may_follow};
+use crate::order::{SoFar, goes_on, is_among, join_among, may_follow};
 use crate::rows::{HeardRow, Row};
 use crate::trace::{Trace, TracedCycle, TracedJoin};
 use fr_base::{Channel, Dev, NodeId, NodeRow, Reason};
@@ -83,7 +83,19 @@ impl Draft {
         }
     }
 
+    // A deviation, of which there are the most, is judged by the last row alone.
     fn reason(&self, params: &Params, row: &Row) -> Option<Reason>
+        ensures { result ≡ row_reason params.now self.now.arbitrary.items self.now.joins.items row.now
+            (may_come_next params.now (doubles_or_0 self.now.doubles) self.now.arbitrary.items self.now.joins.items
+            (latest_rows (over_of self.now)) self.now.rows.items self.now.last row.now) }
+    {
+        match row {
+            Row::Heard(heard) => heard_reason(params, heard, goes_on(&self.last, heard)),
+            _ => self.any_reason(params, row),
+        }
+    }
+
+    fn any_reason(&self, params: &Params, row: &Row) -> Option<Reason>
         ensures { result ≡ row_reason params.now self.now.arbitrary.items self.now.joins.items row.now
             (may_come_next params.now (doubles_or_0 self.now.doubles) self.now.arbitrary.items self.now.joins.items
             (latest_rows (over_of self.now)) self.now.rows.items self.now.last row.now) }
@@ -178,8 +190,10 @@ impl Draft {
     pub(crate) fn end_cycle(&mut self) -> Result<(), AllocError>
         ensures { OnOk result (HasEnded self.old self.new) }
     {
-        let rows = replace(&mut self.rows, Vec::new(self.alloc));
-        let devs = replace(&mut self.devs, Vec::new(self.alloc));
+        let no_rows = room_like(self.alloc, self.rows.len())?;
+        let no_devs = room_like(self.alloc, self.devs.len())?;
+        let rows = replace(&mut self.rows, no_rows);
+        let devs = replace(&mut self.devs, no_devs);
         self.cycles.push(TracedCycle { rows, devs })?;
         Ok(())
     }
@@ -224,6 +238,13 @@ impl Draft {
         } = self;
         Trace::of(doubles, arbitrary, joins, cycles)
     }
+}
+
+// A list of none, with room for as many and some more: a cycle has about as many as the one before.
+fn room_like<T: Drop>(alloc: Global, count: usize) -> Result<Vec<T>, AllocError>
+    ensures { IfOk result (λ list. list.items ≡ []) }
+{
+    Vec::with_capacity(alloc, count.saturating_add(count / 8))
 }
 
 // The rows of the last of some cycles.

@@ -1,7 +1,11 @@
-ghost use Rattle.std.specs.Prelude.{◌≡◌, ◌<◌, Some, [], drop, is_none, is_some, length, slice_get};
+ghost use Rattle.std.specs.Prelude.{◌≡◌, ◌<◌, ◌==◌, ◌&&◌, ℕ, List, Some, [], drop, is_none, is_some, length, slice_get};
 ghost use Rattle.std.specs.Option.{option_copied};
+ghost use Rattle.fr_base.specs.declared.node_row.NodeRow.{NodeRow as Clock};
+ghost use Rattle.fr_cluster.specs.Values.{Values};
 ghost use Rattle.fr_history.specs.History.{row_of};
 ghost use Rattle.fr_trace.specs.Joins.{first_cycle, is_among, join_among};
+ghost use Rattle.fr_trace.specs.declared.rows.Row.TheVariants as said;
+ghost use Rattle.fr_trace.specs.declared.trace.TracedJoin.{TracedJoin as Joining};
 ghost use Rattle.fr_trace.specs.Order.{begins_by, ends_at, ends_with, is_due_after, is_up_to, may_begin, may_come_next, may_go_on, may_join, may_open, may_stand, may_stand_after, may_turn, must_stand, next_due, next_due_in, rank_of, stands_after, stays_by};
 
 use crate::rows::{HeardRow, Row};
@@ -72,6 +76,43 @@ pub(crate) fn may_follow(
     }
 }
 
+// Whether a deviation may come behind the last row. Nothing that was said before that row decides it.
+pub(crate) fn goes_on(last: &Option<Row>, heard: &HeardRow) -> bool
+    ensures { (p : Values) (doubles : ℕ) (named : List ℕ) (joins : List Joining) (before here : List Clock) →
+        result ≡ may_come_next p doubles named joins before here last.now (said.Heard heard.now) }
+{
+    match last {
+        None => false,
+        Some(Row::Run(_)) => false,
+        Some(Row::Arbitrary(_)) => false,
+        Some(Row::Join(_)) => false,
+        Some(Row::Clock(cycle, clock)) => {
+            let turn = Turn {
+                node: clock.node,
+                slot: 0,
+                rank: 0,
+            };
+            is_next(*cycle, turn, heard)
+        }
+        Some(Row::Heard(other)) => {
+            let turn = Turn {
+                node: other.receiver,
+                slot: other.slot.0,
+                rank: rank_of(&other.channel),
+            };
+            is_next(other.cycle, turn, heard)
+        }
+    }
+}
+
+// Whether a deviation is of the same cycle and node as a place, and comes behind it.
+fn is_next(cycle: u32, turn: Turn, heard: &HeardRow) -> bool
+    ensures { result ≡
+        ((heard.now.cycle == cycle) && (heard.now.receiver == turn.node) && stands_after turn heard.now) }
+{
+    heard.cycle == cycle && heard.receiver == turn.node && is_behind(turn, heard)
+}
+
 /// A place in the order of a cycle: a node, and the slot and the rank of the channel of one of its deviations, 0 and 0
 /// at its row.
 #[derive(Clone, Copy, Debug, PartialEq, Eq)]
@@ -126,9 +167,7 @@ fn may_go_on(params: &Params, so_far: &SoFar<'_>, cycle: u32, turn: Turn, next: 
         Row::Clock(following, clock) => {
             may_turn(params, so_far, cycle, turn.node, *following, clock.node)
         }
-        Row::Heard(heard) => {
-            heard.cycle == cycle && heard.receiver == turn.node && is_behind(turn, heard)
-        }
+        Row::Heard(heard) => is_next(cycle, turn, heard),
     }
 }
 

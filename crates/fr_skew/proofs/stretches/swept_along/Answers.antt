@@ -18,12 +18,12 @@ loop-from-preserved c =
     let known : ℤ = c.known_skew-known.result in
     let fits : FitsSigned w64 known = search rules in
     let same = to_z-of_z w64 known fits in
-    let to : ℕ = c.stretch_end-to.result in
+    let to : ℕ = c.next_end-to.result in
     let macros = c.macroticks-macros.ensures.number in
-    let order : c.loop-from.from < to = c.stretch_end-to.ensures.order in
+    let order : c.loop-from.from < to = c.next_end-to.ensures.order in
     let agree : Agree known c.loop-from.peak (greatest_within grid cycle rows c.args.before c.loop-from.from) =
     subst (λ (k : ℤ). Agree k c.loop-from.peak (greatest_within grid cycle rows c.args.before c.loop-from.from)) same c.loop-from.invariant.1 in (
-      omega (arith, ints, macros, c.stretch_end-to.ensures.within),
+      omega (arith, ints, macros, c.next_end-to.ensures.within),
       rw same
           (agree-stretch known grid cycle rows c.args.before c.loop-from.peak c.swept_or_left-peak.result c.loop-from.from to (omega (arith, order)) agree (simp to_z-of_z at c.swept_or_left-peak.ensures.skew)),
       c.swept_or_left-peak.ensures.courses,

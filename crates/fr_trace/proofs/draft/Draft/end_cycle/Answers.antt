@@ -14,8 +14,8 @@ returns c =
       over = ap history_by c.in_ok-push.ensures.items ∙ history-more before.cycles.items ended
           ∙ (λ i. record { rows = (c.replace-rows.ensures.value i).items; devs = (c.replace-devs.ensures.value i).items; counts = no_counts } ∷ history_by before.cycles.items);
       part = λ i. record {
-        rows = (ap (λ (v : _). v.items) c.replace-rows.ensures.after ∙ c.new.ensures.items) i;
-        devs = (ap (λ (v : _). v.items) c.replace-devs.ensures.after ∙ c.new-2.ensures.items) i;
+        rows = (ap (λ (v : _). v.items) c.replace-rows.ensures.after ∙ c.in_ok-no_rows.ensures) i;
+        devs = (ap (λ (v : _). v.items) c.replace-devs.ensures.after ∙ c.in_ok-no_devs.ensures) i;
         counts = no_counts;
       };
     }
