@@ -15,6 +15,7 @@ use fr_node::{Heard, Node, Reception};
 use fr_pool::{Cell, Pool};
 
 // A node hears a frame of which this is made where it arrives in its slot.
+#[inline(always)]
 fn hear_frame(
     files: &RunInputs,
     turn: &Turn,
@@ -40,6 +41,7 @@ fn hear_bytes(files: &RunInputs, turn: &Turn, arrival: i64, bytes: &[u8], node: 
 }
 
 // A node hears bytes that stand in a further cell.
+#[inline(never)]
 fn hear_copy(
     files: &RunInputs,
     turn: &Turn,
@@ -66,6 +68,7 @@ fn hear_copy(
 
 // A node hears the frame that stands in a cell with one bit inverted: a copy of it stands in a further cell, in which
 // the bit is inverted.
+#[inline(never)]
 fn hear_flipped(
     files: &RunInputs,
     turn: &Turn,

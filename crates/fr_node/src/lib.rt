@@ -10,8 +10,8 @@ mod node;
 mod own;
 mod quotients;
 
-pub use fr_reception::{Heard, Ignored};
 pub use answers::{Reception, received};
+pub use fr_reception::{Heard, Ignored};
 pub use frames::{frame_of, regular_read};
 pub use listener::Listener;
 pub use node::Node;

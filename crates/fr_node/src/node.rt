@@ -150,6 +150,7 @@ impl Node {
 
     /// The same of a frame that was read before, for who offers it to many nodes: `told` is what the bytes are on
     /// the channel.
+    #[inline(never)]
     pub fn hear_read(
         &mut self,
         params: &Params,
@@ -174,6 +175,7 @@ impl Node {
 
     /// The same of a frame of which it is known what is made of it where it arrives in its slot, as `received` tells it
     /// of its bytes.
+    #[inline(always)]
     pub fn hear_received(
         &mut self,
         params: &Params,
@@ -187,7 +189,7 @@ impl Node {
         ensures answer { (bytes : List ℕ) →
             reception.now ≡ reception_of params.now self.old.cycle slot (read_as channel bytes) →
             result ≡ answer_of params.now self.old.cycle (node_row_of self.old)
-                (record { slot = slot; channel = channel; arrival = arrival; bytes = bytes }) }
+            (record { slot = slot; channel = channel; arrival = arrival; bytes = bytes }) }
         ensures after { self.new ≡ after_hearing params.now self.old slot channel result }
         ensures rest { self.new ≡ record self.old { table = self.new.table } }
         ensures fits { NodeFits params.now self.new }
@@ -316,6 +318,7 @@ impl Node {
     }
 
     // The answer to a frame of which this is made where it arrives in its slot.
+    #[inline(always)]
     fn answer_to(
         &self,
         params: &Params,
