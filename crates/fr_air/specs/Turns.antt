@@ -13,6 +13,8 @@ use Rattle.fr_reception.specs.declared.heard.Heard.{Heard}
 use Rattle.fr_reception.specs.Regular.{regular_frame}
 use Rattle.fr_node.specs.Cycle.{after_hearing}
 use Rattle.fr_node.specs.Fits.{CanReceive, NodeFits}
+use Rattle.fr_node.specs.Receptions.{reception_of}
+use Rattle.fr_node.specs.declared.answers.Reception.{Reception}
 use Rattle.fr_node.specs.View.{NodeView, node_row_of}
 use Rattle.fr_air.specs.Counting.{counted_offer, counted_offers}
 use Rattle.fr_air.specs.Cycling.{IsReady}
@@ -47,11 +49,15 @@ pub record IsSent (f : RunInputs) (air : Air) : Type 0 where
   pub row : IfSome air.sender.now.row (IsEarlyRow f.params)
   pub due : IfSome air.sender.now.row (λ row. IsDue f air.turn.now row air.due)
 
--- it stands in a cell of the memory, and is known as what it is on the channel
+-- what is made of a frame in a turn, where it arrives in its slot
+abbrev pub IsMadeOf : RunInputs → Turn → List ℕ → Reception → Type 0
+IsMadeOf f turn frame reception = reception ≡ reception_of f.params turn.cycle turn.slot (read_as turn.channel frame)
+
+-- it stands in a cell of the memory, and it is known what is made of it
 pub record IsOnAir (f : RunInputs) (air : Air) (memory : MemoryView) : Type 0 where
   pub sent : IsSent f air
   pub stands : HasFrame memory air.cell
-  pub told : air.told.now ≡ read_as air.turn.now.channel (frame_on memory air.cell)
+  pub reception : IsMadeOf f air.turn.now (frame_on memory air.cell) air.reception.now
 
 -- what of it a receiver is offered
 abbrev pub offer_on : RunInputs → Air → MemoryView → NodeRow → Option Offer

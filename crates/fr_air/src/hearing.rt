@@ -1,41 +1,34 @@
-ghost use Rattle.std.specs.Prelude.{◌≡◌, ◌≤◌, pos, length};
+ghost use Rattle.std.specs.Prelude.{◌≡◌, ℕ, ◌≤◌, pos, List, length};
 ghost use Rattle.fr_base.specs.Within.{IsWithin};
-ghost use Rattle.fr_frame.specs.Reading.{read_as};
 ghost use Rattle.fr_pool.specs.Pool.{HasFree};
 ghost use Rattle.fr_reception.specs.Offers.{flipped};
 ghost use Rattle.fr_air.specs.Cells.{StandsInCell, Stays};
 ghost use Rattle.fr_air.specs.Memory.{frame_at};
 ghost use Rattle.fr_air.specs.Sending.{coming_offer, offer_at, IsComing};
-ghost use Rattle.fr_air.specs.Turns.{CanHear, HasAnswered};
+ghost use Rattle.fr_air.specs.Turns.{CanHear, HasAnswered, IsMadeOf};
 
 use crate::cells::{give_back, put_front, take_spare};
 use crate::files::RunInputs;
 use crate::flipping::flip_front;
 use crate::turn::{Bytes, Coming, Turn};
-use fr_frame::{FrameFault, Header};
-use fr_node::{Heard, Node};
+use fr_node::{Heard, Node, Reception};
 use fr_pool::{Cell, Pool};
 
-// A node hears the frame that stands in a cell, which is known as what it is on the channel.
+// A node hears a frame of which this is made where it arrives in its slot.
+#[inline(always)]
 fn hear_frame(
     files: &RunInputs,
     turn: &Turn,
     arrival: i64,
-    pool: &Pool,
-    cell: &Cell,
-    bytes: usize,
-    told: &Result<Header, FrameFault>,
+    reception: &Reception,
     node: &mut Node,
 ) -> Heard
     requires hears { CanHear files.now turn.now node.old }
     requires arrival { IsWithin (pos 4_000_000_000_000_000_000) arrival }
-    requires stands { StandsInCell pool.now cell.now bytes }
-    requires told { told.now ≡ read_as turn.now.channel (frame_at pool.now cell.now bytes) }
-    ensures { HasAnswered files.now turn.now (offer_at turn.now arrival (frame_at pool.now cell.now bytes))
-        node.old node.new result }
+    ensures { (frame : List ℕ) → IsMadeOf files.now turn.now frame reception.now →
+        HasAnswered files.now turn.now (offer_at turn.now arrival frame) node.old node.new result }
 {
-    let frame = &pool.read(cell)[..bytes];
-    node.hear_read(&files.params, turn.slot, turn.channel, arrival, frame, told)
+    node.hear_received(&files.params, turn.slot, turn.channel, arrival, reception)
 }
 
 // A node hears bytes.
@@ -48,6 +41,7 @@ fn hear_bytes(files: &RunInputs, turn: &Turn, arrival: i64, bytes: &[u8], node: 
 }
 
 // A node hears bytes that stand in a further cell.
+#[inline(never)]
 fn hear_copy(
     files: &RunInputs,
     turn: &Turn,
@@ -74,6 +68,7 @@ fn hear_copy(
 
 // A node hears the frame that stands in a cell with one bit inverted: a copy of it stands in a further cell, in which
 // the bit is inverted.
+#[inline(never)]
 fn hear_flipped(
     files: &RunInputs,
     turn: &Turn,
@@ -108,20 +103,20 @@ pub fn answer(
     pool: &mut Pool,
     cell: &Cell,
     bytes: usize,
-    told: &Result<Header, FrameFault>,
+    reception: &Reception,
     node: &mut Node,
 ) -> Heard
     requires hears { CanHear files.now turn.now node.old }
     requires coming { IsComing coming.now }
     requires stands { StandsInCell pool.old cell.now bytes }
-    requires told { told.now ≡ read_as turn.now.channel (frame_at pool.old cell.now bytes) }
+    requires reception { IsMadeOf files.now turn.now (frame_at pool.old cell.now bytes) reception.now }
     ensures answered { HasAnswered files.now turn.now
         (coming_offer turn.now (frame_at pool.old cell.now bytes) coming.now) node.old node.new result }
     ensures stays { Stays pool.old pool.new }
 {
     let arrival = coming.arrival;
     match coming.bytes {
-        Bytes::Frame => hear_frame(files, turn, arrival, pool, cell, bytes, told, node),
+        Bytes::Frame => hear_frame(files, turn, arrival, reception, node),
         Bytes::Flipped(bit) => hear_flipped(files, turn, arrival, pool, cell, bytes, bit, node),
         Bytes::Said(said) => hear_copy(files, turn, arrival, said, pool, node),
     }

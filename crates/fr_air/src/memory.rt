@@ -311,7 +311,7 @@ impl Memory {
             &mut self.pool,
             cell_at(&self.messages, &self.said, air.cell),
             self.bytes,
-            air.told,
+            air.reception,
             node,
         )
     }

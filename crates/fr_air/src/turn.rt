@@ -1,5 +1,5 @@
 use fr_base::{Channel, NodeId, NodeRow, Slot};
-use fr_frame::{FrameFault, Header};
+use fr_node::Reception;
 
 // A slot of a cycle on a channel.
 #[derive(Clone, Copy)]
@@ -17,15 +17,15 @@ pub struct Sender {
 }
 
 // A frame on the air: the turn in which it is sent, and by whom, the instant at which a correct sender sends it, in
-// ticks, the number of the cell in which it is kept, or none where it is being said, and what its bytes are read as on
-// the channel.
+// ticks, the number of the cell in which it is kept, or none where it is being said, and what its
+// receivers make of it where it arrives in its slot.
 #[derive(Clone, Copy)]
 pub struct Air<'a> {
     pub turn: &'a Turn,
     pub sender: &'a Sender,
     pub due: i64,
     pub cell: Option<usize>,
-    pub told: &'a Result<Header, FrameFault>,
+    pub reception: &'a Reception,
 }
 
 // What comes of a frame: its bytes, these with one bit inverted, or other bytes.

@@ -4,3 +4,4 @@ pub mod Floors
 pub mod Placing
 pub mod Ending
 pub mod Beginning
+pub mod Receptions

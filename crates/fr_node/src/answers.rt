@@ -4,12 +4,12 @@ ghost use Rattle.fr_base.specs.Within.{IsBetween, IsWithin};
 ghost use Rattle.fr_cluster.specs.Values.{amount};
 ghost use Rattle.fr_cluster.specs.declared.names.ParamName.TheVariants as name;
 ghost use Rattle.fr_frame.specs.Reading.{read_as};
-ghost use Rattle.fr_time.specs.Instant.{IsInCycle, IsSlotOf};
+ghost use Rattle.fr_time.specs.Instant.{slot_begins, slot_ends, IsInCycle, IsSlotOf};
 ghost use Rattle.fr_time.specs.Position.{floor_of};
 ghost use Rattle.fr_time.specs.Slots.{slot_end_of, slot_start_of};
-ghost use Rattle.fr_reception.specs.Answers.{answer_by, answer_of};
 ghost use Rattle.fr_reception.specs.Offers.{deviation_of};
 ghost use Rattle.fr_node.specs.Arrivals.{offer_with, IfStored, LiesInSlot, LiesOutside};
+ghost use Rattle.fr_node.specs.Receptions.{answer_with, reception_of};
 
 use crate::quotients::{lies_between, quotient};
 use fr_base::{Channel, NodeRow, Slot};
@@ -94,39 +94,60 @@ fn deviation(params: &Params, row: &NodeRow, arrival: Arrival) -> i32
     (passed - params.compensation(arrival.channel) - due) as i32
 }
 
-// The answer to a frame with this header that arrives in its slot.
-fn judged(params: &Params, cycle: u32, row: &NodeRow, arrival: Arrival, header: &Header) -> Heard
-    requires slot { IsSlotOf params.now row.now arrival.slot }
-    requires at { IsInCycle row.now arrival.at }
-    ensures value { result ≡
-        answer_by params.now cycle row.now (offer_with arrival []) (Ok header.now) }
-    ensures within { IfStored result (IsWithin (pos 1000000)) }
+/// What each node makes of a frame that arrives in its slot, in a cycle of the cluster: it is asked once for all
+/// receivers.
+#[derive(Clone, Copy, Debug, PartialEq, Eq)]
+pub enum Reception {
+    /// It is ignored.
+    Ignored(Ignored),
+    /// Its deviation is measured and stored.
+    Measured,
+}
+
+/// What each node makes of a frame in a slot of a cycle, where it arrives in the slot; `told` is what its bytes are on the
+/// channel.
+pub fn received(
+    params: &Params,
+    cycle: u32,
+    slot: Slot,
+    told: &Result<Header, FrameFault>,
+) -> Reception
+    ensures { result ≡ reception_of params.now cycle slot told.now }
 {
-    let slot = arrival.slot;
+    match told {
+        Err(fault) => Reception::Ignored(Ignored::Damaged(*fault)),
+        Ok(header) => judged(params, cycle, slot, header),
+    }
+}
+
+// What each node makes of a frame with this header.
+fn judged(params: &Params, cycle: u32, slot: Slot, header: &Header) -> Reception
+    ensures { result ≡ reception_of params.now cycle slot (Ok header.now) }
+{
     let own = cycle_count(cycle);
     let words = params.natural(ParamName::gPayloadLengthStatic) as u8;
     if header.id != slot.0 {
-        return Heard::Ignored(Ignored::WrongId {
+        return Reception::Ignored(Ignored::WrongId {
             slot,
             id: header.id,
         });
     }
     if header.cycle != own {
-        return Heard::Ignored(Ignored::WrongCycle {
+        return Reception::Ignored(Ignored::WrongCycle {
             own,
             got: header.cycle,
         });
     }
     if header.words != words {
-        return Heard::Ignored(Ignored::WrongLength {
+        return Reception::Ignored(Ignored::WrongLength {
             own: words,
             got: header.words,
         });
     }
     if !header.sync || params.key_index(slot).is_none() {
-        return Heard::Ignored(Ignored::Plain);
+        return Reception::Ignored(Ignored::Plain);
     }
-    Heard::Stored(deviation(params, row, arrival))
+    Reception::Measured
 }
 
 // The ticks from the start of a cycle to an instant, where that lies in the cycle.
@@ -189,6 +210,17 @@ fn is_well_within(params: &Params, row: &NodeRow, slot: Slot, at: i64) -> bool
     lies_between(begin, end, micros, macros, length_of(row), ticks)
 }
 
+// The instants at which a static slot begins and ends at a node. It is rarely asked.
+#[inline(never)]
+fn instants_of(params: &Params, row: &NodeRow, slot: Slot) -> (i64, i64)
+    requires { IsSlotOf params.now row.now slot }
+    ensures value { result ≡ (slot_begins params.now row.now slot, slot_ends params.now row.now slot) }
+    ensures begins { IsInCycle row.now result.0 }
+    ensures ends { IsInCycle row.now result.1 }
+{
+    slot_instants(params, row, slot)
+}
+
 // The instants at which its slot begins and ends at a node, where a frame does not arrive between them.
 fn outside(params: &Params, row: &NodeRow, slot: Slot, at: i64) -> Option<(i64, i64)>
     requires slot { IsSlotOf params.now row.now slot }
@@ -198,26 +230,23 @@ fn outside(params: &Params, row: &NodeRow, slot: Slot, at: i64) -> Option<(i64, 
     if is_well_within(params, row, slot, at) {
         return None;
     }
-    let (from, to) = slot_instants(params, row, slot);
+    let (from, to) = instants_of(params, row, slot);
     if at < from || at >= to {
         return Some((from, to));
     }
     None
 }
 
-// The answer of a node with this row to a frame in a cycle, of which `told` says what it is on its channel.
-#[tactic(auto, unfolding(fr_reception::specs::Answers::answer_of))]
+// The answer of a node with this row to a frame of which this is made where it arrives in its slot.
+#[inline(always)]
 pub(crate) fn answer(
     params: &Params,
-    cycle: u32,
     row: &NodeRow,
     arrival: Arrival,
-    bytes: &[u8],
-    told: &Result<Header, FrameFault>,
+    reception: &Reception,
 ) -> Heard
-    requires slot { IsSlotOf params.now row.now arrival.slot }
-    requires told { told.now ≡ read_as arrival.channel bytes.now }
-    ensures value { result ≡ answer_of params.now cycle row.now (offer_with arrival bytes.now) }
+    requires { IsSlotOf params.now row.now arrival.slot }
+    ensures value { result ≡ answer_with params.now row.now (offer_with arrival []) reception.now }
     ensures within { IfStored result (IsWithin (pos 1000000)) }
 {
     if let Some((from, to)) = outside(params, row, arrival.slot, arrival.at) {
@@ -227,8 +256,8 @@ pub(crate) fn answer(
             to,
         });
     }
-    match told {
-        Err(fault) => Heard::Ignored(Ignored::Damaged(*fault)),
-        Ok(header) => judged(params, cycle, row, arrival, header),
+    match reception {
+        Reception::Ignored(why) => Heard::Ignored(*why),
+        Reception::Measured => Heard::Stored(deviation(params, row, arrival)),
     }
 }

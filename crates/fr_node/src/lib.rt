@@ -10,6 +10,7 @@ mod node;
 mod own;
 mod quotients;
 
+pub use answers::{Reception, received};
 pub use fr_reception::{Heard, Ignored};
 pub use frames::{frame_of, regular_read};
 pub use listener::Listener;

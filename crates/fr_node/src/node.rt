@@ -1,4 +1,4 @@
-ghost use Rattle.std.specs.Prelude.{◌≡◌, ◌<◌, pos, true, Some, IsSome, IsNone, if◌then◌else◌};
+ghost use Rattle.std.specs.Prelude.{◌≡◌, ℕ, ◌<◌, pos, true, List, [], Some, IsSome, IsNone, if◌then◌else◌};
 ghost use Rattle.fr_base.specs.Timed.{IsLength, IsTimed};
 ghost use Rattle.fr_base.specs.Within.{IsBetween, IsWithin};
 ghost use Rattle.fr_measure.specs.Readings.{no_readings, reading};
@@ -10,7 +10,7 @@ ghost use Rattle.fr_frame.specs.Reading.{read_as};
 ghost use Rattle.fr_reception.specs.Answers.{answer_of};
 ghost use Rattle.fr_correct.specs.Terms.{is_uncut};
 
-use crate::answers::{Arrival, answer, read};
+use crate::answers::{Arrival, Reception, answer, read, received};
 use crate::corrections::{cut_count, offset_term_from, rate_term_from};
 use crate::own::{own_key_index, poc_limits};
 use fr_base::{Channel, NodeId, NodeRow, Outcome, Slot, State};
@@ -61,6 +61,7 @@ impl Node {
     ghost use Rattle.fr_node.specs.Fits.{AreTermsOf};
     ghost use Rattle.fr_node.specs.Listening.{follower_of};
     ghost use Rattle.fr_node.specs.Arrivals.{IfStored};
+    ghost use Rattle.fr_node.specs.Receptions.{answer_with, reception_of};
 
     /// A node before cycle 0: active, with no deviation. The start of cycle 0 is in ticks, the rate term in
     /// microticks.
@@ -149,6 +150,7 @@ impl Node {
 
     /// The same of a frame that was read before, for who offers it to many nodes: `told` is what the bytes are on
     /// the channel.
+    #[inline(never)]
     pub fn hear_read(
         &mut self,
         params: &Params,
@@ -167,7 +169,32 @@ impl Node {
         ensures rest { self.new ≡ record self.old { table = self.new.table } }
         ensures fits { NodeFits params.now self.new }
     {
-        let heard = self.answer_to(params, slot, channel, arrival, bytes, told);
+        let reception = received(params, self.cycle, slot, told);
+        self.hear_received(params, slot, channel, arrival, &reception)
+    }
+
+    /// The same of a frame of which it is known what is made of it where it arrives in its slot, as `received` tells it
+    /// of its bytes.
+    #[inline(always)]
+    pub fn hear_received(
+        &mut self,
+        params: &Params,
+        slot: Slot,
+        channel: Channel,
+        arrival: i64,
+        reception: &Reception,
+    ) -> Heard
+        requires receives { CanReceive params.now self.old slot channel }
+        requires arrival { IsWithin (pos 4_000_000_000_000_000_000) arrival }
+        ensures answer { (bytes : List ℕ) →
+            reception.now ≡ reception_of params.now self.old.cycle slot (read_as channel bytes) →
+            result ≡ answer_of params.now self.old.cycle (node_row_of self.old)
+            (record { slot = slot; channel = channel; arrival = arrival; bytes = bytes }) }
+        ensures after { self.new ≡ after_hearing params.now self.old slot channel result }
+        ensures rest { self.new ≡ record self.old { table = self.new.table } }
+        ensures fits { NodeFits params.now self.new }
+    {
+        let heard = self.answer_to(params, slot, channel, arrival, reception);
         self.keep(params, slot, channel, &heard);
         heard
     }
@@ -290,31 +317,23 @@ impl Node {
         own_key_index(params, self.id)
     }
 
-    // The answer to a frame.
+    // The answer to a frame of which this is made where it arrives in its slot.
+    #[inline(always)]
     fn answer_to(
         &self,
         params: &Params,
         slot: Slot,
         channel: Channel,
         at: i64,
-        bytes: &[u8],
-        told: &Result<Header, FrameFault>,
+        reception: &Reception,
     ) -> Heard
-        requires receives { CanReceive params.now self.now slot channel }
-        requires told { told.now ≡ read_as channel bytes.now }
-        ensures answer { result ≡ answer_of params.now self.now.cycle (node_row_of self.now)
-            (record { slot = slot; channel = channel; arrival = at; bytes = bytes.now }) }
+        requires { CanReceive params.now self.now slot channel }
+        ensures answer { result ≡ answer_with params.now (node_row_of self.now)
+            (record { slot = slot; channel = channel; arrival = at; bytes = [] }) reception.now }
         ensures within { IfStored result (IsWithin (pos 1000000)) }
     {
         let row = self.row();
-        answer(
-            params,
-            self.cycle,
-            &row,
-            Arrival { slot, channel, at },
-            bytes,
-            told,
-        )
+        answer(params, &row, Arrival { slot, channel, at }, reception)
     }
 
     // Keeps the deviation that an answer stores.

@@ -35,7 +35,7 @@ use fr_air::senders::sending_row;
 use fr_air::turn::{Air, Sender, Turn};
 use fr_base::{Channel, Counts, CycleRow, NodeId, NodeRow, RowList, Slot, State};
 use fr_cluster::ParamName;
-use fr_node::{Listener, Node, regular_read};
+use fr_node::{Listener, Node, received, regular_read};
 use fr_time::{Kind, Sending, is_odd, sender};
 use std::alloc::{AllocError, Global};
 use std::marker::Model;
@@ -302,12 +302,13 @@ impl Stage {
         };
         let due = due_at(files, turn, &sender.row);
         let told = regular_read(&files.params, sending, turn.slot, turn.cycle, turn.channel);
+        let reception = received(&files.params, turn.cycle, turn.slot, &told);
         let air = Air {
             turn,
             sender: &sender,
             due,
             cell: Some(cell),
-            told: &told,
+            reception: &reception,
         };
         self.offer(files, &air);
     }
@@ -344,12 +345,13 @@ impl Stage {
             row: None,
         };
         let told = regular_read(&files.params, sending, turn.slot, turn.cycle, turn.channel);
+        let reception = received(&files.params, turn.cycle, turn.slot, &told);
         let air = Air {
             turn,
             sender: &sender,
             due: 0,
             cell: None,
-            told: &told,
+            reception: &reception,
         };
         self.offer(files, &air);
         self.end_saying();

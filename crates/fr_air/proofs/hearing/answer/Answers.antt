@@ -31,12 +31,6 @@ hear_frame-requires-clause-hears c = c.requires.hears
 pub hear_frame-requires-clause-arrival : goal.hear_frame-requires-clause-arrival
 hear_frame-requires-clause-arrival c = arrives c.args.coming.now.arrival c.requires.coming.arrival
 
-pub hear_frame-requires-clause-stands : goal.hear_frame-requires-clause-stands
-hear_frame-requires-clause-stands c = c.requires.stands
-
-pub hear_frame-requires-clause-told : goal.hear_frame-requires-clause-told
-hear_frame-requires-clause-told c = c.requires.told
-
 pub hear_flipped-requires-clause-hears : goal.hear_flipped-requires-clause-hears
 hear_flipped-requires-clause-hears c = c.requires.hears
 
@@ -64,7 +58,8 @@ hear_copy-requires-clause-whole c = c.requires.stands.whole
 pub returns-in-Frame-clause-answered : goal.returns-in-Frame-clause-answered
 returns-in-Frame-clause-answered c =
     let a = c.args in
-    answered a.files.now a.turn.now a.node.now c.hear_frame.new.node c.hear_frame.result a.coming.now.arrival (frame_at a.pool.now a.cell.now a.bytes) a.coming.now.bytes _ c.requires.coming.arrival c.in-Frame.is c.hear_frame.ensures
+    answered a.files.now a.turn.now a.node.now c.hear_frame.new.node c.hear_frame.result a.coming.now.arrival (frame_at a.pool.now a.cell.now a.bytes) a.coming.now.bytes _ c.requires.coming.arrival c.in-Frame.is
+    (c.hear_frame.ensures (frame_at a.pool.now a.cell.now a.bytes) c.requires.reception)
 
 pub returns-in-Frame-clause-stays : goal.returns-in-Frame-clause-stays
 returns-in-Frame-clause-stays c = stays-same c.args.pool.now

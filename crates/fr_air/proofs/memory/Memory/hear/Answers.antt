@@ -1,10 +1,9 @@
 use Rattle.std.proofs.Common.{◌≡◌, ◌∙◌, List, ℕ, Some, length, ap, sym, subst}
 use Rattle.std.specs.Prelude.{slice_get, vec_capacity}
-use Rattle.fr_frame.specs.Reading.{read_as}
 use Rattle.fr_air.specs.Cells.{IsThere, StandsInCell}
 use Rattle.fr_air.specs.Memory.{MemoryView, frame_at, frame_on, HasFrame}
 use Rattle.fr_air.specs.Sending.{coming_offer}
-use Rattle.fr_air.specs.Turns.{HasAnswered}
+use Rattle.fr_air.specs.Turns.{HasAnswered, IsMadeOf}
 use Rattle.fr_air.proofs.Claiming.{stands-on}
 use Rattle.fr_air.proofs.Messages.{frame-there, memory-same, there}
 use Rattle.fr_air.proofs.memory.Memory.hear.Goals as goal
@@ -30,16 +29,18 @@ answer-requires-clause-stands c =
     (stands-on m.pool m.messages.items m.places.items (vec_capacity m.messages) m.bytes m.said a.air.now.cell c.read-frame.result.now c.self.invariant.0 c.self.invariant.1 is
     (subst (λ k. slice_get m.pool.bytes k ≡ Some c.read-frame.result.now) c.cell_at.ensures c.read-frame.ensures.bytes) c.read-frame.ensures.whole)
 
-pub answer-requires-clause-told : goal.answer-requires-clause-told
-answer-requires-clause-told c =
+pub answer-requires-clause-reception : goal.answer-requires-clause-reception
+answer-requires-clause-reception c =
     let a = c.args in
     let m = c.self.inside in
     let is : IsThere m.messages.items m.said a.air.now.cell =
     there m.bytes m.pool m.messages.items m.said a.air.now.cell (length m.places.items) (subst (λ (memory : MemoryView). HasFrame memory a.air.now.cell) (sym c.self.view_is) c.requires.air.stands) in
-    c.requires.air.told
-    ∙ ap (λ (memory : MemoryView). read_as a.air.now.turn.now.channel (frame_on memory a.air.now.cell)) (sym c.self.view_is)
-    ∙ ap (read_as a.air.now.turn.now.channel) (frame-there m.bytes m.pool m.messages.items m.said a.air.now.cell (length m.places.items) is)
-    ∙ ap (λ (k : ℕ). read_as a.air.now.turn.now.channel (frame_at m.pool k m.bytes)) (sym c.cell_at-2.ensures)
+    let same : frame_on a.self.now a.air.now.cell ≡ frame_at m.pool c.cell_at-2.result.now m.bytes =
+    ap (λ (memory : MemoryView). frame_on memory a.air.now.cell) (sym c.self.view_is)
+    ∙ frame-there m.bytes m.pool m.messages.items m.said a.air.now.cell (length m.places.items) is
+    ∙ ap (λ (k : ℕ). frame_at m.pool k m.bytes) (sym c.cell_at-2.ensures) in
+    let P : List ℕ → Type 0 = λ frame. IsMadeOf a.files.now a.air.now.turn.now frame a.air.now.reception.now in
+    subst P same c.requires.air.reception
 
 pub returns-clause-answered : goal.returns-clause-answered
 returns-clause-answered c =
