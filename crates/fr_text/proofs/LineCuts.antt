@@ -7,7 +7,7 @@ use Rattle.std.proofs.lemmas.List.Folds.{list_all-append}
 use Rattle.csv.specs.Machine.{Read, next_record}
 use Rattle.csv.specs.Reading.{default_config, records_from, strip_bom}
 use Rattle.csv.specs.declared.parser.State.TheVariants as st
-use Rattle.fr_text.specs.Plain.{IsBehindFeed, IsCut, left_of}
+use Rattle.fr_text.specs.Plain.{IsBehindFeed, IsCut, records_left}
 use Rattle.fr_text.specs.Reader.{rest_of}
 use Rattle.fr_text.specs.Records.{FileRecord, records_of}
 use Rattle.fr_text.specs.Texts.{after_commas, first_byte, is_plain_field, is_plain_record, line_of_record, shows_bytes, with_commas}
@@ -112,7 +112,7 @@ over-read text line behind e = elim behind [
 ]
 
 -- a reader that has not begun has the records of the bytes that are left
-pub left-plain : (other : Option (List FileRecord)) (rest : List ℕ) → is_some other ≡ false → left_of other rest ≡ records_of rest
+pub left-plain : (other : Option (List FileRecord)) (rest : List ℕ) → is_some other ≡ false → records_left other rest ≡ records_of rest
 left-plain None rest e = refl
 left-plain (Some records) rest e = cc e
 

@@ -20,9 +20,9 @@ record_by None fields = fields
 record_by (Some row) fields = csv.fields_of row
 
 -- the records that `csv` has left, or else those of the bytes that are left
-abbrev pub left_of : Option (List FileRecord) → List ℕ → List FileRecord
-left_of None rest = records_of rest
-left_of (Some records) rest = records
+abbrev pub records_left : Option (List FileRecord) → List ℕ → List FileRecord
+records_left None rest = records_of rest
+records_left (Some records) rest = records
 
 -- a text, without the line feed that it may begin with
 abbrev pub IsBehindFeed : List ℕ → List ℕ → Type 0

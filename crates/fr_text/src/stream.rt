@@ -21,11 +21,11 @@ pub struct Stream<'a> {
 
 impl<'a> Model for Stream<'a> {
     ghost use Rattle.std.specs.Prelude.{ℕ, List};
-    ghost use Rattle.fr_text.specs.Plain.{left_of};
+    ghost use Rattle.fr_text.specs.Plain.{records_left};
 
     ghost Value = { List (List (List ℕ)) };
 
-    ghost view = { λ a. left_of a.other a.rest.now };
+    ghost view = { λ a. records_left a.other a.rest.now };
 }
 
 // One call: a derived drop is opened in each function that drops a value, and proved there.
