@@ -11,10 +11,9 @@ use crate::fault::TraceFault;
 use crate::order::ends_with;
 use crate::rows::read_row;
 use crate::trace::Trace;
-use csv::ByteRecord;
 use fr_base::Reason;
 use fr_cluster::Params;
-use fr_text::{RowFault, Table, read_all};
+use fr_text::{Record, RecordTable, RowFault, read_records};
 use std::alloc::{AllocError, Global};
 
 // The trace under construction, with the parameters against which the records are read.
@@ -24,13 +23,13 @@ struct Reading<'a> {
     draft: Draft,
 }
 
-impl<'a> Table for Reading<'a> {
+impl<'a> RecordTable for Reading<'a> {
     ghost reason = { λ reading. trace_reason_after reading.params.now };
 
     ghost holds = { λ reading records.
         HoldsTrace (trace_reason_after reading.params.now) reading.draft records };
 
-    fn add(&mut self, row: &ByteRecord) -> Result<Option<Reason>, AllocError> {
+    fn add(&mut self, row: &Record<'_>) -> Result<Option<Reason>, AllocError> {
         let params = self.params;
         match read_row(row) {
             Err(why) => Ok(Some(why)),
@@ -55,7 +54,7 @@ pub fn read(alloc: Global, params: &Params, bytes: &[u8]) -> Result<Trace, Trace
         params,
         draft: Draft::new(alloc),
     };
-    match read_all(alloc, bytes, &mut reading) {
+    match read_records(alloc, bytes, &mut reading) {
         Ok(()) => {}
         Err(RowFault::Row { number, reason }) => return Err(TraceFault::Row { number, reason }),
         Err(RowFault::NoMemory) => return Err(TraceFault::NoMemory),

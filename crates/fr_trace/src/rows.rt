@@ -1,13 +1,12 @@
 ghost use Rattle.std.specs.Prelude.{◌≡◌, ◌≤ℤ◌, ◌&&◌, pos, negsuc, IfOk, IfSome};
-ghost use Rattle.csv.specs.Records.{fields_of};
+ghost use Rattle.fr_text.specs.Plain.{fields_of};
 ghost use Rattle.fr_text.specs.Fields.{is_blank};
 ghost use Rattle.fr_trace.specs.Rows.{IsProperTraceRow, traced_arbitrary_row, are_blank, traced_join_row, AreProperTerms, IsProperSpan, clock_in, clock_row, heard_row, offset_in, traced_rate_in, run_row, span_in, state_of, terms_in, trace_file_row, trace_row_of, value_in};
 
 use crate::trace::TracedJoin;
-use csv::ByteRecord;
 use fr_base::{Channel, NodeId, NodeRow, NumberFault, Reason, Slot, State, number};
 use fr_cluster::Join;
-use fr_text::{both, field, natural, reason_of};
+use fr_text::{Record, both, natural, reason_of};
 
 /// A deviation that a record says. The channel is None where the field names none: whether the nodes are
 /// known is asked before.
@@ -42,7 +41,7 @@ pub enum Row {
 
 /// What a record says, or the least of the reasons that it shows by itself: Shape, UnknownName,
 /// NotNumber, OutOfRange.
-pub fn read_row(row: &ByteRecord) -> Result<Row, Reason>
+pub fn read_row(row: &Record<'_>) -> Result<Row, Reason>
     ensures said { result ≡ trace_row_of (fields_of row.now) }
     ensures proper { IfOk result (λ said. IsProperTraceRow said) }
 {
@@ -50,14 +49,14 @@ pub fn read_row(row: &ByteRecord) -> Result<Row, Reason>
         return Err(Reason::Shape);
     }
     read_kind(
-        field(row, 0),
-        field(row, 1),
-        field(row, 2),
-        field(row, 3),
-        field(row, 4),
-        field(row, 5),
-        field(row, 6),
-        field(row, 7),
+        row.field(0),
+        row.field(1),
+        row.field(2),
+        row.field(3),
+        row.field(4),
+        row.field(5),
+        row.field(6),
+        row.field(7),
     )
 }
 

@@ -5,8 +5,8 @@ use Rattle.fr_text.proofs.Left.{records_of-few}
 use Rattle.fr_trace.proofs.Answering.{answers-fit, answers-read}
 use Rattle.fr_trace.proofs.reading.read.Goals as goal
 
-pub read_all-requires : goal.read_all-requires
-read_all-requires c = λ q sane same. c.new.ensures q
+pub read_records-requires : goal.read_records-requires
+read_records-requires c = λ q sane same. c.new.ensures q
 
 pub trace_of-requires : goal.trace_of-requires
 trace_of-requires c =

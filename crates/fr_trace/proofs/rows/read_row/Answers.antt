@@ -1,5 +1,5 @@
 use Rattle.std.proofs.Common.{rules, ◌≡◌, length, sym, ◌∙◌}
-use Rattle.csv.specs.Records.{fields_of}
+use Rattle.fr_text.specs.Plain.{fields_of}
 use Rattle.fr_trace.specs.Rows.{trace_row_of}
 use Rattle.fr_trace.proofs.RowFacts.{row_of-eight, kind_row-same}
 use Rattle.fr_trace.proofs.rows.read_row.Goals as goal

@@ -1,10 +1,10 @@
 use Rattle.std.proofs.Common.{◌≡◌, sym, Ok}
-use Rattle.csv.specs.Records.{fields_of}
+use Rattle.fr_text.specs.Plain.{fields_of}
 use Rattle.fr_text.proofs.Lookups.{takes-said}
 use Rattle.fr_trace.specs.Rows.{trace_row_of}
 use Rattle.fr_trace.specs.Reasons.{trace_reason_after, trace_row_reason}
 use Rattle.fr_trace.specs.Draft.{HoldsTrace}
-use Rattle.fr_trace.proofs.reading.ReadingTable.add.Goals as goal
+use Rattle.fr_trace.proofs.reading.ReadingRecordTable.add.Goals as goal
 
 pub returns-in-Ok-clause-takes : goal.returns-in-Ok-clause-takes
 returns-in-Ok-clause-takes c =
