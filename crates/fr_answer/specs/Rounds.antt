@@ -31,8 +31,9 @@ use Rattle.fr_trace.specs.ReadBack.{IsReadBack}
 use Rattle.fr_trace.specs.Trace.{TraceView}
 use Rattle.fr_verdict.specs.CoveredRuns.{IsPassing, IsSyncByTrace}
 
--- what is told of a run in the lines of a verdict, with a first double cycle in sync: how many nodes and arbitrary nodes and double
--- cycles there are, the precision, that double cycle, and the greatest skew with its first place
+-- what is told of a run in the lines of a verdict, with a first double cycle in sync or none: how many nodes and
+-- arbitrary nodes and double cycles there are, the precision, that double cycle or none, and the greatest skew with its
+-- first place
 abbrev pub verdict_of : Told → Option ℕ → List ℕ
 verdict_of told synced =
     line (codes "trace nodes " ++ decimal told.nodes ++ codes " arbitrary " ++ decimal told.arbitrary ++ codes " doubles " ++ decimal told.doubles)
@@ -40,8 +41,8 @@ verdict_of told synced =
     ++ line (sync_text synced)
     ++ shown (option_map greatest_line told.greatest)
 
--- a verdict and the report of a covered run tell the same, but that the first double cycle in sync that the verdict tells stands to
--- that of the report as is stated
+-- a verdict and the report of a covered run tell the same, but that the first double cycle in sync that the verdict
+-- tells, or that it tells none, stands to what the report tells as is stated
 pub record TellTheSame (AreSynced : Option ℕ → Option ℕ → Type 0) (verdict report : List ℕ) : Type 0 where
   pub told : Told
   pub covered : told.gap ≡ None
@@ -50,13 +51,14 @@ pub record TellTheSame (AreSynced : Option ℕ → Option ℕ → Type 0) (verdi
   pub are_synced : AreSynced told.synced synced
   pub judged : verdict ≡ verdict_of told synced
 
--- both tell the same one
+-- both tell the same one, or both tell none
 abbrev pub IsSameSync : Option ℕ → Option ℕ → Type 0
 IsSameSync reported synced = synced ≡ reported
 
--- a text is accepted as the file of one trace, which breaks no law and has no gap; there is a verdict on it, and each tells what the
--- report does: of the double cycles in sync the first one, from that of the report on, in which no node may follow by the trace; and
--- no line says that it is not lawful or not covered
+-- a text is accepted as the file of one trace, which breaks no law and has no gap; there is a verdict on it, and each
+-- tells what the report does, but for the first double cycle in sync: where the report tells one, the first one of the
+-- trace from there on in which no node may follow, or none where one may in each of these; where the report tells none,
+-- none. And no line says that the trace is not lawful or not covered
 pub record IsCheckedAs (p : Values) (traced report : List ℕ) : Type 0 where
   pub trace : TraceView
   pub read : IsReadBack p trace traced
@@ -77,7 +79,8 @@ WhatIsTracedIsChecked =
     → IsSane p → DriftFits p d → IsSoundScript p s → HasNoGap p d s
     → IsTraceText p d s traced → IsRunText p d s report → IsCheckedAs p traced report
 
--- and where no correct node joins, the verdict tells the first double cycle in sync of the report
+-- and where no correct node joins, the verdict tells the first double cycle in sync of the report, or none where the
+-- report tells none
 abbrev pub WhatIsTracedAloneIsChecked : Type 0
 WhatIsTracedAloneIsChecked =
     (p : Values) (d : DriftView) (s : ScriptView) (traced report : List ℕ) (t : TraceView) (verdict : List ℕ)

@@ -11,10 +11,12 @@ use fr_verdict::{
     a_verdict_tells_of_the_run, files_are_read_back, one_answer,
 };
 
-/// A law: of files without a gap, whoever joins, what `trace` writes is accepted by `check` as the file of one trace, which
-/// breaks no law and has no gap; and the verdict tells the precision and the greatest skew with its first place as the
-/// report of `run` of the same files does, and the first double cycle, from the report's first one in sync on, in which no
-/// node may follow by the trace. Where no correct node joins that is the report's own.
+/// A law: of files without a gap, whoever joins, what `trace` writes is accepted by `check` as the file of one trace,
+/// which breaks no law and has no gap; and the verdict tells how many nodes, arbitrary nodes and double cycles there
+/// are, the precision and the greatest skew with its first place as the report of `run` of the same files does. Where
+/// the report tells a double cycle in sync, the verdict tells the first one of the trace from there on in which no node
+/// may follow, or none where one may in each of these; where the report tells none it tells none. Where no correct node
+/// joins it tells the report's own, or none where the report tells none.
 pub fn what_is_traced_is_checked()
     ensures joined { WhatIsTracedIsChecked }
     ensures alone { WhatIsTracedAloneIsChecked }
@@ -29,8 +31,8 @@ pub fn what_is_traced_is_checked()
     a_passing_trace_keeps_its_precision();
 }
 
-/// A law: so it is by the bytes of three accepted files, and of the cluster of a seed, over 1 to 10,000 double cycles, whose
-/// texts are such files.
+/// A law: so it is, whoever joins, by the bytes of three accepted files, and of the cluster of a seed, over 1 to 10,000
+/// double cycles, whose texts are such files.
 pub fn traced_files_are_checked()
     ensures files { TracedFilesAreChecked }
     ensures made { MadeRunsAreChecked }

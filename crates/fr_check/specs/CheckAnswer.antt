@@ -15,8 +15,8 @@ use Rattle.fr_verdict.specs.declared.unlawful.Verdict.{Verdict}
 use Rattle.fr_check.specs.UnlawfulText.{unlawful_text}
 use Rattle.fr_check.specs.VerdictText.{verdict_text}
 
--- a trace is that of a lawful and covered run, from its first double cycle in sync on its clocks keep within the precision, and this
--- is the text of the verdict
+-- a trace is that of a lawful and covered run; from its first double cycle in sync on in which no node may follow, if
+-- there is one, its clocks keep within the precision; and this is the text of the verdict
 pub record IsVerdictText (params : Values) (trace : TraceView) (text : List ℕ) : Type 0 where
   pub verdict : Verdict
   pub answered : IsJudgement params trace (Ok verdict)

@@ -26,10 +26,10 @@ use fr_verdict::{Unlawful, Verdict, first_gap};
 /// Whether a trace of a cluster is that of a lawful run that the precision theorem covers.
 ///
 /// Ok exactly where no record breaks a law and no gap is there: then the first double cycle in sync in which no node
-/// that joins may follow, and the greatest skew of the recorded clocks in ticks with its first cycle and macrotick; and
-/// from that double cycle on its clocks keep within the precision, whoever joins. Else the first record that breaks a
-/// law, by its number and then by law, with what was kept and what was expected; or, where none does, the first gap. It
-/// takes no memory.
+/// that joins may follow, or that there is none, and the greatest skew of the recorded clocks in ticks with its first
+/// cycle and macrotick; and from that double cycle on, where there is one, its clocks keep within the precision,
+/// whoever joins. Else the first record that breaks a law, by its number and then by law, with what was kept and what
+/// was expected; or, where none does, the first gap. It takes no memory.
 pub fn check(params: &Params, trace: &Trace) -> Result<Verdict, Unlawful>
     requires fits { TraceFits params.now trace.now }
     ensures answer { IsJudgement params.now trace.now result }

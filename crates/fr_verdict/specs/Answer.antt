@@ -13,7 +13,7 @@ use Rattle.fr_verdict.specs.declared.unlawful.Unlawful.{Unlawful}
 use Rattle.fr_verdict.specs.declared.unlawful.Unlawful.TheVariants as unlawful
 use Rattle.fr_verdict.specs.declared.unlawful.Verdict.{Verdict}
 
--- the first double cycle in sync, in which none follows, or that there is none
+-- the first double cycle in sync, in which no node may follow, or that there is none
 abbrev pub IsSyncedFrom : Values → TraceView → Option ℕ → Type 0
 IsSyncedFrom p t None = (double : ℕ) → IsSyncedAt p t double → ⊥
 IsSyncedFrom p t (Some double) = IsFirstSynced p t double

@@ -50,14 +50,16 @@ pub record TellsGreatest (x : Setting) (h : Cycles) (v : Verdict) : Type 0 where
 abbrev pub VerdictsTellGreatest : Type 0
 VerdictsTellGreatest = (x : Setting) (h : Cycles) (v : Verdict) → IsVerdict x.params (trace_of_run x h) v → TellsGreatest x h v
 
--- the first double cycle, from one on, in which no node may follow by what a trace tells of those that join
+-- the first double cycle of a trace, from one on, in which no node may follow by what the trace tells of those that
+-- join
 pub record IsFirstClear (t : TraceView) (from double : ℕ) : Type 0 where
   pub later : from ≤ double
+  pub inside : double < t.doubles
   pub clear : may_follow t double ≡ false
   pub first : (k : ℕ) → from ≤ k → k < double → may_follow t k ≡ true
 
--- which double cycle a trace tells where a run tells one in sync in which none follows: the first clear one from there on, if
--- there is one; and none where the run has none
+-- which double cycle a trace tells where a run tells one in sync in which none follows: the first clear one of the
+-- trace from there on, or none where a node may follow in each of these; and none where the run tells none
 abbrev pub IsSyncByTrace : TraceView → Option ℕ → Option ℕ → Type 0
 IsSyncByTrace t None told = told ≡ None
 IsSyncByTrace t (Some from) None = (k : ℕ) → from ≤ k → k < t.doubles → may_follow t k ≡ true

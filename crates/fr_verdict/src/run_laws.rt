@@ -39,9 +39,11 @@ pub fn a_covered_run_passes()
     ensures passes { CoveredRunsPass }
 {}
 
-/// A law: a verdict on the trace of a run tells the greatest skew of the run, with its first place. Of a covered run it
-/// tells the first double cycle, from the first one in sync on in which none follows, in which none may follow by what the
-/// trace tells; where no node joins that is the first one in sync itself, covered or not.
+/// A law: a verdict on the trace of a run tells the greatest skew of the run, with its first place. Of a covered run
+/// that has a double cycle in sync in which none follows it tells the first one of the run, from the first such one on,
+/// in which none may follow by what the trace tells, or none where one may in each of these; of a covered run that has
+/// none it tells none. Where no node joins it tells the first one in sync of the run itself, or none where there is
+/// none, covered or not.
 pub fn a_verdict_tells_of_the_run()
     ensures greatest { VerdictsTellGreatest }
     ensures synced { VerdictsTellSync }

@@ -56,7 +56,7 @@ pub enum Unlawful {
 /// What is said of a lawful and covered trace.
 #[derive(Clone, Copy, Debug, PartialEq, Eq)]
 pub struct Verdict {
-    /// The first double cycle in sync, in which no node that joins may follow.
+    /// The first double cycle in sync, in which no node that joins may follow; None where there is none.
     pub synced: Option<u32>,
     /// The greatest skew of its clocks, in ticks.
     pub skew: i64,

@@ -1,6 +1,6 @@
--- The files of two runs that nodes join: of three nodes with nominal clocks, one of which joins; and of five nodes on two channels
--- beside an arbitrary one, two of which join, with uneven clocks, delays that are not the nominal ones, and frames that are lost or
--- come with a bit inverted.
+-- The files of two runs that nodes join: of three nodes with nominal clocks, one of which joins; and of five nodes on
+-- two channels beside an arbitrary one, two of which join, with uneven clocks, delays that are not the nominal ones,
+-- one frame that is lost, and one that comes with a bit inverted.
 use Rattle.std.specs.Prelude.{pos, neg_ℤ, true, false, [], ◌∷◌, ◌++◌, None, Some, replicate, codes}
 use Rattle.fr_drift.specs.Keys.{delay_key, length_key}
 use Rattle.fr_history.specs.Worked.{roomy_cluster}
@@ -25,9 +25,10 @@ joined_files = record {
   };
 }
 
--- in five double cycles node 4, which is arbitrary, says its frame too late to node 1, too early to node 2, and something else to node
--- 3. Of frames of node 2 to node 3 one is lost, one of node 3 to node 1 comes with its eleventh bit inverted. Node 5 listens to node 1
--- from the beginning, node 6 to node 2 in double cycle 1
+-- five double cycles: in the first one node 4, which is arbitrary, says its frame too late to node 1 and too early to
+-- node 2 on channel A, and bytes that are no frame to node 3 on channel B. A frame of node 2 to node 3 is lost, one of
+-- node 3 to node 1 comes with its eleventh bit inverted. Node 5 listens to node 1 from the beginning, node 6 to node 2
+-- in double cycle 1
 abbrev pub uneven_files : RunFiles
 uneven_files = record {
   params = small_cluster;
