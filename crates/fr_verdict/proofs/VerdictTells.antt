@@ -92,9 +92,10 @@ verdicts-tell-sync x h v w is = by (first_unfollowed_sync_of x.params h) refl v.
         let whole = w.whole in
         let same = long (told_of h) in
         let tells = told_length h in
+        let within : double < x.doubles = omega (arith, below, whole, same, tells) in
         record {
           later = no-later from double (λ lt. first.first double lt there);
-          inside = omega (arith, below, whole, same, tells);
+          inside = within;
           clear = told.synced.none_follows;
           first = λ k later lt. may-or-not (trace_of_run x h) k (λ clear. told.first k lt (synced from first k later (omega (arith, below, whole, same, tells, lt)) clear));
         }
