@@ -74,7 +74,7 @@ const POWER: &[(PowerFault, &str)] = &[
 ];
 
 // The place of the first of these that says something else.
-fn first_other<F: Display>(
+pub fn first_other<F: Display>(
     alloc: Global,
     faults: &[(F, &str)],
 ) -> Result<Option<usize>, AllocError> {

@@ -1,5 +1,5 @@
-//! Tests of what calls answer of files that are read, and of how files of records are read. What the readers take and
-//! refuse, `tools/try-cases` tries through the program. Nothing stands on this crate.
+//! Tests of what calls answer of files that are read, of how files of records are read, and of the reader of logs. What
+//! the other readers take and refuse, `tools/try-cases` tries through the program. Nothing stands on this crate.
 #![tactic(auto)]
 
 #[cfg(test)]
@@ -8,6 +8,12 @@ mod coverage;
 mod drift;
 #[cfg(test)]
 mod faults;
+#[cfg(test)]
+mod lines;
+#[cfg(test)]
+mod log;
+#[cfg(test)]
+mod moves;
 #[cfg(test)]
 mod params;
 #[cfg(test)]

@@ -60,6 +60,69 @@ fn is_kept(pool: &mut Pool) -> bool {
     }
 }
 
+// A place in a cell, what stands there in one cell and in another, and what is written in the first once it is copied.
+type Copying = (usize, u8, u8, u8);
+
+const COPIES: &[Copying] = &[(0, 7, 5, 1), (131, 255, 0, 254), (263, 0, 8, 9)];
+
+// Whether a cell has all bytes of another once that is copied into it, and keeps them where it is copied to itself and the
+// other is written.
+fn copies(pool: &mut Pool, from: &Cell, to: &Cell, row: &Copying) -> bool
+    requires from { IsOut pool.old from.now }
+    requires to { IsOut pool.old to.now }
+    ensures { pool.new.out ≡ pool.old.out }
+{
+    let (place, byte, other, later) = *row;
+    if 264 <= place {
+        return false;
+    }
+    pool.write(from)[place] = byte;
+    pool.write(to)[place] = other;
+    pool.copy(from, to);
+    let same = pool.read(from) == pool.read(to);
+    pool.copy(to, to);
+    pool.write(from)[place] = later;
+    same && pool.read(from)[place] == later && pool.read(to)[place] == byte
+}
+
+// The same with a second cell that is taken.
+fn copies_from(pool: &mut Pool, from: &Cell, row: &Copying) -> bool
+    requires { IsOut pool.old from.now }
+    ensures { pool.new.out ≡ pool.old.out }
+{
+    match pool.take() {
+        None => false,
+        Some(to) => {
+            let copied = copies(pool, from, &to, row);
+            pool.give(to);
+            copied
+        }
+    }
+}
+
+// The same in a pool of two cells.
+fn is_copied(alloc: Global, row: &Copying) -> Result<bool, PoolFault> {
+    let mut pool = Pool::new(alloc, 2)?;
+    match pool.take() {
+        None => Ok(false),
+        Some(from) => {
+            let copied = copies_from(&mut pool, &from, row);
+            pool.give(from);
+            Ok(copied)
+        }
+    }
+}
+
+// The place of the first row that comes otherwise.
+fn first_copy(alloc: Global) -> Result<Option<usize>, PoolFault> {
+    for (place, row) in COPIES.iter().enumerate() {
+        if !is_copied(alloc, row)? {
+            return Ok(Some(place));
+        }
+    }
+    Ok(None)
+}
+
 // Whether a pool holds so many cells, twice, and of two keeps the bytes of one that stays out.
 fn is_pool(alloc: Global, cells: u32) -> Result<bool, PoolFault> {
     if cells < 1 || cells > 4096 {
@@ -74,5 +137,11 @@ fn cells_are_taken_and_no_more(rt: HostRuntime) -> Result<(), Fail> {
     for cells in [2, 4096] {
         assert!(rt; is_pool(rt.alloc(), cells)?);
     }
+    Ok(())
+}
+
+#[test]
+fn cells_are_copied(rt: HostRuntime) -> Result<(), Fail> {
+    assert_eq!(rt; first_copy(rt.alloc())?, None);
     Ok(())
 }
