@@ -78,6 +78,11 @@ swept-next {X = X} f xs ys i x lt swept at = at ∙ ap (λ (zs : List X). get_or
     rest f (x ∷ xs) zero d lt = refl
     rest f (x ∷ xs) (suc i) d lt = rest f xs i d (omega arith)
 
+-- of none none is stepped
+pub swept-none : {X : Type 0} (f : X → X) (xs : List X) → length xs ≡ 0 → xs ≡ map f xs
+swept-none f [] none = refl
+swept-none f (x ∷ xs) none = absurd (omega arith)
+
 -- one more is stepped
 pub swept-more : {X : Type 0} (f : X → X) (xs ys : List X) (i : ℕ) (x new : X) → i < length xs → ys ≡ map f (take i xs) ++ drop i xs → x ≡ get_or ys i x → new ≡ f x →
     set ys i new ≡ map f (take (i + 1) xs) ++ drop (i + 1) xs

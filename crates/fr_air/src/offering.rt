@@ -185,6 +185,9 @@ pub fn offer_to_followers(
     ensures ready { All (IsReady files.now air.now.turn.now.cycle) followers.new }
     ensures stays { memory.new ≡ memory.old }
 {
+    if followers.is_empty() {
+        return;
+    }
     let mut uncounted = Counts::none();
     offer_to_all(files, air, memory, followers, &mut uncounted);
 }

@@ -1,5 +1,5 @@
 -- What is made of a frame in a slot of a cycle: all receivers that it reaches in the slot make the same of it.
-use Rattle.std.specs.Prelude.{◌≡◌, ℕ, ℤ, not, ◌||◌, ◌==◌, is_none, Result, Ok, Err, if◌then◌else◌}
+use Rattle.std.specs.Prelude.{ℕ, ℤ, not, ◌||◌, ◌==◌, is_none, Result, Ok, Err, if◌then◌else◌}
 use Rattle.fr_base.specs.declared.node_row.NodeRow.{NodeRow}
 use Rattle.fr_cluster.specs.Values.{Values, amount}
 use Rattle.fr_cluster.specs.Questions.{key_index_of}

@@ -4,7 +4,7 @@ ghost use Rattle.fr_base.specs.Within.{IsBetween, IsWithin};
 ghost use Rattle.fr_cluster.specs.Values.{amount};
 ghost use Rattle.fr_cluster.specs.declared.names.ParamName.TheVariants as name;
 ghost use Rattle.fr_frame.specs.Reading.{read_as};
-ghost use Rattle.fr_time.specs.Instant.{slot_begins, slot_ends, IsInCycle, IsSlotOf};
+ghost use Rattle.fr_time.specs.Instant.{IsInCycle, IsSlotOf};
 ghost use Rattle.fr_time.specs.Position.{floor_of};
 ghost use Rattle.fr_time.specs.Slots.{slot_end_of, slot_start_of};
 ghost use Rattle.fr_reception.specs.Offers.{deviation_of};
@@ -197,7 +197,7 @@ fn bounds_of(params: &Params, slot: Slot) -> (u64, u64)
 }
 
 // Whether a frame lies in its slot by more than a microtick, which takes no division. Most that are heard do.
-fn is_well_within(params: &Params, row: &NodeRow, slot: Slot, at: i64) -> bool
+pub(crate) fn is_well_within(params: &Params, row: &NodeRow, slot: Slot, at: i64) -> bool
     requires slot { IsSlotOf params.now row.now slot }
     ensures { result ≡ true → LiesInSlot params.now row.now slot at }
 {
@@ -210,46 +210,36 @@ fn is_well_within(params: &Params, row: &NodeRow, slot: Slot, at: i64) -> bool
     lies_between(begin, end, micros, macros, length_of(row), ticks)
 }
 
-// The instants at which a static slot begins and ends at a node. It is rarely asked.
-#[inline(never)]
-fn instants_of(params: &Params, row: &NodeRow, slot: Slot) -> (i64, i64)
-    requires { IsSlotOf params.now row.now slot }
-    ensures value { result ≡ (slot_begins params.now row.now slot, slot_ends params.now row.now slot) }
-    ensures begins { IsInCycle row.now result.0 }
-    ensures ends { IsInCycle row.now result.1 }
-{
-    slot_instants(params, row, slot)
-}
-
 // The instants at which its slot begins and ends at a node, where a frame does not arrive between them.
-fn outside(params: &Params, row: &NodeRow, slot: Slot, at: i64) -> Option<(i64, i64)>
-    requires slot { IsSlotOf params.now row.now slot }
+pub(crate) fn outside(params: &Params, row: &NodeRow, slot: Slot, at: i64) -> Option<(i64, i64)>
+    requires { IsSlotOf params.now row.now slot }
     ensures out { IfSome result (LiesOutside params.now row.now slot at) }
     ensures within { IfNone result (LiesInSlot params.now row.now slot at) }
 {
-    if is_well_within(params, row, slot, at) {
-        return None;
-    }
-    let (from, to) = instants_of(params, row, slot);
+    let (from, to) = slot_instants(params, row, slot);
     if at < from || at >= to {
         return Some((from, to));
     }
     None
 }
 
-// The answer of a node with this row to a frame of which this is made where it arrives in its slot.
+// The answer of a node with this row to a frame of which this is made where it arrives in its slot. Where it does not, the
+// instants are given at which the slot begins and ends at the node.
 #[inline(always)]
 pub(crate) fn answer(
     params: &Params,
     row: &NodeRow,
     arrival: Arrival,
+    missed: Option<(i64, i64)>,
     reception: &Reception,
 ) -> Heard
-    requires { IsSlotOf params.now row.now arrival.slot }
+    requires slot { IsSlotOf params.now row.now arrival.slot }
+    requires out { IfSome missed (LiesOutside params.now row.now arrival.slot arrival.at) }
+    requires within { IfNone missed (LiesInSlot params.now row.now arrival.slot arrival.at) }
     ensures value { result ≡ answer_with params.now row.now (offer_with arrival []) reception.now }
     ensures within { IfStored result (IsWithin (pos 1000000)) }
 {
-    if let Some((from, to)) = outside(params, row, arrival.slot, arrival.at) {
+    if let Some((from, to)) = missed {
         return Heard::Ignored(Ignored::Outside {
             arrival: arrival.at,
             from,

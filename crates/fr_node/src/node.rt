@@ -1,16 +1,16 @@
-ghost use Rattle.std.specs.Prelude.{◌≡◌, ℕ, ◌<◌, pos, true, List, [], Some, IsSome, IsNone, if◌then◌else◌};
+ghost use Rattle.std.specs.Prelude.{◌≡◌, ℕ, ◌<◌, pos, true, List, [], Some, IfNone, IfSome, IsSome, IsNone, if◌then◌else◌};
 ghost use Rattle.fr_base.specs.Timed.{IsLength, IsTimed};
 ghost use Rattle.fr_base.specs.Within.{IsBetween, IsWithin};
 ghost use Rattle.fr_measure.specs.Readings.{no_readings, reading};
 ghost use Rattle.fr_time.specs.Cycles.{is_odd};
-ghost use Rattle.fr_time.specs.Instant.{KeepsLimits};
+ghost use Rattle.fr_time.specs.Instant.{IsSlotOf, KeepsLimits};
 ghost use Rattle.fr_cluster.specs.Questions.{node_of};
 ghost use Rattle.fr_cluster.specs.Values.{Values};
 ghost use Rattle.fr_frame.specs.Reading.{read_as};
 ghost use Rattle.fr_reception.specs.Answers.{answer_of};
 ghost use Rattle.fr_correct.specs.Terms.{is_uncut};
 
-use crate::answers::{Arrival, Reception, answer, read, received};
+use crate::answers::{Arrival, Reception, answer, is_well_within, outside, read, received};
 use crate::corrections::{cut_count, offset_term_from, rate_term_from};
 use crate::own::{own_key_index, poc_limits};
 use fr_base::{Channel, NodeId, NodeRow, Outcome, Slot, State};
@@ -60,7 +60,7 @@ impl Node {
     ghost use Rattle.fr_correct.specs.Terms.{are_uncut};
     ghost use Rattle.fr_node.specs.Fits.{AreTermsOf};
     ghost use Rattle.fr_node.specs.Listening.{follower_of};
-    ghost use Rattle.fr_node.specs.Arrivals.{IfStored};
+    ghost use Rattle.fr_node.specs.Arrivals.{IfStored, LiesInSlot, LiesOutside};
     ghost use Rattle.fr_node.specs.Receptions.{answer_with, reception_of};
 
     /// A node before cycle 0: active, with no deviation. The start of cycle 0 is in ticks, the rate term in
@@ -333,7 +333,41 @@ impl Node {
         ensures within { IfStored result (IsWithin (pos 1000000)) }
     {
         let row = self.row();
-        answer(params, &row, Arrival { slot, channel, at }, reception)
+        let missed = self.missed(params, &row, slot, at);
+        answer(
+            params,
+            &row,
+            Arrival { slot, channel, at },
+            missed,
+            reception,
+        )
+    }
+
+    // The instants at which a static slot begins and ends, where a frame does not arrive between them.
+    #[inline(always)]
+    fn missed(&self, params: &Params, row: &NodeRow, slot: Slot, at: i64) -> Option<(i64, i64)>
+        requires started { IsSome self.now.length }
+        requires row { row.now ≡ node_row_of self.now }
+        requires slot { IsSlotOf params.now row.now slot }
+        ensures out { IfSome result (LiesOutside params.now row.now slot at) }
+        ensures within { IfNone result (LiesInSlot params.now row.now slot at) }
+    {
+        if is_well_within(params, row, slot, at) {
+            return None;
+        }
+        self.missed_late(params, slot, at)
+    }
+
+    // The same by these instants. It is rarely asked, and takes no row, which then need not lie in memory.
+    #[inline(never)]
+    fn missed_late(&self, params: &Params, slot: Slot, at: i64) -> Option<(i64, i64)>
+        requires started { IsSome self.now.length }
+        requires slot { IsSlotOf params.now (node_row_of self.now) slot }
+        ensures out { IfSome result (LiesOutside params.now (node_row_of self.now) slot at) }
+        ensures within { IfNone result (LiesInSlot params.now (node_row_of self.now) slot at) }
+    {
+        let early = self.row();
+        outside(params, &early, slot, at)
     }
 
     // Keeps the deviation that an answer stores.
