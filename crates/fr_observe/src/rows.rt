@@ -1,0 +1,186 @@
+ghost use Rattle.std.specs.Prelude.{◌≡◌, IfSome};
+ghost use Rattle.std.specs.Fmt.{decimal};
+ghost use Rattle.fr_course.specs.Near.{IsScale};
+ghost use Rattle.fr_text.specs.Pieces.{Spells};
+ghost use Rattle.fr_observe.specs.Observing.{cycle_row, cycles_row, even_row, known, known_count, log_row, node_row, odd_row, precision_row, terms_of};
+ghost use Rattle.fr_observe.specs.Ranges.{IsProperSender};
+
+use crate::counts::Counts;
+use crate::says::Says;
+use crate::sender::Sender;
+use crate::sighting::{Sighting, Tally};
+use fr_course::{Interval, Scale, offset_seen};
+use fr_text::Piece::{Natural, Signed, Word};
+use fr_text::{Line, Piece, row_of};
+
+// A number, if it is known.
+fn known(number: Option<i64>) -> Piece<'static>
+    ensures { Spells result (known number) 20 }
+{
+    match number {
+        None => Word(b"-"),
+        Some(number) => Signed(number),
+    }
+}
+
+fn known_count(number: Option<u64>) -> Piece<'static>
+    ensures { Spells result (known_count number) 20 }
+{
+    match number {
+        None => Word(b"-"),
+        Some(number) => Natural(number),
+    }
+}
+
+// The precision, in ticks.
+pub(crate) fn precision_row(precision: i64) -> Line
+    ensures { result ≡ precision_row precision }
+{
+    row_of(
+        b"precision",
+        &[
+            Signed(precision),
+            Word(b""),
+            Word(b""),
+            Word(b""),
+            Word(b""),
+            Word(b""),
+            Word(b""),
+        ],
+    )
+}
+
+// A cycle: how many nodes sent, and the limits of their skew in ticks.
+#[tactic(auto, unfolding(crate::specs::Observing::cycle_row))]
+pub(crate) fn cycle_row(
+    precision: i64,
+    cycle: u32,
+    senders: usize,
+    low: i64,
+    high: Option<i64>,
+) -> Line
+    ensures { result ≡ cycle_row precision cycle senders low high }
+{
+    row_of(
+        b"cycle",
+        &[
+            Natural(u64::from(cycle)),
+            Natural(senders as u64),
+            Signed(low),
+            known(high),
+            Word(Says::of(precision, low, high).word()),
+            Word(b""),
+            Word(b""),
+        ],
+    )
+}
+
+// The limits of the offset term of a sender, in microticks.
+#[tactic(auto, unfolding(crate::specs::Observing::terms_of))]
+fn terms_of(scale: &Scale, sender: &Sender) -> Option<Interval>
+    requires scale { IsScale scale.now }
+    requires sender { IsProperSender scale.now sender.now }
+    ensures value { result ≡ terms_of scale.now sender.now }
+    ensures near { IfSome result (LieWithin (pos 6_000_000_000_000_000_000)) }
+{
+    match sender.next {
+        None => None,
+        Some(next) => Some(offset_seen(scale, &sender.course, &next, sender.onward)),
+    }
+}
+
+fn low_of(term: Option<Interval>) -> Option<i64>
+    requires { IfSome term (LieWithin (pos 6_000_000_000_000_000_000)) }
+    ensures { result ≡ option_map (λ t. t.low) term }
+{
+    match term {
+        None => None,
+        Some(term) => Some(term.low as i64),
+    }
+}
+
+fn high_of(term: Option<Interval>) -> Option<i64>
+    requires { IfSome term (LieWithin (pos 6_000_000_000_000_000_000)) }
+    ensures { result ≡ option_map (λ t. t.high) term }
+{
+    match term {
+        None => None,
+        Some(term) => Some(term.high as i64),
+    }
+}
+
+// A sender: the limits of the length of its cycles, and of its offset term.
+#[tactic(auto, unfolding(crate::specs::Observing::node_row))]
+pub(crate) fn node_row(scale: &Scale, double: u32, sender: &Sender) -> Line
+    requires scale { IsScale scale.now }
+    requires sender { IsProperSender scale.now sender.now }
+    ensures { result ≡ node_row scale.now double sender.now }
+{
+    let term = terms_of(scale, sender);
+    row_of(
+        b"node",
+        &[
+            Natural(u64::from(double)),
+            Natural(u64::from(sender.node.0)),
+            Signed(sender.course.length.low as i64),
+            Signed(sender.course.length.high as i64),
+            known(low_of(term)),
+            known(high_of(term)),
+            Word(b""),
+        ],
+    )
+}
+
+// What became of the entries of a log.
+pub(crate) fn log_row(tally: &Tally) -> Line
+    ensures { result ≡ log_row tally.now }
+{
+    row_of(
+        b"log",
+        &[
+            Natural(tally.judged),
+            Natural(tally.damaged),
+            Natural(tally.arbitrary),
+            Natural(tally.other),
+            Natural(tally.stray),
+            Natural(tally.behind),
+            Word(b""),
+        ],
+    )
+}
+
+fn first_cycle(seen: &[Sighting]) -> Option<u64>
+    ensures { result ≡ first_cycle seen.now }
+{
+    match seen.first() {
+        None => None,
+        Some(first) => Some(2 * u64::from(first.number / 2)),
+    }
+}
+
+fn last_cycle(seen: &[Sighting]) -> Option<u64>
+    ensures { result ≡ last_cycle seen.now }
+{
+    match seen.last() {
+        None => None,
+        Some(last) => Some(2 * u64::from(last.number / 2) + 1),
+    }
+}
+
+// The first and the last cycle with a row, and how many of them say what.
+pub(crate) fn cycles_row(seen: &[Sighting], counts: &Counts) -> Line
+    ensures { result ≡ cycles_row seen.now counts.now }
+{
+    row_of(
+        b"cycles",
+        &[
+            known_count(first_cycle(seen)),
+            known_count(last_cycle(seen)),
+            Natural(counts.within),
+            Natural(counts.over),
+            Natural(counts.neither),
+            Word(b""),
+            Word(b""),
+        ],
+    )
+}

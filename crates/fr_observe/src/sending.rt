@@ -1,0 +1,199 @@
+ghost use Rattle.std.specs.Prelude.{◌≡◌, ◌≤◌, ◌<◌, ◌++◌, ℤ, pos, All, IfSome, Some, length, slice_get};
+ghost use Rattle.std.specs.Option.{option_to_list};
+ghost use Rattle.arrayvec.specs.ArrayVec.{array_vec_len};
+ghost use Rattle.fr_cluster.specs.Values.{amount};
+ghost use Rattle.fr_cluster.specs.declared.names.ParamName.TheVariants as name;
+ghost use Rattle.fr_course.specs.Readings.{Scale as Measure};
+ghost use Rattle.fr_time.specs.Slots.{action_point_of};
+ghost use Rattle.fr_observe.specs.Ranges.{AreTimed, HasStaticKey, IsCourseAt, IsProperSender, IsScaleOf};
+ghost use Rattle.fr_observe.specs.Senders.{course_in, if_there, own_slot, sender_by, sender_in, senders_in};
+
+use crate::intervals::{box_in, span_in};
+use crate::sender::Sender;
+use crate::sighting::Sighting;
+use arrayvec::ArrayVec;
+use fr_base::{NodeId, ROW_ROOM, Slot};
+use fr_cluster::{NodeSpec, Params};
+use fr_course::{Course, Scale, course_from, is_there};
+use fr_log::Log;
+use fr_time::action_point;
+
+// The course of a node that sends in a slot, by the sightings of a double cycle.
+#[tactic(auto, unfolding(crate::specs::Senders::course_in))]
+fn course_in(
+    scale: &Scale,
+    params: &Params,
+    log: &Log,
+    seen: &[Sighting],
+    double: u32,
+    node: NodeId,
+    slot: Slot,
+) -> Option<Course>
+    requires scale { IsScaleOf params.now scale.now }
+    requires seen { AreTimed log.now seen.now }
+    requires double { double ≤ 1_000_000 }
+    requires slot { slot ≤ amount params.now name.gNumberOfStaticSlots }
+    ensures value { result ≡ course_in scale.now params.now log.now seen.now double node slot }
+    ensures proper { IfSome result (IsCourseAt scale.now (pos (action_point_of params.now slot))) }
+{
+    let (even, odd) = (2 * double, 2 * double + 1);
+    course_from(
+        scale,
+        i128::from(action_point(params, slot)),
+        box_in(log, seen, node, even),
+        box_in(log, seen, node, odd),
+        span_in(log, seen, seen, node, even, odd),
+    )
+}
+
+fn if_there(course: Option<Course>) -> Option<Course>
+    ensures value { result ≡ if_there course }
+    ensures proper { (scale : Measure) (action : ℤ) → IfSome course (IsCourseAt scale action) →
+        IfSome result (IsCourseAt scale action) }
+{
+    match course {
+        None => None,
+        Some(course) => {
+            if is_there(&course) {
+                Some(course)
+            } else {
+                None
+            }
+        }
+    }
+}
+
+// That course, where something lies in each of its intervals.
+fn known_course(
+    scale: &Scale,
+    params: &Params,
+    log: &Log,
+    seen: &[Sighting],
+    double: u32,
+    node: NodeId,
+    slot: Slot,
+) -> Option<Course>
+    requires scale { IsScaleOf params.now scale.now }
+    requires seen { AreTimed log.now seen.now }
+    requires double { double ≤ 1_000_000 }
+    requires slot { slot ≤ amount params.now name.gNumberOfStaticSlots }
+    ensures value { result ≡ if_there (course_in scale.now params.now log.now seen.now double node slot) }
+    ensures proper { IfSome result (IsCourseAt scale.now (pos (action_point_of params.now slot))) }
+{
+    if_there(course_in(scale, params, log, seen, double, node, slot))
+}
+
+// A node that sends in a slot, if it has a course in a double cycle.
+fn sender_by(
+    scale: &Scale,
+    params: &Params,
+    log: &Log,
+    here: &[Sighting],
+    next: &[Sighting],
+    double: u32,
+    node: NodeId,
+    slot: Slot,
+) -> Option<Sender>
+    requires scale { IsScaleOf params.now scale.now }
+    requires here { AreTimed log.now here.now }
+    requires next { AreTimed log.now next.now }
+    requires double { double < 1_000_000 }
+    requires slot { slot ≤ amount params.now name.gNumberOfStaticSlots }
+    ensures value { result ≡ sender_by scale.now params.now log.now here.now next.now double node slot }
+    ensures proper { IfSome result (IsProperSender scale.now) }
+{
+    match known_course(scale, params, log, here, double, node, slot) {
+        None => None,
+        Some(course) => Some(Sender {
+            node,
+            course,
+            next: known_course(scale, params, log, next, double + 1, node, slot),
+            onward: span_in(log, here, next, node, 2 * double + 1, 2 * double + 2),
+        }),
+    }
+}
+
+// The slot in which a correct node sends sync frames.
+fn own_slot(log: &Log, node: &NodeSpec) -> Option<Slot>
+    ensures { result ≡ own_slot log.now node.now }
+{
+    if log.is_arbitrary(node.id) {
+        None
+    } else {
+        node.key
+    }
+}
+
+// A node, if it is a sender of a double cycle.
+#[tactic(auto, unfolding(crate::specs::Senders::sender_in))]
+fn sender_in(
+    scale: &Scale,
+    params: &Params,
+    log: &Log,
+    here: &[Sighting],
+    next: &[Sighting],
+    double: u32,
+    node: &NodeSpec,
+) -> Option<Sender>
+    requires scale { IsScaleOf params.now scale.now }
+    requires here { AreTimed log.now here.now }
+    requires next { AreTimed log.now next.now }
+    requires double { double < 1_000_000 }
+    requires node { HasStaticKey params.now node.now }
+    ensures value { result ≡ sender_in scale.now params.now log.now here.now next.now double node.now }
+    ensures proper { IfSome result (IsProperSender scale.now) }
+{
+    match own_slot(log, node) {
+        None => None,
+        Some(slot) => sender_by(scale, params, log, here, next, double, node.id, slot),
+    }
+}
+
+// The node at a place; its key slot is a static one.
+fn node_at(params: &Params, place: usize) -> &NodeSpec
+    requires { place < length params.now.nodes }
+    ensures value { slice_get params.now.nodes place ≡ Some result.now }
+    ensures key { HasStaticKey params.now result.now }
+{
+    match params.nodes.get(place) {
+        Some(node) => node,
+        None => unreachable!(),
+    }
+}
+
+fn keep(sender: Option<Sender>, senders: &mut ArrayVec<Sender, ROW_ROOM>)
+    requires { array_vec_len senders.old < 64 }
+    ensures { senders.new.items ≡ senders.old.items ++ option_to_list sender }
+{
+    if let Some(sender) = sender {
+        senders.push(sender);
+    }
+}
+
+// The senders of a double cycle, by its sightings and those of the next one.
+#[tactic(auto, unfolding(crate::specs::Senders::senders_in))]
+pub(crate) fn senders_in(
+    scale: &Scale,
+    params: &Params,
+    log: &Log,
+    here: &[Sighting],
+    next: &[Sighting],
+    double: u32,
+) -> ArrayVec<Sender, ROW_ROOM>
+    requires scale { IsScaleOf params.now scale.now }
+    requires here { AreTimed log.now here.now }
+    requires next { AreTimed log.now next.now }
+    requires double { double < 1_000_000 }
+    ensures value { result.items ≡ senders_in scale.now params.now log.now here.now next.now double }
+    ensures proper { All (IsProperSender scale.now) result.items }
+{
+    let mut senders = ArrayVec::new();
+    for place in 0..params.nodes.len() {
+        let node = node_at(params, place);
+        keep(
+            sender_in(scale, params, log, here, next, double, node),
+            &mut senders,
+        );
+    }
+    senders
+}
