@@ -8,7 +8,7 @@ use Rattle.fr_base.specs.declared.sink.PutFault.{PutFault}
 use Rattle.fr_base.proofs.Putting.{cut, then}
 use Rattle.fr_cluster.specs.Values.{Values}
 use Rattle.fr_log.specs.View.{LogView}
-use Rattle.fr_course.specs.Readings.{Scale}
+use Rattle.fr_course.specs.declared.scales.Scale.{Scale}
 use Rattle.fr_observe.specs.Observing.{both_say, counted, double_text, doubles_say, doubles_text, is_open, is_over, is_within, senders_of}
 use Rattle.fr_observe.specs.Ranges.{AreFew}
 use Rattle.fr_observe.specs.Senders.{senders_in, sightings_in}

@@ -7,8 +7,8 @@ use Rattle.fr_cluster.specs.declared.nodes.NodeSpec.{NodeSpec}
 use Rattle.fr_log.specs.Rows.{last_stamp}
 use Rattle.fr_log.specs.View.{LogView}
 use Rattle.fr_course.specs.Near.{IsNearCourse, IsScale, IsSpan}
-use Rattle.fr_course.specs.Course.{Course}
-use Rattle.fr_course.specs.Readings.{Scale}
+use Rattle.fr_course.specs.declared.courses.Course.{Course}
+use Rattle.fr_course.specs.declared.scales.Scale.{Scale}
 use Rattle.fr_observe.specs.Observing.{even_high, even_low, odd_high, odd_low}
 use Rattle.fr_observe.specs.Senders.{double_of}
 use Rattle.fr_observe.specs.declared.counts.Counts.{Counts}

@@ -12,8 +12,13 @@ use Rattle.fr_time.specs.Cycles.{double_cycle_of}
 use Rattle.fr_time.specs.Slots.{action_point_of}
 use Rattle.fr_log.specs.View.{LogView, delay_limits_of, is_arbitrary_in, jitter_of}
 use Rattle.fr_log.specs.declared.rows.DelayLimits.{DelayLimits}
-use Rattle.fr_course.specs.Readings.{meet_all, Interval, Scale}
-use Rattle.fr_course.specs.Course.{course_from, is_there, span_of, stamped, Course, Delays, Observer}
+use Rattle.fr_course.specs.Readings.{meet_all}
+use Rattle.fr_course.specs.declared.intervals.Interval.{Interval}
+use Rattle.fr_course.specs.declared.scales.Scale.{Scale}
+use Rattle.fr_course.specs.Course.{course_from, is_there, span_of, stamped}
+use Rattle.fr_course.specs.declared.courses.Course.{Course}
+use Rattle.fr_course.specs.declared.stamps.Delays.{Delays}
+use Rattle.fr_course.specs.declared.stamps.Observer.{Observer}
 use Rattle.fr_observe.specs.declared.sender.Sender.{Sender}
 use Rattle.fr_observe.specs.declared.sighting.Sighting.{Sighting}
 

@@ -13,7 +13,7 @@ pub(crate) struct CourseList {
 
 impl Model for CourseList {
     ghost use Rattle.std.specs.Prelude.{◌≤◌, List, take};
-    ghost use Rattle.fr_course.specs.Course.{Course as Known};
+    ghost use Rattle.fr_course.specs.declared.courses.Course.{Course as Known};
 
     ghost Value = { List Known };
 

@@ -1,5 +1,6 @@
-ghost use Rattle.std.specs.Prelude.{◌≡◌, ◌*◌, ◌≤◌, IfSome};
-ghost use Rattle.fr_course.specs.Near.{AreDelays, IsBox, IsObserver, IsSpan};
+ghost use Rattle.std.specs.Prelude.{◌≡◌, ◌==◌, ◌*◌, ◌≤◌, ℤ, IfSome};
+ghost use Rattle.fr_base.specs.Rows.{channel_rank};
+ghost use Rattle.fr_course.specs.Near.{AreDelays, IsBox, IsObserver, IsSpan, LieBetween};
 ghost use Rattle.fr_log.specs.Rows.{last_stamp};
 ghost use Rattle.fr_log.specs.View.{AreDelayLimits};
 ghost use Rattle.fr_observe.specs.Ranges.{AreTimed};

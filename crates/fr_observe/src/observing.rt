@@ -1,4 +1,4 @@
-ghost use Rattle.std.specs.Prelude.{◌≡◌, ◌≤◌, All, OnOk, pos};
+ghost use Rattle.std.specs.Prelude.{◌≡◌, ◌++◌, All, OnOk, pos};
 ghost use Rattle.fr_base.specs.Device.{Puts};
 ghost use Rattle.fr_bound.specs.Bounds.{precision_of};
 ghost use Rattle.fr_course.specs.Readings.{reading_scale};

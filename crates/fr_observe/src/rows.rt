@@ -1,8 +1,8 @@
-ghost use Rattle.std.specs.Prelude.{◌≡◌, IfSome};
-ghost use Rattle.std.specs.Fmt.{decimal};
-ghost use Rattle.fr_course.specs.Near.{IsScale};
+ghost use Rattle.std.specs.Prelude.{◌≡◌, pos, IfSome};
+ghost use Rattle.std.specs.Option.{option_map};
+ghost use Rattle.fr_course.specs.Near.{IsScale, LieWithin};
 ghost use Rattle.fr_text.specs.Pieces.{Spells};
-ghost use Rattle.fr_observe.specs.Observing.{cycle_row, cycles_row, even_row, known, known_count, log_row, node_row, odd_row, precision_row, terms_of};
+ghost use Rattle.fr_observe.specs.Observing.{cycle_row, cycles_row, first_cycle, known, known_count, last_cycle, log_row, node_row, precision_row, terms_of};
 ghost use Rattle.fr_observe.specs.Ranges.{IsProperSender};
 
 use crate::counts::Counts;

@@ -3,7 +3,7 @@ ghost use Rattle.std.specs.Option.{option_to_list};
 ghost use Rattle.arrayvec.specs.ArrayVec.{array_vec_len};
 ghost use Rattle.fr_cluster.specs.Values.{amount};
 ghost use Rattle.fr_cluster.specs.declared.names.ParamName.TheVariants as name;
-ghost use Rattle.fr_course.specs.Readings.{Scale as Measure};
+ghost use Rattle.fr_course.specs.declared.scales.Scale.{Scale as Measure};
 ghost use Rattle.fr_time.specs.Slots.{action_point_of};
 ghost use Rattle.fr_observe.specs.Ranges.{AreTimed, HasStaticKey, IsCourseAt, IsProperSender, IsScaleOf};
 ghost use Rattle.fr_observe.specs.Senders.{course_in, if_there, own_slot, sender_by, sender_in, senders_in};

@@ -3,7 +3,7 @@ ghost use Rattle.std.specs.List.{flat_map, range_with_len};
 ghost use Rattle.fr_base.specs.Device.{Puts};
 ghost use Rattle.fr_bound.specs.Bounds.{precision_of};
 ghost use Rattle.fr_course.specs.Near.{IsScale};
-ghost use Rattle.fr_course.specs.Readings.{Scale as Measure};
+ghost use Rattle.fr_course.specs.declared.scales.Scale.{Scale as Measure};
 ghost use Rattle.fr_observe.specs.Observing.{both_say, counted, counts_of, cycles_text, double_text, doubles_say, doubles_text, no_counts, node_row};
 ghost use Rattle.fr_observe.specs.Ranges.{AreFew, AreFrom, AreSkews, AreTimed, DoublesAscend, IsProperSender, IsScaleOf};
 ghost use Rattle.fr_observe.specs.Senders.{senders_in};
