@@ -34,13 +34,10 @@ fn put_nodes<O: Sink>(
     requires senders { All (IsProperSender scale.now) senders.now }
     ensures { Puts result (O.state out.old) (O.state out.new) (flat_map (node_row scale.now double) senders.now) }
 {
-    match senders.split_first() {
-        None => Ok(()),
-        Some((sender, rest)) => {
-            put_line(&node_row(scale, double, sender), out)?;
-            put_nodes(scale, double, rest, out)
-        }
+    for sender in senders {
+        put_line(&node_row(scale, double, sender), out)?;
     }
+    Ok(())
 }
 
 // The rows of both cycles of a double cycle.
