@@ -2,7 +2,7 @@ ghost use Rattle.std.specs.Prelude.{◌≡◌, ◌+◌, ◌*◌, pos, IfSome};
 ghost use Rattle.std.specs.Fmt.{decimal, signed_decimal};
 ghost use Rattle.std.specs.Option.{option_map};
 ghost use Rattle.fr_base.specs.Within.{IsWithin};
-ghost use Rattle.fr_course.specs.Near.{IsScale, LieWithin};
+ghost use Rattle.fr_course.specs.Near.{IsReadingScale, EndWithin};
 ghost use Rattle.fr_time.specs.Cycles.{double_cycle_of};
 ghost use Rattle.fr_text.specs.Pieces.{Spells};
 ghost use Rattle.fr_observe.specs.Observing.{cycle_row, cycles_row, first_cycle, known, known_count, last_cycle, log_row, node_row, precision_row, terms_of};
@@ -81,10 +81,10 @@ pub(crate) fn cycle_row(
 // The limits of the offset term of a sender, in microticks.
 #[tactic(auto, unfolding(crate::specs::Observing::terms_of))]
 fn terms_of(scale: &Scale, sender: &Sender) -> Option<Interval>
-    requires scale { IsScale scale.now }
+    requires scale { IsReadingScale scale.now }
     requires sender { IsProperSender scale.now sender.now }
     ensures value { result ≡ terms_of scale.now sender.now }
-    ensures near { IfSome result (LieWithin (pos 6_000_000_000_000_000_000)) }
+    ensures near { IfSome result (EndWithin (pos 6_000_000_000_000_000_000)) }
 {
     match sender.next {
         None => None,
@@ -93,7 +93,7 @@ fn terms_of(scale: &Scale, sender: &Sender) -> Option<Interval>
 }
 
 fn low_of(term: Option<Interval>) -> Option<i64>
-    requires { IfSome term (LieWithin (pos 6_000_000_000_000_000_000)) }
+    requires { IfSome term (EndWithin (pos 6_000_000_000_000_000_000)) }
     ensures { result ≡ option_map (λ t. t.low) term }
 {
     match term {
@@ -103,7 +103,7 @@ fn low_of(term: Option<Interval>) -> Option<i64>
 }
 
 fn high_of(term: Option<Interval>) -> Option<i64>
-    requires { IfSome term (LieWithin (pos 6_000_000_000_000_000_000)) }
+    requires { IfSome term (EndWithin (pos 6_000_000_000_000_000_000)) }
     ensures { result ≡ option_map (λ t. t.high) term }
 {
     match term {
@@ -114,7 +114,7 @@ fn high_of(term: Option<Interval>) -> Option<i64>
 
 // The least and the greatest offset term of a sender.
 fn least_term(scale: &Scale, sender: &Sender) -> Piece<'static>
-    requires scale { IsScale scale.now }
+    requires scale { IsReadingScale scale.now }
     requires sender { IsProperSender scale.now sender.now }
     ensures { Spells result (known (option_map (λ t. t.low) (terms_of scale.now sender.now))) 20 }
 {
@@ -122,7 +122,7 @@ fn least_term(scale: &Scale, sender: &Sender) -> Piece<'static>
 }
 
 fn most_term(scale: &Scale, sender: &Sender) -> Piece<'static>
-    requires scale { IsScale scale.now }
+    requires scale { IsReadingScale scale.now }
     requires sender { IsProperSender scale.now sender.now }
     ensures { Spells result (known (option_map (λ t. t.high) (terms_of scale.now sender.now))) 20 }
 {
@@ -146,7 +146,7 @@ fn natural(value: u64) -> Piece<'static>
 // A sender: the limits of the length of its cycles, and of its offset term.
 #[tactic(auto, unfolding(crate::specs::Observing::node_row))]
 pub(crate) fn node_row(scale: &Scale, double: u32, sender: &Sender) -> Line
-    requires scale { IsScale scale.now }
+    requires scale { IsReadingScale scale.now }
     requires sender { IsProperSender scale.now sender.now }
     ensures { result ≡ node_row scale.now double sender.now }
 {

@@ -5,7 +5,7 @@ ghost use Rattle.fr_base.specs.Within.{IsBetween};
 ghost use Rattle.fr_cluster.specs.Values.{amount};
 ghost use Rattle.fr_cluster.specs.declared.names.ParamName.TheVariants as name;
 ghost use Rattle.fr_course.specs.Course.{course_from};
-ghost use Rattle.fr_course.specs.Near.{IsBox, IsScale, IsSpan};
+ghost use Rattle.fr_course.specs.Near.{IsBox, IsReadingScale, IsSpan};
 ghost use Rattle.fr_course.specs.declared.scales.Scale.{Scale as Measure};
 ghost use Rattle.fr_time.specs.Slots.{action_point_of};
 ghost use Rattle.fr_observe.specs.Ranges.{AreTimed, HasStaticKey, IsCourseAt, IsProperSender, IsScaleOf};
@@ -29,7 +29,7 @@ fn course_by(
     odd: Option<Interval>,
     span: Option<Interval>,
 ) -> Option<Course>
-    requires scale { IsScale scale.now }
+    requires scale { IsReadingScale scale.now }
     requires action { IsBetween (pos 0) scale.now.correction action }
     requires even { IfSome even IsBox }
     requires odd { IfSome odd IsBox }
