@@ -47,4 +47,4 @@ returns g c =
     let f : Sender → List ℕ = node_row c.args.scale.now c.args.double in
     let a = g.O.Sink.state c.loop-sender.out in
     let done : length c.args.senders.now ≤ c.loop-sender.sender-index = omega arith in
-    c.loop-sender.invariant _ _ (subst (λ (l : List Sender). Puts (Ok tt) a a (flat_map f l)) (sym (drop_all c.args.senders.now c.loop-sender.sender-index done)) (puts_none a))
+    c.loop-sender.invariant _ _ (subst (λ (l : List Sender). Puts (Ok tt) a a (flat_map f l)) (sym (drop_all c.loop-sender.sender-index c.args.senders.now done)) (puts_none a))
