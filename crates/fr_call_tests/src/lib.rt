@@ -11,3 +11,5 @@ mod assembling;
 mod listener;
 #[cfg(test)]
 mod node;
+#[cfg(test)]
+mod observing;

@@ -1,13 +1,15 @@
 -- How far quotients, weighed sums and what lies in two intervals lie from 0.
 use Rattle.std.proofs.Common.{◌≡◌, ℤ, pos, Option, Some, None, IfSome, FitsSigned, arith}
 use mir.Syntax.{w128}
+use Rattle.std.specs.Int.{int_max, int_min}
 use Rattle.std.specs.Prelude.{◌+ℤ◌, ◌-ℤ◌, ◌*ℤ◌, ◌≤ℤ◌, ◌<ℤ◌, neg_ℤ}
 use Rattle.std.proofs.lemmas.Int.{ints, clamps}
-use Rattle.fr_base.specs.Within.{IsWithin}
+use Rattle.fr_base.specs.Within.{IsBetween, IsWithin}
 use Rattle.fr_midpoint.proofs.Products.{lez_of_mulz-lez, mulz_comm, mulz_within, negz-mulz, subz-mulz}
 use Rattle.fr_time.specs.Position.{floor_of}
-use Rattle.fr_course.specs.Readings.{ceiling_of, meet, meet_if, Interval}
-use Rattle.fr_course.specs.Near.{LieBetween}
+use Rattle.fr_course.specs.Readings.{ceiling_of, meet, meet_if, Interval, Scale}
+use Rattle.fr_course.specs.Course.{length_seen}
+use Rattle.fr_course.specs.Near.{IsBox, IsReadingScale, IsSpan, EndBetween, EndWithin}
 use Rattle.fr_course.proofs.Floors.{floor_above, floor_below}
 
 -- a quotient lies within a bound where the number lies within as many divisors
@@ -56,8 +58,8 @@ weighed_within parts before x y bound from to near also =
     both p q r s t a b e = record { low = omega (arith, ints, a.low, b.low); high = omega (arith, ints, a.high, b.high) }
 
 -- what lies in two intervals ends where they do
-pub meet_between : (least greatest : ℤ) (one other : Interval) → LieBetween least greatest one → LieBetween least greatest other
-    → LieBetween least greatest (meet one other)
+pub meet_between : (least greatest : ℤ) (one other : Interval) → EndBetween least greatest one → EndBetween least greatest other
+    → EndBetween least greatest (meet one other)
 meet_between least greatest one other a b =
     record {
       low_from = omega (arith, ints, clamps, a.low_from, b.low_from);
@@ -66,8 +68,8 @@ meet_between least greatest one other a b =
       high_to = omega (arith, ints, clamps, a.high_to, b.high_to);
     }
 
-pub meet_if_between : (least greatest : ℤ) (one : Option Interval) (other : Interval) → IfSome one (LieBetween least greatest)
-    → LieBetween least greatest other → LieBetween least greatest (meet_if one other)
+pub meet_if_between : (least greatest : ℤ) (one : Option Interval) (other : Interval) → IfSome one (EndBetween least greatest)
+    → EndBetween least greatest other → EndBetween least greatest (meet_if one other)
 meet_if_between least greatest None other a b = b
 meet_if_between least greatest (Some one) other a b = meet_between least greatest one other a b
 
@@ -76,3 +78,75 @@ pub product_fits : (macroticks x : ℤ) → pos 0 ≤ℤ macroticks → macrotic
 product_fits macroticks x from to near =
     let within = mulz_within macroticks x (pos 16_000) (pos 1_900_000_000_000_000_000) from to near in
     omega (arith, ints, within.low, within.high)
+
+-- what lies within a bound lies within a greater one
+pub wider : (bound other : ℤ) (interval : Interval) → bound ≤ℤ other → EndWithin bound interval → EndWithin other interval
+wider bound other interval le near =
+    record {
+      low_from = omega (arith, ints, near.low_from);
+      low_to = omega (arith, ints, near.low_to);
+      high_from = omega (arith, ints, near.high_from);
+      high_to = omega (arith, ints, near.high_to);
+    }
+
+pub span_wider : (span : Option Interval) → IfSome span IsSpan → IfSome span (EndWithin (pos 920_000_000_000_000_000))
+span_wider None near = near
+span_wider (Some span) near = wider (pos 910_000_000_000_000_000) (pos 920_000_000_000_000_000) span (omega (arith, ints)) near
+
+-- where action points can lie by others that lie so far apart from them
+pub before_within : (even odd apart : Interval) → IsBox even → IsBox odd → EndWithin (pos 920_000_000_000_000_000) apart
+    → EndWithin (pos 1_900_000_000_000_000_000) (record { low = int_max even.low (odd.low -ℤ apart.high); high = int_min even.high (odd.high -ℤ apart.low) })
+before_within even odd apart a b d =
+    record {
+      low_from = omega (arith, ints, clamps, a.low_from);
+      low_to = omega (arith, ints, clamps, a.low_to, b.low_to, d.high_from);
+      high_from = omega (arith, ints, clamps, a.high_from, b.high_from, d.low_to);
+      high_to = omega (arith, ints, clamps, a.high_to);
+    }
+
+pub behind_within : (even odd apart : Interval) → IsBox even → IsBox odd → EndWithin (pos 920_000_000_000_000_000) apart
+    → EndWithin (pos 1_900_000_000_000_000_000) (record { low = int_max odd.low (even.low +ℤ apart.low); high = int_min odd.high (even.high +ℤ apart.high) })
+behind_within even odd apart a b d =
+    record {
+      low_from = omega (arith, ints, clamps, b.low_from);
+      low_to = omega (arith, ints, clamps, b.low_to, a.low_to, d.low_to);
+      high_from = omega (arith, ints, clamps, b.high_from, a.high_from, d.high_from);
+      high_to = omega (arith, ints, clamps, b.high_to);
+    }
+
+pub length_within : (scale : Scale) (apart : Interval) → IsReadingScale scale → EndWithin (pos 920_000_000_000_000_000) apart
+    → EndWithin (pos 930_000_000_000_000_000) (length_seen scale apart)
+length_within scale apart is near =
+    record {
+      low_from = omega (arith, ints, clamps, is.length_from.low);
+      low_to = omega (arith, ints, clamps, is.length_from.high, is.change.low, near.low_to);
+      high_from = omega (arith, ints, clamps, is.length_to.low, is.change.low, near.high_from);
+      high_to = omega (arith, ints, clamps, is.length_to.high);
+    }
+
+-- a number less than none by so much
+pub less_than_none : (x : ℤ) → pos 0 -ℤ x ≡ neg_ℤ x
+less_than_none x = omega (arith, ints)
+
+-- the greater and the lesser of two numbers within a bound
+pub max_within : (bound x y : ℤ) → IsWithin bound x → IsWithin bound y → IsWithin bound (int_max x y)
+max_within bound x y a b = record { low = omega (arith, ints, clamps, a.low, b.low); high = omega (arith, ints, clamps, a.high, b.high) }
+
+pub min_within : (bound x y : ℤ) → IsWithin bound x → IsWithin bound y → IsWithin bound (int_min x y)
+min_within bound x y a b = record { low = omega (arith, ints, clamps, a.low, b.low); high = omega (arith, ints, clamps, a.high, b.high) }
+
+-- with a microtick more
+pub sum_fits : (x micro : ℤ) → IsWithin (pos 2_900_000_000_000_000_000) x → IsBetween (pos 1) (pos 1_001_000_000_000) micro → FitsSigned w128 (x +ℤ micro)
+sum_fits x micro near short = omega (arith, ints, near.low, near.high, short.low, short.high)
+
+pub sum_within : (x micro : ℤ) → IsWithin (pos 2_900_000_000_000_000_000) x → IsBetween (pos 1) (pos 1_001_000_000_000) micro
+    → IsWithin (pos 3_000_000_000_000_000_000) (x +ℤ micro)
+sum_within x micro near short =
+    record { low = omega (arith, ints, near.low, short.low); high = omega (arith, ints, near.high, short.high) }
+
+-- the greater of two numbers of which one is none below 0
+pub max_between : (bound x y : ℤ) → IsWithin bound x → IsBetween (pos 0) bound y → IsBetween (pos 0) bound (int_max x y)
+max_between bound x y a b = record { low = omega (arith, ints, clamps, b.low); high = omega (arith, ints, clamps, a.high, b.high) }
+
+pub greater_between : (bound x y : ℤ) → IsBetween (pos 0) bound x → IsBetween (pos 0) bound y → IsBetween (pos 0) bound (int_max x y)
+greater_between bound x y a b = record { low = omega (arith, ints, clamps, b.low); high = omega (arith, ints, clamps, a.high, b.high) }

@@ -5,8 +5,8 @@ use Rattle.fr_course.specs.declared.skews.Corner.{Corner}
 use Rattle.fr_course.specs.declared.skews.Corner.TheVariants as corner
 
 -- where a corner of a course can lie
-abbrev pub place_of : Corner → Scale → Course → Interval
-place_of corner.EvenStart scale course = even_start scale course
-place_of corner.EvenTurn scale course = even_turn scale course
-place_of corner.OddStart scale course = odd_start scale course
-place_of corner.OddTurn scale course = odd_turn scale course
+abbrev pub corner_place : Corner → Scale → Course → Interval
+corner_place corner.EvenStart scale course = even_start scale course
+corner_place corner.EvenTurn scale course = even_turn scale course
+corner_place corner.OddStart scale course = odd_start scale course
+corner_place corner.OddTurn scale course = odd_turn scale course

@@ -16,7 +16,7 @@ pub record AreDelays (delays : Delays) : Type 0 where
   pub jitter : delays.jitter ≤ 1_000_000_000
 
 -- the numbers of a cluster as readings
-pub record IsScale (scale : Scale) : Type 0 where
+pub record IsReadingScale (scale : Scale) : Type 0 where
   pub drift : scale.drift ≤ 1000
   pub macros_from : pos 1 ≤ℤ scale.macros
   pub macros_to : scale.macros ≤ℤ pos 16_000
@@ -29,29 +29,29 @@ pub record IsScale (scale : Scale) : Type 0 where
   pub micro_to : IsBetween (pos 1) (pos 1_001_000_000_000) scale.micro_to
 
 -- both ends of an interval lie between two numbers
-pub record LieBetween (least greatest : ℤ) (interval : Interval) : Type 0 where
+pub record EndBetween (least greatest : ℤ) (interval : Interval) : Type 0 where
   pub low_from : least ≤ℤ interval.low
   pub low_to : interval.low ≤ℤ greatest
   pub high_from : least ≤ℤ interval.high
   pub high_to : interval.high ≤ℤ greatest
 
 -- both ends of an interval lie within a bound of 0
-abbrev pub LieWithin : ℤ → Interval → Type 0
-LieWithin bound interval = LieBetween (neg_ℤ bound) bound interval
+abbrev pub EndWithin : ℤ → Interval → Type 0
+EndWithin bound interval = EndBetween (neg_ℤ bound) bound interval
 
 -- where an action point can lie, by one stamp or by several
 abbrev pub IsBox : Interval → Type 0
-IsBox interval = LieBetween (neg_ℤ (pos 2_000_000_000_000)) (pos 910_000_000_000_000_000) interval
+IsBox interval = EndBetween (neg_ℤ (pos 2_000_000_000_000)) (pos 910_000_000_000_000_000) interval
 
 -- how far apart two of them can lie, by their stamps
 abbrev pub IsSpan : Interval → Type 0
-IsSpan interval = LieWithin (pos 910_000_000_000_000_000) interval
+IsSpan interval = EndWithin (pos 910_000_000_000_000_000) interval
 
 -- what is known of a node in a double cycle
 pub record IsNearCourse (scale : Scale) (course : Course) : Type 0 where
   pub action_from : pos 0 ≤ℤ course.action
   pub action_to : course.action ≤ℤ scale.correction
-  pub even : LieWithin (pos 1_900_000_000_000_000_000) course.even
-  pub odd : LieWithin (pos 1_900_000_000_000_000_000) course.odd
-  pub apart : LieWithin (pos 920_000_000_000_000_000) course.apart
-  pub length : LieWithin (pos 930_000_000_000_000_000) course.length
+  pub even : EndWithin (pos 1_900_000_000_000_000_000) course.even
+  pub odd : EndWithin (pos 1_900_000_000_000_000_000) course.odd
+  pub apart : EndWithin (pos 920_000_000_000_000_000) course.apart
+  pub length : EndWithin (pos 930_000_000_000_000_000) course.length

@@ -1,7 +1,7 @@
 ghost use Rattle.std.specs.Prelude.{◌≡◌, pos, ◌+ℤ◌, ◌-ℤ◌};
 ghost use Rattle.fr_base.specs.Within.{IsWithin};
 ghost use Rattle.fr_course.specs.Course.{even_start, even_turn, mean_from, mean_to, odd_start, odd_turn, share_from, share_to};
-ghost use Rattle.fr_course.specs.Near.{IsNearCourse, IsScale, LieWithin};
+ghost use Rattle.fr_course.specs.Near.{IsNearCourse, IsReadingScale, EndWithin};
 
 use crate::courses::Course;
 use crate::intervals::Interval;
@@ -10,10 +10,10 @@ use crate::shares::{mean_from, mean_to, share_from, share_to};
 
 /// Where the start of the even cycle can lie.
 pub fn even_start(scale: &Scale, course: &Course) -> Interval
-    requires scale { IsScale scale.now }
+    requires scale { IsReadingScale scale.now }
     requires course { IsNearCourse scale.now course.now }
     ensures value { result ≡ even_start scale.now course.now }
-    ensures near { LieWithin (pos 3_000_000_000_000_000_000) result }
+    ensures near { EndWithin (pos 3_000_000_000_000_000_000) result }
 {
     Interval {
         low: course.even.low - action_to(scale, course),
@@ -23,10 +23,10 @@ pub fn even_start(scale: &Scale, course: &Course) -> Interval
 
 /// Where the start of the odd cycle can lie.
 pub fn odd_start(scale: &Scale, course: &Course) -> Interval
-    requires scale { IsScale scale.now }
+    requires scale { IsReadingScale scale.now }
     requires course { IsNearCourse scale.now course.now }
     ensures value { result ≡ odd_start scale.now course.now }
-    ensures near { LieWithin (pos 3_000_000_000_000_000_000) result }
+    ensures near { EndWithin (pos 3_000_000_000_000_000_000) result }
 {
     Interval {
         low: odd_start_from(scale, course),
@@ -37,10 +37,10 @@ pub fn odd_start(scale: &Scale, course: &Course) -> Interval
 /// Where the point of the even cycle can lie at which an offset correction would start, before it is rounded down to
 /// microticks.
 pub fn even_turn(scale: &Scale, course: &Course) -> Interval
-    requires scale { IsScale scale.now }
+    requires scale { IsReadingScale scale.now }
     requires course { IsNearCourse scale.now course.now }
     ensures value { result ≡ even_turn scale.now course.now }
-    ensures near { LieWithin (pos 3_000_000_000_000_000_000) result }
+    ensures near { EndWithin (pos 3_000_000_000_000_000_000) result }
 {
     Interval {
         low: even_turn_from(scale, course),
@@ -51,10 +51,10 @@ pub fn even_turn(scale: &Scale, course: &Course) -> Interval
 /// Where the point of the odd cycle can lie at which its offset correction starts, before it is rounded down to
 /// microticks.
 pub fn odd_turn(scale: &Scale, course: &Course) -> Interval
-    requires scale { IsScale scale.now }
+    requires scale { IsReadingScale scale.now }
     requires course { IsNearCourse scale.now course.now }
     ensures value { result ≡ odd_turn scale.now course.now }
-    ensures near { LieWithin (pos 3_000_000_000_000_000_000) result }
+    ensures near { EndWithin (pos 3_000_000_000_000_000_000) result }
 {
     Interval {
         low: course.odd.low + ahead_from(scale, course),
@@ -64,7 +64,7 @@ pub fn odd_turn(scale: &Scale, course: &Course) -> Interval
 
 // How long the macroticks before the action point last, at least and at most.
 fn action_from(scale: &Scale, course: &Course) -> i128
-    requires scale { IsScale scale.now }
+    requires scale { IsReadingScale scale.now }
     requires course { IsNearCourse scale.now course.now }
     ensures value { result ≡ share_from scale.now course.now.action course.now.length.low }
     ensures within { IsWithin (pos 930_000_000_000_000_000) result }
@@ -73,7 +73,7 @@ fn action_from(scale: &Scale, course: &Course) -> i128
 }
 
 fn action_to(scale: &Scale, course: &Course) -> i128
-    requires scale { IsScale scale.now }
+    requires scale { IsReadingScale scale.now }
     requires course { IsNearCourse scale.now course.now }
     ensures value { result ≡ share_to scale.now course.now.action course.now.length.high }
     ensures within { IsWithin (pos 930_000_000_000_000_000) result }
@@ -83,7 +83,7 @@ fn action_to(scale: &Scale, course: &Course) -> i128
 
 // How long those behind it last.
 pub(crate) fn rest_from(scale: &Scale, course: &Course) -> i128
-    requires scale { IsScale scale.now }
+    requires scale { IsReadingScale scale.now }
     requires course { IsNearCourse scale.now course.now }
     ensures value { result ≡
         share_from scale.now (scale.now.macros -ℤ course.now.action) course.now.length.low }
@@ -93,7 +93,7 @@ pub(crate) fn rest_from(scale: &Scale, course: &Course) -> i128
 }
 
 pub(crate) fn rest_to(scale: &Scale, course: &Course) -> i128
-    requires scale { IsScale scale.now }
+    requires scale { IsReadingScale scale.now }
     requires course { IsNearCourse scale.now course.now }
     ensures value { result ≡
         share_to scale.now (scale.now.macros -ℤ course.now.action) course.now.length.high }
@@ -104,7 +104,7 @@ pub(crate) fn rest_to(scale: &Scale, course: &Course) -> i128
 
 // How long those between it and the start of the offset correction last.
 fn ahead_from(scale: &Scale, course: &Course) -> i128
-    requires scale { IsScale scale.now }
+    requires scale { IsReadingScale scale.now }
     requires course { IsNearCourse scale.now course.now }
     ensures value { result ≡
         share_from scale.now (scale.now.correction -ℤ course.now.action) course.now.length.low }
@@ -114,7 +114,7 @@ fn ahead_from(scale: &Scale, course: &Course) -> i128
 }
 
 fn ahead_to(scale: &Scale, course: &Course) -> i128
-    requires scale { IsScale scale.now }
+    requires scale { IsReadingScale scale.now }
     requires course { IsNearCourse scale.now course.now }
     ensures value { result ≡
         share_to scale.now (scale.now.correction -ℤ course.now.action) course.now.length.high }
@@ -125,7 +125,7 @@ fn ahead_to(scale: &Scale, course: &Course) -> i128
 
 // The start of the odd cycle: by the action point before it, by that behind it, and between both.
 fn odd_start_from(scale: &Scale, course: &Course) -> i128
-    requires scale { IsScale scale.now }
+    requires scale { IsReadingScale scale.now }
     requires course { IsNearCourse scale.now course.now }
     ensures value { result ≡ (odd_start scale.now course.now).low }
     ensures within { IsWithin (pos 2_900_000_000_000_000_000) result }
@@ -136,7 +136,7 @@ fn odd_start_from(scale: &Scale, course: &Course) -> i128
 }
 
 fn odd_start_to(scale: &Scale, course: &Course) -> i128
-    requires scale { IsScale scale.now }
+    requires scale { IsReadingScale scale.now }
     requires course { IsNearCourse scale.now course.now }
     ensures value { result ≡ (odd_start scale.now course.now).high }
     ensures within { IsWithin (pos 3_000_000_000_000_000_000) result }
@@ -148,7 +148,7 @@ fn odd_start_to(scale: &Scale, course: &Course) -> i128
 
 // Between both action points, so that they lie a cycle apart.
 fn between_from(scale: &Scale, course: &Course) -> i128
-    requires scale { IsScale scale.now }
+    requires scale { IsReadingScale scale.now }
     requires course { IsNearCourse scale.now course.now }
     ensures value { result ≡
         mean_from scale.now course.now.action course.now.even.low course.now.odd.low
@@ -159,7 +159,7 @@ fn between_from(scale: &Scale, course: &Course) -> i128
 }
 
 fn between_to(scale: &Scale, course: &Course) -> i128
-    requires scale { IsScale scale.now }
+    requires scale { IsReadingScale scale.now }
     requires course { IsNearCourse scale.now course.now }
     ensures value { result ≡
         mean_to scale.now course.now.action course.now.even.high course.now.odd.high
@@ -171,7 +171,7 @@ fn between_to(scale: &Scale, course: &Course) -> i128
 
 // The point of the even cycle at which an offset correction would start: by the action point before it, and between both.
 fn even_turn_from(scale: &Scale, course: &Course) -> i128
-    requires scale { IsScale scale.now }
+    requires scale { IsReadingScale scale.now }
     requires course { IsNearCourse scale.now course.now }
     ensures value { result ≡ (even_turn scale.now course.now).low }
     ensures within { IsWithin (pos 2_900_000_000_000_000_000) result }
@@ -181,7 +181,7 @@ fn even_turn_from(scale: &Scale, course: &Course) -> i128
 }
 
 fn even_turn_to(scale: &Scale, course: &Course) -> i128
-    requires scale { IsScale scale.now }
+    requires scale { IsReadingScale scale.now }
     requires course { IsNearCourse scale.now course.now }
     ensures value { result ≡ (even_turn scale.now course.now).high }
     ensures within { IsWithin (pos 3_000_000_000_000_000_000) result }
@@ -192,7 +192,7 @@ fn even_turn_to(scale: &Scale, course: &Course) -> i128
 
 // Between both action points.
 fn turn_from(scale: &Scale, course: &Course) -> i128
-    requires scale { IsScale scale.now }
+    requires scale { IsReadingScale scale.now }
     requires course { IsNearCourse scale.now course.now }
     ensures value { result ≡
         mean_from scale.now (scale.now.macros -ℤ (scale.now.correction -ℤ course.now.action))
@@ -205,7 +205,7 @@ fn turn_from(scale: &Scale, course: &Course) -> i128
 }
 
 fn turn_to(scale: &Scale, course: &Course) -> i128
-    requires scale { IsScale scale.now }
+    requires scale { IsReadingScale scale.now }
     requires course { IsNearCourse scale.now course.now }
     ensures value { result ≡
         mean_to scale.now (scale.now.macros -ℤ (scale.now.correction -ℤ course.now.action))

@@ -2,7 +2,7 @@ ghost use Rattle.std.specs.Prelude.{◌≡◌, pos, ◌+ℤ◌, ◌-ℤ◌, IfSo
 ghost use Rattle.std.specs.Int.{int_max, int_min};
 ghost use Rattle.fr_base.specs.Within.{IsBetween};
 ghost use Rattle.fr_course.specs.Course.{allowed, apart_by, between, course_back, course_by, course_from, course_on, is_there, length_seen};
-ghost use Rattle.fr_course.specs.Near.{IsBox, IsNearCourse, IsScale, IsSpan, LieBetween, LieWithin};
+ghost use Rattle.fr_course.specs.Near.{IsBox, IsNearCourse, IsReadingScale, IsSpan, EndBetween, EndWithin};
 
 use crate::intervals::{Interval, is_empty, meet, meet_if};
 use crate::scales::Scale;
@@ -31,7 +31,7 @@ pub fn course_from(
     odd: Option<Interval>,
     span: Option<Interval>,
 ) -> Option<Course>
-    requires scale { IsScale scale.now }
+    requires scale { IsReadingScale scale.now }
     requires action { IsBetween (pos 0) scale.now.correction action }
     requires even { IfSome even IsBox }
     requires odd { IfSome odd IsBox }
@@ -59,7 +59,7 @@ pub fn is_there(course: &Course) -> bool
 
 // With a frame in the even cycle alone.
 fn course_on(scale: &Scale, action: i128, even: &Interval) -> Course
-    requires scale { IsScale scale.now }
+    requires scale { IsReadingScale scale.now }
     requires action { IsBetween (pos 0) scale.now.correction action }
     requires even { IsBox even.now }
     ensures value { result ≡ course_on scale.now action even.now }
@@ -79,7 +79,7 @@ fn course_on(scale: &Scale, action: i128, even: &Interval) -> Course
 
 // With a frame in the odd cycle alone.
 fn course_back(scale: &Scale, action: i128, odd: &Interval) -> Course
-    requires scale { IsScale scale.now }
+    requires scale { IsReadingScale scale.now }
     requires action { IsBetween (pos 0) scale.now.correction action }
     requires odd { IsBox odd.now }
     ensures value { result ≡ course_back scale.now action odd.now }
@@ -105,7 +105,7 @@ fn course_of_both(
     odd: &Interval,
     span: Option<Interval>,
 ) -> Course
-    requires scale { IsScale scale.now }
+    requires scale { IsReadingScale scale.now }
     requires action { IsBetween (pos 0) scale.now.correction action }
     requires even { IsBox even.now }
     requires odd { IsBox odd.now }
@@ -125,11 +125,11 @@ fn course_by(
     odd: &Interval,
     apart: &Interval,
 ) -> Course
-    requires scale { IsScale scale.now }
+    requires scale { IsReadingScale scale.now }
     requires action { IsBetween (pos 0) scale.now.correction action }
     requires even { IsBox even.now }
     requires odd { IsBox odd.now }
-    requires apart { LieWithin (pos 920_000_000_000_000_000) apart.now }
+    requires apart { EndWithin (pos 920_000_000_000_000_000) apart.now }
     ensures value { result ≡ course_by scale.now action even.now odd.now apart.now }
     ensures near { IsNearCourse scale.now result }
 {
@@ -146,10 +146,10 @@ fn course_by(
 fn before(even: &Interval, odd: &Interval, apart: &Interval) -> Interval
     requires even { IsBox even.now }
     requires odd { IsBox odd.now }
-    requires apart { LieWithin (pos 920_000_000_000_000_000) apart.now }
+    requires apart { EndWithin (pos 920_000_000_000_000_000) apart.now }
     ensures low { result.low ≡ int_max even.now.low (odd.now.low -ℤ apart.now.high) }
     ensures high { result.high ≡ int_min even.now.high (odd.now.high -ℤ apart.now.low) }
-    ensures near { LieWithin (pos 1_900_000_000_000_000_000) result }
+    ensures near { EndWithin (pos 1_900_000_000_000_000_000) result }
 {
     Interval {
         low: even.low.max(odd.low - apart.high),
@@ -161,10 +161,10 @@ fn before(even: &Interval, odd: &Interval, apart: &Interval) -> Interval
 fn behind(even: &Interval, odd: &Interval, apart: &Interval) -> Interval
     requires even { IsBox even.now }
     requires odd { IsBox odd.now }
-    requires apart { LieWithin (pos 920_000_000_000_000_000) apart.now }
+    requires apart { EndWithin (pos 920_000_000_000_000_000) apart.now }
     ensures low { result.low ≡ int_max odd.now.low (even.now.low +ℤ apart.now.low) }
     ensures high { result.high ≡ int_min odd.now.high (even.now.high +ℤ apart.now.high) }
-    ensures near { LieWithin (pos 1_900_000_000_000_000_000) result }
+    ensures near { EndWithin (pos 1_900_000_000_000_000_000) result }
 {
     Interval {
         low: odd.low.max(even.low + apart.low),
@@ -174,9 +174,9 @@ fn behind(even: &Interval, odd: &Interval, apart: &Interval) -> Interval
 
 // The lengths that a cluster allows.
 fn allowed(scale: &Scale) -> Interval
-    requires { IsScale scale.now }
+    requires { IsReadingScale scale.now }
     ensures value { result ≡ allowed scale.now }
-    ensures near { LieWithin (pos 1_001_000_000_000) result }
+    ensures near { EndWithin (pos 1_001_000_000_000) result }
 {
     Interval {
         low: scale.length_from,
@@ -186,12 +186,12 @@ fn allowed(scale: &Scale) -> Interval
 
 // How far apart action points can be that lie in two intervals.
 pub(crate) fn between(from: &Interval, to: &Interval) -> Interval
-    requires from { LieWithin (pos 1_900_000_000_000_000_000) from.now }
-    requires to { LieWithin (pos 1_900_000_000_000_000_000) to.now }
+    requires from { EndWithin (pos 1_900_000_000_000_000_000) from.now }
+    requires to { EndWithin (pos 1_900_000_000_000_000_000) to.now }
     ensures value { result ≡ between from.now to.now }
-    ensures near { LieWithin (pos 3_800_000_000_000_000_000) result }
+    ensures near { EndWithin (pos 3_800_000_000_000_000_000) result }
     ensures boxes { IsBox from.now → IsBox to.now →
-        LieWithin (pos 920_000_000_000_000_000) result }
+        EndWithin (pos 920_000_000_000_000_000) result }
 {
     Interval {
         low: to.low - from.high,
@@ -201,22 +201,22 @@ pub(crate) fn between(from: &Interval, to: &Interval) -> Interval
 
 // How far apart two action points can be by what is known of each, and by the spans.
 fn apart_by(scale: &Scale, even: &Interval, odd: &Interval, span: Option<Interval>) -> Interval
-    requires scale { IsScale scale.now }
+    requires scale { IsReadingScale scale.now }
     requires even { IsBox even.now }
     requires odd { IsBox odd.now }
     requires span { IfSome span IsSpan }
     ensures value { result ≡ apart_by scale.now even.now odd.now span }
-    ensures near { LieWithin (pos 920_000_000_000_000_000) result }
+    ensures near { EndWithin (pos 920_000_000_000_000_000) result }
 {
     meet_if(span, &meet(&allowed(scale), &between(even, odd)))
 }
 
 // How long cycles can be whose action points lie so far apart.
 fn length_seen(scale: &Scale, apart: &Interval) -> Interval
-    requires scale { IsScale scale.now }
-    requires apart { LieWithin (pos 920_000_000_000_000_000) apart.now }
+    requires scale { IsReadingScale scale.now }
+    requires apart { EndWithin (pos 920_000_000_000_000_000) apart.now }
     ensures value { result ≡ length_seen scale.now apart.now }
-    ensures near { LieWithin (pos 930_000_000_000_000_000) result }
+    ensures near { EndWithin (pos 930_000_000_000_000_000) result }
 {
     Interval {
         low: (apart.low - scale.change).max(scale.length_from),

@@ -1,6 +1,6 @@
 ghost use Rattle.std.specs.Prelude.{◌≡◌, ℤ, IfSome};
 ghost use Rattle.fr_course.specs.Course.{is_empty};
-ghost use Rattle.fr_course.specs.Near.{LieBetween};
+ghost use Rattle.fr_course.specs.Near.{EndBetween};
 ghost use Rattle.fr_course.specs.Readings.{meet, meet_if};
 
 /// From one number to another; where the one is above the other, nothing lies there.
@@ -14,9 +14,9 @@ pub struct Interval {
 pub fn meet(one: &Interval, other: &Interval) -> Interval
     ensures value { result ≡ meet one.now other.now }
     ensures near { (least greatest : ℤ) →
-        LieBetween least greatest one.now →
-        LieBetween least greatest other.now →
-        LieBetween least greatest result }
+        EndBetween least greatest one.now →
+        EndBetween least greatest other.now →
+        EndBetween least greatest result }
 {
     Interval {
         low: one.low.max(other.low),
@@ -28,9 +28,9 @@ pub fn meet(one: &Interval, other: &Interval) -> Interval
 pub fn meet_if(one: Option<Interval>, other: &Interval) -> Interval
     ensures value { result ≡ meet_if one other.now }
     ensures near { (least greatest : ℤ) →
-        IfSome one (LieBetween least greatest) →
-        LieBetween least greatest other.now →
-        LieBetween least greatest result }
+        IfSome one (EndBetween least greatest) →
+        EndBetween least greatest other.now →
+        EndBetween least greatest result }
 {
     match one {
         None => *other,

@@ -1,8 +1,8 @@
 ghost use Rattle.std.specs.Prelude.{◌≡◌, ◌≤◌, ◌*◌, ◌≤ℤ◌, ◌*ℤ◌, pos};
 ghost use Rattle.fr_base.specs.Within.{IsBetween};
-ghost use Rattle.fr_bound.specs.Bounds.{longest_micro, shortest_micro};
+ghost use Rattle.fr_bound.specs.Bounds.{cycle_change, longest_micro, shortest_micro};
 ghost use Rattle.fr_bound.specs.Checks.{least_cycle};
-ghost use Rattle.fr_course.specs.Near.{IsScale};
+ghost use Rattle.fr_course.specs.Near.{IsReadingScale};
 ghost use Rattle.fr_course.specs.Readings.{most_cycle, reading_scale};
 
 use crate::readings::{least_reading, most_reading};
@@ -36,7 +36,7 @@ impl Scale {
     pub fn of(params: &Params, drift: u64) -> Scale
         requires { drift ≤ 1000 }
         ensures value { result ≡ reading_scale drift params.now }
-        ensures sane { IsScale result }
+        ensures sane { IsReadingScale result }
     {
         let grid = grid_of(params);
         Scale {
@@ -45,22 +45,29 @@ impl Scale {
             correction: grid.correction as i128,
             length_from: least_reading(drift, shortest_cycle(params)),
             length_to: most_reading(drift, longest_cycle(params)),
-            change: most_reading(drift, cycle_change(params) as i128),
+            change: most_reading(drift, greatest_change(params)),
             micro_from: least_reading(drift, shortest_micro(params)),
             micro_to: most_reading(drift, longest_micro(params)),
         }
     }
 }
 
-// The ticks of the shortest cycle before its offset correction.
+// The microticks of the shortest cycle before its offset correction.
+fn fewest_micros(params: &Params) -> u64
+    ensures value { result ≡ least_cycle params.now }
+    ensures most { result ≤ 640_000 }
+{
+    params
+        .natural(ParamName::pMicroPerCycle)
+        .saturating_sub(params.natural(ParamName::pRateCorrectionOut))
+}
+
+// The ticks of that cycle.
 fn shortest_cycle(params: &Params) -> i128
     ensures value { result ≡ pos (least_cycle params.now) *ℤ pos (shortest_micro params.now) }
     ensures within { IsBetween (pos 0) (pos 1_000_000_000_000) result }
 {
-    let micros = params
-        .natural(ParamName::pMicroPerCycle)
-        .saturating_sub(params.natural(ParamName::pRateCorrectionOut));
-    (micros * shortest_microtick(params)) as i128
+    (fewest_micros(params) * shortest_microtick(params)) as i128
 }
 
 // The ticks of the longest cycle before its offset correction.
@@ -71,6 +78,14 @@ fn longest_cycle(params: &Params) -> i128
     let micros = params.natural(ParamName::pMicroPerCycle)
         + params.natural(ParamName::pRateCorrectionOut);
     (micros * longest_microtick(params)) as i128
+}
+
+// By how many ticks a cycle changes from one to the next.
+fn greatest_change(params: &Params) -> i128
+    ensures value { result ≡ pos (cycle_change params.now) }
+    ensures within { IsBetween (pos 0) (pos 1_000_000_000_000) result }
+{
+    cycle_change(params) as i128
 }
 
 // The ticks of the shortest microtick.

@@ -1,14 +1,14 @@
 ghost use Rattle.std.specs.Prelude.{◌≡◌, pos, ◌+ℤ◌, ◌-ℤ◌, ◌*ℤ◌};
 ghost use Rattle.fr_base.specs.Within.{IsBetween, IsWithin};
 ghost use Rattle.fr_course.specs.Course.{mean_from, mean_to, share_from, share_to};
-ghost use Rattle.fr_course.specs.Near.{IsScale};
+ghost use Rattle.fr_course.specs.Near.{IsReadingScale};
 
 use crate::quotients::{ceiling, floor};
 use crate::scales::Scale;
 
 // A share of a length, so many macroticks of a cycle, at least.
 pub(crate) fn share_from(scale: &Scale, macroticks: i128, length: i128) -> i128
-    requires scale { IsScale scale.now }
+    requires scale { IsReadingScale scale.now }
     requires macroticks { IsBetween (pos 0) scale.now.macros macroticks }
     requires length { IsWithin (pos 930_000_000_000_000_000) length }
     ensures value { result ≡ share_from scale.now macroticks length }
@@ -20,7 +20,7 @@ pub(crate) fn share_from(scale: &Scale, macroticks: i128, length: i128) -> i128
 
 // The same at most.
 pub(crate) fn share_to(scale: &Scale, macroticks: i128, length: i128) -> i128
-    requires scale { IsScale scale.now }
+    requires scale { IsReadingScale scale.now }
     requires macroticks { IsBetween (pos 0) scale.now.macros macroticks }
     requires length { IsWithin (pos 930_000_000_000_000_000) length }
     ensures value { result ≡ share_to scale.now macroticks length }
@@ -32,7 +32,7 @@ pub(crate) fn share_to(scale: &Scale, macroticks: i128, length: i128) -> i128
 
 // A point between two others that lie a cycle apart, so many macroticks before the second, at least.
 pub(crate) fn mean_from(scale: &Scale, before: i128, first: i128, second: i128) -> i128
-    requires scale { IsScale scale.now }
+    requires scale { IsReadingScale scale.now }
     requires before { IsBetween (pos 0) scale.now.macros before }
     requires first { IsWithin (pos 1_900_000_000_000_000_000) first }
     requires second { IsWithin (pos 1_900_000_000_000_000_000) second }
@@ -44,7 +44,7 @@ pub(crate) fn mean_from(scale: &Scale, before: i128, first: i128, second: i128) 
 
 // The same at most.
 pub(crate) fn mean_to(scale: &Scale, before: i128, first: i128, second: i128) -> i128
-    requires scale { IsScale scale.now }
+    requires scale { IsReadingScale scale.now }
     requires before { IsBetween (pos 0) scale.now.macros before }
     requires first { IsWithin (pos 1_900_000_000_000_000_000) first }
     requires second { IsWithin (pos 1_900_000_000_000_000_000) second }
@@ -56,7 +56,7 @@ pub(crate) fn mean_to(scale: &Scale, before: i128, first: i128, second: i128) ->
 
 // The point, times the macroticks of a cycle.
 fn weighed(scale: &Scale, before: i128, first: i128, second: i128) -> i128
-    requires scale { IsScale scale.now }
+    requires scale { IsReadingScale scale.now }
     requires before { IsBetween (pos 0) scale.now.macros before }
     requires first { IsWithin (pos 1_900_000_000_000_000_000) first }
     requires second { IsWithin (pos 1_900_000_000_000_000_000) second }

@@ -1,7 +1,7 @@
 ghost use Rattle.std.specs.Prelude.{◌≡◌, pos, map, All};
 ghost use Rattle.fr_base.specs.Within.{IsBetween, IsWithin};
-ghost use Rattle.fr_course.specs.Corners.{place_of};
-ghost use Rattle.fr_course.specs.Near.{IsNearCourse, IsScale, LieWithin};
+ghost use Rattle.fr_course.specs.Corners.{corner_place};
+ghost use Rattle.fr_course.specs.Near.{IsNearCourse, IsReadingScale, EndWithin};
 ghost use Rattle.fr_course.specs.Spread.{least_at, least_distance, least_even_skew, least_from, least_odd_skew, most_at, most_distance, most_even_skew, most_from, most_odd_skew};
 
 use crate::corners::{even_start, even_turn, odd_start, odd_turn};
@@ -21,7 +21,7 @@ pub(crate) enum Corner {
 
 /// The skew of the even cycle of nodes with these courses is no less, in ticks; 0 of none.
 pub fn least_even_skew(scale: &Scale, courses: &[Course]) -> i64
-    requires scale { IsScale scale.now }
+    requires scale { IsReadingScale scale.now }
     requires courses { All (IsNearCourse scale.now) courses.now }
     ensures value { result ≡ least_even_skew scale.now courses.now }
 {
@@ -32,7 +32,7 @@ pub fn least_even_skew(scale: &Scale, courses: &[Course]) -> i64
 
 /// The skew of the even cycle of nodes with these courses is no greater, in ticks.
 pub fn most_even_skew(scale: &Scale, courses: &[Course]) -> i64
-    requires scale { IsScale scale.now }
+    requires scale { IsReadingScale scale.now }
     requires courses { All (IsNearCourse scale.now) courses.now }
     ensures value { result ≡ most_even_skew scale.now courses.now }
 {
@@ -43,7 +43,7 @@ pub fn most_even_skew(scale: &Scale, courses: &[Course]) -> i64
 
 /// The skew of the odd cycle of nodes with these courses is no less, in ticks; 0 of none.
 pub fn least_odd_skew(scale: &Scale, courses: &[Course]) -> i64
-    requires scale { IsScale scale.now }
+    requires scale { IsReadingScale scale.now }
     requires courses { All (IsNearCourse scale.now) courses.now }
     ensures value { result ≡ least_odd_skew scale.now courses.now }
 {
@@ -55,7 +55,7 @@ pub fn least_odd_skew(scale: &Scale, courses: &[Course]) -> i64
 /// The skew of the odd cycle of nodes with these courses is no greater, in ticks; `next` are the courses of the same
 /// nodes in the next double cycle.
 pub fn most_odd_skew(scale: &Scale, courses: &[Course], next: &[Course]) -> i64
-    requires scale { IsScale scale.now }
+    requires scale { IsReadingScale scale.now }
     requires courses { All (IsNearCourse scale.now) courses.now }
     requires next { All (IsNearCourse scale.now) next.now }
     ensures value { result ≡ most_odd_skew scale.now courses.now next.now }
@@ -68,14 +68,14 @@ pub fn most_odd_skew(scale: &Scale, courses: &[Course], next: &[Course]) -> i64
 
 // How far apart a corner of any two courses lies at least: 0 of one alone and of none.
 fn least_at(scale: &Scale, corner: Corner, courses: &[Course]) -> i128
-    requires scale { IsScale scale.now }
+    requires scale { IsReadingScale scale.now }
     requires courses { All (IsNearCourse scale.now) courses.now }
-    ensures value { result ≡ least_at scale.now (place_of corner) courses.now }
+    ensures value { result ≡ least_at scale.now (corner_place corner) courses.now }
     ensures within { IsBetween (pos 0) (pos 6_000_000_000_000_000_000) result }
 {
     let mut least = 0;
     for place in (0..courses.len()).rev() {
-        let point = place_of(scale, corner, &courses[place]);
+        let point = corner_place(scale, corner, &courses[place]);
         let others = &courses[place + 1..];
         least = least_from(scale, corner, &point, others).max(least);
     }
@@ -84,14 +84,14 @@ fn least_at(scale: &Scale, corner: Corner, courses: &[Course]) -> i128
 
 // The same at most.
 fn most_at(scale: &Scale, corner: Corner, courses: &[Course]) -> i128
-    requires scale { IsScale scale.now }
+    requires scale { IsReadingScale scale.now }
     requires courses { All (IsNearCourse scale.now) courses.now }
-    ensures value { result ≡ most_at scale.now (place_of corner) courses.now }
+    ensures value { result ≡ most_at scale.now (corner_place corner) courses.now }
     ensures within { IsBetween (pos 0) (pos 6_000_000_000_000_000_000) result }
 {
     let mut most = 0;
     for place in (0..courses.len()).rev() {
-        let point = place_of(scale, corner, &courses[place]);
+        let point = corner_place(scale, corner, &courses[place]);
         let others = &courses[place + 1..];
         most = most_from(scale, corner, &point, others).max(most);
     }
@@ -100,15 +100,15 @@ fn most_at(scale: &Scale, corner: Corner, courses: &[Course]) -> i128
 
 // How far a point lies at least from that corner of one of these courses.
 fn least_from(scale: &Scale, corner: Corner, point: &Interval, courses: &[Course]) -> i128
-    requires scale { IsScale scale.now }
+    requires scale { IsReadingScale scale.now }
     requires courses { All (IsNearCourse scale.now) courses.now }
-    requires point { LieWithin (pos 3_000_000_000_000_000_000) point.now }
-    ensures value { result ≡ least_from point.now (map (place_of corner scale.now) courses.now) }
+    requires point { EndWithin (pos 3_000_000_000_000_000_000) point.now }
+    ensures value { result ≡ least_from point.now (map (corner_place corner scale.now) courses.now) }
     ensures within { IsBetween (pos 0) (pos 6_000_000_000_000_000_000) result }
 {
     let mut least = 0;
     for place in (0..courses.len()).rev() {
-        let other = place_of(scale, corner, &courses[place]);
+        let other = corner_place(scale, corner, &courses[place]);
         least = least_distance(point, &other).max(least);
     }
     least
@@ -116,26 +116,26 @@ fn least_from(scale: &Scale, corner: Corner, point: &Interval, courses: &[Course
 
 // How far at most from that of any.
 fn most_from(scale: &Scale, corner: Corner, point: &Interval, courses: &[Course]) -> i128
-    requires scale { IsScale scale.now }
+    requires scale { IsReadingScale scale.now }
     requires courses { All (IsNearCourse scale.now) courses.now }
-    requires point { LieWithin (pos 3_000_000_000_000_000_000) point.now }
-    ensures value { result ≡ most_from point.now (map (place_of corner scale.now) courses.now) }
+    requires point { EndWithin (pos 3_000_000_000_000_000_000) point.now }
+    ensures value { result ≡ most_from point.now (map (corner_place corner scale.now) courses.now) }
     ensures within { IsBetween (pos 0) (pos 6_000_000_000_000_000_000) result }
 {
     let mut most = 0;
     for place in (0..courses.len()).rev() {
-        let other = place_of(scale, corner, &courses[place]);
+        let other = corner_place(scale, corner, &courses[place]);
         most = most_distance(point, &other).max(most);
     }
     most
 }
 
 // Where a corner of a course can lie.
-fn place_of(scale: &Scale, corner: Corner, course: &Course) -> Interval
-    requires scale { IsScale scale.now }
+fn corner_place(scale: &Scale, corner: Corner, course: &Course) -> Interval
+    requires scale { IsReadingScale scale.now }
     requires course { IsNearCourse scale.now course.now }
-    ensures value { result ≡ place_of corner scale.now course.now }
-    ensures near { LieWithin (pos 3_000_000_000_000_000_000) result }
+    ensures value { result ≡ corner_place corner scale.now course.now }
+    ensures near { EndWithin (pos 3_000_000_000_000_000_000) result }
 {
     match corner {
         Corner::EvenStart => even_start(scale, course),
@@ -147,8 +147,8 @@ fn place_of(scale: &Scale, corner: Corner, course: &Course) -> Interval
 
 // How far apart two points lie at least that lie in two intervals.
 fn least_distance(one: &Interval, other: &Interval) -> i128
-    requires one { LieWithin (pos 3_000_000_000_000_000_000) one.now }
-    requires other { LieWithin (pos 3_000_000_000_000_000_000) other.now }
+    requires one { EndWithin (pos 3_000_000_000_000_000_000) one.now }
+    requires other { EndWithin (pos 3_000_000_000_000_000_000) other.now }
     ensures value { result ≡ least_distance one.now other.now }
     ensures within { IsWithin (pos 6_000_000_000_000_000_000) result }
 {
@@ -157,8 +157,8 @@ fn least_distance(one: &Interval, other: &Interval) -> i128
 
 // How far apart they lie at most.
 fn most_distance(one: &Interval, other: &Interval) -> i128
-    requires one { LieWithin (pos 3_000_000_000_000_000_000) one.now }
-    requires other { LieWithin (pos 3_000_000_000_000_000_000) other.now }
+    requires one { EndWithin (pos 3_000_000_000_000_000_000) one.now }
+    requires other { EndWithin (pos 3_000_000_000_000_000_000) other.now }
     ensures value { result ≡ most_distance one.now other.now }
     ensures within { IsWithin (pos 6_000_000_000_000_000_000) result }
 {

@@ -1,3 +1,9 @@
+pub mod Quotients
+pub mod Headers
+pub mod Senders
+pub mod Proper
+pub mod Passed
+pub mod Rising
 pub mod Gathering
 pub mod Printing
 pub mod Windows

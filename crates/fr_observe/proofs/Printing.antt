@@ -1,5 +1,5 @@
 -- The rows of double cycles are put one double cycle after the other, and counted.
-use Rattle.std.proofs.Common.{◌≡◌, ℕ, suc, ◌+◌, ◌-◌, ◌*◌, ◌<◌, ◌≤◌, ℤ, Bool, true, false, cond, List, [], ◌∷◌, ◌++◌, Result, Ok, Err, refl, sym, ap, ◌∙◌, subst, arith}
+use Rattle.std.proofs.Common.{◌≡◌, ℕ, suc, ◌+◌, ◌-◌, ◌*◌, ◌<◌, ◌≤◌, ℤ, Bool, true, false, cond, List, [], ◌∷◌, ◌++◌, length, slice_get, Option, None, Result, Ok, Err, refl, sym, ap, ◌∙◌, subst, arith}
 use Rattle.std.specs.List.{count_by, range_with_len}
 use Rattle.std.specs.Result.{IsErr}
 use Rattle.std.proofs.lemmas.List.Sums.{count_by-le-length, sum_by-append}
@@ -9,11 +9,13 @@ use Rattle.fr_base.proofs.Putting.{cut, then}
 use Rattle.fr_cluster.specs.Values.{Values}
 use Rattle.fr_log.specs.View.{LogView}
 use Rattle.fr_course.specs.declared.scales.Scale.{Scale}
-use Rattle.fr_observe.specs.Observing.{both_say, counted, double_text, doubles_say, doubles_text, is_open, is_over, is_within, senders_of}
-use Rattle.fr_observe.specs.Ranges.{AreFew}
+use Rattle.fr_observe.specs.Observing.{both_say, counted, counts_of, cycle_row, cycles_text, double_text, doubles_between, doubles_of, doubles_say, doubles_text, even_high, even_low, is_open, is_over, is_within, no_counts, odd_high, odd_low, says_of, senders_of}
+use Rattle.fr_observe.specs.Ranges.{AreFew, AreSkews}
 use Rattle.fr_observe.specs.Senders.{senders_in, sightings_in}
 use Rattle.fr_observe.specs.declared.counts.Counts.{Counts}
 use Rattle.fr_observe.specs.declared.says.Says.{Says}
+use Rattle.fr_observe.specs.declared.sender.Sender.{Sender}
+use Rattle.fr_observe.specs.declared.skews.Skews.{Skews}
 use Rattle.fr_observe.specs.declared.sighting.Sighting.{Sighting}
 
 -- ---- double cycles
@@ -53,20 +55,25 @@ counted-none counts = counts-same (counted counts []) counts (omega arith) (omeg
 two-at-most : (test : Says → Bool) (a b : Says) → count_by test (a ∷ b ∷ []) ≤ 2
 two-at-most test a b = count_by-le-length test (a ∷ b ∷ [])
 
-pub few-more : (most : ℕ) (counts : Counts) (a b : Says) → AreFew most counts → AreFew (most + 2) (counted counts (a ∷ b ∷ []))
+few-more : (most : ℕ) (counts : Counts) (a b : Says) → AreFew most counts → AreFew (most + 2) (counted counts (a ∷ b ∷ []))
 few-more most counts a b few = record {
   within = omega (arith, two-at-most is_within a b, few.within);
   over = omega (arith, two-at-most is_over a b, few.over);
   neither = omega (arith, two-at-most is_open a b, few.neither);
 }
 
+pub few-said : (most : ℕ) (counts : Counts) (precision : ℤ) (scale : Scale) (senders : List Sender) → AreFew most counts → AreFew (most + 2) (counted counts (both_say precision scale senders))
+unfolding both_say
+few-said most counts precision scale senders few =
+    few-more most counts (says_of precision (even_low scale senders) (even_high scale senders)) (says_of precision (odd_low scale senders) (odd_high scale senders)) few
+
 -- ---- one double cycle, and those behind it
 
 module _ (precision : ℤ) (scale : Scale) (p : Values) (l : LogView) (seen here next : List Sighting) (double last : ℕ) where
-  told : List ℕ
+  abbrev pub told : List ℕ
   told = double_text precision scale double (senders_in scale p l here next double)
 
-  said : List Says
+  abbrev pub said : List Says
   said = both_say precision scale (senders_in scale p l here next double)
 
   senders-are : here ≡ sightings_in seen double → next ≡ sightings_in seen (double + 1) → senders_in scale p l here next double ≡ senders_of scale p l seen double
@@ -110,3 +117,29 @@ pub says-end : (precision : ℤ) (scale : Scale) (p : Values) (l : LogView) (see
 unfolding doubles_say
 says-end precision scale p l seen double last counts less =
     ap (λ (doubles : List ℕ). counted counts (doubles_say precision scale p l seen doubles)) (range-none double last less) ∙ counted-none counts
+
+-- ---- without a sighting
+
+none-doubles : (seen : List Sighting) → slice_get seen 0 ≡ None → doubles_of seen ≡ []
+unfolding doubles_of
+none-doubles seen none = ap (λ (o : Option Sighting). doubles_between o (slice_get seen (length seen - 1))) none
+
+pub none-text : (precision : ℤ) (scale : Scale) (p : Values) (l : LogView) (seen : List Sighting) → slice_get seen 0 ≡ None → doubles_text precision scale p l seen (doubles_of seen) ≡ []
+unfolding doubles_text
+none-text precision scale p l seen none = ap (doubles_text precision scale p l seen) (none-doubles seen none)
+
+pub none-says : (precision : ℤ) (scale : Scale) (p : Values) (l : LogView) (seen : List Sighting) → slice_get seen 0 ≡ None
+    → counts_of (doubles_say precision scale p l seen (doubles_of seen)) ≡ no_counts
+unfolding doubles_say
+none-says precision scale p l seen none =
+    ap (λ (doubles : List ℕ). counts_of (doubles_say precision scale p l seen doubles)) (none-doubles seen none) ∙ counted-none no_counts
+
+-- ---- both cycles
+
+pub cycles-are : (precision : ℤ) (scale : Scale) (double : ℕ) (senders : List Sender) (skews : Skews) → AreSkews scale senders skews
+    → cycle_row precision (2 * double) (length senders) skews.even_low skews.even_high ++ cycle_row precision (2 * double + 1) (length senders) skews.odd_low skews.odd_high
+    ≡ cycles_text precision scale double senders
+unfolding cycles_text
+cycles-are precision scale double senders skews are = λ i.
+    cycle_row precision (2 * double) (length senders) (are.even_low i) (are.even_high i)
+    ++ cycle_row precision (2 * double + 1) (length senders) (are.odd_low i) (are.odd_high i)

@@ -209,13 +209,14 @@ doubles_say precision scale p l seen doubles = flat_map (double_says precision s
 abbrev pub precision_row : ℤ → List ℕ
 precision_row precision = row (codes "precision") (signed_decimal precision ∷ [] ∷ [] ∷ [] ∷ [] ∷ [] ∷ [] ∷ [])
 
--- the precision, each double cycle, and what became of the entries, by the sightings of a log
+-- each double cycle and what became of the entries, by the sightings of a log; behind the precision
+unfoldable pub rest_by : ℤ → Scale → Values → LogView → List Sighting → Tally → List ℕ
+rest_by precision scale p l seen tally =
+    doubles_text precision scale p l seen (doubles_of seen)
+    ++ (log_row tally ++ cycles_row seen (counts_of (doubles_say precision scale p l seen (doubles_of seen))))
+
 unfoldable pub text_by : ℤ → Scale → Values → LogView → List Sighting → Tally → List ℕ
-text_by precision scale p l seen tally =
-    precision_row precision
-    ++ doubles_text precision scale p l seen (doubles_of seen)
-    ++ log_row tally
-    ++ cycles_row seen (counts_of (doubles_say precision scale p l seen (doubles_of seen)))
+text_by precision scale p l seen tally = precision_row precision ++ rest_by precision scale p l seen tally
 
 unfoldable pub observe_text : Values → LogView → List ℕ
 observe_text p l = text_by (pos (precision_of p)) (reading_scale l.drift p) p l (sightings_of p l) (tally_of p l)

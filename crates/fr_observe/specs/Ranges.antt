@@ -6,7 +6,7 @@ use Rattle.fr_cluster.specs.declared.names.ParamName.TheVariants as name
 use Rattle.fr_cluster.specs.declared.nodes.NodeSpec.{NodeSpec}
 use Rattle.fr_log.specs.Rows.{last_stamp}
 use Rattle.fr_log.specs.View.{LogView}
-use Rattle.fr_course.specs.Near.{IsNearCourse, IsScale, IsSpan}
+use Rattle.fr_course.specs.Near.{IsNearCourse, IsReadingScale, IsSpan}
 use Rattle.fr_course.specs.declared.courses.Course.{Course}
 use Rattle.fr_course.specs.declared.scales.Scale.{Scale}
 use Rattle.fr_observe.specs.Observing.{even_high, even_low, odd_high, odd_low}
@@ -49,7 +49,7 @@ pub record IsProperSender (scale : Scale) (s : Sender) : Type 0 where
 
 -- a scale is that of a cluster
 pub record IsScaleOf (p : Values) (scale : Scale) : Type 0 where
-  pub proper : IsScale scale
+  pub proper : IsReadingScale scale
   pub correction : scale.correction ≡ p.correction
 
 -- no count passes a number

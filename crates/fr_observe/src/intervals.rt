@@ -1,6 +1,6 @@
 ghost use Rattle.std.specs.Prelude.{◌≡◌, ◌==◌, ◌*◌, ◌≤◌, ℤ, IfSome};
 ghost use Rattle.fr_base.specs.Rows.{channel_rank};
-ghost use Rattle.fr_course.specs.Near.{AreDelays, IsBox, IsObserver, IsSpan, LieBetween};
+ghost use Rattle.fr_course.specs.Near.{AreDelays, IsBox, IsObserver, IsSpan, EndBetween};
 ghost use Rattle.fr_log.specs.Rows.{last_stamp};
 ghost use Rattle.fr_log.specs.View.{AreDelayLimits};
 ghost use Rattle.fr_observe.specs.Ranges.{AreTimed};
@@ -133,8 +133,8 @@ fn span_on(
 #[tactic(auto, unfolding(fr_course::specs::Readings::meet_all))]
 fn on_both(on_a: Option<Interval>, on_b: Option<Interval>) -> Option<Interval>
     ensures value { result ≡ on_both on_a on_b }
-    ensures near { (least greatest : ℤ) → IfSome on_a (LieBetween least greatest) →
-        IfSome on_b (LieBetween least greatest) → IfSome result (LieBetween least greatest) }
+    ensures near { (least greatest : ℤ) → IfSome on_a (EndBetween least greatest) →
+        IfSome on_b (EndBetween least greatest) → IfSome result (EndBetween least greatest) }
 {
     match on_a {
         None => on_b,

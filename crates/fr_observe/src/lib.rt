@@ -4,18 +4,26 @@
 
 mod counts;
 mod course_list;
+mod gathered;
 mod intervals;
+mod judging;
 mod looking;
+mod numbering;
 mod observing;
+mod placing;
 mod rows;
 mod says;
 mod sender;
 mod sending;
 mod sighting;
 mod skews;
+mod walking;
 mod writing;
 
 pub use counts::Counts;
+pub use gathered::SightingList;
+pub use observing::write_observed;
 pub use says::Says;
 pub use sender::Sender;
-pub use sighting::{Sighting, Tally};
+pub use sighting::{Fate, Sighting, Tally};
+pub use walking::sightings;

@@ -1,6 +1,7 @@
 ghost use Rattle.std.specs.Prelude.{◌≡◌, ◌≤◌, ◌<◌, ◌+◌, ℕ, length};
 ghost use Rattle.std.specs.List.{prefix_len};
-ghost use Rattle.fr_observe.specs.Ranges.{AreFrom, DoublesAscend};
+ghost use Rattle.fr_log.specs.View.{LogView};
+ghost use Rattle.fr_observe.specs.Ranges.{AreFrom, AreTimed, DoublesAscend};
 ghost use Rattle.fr_observe.specs.Senders.{is_in, sightings_in};
 
 use crate::sighting::Sighting;
@@ -35,6 +36,8 @@ pub(crate) fn look_at(seen: &[Sighting], double: u32) -> Window<'_>
     ensures later { (later : ℕ) → double < later → sightings_in result.behind.now later ≡ sightings_in seen.now later }
     ensures ascend { DoublesAscend result.behind.now }
     ensures from { AreFrom (double + 1) result.behind.now }
+    ensures timed { (l : LogView) → AreTimed l seen.now →
+        AreTimed l result.here.now × AreTimed l result.next.now × AreTimed l result.behind.now }
 {
     let (here, behind) = seen.split_at(count_in(seen, double));
     let (next, _) = behind.split_at(count_in(behind, double + 1));

@@ -2,7 +2,7 @@ ghost use Rattle.std.specs.Prelude.{◌≡◌, ◌++◌, All, OnOk, pos};
 ghost use Rattle.fr_base.specs.Device.{Puts};
 ghost use Rattle.fr_bound.specs.Bounds.{precision_of};
 ghost use Rattle.fr_course.specs.Readings.{reading_scale};
-ghost use Rattle.fr_observe.specs.Observing.{counts_of, cycles_row, doubles_of, doubles_say, doubles_text, log_row, no_counts, observe_text, text_by};
+ghost use Rattle.fr_observe.specs.Observing.{counts_of, cycles_row, doubles_of, doubles_say, doubles_text, log_row, no_counts, observe_text, rest_by, text_by};
 ghost use Rattle.fr_observe.specs.Ranges.{AreNumbered, AreTimed, DoublesAscend, IsScaleOf};
 ghost use Rattle.fr_observe.specs.Sightings.{IsSighting, sightings_of, tally_of};
 
@@ -78,8 +78,28 @@ fn put_end<O: Sink>(
     put_line(&cycles_row(seen, counts), out)
 }
 
+// All rows behind the precision.
+fn put_rest<O: Sink>(
+    scale: &Scale,
+    params: &Params,
+    log: &Log,
+    seen: &[Sighting],
+    tally: &Tally,
+    out: &mut O,
+) -> Result<(), PutFault>
+    requires scale { IsScaleOf params.now scale.now }
+    requires timed { AreTimed log.now seen.now }
+    requires ascend { DoublesAscend seen.now }
+    requires numbered { AreNumbered seen.now }
+    ensures { Puts result (O.state out.old) (O.state out.new)
+        (rest_by (pos (precision_of params.now)) scale.now params.now log.now seen.now tally.now) }
+{
+    let mut counts = Counts::new();
+    put_all(scale, params, log, seen, &mut counts, out)?;
+    put_end(seen, tally, &counts, out)
+}
+
 // What these sightings of a log tell, and what became of its entries.
-#[tactic(auto, unfolding(crate::specs::Observing::text_by))]
 fn put_told<O: Sink>(
     params: &Params,
     log: &Log,
@@ -95,10 +115,8 @@ fn put_told<O: Sink>(
         seen.now tally.now) }
 {
     let scale = scale_of(params, log);
-    let mut counts = Counts::new();
     put_line(&precision_row(bounds(params).precision), out)?;
-    put_all(&scale, params, log, seen, &mut counts, out)?;
-    put_end(seen, tally, &counts, out)
+    put_rest(&scale, params, log, seen, tally, out)
 }
 
 /// Writes what a log tells of a cluster's clocks, by its sightings: records of eight fields, each line in one put. It

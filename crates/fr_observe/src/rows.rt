@@ -1,6 +1,9 @@
-ghost use Rattle.std.specs.Prelude.{◌≡◌, pos, IfSome};
+ghost use Rattle.std.specs.Prelude.{◌≡◌, ◌+◌, ◌*◌, pos, IfSome};
+ghost use Rattle.std.specs.Fmt.{decimal, signed_decimal};
 ghost use Rattle.std.specs.Option.{option_map};
-ghost use Rattle.fr_course.specs.Near.{IsScale, LieWithin};
+ghost use Rattle.fr_base.specs.Within.{IsWithin};
+ghost use Rattle.fr_course.specs.Near.{IsReadingScale, EndWithin};
+ghost use Rattle.fr_time.specs.Cycles.{double_cycle_of};
 ghost use Rattle.fr_text.specs.Pieces.{Spells};
 ghost use Rattle.fr_observe.specs.Observing.{cycle_row, cycles_row, first_cycle, known, known_count, last_cycle, log_row, node_row, precision_row, terms_of};
 ghost use Rattle.fr_observe.specs.Ranges.{IsProperSender};
@@ -78,10 +81,10 @@ pub(crate) fn cycle_row(
 // The limits of the offset term of a sender, in microticks.
 #[tactic(auto, unfolding(crate::specs::Observing::terms_of))]
 fn terms_of(scale: &Scale, sender: &Sender) -> Option<Interval>
-    requires scale { IsScale scale.now }
+    requires scale { IsReadingScale scale.now }
     requires sender { IsProperSender scale.now sender.now }
     ensures value { result ≡ terms_of scale.now sender.now }
-    ensures near { IfSome result (LieWithin (pos 6_000_000_000_000_000_000)) }
+    ensures near { IfSome result (EndWithin (pos 6_000_000_000_000_000_000)) }
 {
     match sender.next {
         None => None,
@@ -90,7 +93,7 @@ fn terms_of(scale: &Scale, sender: &Sender) -> Option<Interval>
 }
 
 fn low_of(term: Option<Interval>) -> Option<i64>
-    requires { IfSome term (LieWithin (pos 6_000_000_000_000_000_000)) }
+    requires { IfSome term (EndWithin (pos 6_000_000_000_000_000_000)) }
     ensures { result ≡ option_map (λ t. t.low) term }
 {
     match term {
@@ -100,7 +103,7 @@ fn low_of(term: Option<Interval>) -> Option<i64>
 }
 
 fn high_of(term: Option<Interval>) -> Option<i64>
-    requires { IfSome term (LieWithin (pos 6_000_000_000_000_000_000)) }
+    requires { IfSome term (EndWithin (pos 6_000_000_000_000_000_000)) }
     ensures { result ≡ option_map (λ t. t.high) term }
 {
     match term {
@@ -109,23 +112,53 @@ fn high_of(term: Option<Interval>) -> Option<i64>
     }
 }
 
+// The least and the greatest offset term of a sender.
+fn least_term(scale: &Scale, sender: &Sender) -> Piece<'static>
+    requires scale { IsReadingScale scale.now }
+    requires sender { IsProperSender scale.now sender.now }
+    ensures { Spells result (known (option_map (λ t. t.low) (terms_of scale.now sender.now))) 20 }
+{
+    known(low_of(terms_of(scale, sender)))
+}
+
+fn most_term(scale: &Scale, sender: &Sender) -> Piece<'static>
+    requires scale { IsReadingScale scale.now }
+    requires sender { IsProperSender scale.now sender.now }
+    ensures { Spells result (known (option_map (λ t. t.high) (terms_of scale.now sender.now))) 20 }
+{
+    known(high_of(terms_of(scale, sender)))
+}
+
+// A length of cycles, in ticks of the observer's clock.
+fn ticks(value: i128) -> Piece<'static>
+    requires { IsWithin (pos 1_000_000_000_000_000_000) value }
+    ensures { Spells result (signed_decimal value) 20 }
+{
+    Signed(value as i64)
+}
+
+fn natural(value: u64) -> Piece<'static>
+    ensures { Spells result (decimal value) 20 }
+{
+    Natural(value)
+}
+
 // A sender: the limits of the length of its cycles, and of its offset term.
 #[tactic(auto, unfolding(crate::specs::Observing::node_row))]
 pub(crate) fn node_row(scale: &Scale, double: u32, sender: &Sender) -> Line
-    requires scale { IsScale scale.now }
+    requires scale { IsReadingScale scale.now }
     requires sender { IsProperSender scale.now sender.now }
     ensures { result ≡ node_row scale.now double sender.now }
 {
-    let term = terms_of(scale, sender);
     row_of(
         b"node",
         &[
-            Natural(u64::from(double)),
-            Natural(u64::from(sender.node.0)),
-            Signed(sender.course.length.low as i64),
-            Signed(sender.course.length.high as i64),
-            known(low_of(term)),
-            known(high_of(term)),
+            natural(u64::from(double)),
+            natural(u64::from(sender.node.0)),
+            ticks(sender.course.length.low),
+            ticks(sender.course.length.high),
+            least_term(scale, sender),
+            most_term(scale, sender),
             Word(b""),
         ],
     )
@@ -149,12 +182,25 @@ pub(crate) fn log_row(tally: &Tally) -> Line
     )
 }
 
+// The even and the odd cycle of the double cycle of a cycle.
+fn even_of(number: u32) -> u64
+    ensures { result ≡ 2 * double_cycle_of number }
+{
+    u64::from(2 * (number / 2))
+}
+
+fn odd_of(number: u32) -> u64
+    ensures { result ≡ 2 * double_cycle_of number + 1 }
+{
+    u64::from(2 * (number / 2) + 1)
+}
+
 fn first_cycle(seen: &[Sighting]) -> Option<u64>
     ensures { result ≡ first_cycle seen.now }
 {
     match seen.first() {
         None => None,
-        Some(first) => Some(2 * u64::from(first.number / 2)),
+        Some(first) => Some(even_of(first.number)),
     }
 }
 
@@ -163,7 +209,7 @@ fn last_cycle(seen: &[Sighting]) -> Option<u64>
 {
     match seen.last() {
         None => None,
-        Some(last) => Some(2 * u64::from(last.number / 2) + 1),
+        Some(last) => Some(odd_of(last.number)),
     }
 }
 

@@ -1,8 +1,11 @@
 ghost use Rattle.std.specs.Prelude.{◌≡◌, ◌≤◌, ◌<◌, ◌++◌, ℤ, pos, All, IfSome, Some, length, slice_get};
 ghost use Rattle.std.specs.Option.{option_to_list};
 ghost use Rattle.arrayvec.specs.ArrayVec.{array_vec_len};
+ghost use Rattle.fr_base.specs.Within.{IsBetween};
 ghost use Rattle.fr_cluster.specs.Values.{amount};
 ghost use Rattle.fr_cluster.specs.declared.names.ParamName.TheVariants as name;
+ghost use Rattle.fr_course.specs.Course.{course_from};
+ghost use Rattle.fr_course.specs.Near.{IsBox, IsReadingScale, IsSpan};
 ghost use Rattle.fr_course.specs.declared.scales.Scale.{Scale as Measure};
 ghost use Rattle.fr_time.specs.Slots.{action_point_of};
 ghost use Rattle.fr_observe.specs.Ranges.{AreTimed, HasStaticKey, IsCourseAt, IsProperSender, IsScaleOf};
@@ -13,10 +16,39 @@ use crate::sender::Sender;
 use crate::sighting::Sighting;
 use arrayvec::ArrayVec;
 use fr_base::{NodeId, ROW_ROOM, Slot};
-use fr_cluster::{NodeSpec, Params};
-use fr_course::{Course, Scale, course_from, is_there};
+use fr_cluster::{NodeList, NodeSpec, Params};
+use fr_course::{Course, Interval, Scale, course_from, is_there};
 use fr_log::Log;
 use fr_time::action_point;
+
+// The course of a node that sends at a macrotick.
+fn course_by(
+    scale: &Scale,
+    action: i128,
+    even: Option<Interval>,
+    odd: Option<Interval>,
+    span: Option<Interval>,
+) -> Option<Course>
+    requires scale { IsReadingScale scale.now }
+    requires action { IsBetween (pos 0) scale.now.correction action }
+    requires even { IfSome even IsBox }
+    requires odd { IfSome odd IsBox }
+    requires span { IfSome span IsSpan }
+    ensures value { result ≡ course_from scale.now action even odd span }
+    ensures proper { IfSome result (IsCourseAt scale.now action) }
+{
+    course_from(scale, action, even, odd, span)
+}
+
+// The macrotick at which a node sends in a slot.
+fn action_in(scale: &Scale, params: &Params, slot: Slot) -> i128
+    requires scale { IsScaleOf params.now scale.now }
+    requires slot { slot ≤ amount params.now name.gNumberOfStaticSlots }
+    ensures value { result ≡ pos (action_point_of params.now slot) }
+    ensures within { IsBetween (pos 0) scale.now.correction result }
+{
+    i128::from(action_point(params, slot))
+}
 
 // The course of a node that sends in a slot, by the sightings of a double cycle.
 #[tactic(auto, unfolding(crate::specs::Senders::course_in))]
@@ -37,9 +69,9 @@ fn course_in(
     ensures proper { IfSome result (IsCourseAt scale.now (pos (action_point_of params.now slot))) }
 {
     let (even, odd) = (2 * double, 2 * double + 1);
-    course_from(
+    course_by(
         scale,
-        i128::from(action_point(params, slot)),
+        action_in(scale, params, slot),
         box_in(log, seen, node, even),
         box_in(log, seen, node, odd),
         span_in(log, seen, seen, node, even, odd),
@@ -149,16 +181,31 @@ fn sender_in(
     }
 }
 
+// How many nodes there are.
+fn node_count(params: &Params) -> usize
+    ensures value { result ≡ length params.now.nodes }
+    ensures few { result ≤ 64 }
+{
+    params.nodes.len()
+}
+
+fn node_at(nodes: &NodeList, place: usize) -> &NodeSpec
+    requires { place < length nodes.now }
+    ensures { slice_get nodes.now place ≡ Some result.now }
+{
+    match nodes.get(place) {
+        Some(node) => node,
+        None => unreachable!(),
+    }
+}
+
 // The node at a place; its key slot is a static one.
-fn node_at(params: &Params, place: usize) -> &NodeSpec
+fn static_node(params: &Params, place: usize) -> &NodeSpec
     requires { place < length params.now.nodes }
     ensures value { slice_get params.now.nodes place ≡ Some result.now }
     ensures key { HasStaticKey params.now result.now }
 {
-    match params.nodes.get(place) {
-        Some(node) => node,
-        None => unreachable!(),
-    }
+    node_at(&params.nodes, place)
 }
 
 fn keep(sender: Option<Sender>, senders: &mut ArrayVec<Sender, ROW_ROOM>)
@@ -188,8 +235,8 @@ pub(crate) fn senders_in(
     ensures proper { All (IsProperSender scale.now) result.items }
 {
     let mut senders = ArrayVec::new();
-    for place in 0..params.nodes.len() {
-        let node = node_at(params, place);
+    for place in 0..node_count(params) {
+        let node = static_node(params, place);
         keep(
             sender_in(scale, params, log, here, next, double, node),
             &mut senders,

@@ -2,7 +2,7 @@ ghost use Rattle.std.specs.Prelude.{◌≡◌, ◌+◌, ◌-◌, ◌≤◌, ◌<
 ghost use Rattle.std.specs.List.{flat_map, range_with_len};
 ghost use Rattle.fr_base.specs.Device.{Puts};
 ghost use Rattle.fr_bound.specs.Bounds.{precision_of};
-ghost use Rattle.fr_course.specs.Near.{IsScale};
+ghost use Rattle.fr_course.specs.Near.{IsReadingScale};
 ghost use Rattle.fr_course.specs.declared.scales.Scale.{Scale as Measure};
 ghost use Rattle.fr_observe.specs.Observing.{both_say, counted, counts_of, cycles_text, double_text, doubles_say, doubles_text, no_counts, node_row};
 ghost use Rattle.fr_observe.specs.Ranges.{AreFew, AreFrom, AreSkews, AreTimed, DoublesAscend, IsProperSender, IsScaleOf};
@@ -30,17 +30,14 @@ fn put_nodes<O: Sink>(
     senders: &[Sender],
     out: &mut O,
 ) -> Result<(), PutFault>
-    requires scale { IsScale scale.now }
+    requires scale { IsReadingScale scale.now }
     requires senders { All (IsProperSender scale.now) senders.now }
     ensures { Puts result (O.state out.old) (O.state out.new) (flat_map (node_row scale.now double) senders.now) }
 {
-    match senders.split_first() {
-        None => Ok(()),
-        Some((sender, rest)) => {
-            put_line(&node_row(scale, double, sender), out)?;
-            put_nodes(scale, double, rest, out)
-        }
+    for sender in senders {
+        put_line(&node_row(scale, double, sender), out)?;
     }
+    Ok(())
 }
 
 // The rows of both cycles of a double cycle.
@@ -102,7 +99,7 @@ fn put_senders<O: Sink>(
     counts: &mut Counts,
     out: &mut O,
 ) -> Result<(), PutFault>
-    requires scale { IsScale scale.now }
+    requires scale { IsReadingScale scale.now }
     requires double { double < 1_000_000 }
     requires few { length senders.now ≤ 64 }
     requires senders { All (IsProperSender scale.now) senders.now }

@@ -16,6 +16,16 @@ overflow_mul-whole c =
     let near : IsWithin (pos 1_900_000_000_000_000_000) c.args.length = record { low = omega (arith, ints, c.requires.length.low); high = omega (arith, ints, c.requires.length.high) } in
     simp to_z-of_z (product_fits c.args.macroticks c.args.length c.requires.macroticks.low few near)
 
+pub ceiling-requires-clause-number : goal.ceiling-requires-clause-number
+ceiling-requires-clause-number c =
+    let macroticks : FitsSigned w128 c.args.macroticks = c.ranges.macroticks in
+    let length : FitsSigned w128 c.args.length = c.ranges.length in
+    let few : c.args.macroticks ≤ℤ pos 16_000 = omega (arith, ints, c.requires.macroticks.high, c.requires.scale.macros_to) in
+    let near : IsWithin (pos 1_900_000_000_000_000_000) c.args.length = record { low = omega (arith, ints, c.requires.length.low); high = omega (arith, ints, c.requires.length.high) } in
+    let whole : FitsSigned w128 (c.args.macroticks *ℤ c.args.length) = product_fits c.args.macroticks c.args.length c.requires.macroticks.low few near in
+    let within = mulz_within c.args.macroticks c.args.length (pos 16_000) (pos 1_900_000_000_000_000_000) c.requires.macroticks.low few near in
+    simp to_z-of_z (record { low = omega (arith, ints, within.low); high = omega (arith, ints, within.high) })
+
 value_lem : (c : goal.After-ceiling) → c.ceiling.result ≡ ceiling_of (c.args.macroticks *ℤ c.args.length) c.args.scale.now.macros
 value_lem c =
     let macroticks : FitsSigned w128 c.args.macroticks = c.ranges.macroticks in
