@@ -1,13 +1,17 @@
-ghost use Rattle.std.specs.Prelude.{◌≡◌};
+ghost use Rattle.std.specs.Prelude.{◌≡◌, All, IfErr, IfOk};
+ghost use Rattle.fr_observe.specs.Ranges.{DoublesAscend};
+ghost use Rattle.fr_observe.specs.Sightings.{IsSighting, sightings_of, tally_of};
 ghost use Rattle.fr_program.specs.Around.{around_of};
 ghost use Rattle.fr_program.specs.Command.{CommandEnds};
 ghost use Rattle.fr_program.specs.Failure.{EndingWritesNothing};
 ghost use Rattle.fr_text.specs.Files.{IsDecided};
+ghost use Rattle.fr_text.specs.Told.{no_memory};
 ghost use Rattle.fr_answer.specs.ObserveAnswer.{observe_command, observe_files};
 
 use fr_base::{Shelf, Sink};
-use fr_log::LogFile;
-use fr_observe::{sightings, write_observed};
+use fr_cluster::Params;
+use fr_log::{Log, LogFile};
+use fr_observe::{SightingList, sightings, write_observed};
 use fr_params::ParamsFile;
 use fr_program::Failure;
 use fr_text::{Told, accepted};
@@ -38,11 +42,25 @@ pub fn answer_observe<S: Shelf, O: Sink>(
 {
     let params = accepted(alloc, &ParamsFile {}, files.params, shelf)?;
     let log = accepted(alloc, &LogFile { params: &params }, files.log, shelf)?;
-    let Ok(seen) = sightings(alloc, &params, &log) else {
-        return Err(Failure::Stopped(Told::no_memory()));
-    };
-    write_observed(&params, &log, &seen, out)?;
-    Ok(())
+    let seen = seen_in(alloc, &params, &log)?;
+    match write_observed(&params, &log, &seen, out) {
+        Ok(()) => Ok(()),
+        Err(_) => Err(Failure::WriteFault),
+    }
+}
+
+// The sightings of a log.
+fn seen_in(alloc: Global, params: &Params, log: &Log) -> Result<SightingList, Told>
+    ensures list { IfOk result (λ seen. seen.list ≡ sightings_of params.now log.now) }
+    ensures tally { IfOk result (λ seen. seen.tally ≡ tally_of params.now log.now) }
+    ensures proper { IfOk result (λ seen. All (IsSighting params.now log.now) seen.list) }
+    ensures ascend { IfOk result (λ seen. DoublesAscend seen.list) }
+    ensures failed { IfErr result (λ why. why ≡ no_memory) }
+{
+    match sightings(alloc, params, log) {
+        Ok(seen) => Ok(seen),
+        Err(_) => Err(Told::no_memory()),
+    }
 }
 
 /// A law: the bytes of both files decide what is written. Two texts that the answer's clause allows for files of the
