@@ -1,3 +1,4 @@
 pub mod Floors
 pub mod Limits
+pub mod Meets
 pub mod Spreads

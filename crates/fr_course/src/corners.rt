@@ -169,7 +169,8 @@ fn between_to(scale: &Scale, course: &Course) -> i128
     mean_to(scale, course.action, course.even.high, course.odd.high) + scale.change
 }
 
-// The point of the even cycle at which an offset correction would start: by the action point before it, and between both.
+// The point of the even cycle at which an offset correction would start: by the action point before it, and between
+// both.
 fn even_turn_from(scale: &Scale, course: &Course) -> i128
     requires scale { IsReadingScale scale.now }
     requires course { IsNearCourse scale.now course.now }

@@ -1,7 +1,7 @@
-ghost use Rattle.std.specs.Prelude.{◌≡◌, ℤ, IfSome};
+ghost use Rattle.std.specs.Prelude.{◌≡◌, ℤ, All, IfSome};
 ghost use Rattle.fr_course.specs.Course.{is_empty};
 ghost use Rattle.fr_course.specs.Near.{EndBetween};
-ghost use Rattle.fr_course.specs.Readings.{meet, meet_if};
+ghost use Rattle.fr_course.specs.Readings.{meet, meet_all, meet_if};
 
 /// From one number to another; where the one is above the other, nothing lies there.
 #[derive(Clone, Copy, Debug, PartialEq, Eq)]
@@ -36,6 +36,20 @@ pub fn meet_if(one: Option<Interval>, other: &Interval) -> Interval
         None => *other,
         Some(one) => meet(&one, other),
     }
+}
+
+/// What lies in all of some intervals; none without one. Where the ends of all lie between two numbers, so do its ends.
+pub fn meet_all(intervals: &[Interval]) -> Option<Interval>
+    ensures value { result ≡ meet_all intervals.now }
+    ensures near { (least greatest : ℤ) →
+        All (EndBetween least greatest) intervals.now →
+        IfSome result (EndBetween least greatest) }
+{
+    let mut met = None;
+    for place in (0..intervals.len()).rev() {
+        met = Some(meet_if(met, &intervals[place]));
+    }
+    met
 }
 
 // Whether nothing lies there.

@@ -11,7 +11,7 @@ use crate::readings::{least_ticks, most_ticks};
 use crate::scales::Scale;
 
 // A corner of a course.
-#[derive(Clone, Copy, Debug, PartialEq, Eq)]
+#[derive(Clone, Copy)]
 pub(crate) enum Corner {
     EvenStart,
     EvenTurn,

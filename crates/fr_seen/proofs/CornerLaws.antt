@@ -14,8 +14,11 @@ use Rattle.fr_bound.specs.Bounds.{cycle_change, longest_micro, shortest_micro}
 use Rattle.fr_bound.specs.Sync.{cycle_length_of}
 use Rattle.fr_precision.specs.Rows.{HasProperMicro, Lasts}
 use Rattle.fr_precision.proofs.InstantLaws.{early_on_line, even_on_line, odd_start_is}
-use Rattle.fr_course.specs.Readings.{ceiling_of, reading_scale, Interval, Scale}
-use Rattle.fr_course.specs.Course.{even_start, even_turn, mean_from, mean_to, odd_macrotick, odd_start, odd_turn, share_from, share_to, Course}
+use Rattle.fr_course.specs.declared.intervals.Interval.{Interval}
+use Rattle.fr_course.specs.declared.scales.Scale.{Scale}
+use Rattle.fr_course.specs.Readings.{ceiling_of, reading_scale}
+use Rattle.fr_course.specs.declared.courses.Course.{Course}
+use Rattle.fr_course.specs.Course.{even_start, even_turn, mean_from, mean_to, odd_macrotick, odd_start, odd_turn, share_from, share_to}
 use Rattle.fr_seen.specs.Clocks.{reading_at, reading_of, HasReading, ReadsIn, StraightClock}
 use Rattle.fr_seen.specs.Courses.{even_action, odd_action, rounded_down, CornersLie, HasCorners, HoldsCourse, IsSeenNode, PointReadsIn}
 use Rattle.fr_seen.proofs.Readings.{most_reading_lem}

@@ -11,8 +11,11 @@ use Rattle.fr_midpoint.proofs.Products.{mulz-lez_left, mulz-negz, mulz-subz}
 use Rattle.fr_bound.specs.Bounds.{cycle_change, longest_micro, shortest_micro}
 use Rattle.fr_bound.specs.Checks.{least_cycle}
 use Rattle.fr_bound.specs.Sync.{cycle_length_of}
-use Rattle.fr_course.specs.Readings.{least_reading, meet, meet_if, most_cycle, most_reading, reading_scale, Interval, Scale}
-use Rattle.fr_course.specs.Course.{allowed, apart_by, between, course_back, course_by, course_from, course_on, length_seen, Course}
+use Rattle.fr_course.specs.declared.intervals.Interval.{Interval}
+use Rattle.fr_course.specs.declared.scales.Scale.{Scale}
+use Rattle.fr_course.specs.Readings.{least_reading, meet, meet_if, most_cycle, most_reading, reading_scale}
+use Rattle.fr_course.specs.declared.courses.Course.{Course}
+use Rattle.fr_course.specs.Course.{allowed, apart_by, between, course_back, course_by, course_from, course_on, length_seen}
 use Rattle.fr_seen.specs.Clocks.{reading_at, reading_of, HasReading, IsWithinDrift, LastsIn, StraightClock}
 use Rattle.fr_seen.specs.Courses.{even_action, odd_action, AreSeen, CoursesAreThere, CoursesHold, HoldsCourse, IsSeenNode}
 use Rattle.fr_seen.proofs.Readings.{least_reading_lem, most_reading_lem}

@@ -22,8 +22,11 @@ use Rattle.fr_time.proofs.Placing.{action_point_lt, before_correction as slot_en
 use Rattle.fr_precision.proofs.InstantLaws.{before_correction}
 use Rattle.fr_history.specs.Cycles.{Cycle, Cycles, cycle_at}
 use Rattle.fr_history.specs.History.{row_of}
-use Rattle.fr_course.specs.Readings.{meet_all, meet_if, Interval}
-use Rattle.fr_course.specs.Course.{Course, Delays, Observer}
+use Rattle.fr_course.specs.declared.intervals.Interval.{Interval}
+use Rattle.fr_course.specs.Readings.{meet_all, meet_if}
+use Rattle.fr_course.specs.declared.courses.Course.{Course}
+use Rattle.fr_course.specs.declared.stamps.Delays.{Delays}
+use Rattle.fr_course.specs.declared.stamps.Observer.{Observer}
 use Rattle.fr_course.specs.Numbering.{nominal_cycle, scheduled}
 use Rattle.fr_seen.specs.Clocks.{reading_at, reading_of, HasReading, IsStamped, LastsIn, ReadsIn, StraightClock}
 use Rattle.fr_seen.specs.Courses.{even_action, odd_action, AreSeen, IsSeenNode}

@@ -19,7 +19,8 @@ use Rattle.fr_bound.specs.Sync.{cycle_length_of}
 use Rattle.fr_skew.specs.Spreads.{spread_of}
 use Rattle.fr_precision.specs.Rows.{corrected_end_of, Lasts}
 use Rattle.fr_precision.proofs.InstantLaws.{before_correction}
-use Rattle.fr_course.specs.Readings.{most_ticks, reading_scale, Scale}
+use Rattle.fr_course.specs.declared.scales.Scale.{Scale}
+use Rattle.fr_course.specs.Readings.{most_ticks, reading_scale}
 use Rattle.fr_course.specs.Course.{even_start, odd_start, odd_turn}
 use Rattle.fr_course.specs.Spread.{most_at, most_spread}
 use Rattle.fr_seen.specs.Clocks.{reading_at, reading_of, IsWithinDrift, ReadsIn, StraightClock}

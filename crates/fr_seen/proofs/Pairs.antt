@@ -7,7 +7,7 @@ use Rattle.std.proofs.lemmas.List.Elements.{All-cons, All-contains, All-contains
 use Rattle.fr_midpoint.proofs.Products.{mulz-lez_left, mulz-subz, mulz_from}
 use Rattle.fr_skew.specs.Spreads.{spread_of}
 use Rattle.fr_skew.proofs.Differences.{spread_from}
-use Rattle.fr_course.specs.Readings.{Interval}
+use Rattle.fr_course.specs.declared.intervals.Interval.{Interval}
 use Rattle.fr_course.specs.Spread.{least_distance, least_from, least_spread, most_distance, most_from, most_spread}
 use Rattle.fr_seen.specs.Clocks.{HasReading, StraightClock}
 use Rattle.fr_seen.proofs.Intervals.{on_max}

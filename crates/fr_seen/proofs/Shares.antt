@@ -6,7 +6,8 @@ use Rattle.std.proofs.lemmas.Int.{ints}
 use Rattle.fr_base.specs.Within.{IsBetween, IsWithin}
 use Rattle.fr_midpoint.proofs.Products.{lez_of_mulz-lez, mulz-addz, mulz-lez_left, mulz-subz, mulz_assoc, mulz_comm}
 use Rattle.fr_time.specs.Position.{floor_of}
-use Rattle.fr_course.specs.Readings.{ceiling_of, Interval}
+use Rattle.fr_course.specs.declared.intervals.Interval.{Interval}
+use Rattle.fr_course.specs.Readings.{ceiling_of}
 use Rattle.fr_seen.specs.Clocks.{HasReading, StraightClock}
 use Rattle.fr_course.proofs.Floors.{ceiling_above, floor_below, mulz-lez_down}
 use Rattle.fr_seen.proofs.Intervals.{on_max, on_min}

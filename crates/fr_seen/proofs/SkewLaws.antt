@@ -19,8 +19,11 @@ use Rattle.fr_bound.specs.Sync.{cycle_length_of}
 use Rattle.fr_skew.specs.Spreads.{spread_of}
 use Rattle.fr_skew.proofs.Differences.{within_spread}
 use Rattle.fr_precision.proofs.InstantLaws.{before_correction}
-use Rattle.fr_course.specs.Readings.{least_ticks, most_ticks, reading_scale, Interval, Scale}
-use Rattle.fr_course.specs.Course.{even_start, even_turn, odd_start, odd_turn, Course}
+use Rattle.fr_course.specs.declared.intervals.Interval.{Interval}
+use Rattle.fr_course.specs.declared.scales.Scale.{Scale}
+use Rattle.fr_course.specs.Readings.{least_ticks, most_ticks, reading_scale}
+use Rattle.fr_course.specs.declared.courses.Course.{Course}
+use Rattle.fr_course.specs.Course.{even_start, even_turn, odd_start, odd_turn}
 use Rattle.fr_course.specs.Spread.{least_at, least_spread, most_at, most_spread}
 use Rattle.fr_seen.specs.Clocks.{reading_at, reading_of, HasReading, IsWithinDrift, ReadsIn, StraightClock}
 use Rattle.fr_seen.specs.Courses.{rounded_down, HasCorners}

@@ -13,8 +13,11 @@ use Rattle.fr_bound.specs.Bounds.{cycle_change, longest_micro, nominal, shortest
 use Rattle.fr_bound.specs.Checks.{least_cycle}
 use Rattle.fr_bound.specs.Sync.{cycle_length_of}
 use Rattle.fr_precision.proofs.Figures.{natural}
-use Rattle.fr_course.specs.Readings.{ceiling_of, least_reading, micros_from, micros_to, most_cycle, most_reading, reading_scale, slow_million, fast_million, Interval, Scale}
-use Rattle.fr_course.specs.Course.{between, share_from, share_to, Course}
+use Rattle.fr_course.specs.declared.intervals.Interval.{Interval}
+use Rattle.fr_course.specs.declared.scales.Scale.{Scale}
+use Rattle.fr_course.specs.Readings.{ceiling_of, least_reading, micros_from, micros_to, most_cycle, most_reading, reading_scale, slow_million, fast_million}
+use Rattle.fr_course.specs.declared.courses.Course.{Course}
+use Rattle.fr_course.specs.Course.{between, share_from, share_to}
 use Rattle.fr_course.specs.Terms.{offset_reading, onward, step_reading}
 use Rattle.fr_seen.specs.Clocks.{reading_at, reading_of, HasReading, IsWithinDrift, LastsIn, ReadsIn, StraightClock}
 use Rattle.fr_seen.specs.Courses.{even_action, odd_action}

@@ -3,8 +3,11 @@
 use Rattle.std.specs.Prelude.{ℕ, ◌≤◌, ◌≡◌, false, ℤ, pos, ◌+ℤ◌, ◌-ℤ◌, ◌*ℤ◌, ◌≤ℤ◌, ◌<ℤ◌}
 use Rattle.fr_base.specs.Within.{IsBetween, IsWithin}
 use Rattle.fr_bound.specs.Bounds.{nominal}
-use Rattle.fr_course.specs.Readings.{fast_million, least_reading, least_ticks, meet, most_reading, most_ticks, slow_million, Interval}
-use Rattle.fr_course.specs.Course.{breadth_of, is_empty, span_of, stamped, Delays, Observer}
+use Rattle.fr_course.specs.declared.intervals.Interval.{Interval}
+use Rattle.fr_course.specs.Readings.{fast_million, least_reading, least_ticks, meet, most_reading, most_ticks, slow_million}
+use Rattle.fr_course.specs.declared.stamps.Delays.{Delays}
+use Rattle.fr_course.specs.declared.stamps.Observer.{Observer}
+use Rattle.fr_course.specs.Course.{breadth_of, is_empty, span_of, stamped}
 
 -- in so many ticks it counts so many; at instant 0 it reads this number, times the ticks
 pub record StraightClock : Type 0 where

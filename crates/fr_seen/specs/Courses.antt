@@ -10,8 +10,11 @@ use Rattle.fr_time.specs.Position.{grid_for}
 use Rattle.fr_time.specs.Instant.{instant_of}
 use Rattle.fr_bound.specs.Sync.{cycle_length_of}
 use Rattle.fr_precision.specs.Placement.{IsRegular}
-use Rattle.fr_course.specs.Readings.{reading_scale, Interval, Scale}
-use Rattle.fr_course.specs.Course.{course_from, even_start, even_turn, is_empty, odd_macrotick, odd_start, odd_turn, Course}
+use Rattle.fr_course.specs.declared.intervals.Interval.{Interval}
+use Rattle.fr_course.specs.declared.scales.Scale.{Scale}
+use Rattle.fr_course.specs.Readings.{reading_scale}
+use Rattle.fr_course.specs.declared.courses.Course.{Course}
+use Rattle.fr_course.specs.Course.{course_from, even_start, even_turn, is_empty, odd_macrotick, odd_start, odd_turn}
 use Rattle.fr_seen.specs.Clocks.{reading_at, reading_of, IsWithinDrift, LastsIn, ReadsIn, StraightClock}
 
 -- the instants of a node's action points in both cycles

@@ -18,8 +18,12 @@ use Rattle.fr_history.specs.History.{row_of}
 use Rattle.fr_history.specs.Offers.{is_on}
 use Rattle.fr_runs.specs.Numbers.{HasDouble}
 use Rattle.fr_course.specs.Numbering.{is_timely, longest_silence, next_number}
-use Rattle.fr_course.specs.Readings.{meet_all, reading_scale, Interval}
-use Rattle.fr_course.specs.Course.{course_from, span_of, stamped, Course, Delays, Observer}
+use Rattle.fr_course.specs.declared.intervals.Interval.{Interval}
+use Rattle.fr_course.specs.Readings.{meet_all, reading_scale}
+use Rattle.fr_course.specs.declared.courses.Course.{Course}
+use Rattle.fr_course.specs.declared.stamps.Delays.{Delays}
+use Rattle.fr_course.specs.declared.stamps.Observer.{Observer}
+use Rattle.fr_course.specs.Course.{course_from, span_of, stamped}
 use Rattle.fr_seen.specs.Clocks.{IsStamped, IsWithinDrift, StraightClock}
 use Rattle.fr_seen.specs.RunRows.{IsTimedRun}
 use Rattle.fr_seen.specs.Skews.{IsOnCourse}

@@ -8,7 +8,7 @@ use Rattle.fr_time.specs.Instant.{instant_of}
 use Rattle.fr_skew.specs.Spreads.{spread_of}
 use Rattle.fr_precision.specs.Rows.{corrected_end_of}
 use Rattle.fr_course.specs.Readings.{reading_scale}
-use Rattle.fr_course.specs.Course.{Course}
+use Rattle.fr_course.specs.declared.courses.Course.{Course}
 use Rattle.fr_course.specs.Spread.{least_even_skew, least_odd_skew, most_even_skew, most_odd_skew}
 use Rattle.fr_seen.specs.Clocks.{IsWithinDrift, StraightClock}
 use Rattle.fr_seen.specs.Courses.{HoldsCourse, IsSeenNode}

@@ -5,7 +5,8 @@ use Rattle.fr_base.specs.Within.{IsBetween}
 use Rattle.fr_cluster.specs.Values.{Values}
 use Rattle.fr_cluster.specs.Sane.{IsSane}
 use Rattle.fr_precision.specs.Rows.{IsSteady}
-use Rattle.fr_course.specs.Readings.{reading_scale, Interval}
+use Rattle.fr_course.specs.declared.intervals.Interval.{Interval}
+use Rattle.fr_course.specs.Readings.{reading_scale}
 use Rattle.fr_course.specs.Terms.{offset_seen, rate_step_seen}
 use Rattle.fr_seen.specs.Clocks.{IsWithinDrift, LastsIn, StraightClock}
 use Rattle.fr_seen.specs.Courses.{even_action, odd_action}

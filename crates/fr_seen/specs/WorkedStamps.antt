@@ -1,8 +1,13 @@
 -- A worked row: two nodes that send 2.5 microticks apart, as an observer stamps their frames by whole nanoseconds.
 use Rattle.std.specs.Prelude.{ℕ, ◌≡◌, ℤ, pos, neg_ℤ, [], ◌∷◌, Option, Some, None}
 use Rattle.fr_cluster.specs.Values.{Values}
-use Rattle.fr_course.specs.Readings.{reading_scale, Interval, Scale}
-use Rattle.fr_course.specs.Course.{course_from, even_start, span_of, stamped, Course, Delays, Observer}
+use Rattle.fr_course.specs.declared.intervals.Interval.{Interval}
+use Rattle.fr_course.specs.declared.scales.Scale.{Scale}
+use Rattle.fr_course.specs.Readings.{reading_scale}
+use Rattle.fr_course.specs.declared.courses.Course.{Course}
+use Rattle.fr_course.specs.declared.stamps.Delays.{Delays}
+use Rattle.fr_course.specs.declared.stamps.Observer.{Observer}
+use Rattle.fr_course.specs.Course.{course_from, even_start, span_of, stamped}
 use Rattle.fr_course.specs.Spread.{even_skew, odd_skew}
 use Rattle.fr_course.specs.Terms.{offset_seen, rate_step_seen}
 

@@ -6,6 +6,7 @@ use Rattle.std.proofs.lemmas.Int.{ints, clamps, to_z-of_z}
 use Rattle.fr_base.specs.Within.{IsBetween, IsWithin}
 use Rattle.std.proofs.Common.{ℕ, ◌+◌, ◌-◌, ◌<◌, All, List, length, get_or, take, drop, map}
 use Rattle.std.proofs.lemmas.List.Elements.{All-drop}
+use mir.Val.{to_z}
 use Rattle.fr_course.specs.Course.{Course}
 use Rattle.fr_course.specs.Readings.{Interval}
 use Rattle.fr_course.specs.Corners.{corner_place}
@@ -33,14 +34,14 @@ loop-place-preserved c =
     let inside : at < length courses = omega arith in
     let so_far = c.loop-place.invariant in
     let apart : FitsSigned w128 c.least_from.result = search rules in
-    let kept : FitsSigned w128 c.loop-place.least = omega (arith, ints, so_far.within.low, so_far.within.high) in
+    let kept : FitsSigned w128 (to_z w128 c.loop-place.least-bits) = omega (arith, ints, so_far.within.low, so_far.within.high) in
     let r : FitsSigned w128 c.max-least.result = search rules in
-    let value : c.max-least.result ≡ int_max c.least_from.result c.loop-place.least = cc (to_z-of_z w128 c.least_from.result apart, to_z-of_z w128 c.loop-place.least kept) in
+    let value : c.max-least.result ≡ int_max c.least_from.result (to_z w128 c.loop-place.least-bits) = cc (to_z-of_z w128 c.least_from.result apart, to_z-of_z w128 (to_z w128 c.loop-place.least-bits) kept) in
     let here : c.corner_place-point.result ≡ f (get_or courses at nowhere) = c.corner_place-point.ensures.value in
     let tail : take (length courses - (at + 1)) (drop (at + 1) courses) ≡ drop (at + 1) courses = tail_is (at + 1) courses in
     let far : c.least_from.result ≡ least_from (f (get_or courses at nowhere)) (map f (drop (at + 1) courses)) =
     c.least_from.ensures.value ∙ ap (λ (xs : List Course). least_from c.corner_place-point.result (map f xs)) tail ∙ ap (λ (x : Interval). least_from x (map f (drop (at + 1) courses))) here in
-    let others : c.loop-place.least ≡ least_spread (map f (drop (at + 1) courses)) = so_far.value ∙ ap (λ (n : ℕ). least_spread (map f (drop n courses))) (sym next) in
-    let all : int_max c.least_from.result c.loop-place.least ≡ least_spread (map f (drop at courses)) =
-    ap (λ (x : ℤ). int_max x c.loop-place.least) far ∙ ap (int_max (least_from (f (get_or courses at nowhere)) (map f (drop (at + 1) courses)))) others ∙ sym (least_spread-more f courses at nowhere inside) in
-    simp to_z-of_z (record { within = rw value (greater_between (pos 6_000_000_000_000_000_000) c.least_from.result c.loop-place.least c.least_from.ensures.within so_far.within); value = value ∙ all })
+    let others : (to_z w128 c.loop-place.least-bits) ≡ least_spread (map f (drop (at + 1) courses)) = so_far.value ∙ ap (λ (n : ℕ). least_spread (map f (drop n courses))) (sym next) in
+    let all : int_max c.least_from.result (to_z w128 c.loop-place.least-bits) ≡ least_spread (map f (drop at courses)) =
+    ap (λ (x : ℤ). int_max x (to_z w128 c.loop-place.least-bits)) far ∙ ap (int_max (least_from (f (get_or courses at nowhere)) (map f (drop (at + 1) courses)))) others ∙ sym (least_spread-more f courses at nowhere inside) in
+    simp to_z-of_z (record { within = rw value (greater_between (pos 6_000_000_000_000_000_000) c.least_from.result (to_z w128 c.loop-place.least-bits) c.least_from.ensures.within so_far.within); value = value ∙ all })

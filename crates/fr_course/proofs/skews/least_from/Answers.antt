@@ -5,6 +5,7 @@ use mir.Syntax.{w128}
 use Rattle.std.proofs.lemmas.Int.{ints, clamps, to_z-of_z}
 use Rattle.fr_base.specs.Within.{IsBetween, IsWithin}
 use Rattle.std.proofs.Common.{ℕ, ◌+◌, ◌-◌, ◌<◌, List, length, get_or, drop, map}
+use mir.Val.{to_z}
 use Rattle.fr_course.specs.Course.{Course}
 use Rattle.fr_course.specs.Readings.{Interval}
 use Rattle.fr_course.specs.Corners.{corner_place}
@@ -27,12 +28,12 @@ loop-place-preserved c =
     let inside : at < length courses = omega arith in
     let so_far = c.loop-place.invariant in
     let apart : FitsSigned w128 c.least_distance.result = search rules in
-    let kept : FitsSigned w128 c.loop-place.least = omega (arith, ints, so_far.within.low, so_far.within.high) in
+    let kept : FitsSigned w128 (to_z w128 c.loop-place.least-bits) = omega (arith, ints, so_far.within.low, so_far.within.high) in
     let r : FitsSigned w128 c.max-least.result = search rules in
-    let value : c.max-least.result ≡ int_max c.least_distance.result c.loop-place.least = cc (to_z-of_z w128 c.least_distance.result apart, to_z-of_z w128 c.loop-place.least kept) in
+    let value : c.max-least.result ≡ int_max c.least_distance.result (to_z w128 c.loop-place.least-bits) = cc (to_z-of_z w128 c.least_distance.result apart, to_z-of_z w128 (to_z w128 c.loop-place.least-bits) kept) in
     let here : c.corner_place-other.result ≡ f (get_or courses at nowhere) = c.corner_place-other.ensures.value in
     let far : c.least_distance.result ≡ least_distance point (f (get_or courses at nowhere)) = c.least_distance.ensures.value ∙ ap (least_distance point) here in
-    let others : c.loop-place.least ≡ least_from point (map f (drop (at + 1) courses)) = so_far.value ∙ ap (λ (n : ℕ). least_from point (map f (drop n courses))) (sym next) in
-    let all : int_max c.least_distance.result c.loop-place.least ≡ least_from point (map f (drop at courses)) =
-    ap (λ (x : ℤ). int_max x c.loop-place.least) far ∙ ap (int_max (least_distance point (f (get_or courses at nowhere)))) others ∙ sym (least_from-more point f courses at nowhere inside) in
-    simp to_z-of_z (record { within = rw value (max_between (pos 6_000_000_000_000_000_000) c.least_distance.result c.loop-place.least c.least_distance.ensures.within so_far.within); value = value ∙ all })
+    let others : (to_z w128 c.loop-place.least-bits) ≡ least_from point (map f (drop (at + 1) courses)) = so_far.value ∙ ap (λ (n : ℕ). least_from point (map f (drop n courses))) (sym next) in
+    let all : int_max c.least_distance.result (to_z w128 c.loop-place.least-bits) ≡ least_from point (map f (drop at courses)) =
+    ap (λ (x : ℤ). int_max x (to_z w128 c.loop-place.least-bits)) far ∙ ap (int_max (least_distance point (f (get_or courses at nowhere)))) others ∙ sym (least_from-more point f courses at nowhere inside) in
+    simp to_z-of_z (record { within = rw value (max_between (pos 6_000_000_000_000_000_000) c.least_distance.result (to_z w128 c.loop-place.least-bits) c.least_distance.ensures.within so_far.within); value = value ∙ all })

@@ -6,6 +6,7 @@ use Rattle.std.proofs.lemmas.Int.{ints, clamps, to_z-of_z}
 use Rattle.fr_base.specs.Within.{IsBetween, IsWithin}
 use Rattle.std.proofs.Common.{ℕ, ◌+◌, ◌-◌, ◌<◌, All, List, length, get_or, take, drop, map}
 use Rattle.std.proofs.lemmas.List.Elements.{All-drop}
+use mir.Val.{to_z}
 use Rattle.fr_course.specs.Course.{Course}
 use Rattle.fr_course.specs.Readings.{Interval}
 use Rattle.fr_course.specs.Corners.{corner_place}
@@ -26,4 +27,21 @@ most_from-requires-clause-courses c =
 
 pub loop-place-preserved : goal.loop-place-preserved
 loop-place-preserved c =
-    let h = c.max-most.ensures.value in let g = c.most_from.ensures.value in ?
+    let f : Course → Interval = corner_place c.args.corner c.args.scale.now in
+    let courses : List Course = c.args.courses.now in
+    let at : ℕ = c.loop-place.place - 1 in
+    let next : at + 1 ≡ c.loop-place.place = omega arith in
+    let inside : at < length courses = omega arith in
+    let so_far = c.loop-place.invariant in
+    let apart : FitsSigned w128 c.most_from.result = search rules in
+    let kept : FitsSigned w128 (to_z w128 c.loop-place.most-bits) = omega (arith, ints, so_far.within.low, so_far.within.high) in
+    let r : FitsSigned w128 c.max-most.result = search rules in
+    let value : c.max-most.result ≡ int_max c.most_from.result (to_z w128 c.loop-place.most-bits) = cc (to_z-of_z w128 c.most_from.result apart, to_z-of_z w128 (to_z w128 c.loop-place.most-bits) kept) in
+    let here : c.corner_place-point.result ≡ f (get_or courses at nowhere) = c.corner_place-point.ensures.value in
+    let tail : take (length courses - (at + 1)) (drop (at + 1) courses) ≡ drop (at + 1) courses = tail_is (at + 1) courses in
+    let far : c.most_from.result ≡ most_from (f (get_or courses at nowhere)) (map f (drop (at + 1) courses)) =
+    c.most_from.ensures.value ∙ ap (λ (xs : List Course). most_from c.corner_place-point.result (map f xs)) tail ∙ ap (λ (x : Interval). most_from x (map f (drop (at + 1) courses))) here in
+    let others : (to_z w128 c.loop-place.most-bits) ≡ most_spread (map f (drop (at + 1) courses)) = so_far.value ∙ ap (λ (n : ℕ). most_spread (map f (drop n courses))) (sym next) in
+    let all : int_max c.most_from.result (to_z w128 c.loop-place.most-bits) ≡ most_spread (map f (drop at courses)) =
+    ap (λ (x : ℤ). int_max x (to_z w128 c.loop-place.most-bits)) far ∙ ap (int_max (most_from (f (get_or courses at nowhere)) (map f (drop (at + 1) courses)))) others ∙ sym (most_spread-more f courses at nowhere inside) in
+    simp to_z-of_z (record { within = rw value (greater_between (pos 6_000_000_000_000_000_000) c.most_from.result (to_z w128 c.loop-place.most-bits) c.most_from.ensures.within so_far.within); value = value ∙ all })

@@ -5,6 +5,7 @@ use mir.Syntax.{w128}
 use Rattle.std.proofs.lemmas.Int.{ints, clamps, to_z-of_z}
 use Rattle.fr_base.specs.Within.{IsBetween, IsWithin}
 use Rattle.std.proofs.Common.{ℕ, ◌+◌, ◌-◌, ◌<◌, List, length, get_or, drop, map}
+use mir.Val.{to_z}
 use Rattle.fr_course.specs.Course.{Course}
 use Rattle.fr_course.specs.Readings.{Interval}
 use Rattle.fr_course.specs.Corners.{corner_place}
@@ -19,4 +20,20 @@ loop-place-init c =
 
 pub loop-place-preserved : goal.loop-place-preserved
 loop-place-preserved c =
-    let h = c.max-most.ensures.value in let g = c.corner_place-other.ensures.value in let i = c.loop-place.most-is in let j = c.loop-place.auto.most-fits in ?
+    let point : Interval = c.args.point.now in
+    let f : Course → Interval = corner_place c.args.corner c.args.scale.now in
+    let courses : List Course = c.args.courses.now in
+    let at : ℕ = c.loop-place.place - 1 in
+    let next : at + 1 ≡ c.loop-place.place = omega arith in
+    let inside : at < length courses = omega arith in
+    let so_far = c.loop-place.invariant in
+    let apart : FitsSigned w128 c.most_distance.result = search rules in
+    let kept : FitsSigned w128 (to_z w128 c.loop-place.most-bits) = omega (arith, ints, so_far.within.low, so_far.within.high) in
+    let r : FitsSigned w128 c.max-most.result = search rules in
+    let value : c.max-most.result ≡ int_max c.most_distance.result (to_z w128 c.loop-place.most-bits) = cc (to_z-of_z w128 c.most_distance.result apart, to_z-of_z w128 (to_z w128 c.loop-place.most-bits) kept) in
+    let here : c.corner_place-other.result ≡ f (get_or courses at nowhere) = c.corner_place-other.ensures.value in
+    let far : c.most_distance.result ≡ most_distance point (f (get_or courses at nowhere)) = c.most_distance.ensures.value ∙ ap (most_distance point) here in
+    let others : (to_z w128 c.loop-place.most-bits) ≡ most_from point (map f (drop (at + 1) courses)) = so_far.value ∙ ap (λ (n : ℕ). most_from point (map f (drop n courses))) (sym next) in
+    let all : int_max c.most_distance.result (to_z w128 c.loop-place.most-bits) ≡ most_from point (map f (drop at courses)) =
+    ap (λ (x : ℤ). int_max x (to_z w128 c.loop-place.most-bits)) far ∙ ap (int_max (most_distance point (f (get_or courses at nowhere)))) others ∙ sym (most_from-more point f courses at nowhere inside) in
+    simp to_z-of_z (record { within = rw value (max_between (pos 6_000_000_000_000_000_000) c.most_distance.result (to_z w128 c.loop-place.most-bits) c.most_distance.ensures.within so_far.within); value = value ∙ all })
