@@ -2,7 +2,6 @@
 //! was, and the text of what follows.
 #![tactic(auto)]
 
-mod census;
 mod counts;
 mod course_list;
 mod gathered;

@@ -146,7 +146,7 @@ fn sender_by(
 }
 
 // The slot in which a correct node sends sync frames.
-pub(crate) fn own_slot(log: &Log, node: &NodeSpec) -> Option<Slot>
+fn own_slot(log: &Log, node: &NodeSpec) -> Option<Slot>
     ensures { result ≡ own_slot log.now node.now }
 {
     if log.is_arbitrary(node.id) {
@@ -182,7 +182,7 @@ fn sender_in(
 }
 
 // How many nodes there are.
-pub(crate) fn node_count(params: &Params) -> usize
+fn node_count(params: &Params) -> usize
     ensures value { result ≡ length params.now.nodes }
     ensures few { result ≤ 64 }
 {
@@ -200,7 +200,7 @@ fn node_at(nodes: &NodeList, place: usize) -> &NodeSpec
 }
 
 // The node at a place; its key slot is a static one.
-pub(crate) fn static_node(params: &Params, place: usize) -> &NodeSpec
+fn static_node(params: &Params, place: usize) -> &NodeSpec
     requires { place < length params.now.nodes }
     ensures value { slice_get params.now.nodes place ≡ Some result.now }
     ensures key { HasStaticKey params.now result.now }
