@@ -9,7 +9,7 @@ use Rattle.fr_base.proofs.Putting.{cut, then}
 use Rattle.fr_cluster.specs.Values.{Values}
 use Rattle.fr_log.specs.View.{LogView}
 use Rattle.fr_course.specs.declared.scales.Scale.{Scale}
-use Rattle.fr_observe.specs.Observing.{both_say, counted, cycle_counts, cycle_row, cycles_text, double_rows, doubles_between, seen_doubles, doubles_say, doubles_rows, even_high, even_low, is_open, is_over, is_within, no_cycles_told, odd_high, odd_low, says_of, seen_senders_of}
+use Rattle.fr_observe.specs.Observing.{both_say, counted, cycle_counts, cycle_row, cycles_text, double_rows, doubles_between, seen_doubles, doubles_say, doubles_rows, even_high, even_low, is_open, is_over, is_within, no_cycles_told, odd_high, odd_low, says_of, senders_of}
 use Rattle.fr_observe.specs.Ranges.{AreFewCycles, AreSkews}
 use Rattle.fr_observe.specs.Senders.{seen_senders, sightings_in}
 use Rattle.fr_observe.specs.declared.counts.Counts.{Counts}
@@ -76,8 +76,8 @@ module _ (precision : ℤ) (scale : Scale) (p : Values) (l : LogView) (seen here
   abbrev pub said : List Says
   said = both_say precision scale (seen_senders scale p l here next double)
 
-  senders-are : here ≡ sightings_in seen double → next ≡ sightings_in seen (double + 1) → seen_senders scale p l here next double ≡ seen_senders_of scale p l seen double
-  unfolding seen_senders_of
+  senders-are : here ≡ sightings_in seen double → next ≡ sightings_in seen (double + 1) → seen_senders scale p l here next double ≡ senders_of scale p l seen double
+  unfolding senders_of
   senders-are here_is next_is = λ i. seen_senders scale p l (here_is i) (next_is i) double
 
   text-first : double ≤ last → here ≡ sightings_in seen double → next ≡ sightings_in seen (double + 1)

@@ -190,15 +190,15 @@ seen_doubles seen = doubles_between (slice_get seen 0) (slice_get seen (length s
 -- ---- the text
 
 -- the senders of one by the sightings of a log
-unfoldable pub seen_senders_of : Scale → Values → LogView → List Sighting → ℕ → List Sender
-seen_senders_of scale p l seen double =
+unfoldable pub senders_of : Scale → Values → LogView → List Sighting → ℕ → List Sender
+senders_of scale p l seen double =
     seen_senders scale p l (sightings_in seen double) (sightings_in seen (double + 1)) double
 
 abbrev pub double_told : ℤ → Scale → Values → LogView → List Sighting → ℕ → List ℕ
-double_told precision scale p l seen double = double_rows precision scale double (seen_senders_of scale p l seen double)
+double_told precision scale p l seen double = double_rows precision scale double (senders_of scale p l seen double)
 
 abbrev pub double_says : ℤ → Scale → Values → LogView → List Sighting → ℕ → List Says
-double_says precision scale p l seen double = both_say precision scale (seen_senders_of scale p l seen double)
+double_says precision scale p l seen double = both_say precision scale (senders_of scale p l seen double)
 
 unfoldable pub doubles_rows : ℤ → Scale → Values → LogView → List Sighting → List ℕ → List ℕ
 doubles_rows precision scale p l seen doubles = flat_map (double_told precision scale p l seen) doubles
