@@ -4,3 +4,6 @@ pub mod Senders
 pub mod Proper
 pub mod Passed
 pub mod Rising
+pub mod Gathering
+pub mod Printing
+pub mod Windows

@@ -1,5 +1,8 @@
 -- what the public contract cites
 pub mod Judging
 pub mod Sightings
+pub mod Senders
+pub mod Observing
+pub mod Ranges
 -- what only functions inside cite
 pub mod Passing

@@ -1,0 +1,63 @@
+ghost use Rattle.std.specs.Prelude.{◌≡◌, ◌<◌, [], ◌∷◌, ◌++◌, length};
+
+use fr_base::ROW_ROOM;
+use fr_course::{Course, Interval};
+use std::marker::Model;
+
+// The courses of nodes, one of each at most: contracts see their list. No call takes memory.
+#[derive(Drop)]
+pub(crate) struct CourseList {
+    courses: [Course; ROW_ROOM],
+    used: usize,
+}
+
+impl Model for CourseList {
+    ghost use Rattle.std.specs.Prelude.{◌≤◌, List, take};
+    ghost use Rattle.fr_course.specs.declared.courses.Course.{Course as Known};
+
+    ghost Value = { List Known };
+
+    ghost view = { λ list. take list.used list.courses };
+
+    ghost invariant = { λ list. list.used ≤ 64 };
+}
+
+// What stands in the places that are not in use.
+pub(crate) fn no_course() -> Course {
+    let nowhere = Interval { low: 0, high: 0 };
+    Course {
+        action: 0,
+        even: nowhere,
+        odd: nowhere,
+        apart: nowhere,
+        length: nowhere,
+    }
+}
+
+impl CourseList {
+    // No courses.
+    pub(crate) fn new() -> CourseList
+        ensures { result ≡ [] }
+    {
+        CourseList {
+            courses: [no_course(); ROW_ROOM],
+            used: 0,
+        }
+    }
+
+    // Appends a course.
+    pub(crate) fn push(&mut self, course: Course)
+        requires { length self.old < 64 }
+        ensures { self.new ≡ self.old ++ course ∷ [] }
+    {
+        self.courses[self.used] = course;
+        self.used += 1;
+    }
+
+    // The courses as a slice.
+    pub(crate) fn as_slice(&self) -> &[Course]
+        ensures { result.now ≡ self.now }
+    {
+        &self.courses[..self.used]
+    }
+}

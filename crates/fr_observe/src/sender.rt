@@ -1,0 +1,28 @@
+use crate::course_list::no_course;
+use fr_base::NodeId;
+use fr_course::{Course, Interval};
+
+/// A node with its course in a double cycle.
+#[derive(Clone, Copy, Debug, PartialEq, Eq)]
+pub struct Sender {
+    /// The node.
+    pub node: NodeId,
+    /// Its course.
+    pub course: Course,
+    /// Its course in the next double cycle, if it has one there.
+    pub next: Option<Course>,
+    /// How far the action point of the next even cycle lies behind that of the odd one, by stamps of one channel.
+    pub onward: Option<Interval>,
+}
+
+// What stands in the places of a list that are not in use.
+impl Default for Sender {
+    fn default() -> Sender {
+        Sender {
+            node: NodeId(1),
+            course: no_course(),
+            next: None,
+            onward: None,
+        }
+    }
+}
