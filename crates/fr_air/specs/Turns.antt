@@ -13,7 +13,7 @@ use Rattle.fr_reception.specs.declared.heard.Heard.{Heard}
 use Rattle.fr_reception.specs.Regular.{regular_frame}
 use Rattle.fr_node.specs.Cycle.{after_hearing}
 use Rattle.fr_node.specs.Fits.{CanReceive, NodeFits}
-use Rattle.fr_node.specs.Receptions.{reception_of}
+use Rattle.fr_node.specs.Receptions.{received_as}
 use Rattle.fr_node.specs.declared.answers.Reception.{Reception}
 use Rattle.fr_node.specs.View.{NodeView, node_row_of}
 use Rattle.fr_air.specs.Counting.{counted_offer, counted_offers}
@@ -51,7 +51,7 @@ pub record IsSent (f : RunInputs) (air : Air) : Type 0 where
 
 -- what is made of a frame in a turn, where it arrives in its slot
 abbrev pub IsMadeOf : RunInputs → Turn → List ℕ → Reception → Type 0
-IsMadeOf f turn frame reception = reception ≡ reception_of f.params turn.cycle turn.slot (read_as turn.channel frame)
+IsMadeOf f turn frame reception = reception ≡ received_as f.params turn.cycle turn.slot (read_as turn.channel frame)
 
 -- it stands in a cell of the memory, and it is known what is made of it
 pub record IsOnAir (f : RunInputs) (air : Air) (memory : MemoryView) : Type 0 where

@@ -17,7 +17,7 @@ use Rattle.fr_reception.specs.declared.heard.Heard.TheVariants as heard
 use Rattle.fr_reception.specs.declared.heard.Ignored.{Ignored as Reason}
 use Rattle.fr_reception.specs.declared.heard.Ignored.TheVariants as reason
 use Rattle.fr_node.specs.Arrivals.{is_outside_slot}
-use Rattle.fr_node.specs.Receptions.{answer_with, heard_as, reception_of}
+use Rattle.fr_node.specs.Receptions.{answer_with, heard_as, received_as}
 use Rattle.fr_node.specs.declared.answers.Reception.TheVariants.{Ignored, Measured}
 
 -- the tests, one after the other
@@ -34,14 +34,14 @@ by_tests true true true true true of_id of_count of_words deviation = refl
 by_tests true true true true false of_id of_count of_words deviation = refl
 
 by_reception : (p : Values) (cycle : ℕ) (row : NodeRow) (offer : Offer) (told : Result Header FrameFault) →
-    answer_by p cycle row offer told ≡ heard_as (reception_of p cycle offer.slot told) (deviation_of p row offer)
+    answer_by p cycle row offer told ≡ heard_as (received_as p cycle offer.slot told) (deviation_of p row offer)
 by_reception p cycle row offer (Err fault) = refl
 by_reception p cycle row offer (Ok header) =
     by_tests (header.id == offer.slot) (header.cycle == cycle_count cycle) (header.words == amount p name.gPayloadLengthStatic) header.sync (is_none (key_index_of p offer.slot))
     (reason.WrongId offer.slot header.id) (reason.WrongCycle (cycle_count cycle) header.cycle) (reason.WrongLength (amount p name.gPayloadLengthStatic) header.words) (deviation_of p row offer)
 
 pub answer_received : (p : Values) (cycle : ℕ) (row : NodeRow) (offer : Offer) →
-    answer_of p cycle row offer ≡ answer_with p row offer (reception_of p cycle offer.slot (read_as offer.channel offer.bytes))
+    answer_of p cycle row offer ≡ answer_with p row offer (received_as p cycle offer.slot (read_as offer.channel offer.bytes))
 unfolding answer_of
 answer_received p cycle row offer =
     ap (λ (answer : Heard). if is_outside_slot p row offer.slot offer.arrival

@@ -17,9 +17,9 @@ use Rattle.fr_node.specs.declared.answers.Reception.{Reception}
 use Rattle.fr_node.specs.declared.answers.Reception.TheVariants.{Ignored, Measured}
 
 -- what each node makes of a frame that arrives in its slot, by what its bytes are on the channel
-abbrev pub reception_of : Values → ℕ → ℕ → Result Header FrameFault → Reception
-reception_of p cycle slot (Err fault) = Ignored (reason.Damaged fault)
-reception_of p cycle slot (Ok header) =
+abbrev pub received_as : Values → ℕ → ℕ → Result Header FrameFault → Reception
+received_as p cycle slot (Err fault) = Ignored (reason.Damaged fault)
+received_as p cycle slot (Ok header) =
     if not (header.id == slot) then Ignored (reason.WrongId slot header.id)
     else if not (header.cycle == cycle_count cycle) then Ignored (reason.WrongCycle (cycle_count cycle) header.cycle)
     else if not (header.words == amount p name.gPayloadLengthStatic) then Ignored (reason.WrongLength (amount p name.gPayloadLengthStatic) header.words)

@@ -9,7 +9,7 @@ ghost use Rattle.fr_time.specs.Position.{floor_of};
 ghost use Rattle.fr_time.specs.Slots.{slot_end_of, slot_start_of};
 ghost use Rattle.fr_reception.specs.Offers.{deviation_of};
 ghost use Rattle.fr_node.specs.Arrivals.{offer_with, IfStored, LiesInSlot, LiesOutside};
-ghost use Rattle.fr_node.specs.Receptions.{answer_with, reception_of};
+ghost use Rattle.fr_node.specs.Receptions.{answer_with, received_as};
 
 use crate::quotients::{lies_between, quotient};
 use fr_base::{Channel, NodeRow, Slot};
@@ -112,7 +112,7 @@ pub fn received(
     slot: Slot,
     told: &Result<Header, FrameFault>,
 ) -> Reception
-    ensures { result ≡ reception_of params.now cycle slot told.now }
+    ensures { result ≡ received_as params.now cycle slot told.now }
 {
     match told {
         Err(fault) => Reception::Ignored(Ignored::Damaged(*fault)),
@@ -122,7 +122,7 @@ pub fn received(
 
 // What each node makes of a frame with this header.
 fn judged(params: &Params, cycle: u32, slot: Slot, header: &Header) -> Reception
-    ensures { result ≡ reception_of params.now cycle slot (Ok header.now) }
+    ensures { result ≡ received_as params.now cycle slot (Ok header.now) }
 {
     let own = cycle_count(cycle);
     let words = params.natural(ParamName::gPayloadLengthStatic) as u8;

@@ -61,7 +61,7 @@ impl Node {
     ghost use Rattle.fr_node.specs.Fits.{AreTermsOf};
     ghost use Rattle.fr_node.specs.Listening.{follower_of};
     ghost use Rattle.fr_node.specs.Arrivals.{IfStored, LiesInSlot, LiesOutside};
-    ghost use Rattle.fr_node.specs.Receptions.{answer_with, reception_of};
+    ghost use Rattle.fr_node.specs.Receptions.{answer_with, received_as};
 
     /// A node before cycle 0: active, with no deviation. The start of cycle 0 is in ticks, the rate term in
     /// microticks.
@@ -187,7 +187,7 @@ impl Node {
         requires receives { CanReceive params.now self.old slot channel }
         requires arrival { IsWithin (pos 4_000_000_000_000_000_000) arrival }
         ensures answer { (bytes : List ℕ) →
-            reception.now ≡ reception_of params.now self.old.cycle slot (read_as channel bytes) →
+            reception.now ≡ received_as params.now self.old.cycle slot (read_as channel bytes) →
             result ≡ answer_of params.now self.old.cycle (node_row_of self.old)
             (record { slot = slot; channel = channel; arrival = arrival; bytes = bytes }) }
         ensures after { self.new ≡ after_hearing params.now self.old slot channel result }
