@@ -4,3 +4,4 @@ pub mod Senders
 pub mod Proper
 pub mod Passed
 pub mod Rising
+pub mod Silence

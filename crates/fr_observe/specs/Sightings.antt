@@ -140,3 +140,20 @@ pub record IsSighting (p : Values) (l : LogView) (sighting : Sighting) : Type 0 
 -- the entries that were counted
 abbrev pub all_tallied : Tally → ℕ
 all_tallied tally = tally.judged + tally.damaged + tally.arbitrary + tally.other + tally.stray + tally.behind
+
+-- ---- silence
+
+-- what is not numbered: neither a sighting nor a stray
+abbrev pub IsUnnumbered : Fate → Type 0
+IsUnnumbered fate.Damaged = Unit {0}
+IsUnnumbered fate.Arbitrary = Unit {0}
+IsUnnumbered fate.Other = Unit {0}
+IsUnnumbered fate.Stray = ⊥
+IsUnnumbered fate.Behind = Unit {0}
+IsUnnumbered (fate.Seen sighting) = ⊥
+
+-- where one frame comes behind a silence that is too long, nothing that comes later is numbered
+abbrev pub SilenceEndsAll : Type 0
+SilenceEndsAll =
+    (p : Values) (l : LogView) (last : Sighting) (e later : Entry) → fate_of p l (Some last) e ≡ fate.Behind → e.stamp ≤ later.stamp
+    → IsUnnumbered (fate_of p l (Some last) later)

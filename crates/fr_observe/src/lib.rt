@@ -4,11 +4,13 @@
 
 mod gathered;
 mod judging;
+mod laws;
 mod numbering;
 mod placing;
 mod sighting;
 mod walking;
 
 pub use gathered::SightingList;
+pub use laws::silence_ends_all;
 pub use sighting::{Fate, Sighting, Tally};
 pub use walking::sightings;
