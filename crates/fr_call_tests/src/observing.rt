@@ -4,14 +4,15 @@ use fr_samples::params_of;
 use std::alloc::{AllocError, Global};
 use std::test::Fail;
 
-// Three sync nodes, the first on both channels, the third in the last slot and no coldstart node. Slot 4 is a further one.
+// Three sync nodes, the first on both channels, the third in the last slot and no coldstart node. Slot 4 is a further
+// one.
 const NODES: &str = "node,1,1,AB,1\nnode,2,2,A,1\nnode,3,140,A,0\nslot,4,1,0,1\n";
 
 // A cycle is 5,000,000 units long.
 const HEAD: &str = "unit,40000,,,\ndrift,50,,,\ndelay,,,0,0\n";
 
-// The other records of a log; of each sighting its number, node, channel and stamp; how many entries are sightings, damaged,
-// of an arbitrary node, of another kind, strays, and behind a silence.
+// The other records of a log; of each sighting its number, node, channel and stamp; how many entries are sightings,
+// damaged, of an arbitrary node, of another kind, strays, and behind a silence.
 const LOGS: &[(&str, &str, &str)] = &[
     // Two nodes in two cycles.
     (

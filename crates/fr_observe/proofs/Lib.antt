@@ -7,3 +7,4 @@ pub mod Rising
 pub mod Gathering
 pub mod Printing
 pub mod Windows
+pub mod Silence

@@ -29,7 +29,9 @@ header_read (Err fault) = None
 -- that of five bytes with which a frame can begin: the CRC fits, the frame ID is not 0, and startup comes with sync
 abbrev pub head_read : List ℕ → Option Header
 head_read bytes =
-    if (length bytes == 5) && (header_crc_in bytes == crc_of (header_of bytes)) then header_read (read_checked (header_of bytes)) else None
+    if (length bytes == 5) && (header_crc_in bytes == crc_of (header_of bytes))
+    then header_read (read_checked (header_of bytes))
+    else None
 
 -- that of an entry that is whole; none of one that is damaged
 abbrev pub whole_header : EntryKind → Channel → List ℕ → Option Header
@@ -52,7 +54,8 @@ is_same_indicator false got = not got
 -- whether it is null, is not asked
 abbrev pub has_form_of : Header → Header → Bool
 has_form_of regular header =
-    (header.words == regular.words) && is_same_indicator regular.sync header.sync && is_same_indicator regular.startup header.startup
+    (header.words == regular.words) && is_same_indicator regular.sync header.sync
+    && is_same_indicator regular.startup header.startup
 
 -- a frame of a key slot, on a channel of its node and with the form of its regular frame
 abbrev pub is_regular_sync : Values → Channel → Header → Sending → Bool
@@ -82,7 +85,8 @@ judgement_with p l e (Some header) = judgement_by p l e header (static_sending p
 unfoldable pub judgement_of : Values → LogView → Entry → Judgement
 judgement_of p l e = judgement_with p l e (whole_header e.kind e.channel e.bytes)
 
--- what is judged is of a correct node that has the channel, in its key slot, and its stamp lies within the limits of the log
+-- what is judged is of a correct node that has the channel, in its key slot, and its stamp lies within the limits of
+-- the log
 pub record IsJudged (p : Values) (l : LogView) (judged : Judged) : Type 0 where
   pub count : judged.count ≤ 63
   pub own : own_key p judged.node ≡ Some judged.slot

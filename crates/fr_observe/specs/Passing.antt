@@ -15,4 +15,5 @@ last_sighting sightings = slice_get sightings (length sightings - 1)
 
 -- with what became of one entry more
 abbrev pub with_fate : SightingsView → Fate → SightingsView
-with_fate seen fate = record { list = seen.list ++ option_to_list (sighting_in fate); tally = fate_counted seen.tally fate }
+with_fate seen fate =
+    record { list = seen.list ++ option_to_list (sighting_in fate); tally = fate_counted seen.tally fate }

@@ -53,9 +53,11 @@ is_in_time p l last judged =
 -- a number is one of a cycle, and of no double cycle before that of a sighting
 abbrev pub keeps_order : Sighting → ℤ → Bool
 keeps_order last number =
-    int_le (pos 0) number && int_le number (pos 199_999) && nat_le (double_cycle_of last.number) (double_cycle_of (nat_abs number))
+    int_le (pos 0) number && int_le number (pos 199_999)
+    && nat_le (double_cycle_of last.number) (double_cycle_of (nat_abs number))
 
--- what becomes of a judged frame behind the last sighting before it, if there is one: the first has its cycle count as number
+-- what becomes of a judged frame behind the last sighting before it, if there is one: the first has its cycle count as
+-- number
 abbrev pub fate_behind : Values → LogView → Sighting → Judged → Fate
 fate_behind p l last judged =
     if is_behind_silence p l last judged then fate.Behind
@@ -92,8 +94,8 @@ sighting_in (fate.Seen sighting) = Some sighting
 abbrev pub last_behind : Option Sighting → Fate → Option Sighting
 last_behind last found = option_or (sighting_in found) last
 
--- what becomes of each of some entries behind a sighting. A frame that is no sighting leaves the last one as it is: since
--- stamps do not fall, all that is judged behind a long silence stays behind it
+-- what becomes of each of some entries behind a sighting. A frame that is no sighting leaves the last one as it is:
+-- since stamps do not fall, all that is judged behind a long silence stays behind it
 unfoldable pub fates_from : Values → LogView → Option Sighting → List Entry → List Fate
 fates_from p l last [] = []
 fates_from p l last (e ∷ entries) = fate_of p l last e ∷ fates_from p l (last_behind last (fate_of p l last e)) entries
@@ -126,8 +128,8 @@ pub record SightingsView : Type 0 where
 
 -- ---- what holds of them
 
--- a sighting is of a correct node that has the channel, in its key slot; its number has its count, and its stamp lies within the
--- limits of the log
+-- a sighting is of a correct node that has the channel, in its key slot; its number has its count, and its stamp lies
+-- within the limits of the log
 pub record IsSighting (p : Values) (l : LogView) (sighting : Sighting) : Type 0 where
   pub number : sighting.number ≤ 199_999
   pub counted : sighting.count ≡ cycle_count sighting.number
@@ -140,3 +142,21 @@ pub record IsSighting (p : Values) (l : LogView) (sighting : Sighting) : Type 0 
 -- the entries that were counted
 abbrev pub all_tallied : Tally → ℕ
 all_tallied tally = tally.judged + tally.damaged + tally.arbitrary + tally.other + tally.stray + tally.behind
+
+-- ---- silence
+
+-- what is not numbered: neither a sighting nor a stray
+abbrev pub IsUnnumbered : Fate → Type 0
+IsUnnumbered fate.Damaged = Unit {0}
+IsUnnumbered fate.Arbitrary = Unit {0}
+IsUnnumbered fate.Other = Unit {0}
+IsUnnumbered fate.Stray = ⊥
+IsUnnumbered fate.Behind = Unit {0}
+IsUnnumbered (fate.Seen sighting) = ⊥
+
+-- where one frame comes behind a silence that is too long, nothing that comes later is numbered
+abbrev pub SilenceEndsAll : Type 0
+SilenceEndsAll =
+    (p : Values) (l : LogView) (last : Sighting) (e later : Entry)
+    → fate_of p l (Some last) e ≡ fate.Behind → e.stamp ≤ later.stamp
+    → IsUnnumbered (fate_of p l (Some last) later)

@@ -11,8 +11,8 @@ use fr_frame::{Header, decode, front_of};
 use fr_log::{Entry, EntryKind, Log};
 use fr_time::{Kind, Sending, sender};
 
-// What a regular frame of a key slot tells: who sent it and in which slot, on which channel, with which cycle count, and
-// its stamp in units of the log.
+// What a regular frame of a key slot tells: who sent it and in which slot, on which channel, with which cycle count,
+// and its stamp in units of the log.
 #[derive(Clone, Copy, Debug, PartialEq, Eq)]
 pub(crate) struct Judged {
     pub(crate) node: NodeId,

@@ -7,6 +7,7 @@ mod course_list;
 mod gathered;
 mod intervals;
 mod judging;
+mod laws;
 mod looking;
 mod numbering;
 mod observing;
@@ -22,6 +23,7 @@ mod writing;
 
 pub use counts::Counts;
 pub use gathered::SightingList;
+pub use laws::silence_ends_all;
 pub use observing::write_observed;
 pub use says::Says;
 pub use sender::Sender;

@@ -24,8 +24,8 @@ pub enum Fate {
     Damaged,
     /// It is in the slot of a node that the log names arbitrary.
     Arbitrary,
-    /// It tells nothing of a clock: in a dynamic, a further or an unused slot, on a channel that its node does not have,
-    /// or of another form than a sync frame of the cluster.
+    /// It tells nothing of a clock: in a dynamic, a further or an unused slot, on a channel that its node does not
+    /// have, or of another form than a sync frame of the cluster.
     Other,
     /// It comes at another time than its cycle count says.
     Stray,
