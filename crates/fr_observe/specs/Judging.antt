@@ -81,7 +81,8 @@ abbrev pub judgement_with : Values → LogView → Entry → Option Header → J
 judgement_with p l e None = Damaged
 judgement_with p l e (Some header) = judgement_by p l e header (static_sending p header)
 
--- an entry is damaged where it is not whole; it is none of a node that the log does not name arbitrary, or it is judged
+-- an entry is damaged where it is not whole; of an arbitrary node where its slot is that of one; judged where it is a regular
+-- frame of a key slot; and else it tells nothing of a clock
 unfoldable pub judgement_of : Values → LogView → Entry → Judgement
 judgement_of p l e = judgement_with p l e (whole_header e.kind e.channel e.bytes)
 

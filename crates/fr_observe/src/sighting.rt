@@ -27,7 +27,8 @@ pub enum Fate {
     /// It tells nothing of a clock: in a dynamic, a further or an unused slot, on a channel that its node does not
     /// have, or of another form than a sync frame of the cluster.
     Other,
-    /// It comes at another time than its cycle count says.
+    /// It comes at another time than its cycle count says, is of a double cycle that is past, or has a number that no cycle
+    /// has.
     Stray,
     /// It comes behind a silence that is too long for cycles to be numbered over it.
     Behind,
