@@ -1,0 +1,360 @@
+"""What `flexray observe` tells of logs: beside another program that reckons it, and beside the runs that gave the logs.
+
+Random runs (nodes that join, frames that are lost, an arbitrary node) are seen by random observers, and logs have what
+is no sighting: damaged and foreign frames, counts that jump, the stamps of a second clock, a silence. No interval may
+miss the truth.
+
+FLEXRAY_OBSERVE_RUNS is how many runs are taken (40).
+"""
+import os
+import random
+import unittest
+from fractions import Fraction
+
+import observe_peer as peer
+from bench import REPOSITORY, Bench
+from flexlab_lib.frames import crc, frame_bytes
+
+RUNS = int(os.environ.get("FLEXRAY_OBSERVE_RUNS", "40"))
+MILLION = peer.MILLION
+EXAMPLE = os.path.join(REPOSITORY, "examples", "observe")
+FIXED = {"gMaxWithoutClockCorrectionPassive": 2, "gMaxWithoutClockCorrectionFatal": 4, "pAllowHaltDueToClock": 1,
+         "pAllowPassiveToActive": 2, "pOffsetCorrectionOut": 200, "pRateCorrectionOut": 60, "pDelayCompensation": 0}
+
+
+def header_bytes(slot, words, sync, startup, count):
+    """The five bytes of a header with its CRC, whatever the indicators are."""
+    first = sync << 19 | startup << 18 | slot << 7 | words
+    return (1 << 37 | first << 17 | crc(11, 0x385, 0x01A, first, 20) << 6 | count % 64).to_bytes(5, "big")
+
+
+class Cluster:
+    """A random cluster and its run: parameters, drift and script as files, and the rows of its trace."""
+
+    def __init__(self, draw, is_long):
+        self.doubles = draw.randrange(24, 40) if is_long else draw.randrange(2, 7)
+        macros = 400 if is_long else draw.choice([400, 500, 1000])
+        slot, count, further = max(20, macros // 20), draw.randrange(1, 5 if is_long else 7), draw.randrange(0, 4)
+        static = min(count + further, (macros - 40) // slot)
+        nit = macros - static * slot
+        self.values = {
+            "gMacroPerCycle": macros, "pMicroPerCycle": macros * draw.choice([20, 40]), "gNumberOfStaticSlots": static,
+            "gdStaticSlot": slot, "gdActionPointOffset": draw.randrange(3, 9), "gdNIT": nit,
+            "gPayloadLengthStatic": draw.randrange(6), "gOffsetCorrectionStart": macros - nit // 2,
+            "pClusterDriftDamping": draw.randrange(4), "xRateBound": draw.choice([50, 200, 1000]),
+            "xChangeBound": draw.choice([0, 0, 1]), "xDelayError": draw.choice([0, 500000]), **FIXED}
+        slots = draw.sample(range(1, static + 1), static)
+        # Of each node its number, key slot, channels, and whether it is a coldstart node.
+        self.nodes = [(node, slots.pop(), draw.choice(["A", "AB", "AB"]), draw.randrange(2))
+                      for node in range(1, count + 1)]
+        self.free = slots[1:]
+        self.further = [(slots[0], draw.randrange(1, count + 1))] if slots else []
+        self.arbitrary = count if count > 2 and draw.random() < 0.5 else None
+        self.joins = [count - 1] if count > 3 and draw.random() < 0.4 else []
+        self.correct = [node for node in self.nodes if node[0] != self.arbitrary]
+
+    def params(self):
+        return ("".join(f"param,{name},{value},,\n" for name, value in self.values.items())
+                + "".join(f"node,{number},{key},{channels},{cold}\n" for number, key, channels, cold in self.nodes)
+                + "".join(f"slot,{slot},{node},0,2\n" for slot, node in self.further))
+
+    def pairs(self):
+        return [(one[0], two[0], channel) for one in self.correct for two in self.correct for channel in "AB"
+                if one != two and channel in one[2] and channel in two[2]]
+
+    def drift(self, draw):
+        bound, change, lines = self.values["xRateBound"], self.values["xChangeBound"], [f"doubles,{self.doubles},,,,\n"]
+        # Some clocks begin further apart than the precision.
+        latest = draw.choice([3, 3, 3, 300]) * MILLION
+        for node, _, _, _ in self.correct:
+            length = MILLION - bound + draw.randrange(2 * bound + 1)
+            for cycle in range(2 * self.doubles if change else 1):
+                lines.append(f"length,{node},{cycle},{length},,\n")
+                length = max(MILLION - bound, min(MILLION + bound, length + draw.randrange(-change, change + 1)))
+            if node not in self.joins:
+                lines.append(f"start,{node},{draw.randrange(1, latest)},0,,\n")
+        lines += [f"delay,{one},{two},{channel},0,{draw.randrange(self.values['xDelayError'] + 1)}\n"
+                  for one, two, channel in self.pairs()]
+        return "".join(lines)
+
+    def script(self, draw):
+        lines = [f"arbitrary,{self.arbitrary},,,,,\n"] if self.arbitrary else []
+        lines += [f"join,{draw.randrange(2)},{node},1,,,\n" for node in self.joins]
+        pairs = self.pairs()
+        if pairs and draw.random() < 0.4:
+            for cycle in sorted(draw.sample(range(2 * self.doubles), 2)):
+                lines.append("lose,{},{},{},{},,\n".format(cycle, *draw.choice(pairs)))
+        return "".join(lines)
+
+    def take(self, trace):
+        """The rows (start, tick length, rate term, offset term, state) of a trace, by cycle and node."""
+        fields = [line.split(",") for line in trace.splitlines() if line.startswith("cycle,")]
+        self.rows = {(int(row[1]), int(row[2])): (*map(int, row[3:7]), row[7]) for row in fields}
+
+    def instant(self, cycle, node, macrotick):
+        """When a node has a macrotick before the offset correction."""
+        start, length, rate, _, _ = self.rows[cycle, node]
+        return start + macrotick * (self.values["pMicroPerCycle"] + rate) // self.values["gMacroPerCycle"] * length
+
+    def instants(self, cycle, node):
+        """When it has each macrotick of a cycle."""
+        start, length, rate, term, _ = self.rows[cycle, node]
+        macros, turn = self.values["gMacroPerCycle"], self.values["gOffsetCorrectionStart"]
+        micros = self.values["pMicroPerCycle"] + rate
+        last, base = turn if cycle % 2 else macros - 1, turn * micros // macros
+        return [start + length * (at * micros // macros if at <= last else
+                                  base + (at - turn) * (micros + term - base) // (macros - turn))
+                for at in range(macros)]
+
+    def skew(self, cycle, nodes):
+        """The greatest distance of a macrotick of these nodes."""
+        return max(max(at) - min(at) for at in zip(*(self.instants(cycle, node) for node in nodes)))
+
+
+class Analyzer:
+    """A random observer of a cluster: its clock, the delays to it, and the log that it writes."""
+
+    def __init__(self, draw, cluster):
+        self.draw, self.cluster = draw, cluster
+        self.unit = draw.choice([40_000, 400_000, 4_000_000, 40_000_000, 123_457])
+        self.drift, self.error = draw.choice([0, 20, 50, 1000]), draw.choice([0, 0, 30_000])
+        self.jitter, self.first = draw.choice([None, 0, 20_000]), draw.randrange(3)
+        self.rates, self.zero, self.limits, self.middle = [self.any_rate()], draw.randrange(10**12, 10**13), {}, {}
+        for node, _, channels, _ in cluster.nodes:
+            for channel in channels:
+                low = draw.randrange(10 * MILLION)
+                self.limits[node, channel] = low, low + draw.choice([0, 100_000, 5 * MILLION])
+                self.middle[node, channel] = draw.randint(*self.limits[node, channel])
+
+    def any_rate(self):
+        return 1 + Fraction(self.draw.randrange(-1000, 1001) * self.drift, 1000 * MILLION)
+
+    def stamp(self, instant, rate, zero):
+        """A stamp that an instant may have: the reading lies within a unit and the error behind it."""
+        reading = rate * instant + zero
+        return self.draw.randint(-((self.unit + self.error - reading) // self.unit), reading // self.unit)
+
+    def delay(self, node, channel):
+        low, high = self.limits[node, channel]
+        if self.jitter is None:
+            return self.draw.randint(low, high)
+        off = self.draw.randint(-(self.jitter // 2), self.jitter // 2)
+        return min(max(self.middle[node, channel] + off, low), high)
+
+    def entries(self, rate, zero, channels, lost):
+        """(stamp, kind, channel, bytes) of what correct nodes send, by a clock."""
+        found, cluster = [], self.cluster
+        words, action = cluster.values["gPayloadLengthStatic"], cluster.values["gdActionPointOffset"]
+        for node, key, has, cold in cluster.correct:
+            macrotick = (key - 1) * cluster.values["gdStaticSlot"] + action
+            for cycle in range(self.first, 2 * cluster.doubles):
+                for channel in set(has) & set(channels):
+                    row = cluster.rows.get((cycle, node))
+                    if row is None or row[4] != "active" or self.draw.random() < lost:
+                        continue
+                    stamp = self.stamp(cluster.instant(cycle, node, macrotick) + self.delay(node, channel), rate, zero)
+                    if self.draw.random() < 0.3:
+                        payload = self.draw.randbytes(2 * words)
+                        data = frame_bytes(channel, key, cycle, payload, True, True, cold == 1)
+                        found.append((stamp, "frame", channel, data))
+                    else:
+                        found.append((stamp, "head", channel, header_bytes(key, words, 1, cold, cycle)))
+        return sorted(found, key=lambda entry: entry[0])
+
+    def foreign(self, entry):
+        """An entry beside another one that is no sighting: damaged, of another form, of another sender, or of a count
+        that jumps."""
+        draw, cluster = self.draw, self.cluster
+        stamp, kind, channel, data = entry
+        words, static = cluster.values["gPayloadLengthStatic"], cluster.values["gNumberOfStaticSlots"]
+        _, key, _, cold = draw.choice(cluster.correct)
+        of_arbitrary = [node[1] for node in cluster.nodes if node[0] == cluster.arbitrary]
+        further = [slot for slot, _ in cluster.further]
+        slots = [static + 1 + draw.randrange(1000)] + cluster.free + further + 4 * of_arbitrary
+        made = [
+            (kind, data[:3] + bytes([data[3] ^ 1 << draw.randrange(8)]) + data[4:]),
+            (kind, data[:-1]),
+            *(("head", header_bytes(draw.choice(slots), words, 1, 0, draw.randrange(64))) for _ in range(3)),
+            ("head", header_bytes(key, words + 1, 1, cold, draw.randrange(64))),
+            ("head", header_bytes(key, words, 0, 0, draw.randrange(64))),
+            ("head", header_bytes(key, words, 1, 1 - cold, draw.randrange(64))),
+            ("head", data[:4] + bytes([data[4] & 0xC0 | (data[4] + draw.randrange(1, 64)) & 0x3F])),
+        ]
+        kind, data = draw.choice(made)
+        return stamp, kind, channel, data
+
+    def see(self, is_long):
+        """The entries of a log."""
+        draw, lost, channels = self.draw, self.draw.choice([0, 0, 0.1, 0.5]), "AB"
+        if draw.random() < 0.2:
+            # Another analyzer's clock, of which the zero lies more than half a cycle off, has the stamps of channel B.
+            channels, far = "A", draw.choice([-1, 1]) * draw.randrange(60, 2000)
+            self.rates.append(self.any_rate())
+            zero = self.zero + far * self.cluster.values["pMicroPerCycle"] * MILLION // 100
+            found = self.entries(self.rates[1], zero, "B", lost)
+        else:
+            found = []
+        found = sorted(found + self.entries(self.rates[0], self.zero, channels, lost), key=lambda entry: entry[0])
+        if is_long and len(found) > 8 and draw.random() < 0.7:
+            # A silence of more than thirty cycles.
+            begin = found[draw.randrange(1, len(found) // 3)][0]
+            silent = 32 * self.cluster.values["pMicroPerCycle"] * MILLION // self.unit
+            found = [entry for entry in found if not begin < entry[0] <= begin + silent]
+        found += [self.foreign(draw.choice(found)) for _ in range(len(found) // 8)]
+        return sorted(found, key=lambda entry: entry[0])
+
+    def log(self, entries):
+        lines = [f"unit,{self.unit},,,\ndrift,{self.drift},,,\n"]
+        lines += [f"error,{self.error},,,\n"] if self.error else []
+        lines += [f"jitter,{self.jitter},,,\n"] if self.jitter is not None else []
+        lines += [f"arbitrary,{self.cluster.arbitrary},,,\n"] if self.cluster.arbitrary else []
+        lines += [f"delay,{node},{channel},{low},{high}\n" for (node, channel), (low, high) in self.limits.items()]
+        lines += [f"{kind},{stamp},{channel},{data.hex().upper()},\n" for stamp, kind, channel, data in entries]
+        return "".join(lines)
+
+
+class Observed(Bench):
+    """The texts, and the intervals in them."""
+
+    def told(self, log, status=0):
+        """What the program tells, which is what the other program reckons."""
+        self.write("log.csv", log)
+        ended, text, line = self.flexray("observe", "params.csv", "log.csv")
+        self.assertEqual(ended, status, line)
+        if status:
+            self.assertEqual(text, "")
+            return line
+        params, log = peer.Params(peer.rows_of(self.path("params.csv"))), peer.Log(peer.rows_of(self.path("log.csv")))
+        self.assertEqual(text, peer.text_of(peer.observe(params, log)))
+        return text
+
+    def run_of(self, draw, is_long=False):
+        """A cluster with the rows of its trace."""
+        cluster = Cluster(draw, is_long)
+        self.write("params.csv", cluster.params())
+        self.write("drift.csv", cluster.drift(draw))
+        self.write("script.csv", cluster.script(draw))
+        status, trace, line = self.flexray("trace", "params.csv", "drift.csv", "script.csv")
+        self.assertEqual((status, line), (0, ""))
+        cluster.take(trace)
+        return cluster
+
+    def hold(self, cluster, rates, text):
+        """Holds each interval of a text against the trace, and hands back how many there are."""
+        fields, held, senders = [line.split(",") for line in text.splitlines()], 0, {}
+        for row in fields:
+            if row[0] == "node":
+                senders.setdefault(int(row[1]), []).append(int(row[2]))
+        for row in fields:
+            if row[0] == "cycle":
+                cycle, nodes = int(row[1]), senders.get(int(row[1]) // 2, [])
+                self.assertEqual(int(row[2]), len(nodes))
+                if nodes:
+                    self.between(row, row[3], cluster.skew(cycle, nodes), row[4])
+                    held += 1
+            elif row[0] == "node":
+                held += self.hold_node(cluster, rates, row)
+        return held
+
+    def hold_node(self, cluster, rates, row):
+        double, node = int(row[1]), int(row[2])
+        for cycle in (2 * double, 2 * double + 1):
+            _, length, rate, _, _ = cluster.rows[cycle, node]
+            long = (cluster.values["pMicroPerCycle"] + rate) * length
+            # Which clock it was is not told where there were two.
+            self.assertTrue(any(int(row[3]) <= clock * long <= int(row[4]) for clock in rates), row)
+        if row[5] != "-":
+            self.between(row, row[5], cluster.rows[2 * double + 1, node][3], row[6])
+        return 2 if row[5] == "-" else 3
+
+    def between(self, row, low, number, high):
+        self.assertLessEqual(int(low), number, row)
+        if high != "-":
+            self.assertLessEqual(number, int(high), row)
+
+    def test_the_worked_row(self):
+        for name in ("params.csv", "log.csv", "printed.txt"):
+            with open(os.path.join(EXAMPLE, name), encoding="ascii") as file:
+                self.write(name, file.read())
+        self.assertEqual(self.told(self.read("log.csv")), self.read("printed.txt"))
+
+    def test_random_runs(self):
+        tally, said, held = dict.fromkeys(peer.KINDS, 0), dict.fromkeys(("within", "over", "open"), 0), 0
+        for seed in range(RUNS):
+            with self.subTest(seed=seed):
+                draw = random.Random(seed)
+                is_long = seed % 5 == 0
+                cluster = self.run_of(draw, is_long)
+                analyzer = Analyzer(draw, cluster)
+                text = self.told(analyzer.log(analyzer.see(is_long)))
+                held += self.hold(cluster, analyzer.rates, text)
+                *_, log, cycles = (line.split(",") for line in text.splitlines())
+                for at, kind in enumerate(tally, 1):
+                    tally[kind] += int(log[at])
+                for at, word in enumerate(said, 3):
+                    said[word] += int(cycles[at])
+        if RUNS != 40:
+            print(f"{RUNS} runs, {held} intervals, entries {tally}, cycles {said}")
+        # None of it was left out by chance.
+        self.assertGreater(min(*tally.values(), *said.values()), 0, (tally, said))
+        self.assertGreater(held, 20 * RUNS)
+
+    def seen(self, seed, is_long=False):
+        """A run and its log without anything beside it: each frame of correct nodes on both channels, by one clock."""
+        draw = random.Random(seed)
+        cluster = self.run_of(draw, is_long)
+        analyzer = Analyzer(draw, cluster)
+        return cluster, analyzer, analyzer.entries(analyzer.rates[0], analyzer.zero, "AB", 0)
+
+    def test_a_log_that_is_not_sorted(self):
+        _, analyzer, entries = self.seen(1)
+        at = next(at for at in range(1, len(entries)) if entries[at - 1][0] < entries[at][0])
+        entries[at - 1:at + 1] = entries[at], entries[at - 1]
+        record = len(analyzer.log([]).splitlines()) + at + 1
+        self.assertEqual(self.told(analyzer.log(entries), status=5), f"log: record {record}: Role")
+
+    def test_a_count_that_jumps(self):
+        """From some frame on all counts are off: from there on all are strays, and what was told before stays true."""
+        for seed in range(8):
+            cluster, analyzer, entries = self.seen(seed)
+            at = len(entries) // 2
+            off = random.Random(seed).randrange(1, 64)
+            jumped = [(stamp, "head", channel, data[:4] + bytes([data[4] & 0xC0 | (data[4] + off) & 0x3F]))
+                      for stamp, _, channel, data in entries[at:]]
+            text = self.told(analyzer.log(entries[:at] + jumped))
+            self.assertIn(f"\nlog,{at},0,0,0,{len(entries) - at},0,\n", text)
+            self.assertGreater(self.hold(cluster, analyzer.rates, text), 0)
+
+    def test_a_silence(self):
+        cluster, analyzer, entries = self.seen(3, is_long=True)
+        begin, long = entries[len(entries) // 8][0], cluster.values["pMicroPerCycle"] * MILLION // analyzer.unit
+        before, behind = ([entry for entry in entries if is_there(entry[0])] for is_there in (
+            lambda stamp: stamp <= begin, lambda stamp: stamp > begin + 31 * long))
+        text = self.told(analyzer.log(before + behind))
+        self.assertIn(f"\nlog,{len(before)},0,0,0,0,{len(behind)},\n", text)
+        self.assertGreater(len(behind), 0)
+        self.assertGreater(self.hold(cluster, analyzer.rates, text), 0)
+
+    def test_two_clocks_that_are_near(self):
+        """Where every node has both channels and no frame is lost, two clocks of which the zeros lie further apart than
+        stamps and delays leave open place no node: nothing is within."""
+        tried = 0
+        for seed in range(40):
+            cluster, analyzer, entries = self.seen(seed)
+            if all(channels == "AB" for _, _, channels, _ in cluster.correct):
+                tried += 1
+                room = 2 * (analyzer.unit + analyzer.error + 20 * MILLION)
+                entries = [(stamp + (-(-room // analyzer.unit) if channel == "B" else 0), kind, channel, data)
+                           for stamp, kind, channel, data in entries]
+                text = self.told(analyzer.log(sorted(entries, key=lambda entry: entry[0])))
+                self.assertNotIn("node,", text)
+                self.assertEqual(text.splitlines()[-1].split(",")[3:5], ["0", "0"])
+        self.assertGreater(tried, 3)
+
+    def test_a_log_without_entries(self):
+        _, analyzer, _ = self.seen(2)
+        self.assertTrue(self.told(analyzer.log([])).endswith("log,0,0,0,0,0,0,\ncycles,-,-,0,0,0,,\n"))
+
+
+if __name__ == "__main__":
+    unittest.main()
