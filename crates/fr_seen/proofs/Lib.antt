@@ -11,3 +11,4 @@ pub mod TermLaws
 pub mod RunLaws
 pub mod ObservedLaws
 pub mod WorkedRows
+pub mod SightingLaws
