@@ -12,3 +12,5 @@ pub mod RunLaws
 pub mod ObservedLaws
 pub mod WorkedRows
 pub mod SightingLaws
+pub mod SenderLaws
+pub mod RowLaws
