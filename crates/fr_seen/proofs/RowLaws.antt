@@ -1,14 +1,12 @@
 -- What the rows of the text of a log say of the nodes of a run that it is seen of.
-use Rattle.std.proofs.Common.{◌≡◌, ℕ, suc, Option, Some, None, ℤ, List, [], ◌∷◌, All, map, refl, ap, sym, ◌∙◌, subst}
+use Rattle.std.proofs.Common.{◌≡◌, ℕ, Option, Some, None, ℤ, List, [], ◌∷◌, All, map, refl, ap, ◌∙◌, subst}
 use Rattle.std.specs.Prelude.{IfSome, false, true}
 use Rattle.std.specs.Option.{option_map}
 use Rattle.std.proofs.lemmas.List.Elements.{All-cons, All-head, All-map, All-nil, All-tail, All-weaker}
 use Rattle.fr_base.specs.Within.{IsBetween}
-use Rattle.fr_base.specs.declared.channel.Channel.{Channel}
-use Rattle.fr_base.specs.declared.node_row.NodeRow.{NodeRow}
 use Rattle.fr_cluster.specs.Sane.{IsSane}
 use Rattle.fr_cluster.specs.Setting.{Setting}
-use Rattle.fr_history.specs.Cycles.{Cycle, Cycles}
+use Rattle.fr_history.specs.Cycles.{Cycle}
 use Rattle.fr_history.specs.History.{row_for}
 use Rattle.fr_course.specs.Readings.{reading_scale}
 use Rattle.fr_course.specs.Spread.{least_even_skew, least_odd_skew, most_even_skew, most_odd_skew}

@@ -1,5 +1,5 @@
 -- The senders of a log that is seen of a run: frames that they sent there, by which their courses hold.
-use Rattle.std.proofs.Common.{◌≡◌, ◌⊎◌, ℕ, suc, ◌+◌, ◌*◌, ◌/◌, ◌%◌, ◌≤◌, ◌==◌, Bool, true, false, Option, Some, None, ℤ, pos, List, [], ◌∷◌, ◌++◌, All, map, refl, ap, sym, ◌∙◌, subst, inl, inr, arith}
+use Rattle.std.proofs.Common.{◌≡◌, ◌⊎◌, ℕ, suc, ◌+◌, ◌*◌, ◌/◌, ◌%◌, ◌==◌, Bool, true, false, Option, Some, None, ℤ, pos, List, [], ◌∷◌, ◌++◌, All, map, refl, ap, sym, ◌∙◌, subst, inl, inr, arith}
 use Rattle.std.specs.Prelude.{◌+ℤ◌, ◌&&◌, Contains, filter_map, find, IfSome, IsSome, is_some, unwrap_or, if◌then◌else◌}
 use Rattle.std.specs.List.{cons_option}
 use Rattle.std.specs.Option.{option_and_then, option_map, option_to_list}
@@ -12,7 +12,6 @@ use Rattle.fr_base.specs.declared.node_row.NodeRow.{NodeRow}
 use Rattle.fr_cluster.specs.Questions.{key_in, own_key}
 use Rattle.fr_cluster.specs.Sane.{IsSane}
 use Rattle.fr_cluster.specs.Setting.{Setting}
-use Rattle.fr_cluster.specs.Values.{Values}
 use Rattle.fr_cluster.specs.declared.nodes.NodeSpec.{NodeSpec}
 use Rattle.fr_cluster.proofs.Elements.{Contains-here, Contains-there, filtered, found}
 use Rattle.fr_time.specs.Slots.{action_point_of}
@@ -27,7 +26,6 @@ use Rattle.fr_course.specs.declared.courses.Course.{Course}
 use Rattle.fr_course.specs.declared.intervals.Interval.{Interval}
 use Rattle.fr_course.specs.declared.scales.Scale.{Scale}
 use Rattle.fr_course.specs.declared.stamps.Delays.{Delays}
-use Rattle.fr_course.specs.declared.stamps.Observer.{Observer}
 use Rattle.fr_observe.specs.Observing.{senders_of}
 use Rattle.fr_observe.specs.Senders.{box_by, box_in, box_on, course_in, delays_in, first_stamp, if_there, is_in, is_sent_in, observer_of, on_both, own_slot, sender_by, sender_in, sender_on, senders_in, sightings_in, span_by, span_in, span_on}
 use Rattle.fr_observe.specs.Sightings.{IsSighting, sightings_of}
@@ -36,10 +34,10 @@ use Rattle.fr_observe.specs.declared.sighting.Sighting.{Sighting}
 use Rattle.fr_observe.proofs.Proper.{both}
 use Rattle.fr_observe.proofs.Rising.{sightings_are_rising}
 use Rattle.fr_seen.specs.Clocks.{StraightClock}
-use Rattle.fr_seen.specs.Observed.{ArePaired, ArePicked, HasRows, IsCourseBy, IsSeenOf, IsSentBy, IsSentIn, Picked, SentFrame, box_of, span_between}
+use Rattle.fr_seen.specs.Observed.{ArePaired, ArePicked, HasRows, IsCourseBy, IsSentBy, IsSentIn, Picked, SentFrame, box_of, span_between}
 use Rattle.fr_seen.specs.RunRows.{IsTimedRun}
 use Rattle.fr_seen.specs.TermsSeen.{GoesOn}
-use Rattle.fr_seen.specs.LogSeen.{GoesOnBy, HasBoth, IsAmongSent, IsLogSeen, IsSenderOn, SenderGoesOn, SendersAreOnCourse, SendersGoOn, log_senders, run_double, seen_in, seen_twice}
+use Rattle.fr_seen.specs.LogSeen.{GoesOnBy, HasBoth, IsAmongSent, IsLogSeen, IsSenderOn, SenderGoesOn, SendersAreOnCourse, SendersGoOn, run_double}
 use Rattle.fr_seen.proofs.ObservedLaws.{seen_courses_hold, seen_nodes_go_on}
 use Rattle.fr_seen.proofs.RunLaws.{nodes_have_both_rows}
 use Rattle.fr_seen.proofs.SightingLaws.{sightings_are_sent}

@@ -1,11 +1,11 @@
 -- The sightings of a log that is seen of a run.
 use Rattle.std.proofs.Common.{◌≡◌, ◌⊎◌, ℕ, suc, ◌≤◌, Bool, true, false, Option, Some, None, ℤ, pos, negsuc, List, [], ◌∷◌, All, refl, ap, sym, ◌∙◌, subst, inl, inr, arith}
-use Rattle.std.specs.Prelude.{◌≤ℤ◌, ◌<ℤ◌, ◌-ℤ◌, ◌*ℤ◌, ◌&&◌, Contains, filter_map, int_le, int_lt, nat_abs, nat_le}
+use Rattle.std.specs.Prelude.{◌≤ℤ◌, ◌-ℤ◌, ◌*ℤ◌, ◌&&◌, Contains, filter_map, int_le, int_lt, nat_abs, nat_le}
 use Rattle.std.specs.List.{AllZip, cons_option}
 use Rattle.std.specs.List.Sorted.{IsNonDecreasingBy}
 use Rattle.std.specs.Option.{option_or}
 use Rattle.std.proofs.lemmas.Int.{ints}
-use Rattle.std.proofs.lemmas.List.Elements.{All-cons, All-contains_itself, All-head, All-tail, All-weaker}
+use Rattle.std.proofs.lemmas.List.Elements.{All-cons, All-contains_itself, All-head, All-tail}
 use Rattle.fr_base.specs.Within.{IsBetween}
 use Rattle.fr_base.specs.declared.channel.Channel.{Channel}
 use Rattle.fr_cluster.specs.Sane.{IsSane}
@@ -20,11 +20,10 @@ use Rattle.fr_log.specs.View.{LogView, is_arbitrary_in}
 use Rattle.fr_log.specs.declared.entry.Entry.{Entry}
 use Rattle.fr_course.specs.Numbering.{longest_silence, next_number}
 use Rattle.fr_course.specs.declared.stamps.Delays.{Delays}
-use Rattle.fr_observe.specs.Judging.{is_regular_sync, judged_as, judgement_by, judgement_of, judgement_with, static_sending, whole_header}
+use Rattle.fr_observe.specs.Judging.{is_regular_sync, judged_as, judgement_of, static_sending, whole_header}
 use Rattle.fr_observe.specs.Senders.{observer_of}
-use Rattle.fr_observe.specs.Sightings.{fate_behind, fate_by, fate_judged, fate_of, fates_from, is_behind_silence, is_in_time, keeps_order, last_behind, number_behind, sighting_in, sighting_with, sightings_of, stamped_behind}
+use Rattle.fr_observe.specs.Sightings.{fate_behind, fate_judged, fate_of, fates_from, is_behind_silence, is_in_time, keeps_order, last_behind, number_behind, sighting_in, sighting_with, sightings_of}
 use Rattle.fr_observe.specs.declared.sighting.Fate.{Fate}
-use Rattle.fr_observe.specs.declared.sighting.Fate.TheVariants as fate
 use Rattle.fr_observe.specs.declared.sighting.Sighting.{Sighting}
 use Rattle.fr_observe.proofs.Proper.{both}
 use Rattle.fr_seen.specs.Clocks.{StraightClock}

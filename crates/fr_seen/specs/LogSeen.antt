@@ -1,5 +1,5 @@
 -- A log as it is read, seen of a run; and what the rows of its text then say of the nodes of the run.
-use Rattle.std.specs.Prelude.{◌≡◌, ◌<◌, ◌+◌, ◌/◌, ℕ, suc, pos, Bool, false, true, List, [], ◌∷◌, All, Contains, filter_map, map, Option, Some, None, IfSome, IsSome}
+use Rattle.std.specs.Prelude.{◌≡◌, ◌+◌, ◌/◌, ℕ, suc, pos, false, true, List, [], ◌∷◌, All, Contains, filter_map, map, Option, None, IfSome, IsSome}
 use Rattle.std.specs.List.{AllZip}
 use Rattle.fr_base.specs.Within.{IsBetween}
 use Rattle.fr_base.specs.declared.channel.Channel.{Channel}
