@@ -11,3 +11,4 @@ pub mod FilesStatus
 pub mod RequestStatus
 pub mod RoundTrips
 pub mod FilesChecked
+pub mod Observed

@@ -13,3 +13,4 @@ pub mod SharpText
 pub mod SharpSettleText
 pub mod Statuses
 pub mod Rounds
+pub mod ObserveAnswer

@@ -111,5 +111,6 @@ fn carry_out<S: Shelf, O: Sink>(
         Request::Cold(files) => fr_cold::answer_cold(alloc, files, shelf, out),
         Request::Trace(files) => fr_report::answer_trace(alloc, files, shelf, out),
         Request::Check(files) => fr_check::answer_check(alloc, files, shelf, out),
+        Request::Observe(files) => crate::answer_observe(alloc, files, shelf, out),
     }
 }

@@ -9,9 +9,9 @@ use Rattle.fr_base.proofs.Putting.{cut, then}
 use Rattle.fr_cluster.specs.Values.{Values}
 use Rattle.fr_log.specs.View.{LogView}
 use Rattle.fr_course.specs.declared.scales.Scale.{Scale}
-use Rattle.fr_observe.specs.Observing.{both_say, counted, counts_of, cycle_row, cycles_text, double_text, doubles_between, doubles_of, doubles_say, doubles_text, even_high, even_low, is_open, is_over, is_within, no_counts, odd_high, odd_low, says_of, senders_of}
-use Rattle.fr_observe.specs.Ranges.{AreFew, AreSkews}
-use Rattle.fr_observe.specs.Senders.{senders_in, sightings_in}
+use Rattle.fr_observe.specs.Observing.{both_say, counted, cycle_counts, cycle_row, cycles_text, double_rows, doubles_between, seen_doubles, doubles_say, doubles_rows, even_high, even_low, is_open, is_over, is_within, no_cycles_told, odd_high, odd_low, says_of, senders_of}
+use Rattle.fr_observe.specs.Ranges.{AreFewCycles, AreSkews}
+use Rattle.fr_observe.specs.Senders.{seen_senders, sightings_in}
 use Rattle.fr_observe.specs.declared.counts.Counts.{Counts}
 use Rattle.fr_observe.specs.declared.says.Says.{Says}
 use Rattle.fr_observe.specs.declared.sender.Sender.{Sender}
@@ -55,14 +55,14 @@ counted-none counts = counts-same (counted counts []) counts (omega arith) (omeg
 two-at-most : (test : Says → Bool) (a b : Says) → count_by test (a ∷ b ∷ []) ≤ 2
 two-at-most test a b = count_by-le-length test (a ∷ b ∷ [])
 
-few-more : (most : ℕ) (counts : Counts) (a b : Says) → AreFew most counts → AreFew (most + 2) (counted counts (a ∷ b ∷ []))
+few-more : (most : ℕ) (counts : Counts) (a b : Says) → AreFewCycles most counts → AreFewCycles (most + 2) (counted counts (a ∷ b ∷ []))
 few-more most counts a b few = record {
   within = omega (arith, two-at-most is_within a b, few.within);
   over = omega (arith, two-at-most is_over a b, few.over);
   neither = omega (arith, two-at-most is_open a b, few.neither);
 }
 
-pub few-said : (most : ℕ) (counts : Counts) (precision : ℤ) (scale : Scale) (senders : List Sender) → AreFew most counts → AreFew (most + 2) (counted counts (both_say precision scale senders))
+pub few-said : (most : ℕ) (counts : Counts) (precision : ℤ) (scale : Scale) (senders : List Sender) → AreFewCycles most counts → AreFewCycles (most + 2) (counted counts (both_say precision scale senders))
 unfolding both_say
 few-said most counts precision scale senders few =
     few-more most counts (says_of precision (even_low scale senders) (even_high scale senders)) (says_of precision (odd_low scale senders) (odd_high scale senders)) few
@@ -71,32 +71,32 @@ few-said most counts precision scale senders few =
 
 module _ (precision : ℤ) (scale : Scale) (p : Values) (l : LogView) (seen here next : List Sighting) (double last : ℕ) where
   abbrev pub told : List ℕ
-  told = double_text precision scale double (senders_in scale p l here next double)
+  told = double_rows precision scale double (seen_senders scale p l here next double)
 
   abbrev pub said : List Says
-  said = both_say precision scale (senders_in scale p l here next double)
+  said = both_say precision scale (seen_senders scale p l here next double)
 
-  senders-are : here ≡ sightings_in seen double → next ≡ sightings_in seen (double + 1) → senders_in scale p l here next double ≡ senders_of scale p l seen double
+  senders-are : here ≡ sightings_in seen double → next ≡ sightings_in seen (double + 1) → seen_senders scale p l here next double ≡ senders_of scale p l seen double
   unfolding senders_of
-  senders-are here_is next_is = λ i. senders_in scale p l (here_is i) (next_is i) double
+  senders-are here_is next_is = λ i. seen_senders scale p l (here_is i) (next_is i) double
 
   text-first : double ≤ last → here ≡ sightings_in seen double → next ≡ sightings_in seen (double + 1)
-      → told ++ doubles_text precision scale p l seen (up_to (double + 1) last) ≡ doubles_text precision scale p l seen (up_to double last)
-  unfolding doubles_text
+      → told ++ doubles_rows precision scale p l seen (up_to (double + 1) last) ≡ doubles_rows precision scale p l seen (up_to double last)
+  unfolding doubles_rows
   text-first le here_is next_is =
-      ap (λ senders. double_text precision scale double senders ++ doubles_text precision scale p l seen (up_to (double + 1) last)) (senders-are here_is next_is)
-      ∙ ap (doubles_text precision scale p l seen) (sym (range-first double last le))
+      ap (λ senders. double_rows precision scale double senders ++ doubles_rows precision scale p l seen (up_to (double + 1) last)) (senders-are here_is next_is)
+      ∙ ap (doubles_rows precision scale p l seen) (sym (range-first double last le))
 
   pub text-then : {done : Unit {0}} {a b c : Sunk} (result : Result (Unit {0}) PutFault) → double ≤ last → here ≡ sightings_in seen double → next ≡ sightings_in seen (double + 1)
-      → Puts (Ok done) a b told → Puts result b c (doubles_text precision scale p l seen (up_to (double + 1) last))
-      → Puts result a c (doubles_text precision scale p l seen (up_to double last))
+      → Puts (Ok done) a b told → Puts result b c (doubles_rows precision scale p l seen (up_to (double + 1) last))
+      → Puts result a c (doubles_rows precision scale p l seen (up_to double last))
   text-then {done} {a} {b} {c} result le here_is next_is put rest =
-      subst (Puts result a c) (text-first le here_is next_is) (then {text = told} {rest = doubles_text precision scale p l seen (up_to (double + 1) last)} result put rest)
+      subst (Puts result a c) (text-first le here_is next_is) (then {text = told} {rest = doubles_rows precision scale p l seen (up_to (double + 1) last)} result put rest)
 
   pub text-cut : {fault : PutFault} {a b : Sunk} (result : Result (Unit {0}) PutFault) → double ≤ last → here ≡ sightings_in seen double → next ≡ sightings_in seen (double + 1)
-      → Puts (Err fault) a b told → IsErr result → Puts result a b (doubles_text precision scale p l seen (up_to double last))
+      → Puts (Err fault) a b told → IsErr result → Puts result a b (doubles_rows precision scale p l seen (up_to double last))
   text-cut {fault} {a} {b} result le here_is next_is put failed =
-      subst (Puts result a b) (text-first le here_is next_is) (cut {text = told} result (doubles_text precision scale p l seen (up_to (double + 1) last)) put failed)
+      subst (Puts result a b) (text-first le here_is next_is) (cut {text = told} result (doubles_rows precision scale p l seen (up_to (double + 1) last)) put failed)
 
   pub says-then : (counts : Counts) → double ≤ last → here ≡ sightings_in seen double → next ≡ sightings_in seen (double + 1)
       → counted (counted counts said) (doubles_say precision scale p l seen (up_to (double + 1) last)) ≡ counted counts (doubles_say precision scale p l seen (up_to double last))
@@ -108,9 +108,9 @@ module _ (precision : ℤ) (scale : Scale) (p : Values) (l : LogView) (seen here
 
 -- none behind the last
 pub text-end : (precision : ℤ) (scale : Scale) (p : Values) (l : LogView) (seen : List Sighting) (double last : ℕ) → last < double
-    → doubles_text precision scale p l seen (up_to double last) ≡ []
-unfolding doubles_text
-text-end precision scale p l seen double last less = ap (doubles_text precision scale p l seen) (range-none double last less)
+    → doubles_rows precision scale p l seen (up_to double last) ≡ []
+unfolding doubles_rows
+text-end precision scale p l seen double last less = ap (doubles_rows precision scale p l seen) (range-none double last less)
 
 pub says-end : (precision : ℤ) (scale : Scale) (p : Values) (l : LogView) (seen : List Sighting) (double last : ℕ) (counts : Counts) → last < double
     → counted counts (doubles_say precision scale p l seen (up_to double last)) ≡ counts
@@ -120,19 +120,19 @@ says-end precision scale p l seen double last counts less =
 
 -- ---- without a sighting
 
-none-doubles : (seen : List Sighting) → slice_get seen 0 ≡ None → doubles_of seen ≡ []
-unfolding doubles_of
+none-doubles : (seen : List Sighting) → slice_get seen 0 ≡ None → seen_doubles seen ≡ []
+unfolding seen_doubles
 none-doubles seen none = ap (λ (o : Option Sighting). doubles_between o (slice_get seen (length seen - 1))) none
 
-pub none-text : (precision : ℤ) (scale : Scale) (p : Values) (l : LogView) (seen : List Sighting) → slice_get seen 0 ≡ None → doubles_text precision scale p l seen (doubles_of seen) ≡ []
-unfolding doubles_text
-none-text precision scale p l seen none = ap (doubles_text precision scale p l seen) (none-doubles seen none)
+pub none-text : (precision : ℤ) (scale : Scale) (p : Values) (l : LogView) (seen : List Sighting) → slice_get seen 0 ≡ None → doubles_rows precision scale p l seen (seen_doubles seen) ≡ []
+unfolding doubles_rows
+none-text precision scale p l seen none = ap (doubles_rows precision scale p l seen) (none-doubles seen none)
 
 pub none-says : (precision : ℤ) (scale : Scale) (p : Values) (l : LogView) (seen : List Sighting) → slice_get seen 0 ≡ None
-    → counts_of (doubles_say precision scale p l seen (doubles_of seen)) ≡ no_counts
+    → cycle_counts (doubles_say precision scale p l seen (seen_doubles seen)) ≡ no_cycles_told
 unfolding doubles_say
 none-says precision scale p l seen none =
-    ap (λ (doubles : List ℕ). counts_of (doubles_say precision scale p l seen doubles)) (none-doubles seen none) ∙ counted-none no_counts
+    ap (λ (doubles : List ℕ). cycle_counts (doubles_say precision scale p l seen doubles)) (none-doubles seen none) ∙ counted-none no_cycles_told
 
 -- ---- both cycles
 

@@ -8,12 +8,12 @@ use Rattle.std.proofs.lemmas.Bool.Decides.{nat_tests}
 use Rattle.std.proofs.lemmas.List.Elements.{All-drop, All-head, All-tail, All-take, All-weaker, filter-append, filter_passes}
 use Rattle.fr_log.specs.Rows.{last_stamp}
 use Rattle.fr_log.specs.View.{LogView}
-use Rattle.fr_observe.specs.Ranges.{AreFrom, AreTimed, DoublesAscend}
+use Rattle.fr_observe.specs.Ranges.{AreSeenFrom, AreLogStamps, DoublesAscend}
 use Rattle.fr_observe.specs.Senders.{double_of, first_stamp, is_in, is_sent_in, sightings_in}
 use Rattle.fr_observe.specs.declared.sighting.Sighting.{Sighting}
 
 -- what lies behind a sighting
-ascend-first : (s : Sighting) (seen : List Sighting) → DoublesAscend (s ∷ seen) → AreFrom (double_of s) seen
+ascend-first : (s : Sighting) (seen : List Sighting) → DoublesAscend (s ∷ seen) → AreSeenFrom (double_of s) seen
 ascend-first s seen ascend k d lt = ascend 0 (suc k) d (omega arith) (omega arith)
 
 ascend-rest : (s : Sighting) (seen : List Sighting) → DoublesAscend (s ∷ seen) → DoublesAscend seen
@@ -44,16 +44,16 @@ is-same a b is = grind (arith, nat_tests, is)
 not-same : (a b : ℕ) → (a == b) ≡ false → b ≤ a → b + 1 ≤ a
 not-same a b unlike le = grind (arith, nat_tests, unlike, le)
 
-none-later : (double : ℕ) (seen : List Sighting) → AreFrom (double + 1) seen → sightings_in seen double ≡ []
+none-later : (double : ℕ) (seen : List Sighting) → AreSeenFrom (double + 1) seen → sightings_in seen double ≡ []
 none-later double seen from =
     none-are double seen (All-weaker (λ s. double + 1 ≤ double_of s) (λ s. is_in double s ≡ false) (λ s more. unlike double (double_of s) (omega (arith, more))) seen from)
 
 -- those of the double cycle come first
 pub record IsCut (double n : ℕ) (seen : List Sighting) : Type 0 where
   pub here : take n seen ≡ sightings_in seen double
-  pub behind : AreFrom (double + 1) (drop n seen)
+  pub behind : AreSeenFrom (double + 1) (drop n seen)
 
-pub first-cut : (double : ℕ) (seen : List Sighting) → DoublesAscend seen → AreFrom double seen → IsCut double (prefix_len (is_in double) seen) seen
+pub first-cut : (double : ℕ) (seen : List Sighting) → DoublesAscend seen → AreSeenFrom double seen → IsCut double (prefix_len (is_in double) seen) seen
 first-cut double [] ascend from = record { here = refl; behind = λ k d lt. absurd (omega (arith, lt)) }
 first-cut double (s ∷ seen) ascend from =
     by (is_in double s) refl (first-cut double seen (ascend-rest s seen ascend) (All-tail (λ t. double ≤ double_of t) s seen from))
@@ -62,7 +62,7 @@ first-cut double (s ∷ seen) ascend from =
     low = All-head (λ t. double ≤ double_of t) s seen from
 
     Cut : ℕ → List Sighting → Type 0
-    Cut n kept = (take n (s ∷ seen) ≡ kept) × AreFrom (double + 1) (drop n (s ∷ seen))
+    Cut n kept = (take n (s ∷ seen) ≡ kept) × AreSeenFrom (double + 1) (drop n (s ∷ seen))
 
     by : (b : Bool) → is_in double s ≡ b → IsCut double (prefix_len (is_in double) seen) seen → IsCut double (prefix_len (is_in double) (s ∷ seen)) (s ∷ seen)
     by true is rest =
@@ -76,7 +76,7 @@ first-cut double (s ∷ seen) ascend from =
     by false is rest =
         let n = prefix_len (is_in double) seen in
         let more : double + 1 ≤ double_of s = not-same (double_of s) double is low in
-        let later : AreFrom (double + 1) (s ∷ seen) = λ k d lt. at k d lt more in
+        let later : AreSeenFrom (double + 1) (s ∷ seen) = λ k d lt. at k d lt more in
         let none : sightings_in seen double ≡ [] = none-later double seen (All-tail (λ t. double + 1 ≤ double_of t) s seen later) in
         let whole : Cut (cond (is_in double s) (1 + n) 0) (cond (is_in double s) (s ∷ sightings_in seen double) (sightings_in seen double)) =
         subst (λ (b : Bool). Cut (cond b (1 + n) 0) (cond b (s ∷ sightings_in seen double) (sightings_in seen double))) (sym is)
@@ -100,10 +100,10 @@ later-cut double n later seen less here =
     )
 
 -- what is looked at
-pub timed-take : (l : LogView) (n : ℕ) (seen : List Sighting) → AreTimed l seen → AreTimed l (take n seen)
+pub timed-take : (l : LogView) (n : ℕ) (seen : List Sighting) → AreLogStamps l seen → AreLogStamps l (take n seen)
 timed-take l n seen timed = All-take (λ s. l.unit * s.stamp ≤ last_stamp) n seen timed
 
-pub timed-drop : (l : LogView) (n : ℕ) (seen : List Sighting) → AreTimed l seen → AreTimed l (drop n seen)
+pub timed-drop : (l : LogView) (n : ℕ) (seen : List Sighting) → AreLogStamps l seen → AreLogStamps l (drop n seen)
 timed-drop l n seen timed = All-drop (λ s. l.unit * s.stamp ≤ last_stamp) n seen timed
 
 -- what is looked at of sightings: those of a double cycle, all behind them, and those of the next one
@@ -112,16 +112,16 @@ pub record IsLooked (double : ℕ) (seen here behind next : List Sighting) : Typ
   pub next_is : next ≡ sightings_in seen (double + 1)
   pub later : (later : ℕ) → double < later → sightings_in behind later ≡ sightings_in seen later
   pub ascend : DoublesAscend behind
-  pub from : AreFrom (double + 1) behind
-  pub timed : (l : LogView) → AreTimed l seen → AreTimed l here × AreTimed l next × AreTimed l behind
+  pub from : AreSeenFrom (double + 1) behind
+  pub timed : (l : LogView) → AreLogStamps l seen → AreLogStamps l here × AreLogStamps l next × AreLogStamps l behind
 
-pub looked : (double : ℕ) (seen : List Sighting) (n m : ℕ) (here behind next : List Sighting) → DoublesAscend seen → AreFrom double seen
+pub looked : (double : ℕ) (seen : List Sighting) (n m : ℕ) (here behind next : List Sighting) → DoublesAscend seen → AreSeenFrom double seen
     → n ≡ prefix_len (is_in double) seen → m ≡ prefix_len (is_in (double + 1)) behind
     → here ≡ take n seen → behind ≡ drop n seen → next ≡ take m behind → IsLooked double seen here behind next
 looked double seen n m here behind next ascend from n_is m_is here_is behind_is next_is =
     let cut : IsCut double n seen = subst (λ (k : ℕ). IsCut double k seen) (sym n_is) (first-cut double seen ascend from) in
     let rise : DoublesAscend behind = subst DoublesAscend (sym behind_is) (ascend-drop n seen ascend) in
-    let start : AreFrom (double + 1) behind = subst (AreFrom (double + 1)) (sym behind_is) cut.behind in
+    let start : AreSeenFrom (double + 1) behind = subst (AreSeenFrom (double + 1)) (sym behind_is) cut.behind in
     let second : IsCut (double + 1) m behind = subst (λ (k : ℕ). IsCut (double + 1) k behind) (sym m_is) (first-cut (double + 1) behind rise start) in
     let later : (k : ℕ) → double < k → sightings_in behind k ≡ sightings_in seen k = λ k less.
     ap (λ (l : List Sighting). sightings_in l k) behind_is ∙ later-cut double n k seen less cut.here in
@@ -132,13 +132,13 @@ looked double seen n m here behind next ascend from n_is m_is here_is behind_is 
       ascend = rise;
       from = start;
       timed = λ l timed.
-          let all : AreTimed l behind = subst (AreTimed l) (sym behind_is) (timed-drop l n seen timed) in
-          (subst (AreTimed l) (sym here_is) (timed-take l n seen timed), subst (AreTimed l) (sym next_is) (timed-take l m behind all), all);
+          let all : AreLogStamps l behind = subst (AreLogStamps l) (sym behind_is) (timed-drop l n seen timed) in
+          (subst (AreLogStamps l) (sym here_is) (timed-take l n seen timed), subst (AreLogStamps l) (sym next_is) (timed-take l m behind all), all);
     }
 
 -- ---- stamps
 
-found-timed : (l : LogView) (test : Sighting → Bool) (seen : List Sighting) → AreTimed l seen → IfSome (option_map (λ s. s.stamp) (find test seen)) (λ stamp. l.unit * stamp ≤ last_stamp)
+found-timed : (l : LogView) (test : Sighting → Bool) (seen : List Sighting) → AreLogStamps l seen → IfSome (option_map (λ s. s.stamp) (find test seen)) (λ stamp. l.unit * stamp ≤ last_stamp)
 found-timed l test [] timed = tt
 found-timed l test (s ∷ seen) timed = by (test s) (found-timed l test seen (All-tail (λ t. l.unit * t.stamp ≤ last_stamp) s seen timed))
   where
@@ -147,7 +147,7 @@ found-timed l test (s ∷ seen) timed = by (test s) (found-timed l test seen (Al
     by true rest = All-head (λ t. l.unit * t.stamp ≤ last_stamp) s seen timed
     by false rest = rest
 
-pub first-timed : (l : LogView) (seen : List Sighting) (node : ℕ) (ch : Channel) (cycle : ℕ) → AreTimed l seen → IfSome (first_stamp seen node ch cycle) (λ stamp. l.unit * stamp ≤ last_stamp)
+pub first-timed : (l : LogView) (seen : List Sighting) (node : ℕ) (ch : Channel) (cycle : ℕ) → AreLogStamps l seen → IfSome (first_stamp seen node ch cycle) (λ stamp. l.unit * stamp ≤ last_stamp)
 unfolding first_stamp
 first-timed l seen node ch cycle timed = found-timed l (is_sent_in node ch cycle) seen timed
 
@@ -156,7 +156,7 @@ first-timed l seen node ch cycle timed = found-timed l (is_sent_in node ch cycle
 same-sighting : (a b : Sighting) → Some a ≡ Some b → a ≡ b
 same-sighting a b e = ap (λ (o : Option Sighting). unwrap_or o a) e
 
-pub from-first : (seen : List Sighting) (first : Sighting) → slice_get seen 0 ≡ Some first → DoublesAscend seen → AreFrom (double_of first) seen
+pub from-first : (seen : List Sighting) (first : Sighting) → slice_get seen 0 ≡ Some first → DoublesAscend seen → AreSeenFrom (double_of first) seen
 from-first [] first is ascend k d lt = absurd (omega (arith, lt))
 from-first (s ∷ seen) first is ascend k d lt =
     let same : s ≡ first = same-sighting s first is in

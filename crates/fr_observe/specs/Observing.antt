@@ -14,7 +14,7 @@ use Rattle.fr_course.specs.declared.scales.Scale.{Scale}
 use Rattle.fr_course.specs.declared.courses.Course.{Course}
 use Rattle.fr_course.specs.Spread.{least_even_skew, least_odd_skew, most_even_skew, most_odd_skew}
 use Rattle.fr_course.specs.Terms.{offset_seen}
-use Rattle.fr_observe.specs.Senders.{double_of, senders_in, sightings_in}
+use Rattle.fr_observe.specs.Senders.{double_of, seen_senders, sightings_in}
 use Rattle.fr_observe.specs.Sightings.{sightings_of, tally_of}
 use Rattle.fr_observe.specs.declared.counts.Counts.{Counts}
 use Rattle.fr_observe.specs.declared.says.Says.{Says}
@@ -42,12 +42,12 @@ row text (field ∷ fields) = row (text ++ codes "," ++ field) fields
 -- ---- the skew of a cycle
 
 -- what its limits say: that it is above the precision, that it is within it, or neither
-abbrev pub says_to : ℤ → Option ℤ → Says
-says_to precision None = Open
-says_to precision (Some high) = if int_le high precision then Within else Open
+abbrev pub says_up_to : ℤ → Option ℤ → Says
+says_up_to precision None = Open
+says_up_to precision (Some high) = if int_le high precision then Within else Open
 
 abbrev pub says_of : ℤ → ℤ → Option ℤ → Says
-says_of precision low high = if int_lt precision low then Over else says_to precision high
+says_of precision low high = if int_lt precision low then Over else says_up_to precision high
 
 abbrev pub says_text : Says → List ℕ
 says_text Over = codes "over"
@@ -111,8 +111,8 @@ node_row scale double s =
     )
 
 -- all of them
-unfoldable pub double_text : ℤ → Scale → ℕ → List Sender → List ℕ
-double_text precision scale double senders =
+unfoldable pub double_rows : ℤ → Scale → ℕ → List Sender → List ℕ
+double_rows precision scale double senders =
     cycles_text precision scale double senders ++ flat_map (node_row scale double) senders
 
 -- ---- what both cycles of a double cycle say
@@ -147,11 +147,11 @@ counted counts said =
       neither = counts.neither + count_by is_open said;
     }
 
-abbrev pub no_counts : Counts
-no_counts = record { within = 0; over = 0; neither = 0 }
+abbrev pub no_cycles_told : Counts
+no_cycles_told = record { within = 0; over = 0; neither = 0 }
 
-abbrev pub counts_of : List Says → Counts
-counts_of said = counted no_counts said
+abbrev pub cycle_counts : List Says → Counts
+cycle_counts said = counted no_cycles_told said
 
 -- ---- the log
 
@@ -164,17 +164,17 @@ log_row t =
     )
 
 -- the first and the last of its cycles that have rows, and how many of them say what
-abbrev pub first_cycle : List Sighting → Option ℕ
-first_cycle seen = option_map (λ s. 2 * double_of s) (slice_get seen 0)
+abbrev pub first_row_cycle : List Sighting → Option ℕ
+first_row_cycle seen = option_map (λ s. 2 * double_of s) (slice_get seen 0)
 
-abbrev pub last_cycle : List Sighting → Option ℕ
-last_cycle seen = option_map (λ s. 2 * double_of s + 1) (slice_get seen (length seen - 1))
+abbrev pub last_row_cycle : List Sighting → Option ℕ
+last_row_cycle seen = option_map (λ s. 2 * double_of s + 1) (slice_get seen (length seen - 1))
 
-abbrev pub cycles_row : List Sighting → Counts → List ℕ
-cycles_row seen counts =
+abbrev pub cycles_told : List Sighting → Counts → List ℕ
+cycles_told seen counts =
     row (codes "cycles")
     (
-    known_count (first_cycle seen) ∷ known_count (last_cycle seen)
+    known_count (first_row_cycle seen) ∷ known_count (last_row_cycle seen)
     ∷ decimal counts.within ∷ decimal counts.over ∷ decimal counts.neither ∷ [] ∷ [] ∷ []
     )
 
@@ -184,24 +184,24 @@ doubles_between None last = []
 doubles_between (Some first) None = []
 doubles_between (Some first) (Some last) = range_with_len (double_of first) (double_of last + 1 - double_of first)
 
-unfoldable pub doubles_of : List Sighting → List ℕ
-doubles_of seen = doubles_between (slice_get seen 0) (slice_get seen (length seen - 1))
+unfoldable pub seen_doubles : List Sighting → List ℕ
+seen_doubles seen = doubles_between (slice_get seen 0) (slice_get seen (length seen - 1))
 
 -- ---- the text
 
 -- the senders of one by the sightings of a log
 unfoldable pub senders_of : Scale → Values → LogView → List Sighting → ℕ → List Sender
 senders_of scale p l seen double =
-    senders_in scale p l (sightings_in seen double) (sightings_in seen (double + 1)) double
+    seen_senders scale p l (sightings_in seen double) (sightings_in seen (double + 1)) double
 
 abbrev pub double_told : ℤ → Scale → Values → LogView → List Sighting → ℕ → List ℕ
-double_told precision scale p l seen double = double_text precision scale double (senders_of scale p l seen double)
+double_told precision scale p l seen double = double_rows precision scale double (senders_of scale p l seen double)
 
 abbrev pub double_says : ℤ → Scale → Values → LogView → List Sighting → ℕ → List Says
 double_says precision scale p l seen double = both_say precision scale (senders_of scale p l seen double)
 
-unfoldable pub doubles_text : ℤ → Scale → Values → LogView → List Sighting → List ℕ → List ℕ
-doubles_text precision scale p l seen doubles = flat_map (double_told precision scale p l seen) doubles
+unfoldable pub doubles_rows : ℤ → Scale → Values → LogView → List Sighting → List ℕ → List ℕ
+doubles_rows precision scale p l seen doubles = flat_map (double_told precision scale p l seen) doubles
 
 unfoldable pub doubles_say : ℤ → Scale → Values → LogView → List Sighting → List ℕ → List Says
 doubles_say precision scale p l seen doubles = flat_map (double_says precision scale p l seen) doubles
@@ -212,8 +212,8 @@ precision_row precision = row (codes "precision") (signed_decimal precision ∷ 
 -- each double cycle and what became of the entries, by the sightings of a log; behind the precision
 unfoldable pub rest_by : ℤ → Scale → Values → LogView → List Sighting → Tally → List ℕ
 rest_by precision scale p l seen tally =
-    doubles_text precision scale p l seen (doubles_of seen)
-    ++ (log_row tally ++ cycles_row seen (counts_of (doubles_say precision scale p l seen (doubles_of seen))))
+    doubles_rows precision scale p l seen (seen_doubles seen)
+    ++ (log_row tally ++ cycles_told seen (cycle_counts (doubles_say precision scale p l seen (seen_doubles seen))))
 
 unfoldable pub text_by : ℤ → Scale → Values → LogView → List Sighting → Tally → List ℕ
 text_by precision scale p l seen tally = precision_row precision ++ rest_by precision scale p l seen tally

@@ -21,16 +21,16 @@ abbrev pub DoublesAscend : List Sighting → Type 0
 DoublesAscend seen = IsNonDecreasingBy double_of seen
 
 -- none comes before this one
-abbrev pub AreFrom : ℕ → List Sighting → Type 0
-AreFrom double seen = All (λ s. double ≤ double_of s) seen
+abbrev pub AreSeenFrom : ℕ → List Sighting → Type 0
+AreSeenFrom double seen = All (λ s. double ≤ double_of s) seen
 
 -- cycles are those of a log
 abbrev pub AreNumbered : List Sighting → Type 0
 AreNumbered seen = All (λ s. s.number ≤ 199_999) seen
 
 -- stamps lie within the limits of the log
-abbrev pub AreTimed : LogView → List Sighting → Type 0
-AreTimed l seen = All (λ s. l.unit * s.stamp ≤ last_stamp) seen
+abbrev pub AreLogStamps : LogView → List Sighting → Type 0
+AreLogStamps l seen = All (λ s. l.unit * s.stamp ≤ last_stamp) seen
 
 -- the key slot of a node, if it has one, is a static slot
 abbrev pub HasStaticKey : Values → NodeSpec → Type 0
@@ -53,7 +53,7 @@ pub record IsScaleOf (p : Values) (scale : Scale) : Type 0 where
   pub correction : scale.correction ≡ p.correction
 
 -- no count passes a number
-pub record AreFew (most : ℕ) (counts : Counts) : Type 0 where
+pub record AreFewCycles (most : ℕ) (counts : Counts) : Type 0 where
   pub within : counts.within ≤ most
   pub over : counts.over ≤ most
   pub neither : counts.neither ≤ most

@@ -79,23 +79,23 @@ span_on l seen later_seen node cycle later ch =
     span_by (observer_of l) (delays_in l node ch) (first_stamp seen node ch cycle) (first_stamp later_seen node ch later)
 
 -- by both channels
-abbrev pub on_both : Option Interval → Option Interval → Option Interval
-on_both on_a on_b = meet_all (option_to_list on_a ++ option_to_list on_b)
+abbrev pub on_both_channels : Option Interval → Option Interval → Option Interval
+on_both_channels on_a on_b = meet_all (option_to_list on_a ++ option_to_list on_b)
 
-unfoldable pub box_in : LogView → List Sighting → ℕ → ℕ → Option Interval
-box_in l seen node cycle = on_both (box_on l seen node cycle A) (box_on l seen node cycle B)
+unfoldable pub seen_box : LogView → List Sighting → ℕ → ℕ → Option Interval
+seen_box l seen node cycle = on_both_channels (box_on l seen node cycle A) (box_on l seen node cycle B)
 
-unfoldable pub span_in : LogView → List Sighting → List Sighting → ℕ → ℕ → ℕ → Option Interval
-span_in l seen later_seen node cycle later =
-    on_both (span_on l seen later_seen node cycle later A) (span_on l seen later_seen node cycle later B)
+unfoldable pub seen_span : LogView → List Sighting → List Sighting → ℕ → ℕ → ℕ → Option Interval
+seen_span l seen later_seen node cycle later =
+    on_both_channels (span_on l seen later_seen node cycle later A) (span_on l seen later_seen node cycle later B)
 
 -- ---- courses
 
 -- the course of a node that sends in a slot, by the sightings of a double cycle
 unfoldable pub course_in : Scale → Values → LogView → List Sighting → ℕ → ℕ → ℕ → Option Course
 course_in scale p l seen double node slot =
-    course_from scale (pos (action_point_of p slot)) (box_in l seen node (2 * double)) (box_in l seen node (2 * double + 1))
-    (span_in l seen seen node (2 * double) (2 * double + 1))
+    course_from scale (pos (action_point_of p slot)) (seen_box l seen node (2 * double)) (seen_box l seen node (2 * double + 1))
+    (seen_span l seen seen node (2 * double) (2 * double + 1))
 
 -- one of which no interval is empty
 abbrev pub if_there : Option Course → Option Course
@@ -112,11 +112,11 @@ sender_on l here next double node onward course =
       node = node;
       course = course;
       next = onward;
-      onward = span_in l here next node (2 * double + 1) (2 * double + 2);
+      onward = seen_span l here next node (2 * double + 1) (2 * double + 2);
     }
 
-abbrev pub sender_by : Scale → Values → LogView → List Sighting → List Sighting → ℕ → ℕ → ℕ → Option Sender
-sender_by scale p l here next double node slot =
+abbrev pub seen_sender_by : Scale → Values → LogView → List Sighting → List Sighting → ℕ → ℕ → ℕ → Option Sender
+seen_sender_by scale p l here next double node slot =
     option_map (sender_on l here next double node (if_there (course_in scale p l next (double + 1) node slot)))
     (if_there (course_in scale p l here double node slot))
 
@@ -124,9 +124,9 @@ sender_by scale p l here next double node slot =
 abbrev pub own_slot : LogView → NodeSpec → Option ℕ
 own_slot l node = if is_arbitrary_in l node.id then None else node.key
 
-unfoldable pub sender_in : Scale → Values → LogView → List Sighting → List Sighting → ℕ → NodeSpec → Option Sender
-sender_in scale p l here next double node = option_and_then (sender_by scale p l here next double node.id) (own_slot l node)
+unfoldable pub seen_sender : Scale → Values → LogView → List Sighting → List Sighting → ℕ → NodeSpec → Option Sender
+seen_sender scale p l here next double node = option_and_then (seen_sender_by scale p l here next double node.id) (own_slot l node)
 
 -- the senders of a double cycle, in the order of the parameters, by its sightings and those of the next one
-unfoldable pub senders_in : Scale → Values → LogView → List Sighting → List Sighting → ℕ → List Sender
-senders_in scale p l here next double = filter_map (sender_in scale p l here next double) p.nodes
+unfoldable pub seen_senders : Scale → Values → LogView → List Sighting → List Sighting → ℕ → List Sender
+seen_senders scale p l here next double = filter_map (seen_sender scale p l here next double) p.nodes

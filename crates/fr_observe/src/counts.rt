@@ -1,6 +1,6 @@
 ghost use Rattle.std.specs.Prelude.{◌≡◌, ◌∷◌, []};
 ghost use Rattle.fr_observe.specs.Observing.{counted};
-ghost use Rattle.fr_observe.specs.Ranges.{AreFew};
+ghost use Rattle.fr_observe.specs.Ranges.{AreFewCycles};
 
 use crate::says::Says;
 
@@ -26,7 +26,7 @@ impl Counts {
 
     // One more.
     pub(crate) fn add(&mut self, says: Says)
-        requires { AreFew 1_000_000 self.old }
+        requires { AreFewCycles 1_000_000 self.old }
         ensures { self.new ≡ counted self.old (says ∷ []) }
     {
         match says {

@@ -3,8 +3,8 @@ ghost use Rattle.fr_base.specs.Rows.{channel_rank};
 ghost use Rattle.fr_course.specs.Near.{AreDelays, IsBox, IsObserver, IsSpan, EndBetween};
 ghost use Rattle.fr_log.specs.Rows.{last_stamp};
 ghost use Rattle.fr_log.specs.View.{AreDelayLimits};
-ghost use Rattle.fr_observe.specs.Ranges.{AreTimed};
-ghost use Rattle.fr_observe.specs.Senders.{box_in, box_on, delays_by, delays_in, first_stamp, is_sent_in, observer_of, on_both, span_in, span_on};
+ghost use Rattle.fr_observe.specs.Ranges.{AreLogStamps};
+ghost use Rattle.fr_observe.specs.Senders.{seen_box, box_on, delays_by, delays_in, first_stamp, is_sent_in, observer_of, on_both_channels, seen_span, span_on};
 
 use crate::sighting::Sighting;
 use fr_base::{Channel, NodeId};
@@ -76,7 +76,7 @@ fn timed_stamp(
     channel: Channel,
     cycle: u32,
 ) -> Option<u64>
-    requires { AreTimed log.now seen.now }
+    requires { AreLogStamps log.now seen.now }
     ensures value { result ≡ first_stamp seen.now node channel cycle }
     ensures timed { IfSome result (λ stamp. log.now.unit * stamp ≤ last_stamp) }
 {
@@ -90,7 +90,7 @@ fn box_on(
     cycle: u32,
     channel: Channel,
 ) -> Option<Interval>
-    requires { AreTimed log.now seen.now }
+    requires { AreLogStamps log.now seen.now }
     ensures value { result ≡ box_on log.now seen.now node cycle channel }
     ensures near { IfSome result IsBox }
 {
@@ -112,8 +112,8 @@ fn span_on(
     later: u32,
     channel: Channel,
 ) -> Option<Interval>
-    requires seen { AreTimed log.now seen.now }
-    requires later_seen { AreTimed log.now later_seen.now }
+    requires seen { AreLogStamps log.now seen.now }
+    requires later_seen { AreLogStamps log.now later_seen.now }
     ensures value { result ≡ span_on log.now seen.now later_seen.now node cycle later channel }
     ensures near { IfSome result IsSpan }
 {
@@ -131,8 +131,8 @@ fn span_on(
 
 // What lies in the intervals of both channels.
 #[tactic(auto, unfolding(fr_course::specs::Readings::meet_all))]
-fn on_both(on_a: Option<Interval>, on_b: Option<Interval>) -> Option<Interval>
-    ensures value { result ≡ on_both on_a on_b }
+fn on_both_channels(on_a: Option<Interval>, on_b: Option<Interval>) -> Option<Interval>
+    ensures value { result ≡ on_both_channels on_a on_b }
     ensures near { (least greatest : ℤ) → IfSome on_a (EndBetween least greatest) →
         IfSome on_b (EndBetween least greatest) → IfSome result (EndBetween least greatest) }
 {
@@ -146,21 +146,21 @@ fn on_both(on_a: Option<Interval>, on_b: Option<Interval>) -> Option<Interval>
 }
 
 // Where the action point of a node in a cycle can lie.
-#[tactic(auto, unfolding(crate::specs::Senders::box_in))]
-pub(crate) fn box_in(log: &Log, seen: &[Sighting], node: NodeId, cycle: u32) -> Option<Interval>
-    requires { AreTimed log.now seen.now }
-    ensures value { result ≡ box_in log.now seen.now node cycle }
+#[tactic(auto, unfolding(crate::specs::Senders::seen_box))]
+pub(crate) fn seen_box(log: &Log, seen: &[Sighting], node: NodeId, cycle: u32) -> Option<Interval>
+    requires { AreLogStamps log.now seen.now }
+    ensures value { result ≡ seen_box log.now seen.now node cycle }
     ensures near { IfSome result IsBox }
 {
-    on_both(
+    on_both_channels(
         box_on(log, seen, node, cycle, Channel::A),
         box_on(log, seen, node, cycle, Channel::B),
     )
 }
 
 // How much later than that in a cycle that in another one lies.
-#[tactic(auto, unfolding(crate::specs::Senders::span_in))]
-pub(crate) fn span_in(
+#[tactic(auto, unfolding(crate::specs::Senders::seen_span))]
+pub(crate) fn seen_span(
     log: &Log,
     seen: &[Sighting],
     later_seen: &[Sighting],
@@ -168,12 +168,12 @@ pub(crate) fn span_in(
     cycle: u32,
     later: u32,
 ) -> Option<Interval>
-    requires seen { AreTimed log.now seen.now }
-    requires later_seen { AreTimed log.now later_seen.now }
-    ensures value { result ≡ span_in log.now seen.now later_seen.now node cycle later }
+    requires seen { AreLogStamps log.now seen.now }
+    requires later_seen { AreLogStamps log.now later_seen.now }
+    ensures value { result ≡ seen_span log.now seen.now later_seen.now node cycle later }
     ensures near { IfSome result IsSpan }
 {
-    on_both(
+    on_both_channels(
         span_on(log, seen, later_seen, node, cycle, later, Channel::A),
         span_on(log, seen, later_seen, node, cycle, later, Channel::B),
     )

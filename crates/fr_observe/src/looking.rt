@@ -1,7 +1,7 @@
 ghost use Rattle.std.specs.Prelude.{◌≡◌, ◌≤◌, ◌<◌, ◌+◌, ℕ, length};
 ghost use Rattle.std.specs.List.{prefix_len};
 ghost use Rattle.fr_log.specs.View.{LogView};
-ghost use Rattle.fr_observe.specs.Ranges.{AreFrom, AreTimed, DoublesAscend};
+ghost use Rattle.fr_observe.specs.Ranges.{AreSeenFrom, AreLogStamps, DoublesAscend};
 ghost use Rattle.fr_observe.specs.Senders.{is_in, sightings_in};
 
 use crate::sighting::Sighting;
@@ -29,15 +29,15 @@ fn count_in(seen: &[Sighting], double: u32) -> usize
 // The sightings of a double cycle before which none is, and of the next one.
 pub(crate) fn look_at(seen: &[Sighting], double: u32) -> Window<'_>
     requires ascend { DoublesAscend seen.now }
-    requires from { AreFrom double seen.now }
+    requires from { AreSeenFrom double seen.now }
     requires double { double < 1_000_000 }
     ensures here { result.here.now ≡ sightings_in seen.now double }
     ensures next { result.next.now ≡ sightings_in seen.now (double + 1) }
     ensures later { (later : ℕ) → double < later → sightings_in result.behind.now later ≡ sightings_in seen.now later }
     ensures ascend { DoublesAscend result.behind.now }
-    ensures from { AreFrom (double + 1) result.behind.now }
-    ensures timed { (l : LogView) → AreTimed l seen.now →
-        AreTimed l result.here.now × AreTimed l result.next.now × AreTimed l result.behind.now }
+    ensures from { AreSeenFrom (double + 1) result.behind.now }
+    ensures timed { (l : LogView) → AreLogStamps l seen.now →
+        AreLogStamps l result.here.now × AreLogStamps l result.next.now × AreLogStamps l result.behind.now }
 {
     let (here, behind) = seen.split_at(count_in(seen, double));
     let (next, _) = behind.split_at(count_in(behind, double + 1));

@@ -2,13 +2,13 @@ ghost use Rattle.std.specs.Prelude.{◌≡◌, ◌++◌, All, OnOk, pos};
 ghost use Rattle.fr_base.specs.Device.{Puts};
 ghost use Rattle.fr_bound.specs.Bounds.{precision_of};
 ghost use Rattle.fr_course.specs.Readings.{reading_scale};
-ghost use Rattle.fr_observe.specs.Observing.{counts_of, cycles_row, doubles_of, doubles_say, doubles_text, log_row, no_counts, observe_text, rest_by, text_by};
-ghost use Rattle.fr_observe.specs.Ranges.{AreNumbered, AreTimed, DoublesAscend, IsScaleOf};
+ghost use Rattle.fr_observe.specs.Observing.{cycle_counts, cycles_told, seen_doubles, doubles_say, doubles_rows, log_row, no_cycles_told, observe_text, rest_by, text_by};
+ghost use Rattle.fr_observe.specs.Ranges.{AreNumbered, AreLogStamps, DoublesAscend, IsScaleOf};
 ghost use Rattle.fr_observe.specs.Sightings.{IsSighting, sightings_of, tally_of};
 
 use crate::counts::Counts;
 use crate::gathered::SightingList;
-use crate::rows::{cycles_row, log_row, precision_row};
+use crate::rows::{cycles_told, log_row, precision_row};
 use crate::sighting::{Sighting, Tally};
 use crate::writing::put_doubles;
 use fr_base::{PutFault, Sink};
@@ -27,7 +27,7 @@ fn scale_of(params: &Params, log: &Log) -> Scale
 }
 
 // The rows of all double cycles.
-#[tactic(auto, unfolding(crate::specs::Observing::doubles_of))]
+#[tactic(auto, unfolding(crate::specs::Observing::seen_doubles))]
 fn put_all<O: Sink>(
     scale: &Scale,
     params: &Params,
@@ -37,14 +37,14 @@ fn put_all<O: Sink>(
     out: &mut O,
 ) -> Result<(), PutFault>
     requires scale { IsScaleOf params.now scale.now }
-    requires timed { AreTimed log.now seen.now }
+    requires timed { AreLogStamps log.now seen.now }
     requires ascend { DoublesAscend seen.now }
     requires numbered { AreNumbered seen.now }
-    requires counts { counts.old ≡ no_counts }
+    requires counts { counts.old ≡ no_cycles_told }
     ensures puts { Puts result (O.state out.old) (O.state out.new)
-        (doubles_text (pos (precision_of params.now)) scale.now params.now log.now seen.now (doubles_of seen.now)) }
-    ensures counts { OnOk result (counts.new ≡ counts_of
-        (doubles_say (pos (precision_of params.now)) scale.now params.now log.now seen.now (doubles_of seen.now))) }
+        (doubles_rows (pos (precision_of params.now)) scale.now params.now log.now seen.now (seen_doubles seen.now)) }
+    ensures counts { OnOk result (counts.new ≡ cycle_counts
+        (doubles_say (pos (precision_of params.now)) scale.now params.now log.now seen.now (seen_doubles seen.now))) }
 {
     match seen.first() {
         None => Ok(()),
@@ -72,10 +72,10 @@ fn put_end<O: Sink>(
     out: &mut O,
 ) -> Result<(), PutFault>
     ensures { Puts result (O.state out.old) (O.state out.new)
-        (log_row tally.now ++ cycles_row seen.now counts.now) }
+        (log_row tally.now ++ cycles_told seen.now counts.now) }
 {
     put_line(&log_row(tally), out)?;
-    put_line(&cycles_row(seen, counts), out)
+    put_line(&cycles_told(seen, counts), out)
 }
 
 // All rows behind the precision.
@@ -88,7 +88,7 @@ fn put_rest<O: Sink>(
     out: &mut O,
 ) -> Result<(), PutFault>
     requires scale { IsScaleOf params.now scale.now }
-    requires timed { AreTimed log.now seen.now }
+    requires timed { AreLogStamps log.now seen.now }
     requires ascend { DoublesAscend seen.now }
     requires numbered { AreNumbered seen.now }
     ensures { Puts result (O.state out.old) (O.state out.new)
@@ -107,7 +107,7 @@ fn put_told<O: Sink>(
     tally: &Tally,
     out: &mut O,
 ) -> Result<(), PutFault>
-    requires timed { AreTimed log.now seen.now }
+    requires timed { AreLogStamps log.now seen.now }
     requires ascend { DoublesAscend seen.now }
     requires numbered { AreNumbered seen.now }
     ensures { Puts result (O.state out.old) (O.state out.new)

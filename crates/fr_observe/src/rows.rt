@@ -5,7 +5,7 @@ ghost use Rattle.fr_base.specs.Within.{IsWithin};
 ghost use Rattle.fr_course.specs.Near.{IsReadingScale, EndWithin};
 ghost use Rattle.fr_time.specs.Cycles.{double_cycle_of};
 ghost use Rattle.fr_text.specs.Pieces.{Spells};
-ghost use Rattle.fr_observe.specs.Observing.{cycle_row, cycles_row, first_cycle, known, known_count, last_cycle, log_row, node_row, precision_row, terms_of};
+ghost use Rattle.fr_observe.specs.Observing.{cycle_row, cycles_told, first_row_cycle, known, known_count, last_row_cycle, log_row, node_row, precision_row, terms_of};
 ghost use Rattle.fr_observe.specs.Ranges.{IsProperSender};
 
 use crate::counts::Counts;
@@ -195,8 +195,8 @@ fn odd_of(number: u32) -> u64
     u64::from(2 * (number / 2) + 1)
 }
 
-fn first_cycle(seen: &[Sighting]) -> Option<u64>
-    ensures { result ≡ first_cycle seen.now }
+fn first_row_cycle(seen: &[Sighting]) -> Option<u64>
+    ensures { result ≡ first_row_cycle seen.now }
 {
     match seen.first() {
         None => None,
@@ -204,8 +204,8 @@ fn first_cycle(seen: &[Sighting]) -> Option<u64>
     }
 }
 
-fn last_cycle(seen: &[Sighting]) -> Option<u64>
-    ensures { result ≡ last_cycle seen.now }
+fn last_row_cycle(seen: &[Sighting]) -> Option<u64>
+    ensures { result ≡ last_row_cycle seen.now }
 {
     match seen.last() {
         None => None,
@@ -214,14 +214,14 @@ fn last_cycle(seen: &[Sighting]) -> Option<u64>
 }
 
 // The first and the last cycle with a row, and how many of them say what.
-pub(crate) fn cycles_row(seen: &[Sighting], counts: &Counts) -> Line
-    ensures { result ≡ cycles_row seen.now counts.now }
+pub(crate) fn cycles_told(seen: &[Sighting], counts: &Counts) -> Line
+    ensures { result ≡ cycles_told seen.now counts.now }
 {
     row_of(
         b"cycles",
         &[
-            known_count(first_cycle(seen)),
-            known_count(last_cycle(seen)),
+            known_count(first_row_cycle(seen)),
+            known_count(last_row_cycle(seen)),
             Natural(counts.within),
             Natural(counts.over),
             Natural(counts.neither),

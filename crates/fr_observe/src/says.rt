@@ -1,5 +1,5 @@
 ghost use Rattle.std.specs.Prelude.{◌≡◌, ◌≤◌, length};
-ghost use Rattle.fr_observe.specs.Observing.{says_of, says_text, says_to};
+ghost use Rattle.fr_observe.specs.Observing.{says_of, says_text, says_up_to};
 
 /// What the limits of a cycle's skew say of it.
 #[derive(Clone, Copy, Debug, PartialEq, Eq)]
@@ -25,7 +25,7 @@ impl Says {
     }
 
     fn to(precision: i64, high: Option<i64>) -> Says
-        ensures { result ≡ says_to precision high }
+        ensures { result ≡ says_up_to precision high }
     {
         match high {
             None => Says::Open,

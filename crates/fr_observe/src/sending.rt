@@ -8,10 +8,10 @@ ghost use Rattle.fr_course.specs.Course.{course_from};
 ghost use Rattle.fr_course.specs.Near.{IsBox, IsReadingScale, IsSpan};
 ghost use Rattle.fr_course.specs.declared.scales.Scale.{Scale as Measure};
 ghost use Rattle.fr_time.specs.Slots.{action_point_of};
-ghost use Rattle.fr_observe.specs.Ranges.{AreTimed, HasStaticKey, IsCourseAt, IsProperSender, IsScaleOf};
-ghost use Rattle.fr_observe.specs.Senders.{course_in, if_there, own_slot, sender_by, sender_in, senders_in};
+ghost use Rattle.fr_observe.specs.Ranges.{AreLogStamps, HasStaticKey, IsCourseAt, IsProperSender, IsScaleOf};
+ghost use Rattle.fr_observe.specs.Senders.{course_in, if_there, own_slot, seen_sender_by, seen_sender, seen_senders};
 
-use crate::intervals::{box_in, span_in};
+use crate::intervals::{seen_box, seen_span};
 use crate::sender::Sender;
 use crate::sighting::Sighting;
 use arrayvec::ArrayVec;
@@ -62,7 +62,7 @@ fn course_in(
     slot: Slot,
 ) -> Option<Course>
     requires scale { IsScaleOf params.now scale.now }
-    requires seen { AreTimed log.now seen.now }
+    requires seen { AreLogStamps log.now seen.now }
     requires double { double ≤ 1_000_000 }
     requires slot { slot ≤ amount params.now name.gNumberOfStaticSlots }
     ensures value { result ≡ course_in scale.now params.now log.now seen.now double node slot }
@@ -72,9 +72,9 @@ fn course_in(
     course_by(
         scale,
         action_in(scale, params, slot),
-        box_in(log, seen, node, even),
-        box_in(log, seen, node, odd),
-        span_in(log, seen, seen, node, even, odd),
+        seen_box(log, seen, node, even),
+        seen_box(log, seen, node, odd),
+        seen_span(log, seen, seen, node, even, odd),
     )
 }
 
@@ -106,7 +106,7 @@ fn known_course(
     slot: Slot,
 ) -> Option<Course>
     requires scale { IsScaleOf params.now scale.now }
-    requires seen { AreTimed log.now seen.now }
+    requires seen { AreLogStamps log.now seen.now }
     requires double { double ≤ 1_000_000 }
     requires slot { slot ≤ amount params.now name.gNumberOfStaticSlots }
     ensures value { result ≡ if_there (course_in scale.now params.now log.now seen.now double node slot) }
@@ -116,7 +116,7 @@ fn known_course(
 }
 
 // A node that sends in a slot, if it has a course in a double cycle.
-fn sender_by(
+fn seen_sender_by(
     scale: &Scale,
     params: &Params,
     log: &Log,
@@ -127,11 +127,11 @@ fn sender_by(
     slot: Slot,
 ) -> Option<Sender>
     requires scale { IsScaleOf params.now scale.now }
-    requires here { AreTimed log.now here.now }
-    requires next { AreTimed log.now next.now }
+    requires here { AreLogStamps log.now here.now }
+    requires next { AreLogStamps log.now next.now }
     requires double { double < 1_000_000 }
     requires slot { slot ≤ amount params.now name.gNumberOfStaticSlots }
-    ensures value { result ≡ sender_by scale.now params.now log.now here.now next.now double node slot }
+    ensures value { result ≡ seen_sender_by scale.now params.now log.now here.now next.now double node slot }
     ensures proper { IfSome result (IsProperSender scale.now) }
 {
     match known_course(scale, params, log, here, double, node, slot) {
@@ -140,7 +140,7 @@ fn sender_by(
             node,
             course,
             next: known_course(scale, params, log, next, double + 1, node, slot),
-            onward: span_in(log, here, next, node, 2 * double + 1, 2 * double + 2),
+            onward: seen_span(log, here, next, node, 2 * double + 1, 2 * double + 2),
         }),
     }
 }
@@ -157,8 +157,8 @@ fn own_slot(log: &Log, node: &NodeSpec) -> Option<Slot>
 }
 
 // A node, if it is a sender of a double cycle.
-#[tactic(auto, unfolding(crate::specs::Senders::sender_in))]
-fn sender_in(
+#[tactic(auto, unfolding(crate::specs::Senders::seen_sender))]
+fn seen_sender(
     scale: &Scale,
     params: &Params,
     log: &Log,
@@ -168,16 +168,16 @@ fn sender_in(
     node: &NodeSpec,
 ) -> Option<Sender>
     requires scale { IsScaleOf params.now scale.now }
-    requires here { AreTimed log.now here.now }
-    requires next { AreTimed log.now next.now }
+    requires here { AreLogStamps log.now here.now }
+    requires next { AreLogStamps log.now next.now }
     requires double { double < 1_000_000 }
     requires node { HasStaticKey params.now node.now }
-    ensures value { result ≡ sender_in scale.now params.now log.now here.now next.now double node.now }
+    ensures value { result ≡ seen_sender scale.now params.now log.now here.now next.now double node.now }
     ensures proper { IfSome result (IsProperSender scale.now) }
 {
     match own_slot(log, node) {
         None => None,
-        Some(slot) => sender_by(scale, params, log, here, next, double, node.id, slot),
+        Some(slot) => seen_sender_by(scale, params, log, here, next, double, node.id, slot),
     }
 }
 
@@ -218,8 +218,8 @@ fn keep(sender: Option<Sender>, senders: &mut ArrayVec<Sender, ROW_ROOM>)
 }
 
 // The senders of a double cycle, by its sightings and those of the next one.
-#[tactic(auto, unfolding(crate::specs::Senders::senders_in))]
-pub(crate) fn senders_in(
+#[tactic(auto, unfolding(crate::specs::Senders::seen_senders))]
+pub(crate) fn seen_senders(
     scale: &Scale,
     params: &Params,
     log: &Log,
@@ -228,17 +228,17 @@ pub(crate) fn senders_in(
     double: u32,
 ) -> ArrayVec<Sender, ROW_ROOM>
     requires scale { IsScaleOf params.now scale.now }
-    requires here { AreTimed log.now here.now }
-    requires next { AreTimed log.now next.now }
+    requires here { AreLogStamps log.now here.now }
+    requires next { AreLogStamps log.now next.now }
     requires double { double < 1_000_000 }
-    ensures value { result.items ≡ senders_in scale.now params.now log.now here.now next.now double }
+    ensures value { result.items ≡ seen_senders scale.now params.now log.now here.now next.now double }
     ensures proper { All (IsProperSender scale.now) result.items }
 {
     let mut senders = ArrayVec::new();
     for place in 0..node_count(params) {
         let node = static_node(params, place);
         keep(
-            sender_in(scale, params, log, here, next, double, node),
+            seen_sender(scale, params, log, here, next, double, node),
             &mut senders,
         );
     }

@@ -4,9 +4,9 @@ ghost use Rattle.fr_base.specs.Device.{Puts};
 ghost use Rattle.fr_bound.specs.Bounds.{precision_of};
 ghost use Rattle.fr_course.specs.Near.{IsReadingScale};
 ghost use Rattle.fr_course.specs.declared.scales.Scale.{Scale as Measure};
-ghost use Rattle.fr_observe.specs.Observing.{both_say, counted, counts_of, cycles_text, double_text, doubles_say, doubles_text, no_counts, node_row};
-ghost use Rattle.fr_observe.specs.Ranges.{AreFew, AreFrom, AreSkews, AreTimed, DoublesAscend, IsProperSender, IsScaleOf};
-ghost use Rattle.fr_observe.specs.Senders.{senders_in};
+ghost use Rattle.fr_observe.specs.Observing.{both_say, counted, cycle_counts, cycles_text, double_rows, doubles_say, doubles_rows, no_cycles_told, node_row};
+ghost use Rattle.fr_observe.specs.Ranges.{AreFewCycles, AreSeenFrom, AreSkews, AreLogStamps, DoublesAscend, IsProperSender, IsScaleOf};
+ghost use Rattle.fr_observe.specs.Senders.{seen_senders};
 ghost use Rattle.fr_observe.specs.declared.sender.Sender.{Sender as Known};
 
 use crate::counts::Counts;
@@ -14,7 +14,7 @@ use crate::looking::look_at;
 use crate::rows::{cycle_row, node_row};
 use crate::says::Says;
 use crate::sender::Sender;
-use crate::sending::senders_in;
+use crate::sending::seen_senders;
 use crate::sighting::Sighting;
 use crate::skews::{Skews, skews_of};
 use fr_base::{PutFault, Sink};
@@ -81,7 +81,7 @@ fn put_cycles<O: Sink>(
 // Counts what they say.
 #[tactic(auto, unfolding(crate::specs::Observing::both_say))]
 fn count_both(precision: i64, skews: &Skews, counts: &mut Counts)
-    requires few { AreFew 900_000 counts.old }
+    requires few { AreFewCycles 900_000 counts.old }
     ensures { (scale : Measure) (senders : List Known) → AreSkews scale senders skews.now →
         counts.new ≡ counted counts.old (both_say precision scale senders) }
 {
@@ -90,7 +90,7 @@ fn count_both(precision: i64, skews: &Skews, counts: &mut Counts)
 }
 
 // The rows of a double cycle.
-#[tactic(auto, unfolding(crate::specs::Observing::double_text))]
+#[tactic(auto, unfolding(crate::specs::Observing::double_rows))]
 fn put_senders<O: Sink>(
     scale: &Scale,
     precision: i64,
@@ -103,9 +103,9 @@ fn put_senders<O: Sink>(
     requires double { double < 1_000_000 }
     requires few { length senders.now ≤ 64 }
     requires senders { All (IsProperSender scale.now) senders.now }
-    requires counts { AreFew 900_000 counts.old }
+    requires counts { AreFewCycles 900_000 counts.old }
     ensures puts { Puts result (O.state out.old) (O.state out.new)
-        (double_text precision scale.now double senders.now) }
+        (double_rows precision scale.now double senders.now) }
     ensures counts { counts.new ≡ counted counts.old (both_say precision scale.now senders.now) }
 {
     let skews = skews_of(scale, senders);
@@ -126,18 +126,18 @@ fn put_double<O: Sink>(
     out: &mut O,
 ) -> Result<(), PutFault>
     requires scale { IsScaleOf params.now scale.now }
-    requires here { AreTimed log.now here.now }
-    requires next { AreTimed log.now next.now }
+    requires here { AreLogStamps log.now here.now }
+    requires next { AreLogStamps log.now next.now }
     requires double { double < 1_000_000 }
-    requires counts { AreFew 900_000 counts.old }
+    requires counts { AreFewCycles 900_000 counts.old }
     ensures puts { Puts result (O.state out.old) (O.state out.new)
-        (double_text (pos (precision_of params.now)) scale.now double
-        (senders_in scale.now params.now log.now here.now next.now double)) }
+        (double_rows (pos (precision_of params.now)) scale.now double
+        (seen_senders scale.now params.now log.now here.now next.now double)) }
     ensures counts { counts.new ≡ counted counts.old
         (both_say (pos (precision_of params.now)) scale.now
-        (senders_in scale.now params.now log.now here.now next.now double)) }
+        (seen_senders scale.now params.now log.now here.now next.now double)) }
 {
-    let senders = senders_in(scale, params, log, here, next, double);
+    let senders = seen_senders(scale, params, log, here, next, double);
     put_senders(
         scale,
         bounds(params).precision,
@@ -160,16 +160,16 @@ pub(crate) fn put_doubles<O: Sink>(
     out: &mut O,
 ) -> Result<(), PutFault>
     requires scale { IsScaleOf params.now scale.now }
-    requires timed { AreTimed log.now seen.now }
+    requires timed { AreLogStamps log.now seen.now }
     requires ascend { DoublesAscend seen.now }
-    requires from { AreFrom first seen.now }
+    requires from { AreSeenFrom first seen.now }
     requires first { first ≤ last }
     requires last { last < 100_000 }
-    requires counts { counts.old ≡ no_counts }
+    requires counts { counts.old ≡ no_cycles_told }
     ensures puts { Puts result (O.state out.old) (O.state out.new)
-        (doubles_text (pos (precision_of params.now)) scale.now params.now log.now seen.now
+        (doubles_rows (pos (precision_of params.now)) scale.now params.now log.now seen.now
         (range_with_len first (last + 1 - first))) }
-    ensures counts { OnOk result (counts.new ≡ counts_of
+    ensures counts { OnOk result (counts.new ≡ cycle_counts
         (doubles_say (pos (precision_of params.now)) scale.now params.now log.now seen.now
         (range_with_len first (last + 1 - first)))) }
 {

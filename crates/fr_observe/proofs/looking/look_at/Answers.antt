@@ -1,5 +1,5 @@
 use Rattle.std.proofs.Common.{◌≡◌, ◌∙◌, ℕ, ◌+◌, ◌<◌, List, take, drop, ap, sym, subst, arith}
-use Rattle.fr_observe.specs.Ranges.{AreFrom, AreTimed, DoublesAscend}
+use Rattle.fr_observe.specs.Ranges.{AreSeenFrom, AreLogStamps, DoublesAscend}
 use Rattle.fr_observe.specs.Senders.{is_in, sightings_in}
 use Rattle.fr_observe.specs.declared.sighting.Sighting.{Sighting}
 use Rattle.fr_observe.proofs.Windows.{IsCut, IsLooked, looked}

@@ -5,7 +5,7 @@ use Rattle.fr_bound.specs.Bounds.{precision_of}
 use Rattle.fr_log.specs.Rows.{last_stamp}
 use Rattle.fr_course.specs.Readings.{reading_scale}
 use Rattle.fr_observe.specs.Observing.{observe_text, text_by}
-use Rattle.fr_observe.specs.Ranges.{AreNumbered, AreTimed, DoublesAscend}
+use Rattle.fr_observe.specs.Ranges.{AreNumbered, AreLogStamps, DoublesAscend}
 use Rattle.fr_observe.specs.Sightings.{IsSighting, sightings_of, tally_of}
 use Rattle.fr_observe.proofs.observing.write_observed.Goals as goal
 
@@ -15,7 +15,7 @@ put_told-requires g c =
     let l = c.args.log.now in
     let list = c.args.sightings.now.list in
     record {
-      timed = subst (AreTimed l) (sym c.as_slice.ensures) (All-weaker (IsSighting p l) (λ s. l.unit * s.stamp ≤ last_stamp) (λ s is. is.stamp) list c.requires.proper);
+      timed = subst (AreLogStamps l) (sym c.as_slice.ensures) (All-weaker (IsSighting p l) (λ s. l.unit * s.stamp ≤ last_stamp) (λ s is. is.stamp) list c.requires.proper);
       ascend = subst DoublesAscend (sym c.as_slice.ensures) c.requires.ascend;
       numbered = subst AreNumbered (sym c.as_slice.ensures) (All-weaker (IsSighting p l) (λ s. s.number ≤ 199_999) (λ s is. is.number) list c.requires.proper);
     }

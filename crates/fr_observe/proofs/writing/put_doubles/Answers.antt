@@ -2,9 +2,9 @@ use Rattle.std.proofs.Common.{◌≡◌, ◌∙◌, ℕ, ◌+◌, ◌-◌, ◌*�
 use Rattle.fr_base.specs.Device.{Puts}
 use Rattle.fr_base.proofs.Putting.{puts_none}
 use Rattle.fr_bound.specs.Bounds.{precision_of}
-use Rattle.fr_observe.specs.Observing.{counted, doubles_say, doubles_text}
-use Rattle.fr_observe.specs.Ranges.{AreFew}
-use Rattle.fr_observe.specs.Senders.{senders_in, sightings_in}
+use Rattle.fr_observe.specs.Observing.{counted, doubles_say, doubles_rows}
+use Rattle.fr_observe.specs.Ranges.{AreFewCycles}
+use Rattle.fr_observe.specs.Senders.{seen_senders, sightings_in}
 use Rattle.fr_observe.specs.declared.counts.Counts.{Counts}
 use Rattle.fr_observe.proofs.Printing.{few-said, says-end, says-then, text-cut, text-end, text-then, up_to}
 use Rattle.fr_observe.proofs.writing.put_doubles.Goals as goal
@@ -37,16 +37,16 @@ loop-double-preserved g c =
     let next_is : next ≡ sightings_in c.args.seen.now (double + 1) = look.ensures.next ∙ c.loop-double.invariant.same (double + 1) (omega arith) in
     let before : ℕ = 2 * (double - c.args.first) in
     let more : before + 2 ≡ 2 * (double + 1 - c.args.first) = omega (arith, c.loop-double.invariant.started) in
-    let few : AreFew (before + 2) c.put_double.new.counts =
-    subst (AreFew (before + 2)) (sym c.in_ok-put_double.ensures.counts)
-    (few-said before c.loop-double.counts precision c.args.scale.now (senders_in c.args.scale.now c.args.params.now c.args.log.now here next double) c.loop-double.invariant.few) in record {
+    let few : AreFewCycles (before + 2) c.put_double.new.counts =
+    subst (AreFewCycles (before + 2)) (sym c.in_ok-put_double.ensures.counts)
+    (few-said before c.loop-double.counts precision c.args.scale.now (seen_senders c.args.scale.now c.args.params.now c.args.log.now here next double) c.loop-double.invariant.few) in record {
       from = look.ensures.from;
       ascend = look.ensures.ascend;
       timed = (look.ensures.timed c.args.log.now c.loop-double.invariant.timed).2;
       same = λ later later_le. look.ensures.later later (omega (arith, later_le)) ∙ c.loop-double.invariant.same later (omega (arith, later_le));
       within = omega (arith, le);
       started = omega (arith, c.loop-double.invariant.started);
-      few = subst (λ (most : ℕ). AreFew most c.put_double.new.counts) more few;
+      few = subst (λ (most : ℕ). AreFewCycles most c.put_double.new.counts) more few;
       puts = λ result after put.
           c.loop-double.invariant.puts result after
           (text-then precision c.args.scale.now c.args.params.now c.args.log.now c.args.seen.now here next double c.args.last result le here_is next_is c.in_ok-put_double.ensures.puts put);

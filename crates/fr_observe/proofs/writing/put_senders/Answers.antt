@@ -4,11 +4,11 @@ use Rattle.std.proofs.lemmas.Int.{to_z-of_z}
 use Rattle.std.specs.List.{flat_map}
 use Rattle.fr_base.specs.Device.{Puts}
 use Rattle.fr_base.proofs.Putting.{cut, then}
-use Rattle.fr_observe.specs.Observing.{cycles_text, double_text, node_row}
+use Rattle.fr_observe.specs.Observing.{cycles_text, double_rows, node_row}
 use Rattle.fr_observe.proofs.writing.put_senders.Goals as goal
 
 pub returns-in_err-put_cycles-clause-puts : goal.returns-in_err-put_cycles-clause-puts
-unfolding double_text
+unfolding double_rows
 returns-in_err-put_cycles-clause-puts g c =
     let back : to_z w64 (of_z w64 c.args.precision) ≡ c.args.precision = to_z-of_z w64 c.args.precision c.ranges.precision in
     let rest : List ℕ = flat_map (node_row c.args.scale.now c.args.double) c.args.senders.now in
@@ -16,7 +16,7 @@ returns-in_err-put_cycles-clause-puts g c =
     (cut c.from_residual.result rest c.in_err-put_cycles.ensures c.from_residual.ensures.0)
 
 pub returns-clause-puts : goal.returns-clause-puts
-unfolding double_text
+unfolding double_rows
 returns-clause-puts g c =
     let back : to_z w64 (of_z w64 c.args.precision) ≡ c.args.precision = to_z-of_z w64 c.args.precision c.ranges.precision in
     let rest : List ℕ = flat_map (node_row c.args.scale.now c.args.double) c.args.senders.now in

@@ -1,7 +1,7 @@
 use Rattle.std.proofs.Common.{Option, IfSome, subst}
 use Rattle.fr_course.specs.Near.{EndBetween}
 use Rattle.fr_course.specs.declared.intervals.Interval.{Interval}
-use Rattle.fr_observe.proofs.intervals.on_both.Goals as goal
+use Rattle.fr_observe.proofs.intervals.on_both_channels.Goals as goal
 
 pub returns-in-Some-on_b-clause-near : goal.returns-in-Some-on_b-clause-near
 returns-in-Some-on_b-clause-near c = λ least greatest a b.

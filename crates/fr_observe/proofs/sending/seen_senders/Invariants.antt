@@ -1,12 +1,12 @@
 use Rattle.std.proofs.Common.{◌≡◌, ◌≤◌, All, length, take, filter_map}
 use Rattle.fr_observe.specs.Ranges.{IsProperSender}
-use Rattle.fr_observe.specs.Senders.{sender_in}
-use Rattle.fr_observe.proofs.sending.senders_in.Given as goal
+use Rattle.fr_observe.specs.Senders.{seen_sender}
+use Rattle.fr_observe.proofs.sending.seen_senders.Given as goal
 
 -- the senders among the nodes so far
 abbrev pub invariant-loop-place : goal.invariant-loop-place
 invariant-loop-place l = record {
-  value : l.senders.items ≡ filter_map (sender_in l.scale l.params l.log l.here l.next l.double) (take l.place l.params.nodes);
+  value : l.senders.items ≡ filter_map (seen_sender l.scale l.params l.log l.here l.next l.double) (take l.place l.params.nodes);
   few : length l.senders.items ≤ l.place;
   proper : All (IsProperSender l.scale) l.senders.items;
 }
