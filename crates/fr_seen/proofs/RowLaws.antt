@@ -28,9 +28,9 @@ map_twice f g [] = refl
 map_twice f g (x ∷ xs) = ap (λ zs. f (g x) ∷ zs) (map_twice f g xs)
 
 -- a limit that some senders have
-limited : (senders : List Sender) (limit : Option ℤ) (P : ℤ → Type 0) → IfSome limit P → IfSome (with_senders senders limit) P
-limited [] limit P is = tt
-limited (s ∷ senders) limit P is = is
+with_limit : (senders : List Sender) (limit : Option ℤ) (P : ℤ → Type 0) → IfSome limit P → IfSome (with_senders senders limit) P
+with_limit [] limit P is = tt
+with_limit (s ∷ senders) limit P is = is
 
 module _ (x : Setting) (drift : ℕ) (clock : StraightClock) (even odd : Cycle) (sane : IsSane x.params) (within : IsWithinDrift drift clock) where
   abbrev Scaled : Scale
@@ -85,7 +85,7 @@ module _ (x : Setting) (drift : ℕ) (clock : StraightClock) (even odd : Cycle) 
     cycle_rows_hold =
         record {
           even_from = even_from;
-          even_to = limited senders (Some (most_even_skew Scaled (courses_of senders))) (StaysWithin x.params false (sender_rows even senders)) even_to;
+          even_to = with_limit senders (Some (most_even_skew Scaled (courses_of senders))) (StaysWithin x.params false (sender_rows even senders)) even_to;
           odd_from = odd_from;
         }
 
@@ -136,7 +136,7 @@ module _ (x : Setting) (drift : ℕ) (clock : StraightClock) (even odd : Cycle) 
     odd_row_holds : (senders : List Sender) → All (SenderGoesOn x drift clock even odd next_even next_odd) senders → OddRowHolds x drift odd senders
     unfolding odd_high
     odd_row_holds senders all =
-        limited senders (option_map (most_odd_skew Scaled (courses_of senders)) (next_courses senders)) (StaysWithin x.params true (sender_rows odd senders))
+        with_limit senders (option_map (most_odd_skew Scaled (courses_of senders)) (next_courses senders)) (StaysWithin x.params true (sender_rows odd senders))
         (by (next_courses senders) refl)
       where
         by : (o : Option (List Course)) → next_courses senders ≡ o

@@ -27,7 +27,7 @@ use Rattle.fr_course.specs.declared.intervals.Interval.{Interval}
 use Rattle.fr_course.specs.declared.scales.Scale.{Scale}
 use Rattle.fr_course.specs.declared.stamps.Delays.{Delays}
 use Rattle.fr_observe.specs.Observing.{senders_of}
-use Rattle.fr_observe.specs.Senders.{box_by, box_in, box_on, course_in, delays_in, first_stamp, if_there, is_in, is_sent_in, observer_of, on_both, own_slot, sender_by, sender_in, sender_on, senders_in, sightings_in, span_by, span_in, span_on}
+use Rattle.fr_observe.specs.Senders.{box_by, seen_box, box_on, course_in, delays_in, first_stamp, if_there, is_in, is_sent_in, observer_of, on_both_channels, own_slot, seen_sender_by, seen_sender, sender_on, seen_senders, sightings_in, span_by, seen_span, span_on}
 use Rattle.fr_observe.specs.Sightings.{IsSighting, sightings_of}
 use Rattle.fr_observe.specs.declared.sender.Sender.{Sender}
 use Rattle.fr_observe.specs.declared.sighting.Sighting.{Sighting}
@@ -81,7 +81,7 @@ picks_none P f = record { some = []; each = All-nil P; are = refl }
 picks_one : {X : Type 0} (P : X → Type 0) (f : X → Interval) (x : X) (i : Interval) → P x → i ≡ f x → Picks P f (Some i)
 picks_one P f x i is same = record { some = x ∷ []; each = All-cons P x [] is (All-nil P); are = ap (λ j. j ∷ []) same }
 
-meets_both : {X : Type 0} (P : X → Type 0) (f : X → Interval) (a b : Option Interval) → Picks P f a → Picks P f b → Meets P f (on_both a b)
+meets_both : {X : Type 0} (P : X → Type 0) (f : X → Interval) (a b : Option Interval) → Picks P f a → Picks P f b → Meets P f (on_both_channels a b)
 meets_both P f a b one other =
     record {
       some = one.some ++ other.some;
@@ -191,8 +191,8 @@ module _ (x : Setting) (h : Cycles) (base : ℕ) (delays : ℕ → Channel → D
       (sym (ap (λ t. stamped (observer_of l) (delays f.sent.node f.sent.frame.channel) t) f.stamp_is ∙ ap (λ e. stamped (observer_of l) e (pos stamp)) same))
 
   box_meets : (node slot cycle at d : ℕ) → own_key x.params node ≡ Some slot → at ≡ cycle + base
-      → Meets (IsSentBy is.sent node slot at) (box_of (observer_of l) delays) (box_in l (sightings_in Sightings d) node cycle)
-  unfolding box_in
+      → Meets (IsSentBy is.sent node slot at) (box_of (observer_of l) delays) (seen_box l (sightings_in Sightings d) node cycle)
+  unfolding seen_box
   box_meets node slot cycle at d own at_is =
       meets_both (IsSentBy is.sent node slot at) (box_of (observer_of l) delays) (box_on l (sightings_in Sightings d) node cycle A) (box_on l (sightings_in Sightings d) node cycle B)
       (box_picks node slot cycle at d A own at_is (delays_in l node A) refl (first_stamp (sightings_in Sightings d) node A cycle) refl)
@@ -227,8 +227,8 @@ module _ (x : Setting) (h : Cycles) (base : ℕ) (delays : ℕ → Channel → D
       ))
 
   span_meets : (node slot cycle at later next d e : ℕ) → own_key x.params node ≡ Some slot → at ≡ cycle + base → next ≡ later + base
-      → Meets (ArePaired is.sent node slot at next) (span_between (observer_of l) delays) (span_in l (sightings_in Sightings d) (sightings_in Sightings e) node cycle later)
-  unfolding span_in
+      → Meets (ArePaired is.sent node slot at next) (span_between (observer_of l) delays) (seen_span l (sightings_in Sightings d) (sightings_in Sightings e) node cycle later)
+  unfolding seen_span
   span_meets node slot cycle at later next d e own at_is next_is =
       meets_both (ArePaired is.sent node slot at next) (span_between (observer_of l) delays)
       (span_on l (sightings_in Sightings d) (sightings_in Sightings e) node cycle later A) (span_on l (sightings_in Sightings d) (sightings_in Sightings e) node cycle later B)
@@ -275,8 +275,8 @@ module _ (x : Setting) (h : Cycles) (base : ℕ) (delays : ℕ → Channel → D
         are = record { in_even = evens.each; in_odd = odds.each; paired = pairs.each };
         course_is =
             ap (λ s. course_from scale action (meet_all (map box evens.some)) (meet_all (map box odds.some)) s) (sym pairs.are)
-            ∙ ap (λ o. course_from scale action (meet_all (map box evens.some)) o (span_in l here here node (2 * double) (2 * double + 1))) (sym odds.are)
-            ∙ ap (λ e. course_from scale action e (box_in l here node (2 * double + 1)) (span_in l here here node (2 * double) (2 * double + 1))) (sym evens.are)
+            ∙ ap (λ o. course_from scale action (meet_all (map box evens.some)) o (seen_span l here here node (2 * double) (2 * double + 1))) (sym odds.are)
+            ∙ ap (λ e. course_from scale action e (seen_box l here node (2 * double + 1)) (seen_span l here here node (2 * double) (2 * double + 1))) (sym evens.are)
             ∙ is_course;
       }
 
@@ -306,9 +306,9 @@ module _ (x : Setting) (h : Cycles) (base : ℕ) (delays : ℕ → Channel → D
   own_is : (node : NodeSpec) (slot : ℕ) → Contains x.params.nodes node → node.key ≡ Some slot → own_key x.params node.id ≡ Some slot
   own_is node slot among keyed = ap key_in (node_there x.params node sane among) ∙ keyed
 
-  has_rows : (node : NodeSpec) (slot at : ℕ) (even odd : Cycle) → Contains x.params.nodes node → node.key ≡ Some slot → HasDouble h at even odd → HasBoth even odd node.id
+  sender_has_rows : (node : NodeSpec) (slot at : ℕ) (even odd : Cycle) → Contains x.params.nodes node → node.key ≡ Some slot → HasDouble h at even odd → HasBoth even odd node.id
       → HasRows x h node.id slot at (row_for even.told.rows node.id) (row_for odd.told.rows node.id)
-  has_rows node slot at even odd among keyed has rows =
+  sender_has_rows node slot at even odd among keyed has rows =
       let key = key_slot_there x.params node slot sane among keyed in
       record {
         even_cycle = even;
@@ -320,8 +320,8 @@ module _ (x : Setting) (h : Cycles) (base : ℕ) (delays : ℕ → Channel → D
         slot_to = key.to;
       }
 
-  has_both : (node slot double at : ℕ) (even odd : Cycle) (course : Course) → IsTimedRun x h → HasDouble h at even odd → IsPicked node slot double at course → HasBoth even odd node
-  has_both node slot double at even odd course run has by =
+  sender_has_both : (node slot double at : ℕ) (even odd : Cycle) (course : Course) → IsTimedRun x h → HasDouble h at even odd → IsPicked node slot double at course → HasBoth even odd node
+  sender_has_both node slot double at even odd course run has by =
       let rows =
       rows_by node slot at even odd course (meet_all (map (span_between (observer_of l) delays) by.picked.pairs)) has by.picked.even by.are.in_even by.picked.odd by.are.in_odd by.course_is in
       let ways = nodes_have_both_rows x h at even odd node run has in
@@ -361,12 +361,12 @@ module _ (x : Setting) (h : Cycles) (base : ℕ) (delays : ℕ → Channel → D
       by false is = is
 
   sender_found : (double : ℕ) (node : NodeSpec) (s : Sender)
-      → sender_in Scaled x.params l (sightings_in Sightings double) (sightings_in Sightings (double + 1)) double node ≡ Some s → IsSenderBy double node s
-  unfolding sender_in
+      → seen_sender Scaled x.params l (sightings_in Sightings double) (sightings_in Sightings (double + 1)) double node ≡ Some s → IsSenderBy double node s
+  unfolding seen_sender
   sender_found double node s is = by (own_slot l node) refl is
     where
       by : (o : Option ℕ) → own_slot l node ≡ o
-          → option_and_then (sender_by Scaled x.params l (sightings_in Sightings double) (sightings_in Sightings (double + 1)) double node.id) o ≡ Some s → IsSenderBy double node s
+          → option_and_then (seen_sender_by Scaled x.params l (sightings_in Sightings double) (sightings_in Sightings (double + 1)) double node.id) o ≡ Some s → IsSenderBy double node s
       by None own is = absurd (cc is)
       by (Some slot) own is =
           let some =
@@ -390,13 +390,13 @@ module _ (x : Setting) (h : Cycles) (base : ℕ) (delays : ℕ → Channel → D
       let at = run_double base double in
       let own = own_is node by.slot among by.keyed in
       let picks = is_picked node.id by.slot double at by.course own refl by.course_is in
-      let rows = has_both node.id by.slot double at even odd by.course run has picks in
+      let rows = sender_has_both node.id by.slot double at even odd by.course run has picks in
       subst (IsSenderOn x l.drift (clock at) even odd) by.sender_is
       (
       record {
         rows = rows;
         on = seen_courses_hold x h base (observer_of l) delays clock is.sent node.id by.slot at at (row_for even.told.rows node.id) (row_for odd.told.rows node.id) picks.picked by.course run is.seen
-            (has_rows node by.slot at even odd among by.keyed has rows) picks.are (inl refl) picks.course_is;
+            (sender_has_rows node by.slot at even odd among by.keyed has rows) picks.are (inl refl) picks.course_is;
       }
       )
 
@@ -431,10 +431,10 @@ module _ (x : Setting) (h : Cycles) (base : ℕ) (delays : ℕ → Channel → D
           let at = run_double base double in
           let own = own_is node by.slot among by.keyed in
           let picks = is_picked node.id by.slot double at by.course own refl by.course_is in
-          let rows = has_both node.id by.slot double at even odd by.course run has picks in
+          let rows = sender_has_both node.id by.slot double at even odd by.course run has picks in
           let next_course = there_some (course_in Scaled x.params l (sightings_in Sightings (double + 1)) (double + 1) node.id by.slot) next next_is in
           let next_picks = is_picked node.id by.slot (double + 1) (suc at) next own (next_run double) next_course in
-          let next_rows = has_both node.id by.slot (double + 1) (suc at) next_even next_odd next run next_has next_picks in
+          let next_rows = sender_has_both node.id by.slot (double + 1) (suc at) next_even next_odd next run next_has next_picks in
           let onward =
           span_meets node.id by.slot (2 * double + 1) (suc (2 * at)) (2 * double + 2) (2 * suc at) double (double + 1) own (odd_at double at refl) (next_at double) in
           let Goes : Option Interval → Type 0 = GoesOn x.params l.drift (clock at)
@@ -449,27 +449,27 @@ module _ (x : Setting) (h : Cycles) (base : ℕ) (delays : ℕ → Channel → D
                 (
                 seen_nodes_go_on x h base (observer_of l) delays clock is.sent node.id by.slot at (row_for even.told.rows node.id) (row_for odd.told.rows node.id)
                 (row_for next_even.told.rows node.id) (row_for next_odd.told.rows node.id) picks.picked next_picks.picked by.course next onward.some run is.seen
-                (has_rows node by.slot at even odd among by.keyed has rows) (has_rows node by.slot (suc at) next_even next_odd among by.keyed next_has next_rows)
+                (sender_has_rows node by.slot at even odd among by.keyed has rows) (sender_has_rows node by.slot (suc at) next_even next_odd among by.keyed next_has next_rows)
                 picks.are next_picks.are onward.each picks.course_is next_picks.course_is
                 );
           }
 
 pub senders_are_on_course : SendersAreOnCourse
-unfolding senders_of senders_in
+unfolding senders_of seen_senders
 senders_are_on_course x h base delays clock l double even odd run is_log is has =
     let scale = reading_scale l.drift x.params in
     let seen = sightings_of x.params l in
-    all_given (sender_in scale x.params l (sightings_in seen double) (sightings_in seen (double + 1)) double)
+    all_given (seen_sender scale x.params l (sightings_in seen double) (sightings_in seen (double + 1)) double)
     (IsSenderOn x l.drift (clock (run_double base double)) even odd) x.params.nodes
     (λ node among s given.
     sender_holds x h base delays clock l run.sane is_log is double even odd node s run has among (sender_found x h base delays clock l run.sane is_log is double node s given))
 
 pub senders_go_on : SendersGoOn
-unfolding senders_of senders_in
+unfolding senders_of seen_senders
 senders_go_on x h base delays clock l double even odd next_even next_odd run is_log is has next_has =
     let scale = reading_scale l.drift x.params in
     let seen = sightings_of x.params l in
-    all_given (sender_in scale x.params l (sightings_in seen double) (sightings_in seen (double + 1)) double)
+    all_given (seen_sender scale x.params l (sightings_in seen double) (sightings_in seen (double + 1)) double)
     (SenderGoesOn x l.drift (clock (run_double base double)) even odd next_even next_odd) x.params.nodes
     (λ node among s given.
     sender_goes_on x h base delays clock l run.sane is_log is double even odd next_even next_odd node s run has next_has among

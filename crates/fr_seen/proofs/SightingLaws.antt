@@ -34,8 +34,8 @@ use Rattle.fr_seen.proofs.ObservedLaws.{seen_numbers_are_found}
 -- ---- an entry
 
 -- it is no sighting behind any last one, or it is a frame that is judged
-abbrev IsNone : Values → LogView → Entry → Type 0
-IsNone p l e = (last : Option Sighting) → sighting_in (fate_of p l last e) ≡ None
+abbrev IsNoSighting : Values → LogView → Entry → Type 0
+IsNoSighting p l e = (last : Option Sighting) → sighting_in (fate_of p l last e) ≡ None
 
 pub record IsJudgedBy (p : Values) (l : LogView) (e : Entry) : Type 0 where
   pub header : Header
@@ -43,29 +43,29 @@ pub record IsJudgedBy (p : Values) (l : LogView) (e : Entry) : Type 0 where
   pub fated : (last : Option Sighting) → fate_of p l last e ≡ fate_judged p l last (judged_as e header sending)
 
 module _ (p : Values) (l : LogView) (e : Entry) where
-  told_sent : (header : Header) (sending : Sending) → whole_header e.kind e.channel e.bytes ≡ Some header → static_sending p header ≡ Some sending
+  sending_told : (header : Header) (sending : Sending) → whole_header e.kind e.channel e.bytes ≡ Some header → static_sending p header ≡ Some sending
       → (arbitrary : Bool) → is_arbitrary_in l sending.node ≡ arbitrary → (passes : Bool) → is_regular_sync p e.channel header sending ≡ passes
-      → IsNone p l e ⊎ IsJudgedBy p l e
+      → IsNoSighting p l e ⊎ IsJudgedBy p l e
   unfolding fate_of judgement_of
-  told_sent header sending whole sends true at passes is = inl (λ last. rw (whole, sends, at) refl)
-  told_sent header sending whole sends false at false is = inl (λ last. rw (whole, sends, at, is) refl)
-  told_sent header sending whole sends false at true is =
+  sending_told header sending whole sends true at passes is = inl (λ last. rw (whole, sends, at) refl)
+  sending_told header sending whole sends false at false is = inl (λ last. rw (whole, sends, at, is) refl)
+  sending_told header sending whole sends false at true is =
       inr (record { header = header; sending = sending; fated = λ last. rw (whole, sends, at, is) refl })
 
-  told_whole : (header : Header) → whole_header e.kind e.channel e.bytes ≡ Some header → (sending : Option Sending) → static_sending p header ≡ sending
-      → IsNone p l e ⊎ IsJudgedBy p l e
+  header_told : (header : Header) → whole_header e.kind e.channel e.bytes ≡ Some header → (sending : Option Sending) → static_sending p header ≡ sending
+      → IsNoSighting p l e ⊎ IsJudgedBy p l e
   unfolding fate_of judgement_of
-  told_whole header whole None sends = inl (λ last. rw (whole, sends) refl)
-  told_whole header whole (Some sending) sends =
-      told_sent header sending whole sends (is_arbitrary_in l sending.node) refl (is_regular_sync p e.channel header sending) refl
+  header_told header whole None sends = inl (λ last. rw (whole, sends) refl)
+  header_told header whole (Some sending) sends =
+      sending_told header sending whole sends (is_arbitrary_in l sending.node) refl (is_regular_sync p e.channel header sending) refl
 
-  told_by : (header : Option Header) → whole_header e.kind e.channel e.bytes ≡ header → IsNone p l e ⊎ IsJudgedBy p l e
+  whole_told : (header : Option Header) → whole_header e.kind e.channel e.bytes ≡ header → IsNoSighting p l e ⊎ IsJudgedBy p l e
   unfolding fate_of judgement_of
-  told_by None whole = inl (λ last. rw whole refl)
-  told_by (Some header) whole = told_whole header whole (static_sending p header) refl
+  whole_told None whole = inl (λ last. rw whole refl)
+  whole_told (Some header) whole = header_told header whole (static_sending p header) refl
 
-  entry_told : IsNone p l e ⊎ IsJudgedBy p l e
-  entry_told = told_by (whole_header e.kind e.channel e.bytes) refl
+  entry_told : IsNoSighting p l e ⊎ IsJudgedBy p l e
+  entry_told = whole_told (whole_header e.kind e.channel e.bytes) refl
 
 -- ---- numbers
 
@@ -99,8 +99,8 @@ module _
     abbrev AreSent : Option Sighting → List Entry → Type 0
     AreSent last entries = All (IsAmongSent log) (filter_map sighting_in (fates_from x.params l last entries))
 
-    abbrev GoesOn : List Entry → Type 0
-    GoesOn entries =
+    abbrev RestIsSent : List Entry → Type 0
+    RestIsSent entries =
         (after : Option Sighting) (more : List SentFrame) → All (Contains log) more → AllZip IsToldOf (filter_map (judged_in x.params l) entries) more → IsFrom after entries more
         → AreSent after entries
 
@@ -123,14 +123,14 @@ module _
 
     -- a sighting more
     one_more : (s : Sighting) (f : SentFrame) (entries : List Entry) (more : List SentFrame) → Contains log f → IsSightingOf s f → All (λ (e : Entry). s.stamp ≤ e.stamp) entries
-        → All (Contains log) more → AllZip IsToldOf (filter_map (judged_in x.params l) entries) more → GoesOn entries
+        → All (Contains log) more → AllZip IsToldOf (filter_map (judged_in x.params l) entries) more → RestIsSent entries
         → All (IsAmongSent log) (s ∷ filter_map sighting_in (fates_from x.params l (Some s) entries))
     one_more s f entries more there is later others told go =
         let among : IsAmongSent log s = record { sent = f; there = there; is = is } in
         All-cons (IsAmongSent log) s (filter_map sighting_in (fates_from x.params l (Some s) entries)) among (go (Some s) more others told (among, later))
 
     -- a frame that is judged, as the first one and behind another one
-    module _ (e : Entry) (header : Header) (sending : Sending) (entries : List Entry) (later : All (λ (o : Entry). e.stamp ≤ o.stamp) entries) (go : GoesOn entries) where
+    module _ (e : Entry) (header : Header) (sending : Sending) (entries : List Entry) (later : All (λ (o : Entry). e.stamp ≤ o.stamp) entries) (go : RestIsSent entries) where
       abbrev Judged : Sighting
       Judged = sighting_with header.cycle (judged_as e header sending)
 
@@ -188,8 +188,8 @@ module _
 
     -- an entry more
     with_entry : (e : Entry) (entries : List Entry) (last : Option Sighting) (rest : List SentFrame) → All (λ (o : Entry). e.stamp ≤ o.stamp) entries → All (Contains log) rest
-        → AllZip IsToldOf (cons_option (judged_in x.params l e) (filter_map (judged_in x.params l) entries)) rest → IsFrom last (e ∷ entries) rest → GoesOn entries
-        → IsNone x.params l e ⊎ IsJudgedBy x.params l e
+        → AllZip IsToldOf (cons_option (judged_in x.params l e) (filter_map (judged_in x.params l) entries)) rest → IsFrom last (e ∷ entries) rest → RestIsSent entries
+        → IsNoSighting x.params l e ⊎ IsJudgedBy x.params l e
         → All (IsAmongSent log) (cons_option (sighting_in (fate_of x.params l last e)) (filter_map sighting_in (fates_from x.params l (last_behind last (fate_of x.params l last e)) entries)))
     with_entry e entries last rest later there told at go (inl none) =
         let others : List Sighting = filter_map (judged_in x.params l) entries in
