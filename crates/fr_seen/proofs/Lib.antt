@@ -11,3 +11,6 @@ pub mod TermLaws
 pub mod RunLaws
 pub mod ObservedLaws
 pub mod WorkedRows
+pub mod SightingLaws
+pub mod SenderLaws
+pub mod RowLaws

@@ -5,4 +5,5 @@ pub mod Skews
 pub mod TermsSeen
 pub mod RunRows
 pub mod Observed
+pub mod LogSeen
 pub mod WorkedStamps

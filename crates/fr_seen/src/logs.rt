@@ -1,0 +1,21 @@
+ghost use Rattle.fr_seen.specs.LogSeen.{ObservedNextRowsHold, ObservedRowsHold, SendersAreOnCourse, SendersGoOn, SightingsAreSent};
+
+/// A law: each sighting of a log that is seen of a run is a frame that was sent there, in the cycle of its number.
+pub fn sightings_are_sent()
+    ensures { SightingsAreSent }
+{}
+
+/// A law: the senders of a double cycle of such a log have rows in that of the run, in sync or not, and their courses
+/// hold of these; where they are senders of the next double cycle too, they go on.
+pub fn senders_are_on_course()
+    ensures hold { SendersAreOnCourse }
+    ensures on { SendersGoOn }
+{}
+
+/// The law of what is observed: of a log that is seen of a run, in sync or not, the skew of the senders in each cycle
+/// of the run, in ticks, is within the limits of the `cycle` row of the log's text; the lengths of their cycles, in
+/// ticks of the observer's clock, and their offset terms, in microticks, are within those of the `node` rows.
+pub fn observed_rows_hold()
+    ensures rows { ObservedRowsHold }
+    ensures next { ObservedNextRowsHold }
+{}
