@@ -4,6 +4,7 @@ from fractions import Fraction
 
 from .ending import DONE, PROGRAM, Stop
 from .frames import regular_frame
+from .observer import read_observer
 from .packets import write_capture
 from .runs import run_cluster
 from .units import rounded
@@ -26,8 +27,17 @@ def instant(parameters, row, slot):
     return row.start + micros * row.length
 
 
-def sent(cluster, cycles):
-    """(nanoseconds, channel, frame) of each frame, by time."""
+def stamp(ns, observer, node, channel):
+    """What the clock shows that stamps a frame: without an analyzer the nearest nanosecond, else the step of its resolution
+    in which the frame comes, with a delay amid its limits."""
+    if observer is None:
+        return rounded(ns)
+    low, high = observer.limits[node.number, channel]
+    return int((ns + (low + high) / 2) // observer.resolution * observer.resolution // 1)
+
+
+def sent(cluster, cycles, observer=None):
+    """(nanoseconds, channel, frame) of each frame, by time; stamped by an analyzer where one is stated."""
     words, found = cluster.parameters["gPayloadLengthStatic"], []
     plan = list(senders(cluster))
     for cycle, rows in enumerate(cycles):
@@ -36,17 +46,17 @@ def sent(cluster, cycles):
             if row is None or row.state != "active":
                 continue
             ticks = instant(cluster.parameters, row, slot)
-            ns = rounded(Fraction(ticks) * cluster.microtick_ns / 1000000)
+            ns = Fraction(ticks) * cluster.microtick_ns / 1000000
             valid = key or cycle % 64 % repetition == base
             for channel in node.channels:
-                found.append((ns, channel, regular_frame(channel, slot, cycle, words, valid, key,
+                found.append((stamp(ns, observer, node, channel), channel, regular_frame(channel, slot, cycle, words, valid, key,
                                                          key and node.coldstart)))
     return sorted(found, key=lambda packet: packet[:2])
 
 
 def write_run(cluster, folder, program):
     run = run_cluster(cluster, folder, program)
-    packets = sent(cluster, run.cycles)
+    packets = sent(cluster, run.cycles, read_observer(cluster))
     for channel, told in run.report.sent.items():
         frames = [frame for _, where, frame in packets if where == channel]
         total = 0

@@ -34,8 +34,10 @@ KEYS = {
     "flip": ("from", "to", "cycles", "channels", "bit"),
     "join": ("node", "reference", "double_cycle"),
     "power": ("nodes", *(f"{switch}_{unit}" for switch in ("on", "off") for unit in TIMES)),
+    "observer": ("resolution_ns", "drift_ppm", "error_ns", "jitter_ns", "delay_from_ns", "delay_to_ns"),
+    "observer_delay": ("nodes", "channels", "from_ns", "to_ns"),
 }
-SINGLE = ("bench", "cluster", "limits", "run", "values")
+SINGLE = ("bench", "cluster", "limits", "run", "values", "observer")
 MANY = tuple(name for name in KEYS if name not in SINGLE)
 
 

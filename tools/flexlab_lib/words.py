@@ -147,14 +147,32 @@ def parser():
                          help="draw cycles and jitter over time, by gnuplot, as SVG and PNG")
     capture.add_argument("--flexray", metavar="PROGRAM", help=PROGRAM_HELP)
 
-    for one in (run, power, explain, study, capture):
+    log = request("log", "write the log of flexray observe from a capture",
+                  "\n[observer] of the TOML file states what is known of the analyzer. Captures are pcap and pcapng files of "
+                  "link type\nFlexRay (210), read by tshark, or CSV files, of which --columns names the columns.")
+    observe = request("observe", "tell what a capture says for certain of the cluster's clocks",
+                      "\nIt writes the log as `log` does, asks flexray observe, and prints a page in microseconds and ppm: limits of "
+                      "the skew,\nof each node's rate and offset terms. It ends in status 1 where the skew is over the precision.")
+    for one in (log, observe):
+        one.add_argument("file", metavar="CAPTURE")
+        one.add_argument("cluster", metavar="CLUSTER.toml")
+        one.add_argument("--columns", metavar="LIST", help="of a CSV file: time=NAME,channel=NAME,bytes=NAME")
+        one.add_argument("--time-unit", metavar="UNIT", choices=("s", "ms", "us", "ns"), default="s",
+                         help="of its times: s, ms, us or ns (s)")
+    log.add_argument("-o", "--out", metavar="LOG", help="the file to be written (CAPTURE.log.csv beside the capture)")
+
+    observe.add_argument("-o", "--out", metavar="FOLDER", help="where files go (CAPTURE.lab beside the capture)")
+    observe.add_argument("-p", "--pictures", action="store_true", help="draw skew, rates and offset terms, by gnuplot")
+    observe.add_argument("--flexray", metavar="PROGRAM", help=PROGRAM_HELP)
+
+    for one in (run, power, explain, study, capture, observe):
         one.add_argument("--json", action="store_true", help="print one JSON object in place of the page")
 
     one = requests.add_parser("study-run", add_help=False)
     one.set_defaults(does="study-run")
     one.add_argument("plan")
     one.add_argument("runs", nargs="+")
-    requests.metavar = "{new,build,run,power,settle,precision,worst,explain,study,capture,pcap}"
+    requests.metavar = "{new,build,run,power,settle,precision,worst,explain,study,capture,log,observe,pcap}"
     return top
 
 
@@ -300,9 +318,25 @@ def do_capture(words):
     return capture(words, folder_of(words))
 
 
+def do_log(words):
+    from .cluster import read_cluster
+    from .observer import analyzer_words, left_lines, write_log
+    from .page import field
+    path = folder_of(words, ".log.csv")
+    observer, frames, entries = write_log(read_cluster(words.cluster), path, words)
+    print("\n".join(field("Log", f"{path}: {entries} frames of key slots") + field("Analyzer", analyzer_words(observer, frames))
+                    + field("Left out", *left_lines(frames))))
+    return DONE
+
+
+def do_observe(words):
+    from .observed import observe
+    return observe(words, folder_of(words))
+
+
 DO = {"new": do_new, "build": do_build, "run": do_run, "power": do_power, "settle": do_settle, "pcap": do_pcap,
       "explain": do_explain, "study": do_study, "precision": do_precision, "worst": do_worst, "study-run": do_study_run,
-      "capture": do_capture}
+      "capture": do_capture, "log": do_log, "observe": do_observe}
 
 
 def joined(arguments):

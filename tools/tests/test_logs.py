@@ -1,0 +1,210 @@
+"""Logs of an analyzer, from captures and tables: runs go through `flexlab pcap` and `flexlab observe`, and each limit is held
+against the trace. FLEXLAB_OBSERVE_CLUSTERS is how many clusters are taken (6)."""
+import json
+import os
+import random
+import subprocess
+import unittest
+from fractions import Fraction
+
+from bench import EXAMPLE, Bench, edited, needs
+from flexlab_lib import observed, observer, packets, report
+
+CLUSTERS = int(os.environ.get("FLEXLAB_OBSERVE_CLUSTERS", "6"))
+SHORT = edited(("double_cycles = 200", "double_cycles = 10"))
+OBSERVER = """
+[observer]
+resolution_ns = 10
+drift_ppm = 20
+delay_from_ns = 100
+delay_to_ns = 200
+"""
+MICROTICK_NS, MACROS, MICROS, TURN = 25, 5000, 200000, 4900
+
+
+def instants(row, cycle):
+    """When a node has each macrotick of a cycle, in ticks."""
+    micros, last = MICROS + row.rate, TURN if cycle % 2 else MACROS
+    base = TURN * micros // MACROS
+    return [row.start + row.length * (at * micros // MACROS if at <= last else
+                                      base + (at - TURN) * (micros + row.offset - base) // (MACROS - TURN))
+            for at in range(MACROS)]
+
+
+class Steps(unittest.TestCase):
+    def test_rounding_outwards(self):
+        for value in (Fraction(1, 3), Fraction(-1, 3), Fraction(1, 2000), Fraction(-1, 2000), Fraction(0), Fraction(5)):
+            low, high = Fraction(observed.lower(value)), Fraction(observed.upper(value))
+            self.assertTrue(low <= value <= high and high - low <= Fraction(1, 1000), value)
+        self.assertEqual((observed.lower(Fraction(-1, 3)), observed.upper(Fraction(-1, 3))), ("-0.334", "-0.333"))
+        self.assertEqual((observed.lower(Fraction(1, 3)), observed.upper(Fraction(1, 3))), ("0.333", "0.334"))
+
+    def units(self, resolution, step, microtick, error=0):
+        stated = observer.Observer(Fraction(resolution), 20, Fraction(error), None, {})
+        return observer.step_ticks(stated, Fraction(step), Fraction(microtick))
+
+    def test_units_of_a_log(self):
+        self.assertEqual(self.units(1, 1, 25), (40000, 0))
+        self.assertEqual(self.units(10, 1, 25), (40000, 360000))
+        self.assertEqual(self.units(1, 1000, 25), (40000000, 0))
+        self.assertEqual(self.units(1, 1, 25, 2), (40000, 80000))
+        # A resolution that is no number of steps: a stamp may be off by a step more.
+        self.assertEqual(self.units(Fraction(25, 2), 1, 25), (40000, 500000))
+        # A step of a part of a tick: stamps are rounded down to units.
+        self.assertEqual(self.units(1, 1, 30), (33333, 33334))
+
+
+@needs("tshark")
+class Logs(Bench):
+    def sent(self, text=SHORT + OBSERVER):
+        self.write("net.toml", text)
+        self.flexlab("pcap", "net.toml", "-o", "sent")
+        return self.path("sent", "sent.pcap")
+
+    def observed(self, name, *words, folder="seen"):
+        return json.loads(self.flexlab("observe", "--json", "-o", folder, *words, name, "net.toml")[0])
+
+    def hold(self, found):
+        """Holds each limit against the trace of the run, and hands back how many there are."""
+        cycles, held = report.read_trace(self.path("sent", "trace.csv")), 0
+        unit = Fraction(MICROTICK_NS, 10**9)
+        for row in found["cycles"]:
+            nodes = [int(node) for node, rows in found["nodes"].items()
+                     if any(told["double_cycle"] == row["cycle"] // 2 for told in rows)]
+            self.assertEqual(len(nodes), row["senders"])
+            if nodes:
+                points = [instants(cycles[row["cycle"]][node], row["cycle"]) for node in nodes]
+                skew = max(max(at) - min(at) for at in zip(*points)) * unit
+                self.assertTrue(row["least_us"] - 1e-9 <= skew and (row["most_us"] is None or skew <= row["most_us"] + 1e-9), row)
+                held += 1
+        for node, rows in found["nodes"].items():
+            for told in rows:
+                held += self.hold_node(told, *(cycles[2 * told["double_cycle"] + odd][int(node)] for odd in (0, 1)))
+        return held
+
+    def hold_node(self, told, even, odd):
+        # The clock that stamps is true here.
+        for row in (even, odd):
+            ppm = Fraction(MICROS * 10**12, (MICROS + row.rate) * row.length) - 10**6
+            self.assertTrue(told["least_ppm"] - 1e-9 <= ppm <= told["most_ppm"] + 1e-9, told)
+        if told["least_offset"] is not None:
+            self.assertTrue(told["least_offset"] <= odd.offset <= told["most_offset"], told)
+        return 2
+
+    def test_runs_through_both(self):
+        held = 0
+        for seed in range(CLUSTERS):
+            draw = random.Random(seed)
+            text = edited(("double_cycles = 200", f"double_cycles = {draw.randrange(3, 12)}"),
+                          ("drift = 150", f"drift = {draw.randrange(190)}"))
+            low = draw.randrange(300)
+            text += (f"[observer]\nresolution_ns = {draw.choice([1, 10, 12.5, 100, 1000])}\ndrift_ppm = {draw.choice([0, 20])}\n"
+                     f"delay_from_ns = {low}\ndelay_to_ns = {low + draw.randrange(200)}\njitter_ns = {draw.choice([0, 5])}\n"
+                     f"[[observer_delay]]\nnodes = 2\nchannels = \"{draw.choice(['A', 'B', 'AB'])}\"\nfrom_ns = 20\nto_ns = 40\n")
+            if draw.random() < 0.5:
+                text += '[[join]]\nnode = 4\nreference = 1\ndouble_cycle = 1\n'
+            if draw.random() < 0.5:
+                text += '[[lose]]\nfrom = 1\nto = 2\ncycles = "2-3"\nchannels = "AB"\n'
+            with self.subTest(seed=seed):
+                found = self.observed(self.sent(text))
+                self.assertEqual(found["log"]["judged"], found["entries"])
+                held += self.hold(found)
+        self.assertGreater(held, 30 * CLUSTERS)
+
+    def test_the_page(self):
+        page = self.one_line(self.flexlab("observe", "-o", "seen", self.sent(), "net.toml")[0])
+        self.assertIn("Log sent.pcap: 160 frames of key slots", page)
+        self.assertIn("Analyzer stamps of 10 ns, its clock within 20 ppm, delays from 100 to 200 ns", page)
+        self.assertIn("Frames 160 say where a clock was, 0 are damaged", page)
+        self.assertIn("Left out 40 frames of static slots that are no key slots", page)
+        self.assertIn("Cycles 0 to 19, by the cycle counts; the skew of 19 is within the precision, that of 0 over it, and of 1", page)
+        self.assertIn("Precision 7.902 us", page)
+        self.assertEqual(self.flexray("observe", "seen/params.csv", "seen/log.csv")[1], self.read("seen", "observed.csv"))
+        self.assertIn("Precision       7.902 us\n", self.read("seen", "observed.txt"))
+
+    def test_without_frame_crcs_it_is_the_same(self):
+        self.sent()
+        whole, bare = (self.observed(self.path("sent", name), folder=name) for name in ("sent.pcap", "wireshark.pcap"))
+        self.assertEqual(whole["cycles"], bare["cycles"])
+        self.assertEqual(whole["nodes"], bare["nodes"])
+        self.assertIn("\nhead,", self.read("wireshark.pcap", "log.csv"))
+        self.assertNotIn("\nhead,", self.read("sent.pcap", "log.csv"))
+
+    def test_the_steps_of_a_file(self):
+        path = self.sent()
+        with open(path, "rb") as file:
+            data = file.read()
+        self.assertEqual(observer.step_of(path), 1)
+        # The same file as if its stamps were microseconds: the fractions of a second are no more than the step.
+        with open(self.path("micro.pcap"), "wb") as file:
+            file.write(b"\xd4\xc3\xb2\xa1" + data[4:])
+        self.assertEqual(observer.step_of(self.path("micro.pcap")), 1000)
+        for form, step in (("nsecpcap", 1), ("pcap", 1000), ("pcapng", 1)):
+            subprocess.run(["tshark", "-r", path, "-F", form, "-w", self.path(form)], check=True, capture_output=True)
+            self.assertEqual(observer.step_of(self.path(form)), step, form)
+            self.hold(self.observed(self.path(form)))
+        page = self.one_line(self.flexlab("observe", "-o", "seen", "pcap", "net.toml")[0])
+        self.assertIn("stamps of 1000 ns, since the file keeps no more of the 10 ns", page)
+
+    def test_what_is_left_out(self):
+        path = self.sent()
+        made = [(packet.ns, packet.channel, packet.frame) for packet in packets.read_capture(path)[1]]
+        dynamic = observer_frame(made[0][2], 70)
+        made[4:4] = [(made[4][0], "A", dynamic), (made[4][0], "A", made[4][2][:-1])]
+        packets.write_capture(self.path("more.pcap"), made[::-1])
+        told = self.one_line(self.flexlab("log", "more.pcap", "net.toml", "-o", "log.csv")[0])
+        for left in ("1 frames that are not as long as they say", "1 frames of the dynamic segment",
+                     "40 frames of static slots that are no key slots"):
+            self.assertIn(left, told)
+        stamps = [int(line.split(",")[1]) for line in self.read("log.csv").splitlines() if line.startswith("frame,")]
+        self.assertEqual((stamps, stamps[0], len(stamps)), (sorted(stamps), 0, 160))
+
+    def test_tables(self):
+        made = packets.read_capture(self.sent())[1]
+        for mark, unit, size, digits in ((",", "s", 10**9, 9), (";", "us", 1000, 3)):
+            rows = [mark.join((f"{packet.ns // size}.{packet.ns % size:0{digits}}", packet.channel, packet.frame.hex(" ")))
+                    for packet in made]
+            self.write("bus.csv", mark.join(("Time", "Channel", "Raw data")) + "\n" + "".join(f"{row}\n" for row in rows))
+            words = ("--columns", "time=Time,channel=Channel,bytes=Raw data", "--time-unit", unit)
+            found = self.observed("bus.csv", *words)
+            self.assertEqual(found["cycles"], self.observed(self.path("sent", "sent.pcap"))["cycles"])
+            self.assertEqual(found["log"]["judged"], 160)
+
+    def test_refusals(self):
+        path = self.sent(SHORT)
+        self.assertIn("net.toml: a table [observer] states what is known", self.flexlab("log", path, "net.toml", status=5)[1])
+        for old, new, told in (("drift_ppm = 20", "drift_ppm = 2000", "observer.drift_ppm: 2000 is not a number from 0 to 1000 ppm"),
+                               ("drift_ppm = 20\n", "", "the key `drift_ppm` is missing"),
+                               ("delay_from_ns = 100", "delay_from_ns = 300", "it is above `delay_to_ns`"),
+                               ("drift_ppm", "drift", "there is no such key")):
+            self.write("net.toml", SHORT + OBSERVER.replace(old, new))
+            self.assertIn(told, self.flexlab("log", path, "net.toml", status=5)[1])
+        self.write("net.toml", SHORT + OBSERVER)
+        self.assertIn("flexlab reads no ASC files", self.flexlab("log", "bus.asc", "net.toml", status=5)[1])
+        columns = ("--columns", "time=Time,channel=Channel,bytes=Data")
+        self.assertIn("is not of the form", self.flexlab("log", "--columns", "time=x", "bus.csv", "net.toml", status=2)[1])
+        for text, told in (("Time,Bus,Data\n", "bus.csv:1: there is no column `Channel`"),
+                           ("Time,Channel,Data\n0.5,C,00\n", "bus.csv:2: the channel 'C' is not A or B"),
+                           ("Time,Channel,Data\nx,A,00\n", "bus.csv:2: the time 'x' is not a number"),
+                           ("Time,Channel,Data\n1,A,0\n", "bus.csv:2: the bytes '0' are not hexadecimal digits"),
+                           ("Time,Channel,Data\n1\n", "bus.csv:2: it has 1 columns")):
+            self.write("bus.csv", text)
+            self.assertIn(told, self.flexlab("log", *columns, "bus.csv", "net.toml", status=5)[1])
+        self.write("bus.csv", "Time,Channel,Data\n1,A,00\n")
+        self.assertIn("there is no frame that could be used", self.flexlab("log", *columns, "bus.csv", "net.toml", status=1)[1])
+
+    @needs("gnuplot")
+    def test_pictures(self):
+        self.flexlab("observe", "--pictures", "-o", "seen", self.sent(), "net.toml")
+        drawn = self.read("seen", "observed-skew.svg") + self.read("seen", "observed-nodes.svg")
+        for told in ("the skew lies in between", "precision", "node 4", "rate, ppm", "offset, microticks"):
+            self.assertIn(told, drawn)
+
+
+def observer_frame(data, slot):
+    """A frame with another ID, whatever its CRCs are."""
+    return bytes([data[0] & 0xF8 | slot >> 8, slot & 255]) + data[2:]
+
+
+if __name__ == "__main__":
+    unittest.main()
