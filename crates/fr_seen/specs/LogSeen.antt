@@ -66,11 +66,12 @@ pub record IsLogSeen
 
 -- ---- its sightings
 
--- a sighting is one of some frames that were sent, and has its number
+-- a sighting is that of a frame that was sent, and has the number of its cycle
 pub record IsSightingOf (sighting : Sighting) (sent : SentFrame) : Type 0 where
   pub number : sent.frame.number ≡ pos sighting.number
   pub told : IsToldOf sighting sent
 
+-- it is that of one of some frames
 pub record IsAmongSent (log : List SentFrame) (sighting : Sighting) : Type 0 where
   pub sent : SentFrame
   pub there : Contains log sent
@@ -201,8 +202,8 @@ ObservedNextRowsHold =
     → HasDouble h (suc (run_double base double)) next_even next_odd
     → NextRowsHold x l.drift odd (log_senders x l double)
 
--- the word of a cycle's row is so: over, that the instants of some macrotick lie further apart than the precision; within,
--- that those of none do
+-- the word of a cycle's row is so: over, that the instants of some macrotick lie further apart than the precision;
+-- within, that those of none do
 abbrev pub SaysSo : Values → Bool → List NodeRow → ℤ → Says → Type 0
 SaysSo p odd rows precision Over = HasSkew p odd rows (precision +ℤ pos 1)
 SaysSo p odd rows precision Within = StaysWithin p odd rows precision
