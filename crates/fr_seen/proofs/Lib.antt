@@ -14,3 +14,4 @@ pub mod WorkedRows
 pub mod SightingLaws
 pub mod SenderLaws
 pub mod RowLaws
+pub mod WordLaws

@@ -1,5 +1,5 @@
 -- A log as it is read, seen of a run; and what the rows of its text then say of the nodes of the run.
-use Rattle.std.specs.Prelude.{◌≡◌, ◌+◌, ◌/◌, ℕ, suc, pos, false, true, List, [], ◌∷◌, All, Contains, filter_map, map, Option, None, IfSome, IsSome}
+use Rattle.std.specs.Prelude.{◌≡◌, ◌+◌, ◌/◌, ℕ, suc, ℤ, pos, ◌+ℤ◌, Bool, false, true, List, [], ◌∷◌, All, Contains, filter_map, map, Option, None, IfSome, IsSome}
 use Rattle.std.specs.List.{AllZip}
 use Rattle.fr_base.specs.Within.{IsBetween}
 use Rattle.fr_base.specs.declared.channel.Channel.{Channel}
@@ -16,9 +16,11 @@ use Rattle.fr_log.specs.declared.entry.Entry.{Entry}
 use Rattle.fr_course.specs.Readings.{reading_scale}
 use Rattle.fr_course.specs.declared.courses.Course.{Course}
 use Rattle.fr_course.specs.declared.stamps.Delays.{Delays}
-use Rattle.fr_observe.specs.Observing.{even_high, even_low, odd_high, odd_low, senders_of, terms_of}
+use Rattle.fr_observe.specs.Observing.{even_high, even_low, odd_high, odd_low, says_of, senders_of, terms_of}
 use Rattle.fr_observe.specs.Senders.{delays_in, observer_of}
 use Rattle.fr_observe.specs.Sightings.{fate_of, sighting_in, sightings_of}
+use Rattle.fr_observe.specs.declared.says.Says.{Says}
+use Rattle.fr_observe.specs.declared.says.Says.TheVariants.{Over, Within, Open}
 use Rattle.fr_observe.specs.declared.sender.Sender.{Sender}
 use Rattle.fr_observe.specs.declared.sighting.Sighting.{Sighting}
 use Rattle.fr_seen.specs.Clocks.{LastsIn, StraightClock}
@@ -29,8 +31,8 @@ use Rattle.fr_seen.specs.TermsSeen.{GoesOn}
 
 -- ---- a log that is seen
 
--- the frames of a log that are judged, in their order: what each of its entries is as the first one, so that its number is its
--- count
+-- the frames of a log that are judged, in their order: what each of its entries is as the first one, so that its number
+-- is its count
 abbrev pub judged_in : Values → LogView → Entry → Option Sighting
 judged_in p l e = sighting_in (fate_of p l None e)
 
@@ -50,24 +52,26 @@ abbrev pub BeginsAsCounted : List SentFrame → Type 0
 BeginsAsCounted [] = Unit {0}
 BeginsAsCounted (first ∷ others) = first.frame.number ≡ pos first.frame.count
 
--- a log is seen of a run: what is judged of its entries is what was sent there, so many cycles behind those of their numbers;
--- delays keep the limits that the log says, and the observer's clock those of its head
+-- a log is seen of a run: what is judged of its entries is what was sent there, so many cycles behind those of their
+-- numbers; delays keep the limits that the log says, and the observer's clock those of its head
 pub record IsLogSeen
     (x : Setting) (h : Cycles) (base : ℕ) (delays : ℕ → Channel → Delays) (clock : ℕ → StraightClock) (l : LogView)
     : Type 0 where
   pub sent : List SentFrame
   pub seen : IsSeenOf x h base (observer_of l) delays clock sent
   pub told : AllZip IsToldOf (judged_of x.params l) sent
-  pub limits : (node : ℕ) (channel : Channel) → IfSome (delays_in l node channel) (λ limits. delays node channel ≡ limits)
+  pub limits :
+      (node : ℕ) (channel : Channel) → IfSome (delays_in l node channel) (λ limits. delays node channel ≡ limits)
   pub first : BeginsAsCounted sent
 
 -- ---- its sightings
 
--- a sighting is one of some frames that were sent, and has its number
+-- a sighting is that of a frame that was sent, and has the number of its cycle
 pub record IsSightingOf (sighting : Sighting) (sent : SentFrame) : Type 0 where
   pub number : sent.frame.number ≡ pos sighting.number
   pub told : IsToldOf sighting sent
 
+-- it is that of one of some frames
 pub record IsAmongSent (log : List SentFrame) (sighting : Sighting) : Type 0 where
   pub sent : SentFrame
   pub there : Contains log sent
@@ -115,7 +119,8 @@ pub record IsSenderOn (x : Setting) (drift : ℕ) (clock : StraightClock) (even 
 
 -- and where it is one of the next double cycle too, it goes on
 pub record GoesOnBy
-    (x : Setting) (drift : ℕ) (clock : StraightClock) (even odd next_even next_odd : Cycle) (s : Sender) (course : Course)
+    (x : Setting) (drift : ℕ) (clock : StraightClock) (even odd next_even next_odd : Cycle) (s : Sender)
+    (course : Course)
     : Type 0 where
   pub rows : HasBoth next_even next_odd s.node
   pub goes : GoesOn x.params drift clock (seen_twice even odd next_even next_odd s course) s.onward
@@ -145,11 +150,12 @@ SendersGoOn =
 abbrev pub sender_rows : Cycle → List Sender → List NodeRow
 sender_rows cycle senders = map (λ s. row_for cycle.told.rows s.node) senders
 
--- what the row of the even cycle says of their skew, and that of the odd cycle, holds: but for its upper limit, which rests on
--- the next double cycle
+-- what the row of the even cycle says of their skew, and that of the odd cycle, holds: but for its upper limit, which
+-- rests on the next double cycle
 pub record CycleRowsHold (x : Setting) (drift : ℕ) (even odd : Cycle) (senders : List Sender) : Type 0 where
   pub even_from : HasSkew x.params false (sender_rows even senders) (even_low (reading_scale drift x.params) senders)
-  pub even_to : IfSome (even_high (reading_scale drift x.params) senders) (StaysWithin x.params false (sender_rows even senders))
+  pub even_to :
+      IfSome (even_high (reading_scale drift x.params) senders) (StaysWithin x.params false (sender_rows even senders))
   pub odd_from : HasSkew x.params true (sender_rows odd senders) (odd_low (reading_scale drift x.params) senders)
 
 abbrev pub OddRowHolds : Setting → ℕ → Cycle → List Sender → Type 0
@@ -168,7 +174,9 @@ TermHolds x drift odd s =
     (λ term. IsBetween term.low term.high (row_for odd.told.rows s.node).offset)
 
 -- what the text of a log says of a double cycle
-pub record RowsHold (x : Setting) (drift : ℕ) (clock : StraightClock) (even odd : Cycle) (senders : List Sender) : Type 0 where
+pub record RowsHold
+    (x : Setting) (drift : ℕ) (clock : StraightClock) (even odd : Cycle) (senders : List Sender)
+    : Type 0 where
   pub rows : All (λ s. HasBoth even odd s.node) senders
   pub cycles : CycleRowsHold x drift even odd senders
   pub nodes : All (NodeRowHolds x clock even odd) senders
@@ -193,3 +201,29 @@ ObservedNextRowsHold =
     → IsTimedRun x h → IsLog l → IsLogSeen x h base delays clock l → HasDouble h (run_double base double) even odd
     → HasDouble h (suc (run_double base double)) next_even next_odd
     → NextRowsHold x l.drift odd (log_senders x l double)
+
+-- the word of a cycle's row is so: over, that the instants of some macrotick lie further apart than the precision;
+-- within, that those of none do
+abbrev pub SaysSo : Values → Bool → List NodeRow → ℤ → Says → Type 0
+SaysSo p odd rows precision Over = HasSkew p odd rows (precision +ℤ pos 1)
+SaysSo p odd rows precision Within = StaysWithin p odd rows precision
+SaysSo p odd rows precision Open = Unit {0}
+
+abbrev pub EvenWordsHold : Type 0
+EvenWordsHold =
+    (x : Setting) (h : Cycles) (base : ℕ) (delays : ℕ → Channel → Delays) (clock : ℕ → StraightClock) (l : LogView)
+    (double : ℕ) (even odd : Cycle) (precision : ℤ)
+    → IsTimedRun x h → IsLog l → IsLogSeen x h base delays clock l → HasDouble h (run_double base double) even odd
+    → SaysSo x.params false (sender_rows even (log_senders x l double)) precision
+    (says_of precision (even_low (reading_scale l.drift x.params) (log_senders x l double))
+    (even_high (reading_scale l.drift x.params) (log_senders x l double)))
+
+abbrev pub OddWordsHold : Type 0
+OddWordsHold =
+    (x : Setting) (h : Cycles) (base : ℕ) (delays : ℕ → Channel → Delays) (clock : ℕ → StraightClock) (l : LogView)
+    (double : ℕ) (even odd next_even next_odd : Cycle) (precision : ℤ)
+    → IsTimedRun x h → IsLog l → IsLogSeen x h base delays clock l → HasDouble h (run_double base double) even odd
+    → HasDouble h (suc (run_double base double)) next_even next_odd
+    → SaysSo x.params true (sender_rows odd (log_senders x l double)) precision
+    (says_of precision (odd_low (reading_scale l.drift x.params) (log_senders x l double))
+    (odd_high (reading_scale l.drift x.params) (log_senders x l double)))

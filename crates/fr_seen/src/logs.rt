@@ -1,4 +1,4 @@
-ghost use Rattle.fr_seen.specs.LogSeen.{ObservedNextRowsHold, ObservedRowsHold, SendersAreOnCourse, SendersGoOn, SightingsAreSent};
+ghost use Rattle.fr_seen.specs.LogSeen.{EvenWordsHold, ObservedNextRowsHold, ObservedRowsHold, OddWordsHold, SendersAreOnCourse, SendersGoOn, SightingsAreSent};
 
 /// A law: each sighting of a log that is seen of a run is a frame that was sent there, in the cycle of its number.
 pub fn sightings_are_sent()
@@ -18,4 +18,11 @@ pub fn senders_are_on_course()
 pub fn observed_rows_hold()
     ensures rows { ObservedRowsHold }
     ensures next { ObservedNextRowsHold }
+{}
+
+/// A law: where the row of a cycle says that the skew is over the precision, the instants of some macrotick of the cycle
+/// lie further apart among its senders; where it says within, those of none do.
+pub fn cycle_words_hold()
+    ensures even { EvenWordsHold }
+    ensures odd { OddWordsHold }
 {}
