@@ -32,8 +32,8 @@ class Observer:
 
 @dataclass
 class Frames:
-    """(ns, channel, bytes, whether these are all of the frame), of a file that keeps times in steps of so many ns; how many
-    packets were left out, by reason."""
+    """(ns, channel, bytes, whether these are all of the frame), of a file that keeps times in steps of so many ns; how
+    many were left out, by reason."""
     path: str
     step: Fraction
     found: list
@@ -91,13 +91,15 @@ def stated(cluster):
 
 
 def step_of(path):
-    """In steps of how many ns a pcap or pcapng file keeps its times; what is not known is 1."""
+    """In steps of how many ns a pcap or pcapng file keeps its times; None where its first bytes do not say it."""
     with open(path, "rb") as file:
         data = file.read(1 << 16)
     if data[:4] in (b"\xd4\xc3\xb2\xa1", b"\xa1\xb2\xc3\xd4"):
         return Fraction(1000)
-    if data[:4] != b"\x0a\x0d\x0d\x0a" or len(data) < 12:
+    if data[:4] in (b"\x4d\x3c\xb2\xa1", b"\xa1\xb2\x3c\x4d"):
         return Fraction(1)
+    if data[:4] != b"\x0a\x0d\x0d\x0a" or len(data) < 12:
+        return None
     order, at, steps = "<" if data[8:12] == b"\x4d\x3c\x2b\x1a" else ">", 0, []
     while at + 12 <= len(data):
         kind, length = struct.unpack(order + "II", data[at:at + 8])
@@ -106,7 +108,7 @@ def step_of(path):
         if length < 12 or kind in (3, 6):
             break
         at += length
-    return max(steps, default=Fraction(1))
+    return max(steps, default=None)
 
 
 def interface_step(options, order):
@@ -124,9 +126,13 @@ def interface_step(options, order):
 
 
 def capture_frames(path):
-    """The frames of a pcap or pcapng file. Of one without its frame CRC the header counts, where the logger saw no error."""
+    """The frames of a pcap or pcapng file. Of one without its frame CRC the header counts, where the logger saw no
+    error. Of a file that does not say its steps, as one that is packed, these are microseconds where its times are."""
     taken, todo = sort_packets(load(path))
-    frames = Frames(path, max(Fraction(1), step_of(path)), [])
+    step = step_of(path)
+    if step is None:
+        step = Fraction(1000 if all(packet.ns % 1000 == 0 for packet in taken.packets) else 1)
+    frames = Frames(path, max(Fraction(1), step), [])
     packets = [(packet, True) for channel in "AB" for packet in todo[channel]]
     packets += [(packet, False) for packet in taken.bare if not packet.flags]
     frames.found = [(Fraction(packet.ns), packet.channel, packet.frame, is_all) for packet, is_all in packets]
@@ -193,7 +199,8 @@ def read_frames(path, columns, unit):
     if columns:
         return table_frames(path, columns_of(columns), unit)
     if path.lower().endswith(".asc"):
-        raise Stop(REFUSED, f"{path}: flexlab reads no ASC files: export the capture as pcapng, pcap, or CSV (--columns)")
+        raise Stop(REFUSED, f"{path}: flexlab reads no ASC files: export the capture as pcapng, pcap, or CSV "
+                            "(--columns)")
     return capture_frames(path)
 
 
@@ -236,7 +243,8 @@ def entry_lines(cluster, frames, unit):
         elif unit * stamp > LAST_STAMP:
             frames.leave("frames later than a log may have")
         else:
-            yield f"frame,{stamp},{channel},{data.hex().upper()},\n" if is_all else f"head,{stamp},{channel},{data[:5].hex().upper()},\n"
+            kind, kept = ("frame", data) if is_all else ("head", data[:5])
+            yield f"{kind},{stamp},{channel},{kept.hex().upper()},\n"
 
 
 def log_of(cluster, observer, frames):
@@ -245,7 +253,8 @@ def log_of(cluster, observer, frames):
         raise Stop(NO, f"{frames.path}: there is no frame that could be used")
     unit, error = step_ticks(observer, frames.step, cluster.microtick_ns)
     if error > MOST_TICKS:
-        raise Stop(REFUSED, f"{cluster.path}: with `error_ns` a stamp is off by {error} ticks, and a log takes at most {MOST_TICKS}")
+        raise Stop(REFUSED, f"{cluster.path}: by [observer] a stamp is off by {error} ticks, and a log takes at most "
+                            f"{MOST_TICKS}")
     lines = list(head_lines(cluster, observer, unit, error))
     size, entries = sum(map(len, lines)), 0
     for line in entry_lines(cluster, frames, unit):

@@ -1,5 +1,6 @@
 """Logs of an analyzer, from captures and tables: runs go through `flexlab pcap` and `flexlab observe`, and each limit is held
 against the trace. FLEXLAB_OBSERVE_CLUSTERS is how many clusters are taken (6)."""
+import gzip
 import json
 import os
 import random
@@ -139,10 +140,15 @@ class Logs(Bench):
         with open(self.path("micro.pcap"), "wb") as file:
             file.write(b"\xd4\xc3\xb2\xa1" + data[4:])
         self.assertEqual(observer.step_of(self.path("micro.pcap")), 1000)
+        self.assertIsNone(observer.step_of(self.path("net.toml")))
         for form, step in (("nsecpcap", 1), ("pcap", 1000), ("pcapng", 1)):
             subprocess.run(["tshark", "-r", path, "-F", form, "-w", self.path(form)], check=True, capture_output=True)
             self.assertEqual(observer.step_of(self.path(form)), step, form)
             self.hold(self.observed(self.path(form)))
+            # A packed file does not say its steps.
+            with gzip.open(self.path("packed"), "wb") as packed, open(self.path(form), "rb") as file:
+                packed.write(file.read())
+            self.assertEqual(observer.capture_frames(self.path("packed")).step, step, form)
         page = self.one_line(self.flexlab("observe", "-o", "seen", "pcap", "net.toml")[0])
         self.assertIn("stamps of 1000 ns, since the file keeps no more of the 10 ns", page)
 
