@@ -8,7 +8,7 @@ from .cluster import read_cluster
 from .ending import DONE, FILE, NO, PROGRAM, Stop
 from .files import parameter_lines
 from .machine import printed
-from .observer import analyzer_words, left_lines, write_log
+from .observer import analyzer_words, left_lines, plain, write_log
 from .page import field as lines_of
 from .page import ms_of_cycle
 from .pictures import COLOURS, POINTS, draw, plain_axes, quoted
@@ -17,15 +17,15 @@ from .units import TICKS, decimal, us_of_ticks
 
 FATES = ("say where a clock was", "are damaged", "are of arbitrary nodes", "tell nothing of a clock",
          "come at another time than their cycle count has it", "come behind a silence of more than 30 cycles")
-ORIGIN = ("Every limit here is one that flexray printed, converted and rounded outwards: it holds in every run of the cluster "
-          "that can have given the log, if what is stated of the analyzer and of the oscillators is so. flexlab computes no "
-          "answer of its own.")
+ORIGIN = ("Every limit here is one that flexray printed, converted and rounded outwards: it holds in every run of the "
+          "cluster that can have given the log, if what is stated of the analyzer and of the oscillators is so. "
+          "flexlab computes no answer of its own.")
 
 
 @dataclass
 class Observed:
-    """The rows of a text: of each cycle how many nodes sent, the limits of their skew in ticks, and what these say; of each node
-    its double cycles, with limits of the length of its cycles and of its offset term."""
+    """The rows of a text: of each cycle how many nodes sent, the limits of their skew in ticks, and what these say; of
+    each node its double cycles, with limits of the length of its cycles and of its offset term."""
     precision: int = 0
     cycles: list = field(default_factory=list)
     nodes: dict = field(default_factory=dict)
@@ -90,12 +90,13 @@ def skew_lines(cluster, told):
     text = f"at least {lower(us_of_ticks(least[2], unit))} us in cycle {least[0]}"
     if known:
         most = max(known, key=lambda row: row[3])
-        text += f"; at most {upper(us_of_ticks(most[3], unit))} us (cycle {most[0]}) in the {len(known)} cycles of which that is known"
+        text += (f"; at most {upper(us_of_ticks(most[3], unit))} us (cycle {most[0]}) in the {len(known)} cycles of "
+                 "which that is known")
     found = lines_of("Skew", text)
     over = [row for row in told.cycles if row[4] == "over"]
     if over:
-        found += lines_of("OVER", f"in {len(over)} cycles, the first of them {over[0][0]}, the clocks of the nodes that sent lay "
-                                  "further apart than the precision, for certain")
+        found += lines_of("OVER", f"in {len(over)} cycles, the first of them {over[0][0]}, the clocks of the nodes "
+                                  "that sent lay further apart than the precision, for certain")
     return found
 
 
@@ -109,21 +110,23 @@ def node_lines(cluster, told):
         terms = [row for row in rows if row[3] is not None]
         term = (min(row[3] for row in terms), max(row[4] for row in terms)) if terms else ("-", "-")
         found.append(f"{node:>4}  {len(rows):>13}  {low:>10} {high:>10}  {term[0]:>16} {term[1]:>6}")
-    return found + [""] + lines_of("", "ppm: how much faster its cycles were than nominal ones, rate correction included, by the "
-                                      "analyzer's clock, in all its double cycles. Offset terms are microticks.")
+    return found + [""] + lines_of(
+        "", "ppm: how much faster its cycles were than nominal ones, rate correction included, by the analyzer's "
+            "clock, in all its double cycles. Offset terms are microticks.")
 
 
 def page_lines(cluster, told, observer, frames, entries, name):
     first, last = (told.cycles[0][0], told.cycles[-1][0]) if told.cycles else ("-", "-")
     keys = sum(node.key_slot is not None for node in cluster.nodes.values())
     found = lines_of("Log", f"{name}: {entries} frames of key slots")
-    found += lines_of("Cluster", f"{len(cluster.nodes)} nodes, {keys} with a key slot; cycles of {decimal(ms_of_cycle(1, cluster), 3)} "
-                                 f"ms; a microtick is {decimal(cluster.microtick_ns, 3).rstrip('0').rstrip('.')} ns")
+    found += lines_of("Cluster", f"{len(cluster.nodes)} nodes, {keys} with a key slot; cycles of "
+                                 f"{decimal(ms_of_cycle(1, cluster), 3)} ms; a microtick is "
+                                 f"{plain(cluster.microtick_ns)} ns")
     found += lines_of("Analyzer", analyzer_words(observer, frames))
     found += lines_of("Frames", ", ".join(f"{count} {fate}" for count, fate in zip(told.log, FATES)))
     found += lines_of("Left out", *left_lines(frames))
-    found += lines_of("Cycles", f"{first} to {last}, by the cycle counts; the skew of {told.said[0]} is within the precision, that of "
-                                f"{told.said[1]} over it, and of {told.said[2]} it is open")
+    found += lines_of("Cycles", f"{first} to {last}, by the cycle counts; the skew of {told.said[0]} is within the "
+                                f"precision, that of {told.said[1]} over it, and of {told.said[2]} it is open")
     found += lines_of("Precision", f"{decimal(us_of_ticks(told.precision, cluster.microtick_ns), 3)} us")
     return found + skew_lines(cluster, told) + node_lines(cluster, told) + lines_of("Origin", ORIGIN)
 
@@ -136,10 +139,11 @@ def observed_object(cluster, told, frames, entries):
         "entries": entries, "left_out": frames.left, "precision": {"ticks": told.precision},
         "log": dict(zip(("judged", "damaged", "arbitrary", "other", "stray", "behind"), told.log)),
         "said": dict(zip(("within", "over", "open"), told.said)),
-        "cycles": [{"cycle": cycle, "senders": senders, "least_us": us(low, lower), "most_us": us(high, upper), "says": says}
-                   for cycle, senders, low, high, says in told.cycles],
-        "nodes": {str(node): [{"double_cycle": row[0], "least_ppm": float(lower(ppm[1])), "most_ppm": float(upper(ppm[2])),
-                               "least_offset": row[3], "most_offset": row[4]} for row, ppm in zip(rows, rates(rows, cluster))]
+        "cycles": [{"cycle": cycle, "senders": senders, "least_us": us(low, lower), "most_us": us(high, upper),
+                    "says": says} for cycle, senders, low, high, says in told.cycles],
+        "nodes": {str(node): [{"double_cycle": row[0], "least_ppm": float(lower(ppm[1])),
+                               "most_ppm": float(upper(ppm[2])), "least_offset": row[3], "most_offset": row[4]}
+                              for row, ppm in zip(rows, rates(rows, cluster))]
                   for node, rows in sorted(told.nodes.items())}}
 
 
@@ -153,16 +157,18 @@ def thinned(rows):
 
 
 def data(name, rows):
-    return f"${name} << end\n" + "".join(" ".join(decimal(value, 6) for value in row) + "\n" for row in thinned(rows)) + "end\n"
+    lines = (" ".join(decimal(value, 6) for value in row) + "\n" for row in thinned(rows))
+    return f"${name} << end\n" + "".join(lines) + "end\n"
 
 
 def skew_script(cluster, told, name):
     unit = cluster.microtick_ns
-    rows = [(cycle, us_of_ticks(low, unit), us_of_ticks(high, unit)) for cycle, _, low, high, _ in told.cycles if high is not None]
+    rows = [(cycle, us_of_ticks(low, unit), us_of_ticks(high, unit))
+            for cycle, _, low, high, _ in told.cycles if high is not None]
     precision = decimal(us_of_ticks(told.precision, unit), 6)
     return (data("skew", rows) + plain_axes() + f"set title {quoted('Limits of the skew in ' + name)} font ',14'\n"
-            "set xlabel 'cycle'\nset ylabel 'microseconds'\nset yrange [0:*]\nset key outside bottom center horizontal\n"
-            "set style fill solid 0.35 noborder\n"
+            "set xlabel 'cycle'\nset ylabel 'microseconds'\nset yrange [0:*]\n"
+            "set key outside bottom center horizontal\nset style fill solid 0.35 noborder\n"
             "plot $skew using 1:2:3 title 'the skew lies in between' with filledcurves linecolor '#0072b2', \\\n"
             "     $skew using 1:3 title 'at most' with lines linewidth 1.2 linecolor '#0072b2', \\\n"
             "     $skew using 1:2 title 'at least' with lines linewidth 1.2 linecolor '#009e73', \\\n"
@@ -181,8 +187,9 @@ def nodes_script(cluster, told, name):
     found += plain_axes() + f"set multiplot layout 2,1 title {quoted('Rates and offset terms in ' + name)} font ',14'\n"
     found += "set xlabel 'double cycle'\nset key outside right top\n"
     for what, unit in panels:
-        plots = [f"${what}{node} using 1:(($2+$3)/2):2:3 title 'node {node}' with yerrorlines pointtype 7 pointsize 0.3 "
-                 f"linecolor '{COLOURS[at % len(COLOURS)]}'" for at, (node, rows) in enumerate(parts[what].items()) if rows]
+        plots = [f"${what}{node} using 1:(($2+$3)/2):2:3 title 'node {node}' with yerrorlines pointtype 7 "
+                 f"pointsize 0.3 linecolor '{COLOURS[at % len(COLOURS)]}'"
+                 for at, (node, rows) in enumerate(parts[what].items()) if rows]
         if plots:
             found += f"set ylabel '{what}, {unit}'\nplot " + ", \\\n     ".join(plots) + "\n"
     return found + "unset multiplot\n"
