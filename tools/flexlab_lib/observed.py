@@ -116,7 +116,6 @@ def node_lines(cluster, told):
 
 
 def page_lines(cluster, told, observer, frames, entries, name):
-    first, last = (told.cycles[0][0], told.cycles[-1][0]) if told.cycles else ("-", "-")
     keys = sum(node.key_slot is not None for node in cluster.nodes.values())
     found = lines_of("Log", f"{name}: {entries} frames of key slots")
     found += lines_of("Cluster", f"{len(cluster.nodes)} nodes, {keys} with a key slot; cycles of "
@@ -125,8 +124,10 @@ def page_lines(cluster, told, observer, frames, entries, name):
     found += lines_of("Analyzer", analyzer_words(observer, frames))
     found += lines_of("Frames", ", ".join(f"{count} {fate}" for count, fate in zip(told.log, FATES)))
     found += lines_of("Left out", *left_lines(frames))
-    found += lines_of("Cycles", f"{first} to {last}, by the cycle counts; the skew of {told.said[0]} is within the "
-                                f"precision, that of {told.said[1]} over it, and of {told.said[2]} it is open")
+    if told.cycles:
+        within, over, neither = told.said
+        found += lines_of("Cycles", f"{told.cycles[0][0]} to {told.cycles[-1][0]}, by the cycle counts; the skew of {within} "
+                                    f"is within the precision, that of {over} over it, and of {neither} it is open")
     found += lines_of("Precision", f"{decimal(us_of_ticks(told.precision, cluster.microtick_ns), 3)} us")
     return found + skew_lines(cluster, told) + node_lines(cluster, told) + lines_of("Origin", ORIGIN)
 

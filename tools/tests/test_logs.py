@@ -128,6 +128,23 @@ class Logs(Bench):
         self.assertEqual(text, self.read("seen", "observed.csv"))
         self.assertIn("Precision       7.902 us\n", self.read("seen", "observed.txt"))
 
+    def test_clocks_that_begin_far_apart(self):
+        path = self.sent(SHORT.replace("start_us = 1.5", "start_us = 20") + OBSERVER)
+        page = self.one_line(self.flexlab("observe", "-o", "seen", path, "net.toml", status=1)[0])
+        self.assertRegex(page, r"OVER in \d+ cycles, the first of them 0, the clocks of the nodes that sent lay further")
+        found = json.loads(self.flexlab("observe", "--json", "-o", "seen", path, "net.toml", status=1)[0])
+        self.assertEqual(found["cycles"][0]["says"], "over")
+        self.assertGreater(self.hold(found), 0)
+
+    def test_a_log_of_nobody(self):
+        """Where another network is taken for this one, no frame says where a clock was."""
+        path = self.sent()
+        self.write("net.toml", SHORT.replace("gPayloadLengthStatic = 8", "gPayloadLengthStatic = 9") + OBSERVER)
+        page = self.one_line(self.flexlab("observe", "--pictures", "-o", "seen", path, "net.toml")[0])
+        self.assertIn("0 say where a clock was", page)
+        self.assertIn("Skew of no frame it is told where a clock was, so of clocks nothing is told", page)
+        self.assertNotIn("Picture", page)
+
     def test_without_frame_crcs_it_is_the_same(self):
         self.sent()
         whole, bare = (self.observed(self.path("sent", name), folder=name) for name in ("sent.pcap", "wireshark.pcap"))
