@@ -52,11 +52,13 @@ class Cluster:
         self.arbitrary = count if count > 2 and draw.random() < 0.5 else None
         self.joins = [count - 1] if count > 3 and draw.random() < 0.4 else []
         self.correct = [node for node in self.nodes if node[0] != self.arbitrary]
+        # A node that sends no sync frames.
+        self.silent = [f"node,{count + 1},,{draw.choice(['A', 'AB'])},0\n"] if draw.random() < 0.4 else []
 
     def params(self):
         return ("".join(f"param,{name},{value},,\n" for name, value in self.values.items())
                 + "".join(f"node,{number},{key},{channels},{cold}\n" for number, key, channels, cold in self.nodes)
-                + "".join(f"slot,{slot},{node},0,2\n" for slot, node in self.further))
+                + "".join(self.silent) + "".join(f"slot,{slot},{node},0,2\n" for slot, node in self.further))
 
     def pairs(self):
         return [(one[0], two[0], channel) for one in self.correct for two in self.correct for channel in "AB"
@@ -208,7 +210,10 @@ class Analyzer:
         lines += [f"error,{self.error},,,\n"] if self.error else []
         lines += [f"jitter,{self.jitter},,,\n"] if self.jitter is not None else []
         lines += [f"arbitrary,{self.cluster.arbitrary},,,\n"] if self.cluster.arbitrary else []
-        lines += [f"delay,{node},{channel},{low},{high}\n" for (node, channel), (low, high) in self.limits.items()]
+        delays = [f"delay,{node},{channel},{low},{high}\n" for (node, channel), (low, high) in self.limits.items()]
+        # Limits of no node in particular are those of the node that has none.
+        last = "delay,,,{},{}\n".format(*list(self.limits.values())[-1])
+        lines += [*delays[:-1], last] if self.draw.random() < 0.5 else delays
         lines += [f"{kind},{stamp},{channel},{data.hex().upper()},\n" for stamp, kind, channel, data in entries]
         return "".join(lines)
 
