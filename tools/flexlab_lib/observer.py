@@ -289,9 +289,12 @@ def analyzer_words(observer, frames):
     found = f"stamps of {plain(resolution)} ns"
     if resolution > observer.resolution:
         found += f", since the file keeps no more of the {plain(observer.resolution)} ns"
+    if observer.error:
+        found += f", off by {plain(observer.error)} ns at most beside"
     found += f", its clock within {observer.drift} ppm"
     low, high = min(low for low, _ in observer.limits.values()), max(high for _, high in observer.limits.values())
-    return found + f", delays from {plain(low)} to {plain(high)} ns"
+    found += f", delays from {plain(low)} to {plain(high)} ns"
+    return found if observer.jitter is None else found + f", those of a node within {plain(observer.jitter)} ns"
 
 
 def plain(ns):

@@ -128,6 +128,15 @@ class Logs(Bench):
         self.assertEqual(text, self.read("seen", "observed.csv"))
         self.assertIn("Precision       7.902 us\n", self.read("seen", "observed.txt"))
 
+    def test_what_is_stated_of_the_analyzer(self):
+        path = self.sent(SHORT + OBSERVER + "error_ns = 2.5\njitter_ns = 5\n")
+        told = self.one_line(self.flexlab("log", "-o", "log.csv", path, "net.toml")[0])
+        self.assertIn("stamps of 10 ns, off by 2.5 ns at most beside, its clock within 20 ppm, delays from 100 to 200 ns, "
+                      "those of a node within 5 ns", told)
+        # In units of 1 ns: 9 ns of the resolution are left, and the error.
+        self.assertTrue(self.read("log.csv").startswith("unit,40000,,,\ndrift,20,,,\nerror,460000,,,\njitter,200000,,,\n"
+                                                        "arbitrary,6,,,\ndelay,1,A,4000000,8000000\n"))
+
     def test_clocks_that_begin_far_apart(self):
         path = self.sent(SHORT.replace("start_us = 1.5", "start_us = 20") + OBSERVER)
         page = self.one_line(self.flexlab("observe", "-o", "seen", path, "net.toml", status=1)[0])
