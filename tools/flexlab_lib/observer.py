@@ -210,8 +210,8 @@ def read_frames(path, columns, unit):
 def step_ticks(observer, step, microtick_ns):
     """The unit of the log in ticks, what a stamp is off beside it, and whether stamps are whole numbers of units."""
     size = TICKS / Fraction(microtick_ns)
-    resolution = max(observer.resolution, step)
-    breadth = (resolution if resolution % step == 0 else resolution + step) * size
+    least, most = sorted((observer.resolution, step))
+    breadth = (most if most % least == 0 else most + least) * size
     exact = step * size
     is_whole = exact.denominator == 1 and 1 <= exact <= MOST_TICKS
     unit = int(exact) if is_whole else max(1, min(MOST_TICKS, exact // 1))

@@ -49,8 +49,9 @@ class Steps(unittest.TestCase):
         self.assertEqual(self.units(10, 1, 25), (40000, 360000))
         self.assertEqual(self.units(1, 1000, 25), (40000000, 0))
         self.assertEqual(self.units(1, 1, 25, 2), (40000, 80000))
-        # A resolution that is no number of steps: a stamp may be off by a step more.
+        # A resolution that is no number of steps, and a step that is no number of resolutions: a stamp was rounded twice.
         self.assertEqual(self.units(Fraction(25, 2), 1, 25), (40000, 500000))
+        self.assertEqual(self.units(Fraction(3, 10), 1, 25), (40000, 12000))
         # A step of a part of a tick: stamps are rounded down to units.
         self.assertEqual(self.units(1, 1, 30), (33333, 33334))
 
