@@ -49,7 +49,7 @@ class Steps(unittest.TestCase):
         self.assertEqual(self.units(10, 1, 25), (40000, 360000))
         self.assertEqual(self.units(1, 1000, 25), (40000000, 0))
         self.assertEqual(self.units(1, 1, 25, 2), (40000, 80000))
-        # A resolution that is no number of steps, and a step that is no number of resolutions: a stamp was rounded twice.
+        # A resolution that is no number of steps, and a step that is none of resolutions: a stamp was rounded twice.
         self.assertEqual(self.units(Fraction(25, 2), 1, 25), (40000, 500000))
         self.assertEqual(self.units(Fraction(3, 10), 1, 25), (40000, 12000))
         # A step of a part of a tick: stamps are rounded down to units.
@@ -132,16 +132,17 @@ class Logs(Bench):
     def test_what_is_stated_of_the_analyzer(self):
         path = self.sent(SHORT + OBSERVER + "error_ns = 2.5\njitter_ns = 5\n")
         told = self.one_line(self.flexlab("log", "-o", "log.csv", path, "net.toml")[0])
-        self.assertIn("stamps of 10 ns, off by 2.5 ns at most beside, its clock within 20 ppm, delays from 100 to 200 ns, "
-                      "those of a node within 5 ns", told)
+        self.assertIn("stamps of 10 ns, off by 2.5 ns at most beside, its clock within 20 ppm, delays from 100 to 200 "
+                      "ns, those of a node within 5 ns", told)
         # In units of 1 ns: 9 ns of the resolution are left, and the error.
-        self.assertTrue(self.read("log.csv").startswith("unit,40000,,,\ndrift,20,,,\nerror,460000,,,\njitter,200000,,,\n"
-                                                        "arbitrary,6,,,\ndelay,1,A,4000000,8000000\n"))
+        wanted = ("unit,40000,,,\ndrift,20,,,\nerror,460000,,,\njitter,200000,,,\narbitrary,6,,,\n"
+                  "delay,1,A,4000000,8000000\n")
+        self.assertEqual(self.read("log.csv")[:len(wanted)], wanted)
 
     def test_clocks_that_begin_far_apart(self):
         path = self.sent(SHORT.replace("start_us = 1.5", "start_us = 20") + OBSERVER)
         page = self.one_line(self.flexlab("observe", "-o", "seen", path, "net.toml", status=1)[0])
-        self.assertRegex(page, r"OVER in \d+ cycles, the first of them 0, the clocks of the nodes that sent lay further")
+        self.assertRegex(page, r"OVER in \d+ cycles, the first of them 0, the clocks of the nodes that sent lay")
         found = json.loads(self.flexlab("observe", "--json", "-o", "seen", path, "net.toml", status=1)[0])
         self.assertEqual(found["cycles"][0]["says"], "over")
         self.assertGreater(self.hold(found), 0)
