@@ -217,6 +217,15 @@ static inline uint32_t flexray_check(const uint8_t *params, size_t params_length
     return FLEXRAY_INLINE_REQUEST(params, params_length, trace, trace_length, &none, 0);
 }
 
+/* `flexray observe PARAMS LOG`: what the log of a bus analyzer tells of the cluster's clocks, within what limits. */
+static inline uint32_t flexray_observe(const uint8_t *params, size_t params_length,
+                                       const uint8_t *log, size_t log_length,
+                                       uint8_t *out, size_t out_room, uint8_t *err, size_t err_room,
+                                       flexray_texts *texts) {
+    FLEXRAY_INLINE_WORDS("observe\nfirst\nsecond");
+    return FLEXRAY_INLINE_REQUEST(params, params_length, log, log_length, &none, 0);
+}
+
 /* `flexray cold PARAMS POWER`: who leads the startup of a cluster, and from when on. */
 static inline uint32_t flexray_cold(const uint8_t *params, size_t params_length, const uint8_t *power, size_t power_length,
                                     uint8_t *out, size_t out_room, uint8_t *err, size_t err_room, flexray_texts *texts) {

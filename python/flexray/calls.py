@@ -11,11 +11,11 @@ from typing import Union
 from . import texts
 from .errors import BY_STATUS, FlexrayError, NoFrame, ReadFault
 from .library import DONE, MOST, NO, Answer, request, series_request
-from .results import (Bound, Capture, Frame, Report, Series, Settled, SharpBound, SharpSeries, SharpSettled, Startup, Trace,
-                      Upgraded, Vectors, Verdict)
+from .results import (Bound, Capture, Frame, Observation, Report, Series, Settled, SharpBound, SharpSeries,
+                      SharpSettled, Startup, Trace, Upgraded, Vectors, Verdict)
 
-__all__ = ["Input", "Raw", "bound", "sharp_bound", "run", "series", "sharp_series", "trace", "check", "settle", "sharp_settle",
-           "cold", "frame", "capture", "nm", "make", "upgrade"]
+__all__ = ["Input", "Raw", "bound", "sharp_bound", "run", "series", "sharp_series", "trace", "check", "observe",
+           "settle", "sharp_settle", "cold", "frame", "capture", "nm", "make", "upgrade"]
 
 #: A file of records: its bytes, its text, or its path.
 Input = Union[bytes, bytearray, memoryview, str, "os.PathLike[str]"]
@@ -105,6 +105,12 @@ def check(params: Input, trace: Input) -> Verdict:
     """Whether a recorded trace is lawful and covered. One that does not pass is an answer, and raises nothing."""
     answer = _answered(("check", "first", "second"), {"params": params, "trace": trace})
     return texts.failed_verdict(answer.line) if answer.status == NO else texts.verdict(_text(answer))
+
+
+def observe(params: Input, log: Input) -> Observation:
+    """What the log of a bus analyzer, each frame with a stamp of its one clock, tells of the cluster's clocks: limits
+    of the skew of each cycle in ticks, and of each sender's cycle lengths in ticks and offset terms in microticks."""
+    return texts.observation(_asked("observe", "first", "second", params=params, log=log))
 
 
 def settle(params: Input, start: int, rate: int) -> Settled:

@@ -46,9 +46,9 @@ class ReadFault(FlexrayError):
 class Refused(FlexrayError):
     """A file is not accepted by its rules (docs/FORMATS.md).
 
-    `role` is `params`, `drift`, `script`, `trace`, `power` or `vectors`. `record` is the number of the refused record, from
-    1, and `reason` the first reason that holds of it, as `OutOfRange`. Where it is no single record, `record` is None and
-    `reason` what the file lacks: `missing NAME`, `constraint NUMBER` or `incomplete ROWS`.
+    `role` is `params`, `drift`, `script`, `trace`, `log`, `power` or `vectors`. `record` is the number of the refused
+    record, from 1, and `reason` the first reason that holds of it, as `OutOfRange`. Where it is no single record,
+    `record` is None and `reason` what the file lacks: `missing NAME`, `constraint NUMBER` or `incomplete ROWS`.
     """
 
     status = 5

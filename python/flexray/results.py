@@ -5,8 +5,9 @@ from __future__ import annotations
 from dataclasses import dataclass, field
 
 __all__ = ["Check", "Bound", "SharpSide", "SharpBound", "Skew", "Sent", "Heard", "NodeEnd", "Report", "SeriesCycle", "Series",
-           "SharpSeries", "CycleRow", "Deviation", "Join", "Trace", "Verdict", "FailedCheck", "Settled", "SharpWay",
-           "SharpSettled", "Lead", "Startup", "Frame", "CapturedFrame", "Capture", "Vector", "Vectors", "Upgraded"]
+           "SharpSeries", "CycleRow", "Deviation", "Join", "Trace", "Verdict", "ObservedCycle", "ObservedNode",
+           "LogCounts", "Observation", "FailedCheck", "Settled", "SharpWay", "SharpSettled", "Lead", "Startup", "Frame",
+           "CapturedFrame", "Capture", "Vector", "Vectors", "Upgraded"]
 
 
 @dataclass(frozen=True)
@@ -234,6 +235,65 @@ class Verdict:
     precision: int | None = None
     in_sync: int | None = None
     greatest: Skew | None = None
+
+
+@dataclass(frozen=True)
+class ObservedCycle:
+    """A cycle by a log: at some macrotick the clocks of so many senders lie at least `low` ticks apart, and at none
+    more than `high`, None where nothing limits it. `says` is `over` where `low` is above the precision, else `within`
+    where `high` is at most the precision, else `open`."""
+
+    cycle: int
+    senders: int
+    low: int
+    high: int | None
+    says: str
+
+
+@dataclass(frozen=True)
+class ObservedNode:
+    """A sender in a double cycle by a log: both its cycles last from `length_low` to `length_high` ticks of the
+    analyzer's clock before its offset correction, and the offset term that it applied at their end is from `offset_low`
+    to `offset_high` microticks; None where the node is no sender of the next double cycle."""
+
+    double: int
+    node: int
+    length_low: int
+    length_high: int
+    offset_low: int | None
+    offset_high: int | None
+
+
+@dataclass(frozen=True)
+class LogCounts:
+    """The entries of a log: how many say where a clock was (`judged`); how many are `damaged`; are of nodes that the
+    log names `arbitrary`; tell nothing of a clock (`other`); come at another time than their number has it (`stray`);
+    and come `behind` a silence of more than 30 cycles."""
+
+    judged: int
+    damaged: int
+    arbitrary: int
+    other: int
+    stray: int
+    behind: int
+
+
+@dataclass(frozen=True)
+class Observation:
+    """What a log tells of the clocks. `precision` is that of the parameters, in ticks, as the skews of `cycles` are;
+    `nodes` has each sender of each double cycle. `first` and `last` are the numbers of the first and the last of
+    `cycles`, None where there are none, and `within`, `over` and `open` how many of them say so."""
+
+    text: str = field(repr=False)
+    precision: int
+    cycles: tuple[ObservedCycle, ...] = field(repr=False)
+    nodes: tuple[ObservedNode, ...] = field(repr=False)
+    log: LogCounts
+    first: int | None
+    last: int | None
+    within: int
+    over: int
+    open: int
 
 
 @dataclass(frozen=True)

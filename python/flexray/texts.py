@@ -3,9 +3,10 @@ from __future__ import annotations
 
 import re
 
-from .results import (Bound, Capture, CapturedFrame, Check, CycleRow, Deviation, FailedCheck, Frame, Heard, Join, Lead, NodeEnd,
-                      Report, Sent, Series, SeriesCycle, Settled, SharpBound, SharpSeries, SharpSettled, SharpSide, SharpWay,
-                      Skew, Startup, Trace, Upgraded, Vector, Vectors, Verdict)
+from .results import (Bound, Capture, CapturedFrame, Check, CycleRow, Deviation, FailedCheck, Frame, Heard, Join, Lead,
+                      LogCounts, NodeEnd, Observation, ObservedCycle, ObservedNode, Report, Sent, Series, SeriesCycle,
+                      Settled, SharpBound, SharpSeries, SharpSettled, SharpSide, SharpWay, Skew, Startup, Trace,
+                      Upgraded, Vector, Vectors, Verdict)
 
 
 class _Lines:
@@ -184,6 +185,33 @@ def verdict(text: str) -> Verdict:
 def failed_verdict(line: str) -> Verdict:
     found = re.match(r"trace: record (\d+) ", line)
     return Verdict("", False, line, int(found[1]) if found else None)
+
+
+NUMBER = r"(-?\d+)"
+KNOWN = r"(-|-?\d+)"
+OBSERVED_CYCLE = rf"cycle,(\d+),(\d+),{NUMBER},{KNOWN},(over|within|open),,"
+OBSERVED_NODE = rf"node,(\d+),(\d+),{NUMBER},{NUMBER},{KNOWN},{KNOWN},"
+
+
+def _known(group: str) -> int | None:
+    return None if group == "-" else int(group)
+
+
+def observation(text: str) -> Observation:
+    lines = _Lines(text)
+    precision = lines.one(r"precision,(\d+),,,,,,")
+    cycles: list[ObservedCycle] = []
+    nodes: list[ObservedNode] = []
+    while rows := lines.every(OBSERVED_CYCLE):
+        cycles.extend(ObservedCycle(int(cycle), int(senders), int(low), _known(high), says)
+                      for cycle, senders, low, high, says in rows)
+        nodes.extend(ObservedNode(int(double), int(node), int(low), int(high), _known(least), _known(most))
+                     for double, node, low, high, least, most in lines.every(OBSERVED_NODE))
+    log = LogCounts(*_numbers(lines.take(r"log,(\d+),(\d+),(\d+),(\d+),(\d+),(\d+),")))
+    first, last, *told = lines.take(r"cycles,(-|\d+),(-|\d+),(\d+),(\d+),(\d+),,")
+    within, over, neither = map(int, told)
+    return Observation(text, precision, tuple(cycles), tuple(nodes), log, _known(first), _known(last), within, over,
+                       neither)
 
 
 def _way(lines: _Lines, before: str) -> tuple[int, int | None, FailedCheck | None]:

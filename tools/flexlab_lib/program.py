@@ -68,7 +68,7 @@ def helper(name):
 
 # Which words of a request are files, by their places.
 FILES = {"frame": [2], "bound": [1], "upgrade": [1], "settle": [1], "nm": [2], "run": [1, 2, 3], "trace": [1, 2, 3],
-         "check": [1, 2], "cold": [1, 2], "capture": [2], "make": []}
+         "check": [1, 2], "observe": [1, 2], "cold": [1, 2], "capture": [2], "make": []}
 NAMES = ("first", "second", "third")
 
 

@@ -149,7 +149,7 @@ int main(void) {
         """As many blocks as a call needs, and every number below: 6, with no text, and at most a line."""
         caller = self.compile("-DCOUNTS_BLOCKS", "-Wl,--wrap=malloc", "-Wl,--wrap=realloc")
         for name in ("offset", "frame", "breach", "capture", "nm", "startup", "settle", "series", "sharp-series", "upgrade", "make", "check",
-                     "joins-trace"):
+                     "joins-trace", "observe"):
             folder, words = next((one[0], one[1]) for one in examples() if one[0].endswith("/" + name))
             blocks = int(self.fine(self.call(caller, "memory", words, folder)))
             self.assertGreater(blocks, 5, folder)

@@ -18,7 +18,7 @@ PACKAGE = os.path.join(REPOSITORY, "python")
 sys.path.insert(0, PACKAGE)
 
 import flexray  # noqa: E402
-from flexray import library  # noqa: E402
+from flexray import library, texts  # noqa: E402
 from flexlab_lib import program, units  # noqa: E402
 
 try:
@@ -56,7 +56,8 @@ class Calls(Bench):
             self.assertEqual(call(words, *files), flexray.Answer(status, text, line), name)
 
     def test_every_example_as_a_typed_call(self):
-        calls = {"run": flexray.run, "trace": flexray.trace, "check": flexray.check, "cold": flexray.cold, "upgrade": flexray.upgrade}
+        calls = {"run": flexray.run, "trace": flexray.trace, "check": flexray.check, "observe": flexray.observe,
+                 "cold": flexray.cold, "upgrade": flexray.upgrade}
         seen = set()
         for name, is_series, words, files, _, text, line in examples():
             with self.subTest(name):
@@ -83,7 +84,7 @@ class Calls(Bench):
                 if line:
                     self.assertEqual((found.passes, found.line), (False, line))
                 seen.add(type(found).__name__)
-        self.assertEqual(len(seen), 14, sorted(seen))
+        self.assertEqual(len(seen), 15, sorted(seen))
 
     def test_what_a_report_says(self):
         report = flexray.run(*OFFSET)
@@ -92,6 +93,24 @@ class Calls(Bench):
         self.assertEqual(report.ends[1], flexray.NodeEnd(2, "active", 800001500000, 0, 0))
         with self.assertRaises(AttributeError):
             report.nodes = 3
+
+    def test_what_a_log_tells(self):
+        params, log = (Path(EXAMPLES, "observe", f"{name}.csv") for name in ("params", "log"))
+        found = flexray.observe(params, log)
+        self.assertEqual(found, texts.observation(Path(EXAMPLES, "observe", "printed.txt").read_text()))
+        self.assertEqual(found.precision, flexray.bound(params).precision)
+        silent = flexray.observe(params, re.sub("head,.*\n", "", log.read_text()))
+        self.assertEqual((silent.cycles, silent.nodes, silent.log, silent.first, silent.last),
+                         ((), (), flexray.LogCounts(0, 0, 0, 0, 0, 0), None, None))
+        self.assertEqual((silent.precision, silent.within, silent.over, silent.open), (found.precision, 0, 0, 0))
+        for given, wanted in (("unit,0,,,\n", ("log", 1, "OutOfRange")),
+                              ("unit,40000,,,\n", ("log", None, "missing drift"))):
+            with self.assertRaises(flexray.Refused) as raised:
+                flexray.observe(params, given)
+            self.assertEqual((raised.exception.role, raised.exception.record, raised.exception.reason), wanted)
+        with self.assertRaises(flexray.ReadFault) as raised:
+            flexray.observe(params, Path(self.room, "none.csv"))
+        self.assertEqual(raised.exception.role, "log")
 
     def test_gaps_are_words(self):
         report = flexray.run(*(Path(EXAMPLES, "lost", f"{name}.csv") for name in ("params", "drift", "script")))
@@ -238,13 +257,16 @@ class Flexlab(Bench):
         os.makedirs(self.path("folder.csv"))
         self.write("params.csv", "param\n")
         params, drift, script = map(str, OFFSET)
+        observed = [str(EXAMPLES / "observe" / f"{name}.csv") for name in ("params", "log")]
         for words in (["bound", params], ["bound", params, "join"], ["bound", params, "sharp", "0"], ["bound", params, "sharp", "-1"],
                       ["run", params, drift, script], ["run", params, drift], ["run", params, drift, self.path("none.csv")],
                       ["run", self.path("params.csv"), self.path("none.csv"), script], ["bound", self.path("folder.csv")],
                       ["settle", params, "1", "first"], ["make", "7", "1"], ["make", "first"], ["frame", "C", params],
-                      ["frame", "A", params], [], ["walk"], ["bound", "first"], ["check", params, script]):
+                      ["frame", "A", params], [], ["walk"], ["bound", "first"], ["check", params, script],
+                      ["observe", *observed], ["observe", params, drift], ["observe", params]):
             self.assertEqual(program.call(FLEXRAY, words), self.by_process(FLEXRAY, words), words)
         self.assertIsNotNone(program.answered(FLEXRAY, ["run", params, drift, script]))
+        self.assertIsNotNone(program.answered(FLEXRAY, ["observe", *observed]))
         if self.found[1]:
             for words in ([params, drift, script], [params, drift, script, "sharp"], [params, drift, script, "blunt"], [params]):
                 self.assertEqual(program.call(SERIES, words), self.by_process(SERIES, words), words)
@@ -292,10 +314,44 @@ class Alone(Bench):
                                check=True, env=env)
         self.assertIn("tools/library builds it", ended.stdout)
 
+    def test_what_an_observation_says(self):
+        text = Path(EXAMPLES, "observe", "printed.txt").read_text()
+        found = texts.observation(text)
+        self.assertEqual((found.text, found.precision), (text, 252043600))
+        self.assertEqual(found.log, flexray.LogCounts(8, 0, 0, 0, 0, 0))
+        self.assertEqual(found.cycles, (flexray.ObservedCycle(0, 2, 1439448, 4520752, "within"),
+                                        flexray.ObservedCycle(1, 2, 1439800, 5598648, "within"),
+                                        flexray.ObservedCycle(2, 2, 0, 2520752, "within"),
+                                        flexray.ObservedCycle(3, 2, 0, None, "open")))
+        lengths = (199999960000, 200000040000)
+        self.assertEqual(found.nodes, (flexray.ObservedNode(0, 1, *lengths, 0, 2),
+                                       flexray.ObservedNode(0, 2, *lengths, -2, 0),
+                                       flexray.ObservedNode(1, 1, *lengths, None, None),
+                                       flexray.ObservedNode(1, 2, *lengths, None, None)))
+        self.assertEqual((found.first, found.last, found.within, found.over, found.open), (0, 3, 3, 0, 1))
+
+    def test_counts_of_a_log(self):
+        """Other numbers in each place: a row over the precision, a double cycle without a sender, each count."""
+        found = texts.observation("precision,7,,,,,,\ncycle,4,2,8,9,over,,\ncycle,5,2,1,-,open,,\nnode,2,1,-3,5,-,-,\n"
+                                  "node,2,64,4,6,-9,-8,\ncycle,6,0,0,-,open,,\ncycle,7,0,0,-,open,,\n"
+                                  "log,1,2,3,4,5,6,\ncycles,4,7,0,1,3,,\n")
+        self.assertEqual([(row.cycle, row.senders, row.low, row.high, row.says) for row in found.cycles],
+                         [(4, 2, 8, 9, "over"), (5, 2, 1, None, "open"), (6, 0, 0, None, "open"),
+                          (7, 0, 0, None, "open")])
+        self.assertEqual([(row.double, row.node, row.length_low, row.length_high, row.offset_low, row.offset_high)
+                          for row in found.nodes], [(2, 1, -3, 5, None, None), (2, 64, 4, 6, -9, -8)])
+        counts = found.log
+        self.assertEqual((counts.judged, counts.damaged, counts.arbitrary, counts.other, counts.stray, counts.behind),
+                         (1, 2, 3, 4, 5, 6))
+        self.assertEqual((found.first, found.last, found.within, found.over, found.open), (4, 7, 0, 1, 3))
+
     def test_what_is_not_understood_is_no_answer(self):
-        from flexray import texts
         self.assertRaises(ValueError, texts.report, "nodes 2 sync 2 arbitrary 0 doubles 2\nprecision many\n")
         self.assertRaises(ValueError, texts.trace, "run,1,,,,,,\nother,1\n")
+        lines = Path(EXAMPLES, "observe", "printed.txt").read_text().splitlines(keepends=True)
+        for at in (0, len(lines) - 2, len(lines) - 1):
+            self.assertRaises(ValueError, texts.observation, "".join(lines[:at] + lines[at + 1:]))
+        self.assertRaises(ValueError, texts.observation, "".join(lines).replace("within", "beneath"))
 
 
 if __name__ == "__main__":
