@@ -180,8 +180,10 @@ class Analyzer:
             ("head", header_bytes(key, words + 1, 1, cold, draw.randrange(64))),
             ("head", header_bytes(key, words, 0, 0, draw.randrange(64))),
             ("head", header_bytes(key, words, 1, 1 - cold, draw.randrange(64))),
-            ("head", data[:4] + bytes([data[4] & 0xC0 | (data[4] + draw.randrange(1, 64)) & 0x3F])),
         ]
+        if len(self.rates) == 1:
+            # By the stamp of another clock such a count may be one that comes in time.
+            made.append(("head", data[:4] + bytes([data[4] & 0xC0 | (data[4] + draw.randrange(1, 64)) & 0x3F])))
         kind, data = draw.choice(made)
         return stamp, kind, channel, data
 
