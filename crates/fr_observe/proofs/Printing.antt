@@ -1,15 +1,16 @@
 -- The rows of double cycles are put one double cycle after the other, and counted.
-use Rattle.std.proofs.Common.{◌≡◌, ℕ, suc, ◌+◌, ◌-◌, ◌*◌, ◌<◌, ◌≤◌, ℤ, Bool, true, false, cond, List, [], ◌∷◌, ◌++◌, length, slice_get, Option, None, Result, Ok, Err, refl, sym, ap, ◌∙◌, subst, arith}
+use Rattle.std.proofs.Common.{◌≡◌, ℕ, suc, ◌+◌, ◌-◌, ◌*◌, ◌<◌, ◌≤◌, ℤ, Bool, cond, List, [], ◌∷◌, ◌++◌, length, slice_get, Option, None, Result, Ok, Err, sym, ap, ◌∙◌, subst, arith}
 use Rattle.std.specs.List.{count_by, range_with_len}
 use Rattle.std.specs.Result.{IsErr}
-use Rattle.std.proofs.lemmas.List.Sums.{count_by-le-length, sum_by-append}
+use Rattle.std.proofs.lemmas.List.Sums.{count_by-le-length, sum_by-append, sum_by-cons}
 use Rattle.fr_base.specs.Device.{Puts, Sunk}
 use Rattle.fr_base.specs.declared.sink.PutFault.{PutFault}
 use Rattle.fr_base.proofs.Putting.{cut, then}
+use Rattle.fr_base.specs.declared.channel.Channel.{Channel}
 use Rattle.fr_cluster.specs.Values.{Values}
 use Rattle.fr_log.specs.View.{LogView}
 use Rattle.fr_course.specs.declared.scales.Scale.{Scale}
-use Rattle.fr_observe.specs.Observing.{both_say, counted, cycle_counts, cycle_row, cycles_text, double_rows, doubles_between, seen_doubles, doubles_say, doubles_rows, even_high, even_low, is_open, is_over, is_within, no_cycles_told, odd_high, odd_low, says_of, senders_of}
+use Rattle.fr_observe.specs.Observing.{both_say, counted, cycle_counts, cycle_row, cycles_text, double_rows, doubles_between, seen_doubles, doubles_say, doubles_rows, even_high, even_low, is_open, is_over, is_within, lacks_at, lacks_both, missed_among, no_cycles_told, odd_high, odd_low, says_of, senders_of}
 use Rattle.fr_observe.specs.Ranges.{AreFewCycles, AreSkews}
 use Rattle.fr_observe.specs.Senders.{seen_senders, sightings_in}
 use Rattle.fr_observe.specs.declared.counts.Counts.{Counts}
@@ -143,3 +144,21 @@ unfolding cycles_text
 cycles-are precision scale double senders skews are = λ i.
     cycle_row precision (2 * double) (length senders) (are.even_low i) (are.even_high i)
     ++ cycle_row precision (2 * double + 1) (length senders) (are.odd_low i) (are.odd_high i)
+
+-- ---- cycles without a frame
+
+pub missed-first : (seen : List Sighting) (node : ℕ) (ch : Channel) (here : List Sighting) (double last : ℕ) → double ≤ last → here ≡ sightings_in seen double
+    → lacks_both here node ch double + missed_among seen node ch (up_to (double + 1) last) ≡ missed_among seen node ch (up_to double last)
+unfolding missed_among
+missed-first seen node ch here double last le here_is =
+    ap (λ (l : List Sighting). lacks_both l node ch double + missed_among seen node ch (up_to (double + 1) last)) here_is
+    ∙ sym (sum_by-cons (lacks_at seen node ch) double (up_to (double + 1) last))
+    ∙ ap (missed_among seen node ch) (sym (range-first double last le))
+
+pub missed-end : (seen : List Sighting) (node : ℕ) (ch : Channel) (double last : ℕ) → last < double → missed_among seen node ch (up_to double last) ≡ 0
+unfolding missed_among
+missed-end seen node ch double last less = ap (missed_among seen node ch) (range-none double last less)
+
+pub missed-none : (seen : List Sighting) (node : ℕ) (ch : Channel) → slice_get seen 0 ≡ None → missed_among seen node ch (seen_doubles seen) ≡ 0
+unfolding missed_among
+missed-none seen node ch none = ap (missed_among seen node ch) (none-doubles seen none)

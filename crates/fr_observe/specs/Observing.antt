@@ -1,11 +1,16 @@
 -- What a log tells of a cluster's clocks, as a text: records of eight fields. Skews and the precision are in ticks, lengths in
 -- ticks of the observer's clock, offset terms in microticks; a number that is not known is a dash.
-use Rattle.std.specs.Prelude.{ℕ, ◌+◌, ◌-◌, ◌*◌, ℤ, pos, int_le, int_lt, Bool, true, false, List, [], ◌∷◌, ◌++◌, codes, length, map, Option, Some, None, if◌then◌else◌}
+use Rattle.std.specs.Prelude.{ℕ, ◌+◌, ◌-◌, ◌*◌, ℤ, pos, int_le, int_lt, Bool, true, false, List, [], ◌∷◌, ◌++◌, codes, length, map, Option, Some, None, is_none, ◌==◌, ◌&&◌, if◌then◌else◌}
 use Rattle.std.specs.Fmt.{decimal, signed_decimal}
-use Rattle.std.specs.List.{count_by, flat_map, range_with_len, slice_get}
+use Rattle.std.specs.List.{count_by, find, flat_map, fold, range_with_len, slice_get, sum_by}
 use Rattle.std.specs.Option.{option_map}
 use Rattle.fr_bound.specs.Bounds.{precision_of}
+use Rattle.fr_base.specs.Channels.{letter}
+use Rattle.fr_base.specs.Rows.{channel_rank}
+use Rattle.fr_base.specs.declared.channel.Channel.{Channel}
+use Rattle.fr_base.specs.declared.channel.Channel.TheVariants.{A, B}
 use Rattle.fr_cluster.specs.Values.{Values}
+use Rattle.fr_cluster.specs.declared.nodes.NodeSpec.{NodeSpec}
 use Rattle.fr_text.specs.Pieces.{line}
 use Rattle.fr_log.specs.View.{LogView}
 use Rattle.fr_course.specs.Readings.{reading_scale}
@@ -14,7 +19,7 @@ use Rattle.fr_course.specs.declared.scales.Scale.{Scale}
 use Rattle.fr_course.specs.declared.courses.Course.{Course}
 use Rattle.fr_course.specs.Spread.{least_even_skew, least_odd_skew, most_even_skew, most_odd_skew}
 use Rattle.fr_course.specs.Terms.{offset_seen}
-use Rattle.fr_observe.specs.Senders.{double_of, seen_senders, sightings_in}
+use Rattle.fr_observe.specs.Senders.{double_of, first_stamp, own_slot, seen_senders, sightings_in}
 use Rattle.fr_observe.specs.Sightings.{sightings_of, tally_of}
 use Rattle.fr_observe.specs.declared.counts.Counts.{Counts}
 use Rattle.fr_observe.specs.declared.says.Says.{Says}
@@ -187,6 +192,61 @@ doubles_between (Some first) (Some last) = range_with_len (double_of first) (dou
 unfoldable pub seen_doubles : List Sighting → List ℕ
 seen_doubles seen = doubles_between (slice_get seen 0) (slice_get seen (length seen - 1))
 
+-- ---- the senders of a log
+
+-- whether a sighting is that of a node on a channel
+abbrev pub is_from : ℕ → Channel → Sighting → Bool
+is_from node ch s = (s.node == node) && (channel_rank s.channel == channel_rank ch)
+
+-- how many there are, and the cycles of the first and of the last
+unfoldable pub frames_from : List Sighting → ℕ → Channel → ℕ
+frames_from seen node ch = count_by (is_from node ch) seen
+
+unfoldable pub first_frame_from : List Sighting → ℕ → Channel → Option ℕ
+first_frame_from seen node ch = option_map (λ s. s.number) (find (is_from node ch) seen)
+
+abbrev pub later_frame_from : ℕ → Channel → Option ℕ → Sighting → Option ℕ
+later_frame_from node ch last s = if is_from node ch s then Some s.number else last
+
+unfoldable pub last_frame_from : List Sighting → ℕ → Channel → Option ℕ
+last_frame_from seen node ch = fold (later_frame_from node ch) None seen
+
+-- in how many of the cycles that have rows there is none
+abbrev pub lacks_in : List Sighting → ℕ → Channel → ℕ → ℕ
+lacks_in here node ch cycle = if is_none (first_stamp here node ch cycle) then 1 else 0
+
+unfoldable pub lacks_both : List Sighting → ℕ → Channel → ℕ → ℕ
+lacks_both here node ch double = lacks_in here node ch (2 * double) + lacks_in here node ch (2 * double + 1)
+
+abbrev pub lacks_at : List Sighting → ℕ → Channel → ℕ → ℕ
+lacks_at seen node ch double = lacks_both (sightings_in seen double) node ch double
+
+unfoldable pub missed_among : List Sighting → ℕ → Channel → List ℕ → ℕ
+missed_among seen node ch doubles = sum_by (lacks_at seen node ch) doubles
+
+unfoldable pub census_row : List Sighting → ℕ → Channel → List ℕ
+census_row seen node ch =
+    row (codes "sender")
+    (
+    decimal node ∷ letter ch ∷ decimal (frames_from seen node ch) ∷ known_count (first_frame_from seen node ch)
+    ∷ known_count (last_frame_from seen node ch) ∷ decimal (missed_among seen node ch (seen_doubles seen)) ∷ [] ∷ []
+    )
+
+-- each correct node with a key slot, on each of its channels
+abbrev pub census_row_if : List Sighting → ℕ → Channel → Bool → List ℕ
+census_row_if seen node ch false = []
+census_row_if seen node ch true = census_row seen node ch
+
+abbrev pub own_rows : List Sighting → NodeSpec → Option ℕ → List ℕ
+own_rows seen node None = []
+own_rows seen node (Some slot) = census_row_if seen node.id A node.on_a ++ census_row_if seen node.id B node.on_b
+
+unfoldable pub census_rows : LogView → List Sighting → NodeSpec → List ℕ
+census_rows l seen node = own_rows seen node (own_slot l node)
+
+unfoldable pub senders_text : Values → LogView → List Sighting → List ℕ
+senders_text p l seen = flat_map (census_rows l seen) p.nodes
+
 -- ---- the text
 
 -- the senders of one by the sightings of a log
@@ -209,12 +269,17 @@ doubles_say precision scale p l seen doubles = flat_map (double_says precision s
 abbrev pub precision_row : ℤ → List ℕ
 precision_row precision = row (codes "precision") (signed_decimal precision ∷ [] ∷ [] ∷ [] ∷ [] ∷ [] ∷ [] ∷ [])
 
--- each double cycle and what became of the entries, by the sightings of a log; behind the precision
+-- the senders and what became of the entries, by the sightings of a log and what its cycles say
+unfoldable pub end_by : Values → LogView → List Sighting → Tally → Counts → List ℕ
+end_by p l seen tally counts = senders_text p l seen ++ (log_row tally ++ cycles_told seen counts)
+
+-- each double cycle before that
 unfoldable pub rest_by : ℤ → Scale → Values → LogView → List Sighting → Tally → List ℕ
 rest_by precision scale p l seen tally =
     doubles_rows precision scale p l seen (seen_doubles seen)
-    ++ (log_row tally ++ cycles_told seen (cycle_counts (doubles_say precision scale p l seen (seen_doubles seen))))
+    ++ end_by p l seen tally (cycle_counts (doubles_say precision scale p l seen (seen_doubles seen)))
 
+-- and the precision in front
 unfoldable pub text_by : ℤ → Scale → Values → LogView → List Sighting → Tally → List ℕ
 text_by precision scale p l seen tally = precision_row precision ++ rest_by precision scale p l seen tally
 

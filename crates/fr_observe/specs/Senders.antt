@@ -1,6 +1,6 @@
 -- What the sightings of a log tell of a node in a double cycle: where its clock was, by the first frame of each cycle on each
 -- channel.
-use Rattle.std.specs.Prelude.{ℕ, ◌+◌, ◌*◌, ◌/◌, ◌==◌, ◌&&◌, pos, Bool, List, ◌++◌, filter_map, Option, Some, None, if◌then◌else◌}
+use Rattle.std.specs.Prelude.{ℕ, ◌+◌, ◌*◌, ◌==◌, ◌&&◌, pos, Bool, List, ◌++◌, filter_map, Option, Some, None, if◌then◌else◌}
 use Rattle.std.specs.List.{filter, find}
 use Rattle.std.specs.Option.{option_and_then, option_map, option_to_list}
 use Rattle.fr_base.specs.Rows.{channel_rank}

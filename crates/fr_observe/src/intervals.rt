@@ -51,7 +51,7 @@ fn delays_in(log: &Log, node: NodeId, channel: Channel) -> Option<Delays>
     delays_by(log.limits_of(node, channel), log.jitter_of(node, channel))
 }
 
-fn is_same(one: Channel, other: Channel) -> bool
+pub(crate) fn is_same(one: Channel, other: Channel) -> bool
     ensures { result ≡ (channel_rank one == channel_rank other) }
 {
     one == other
@@ -59,7 +59,12 @@ fn is_same(one: Channel, other: Channel) -> bool
 
 // The stamp of the first frame of a node on a channel in a cycle.
 #[tactic(auto, unfolding(crate::specs::Senders::first_stamp))]
-fn first_stamp(seen: &[Sighting], node: NodeId, channel: Channel, cycle: u32) -> Option<u64>
+pub(crate) fn first_stamp(
+    seen: &[Sighting],
+    node: NodeId,
+    channel: Channel,
+    cycle: u32,
+) -> Option<u64>
     ensures { result ≡ first_stamp seen.now node channel cycle }
 {
     match seen.iter().find(|s| s.node == node && is_same(s.channel, channel) && s.number == cycle) {

@@ -2,6 +2,7 @@
 //! was, and the text of what follows.
 #![tactic(auto)]
 
+mod census;
 mod counts;
 mod course_list;
 mod gathered;

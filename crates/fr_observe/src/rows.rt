@@ -5,16 +5,18 @@ ghost use Rattle.fr_base.specs.Within.{IsWithin};
 ghost use Rattle.fr_course.specs.Near.{IsReadingScale, EndWithin};
 ghost use Rattle.fr_time.specs.Cycles.{double_cycle_of};
 ghost use Rattle.fr_text.specs.Pieces.{Spells};
-ghost use Rattle.fr_observe.specs.Observing.{cycle_row, cycles_told, first_row_cycle, known, known_count, last_row_cycle, log_row, node_row, precision_row, terms_of};
-ghost use Rattle.fr_observe.specs.Ranges.{IsProperSender};
+ghost use Rattle.fr_observe.specs.Observing.{cycle_row, cycles_told, first_row_cycle, known, known_count, last_row_cycle, log_row, node_row, precision_row, census_row, terms_of};
+ghost use Rattle.fr_observe.specs.Ranges.{AreNumbered, DoublesAscend, IsProperSender};
 
+use crate::census::{first_frame_from, frames_from, last_frame_from, missed_of};
 use crate::counts::Counts;
 use crate::says::Says;
 use crate::sender::Sender;
 use crate::sighting::{Sighting, Tally};
+use fr_base::{Channel, NodeId};
 use fr_course::{Interval, Scale, offset_seen};
 use fr_text::Piece::{Natural, Signed, Word};
-use fr_text::{Line, Piece, row_of};
+use fr_text::{Line, Piece, letter_of, row_of};
 
 // A number, if it is known.
 fn known(number: Option<i64>) -> Piece<'static>
@@ -159,6 +161,38 @@ pub(crate) fn node_row(scale: &Scale, double: u32, sender: &Sender) -> Line
             ticks(sender.course.length.high),
             least_term(scale, sender),
             most_term(scale, sender),
+            Word(b""),
+        ],
+    )
+}
+
+// A cycle, if it is known.
+fn cycle(number: Option<u32>) -> Piece<'static>
+    ensures { Spells result (known_count number) 20 }
+{
+    match number {
+        None => Word(b"-"),
+        Some(number) => Natural(u64::from(number)),
+    }
+}
+
+// A sender of the log on a channel: how many sightings of it there are, the first and the last cycle, and in how many
+// cycles there is none.
+#[tactic(auto, unfolding(crate::specs::Observing::census_row))]
+pub(crate) fn census_row(seen: &[Sighting], node: NodeId, channel: Channel) -> Line
+    requires ascend { DoublesAscend seen.now }
+    requires numbered { AreNumbered seen.now }
+    ensures { result ≡ census_row seen.now node channel }
+{
+    row_of(
+        b"sender",
+        &[
+            Natural(u64::from(node.0)),
+            letter_of(channel),
+            Natural(frames_from(seen, node, channel)),
+            cycle(first_frame_from(seen, node, channel)),
+            cycle(last_frame_from(seen, node, channel)),
+            Natural(missed_of(seen, node, channel)),
             Word(b""),
         ],
     )

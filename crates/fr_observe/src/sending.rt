@@ -146,7 +146,7 @@ fn seen_sender_by(
 }
 
 // The slot in which a correct node sends sync frames.
-fn own_slot(log: &Log, node: &NodeSpec) -> Option<Slot>
+pub(crate) fn own_slot(log: &Log, node: &NodeSpec) -> Option<Slot>
     ensures { result ≡ own_slot log.now node.now }
 {
     if log.is_arbitrary(node.id) {
@@ -182,7 +182,7 @@ fn seen_sender(
 }
 
 // How many nodes there are.
-fn node_count(params: &Params) -> usize
+pub(crate) fn node_count(params: &Params) -> usize
     ensures value { result ≡ length params.now.nodes }
     ensures few { result ≤ 64 }
 {
@@ -200,7 +200,7 @@ fn node_at(nodes: &NodeList, place: usize) -> &NodeSpec
 }
 
 // The node at a place; its key slot is a static one.
-fn static_node(params: &Params, place: usize) -> &NodeSpec
+pub(crate) fn static_node(params: &Params, place: usize) -> &NodeSpec
     requires { place < length params.now.nodes }
     ensures value { slice_get params.now.nodes place ≡ Some result.now }
     ensures key { HasStaticKey params.now result.now }

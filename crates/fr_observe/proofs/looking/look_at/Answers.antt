@@ -1,8 +1,4 @@
-use Rattle.std.proofs.Common.{◌≡◌, ◌∙◌, ℕ, ◌+◌, ◌<◌, List, take, drop, ap, sym, subst, arith}
-use Rattle.fr_observe.specs.Ranges.{AreSeenFrom, AreLogStamps, DoublesAscend}
-use Rattle.fr_observe.specs.Senders.{is_in, sightings_in}
-use Rattle.fr_observe.specs.declared.sighting.Sighting.{Sighting}
-use Rattle.fr_observe.proofs.Windows.{IsCut, IsLooked, looked}
+use Rattle.fr_observe.proofs.Windows.{IsLooked, looked}
 use Rattle.fr_observe.proofs.looking.look_at.Goals as goal
 
 pub returns : goal.returns

@@ -1,9 +1,8 @@
-use Rattle.std.proofs.Common.{◌≡◌, ◌∙◌, ℕ, ◌-◌, List, Option, None, Some, Ok, pos, length, slice_get, ap, sym, subst}
+use Rattle.std.proofs.Common.{◌≡◌, ◌∙◌, ◌-◌, None, Some, Ok, pos, length, slice_get, ap, sym, subst}
 use Rattle.std.specs.Option.{option_copied}
 use Rattle.fr_base.specs.Device.{Puts}
 use Rattle.fr_base.proofs.Putting.{puts_none}
 use Rattle.fr_bound.specs.Bounds.{precision_of}
-use Rattle.fr_observe.specs.declared.sighting.Sighting.{Sighting}
 use Rattle.fr_observe.proofs.Printing.{none-says, none-text}
 use Rattle.fr_observe.proofs.Windows.{first-last, from-first}
 use Rattle.fr_observe.proofs.observing.put_all.Goals as goal

@@ -1,4 +1,4 @@
-use Rattle.std.proofs.Common.{◌≡◌, ◌∙◌, ℕ, List, ◌++◌, pos, ap, subst, rules}
+use Rattle.std.proofs.Common.{◌≡◌, ℕ, List, ◌++◌, pos, subst, rules}
 use Rattle.fr_base.specs.Device.{Puts}
 use Rattle.fr_base.proofs.Putting.{cut, then}
 use Rattle.fr_bound.specs.Bounds.{precision_of}

@@ -1,4 +1,4 @@
-use Rattle.std.proofs.Common.{◌≡◌, ◌∙◌, ◌+◌, ◌<◌, ◌≤◌, List, ◌++◌, All, Option, filter_map, take, length, option_to_list, ap, sym, subst, arith}
+use Rattle.std.proofs.Common.{◌≡◌, ◌∙◌, ◌+◌, ◌<◌, ◌≤◌, List, ◌++◌, All, Option, length, option_to_list, ap, sym, subst, arith}
 use Rattle.fr_cluster.specs.declared.nodes.NodeSpec.{NodeSpec}
 use Rattle.fr_observe.specs.Ranges.{IsProperSender}
 use Rattle.fr_observe.specs.Senders.{seen_sender}

@@ -2,7 +2,7 @@ use Rattle.std.proofs.Common.{◌≡◌, ◌∙◌, ℕ, ◌+◌, ◌-◌, ◌*�
 use Rattle.fr_base.specs.Device.{Puts}
 use Rattle.fr_base.proofs.Putting.{puts_none}
 use Rattle.fr_bound.specs.Bounds.{precision_of}
-use Rattle.fr_observe.specs.Observing.{counted, doubles_say, doubles_rows}
+use Rattle.fr_observe.specs.Observing.{counted, doubles_say}
 use Rattle.fr_observe.specs.Ranges.{AreFewCycles}
 use Rattle.fr_observe.specs.Senders.{seen_senders, sightings_in}
 use Rattle.fr_observe.specs.declared.counts.Counts.{Counts}

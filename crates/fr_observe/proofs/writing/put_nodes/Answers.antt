@@ -1,5 +1,5 @@
 use Rattle.std.proofs.Math.Seq.{drop-cons}
-use Rattle.std.proofs.Common.{◌≡◌, ◌∙◌, ℕ, suc, ◌+◌, ◌<◌, ◌≤◌, List, [], ◌∷◌, ◌++◌, Ok, get_or, drop, length, ap, sym, subst, arith, rules}
+use Rattle.std.proofs.Common.{◌≡◌, ◌∙◌, ℕ, suc, ◌+◌, ◌<◌, ◌≤◌, List, ◌∷◌, ◌++◌, Ok, get_or, drop, length, ap, sym, subst, arith, rules}
 use Rattle.std.specs.List.{flat_map}
 use Rattle.std.proofs.lemmas.List.{drop_all}
 use Rattle.fr_base.specs.Device.{Puts}
