@@ -25,6 +25,7 @@ ROLES = {
     "settle": {"params": 1}, "nm": {"vectors": 2},
     "run": {"params": 1, "drift": 2, "script": 3}, "trace": {"params": 1, "drift": 2, "script": 3},
     "capture": {"capture": 2}, "cold": {"params": 1, "power": 2}, "make": {}, "check": {"params": 1, "trace": 2},
+    "observe": {"params": 1, "log": 2},
 }
 USAGE = {
     "frame": "frame A FILE or frame B FILE",
@@ -33,6 +34,7 @@ USAGE = {
     "nm": "nm WIDTH FILE", "run": "run PARAMS DRIFT SCRIPT", "trace": "trace PARAMS DRIFT SCRIPT",
     "check": "check PARAMS TRACE", "make": "make SEED DOUBLES", "capture": "capture A FILE or capture B "
                                                                            "FILE", "cold": "cold PARAMS POWER",
+    "observe": "observe PARAMS LOG",
 }
 
 
@@ -151,7 +153,11 @@ def explain_missing(role, name, words):
                 *([f"these are missing too: {', '.join(other for other in missing if other != name)}"]
                   if len(missing) > 1 else [])]
     form = {"doubles": "`doubles,COUNT,,,,` with how many double cycles the run has, 1 to 100000",
-            "cycles": "`cycles,COUNT,` with how many cycles the startup has, 1 to 1000"}.get(name, f"`{name}`")
+            "cycles": "`cycles,COUNT,` with how many cycles the startup has, 1 to 1000",
+            "unit": "`unit,TICKS,,,` with how many ticks a unit of stamps is long, 1 to 1000000000",
+            "drift": "`drift,PPM,,,` with how far the clock of the analyzer may be off, 0 to 1000 parts per million",
+            "delay": "`delay,NODE,CHANNEL,LOW,HIGH` for some channel of a correct node with a key slot, and no record "
+                     "`delay,,,LOW,HIGH` for all others"}.get(name, f"`{name}`")
     return [f"{path}: there is no record {form}"]
 
 

@@ -20,6 +20,8 @@ EMPTY = plain("an empty field", "empty")
 CHANNEL = plain("CHANNEL", "channel")
 CYCLE = number("CYCLE", *ranges.CYCLES)
 FROM = number("FROM", *ranges.CYCLES, "cycles")
+LIMITS = [number("LOW", *ranges.DELAY, "ticks"), number("HIGH", *ranges.DELAY, "ticks")]
+ENTRY = [number("STAMP", 0, 900000000000000000, "units"), CHANNEL, plain("BYTES", "hex"), EMPTY]
 
 FORMS = {
     "params": (5, {
@@ -50,6 +52,18 @@ FORMS = {
         "off": [node(), number("TIME", 0, 16000000, "macroticks")],
     }),
     "vectors": (3, {"": [CYCLE, CHANNEL, plain("BYTES", "hex")]}),
+    "log": (5, {
+        "unit": [number("TICKS", 1, 1000000000, "ticks"), EMPTY, EMPTY, EMPTY],
+        "drift": [number("PPM", 0, 1000, "parts per million"), EMPTY, EMPTY, EMPTY],
+        "error": [number("TICKS", *ranges.DELAY, "ticks"), EMPTY, EMPTY, EMPTY],
+        "jitter": [number("TICKS", *ranges.DELAY, "ticks"), EMPTY, EMPTY, EMPTY],
+        "since": [number("CYCLE", 0, 199998), EMPTY, EMPTY, EMPTY],
+        "whole": [EMPTY, EMPTY, EMPTY, EMPTY],
+        "delay": [node(), CHANNEL, *LIMITS],
+        "arbitrary": [node(), EMPTY, EMPTY, EMPTY],
+        "frame": ENTRY,
+        "head": ENTRY,
+    }),
     "trace": (8, {
         "run": [number("DOUBLES", *ranges.DOUBLES), *[EMPTY] * 6],
         "arbitrary": [node(), *[EMPTY] * 6],
@@ -66,6 +80,8 @@ FORMS = {
 def form_of(role, record):
     """The descriptions of a record's fields, the first field's not among them, or None for no kind."""
     kinds = FORMS[role][1]
+    if role == "log" and list(record.fields[:2]) == ["delay", ""]:
+        return [EMPTY, EMPTY, *LIMITS]
     return kinds.get("" if "" in kinds else record.fields[0])
 
 

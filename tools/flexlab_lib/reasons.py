@@ -50,6 +50,9 @@ def shape(role, record, cluster, earlier):
         for other, (count, kinds) in FORMS.items():
             if other != role and count == len(record.fields) and record.fields[0] in kinds:
                 yield f"it looks like a record of a {other} file: are the words in the right order?"
+    if role == "log" and record.fields[0] == "delay" and len(record.fields) == wanted and (
+            record.fields[1] and not record.fields[2]):
+        yield "NODE is there and CHANNEL is empty: both have to be there, or both empty for all others"
     for place, described, text in placed(role, record):
         if described[1] == "empty" and text:
             yield f"{at(place, 'to be left empty', text)}" + (": a blank is a text too" if not text.strip() else "")
@@ -101,6 +104,18 @@ def out_of_range(role, record, cluster, earlier):
                 described, record)
         if described[1] == "hex" and len(text.encode()) > 524:
             yield f"field {place} (BYTES) has {len(text.encode())} bytes, and at most 524 are allowed"
+    unit, stamp = unit_of(earlier), whole(record.fields[1]) if role == "log" and is_entry(record) else None
+    if unit and stamp is not None and 0 <= stamp <= 900000000000000000 < stamp * unit:
+        yield f"STAMP is {stamp} units, and these are {stamp * unit} ticks, more than 900000000000000000"
+
+
+def is_entry(record):
+    return record.fields[0] in ("frame", "head")
+
+
+def unit_of(earlier):
+    """How many ticks a unit of the stamps of a log is long by the records before one, or None."""
+    return next((whole(other.fields[1]) for other in earlier if other.fields[0] == "unit"), None)
 
 
 def cause(described, record):
@@ -160,6 +175,8 @@ def role_of(role, record, cluster, earlier):
         yield from power_role(record, cluster, earlier)
     if role == "trace":
         yield from trace_role(record, cluster, earlier)
+    if role == "log":
+        yield from log_role(record, cluster, earlier)
 
 
 def join_role(node, reference, cluster, earlier, arbitrary):
@@ -242,6 +259,26 @@ def power_role(record, cluster, earlier):
         yield f"TIME is {time}, and line {own[-1].line} of node {node} has {own[-1].fields[2]}: times ascend"
 
 
+def log_role(record, cluster, earlier):
+    kind, fields = record.fields[0], record.fields
+    last = next((other for other in reversed(earlier) if is_entry(other)), None)
+    if is_entry(record):
+        if unit_of(earlier) is None:
+            yield "no record before it says how long a unit of stamps is: `unit,TICKS,,,` has to come before"
+        if last and whole(fields[1]) < whole(last.fields[1]):
+            yield f"STAMP is {fields[1]}, and line {last.line} has {last.fields[1]}: stamps ascend"
+        return
+    if last:
+        first = next(other for other in earlier if is_entry(other))
+        yield f"`{kind}` records stand before the entries, and line {first.line} is one"
+    if kind == "since" and whole(fields[1]) % 2:
+        yield f"CYCLE is {fields[1]}, and it has to be even"
+    if kind == "delay" and whole(fields[3]) > whole(fields[4]):
+        yield f"LOW is {fields[3]}, above HIGH, {fields[4]}"
+    if kind == "arbitrary" and whole(fields[1]) in cluster.nodes and cluster.nodes[whole(fields[1])][0] is None:
+        yield f"node {fields[1]} has no key slot (line {cluster.nodes[whole(fields[1])][3].line} of the parameters)"
+
+
 def none_in_common(node, reference, cluster):
     told = [f"node {number} has {cluster.nodes[number][1]} (line {cluster.nodes[number][3].line} of the parameters)"
             for number in (node, reference) if number in cluster.nodes]
@@ -255,6 +292,12 @@ def link(role, record, cluster, earlier):
         return
     if role == "trace":
         yield "the channel is not common to the receiver and the node whose key slot it is"
+        return
+    if role == "log":
+        node = whole(record.fields[1])
+        if node in cluster.nodes:
+            yield (f"the channel is {record.fields[2]}, and node {node} has {cluster.nodes[node][1]} "
+                   f"(line {cluster.nodes[node][3].line} of the parameters)")
         return
     first = 1 if record.fields[0] == "delay" else 2
     sender, receiver, channel = whole(record.fields[first]), whole(record.fields[first + 1]), record.fields[first + 2]
@@ -285,6 +328,8 @@ def same_key(role, record):
             kind, (kind, *numbers[1:5]))
     if role == "script":
         return {"arbitrary": (kind, numbers[1]), "join": (kind, numbers[2])}.get(kind, ("frames", *numbers[1:5]))
+    if role == "log":
+        return {"delay": (kind, *numbers[1:3]), "arbitrary": (kind, numbers[1])}.get(kind, (kind,))
     return (kind,)
 
 

@@ -252,6 +252,36 @@ class Explain(Bench):
         out = self.flexlab("explain", "nm", "2", "vectors.csv", status=1)[0]
         self.assertIn('field 1 (CYCLE) is "200000", which is not from 0 to 199999', out)
 
+    def test_a_log(self):
+        self.files()
+        head = "unit,40000,,,\ndrift,50,,,\ndelay,,,0,5\n"
+        for text, line, told in (("unit,0,,,\n", "log: record 1: OutOfRange", "which is not from 1 to 1000000000 ticks"),
+                                 ("since,3,,,\n", "log: record 1: Role", "CYCLE is 3, and it has to be even"),
+                                 ("delay,,A,0,5\n", "log: record 1: Shape", 'field 3 (to be left empty) is "A"'),
+                                 ("delay,1,,0,5\n", "log: record 1: Shape", "NODE is there and CHANNEL is empty"),
+                                 ("delay,1,A,6,5\n", "log: record 1: Role", "LOW is 6, above HIGH, 5"),
+                                 ("delay,9,A,0,5\n", "log: record 1: UnknownNode", "the parameters have the nodes 1, 2"),
+                                 ("delay,,,0,5\ndelay,,,0,6\n", "log: record 2: Repeated", "line 1 is of the same"),
+                                 ("frame,1,A,00,\n", "log: record 1: Role", "`unit,TICKS,,,` has to come before"),
+                                 (head + "head,5,A,00,\nframe,4,B,00,\n", "log: record 5: Role",
+                                  "and line 4 has 5: stamps ascend"),
+                                 (head + "head,5,A,00,\nwhole,,,,\n", "log: record 5: Role",
+                                  "stand before the entries, and line 4"),
+                                 (head + "head,900000000000000,A,00,\n", "log: record 4: OutOfRange",
+                                  "36000000000000000000 ticks"),
+                                 (head + "frame,5,C,00,\n", "log: record 4: BadChannel", "it has to be A or B"),
+                                 (head + "frame,5,A,0,\n", "log: record 4: NotHex", "two make a byte"),
+                                 (head + "trame,5,A,0,\n", "log: record 4: UnknownName", "did you mean `frame`?"),
+                                 ("", "log: missing unit", "`unit,TICKS,,,`"),
+                                 ("unit,1,,,\n", "log: missing drift", "`drift,PPM,,,`"),
+                                 ("unit,1,,,\ndrift,1,,,\n", "log: missing delay",
+                                  "no record `delay,,,LOW,HIGH` for all others")):
+            with self.subTest(text=text):
+                self.write("log.csv", text)
+                out = self.flexlab("explain", "observe", "params.csv", "log.csv", status=1)[0]
+                self.assertEqual(out.splitlines()[0], line)
+                self.assertIn(told, out)
+
     def test_checks_and_gaps_of_an_answer(self):
         for old, new, told in (
                 ("pClusterDriftDamping,4", "pClusterDriftDamping,2", "C1 asks for 4 at least"),
