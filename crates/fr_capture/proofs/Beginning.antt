@@ -1,7 +1,7 @@
 -- What begins a rest: a frame, and then there is no fault; or a fault, which stays where it is no cut.
 use Rattle.std.proofs.Common.{◌≡◌, ℕ, ◌+◌, ◌*◌, ◌≤◌, ◌<◌, true, false, not, cond, nat_lt, ◌==◌, get_or, inl, inr, lit<, ◌%◌, ◌/◌, List, [], ◌++◌, length, take, Option, Some, None, Err, refl, ap, sym, ◌∙◌, subst, arith, length-append, length-drop, append_assoc, ◌-◌, drop, ◌⊎◌}
 use Rattle.std.proofs.lemmas.Bool.{cases_Bool, cond-true, cond-false, cond_both, le-ltb, lt-ltb, ltb-true, ltb-false, eq-eqb, ne_eqb}
-use Rattle.std.proofs.lemmas.List.{take_at, take_all, take-append-le, get_or_append_left}
+use Rattle.std.proofs.lemmas.List.{length-take-le, take_at, take_all, take-append-drop, take-append-le, get_or_append_left}
 use Rattle.std.proofs.Math.Seq.{take-add}
 use Rattle.fr_base.specs.declared.channel.Channel.{Channel}
 use Rattle.fr_frame.specs.declared.header.Header.{Header}
@@ -322,6 +322,21 @@ filled_enough kept once twice piece more n m within inside second (inr full) (in
     let least : 5 ≤ wanted kept = wanted-le kept in
     let same : wanted twice ≡ wanted once = ap wanted second ∙ wanted_more once more (omega arith) in
     inr (whole ∙ sym same)
+
+-- a piece with a header in it, where nothing was there yet
+begun_enough : (count given long want most : ℕ) → long ≡ count → want ≡ most → (count ≡ given) ⊎ (count ≡ most) → (count ≡ given) ⊎ (long ≡ want)
+begun_enough count given long want most taken same (inl used) = inl used
+begun_enough count given long want most taken same (inr full) = inr (taken ∙ full ∙ sym same)
+
+pub begun_filled : (old filled piece : List ℕ) (count : ℕ) → old ≡ [] → filled ≡ old ++ take count piece → 5 ≤ count → count ≤ length piece → count ≤ wanted piece →
+    (count ≡ length piece) ⊎ (count ≡ wanted piece) → (length filled ≤ wanted filled) × ((count ≡ length piece) ⊎ (length filled ≡ wanted filled))
+begun_filled old filled piece count none is least within most enough =
+    let front : filled ≡ take count piece = is ∙ ap (λ (xs : List ℕ). xs ++ take count piece) none in
+    let taken : length (take count piece) ≡ count = length-take-le count piece within in
+    let long : length filled ≡ count = ap length front ∙ taken in
+    let header : 5 ≤ length (take count piece) = rw taken least in
+    let same : wanted filled ≡ wanted piece = ap wanted front ∙ sym (wanted_more (take count piece) (drop count piece) header) ∙ ap wanted (take-append-drop count piece) in
+    (omega (arith, long, same, most), begun_enough count (length piece) (length filled) (wanted filled) (wanted piece) long same enough)
 
 -- ---- the fault that is told
 pub header_is_wrong : (channel : Channel) (rest : List ℕ) (kept computed : ℕ) → 5 ≤ length rest → kept ≡ header_crc_in rest → computed ≡ crc_of (header_of rest) → (kept ≡ computed → ⊥) →

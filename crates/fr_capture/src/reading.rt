@@ -1,4 +1,4 @@
-ghost use Rattle.std.specs.Prelude.{◌≡◌, ℕ, ◌+◌, ◌*◌, ◌≤◌, ◌++◌, ◌⊎◌, Some, None, IfSome, length, take, drop};
+ghost use Rattle.std.specs.Prelude.{◌≡◌, ℕ, ◌+◌, ◌*◌, ◌≤◌, [], ◌++◌, ◌⊎◌, Some, None, IfSome, length, take, drop};
 ghost use Rattle.fr_frame.specs.Frame.{IsFrameWith};
 ghost use Rattle.fr_capture.specs.Rest.{fault_in, wanted};
 ghost use Rattle.fr_capture.specs.View.{HasFault, IsChecked, IsFaultOfWhole, IsOpen};
@@ -67,9 +67,38 @@ pub(crate) fn fill(kept: &mut Kept, piece: &[u8]) -> usize
     ensures short { length kept.new ≤ wanted kept.new }
     ensures enough { (result ≡ length piece.now) ⊎ (length kept.new ≡ wanted kept.new) }
 {
+    if kept.as_slice().is_empty() && piece.len() >= 5 {
+        return fill_anew(kept, piece);
+    }
     let first = fill_once(kept, piece);
     let second = fill_once(kept, &piece[first..]);
     first + second
+}
+
+// The same, where nothing is there yet and the piece has a header: that is read where it lies.
+fn fill_anew(kept: &mut Kept, piece: &[u8]) -> usize
+    requires none { kept.old ≡ [] }
+    requires header { 5 ≤ length piece.now }
+    ensures kept { kept.new ≡ kept.old ++ take result piece.now }
+    ensures within { result ≤ length piece.now }
+    ensures short { length kept.new ≤ wanted kept.new }
+    ensures enough { (result ≡ length piece.now) ⊎ (length kept.new ≡ wanted kept.new) }
+{
+    let count = begun(piece);
+    kept.append(&piece[..count]);
+    count
+}
+
+// How many bytes of a piece with a header are taken where nothing is there yet.
+fn begun(piece: &[u8]) -> usize
+    requires { 5 ≤ length piece.now }
+    ensures within { result ≤ length piece.now }
+    ensures least { 5 ≤ result }
+    ensures most { result ≤ wanted piece.now }
+    ensures room { result ≤ 262 }
+    ensures enough { (result ≡ length piece.now) ⊎ (result ≡ wanted piece.now) }
+{
+    wanted(piece).min(piece.len())
 }
 
 // The frame that the bytes are, all of them, if they are one.

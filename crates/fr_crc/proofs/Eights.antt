@@ -50,19 +50,23 @@ after-xor g s t (b ∷ m) first second =
     ∙ after-xor g (register_stepped g s false) (register_stepped g t b) m (length-stepped g s false first) (length-stepped g t b second)
 
 -- the share of a front, behind which so many bits stand, and that of those bits
-after-front : (w : ℕ) (g front m : List Bool) (n : ℕ) → length g ≡ w → length m ≡ n →
-    after g (zeros w) (front ++ m) ≡ xor (after g (zeros w) (front ++ zeros n)) (after g (zeros w) m)
-after-front w g front m n wide long =
+pub after-front_from : (w : ℕ) (g start front m : List Bool) (n : ℕ) → length g ≡ w → length start ≡ w → length m ≡ n →
+    after g start (front ++ m) ≡ xor (after g start (front ++ zeros n)) (after g (zeros w) m)
+after-front_from w g start front m n wide from long =
     let none : List Bool = zeros w in
     let none_long : length none ≡ length g = length-zeros w ∙ sym wide in
-    let s : List Bool = after g none front in
-    let s_long : length s ≡ length g = length-after g none front none_long in
+    let s : List Bool = after g start front in
+    let s_long : length s ≡ length g = length-after g start front (from ∙ sym wide) in
     let whole : s ≡ xor s none = sym (xor_comm s none ∙ xor-zeros w s (s_long ∙ wide)) in
-    after-append g none front m
+    after-append g start front m
     ∙ ap (λ (xs : List Bool). after g xs m) whole
     ∙ after-xor g s none m s_long none_long
     ∙ ap (λ (k : ℕ). xor (after g s (zeros k)) (after g none m)) long
-    ∙ ap (λ (xs : List Bool). xor xs (after g none m)) (sym (after-append g none front (zeros n)))
+    ∙ ap (λ (xs : List Bool). xor xs (after g none m)) (sym (after-append g start front (zeros n)))
+
+after-front : (w : ℕ) (g front m : List Bool) (n : ℕ) → length g ≡ w → length m ≡ n →
+    after g (zeros w) (front ++ m) ≡ xor (after g (zeros w) (front ++ zeros n)) (after g (zeros w) m)
+after-front w g front m n wide long = after-front_from w g (zeros w) front m n wide (length-zeros w) long
 
 -- ---- the tables
 
@@ -226,6 +230,118 @@ after-eight r bytes e0 e1 e2 e3 e4 e5 e6 e7 fits long small is0 is1 is2 is3 is4 
     let whole : message_of bytes ≡ bits 8 b0 ++ (bits 8 b1 ++ (bits 8 b2 ++ m3)) = ap message_of (eight bytes long) in
     (l0.fits, l0.is ∙ sym (after-three r b0 b1 b2 m3) ∙ ap (after frame_generator (bits 24 r)) (sym whole))
 
+-- ---- sixteen bytes
+
+pub sixteen : (xs : List ℕ) → length xs ≡ 16 →
+    xs ≡ get_or xs 0 0 ∷ get_or xs 1 0 ∷ get_or xs 2 0 ∷ get_or xs 3 0 ∷ get_or xs 4 0 ∷ get_or xs 5 0 ∷ get_or xs 6 0 ∷ get_or xs 7 0 ∷ get_or xs 8 0 ∷ get_or xs 9 0 ∷ get_or xs 10 0 ∷ get_or xs 11 0 ∷ get_or xs 12 0 ∷ get_or xs 13 0 ∷ get_or xs 14 0 ∷ get_or xs 15 0 ∷ []
+sixteen [] long = absurd (omega arith)
+sixteen (x0 ∷ []) long = absurd (omega arith)
+sixteen (x0 ∷ x1 ∷ []) long = absurd (omega arith)
+sixteen (x0 ∷ x1 ∷ x2 ∷ []) long = absurd (omega arith)
+sixteen (x0 ∷ x1 ∷ x2 ∷ x3 ∷ []) long = absurd (omega arith)
+sixteen (x0 ∷ x1 ∷ x2 ∷ x3 ∷ x4 ∷ []) long = absurd (omega arith)
+sixteen (x0 ∷ x1 ∷ x2 ∷ x3 ∷ x4 ∷ x5 ∷ []) long = absurd (omega arith)
+sixteen (x0 ∷ x1 ∷ x2 ∷ x3 ∷ x4 ∷ x5 ∷ x6 ∷ []) long = absurd (omega arith)
+sixteen (x0 ∷ x1 ∷ x2 ∷ x3 ∷ x4 ∷ x5 ∷ x6 ∷ x7 ∷ []) long = absurd (omega arith)
+sixteen (x0 ∷ x1 ∷ x2 ∷ x3 ∷ x4 ∷ x5 ∷ x6 ∷ x7 ∷ x8 ∷ []) long = absurd (omega arith)
+sixteen (x0 ∷ x1 ∷ x2 ∷ x3 ∷ x4 ∷ x5 ∷ x6 ∷ x7 ∷ x8 ∷ x9 ∷ []) long = absurd (omega arith)
+sixteen (x0 ∷ x1 ∷ x2 ∷ x3 ∷ x4 ∷ x5 ∷ x6 ∷ x7 ∷ x8 ∷ x9 ∷ x10 ∷ []) long = absurd (omega arith)
+sixteen (x0 ∷ x1 ∷ x2 ∷ x3 ∷ x4 ∷ x5 ∷ x6 ∷ x7 ∷ x8 ∷ x9 ∷ x10 ∷ x11 ∷ []) long = absurd (omega arith)
+sixteen (x0 ∷ x1 ∷ x2 ∷ x3 ∷ x4 ∷ x5 ∷ x6 ∷ x7 ∷ x8 ∷ x9 ∷ x10 ∷ x11 ∷ x12 ∷ []) long = absurd (omega arith)
+sixteen (x0 ∷ x1 ∷ x2 ∷ x3 ∷ x4 ∷ x5 ∷ x6 ∷ x7 ∷ x8 ∷ x9 ∷ x10 ∷ x11 ∷ x12 ∷ x13 ∷ []) long = absurd (omega arith)
+sixteen (x0 ∷ x1 ∷ x2 ∷ x3 ∷ x4 ∷ x5 ∷ x6 ∷ x7 ∷ x8 ∷ x9 ∷ x10 ∷ x11 ∷ x12 ∷ x13 ∷ x14 ∷ []) long = absurd (omega arith)
+sixteen (x0 ∷ x1 ∷ x2 ∷ x3 ∷ x4 ∷ x5 ∷ x6 ∷ x7 ∷ x8 ∷ x9 ∷ x10 ∷ x11 ∷ x12 ∷ x13 ∷ x14 ∷ x15 ∷ []) long = refl
+sixteen (x0 ∷ x1 ∷ x2 ∷ x3 ∷ x4 ∷ x5 ∷ x6 ∷ x7 ∷ x8 ∷ x9 ∷ x10 ∷ x11 ∷ x12 ∷ x13 ∷ x14 ∷ x15 ∷ x16 ∷ xs) long = absurd (omega arith)
+
+-- the register after sixteen bytes, by the entry of each
+pub after-sixteen : (r : ℕ) (bytes : List ℕ) (e0 e1 e2 e3 e4 e5 e6 e7 e8 e9 e10 e11 e12 e13 e14 e15 : ℕ) → r < 2 ^ 24 → length bytes ≡ 16 → ((k : ℕ) → get_or bytes k 0 < 256) →
+    e0 ≡ get_or (entries_before 120) (bit_xor (r / 65536) (get_or bytes 0 0)) 0 →
+    e1 ≡ get_or (entries_before 112) (bit_xor (r / 256 % 256) (get_or bytes 1 0)) 0 →
+    e2 ≡ get_or (entries_before 104) (bit_xor (r % 256) (get_or bytes 2 0)) 0 →
+    e3 ≡ get_or (entries_before 96) (get_or bytes 3 0) 0 →
+    e4 ≡ get_or (entries_before 88) (get_or bytes 4 0) 0 →
+    e5 ≡ get_or (entries_before 80) (get_or bytes 5 0) 0 →
+    e6 ≡ get_or (entries_before 72) (get_or bytes 6 0) 0 →
+    e7 ≡ get_or (entries_before 64) (get_or bytes 7 0) 0 →
+    e8 ≡ get_or (entries_before 56) (get_or bytes 8 0) 0 →
+    e9 ≡ get_or (entries_before 48) (get_or bytes 9 0) 0 →
+    e10 ≡ get_or (entries_before 40) (get_or bytes 10 0) 0 →
+    e11 ≡ get_or (entries_before 32) (get_or bytes 11 0) 0 →
+    e12 ≡ get_or (entries_before 24) (get_or bytes 12 0) 0 →
+    e13 ≡ get_or (entries_before 16) (get_or bytes 13 0) 0 →
+    e14 ≡ get_or (entries_before 8) (get_or bytes 14 0) 0 →
+    e15 < 2 ^ 24 → bits 24 e15 ≡ after frame_generator (zeros 24) (bits 8 (get_or bytes 15 0)) →
+    let all = bit_xor e0 (bit_xor e1 (bit_xor e2 (bit_xor e3 (bit_xor e4 (bit_xor e5 (bit_xor e6 (bit_xor e7 (bit_xor e8 (bit_xor e9 (bit_xor e10 (bit_xor e11 (bit_xor e12 (bit_xor e13 (bit_xor e14 e15)))))))))))))) in
+    (all < 2 ^ 24) × (bits 24 all ≡ after frame_generator (bits 24 r) (message_of bytes))
+after-sixteen r bytes e0 e1 e2 e3 e4 e5 e6 e7 e8 e9 e10 e11 e12 e13 e14 e15 fits long small is0 is1 is2 is3 is4 is5 is6 is7 is8 is9 is10 is11 is12 is13 is14 last_fits last_is =
+    let b0 : ℕ = get_or bytes 0 0 in
+    let b1 : ℕ = get_or bytes 1 0 in
+    let b2 : ℕ = get_or bytes 2 0 in
+    let b3 : ℕ = get_or bytes 3 0 in
+    let b4 : ℕ = get_or bytes 4 0 in
+    let b5 : ℕ = get_or bytes 5 0 in
+    let b6 : ℕ = get_or bytes 6 0 in
+    let b7 : ℕ = get_or bytes 7 0 in
+    let b8 : ℕ = get_or bytes 8 0 in
+    let b9 : ℕ = get_or bytes 9 0 in
+    let b10 : ℕ = get_or bytes 10 0 in
+    let b11 : ℕ = get_or bytes 11 0 in
+    let b12 : ℕ = get_or bytes 12 0 in
+    let b13 : ℕ = get_or bytes 13 0 in
+    let b14 : ℕ = get_or bytes 14 0 in
+    let b15 : ℕ = get_or bytes 15 0 in
+    let m15 : List Bool = bits 8 b15 ++ [] in
+    let m14 : List Bool = bits 8 b14 ++ m15 in
+    let m13 : List Bool = bits 8 b13 ++ m14 in
+    let m12 : List Bool = bits 8 b12 ++ m13 in
+    let m11 : List Bool = bits 8 b11 ++ m12 in
+    let m10 : List Bool = bits 8 b10 ++ m11 in
+    let m9 : List Bool = bits 8 b9 ++ m10 in
+    let m8 : List Bool = bits 8 b8 ++ m9 in
+    let m7 : List Bool = bits 8 b7 ++ m8 in
+    let m6 : List Bool = bits 8 b6 ++ m7 in
+    let m5 : List Bool = bits 8 b5 ++ m6 in
+    let m4 : List Bool = bits 8 b4 ++ m5 in
+    let m3 : List Bool = bits 8 b3 ++ m4 in
+    let x0 : ℕ = bit_xor (r / 65536) b0 in
+    let x1 : ℕ = bit_xor (r / 256 % 256) b1 in
+    let x2 : ℕ = bit_xor (r % 256) b2 in
+    let s0 : x0 < 256 = xor_lt 8 (r / 65536) b0 (omega (arith, fits)) (small 0) in
+    let s1 : x1 < 256 = xor_lt 8 (r / 256 % 256) b1 (omega arith) (small 1) in
+    let s2 : x2 < 256 = xor_lt 8 (r % 256) b2 (omega arith) (small 2) in
+    let v14 : ℕ = bit_xor e14 e15 in
+    let v13 : ℕ = bit_xor e13 v14 in
+    let v12 : ℕ = bit_xor e12 v13 in
+    let v11 : ℕ = bit_xor e11 v12 in
+    let v10 : ℕ = bit_xor e10 v11 in
+    let v9 : ℕ = bit_xor e9 v10 in
+    let v8 : ℕ = bit_xor e8 v9 in
+    let v7 : ℕ = bit_xor e7 v8 in
+    let v6 : ℕ = bit_xor e6 v7 in
+    let v5 : ℕ = bit_xor e5 v6 in
+    let v4 : ℕ = bit_xor e4 v5 in
+    let v3 : ℕ = bit_xor e3 v4 in
+    let v2 : ℕ = bit_xor e2 v3 in
+    let v1 : ℕ = bit_xor e1 v2 in
+    let l15 : LeadsTo 8 e15 m15 = last_byte b15 e15 last_fits last_is in
+    let l14 : LeadsTo 16 v14 m14 = one_before 8 b14 e14 e15 m15 (small 14) is14 l15 in
+    let l13 : LeadsTo 24 v13 m13 = one_before 16 b13 e13 v14 m14 (small 13) is13 l14 in
+    let l12 : LeadsTo 32 v12 m12 = one_before 24 b12 e12 v13 m13 (small 12) is12 l13 in
+    let l11 : LeadsTo 40 v11 m11 = one_before 32 b11 e11 v12 m12 (small 11) is11 l12 in
+    let l10 : LeadsTo 48 v10 m10 = one_before 40 b10 e10 v11 m11 (small 10) is10 l11 in
+    let l9 : LeadsTo 56 v9 m9 = one_before 48 b9 e9 v10 m10 (small 9) is9 l10 in
+    let l8 : LeadsTo 64 v8 m8 = one_before 56 b8 e8 v9 m9 (small 8) is8 l9 in
+    let l7 : LeadsTo 72 v7 m7 = one_before 64 b7 e7 v8 m8 (small 7) is7 l8 in
+    let l6 : LeadsTo 80 v6 m6 = one_before 72 b6 e6 v7 m7 (small 6) is6 l7 in
+    let l5 : LeadsTo 88 v5 m5 = one_before 80 b5 e5 v6 m6 (small 5) is5 l6 in
+    let l4 : LeadsTo 96 v4 m4 = one_before 88 b4 e4 v5 m5 (small 4) is4 l5 in
+    let l3 : LeadsTo 104 v3 m3 = one_before 96 b3 e3 v4 m4 (small 3) is3 l4 in
+    let l2 : LeadsTo 112 v2 (bits 8 x2 ++ m3) = one_before 104 x2 e2 v3 m3 s2 is2 l3 in
+    let l1 : LeadsTo 120 v1 (bits 8 x1 ++ (bits 8 x2 ++ m3)) = one_before 112 x1 e1 v2 (bits 8 x2 ++ m3) s1 is1 l2 in
+    let l0 : LeadsTo 128 (bit_xor e0 v1) (bits 8 x0 ++ (bits 8 x1 ++ (bits 8 x2 ++ m3))) = one_before 120 x0 e0 v1 (bits 8 x1 ++ (bits 8 x2 ++ m3)) s0 is0 l1 in
+    let whole : message_of bytes ≡ bits 8 b0 ++ (bits 8 b1 ++ (bits 8 b2 ++ m3)) = ap message_of (sixteen bytes long) in
+    (l0.fits, l0.is ∙ sym (after-three r b0 b1 b2 m3) ∙ ap (after frame_generator (bits 24 r)) (sym whole))
+
 -- ---- four bytes
 
 pub four : (xs : List ℕ) → length xs ≡ 4 → xs ≡ get_or xs 0 0 ∷ get_or xs 1 0 ∷ get_or xs 2 0 ∷ get_or xs 3 0 ∷ []
@@ -274,9 +390,9 @@ after-behind g s bytes k =
     ∙ ap (after g s) (flat_map-append (bits 8) (take k bytes) (drop k bytes))
     ∙ after-append g s (message_of (take k bytes)) (message_of (drop k bytes))
 
-pub after-cut : (g s : List Bool) (bytes : List ℕ) (i n : ℕ) → n ≡ 8 →
-    after g s (message_of (drop i bytes)) ≡ after g (after g s (message_of (take n (drop i bytes)))) (message_of (drop (i + 8) bytes))
+pub after-cut : (g s : List Bool) (bytes : List ℕ) (i n : ℕ) → n ≡ 16 →
+    after g s (message_of (drop i bytes)) ≡ after g (after g s (message_of (take n (drop i bytes)))) (message_of (drop (i + 16) bytes))
 after-cut g s bytes i n is =
-    after-behind g s (drop i bytes) 8
-    ∙ ap (λ (xs : List ℕ). after g (after g s (message_of (take 8 (drop i bytes)))) (message_of xs)) (drop-drop 8 i bytes)
-    ∙ ap (λ (k : ℕ). after g (after g s (message_of (take k (drop i bytes)))) (message_of (drop (i + 8) bytes))) (sym is)
+    after-behind g s (drop i bytes) 16
+    ∙ ap (λ (xs : List ℕ). after g (after g s (message_of (take 16 (drop i bytes)))) (message_of xs)) (drop-drop 16 i bytes)
+    ∙ ap (λ (k : ℕ). after g (after g s (message_of (take k (drop i bytes)))) (message_of (drop (i + 16) bytes))) (sym is)

@@ -8,11 +8,11 @@ use Rattle.std.proofs.lemmas.List.{append_assoc, append-nil}
 use Rattle.std.proofs.lemmas.List.FromFn.{get_or-map-range_with_len}
 use mir.Val.{bool_byte}
 use Rattle.fr_crc.specs.Bits.{bits, differ, xor, zeros, times_bit, number_of_bits}
-use Rattle.fr_crc.specs.Crc.{IsCrc, header_generator, frame_generator}
-use Rattle.fr_crc.specs.Entries.{frame_entries, header_entries}
+use Rattle.fr_crc.specs.Crc.{IsCrc, frame_generator}
+use Rattle.fr_crc.specs.Entries.{frame_entries}
 use Rattle.fr_crc.specs.Register.{register_stepped, after}
 use Rattle.fr_crc.proofs.Sums.{differ_comm, differ_assoc, xor_comm, xor_assoc, xor-append, xor-zeros, length-xor, length-zeros, length-times_bit}
-use Rattle.fr_crc.proofs.Division.{after-append, divides, length-stepped, zeros_after}
+use Rattle.fr_crc.proofs.Division.{divides, length-stepped, zeros_after}
 use Rattle.fr_crc.proofs.Existence.{number_of-lt, bits-number_of}
 use Rattle.fr_crc.proofs.Remainders.{bits_first, bits_none, bits_same, bits-mod, bits-xor, length-bits}
 
@@ -53,14 +53,18 @@ length-after g s [] same = same
 length-after g s (b ∷ m) same = length-after g (register_stepped g s b) m (length-stepped g s b same)
 
 -- a number written by as many bits as the register has
-pub of_register : (w entry : ℕ) (g m : List Bool) → length g ≡ w → entry ≡ number_of_bits (after g (zeros w) m) →
-    (entry < 2 ^ w) × (bits w entry ≡ after g (zeros w) m)
-of_register w entry g m wide is =
-    let s : List Bool = after g (zeros w) m in
-    let long : length s ≡ w = length-after g (zeros w) m (length-zeros w ∙ sym wide) ∙ wide in (
+pub number_of_register : (w entry : ℕ) (g start m : List Bool) → length g ≡ w → length start ≡ w → entry ≡ number_of_bits (after g start m) →
+    (entry < 2 ^ w) × (bits w entry ≡ after g start m)
+number_of_register w entry g start m wide from is =
+    let s : List Bool = after g start m in
+    let long : length s ≡ w = length-after g start m (from ∙ sym wide) ∙ wide in (
       rw is (rw long at (number_of-lt s)),
       ap (bits w) is ∙ ap (λ (n : ℕ). bits n (number_of_bits s)) (sym long) ∙ bits-number_of s,
     )
+
+pub of_register : (w entry : ℕ) (g m : List Bool) → length g ≡ w → entry ≡ number_of_bits (after g (zeros w) m) →
+    (entry < 2 ^ w) × (bits w entry ≡ after g (zeros w) m)
+of_register w entry g m wide is = number_of_register w entry g (zeros w) m wide (length-zeros w) is
 
 frame_entry_is : (i : ℕ) → i < 256 → get_or frame_entries i 0 ≡ number_of_bits (after frame_generator (zeros 24) (bits 8 i))
 unfolding frame_entries
@@ -72,17 +76,6 @@ pub frame_entered : (index entry : ℕ) → index < 256 → entry ≡ get_or fra
     (entry < 2 ^ 24) × (bits 24 entry ≡ after frame_generator (zeros 24) (bits 8 index))
 frame_entered index entry below is =
     of_register 24 entry frame_generator (bits 8 index) (length-bits 24 0x5D6DCB) (is ∙ frame_entry_is index below)
-
-header_entry_is : (i : ℕ) → i < 16 → get_or header_entries i 0 ≡ number_of_bits (after header_generator (zeros 11) (bits 4 i))
-unfolding header_entries
-header_entry_is i below =
-    get_or-map-range_with_len (λ (j : ℕ). number_of_bits (after header_generator (zeros 11) (bits 4 j))) 0 16 i i 0 below (omega arith)
-
--- the entries of the header CRC's table
-pub header_entered : (index entry : ℕ) → index < 16 → entry ≡ get_or header_entries index 0 →
-    (entry < 2 ^ 11) × (bits 11 entry ≡ after header_generator (zeros 11) (bits 4 index))
-header_entered index entry below is =
-    of_register 11 entry header_generator (bits 4 index) (length-bits 11 0x385) (is ∙ header_entry_is index below)
 
 -- what the register holds after a message from zeros on is a remainder
 pub from_zeros : (w terms entry : ℕ) (m : List Bool) → 0 < w → bits w entry ≡ after (bits w terms) (zeros w) m → IsCrc (bits w terms) (zeros w) m (bits w entry)
@@ -106,7 +99,7 @@ bits-split (suc j) k n =
     ∙ ap (λ (xs : List Bool). (bit_at (n / 2 ^ k) j == 1) ∷ xs) (bits-split j k n)
     ∙ sym (ap (λ (xs : List Bool). xs ++ bits k n) (bits_first j (n / 2 ^ k)))
 
-bits_of_zero : (k : ℕ) → bits k 0 ≡ zeros k
+pub bits_of_zero : (k : ℕ) → bits k 0 ≡ zeros k
 bits_of_zero zero = bits_none 0
 bits_of_zero (suc k) = rw (bits_first k 0, bits_of_zero k, bit_at-zero k)
 
@@ -159,40 +152,6 @@ pub bits-byte : (r byte entry : ℕ) → bits 24 entry ≡ after frame_generator
 bits-byte r byte entry holds =
     ap (λ (x : ℕ). bits 24 (bit_xor x entry)) (kept_places r) ∙ bits-entered 8 16 0x5D6DCB r byte entry holds
 
--- the register of the header CRC after four more bits
-kept_four : (r : ℕ) → bit_and r 127 * 16 % 4294967296 ≡ r % 2 ^ 7 * 2 ^ 4
-kept_four r =
-    let mask : bit_and r 127 ≡ r % 128 = and_mask r 7 in
-    omega (arith, mask)
-
-pub four-lt : (r entry : ℕ) → entry < 2 ^ 11 → bit_xor (bit_and r 127 * 16 % 4294967296) entry < 2 ^ 11
-four-lt r entry fits = xor_lt 11 (bit_and r 127 * 16 % 4294967296) entry (omega (arith, kept_four r)) fits
-
-pub bits-four : (r number entry : ℕ) → bits 11 entry ≡ after header_generator (zeros 11) (bits 4 (bit_xor (r / 128) (bit_and number 15))) →
-    bits 11 (bit_xor (bit_and r 127 * 16 % 4294967296) entry) ≡ after header_generator (bits 11 r) (bits 4 number)
-bits-four r number entry holds =
-    let low : bits 4 (bit_and number 15) ≡ bits 4 number = ap (bits 4) (and_mask number 4) ∙ bits-mod 4 number in
-    ap (λ (x : ℕ). bits 11 (bit_xor x entry)) (kept_four r)
-    ∙ bits-entered 4 7 0x385 r (bit_and number 15) entry holds
-    ∙ ap (λ (xs : List Bool). after header_generator (bits 11 r) xs) low
-
--- the register after twenty bits, four at a time
-pub twenty : (g s : List Bool) (number : ℕ) →
-    after g (after g (after g (after g (after g s (bits 4 (number / 65536))) (bits 4 (number / 4096))) (bits 4 (number / 256))) (bits 4 (number / 16))) (bits 4 number)
-    ≡ after g s (bits 20 number)
-twenty g s number =
-    let one : bits 20 number ≡ bits 4 (number / 65536) ++ bits 16 number = bits-split 4 16 number in
-    let two : bits 16 number ≡ bits 4 (number / 4096) ++ bits 12 number = bits-split 4 12 number in
-    let three : bits 12 number ≡ bits 4 (number / 256) ++ bits 8 number = bits-split 4 8 number in
-    let four : bits 8 number ≡ bits 4 (number / 16) ++ bits 4 number = bits-split 4 4 number in
-    sym (more g s (bits 20 number) (bits 4 (number / 65536)) (bits 16 number) one
-    ∙ more g (after g s (bits 4 (number / 65536))) (bits 16 number) (bits 4 (number / 4096)) (bits 12 number) two
-    ∙ more g (after g (after g s (bits 4 (number / 65536))) (bits 4 (number / 4096))) (bits 12 number) (bits 4 (number / 256)) (bits 8 number) three
-    ∙ more g (after g (after g (after g s (bits 4 (number / 65536))) (bits 4 (number / 4096))) (bits 4 (number / 256))) (bits 8 number) (bits 4 (number / 16)) (bits 4 number) four)
-  where
-    more : (g s whole front rest : List Bool) → whole ≡ front ++ rest → after g s whole ≡ after g (after g s front) rest
-    more g s whole front rest is = ap (after g s) is ∙ after-append g s front rest
-
 -- the covered bits as a number
 pub bits-covered : (sync startup : Bool) (s t id words : ℕ) → s < 2 → t < 2 → (s == 1) ≡ sync → (t == 1) ≡ startup → id < 2048 → words < 128 →
     bits 20 (((s * 2 + t) * 2048 + id) * 128 + words) ≡ sync ∷ startup ∷ (bits 11 id ++ bits 7 words)
@@ -225,26 +184,3 @@ covered_is sync startup s t i w id words s_is t_is i_is w_is id_fits words_fits 
     let second = bit_of startup in
     rw (s_is, t_is, i_is, w_is)
     (bits-covered sync startup (bool_byte sync) (bool_byte startup) id words first.0 second.0 first.1 second.1 (omega (arith, id_fits)) (omega (arith, words_fits)))
-
--- the register after twenty bits of a number, by five steps of four
-pub after_fours : (r number a b c d e : ℕ) →
-    bits 11 a ≡ after header_generator (bits 11 r) (bits 4 (number / 65536)) →
-    bits 11 b ≡ after header_generator (bits 11 a) (bits 4 (number / 4096)) →
-    bits 11 c ≡ after header_generator (bits 11 b) (bits 4 (number / 256)) →
-    bits 11 d ≡ after header_generator (bits 11 c) (bits 4 (number / 16)) →
-    bits 11 e ≡ after header_generator (bits 11 d) (bits 4 number) →
-    bits 11 e ≡ after header_generator (bits 11 r) (bits 20 number)
-after_fours r number a b c d e one two three four five =
-    let g : List Bool = header_generator in
-    five
-    ∙ ap (λ (s : List Bool). after g s (bits 4 number)) (four
-    ∙ ap (λ (s : List Bool). after g s (bits 4 (number / 16))) (three
-    ∙ ap (λ (s : List Bool). after g s (bits 4 (number / 256))) (two
-    ∙ ap (λ (s : List Bool). after g s (bits 4 (number / 4096))) one)))
-    ∙ twenty g (bits 11 r) number
-
--- the place of four bits in the table
-pub four_place : (r number : ℕ) → r < 2 ^ 11 → bit_xor (r / 128) (bit_and number 15) < 16
-four_place r number fits =
-    let low : bit_and number 15 ≡ number % 16 = and_mask number 4 in
-    xor_lt 4 (r / 128) (bit_and number 15) (omega arith) (rw low (omega arith))

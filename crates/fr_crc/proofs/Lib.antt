@@ -7,3 +7,4 @@ pub mod Rows
 pub mod Existence
 pub mod Entering
 pub mod Eights
+pub mod BothHalves

@@ -2,7 +2,8 @@ ghost use Rattle.std.specs.Prelude.{◌≡◌, ℕ, ◌≤◌, length};
 ghost use Rattle.fr_crc.specs.Crc.{frame_start, IsHeaderCrc, IsFrameCrc};
 
 use crate::body::after_body;
-use crate::tables::{after_twenty, covered};
+use crate::halves::after_twenty;
+use crate::tables::covered;
 use fr_base::Channel;
 
 // The start value of the header CRC, on both channels.
@@ -26,7 +27,7 @@ pub fn header_crc(sync: bool, startup: bool, id: u16, words: u8) -> u16
     requires words { words ≤ 127 }
     ensures { IsHeaderCrc sync startup id words result }
 {
-    after_twenty(HEADER_START, covered(sync, startup, id, words)) as u16
+    after_twenty(covered(sync, startup, id, words))
 }
 
 /// The frame CRC, of 24 bits, over the bytes of header and payload (at most 259) as they are sent on

@@ -1,13 +1,14 @@
 //! The two cyclic redundancy checks of a frame: the header CRC and the frame CRC (section 4.5 of the
 //! standard, CRC calculation details). Both are defined as the remainder of a division without carry,
-//! and computed by a shift register: the header CRC by four bits at a time, the frame CRC by eight bytes at
-//! a time, then four, and the last ones singly, with tables. The same register bit by bit stands beside them
+//! and computed by a shift register: the header CRC by ten bits at a time, the frame CRC by sixteen bytes at a
+//! time, then eight, then four, and the last ones singly, with tables. The same register bit by bit stands beside them
 //! for tests to compare with.
 #![tactic(auto)]
 
 mod body;
 mod checks;
 mod entries;
+mod halves;
 mod laws;
 mod plain;
 mod register;

@@ -148,10 +148,9 @@ impl Node {
         self.hear_read(params, slot, channel, arrival, bytes, &told)
     }
 
-    /// The same of a frame that was read before, for who offers it to many nodes: `told` is what the bytes are on
-    /// the channel.
+    // The same of a frame that was read before: `told` is what the bytes are on the channel.
     #[inline(never)]
-    pub fn hear_read(
+    fn hear_read(
         &mut self,
         params: &Params,
         slot: Slot,
@@ -174,7 +173,7 @@ impl Node {
     }
 
     /// The same of a frame of which it is known what is made of it where it arrives in its slot, as `received` tells it
-    /// of its bytes.
+    /// of its bytes, for who offers it to many nodes.
     #[inline(always)]
     pub fn hear_received(
         &mut self,
@@ -190,6 +189,8 @@ impl Node {
             reception.now ≡ received_as params.now self.old.cycle slot (read_as channel bytes) →
             result ≡ answer_of params.now self.old.cycle (node_row_of self.old)
             (record { slot = slot; channel = channel; arrival = arrival; bytes = bytes }) }
+        ensures made { result ≡ answer_with params.now (node_row_of self.old)
+            (record { slot = slot; channel = channel; arrival = arrival; bytes = [] }) reception.now }
         ensures after { self.new ≡ after_hearing params.now self.old slot channel result }
         ensures rest { self.new ≡ record self.old { table = self.new.table } }
         ensures fits { NodeFits params.now self.new }

@@ -96,6 +96,7 @@ impl Script {
     /// What becomes of each frame of a sender at a receiver, in a cycle on a channel. Of a correct sender: nothing
     /// comes where a `lose` row says so, one bit is inverted where a `flip` row does, otherwise it is regular. Of an
     /// arbitrary one: what a `say` row says, otherwise nothing.
+    #[inline(always)]
     #[tactic(auto, unfolding(crate::specs::Events::event_of))]
     pub fn at(&self, cycle: u32, sender: NodeId, receiver: NodeId, channel: Channel) -> Event<'_>
         ensures value { event_seen result ≡ event_of self.now cycle sender receiver channel }

@@ -1,8 +1,9 @@
 -- A line that is cut at its commas, read as csv reads it.
-use Rattle.std.proofs.Common.{◌≡◌, ◌≢◌, ◌≤◌, inl, inr, ℕ, suc, ◌+◌, true, false, List, length, drop, [], ◌∷◌, ◌++◌, Option, Some, None, refl, ap, sym, ◌∙◌, arith, append_assoc, append-nil}
+use Rattle.std.proofs.Common.{◌≡◌, ◌≢◌, ◌≤◌, ◌<◌, inl, inr, ℕ, suc, ◌+◌, ◌-◌, true, false, List, length, length-drop, drop, get_or, take, [], ◌∷◌, ◌++◌, Option, Some, None, refl, ap, sym, ◌∙◌, arith, append_assoc, append-nil}
 use Rattle.std.specs.Prelude.{◌==◌, is_some, slice_index_or}
 use Rattle.std.specs.List.{flat_map, list_all}
-use Rattle.std.proofs.lemmas.List.{flat_map_more}
+use Rattle.std.proofs.lemmas.List.{drop-drop, flat_map_more, get_or-drop}
+use Rattle.std.proofs.Math.Seq.{drop-cons, split_at, take-suc}
 use Rattle.std.proofs.lemmas.List.Folds.{list_all-append}
 use Rattle.csv.specs.Machine.{Read, next_record}
 use Rattle.csv.specs.Reading.{default_config, records_from, strip_bom}
@@ -10,7 +11,7 @@ use Rattle.csv.specs.declared.parser.State.TheVariants as st
 use Rattle.fr_text.specs.Plain.{IsBehindFeed, IsCut, records_left}
 use Rattle.fr_text.specs.Reader.{rest_of}
 use Rattle.fr_text.specs.Records.{FileRecord, records_of}
-use Rattle.fr_text.specs.Texts.{after_commas, first_byte, is_plain_field, is_plain_record, line_of_record, shows_bytes, with_commas}
+use Rattle.fr_text.specs.Texts.{after_commas, first_byte, is_plain_byte, is_plain_field, is_plain_record, line_of_record, shows_bytes, with_commas}
 use Rattle.fr_text.proofs.Left.{rest-end, rest-more}
 use Rattle.fr_text.proofs.RecordLines.{line-read, no-mark}
 
@@ -48,6 +49,47 @@ cut-last text rest front behind fields e f =
 
 pub plain-more : (fields : FileRecord) (front : List ℕ) → list_all is_plain_field fields ≡ true → is_plain_field front ≡ true → list_all is_plain_field (fields ++ front ∷ []) ≡ true
 plain-more fields front h g = list_all-append is_plain_field fields (front ∷ []) ∙ rw (h, g) refl
+
+-- ---- a line that is read byte by byte
+plain_above : (byte : ℕ) → 44 < byte → is_plain_byte byte ≡ true
+plain_above byte above = grind arith
+
+-- the bytes from the start of a field on, up to a place, and the one there
+pub byte-at : (text : List ℕ) (start place : ℕ) → start ≤ place → place < length text →
+    drop start text ≡ take (place - start) (drop start text) ++ get_or text place 0 ∷ drop (place + 1) text
+byte-at text start place begun within =
+    let d : List ℕ = drop start text in
+    let j : ℕ = place - start in
+    let there : start + j ≡ place = omega arith in
+    let behind : start + suc j ≡ place + 1 = omega arith in
+    let long : j < length d = omega (arith, length-drop start text) in
+    split_at d j 0 long
+    ∙ ap (λ (b : ℕ). take j d ++ b ∷ drop (suc j) d) (get_or-drop start text j 0 ∙ ap (λ (k : ℕ). get_or text k 0) there)
+    ∙ ap (λ (xs : List ℕ). take j d ++ get_or text place 0 ∷ xs) (drop-drop (suc j) start text ∙ ap (λ (k : ℕ). drop k text) behind)
+
+pub field-more : (text : List ℕ) (start place : ℕ) → start ≤ place → place < length text → 44 < get_or text place 0 → is_plain_field (take (place - start) (drop start text)) ≡ true →
+    is_plain_field (take (place + 1 - start) (drop start text)) ≡ true
+field-more text start place begun within above plain =
+    let d : List ℕ = drop start text in
+    let j : ℕ = place - start in
+    let there : start + j ≡ place = omega arith in
+    let next : place + 1 - start ≡ suc j = omega arith in
+    let long : j < length d = omega (arith, length-drop start text) in
+    let byte : get_or d j 0 ≡ get_or text place 0 = get_or-drop start text j 0 ∙ ap (λ (k : ℕ). get_or text k 0) there in
+    let own : is_plain_byte (get_or d j 0) ≡ true = rw byte (plain_above (get_or text place 0) above) in
+    ap (λ (k : ℕ). is_plain_field (take k d)) next
+    ∙ ap is_plain_field (take-suc d j 0 long)
+    ∙ list_all-append is_plain_byte (take j d) (get_or d j 0 ∷ [])
+    ∙ rw (plain, own) refl
+
+pub no-field : (text : List ℕ) (place : ℕ) → is_plain_field (take (place - place) (drop place text)) ≡ true
+no-field text place = let none : place - place ≡ 0 = omega arith in ap (λ (k : ℕ). is_plain_field (take k (drop place text))) none
+
+-- the end of the line
+pub end-at : (text : List ℕ) (place : ℕ) → place < length text → get_or text place 0 ≡ 10 → drop place text ≡ 10 ∷ drop (place + 1) text
+end-at text place within is =
+    let next : suc place ≡ place + 1 = omega arith in
+    drop-cons text place 0 within ∙ ap (λ (b : ℕ). b ∷ drop (suc place) text) is ∙ ap (λ (k : ℕ). 10 ∷ drop k text) next
 
 -- the record of a line that has a byte before its end
 shown-record : (text rest tail : List ℕ) (fields : FileRecord) → text ≡ with_commas fields ++ rest → rest ≡ 10 ∷ tail → first_byte text ≢ 10 → shows_bytes fields ≡ true

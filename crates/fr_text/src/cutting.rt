@@ -1,6 +1,6 @@
-ghost use Rattle.std.specs.Prelude.{◌≡◌, ◌≢◌, ◌≤◌, true, length, take, IfOk, IfSome, IsTrue};
+ghost use Rattle.std.specs.Prelude.{◌≡◌, ◌≢◌, IfOk, IfSome, IsTrue};
 ghost use Rattle.fr_text.specs.Plain.{IsBehindFeed, IsCut, bytes_of};
-ghost use Rattle.fr_text.specs.Texts.{first_byte, is_plain_field};
+ghost use Rattle.fr_text.specs.Texts.{first_byte};
 
 use std::alloc::AllocError;
 
@@ -33,27 +33,23 @@ pub(crate) fn cut<'a>(
     ensures { IfOk result (λ cut. IfSome cut (λ rest. IsCut text.now (bytes_of fields.new.items) rest.now)) }
 {
     fields.clear();
-    let mut rest = text;
-    'fields: loop {
-        let (field, behind) = rest.split_at(plain_length(rest));
-        fields.push(field)?;
-        match behind {
-            [b',', more @ ..] => rest = more,
-            [b'\n', ..] => return Ok(Some(behind)),
-            _ => return Ok(None),
+    let mut start = 0;
+    let mut place = 0;
+    'bytes: while place < text.len() {
+        let byte = text[place];
+        if byte > b',' {
+            place += 1;
+            continue;
         }
-    }
-}
-
-// How many bytes at the front of a text lie above the comma: each of them is one of a field.
-fn plain_length(text: &[u8]) -> usize
-    ensures within { result ≤ length text.now }
-    ensures plain { is_plain_field (take result text.now) ≡ true }
-{
-    for (place, byte) in text.iter().enumerate() {
-        if *byte <= b',' {
-            return place;
+        fields.push(&text[start..place])?;
+        if byte == b'\n' {
+            return Ok(Some(&text[place..]));
         }
+        if byte != b',' {
+            return Ok(None);
+        }
+        place += 1;
+        start = place;
     }
-    text.len()
+    Ok(None)
 }

@@ -1,6 +1,7 @@
 //! Text that is read and written. A line is a list of pieces, words and numbers, and a text is a list of lines, each of which
-//! is one put. A file is a list of records: the reader over `csv`, what the fields of a record say, and the one loop that
-//! fills a table with the records of a file or names the first that is refused. A kind of file has one way from a shelf
+//! is one put. A file is a list of records: the reader over `csv`, the stream that cuts plain lines where they lie, what the
+//! fields of a record say, and for either a loop that fills a table with the records of a file or names the first that is
+//! refused. A kind of file has one way from a shelf
 //! to its value. And how a command reads files one after the other: what it may write of them, why it stops, what is
 //! told of that, and the exit statuses.
 #![tactic(auto)]

@@ -1,4 +1,4 @@
-ghost use Rattle.std.specs.Prelude.{◌≡◌, ◌<◌, false, [], ◌∷◌, None, length, slice_index_or, IfOk, IfSome};
+ghost use Rattle.std.specs.Prelude.{◌≡◌, ◌<◌, false, [], ◌∷◌, None, length, slice_index_or, IfOk, IfSome, OnErr};
 ghost use Rattle.std.specs.Bool.{MatchBool};
 ghost use Rattle.fr_text.specs.Plain.{IsCut, fields_of};
 
@@ -9,10 +9,10 @@ use csv::ByteRecord;
 use std::alloc::{AllocError, Global};
 use std::marker::Model;
 
-/// A record of a file, seen as the list of its fields, each of them the list of its bytes. The fields of a line without
-/// quotes are not copied: they lie in the bytes of the file.
+/// A record of a file, seen as the list of its fields, each of them the list of its bytes. The fields of a plain line are
+/// not copied: they lie in the bytes of the file.
 pub struct Record<'a> {
-    // The fields of a line without quotes.
+    // The fields of a plain line.
     fields: Vec<&'a [u8]>,
     // What `csv` read, where it did.
     other: Option<ByteRecord>,
@@ -87,6 +87,7 @@ impl<'a> Record<'a> {
             (records.old ≡ fields_of self.new ∷ records.new)
             (records.old ≡ [])) }
         ensures ends { IfOk result (λ found. found ≡ false → records.new ≡ []) }
+        ensures stops { OnErr result (records.new ≡ []) }
     {
         if let Some(row) = &mut self.other {
             return records.next(row);

@@ -1,4 +1,4 @@
-ghost use Rattle.std.specs.Prelude.{◌≡◌, false, [], ◌∷◌, IfOk};
+ghost use Rattle.std.specs.Prelude.{◌≡◌, false, [], ◌∷◌, IfOk, OnErr};
 ghost use Rattle.std.specs.Bool.{MatchBool};
 ghost use Rattle.fr_text.specs.Plain.{fields_of};
 ghost use Rattle.fr_text.specs.Records.{records_of};
@@ -9,8 +9,8 @@ use crate::record::Record;
 use std::alloc::{AllocError, Global};
 use std::marker::Model;
 
-/// The records of a file that are still to be read, seen as their list. A line without quotes is cut at its commas where
-/// it lies; from the first other line on `csv` reads.
+/// The records of a file that are still to be read, seen as their list. A plain line is cut at its commas where it lies;
+/// from the first other line on `csv` reads.
 pub struct Stream<'a> {
     alloc: Global,
     // The bytes that are left, from the end of the last line that was read on.
@@ -51,12 +51,13 @@ impl<'a> Stream<'a> {
         }
     }
 
-    /// Puts the next record into `row`; false where none is left. `AllocError` where memory ran out.
+    /// Puts the next record into `row`; false where none is left. `AllocError` where memory ran out: then none is left.
     pub fn next(&mut self, row: &mut Record<'a>) -> Result<bool, AllocError>
         ensures reads { IfOk result (λ found. MatchBool found
             (self.old ≡ fields_of row.new ∷ self.new)
             (self.old ≡ [])) }
         ensures ends { IfOk result (λ found. found ≡ false → self.new ≡ []) }
+        ensures stops { OnErr result (self.new ≡ []) }
     {
         if self.other.is_some() {
             return self.next_read(row);
@@ -68,12 +69,16 @@ impl<'a> Stream<'a> {
         if !may_be_cut(text) {
             return self.next_read(row);
         }
-        match row.cut(text)? {
-            Some(rest) => {
+        match row.cut(text) {
+            Ok(Some(rest)) => {
                 self.rest = rest;
                 Ok(true)
             }
-            None => self.next_read(row),
+            Ok(None) => self.next_read(row),
+            Err(fault) => {
+                self.rest = &[];
+                Err(fault)
+            }
         }
     }
 
@@ -85,13 +90,14 @@ impl<'a> Stream<'a> {
             (self.old ≡ fields_of row.new ∷ self.new)
             (self.old ≡ [])) }
         ensures ends { IfOk result (λ found. found ≡ false → self.new ≡ []) }
+        ensures stops { OnErr result (self.new ≡ []) }
     {
         if let Some(records) = &mut self.other {
             return row.read(self.alloc, records);
         }
         let mut records = Records::new(self.alloc, self.rest);
-        let found = row.read(self.alloc, &mut records)?;
+        let found = row.read(self.alloc, &mut records);
         self.other = Some(records);
-        Ok(found)
+        found
     }
 }

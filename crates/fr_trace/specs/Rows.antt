@@ -93,6 +93,15 @@ heard_row cycle receiver slot channel value =
     or_reason (dev_row (channel_of channel))
     (both_of (both_of (natural_of 0 199_999 cycle) (natural_of 1 64 receiver)) (both_of (natural_of 1 1023 slot) (value_in value)))
 
+-- the same of the deviation alone
+abbrev pub heard_said : Result HeardRow Reason → Result Row Reason
+heard_said (Ok heard) = Ok (row.Heard heard)
+heard_said (Err why) = Err why
+
+-- whether a record has the form of a deviation: eight fields, of which the first says so
+abbrev pub is_heard_record : FileRecord → Bool
+is_heard_record fields = (length fields == 8) && bytes_eq (field_of fields 0) (codes "dev")
+
 -- whether three fields are empty
 abbrev pub are_blank : List ℕ → List ℕ → List ℕ → Bool
 are_blank first second third = is_blank first && is_blank second && is_blank third
@@ -101,6 +110,10 @@ are_blank first second third = is_blank first && is_blank second && is_blank thi
 abbrev pub traced_short_row : List ℕ → List ℕ → List ℕ → List ℕ → List ℕ → List ℕ → Result Row Reason → Result Row Reason
 traced_short_row second third fourth fifth sixth seventh said = if are_blank second third fourth && are_blank fifth sixth seventh then said else Err reason.Shape
 
+-- a deviation: the last two fields are empty
+abbrev pub heard_fields : List ℕ → List ℕ → List ℕ → List ℕ → List ℕ → List ℕ → List ℕ → Result Row Reason
+heard_fields first second third fourth fifth sixth seventh = if is_blank sixth && is_blank seventh then heard_row first second third fourth fifth else Err reason.Shape
+
 -- what a record of eight fields says, by its kind
 abbrev pub trace_file_row : List ℕ → List ℕ → List ℕ → List ℕ → List ℕ → List ℕ → List ℕ → List ℕ → Result Row Reason
 trace_file_row kind first second third fourth fifth sixth seventh =
@@ -108,7 +121,7 @@ trace_file_row kind first second third fourth fifth sixth seventh =
     else if bytes_eq kind (codes "arbitrary") then traced_short_row second third fourth fifth sixth seventh (traced_arbitrary_row first)
     else if bytes_eq kind (codes "join") then (if are_blank fourth fifth sixth && is_blank seventh then traced_join_row first second third else Err reason.Shape)
     else if bytes_eq kind (codes "cycle") then clock_row first second third fourth fifth sixth seventh
-    else if bytes_eq kind (codes "dev") then (if is_blank sixth && is_blank seventh then heard_row first second third fourth fifth else Err reason.Shape)
+    else if bytes_eq kind (codes "dev") then heard_fields first second third fourth fifth sixth seventh
     else Err reason.UnknownName
 
 -- what a record says, or the least of the reasons that it shows by itself

@@ -9,7 +9,7 @@ ghost use Rattle.fr_trace.specs.Lasting.{IsTrace};
 ghost use Rattle.fr_trace.specs.Order.{doubles_or_0, may_come_next};
 ghost use Rattle.fr_trace.specs.Reasons.{arbitrary_reason, clock_reason, have_common, heard_reason, is_beyond, is_linked, is_of_other, joins_wrongly, knows_node_and_reference, row_reason, traced_join_reason};
 ghost use Rattle.fr_base.specs.Within.{lies_within};
-ghost use Rattle.fr_trace.specs.Rows.{IsProperTraceRow};
+ghost use Rattle.fr_trace.specs.Rows.{IsProperHeard, IsProperTraceRow};
 ghost use Rattle.fr_trace.specs.declared.rows.Row.TheVariants as said;
 
 use crate::order::{SoFar, goes_on, is_among, join_among, may_follow};
@@ -83,19 +83,7 @@ impl Draft {
         }
     }
 
-    // A deviation, of which there are the most, is judged by the last row alone.
     fn reason(&self, params: &Params, row: &Row) -> Option<Reason>
-        ensures { result ≡ row_reason params.now self.now.arbitrary.items self.now.joins.items row.now
-            (may_come_next params.now (doubles_or_0 self.now.doubles) self.now.arbitrary.items self.now.joins.items
-            (latest_rows (over_of self.now)) self.now.rows.items self.now.last row.now) }
-    {
-        match row {
-            Row::Heard(heard) => heard_reason(params, heard, goes_on(&self.last, heard)),
-            _ => self.any_reason(params, row),
-        }
-    }
-
-    fn any_reason(&self, params: &Params, row: &Row) -> Option<Reason>
         ensures { result ≡ row_reason params.now self.now.arbitrary.items self.now.joins.items row.now
             (may_come_next params.now (doubles_or_0 self.now.doubles) self.now.arbitrary.items self.now.joins.items
             (latest_rows (over_of self.now)) self.now.rows.items self.now.last row.now) }
@@ -103,6 +91,35 @@ impl Draft {
         let so_far = self.so_far();
         let comes = may_follow(params, &so_far, &self.last, row);
         row_reason(params, so_far.named, so_far.joins, row, comes)
+    }
+
+    // Takes a deviation, of which there are the most: it is judged by the last row alone.
+    pub(crate) fn take_heard(
+        &mut self,
+        params: &Params,
+        heard: HeardRow,
+    ) -> Result<Option<Reason>, AllocError>
+        requires { IsProperHeard heard }
+        ensures { TakesTraceRow params.now self.old self.new (said.Heard heard) result }
+    {
+        let _nodes = &params.nodes;
+        match heard_reason(params, &heard, goes_on(&self.last, &heard)) {
+            Some(why) => Ok(Some(why)),
+            None => {
+                self.put_heard(heard)?;
+                Ok(None)
+            }
+        }
+    }
+
+    // Puts a deviation behind the rows that are there.
+    fn put_heard(&mut self, heard: HeardRow) -> Result<(), AllocError>
+        ensures { OnOk result (HasPut self.old self.new (said.Heard heard)) }
+    {
+        self.keep_heard(&heard)?;
+        self.last = Some(Row::Heard(heard));
+        self.count = self.count.saturating_add(1);
+        Ok(())
     }
 
     // What it holds that decides which row may come next.

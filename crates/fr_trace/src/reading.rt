@@ -9,7 +9,7 @@ ghost use Rattle.fr_trace.specs.Reasons.{trace_reason_after};
 use crate::draft::Draft;
 use crate::fault::TraceFault;
 use crate::order::ends_with;
-use crate::rows::read_row;
+use crate::rows::{is_heard, read_heard, read_row};
 use crate::trace::Trace;
 use fr_base::Reason;
 use fr_cluster::Params;
@@ -31,6 +31,12 @@ impl<'a> RecordTable for Reading<'a> {
 
     fn add(&mut self, row: &Record<'_>) -> Result<Option<Reason>, AllocError> {
         let params = self.params;
+        if is_heard(row) {
+            return match read_heard(row) {
+                Err(why) => Ok(Some(why)),
+                Ok(heard) => self.draft.take_heard(params, heard),
+            };
+        }
         match read_row(row) {
             Err(why) => Ok(Some(why)),
             Ok(said) => self.draft.take(params, said),

@@ -1,7 +1,8 @@
-ghost use Rattle.std.specs.Prelude.{◌≡◌, ◌≤ℤ◌, ◌&&◌, pos, negsuc, IfOk, IfSome};
+ghost use Rattle.std.specs.Prelude.{◌≡◌, ◌≤ℤ◌, ◌&&◌, false, true, codes, pos, negsuc, IfOk, IfSome};
+ghost use Rattle.std.specs.Str.{bytes_eq};
 ghost use Rattle.fr_text.specs.Plain.{fields_of};
 ghost use Rattle.fr_text.specs.Fields.{is_blank};
-ghost use Rattle.fr_trace.specs.Rows.{IsProperTraceRow, traced_arbitrary_row, are_blank, traced_join_row, AreProperTerms, IsProperSpan, clock_in, clock_row, heard_row, offset_in, traced_rate_in, run_row, span_in, state_of, terms_in, trace_file_row, trace_row_of, value_in};
+ghost use Rattle.fr_trace.specs.Rows.{IsProperHeard, IsProperTraceRow, heard_fields, heard_said, is_heard_record, traced_arbitrary_row, are_blank, traced_join_row, AreProperTerms, IsProperSpan, clock_in, clock_row, heard_row, offset_in, traced_rate_in, run_row, span_in, state_of, terms_in, trace_file_row, trace_row_of, value_in};
 
 use crate::trace::TracedJoin;
 use fr_base::{Channel, NodeId, NodeRow, NumberFault, Reason, Slot, State, number};
@@ -39,9 +40,35 @@ pub enum Row {
     Heard(HeardRow),
 }
 
-/// What a record says, or the least of the reasons that it shows by itself: Shape, UnknownName,
+/// Whether a record has the form of a deviation: eight fields, of which the first says so.
+pub fn is_heard(row: &Record<'_>) -> bool
+    ensures { result ≡ is_heard_record (fields_of row.now) }
+{
+    row.len() == 8 && row.field(0) == b"dev".as_slice()
+}
+
+/// The deviation that a record of this form says, or the least of the reasons that it shows by itself: Shape,
+/// NotNumber, OutOfRange. It is read apart from other rows, since most records are deviations.
+pub fn read_heard(row: &Record<'_>) -> Result<HeardRow, Reason>
+    requires { is_heard_record (fields_of row.now) ≡ true }
+    ensures said { heard_said result ≡ trace_row_of (fields_of row.now) }
+    ensures proper { IfOk result IsProperHeard }
+{
+    read_fields(
+        row.field(1),
+        row.field(2),
+        row.field(3),
+        row.field(4),
+        row.field(5),
+        row.field(6),
+        row.field(7),
+    )
+}
+
+/// What a record of another form says, or the least of the reasons that it shows by itself: Shape, UnknownName,
 /// NotNumber, OutOfRange.
 pub fn read_row(row: &Record<'_>) -> Result<Row, Reason>
+    requires { is_heard_record (fields_of row.now) ≡ false }
     ensures said { result ≡ trace_row_of (fields_of row.now) }
     ensures proper { IfOk result (λ said. IsProperTraceRow said) }
 {
@@ -70,6 +97,7 @@ fn read_kind(
     sixth: &[u8],
     seventh: &[u8],
 ) -> Result<Row, Reason>
+    requires { bytes_eq kind.now (codes "dev") ≡ false }
     ensures said { result ≡
         trace_file_row kind.now first.now second.now third.now fourth.now fifth.now sixth.now seventh.now }
     ensures proper { IfOk result (λ said. IsProperTraceRow said) }
@@ -91,11 +119,6 @@ fn read_kind(
         read_join(first, second, third)
     } else if kind == b"cycle".as_slice() {
         read_clock(first, second, third, fourth, fifth, sixth, seventh)
-    } else if kind == b"dev".as_slice() {
-        if !sixth.is_empty() || !seventh.is_empty() {
-            return Err(Reason::Shape);
-        }
-        read_heard(first, second, third, fourth, fifth)
     } else {
         Err(Reason::UnknownName)
     }
@@ -256,27 +279,47 @@ fn read_value(text: &[u8]) -> Result<i32, NumberFault>
     Ok(value as i32)
 }
 
-fn read_heard(
+// A deviation of these fields, of which the last two are to be empty.
+fn read_fields(
+    first: &[u8],
+    second: &[u8],
+    third: &[u8],
+    fourth: &[u8],
+    fifth: &[u8],
+    sixth: &[u8],
+    seventh: &[u8],
+) -> Result<HeardRow, Reason>
+    ensures said { heard_said result ≡
+        heard_fields first.now second.now third.now fourth.now fifth.now sixth.now seventh.now }
+    ensures proper { IfOk result IsProperHeard }
+{
+    if !sixth.is_empty() || !seventh.is_empty() {
+        return Err(Reason::Shape);
+    }
+    heard_of(first, second, third, fourth, fifth)
+}
+
+fn heard_of(
     cycle: &[u8],
     receiver: &[u8],
     slot: &[u8],
     channel: &[u8],
     value: &[u8],
-) -> Result<Row, Reason>
-    ensures said { result ≡ heard_row cycle.now receiver.now slot.now channel.now value.now }
-    ensures proper { IfOk result (λ said. IsProperTraceRow said) }
+) -> Result<HeardRow, Reason>
+    ensures said { heard_said result ≡ heard_row cycle.now receiver.now slot.now channel.now value.now }
+    ensures proper { IfOk result IsProperHeard }
 {
     match both(
         both(natural(cycle, 0, 199_999), natural(receiver, 1, 64)),
         both(natural(slot, 1, 1023), read_value(value)),
     ) {
         Err(fault) => Err(reason_of(fault)),
-        Ok(((cycle, receiver), (slot, value))) => Ok(Row::Heard(HeardRow {
+        Ok(((cycle, receiver), (slot, value))) => Ok(HeardRow {
             cycle: cycle as u32,
             receiver: NodeId(receiver as u8),
             slot: Slot(slot as u16),
             channel: Channel::spelt(channel),
             value,
-        })),
+        }),
     }
 }

@@ -8,7 +8,7 @@ use Rattle.fr_crc.proofs.body.after_rest.Goals as goal
 
 pub returns-clause-after : goal.returns-clause-after
 returns-clause-after c =
-    c.after_each-2.ensures.after
-    ∙ ap (λ (xs : List ℕ). after frame_generator (bits 24 c.after_four_bytes-register.result) (message_of xs)) (take_rest c.args.bytes.now 4)
-    ∙ ap (λ (s : List Bool). after frame_generator s (message_of (drop 4 c.args.bytes.now))) c.after_four_bytes-register.ensures.next
-    ∙ sym (after-behind frame_generator (bits 24 c.args.register) c.args.bytes.now 4)
+    c.after_last-2.ensures.after
+    ∙ ap (λ (xs : List ℕ). after frame_generator (bits 24 c.after_eight_bytes-register.result) (message_of xs)) (take_rest c.args.bytes.now 8)
+    ∙ ap (λ (s : List Bool). after frame_generator s (message_of (drop 8 c.args.bytes.now))) c.after_eight_bytes-register.ensures.next
+    ∙ sym (after-behind frame_generator (bits 24 c.args.register) c.args.bytes.now 8)

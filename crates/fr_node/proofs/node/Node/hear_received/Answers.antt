@@ -19,3 +19,11 @@ returns-clause-answer c bytes made =
     subst P (to_z-of_z w64 a.arrival arrival) c.answer_to-heard.ensures.answer
     ∙ ap (answer_with p row offer) made
     ∙ sym (answer_received p a.self.now.cycle row offer)
+
+pub returns-clause-made : goal.returns-clause-made
+returns-clause-made c =
+    let a = c.args in
+    let p : Values = a.params.now in
+    let arrival : FitsSigned w64 a.arrival = c.ranges.arrival in
+    let P : ℤ → Type 0 = λ at. c.answer_to-heard.result ≡ answer_with p (node_row_of a.self.now) (record { slot = a.slot; channel = a.channel; arrival = at; bytes = [] }) a.reception.now in
+    subst P (to_z-of_z w64 a.arrival arrival) c.answer_to-heard.ensures.answer

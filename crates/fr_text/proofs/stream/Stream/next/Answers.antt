@@ -1,4 +1,4 @@
-use Rattle.std.proofs.Common.{◌≡◌, ◌∙◌, sym, ap, List, ◌∷◌, [], false, ℕ}
+use Rattle.std.proofs.Common.{◌≡◌, ◌∙◌, refl, inl, sym, ap, List, ◌∷◌, [], false, ℕ}
 use Rattle.std.specs.Prelude.{is_some}
 use Rattle.fr_text.specs.Plain.{IsCut}
 use Rattle.fr_text.specs.Records.{FileRecord}
@@ -18,13 +18,19 @@ returns-then-is_empty-clause-reads c = over c
 pub returns-then-is_empty-clause-ends : goal.returns-then-is_empty-clause-ends
 returns-then-is_empty-clause-ends c = λ _. over c
 
-pub returns-in-Some-clause-reads : goal.returns-in-Some-clause-reads
-returns-in-Some-clause-reads c =
+pub returns-in-Ok-Some-clause-reads : goal.returns-in-Ok-Some-clause-reads
+returns-in-Ok-Some-clause-reads c =
     let none : is_some c.self.inside.other ≡ false = sym c.is_some.ensures ∙ c.if-is_some.false in
-    let rest : List ℕ = c.in-Some.rest.now in
-    let cut : IsCut c.behind_feed-text.result.now c.cut.new.self rest = rw c.in-Some.is at c.in_ok-rest.ensures in
+    let rest : List ℕ = c.in-Ok-Some.rest.now in
+    let cut : IsCut c.behind_feed-text.result.now c.cut.new.self rest = rw c.in-Ok-Some.field-0-is at c.in-Ok-Some.ensures in
     let may = c.may_be_cut.ensures c.if-not-may_be_cut.false in
     sym c.self.view_is
     ∙ left-plain c.self.inside.other c.self.inside.rest.now none
     ∙ cut-read c.self.inside.rest.now c.behind_feed-text.result.now rest c.cut.new.self c.behind_feed-text.ensures cut may.0 may.1
     ∙ ap (λ (rs : List FileRecord). c.cut.new.self ∷ rs) (sym (left-plain c.self.inside.other rest none))
+
+-- nothing of the file is left
+pub returns-in-Err-clause-stops : goal.returns-in-Err-clause-stops
+returns-in-Err-clause-stops c =
+    let none : is_some c.self.inside.other ≡ false = sym c.is_some.ensures ∙ c.if-is_some.false in
+    left-plain c.self.inside.other [] none ∙ over-read [] [] (inl refl) refl

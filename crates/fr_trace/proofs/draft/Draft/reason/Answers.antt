@@ -1,7 +1,7 @@
 use Rattle.std.proofs.Common.{◌∙◌}
 use Rattle.fr_trace.specs.Order.{may_come_next}
 use Rattle.fr_trace.specs.Reasons.{row_reason}
-use Rattle.fr_trace.proofs.draft.Draft.any_reason.Goals as goal
+use Rattle.fr_trace.proofs.draft.Draft.reason.Goals as goal
 
 pub returns : goal.returns
 returns c =

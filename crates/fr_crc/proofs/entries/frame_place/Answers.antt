@@ -1,7 +1,7 @@
 use Rattle.std.proofs.Common.{ℕ, get_or, ap}
 use Rattle.fr_crc.specs.Bits.{bits}
 use Rattle.fr_crc.specs.Entries.{frame_entries}
-use Rattle.fr_crc.proofs.tables.frame_place.Goals as goal
+use Rattle.fr_crc.proofs.entries.frame_place.Goals as goal
 
 pub returns : goal.returns
 unfolding bits frame_entries

@@ -1,0 +1,8 @@
+use Rattle.std.proofs.Common.{ℕ, get_or, ap}
+use Rattle.fr_crc.specs.Bits.{bits}
+use Rattle.fr_crc.specs.Entries.{header_firsts}
+use Rattle.fr_crc.proofs.halves.first_place.Goals as goal
+
+pub returns : goal.returns
+unfolding bits header_firsts
+returns c = ap (λ (i : ℕ). get_or header_firsts i 0) c.from.ensures
