@@ -1,4 +1,9 @@
 pub mod Floors
 pub mod Limits
 pub mod Meets
+pub mod MiddleLaws
+pub mod Middling
+pub mod Ranked
 pub mod Spreads
+pub mod ValueLaws
+mod MiddleRows

@@ -1,5 +1,5 @@
 -- How far quotients, weighed sums and what lies in two intervals lie from 0.
-use Rattle.std.proofs.Common.{◌≡◌, ℤ, pos, Option, Some, None, IfSome, FitsSigned, arith}
+use Rattle.std.proofs.Common.{◌≡◌, ◌∙◌, ℤ, pos, Option, Some, None, IfSome, FitsSigned, ap, arith}
 use mir.Syntax.{w128}
 use Rattle.std.specs.Int.{int_max, int_min}
 use Rattle.std.specs.Prelude.{◌+ℤ◌, ◌-ℤ◌, ◌*ℤ◌, ◌≤ℤ◌, ◌<ℤ◌, neg_ℤ}
@@ -8,7 +8,7 @@ use Rattle.fr_base.specs.Within.{IsBetween, IsWithin}
 use Rattle.fr_midpoint.proofs.Products.{lez_of_mulz-lez, mulz_comm, mulz_within, negz-mulz, subz-mulz}
 use Rattle.fr_time.specs.Position.{floor_of}
 use Rattle.fr_course.specs.Readings.{ceiling_of, meet, meet_if, Interval, Scale}
-use Rattle.fr_course.specs.Course.{length_seen}
+use Rattle.fr_course.specs.Course.{length_seen, share_from, share_to}
 use Rattle.fr_course.specs.Near.{IsBox, IsReadingScale, IsSpan, EndBetween, EndWithin}
 use Rattle.fr_course.proofs.Floors.{floor_above, floor_below}
 
@@ -150,3 +150,18 @@ max_between bound x y a b = record { low = omega (arith, ints, clamps, b.low); h
 
 pub greater_between : (bound x y : ℤ) → IsBetween (pos 0) bound x → IsBetween (pos 0) bound y → IsBetween (pos 0) bound (int_max x y)
 greater_between bound x y a b = record { low = omega (arith, ints, clamps, b.low); high = omega (arith, ints, clamps, a.high, b.high) }
+
+-- a share of so many macroticks before a point
+pub share_from-negz : (scale : Scale) (macroticks length : ℤ) → share_from scale (neg_ℤ macroticks) length ≡ neg_ℤ (share_to scale macroticks length)
+share_from-negz scale macroticks length =
+    ap (λ (x : ℤ). floor_of x scale.macros) (negz-mulz macroticks length) ∙ twice (floor_of (neg_ℤ (macroticks *ℤ length)) scale.macros)
+  where
+    twice : (x : ℤ) → x ≡ neg_ℤ (neg_ℤ x)
+    twice x = omega (arith, ints)
+
+pub share_to-negz : (scale : Scale) (macroticks length : ℤ) → share_to scale (neg_ℤ macroticks) length ≡ neg_ℤ (share_from scale macroticks length)
+share_to-negz scale macroticks length =
+    ap (λ (x : ℤ). neg_ℤ (floor_of x scale.macros)) (ap neg_ℤ (negz-mulz macroticks length) ∙ twice (macroticks *ℤ length))
+  where
+    twice : (x : ℤ) → neg_ℤ (neg_ℤ x) ≡ x
+    twice x = omega (arith, ints)

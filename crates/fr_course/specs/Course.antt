@@ -59,6 +59,10 @@ length_seen scale apart =
 abbrev pub allowed : Scale → Interval
 allowed scale = record { low = scale.length_from; high = scale.length_to }
 
+-- how far apart two action points lie by what is known of each, and by the spans, whether a cluster allows it or not
+abbrev pub seen_apart : Interval → Interval → Option Interval → Interval
+seen_apart even odd span = meet_if span (between even odd)
+
 -- how far apart two action points can be by what is known of each, and by the spans
 abbrev pub apart_by : Scale → Interval → Interval → Option Interval → Interval
 apart_by scale even odd span = meet_if span (meet (allowed scale) (between even odd))

@@ -3,6 +3,7 @@ use Rattle.std.specs.Prelude.{◌≤◌, ℤ, pos, neg_ℤ, ◌≤ℤ◌}
 use Rattle.fr_base.specs.Within.{IsBetween, IsWithin}
 use Rattle.fr_course.specs.Readings.{Interval, Scale}
 use Rattle.fr_course.specs.Course.{Course, Delays, Observer}
+use Rattle.fr_course.specs.declared.measuring.Measuring.{Measuring}
 
 -- the numbers of a log's head, and those of a delay
 pub record IsObserver (observer : Observer) : Type 0 where
@@ -55,3 +56,11 @@ pub record IsNearCourse (scale : Scale) (course : Course) : Type 0 where
   pub odd : EndWithin (pos 1_900_000_000_000_000_000) course.odd
   pub apart : EndWithin (pos 920_000_000_000_000_000) course.apart
   pub length : EndWithin (pos 930_000_000_000_000_000) course.length
+
+-- how nodes of a cluster measure
+pub record IsMeasuring (m : Measuring) : Type 0 where
+  pub arrival_error : IsBetween (pos 0) (pos 10_000_000_000_000_000_000) m.arrival_error
+  pub rate_error : IsBetween (pos 0) (pos 10_000_000_000_000_000_000) m.rate_error
+  pub shortest : IsBetween (pos 998_500) (pos 1_001_500) m.shortest
+  pub longest : IsBetween (pos 998_500) (pos 1_001_500) m.longest
+  pub damping : IsBetween (pos 0) (pos 1_000_000) m.damping

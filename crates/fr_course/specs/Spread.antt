@@ -37,6 +37,24 @@ least_at scale corner courses = least_spread (map (corner scale) courses)
 abbrev pub most_at : Scale → (Scale → Course → Interval) → List Course → ℤ
 most_at scale corner courses = most_spread (map (corner scale) courses)
 
+-- how far apart the starts of the even cycle lie, and how far apart the lengths of cycles, at least and at most, in ticks
+abbrev pub starts_apart : Scale → List Course → Interval
+starts_apart scale courses =
+    record {
+      low = least_ticks scale.drift (least_at scale even_start courses);
+      high = most_ticks scale.drift (most_at scale even_start courses);
+    }
+
+abbrev pub course_length : Scale → Course → Interval
+course_length scale course = course.length
+
+abbrev pub lengths_apart : Scale → List Course → Interval
+lengths_apart scale courses =
+    record {
+      low = least_ticks scale.drift (least_at scale course_length courses);
+      high = most_ticks scale.drift (most_at scale course_length courses);
+    }
+
 -- the skew of the even cycle is no less, and no greater, in ticks
 abbrev pub least_even_skew : Scale → List Course → ℤ
 least_even_skew scale courses =

@@ -1,6 +1,6 @@
-ghost use Rattle.std.specs.Prelude.{◌≡◌, pos, ◌+ℤ◌, ◌-ℤ◌};
-ghost use Rattle.fr_base.specs.Within.{IsWithin};
-ghost use Rattle.fr_course.specs.Course.{even_start, even_turn, mean_from, mean_to, odd_start, odd_turn, share_from, share_to};
+ghost use Rattle.std.specs.Prelude.{◌≡◌, pos, neg_ℤ, ◌+ℤ◌, ◌-ℤ◌};
+ghost use Rattle.fr_base.specs.Within.{IsBetween, IsWithin};
+ghost use Rattle.fr_course.specs.Course.{even_start, even_turn, mean_from, mean_to, odd_macrotick, odd_start, odd_turn, share_from, share_to};
 ghost use Rattle.fr_course.specs.Near.{IsNearCourse, IsReadingScale, EndWithin};
 
 use crate::courses::Course;
@@ -59,6 +59,56 @@ pub fn odd_turn(scale: &Scale, course: &Course) -> Interval
     Interval {
         low: course.odd.low + ahead_from(scale, course),
         high: course.odd.high + ahead_to(scale, course) + scale.micro_to,
+    }
+}
+
+// Where a macrotick of the odd cycle can lie, up to the start of its offset correction.
+pub(crate) fn odd_macrotick(scale: &Scale, course: &Course, macrotick: i128) -> Interval
+    requires scale { IsReadingScale scale.now }
+    requires course { IsNearCourse scale.now course.now }
+    requires macrotick { IsBetween (pos 0) scale.now.correction macrotick }
+    ensures value { result ≡ odd_macrotick scale.now course.now macrotick }
+    ensures near { EndWithin (pos 3_000_000_000_000_000_000) result }
+{
+    let ahead = macrotick - course.action;
+    if ahead >= 0 {
+        macrotick_behind(scale, course, ahead)
+    } else {
+        macrotick_before(scale, course, ahead)
+    }
+}
+
+// One so many macroticks behind the action point.
+fn macrotick_behind(scale: &Scale, course: &Course, ahead: i128) -> Interval
+    requires scale { IsReadingScale scale.now }
+    requires course { IsNearCourse scale.now course.now }
+    requires ahead { IsBetween (pos 0) scale.now.macros ahead }
+    ensures low { result.low ≡
+        (course.now.odd.low +ℤ share_from scale.now ahead course.now.length.low) -ℤ scale.now.micro_to }
+    ensures high { result.high ≡
+        (course.now.odd.high +ℤ share_to scale.now ahead course.now.length.high) +ℤ scale.now.micro_to }
+    ensures near { EndWithin (pos 3_000_000_000_000_000_000) result }
+{
+    Interval {
+        low: course.odd.low + share_from(scale, ahead, course.length.low) - scale.micro_to,
+        high: course.odd.high + share_to(scale, ahead, course.length.high) + scale.micro_to,
+    }
+}
+
+// One so many macroticks before it: a number below 0.
+fn macrotick_before(scale: &Scale, course: &Course, ahead: i128) -> Interval
+    requires scale { IsReadingScale scale.now }
+    requires course { IsNearCourse scale.now course.now }
+    requires ahead { IsBetween (neg_ℤ scale.now.macros) (pos 0) ahead }
+    ensures low { result.low ≡
+        (course.now.odd.low +ℤ share_from scale.now ahead course.now.length.high) -ℤ scale.now.micro_to }
+    ensures high { result.high ≡
+        (course.now.odd.high +ℤ share_to scale.now ahead course.now.length.low) +ℤ scale.now.micro_to }
+    ensures near { EndWithin (pos 3_000_000_000_000_000_000) result }
+{
+    Interval {
+        low: course.odd.low - share_to(scale, -ahead, course.length.high) - scale.micro_to,
+        high: course.odd.high - share_from(scale, -ahead, course.length.low) + scale.micro_to,
     }
 }
 

@@ -1,7 +1,7 @@
 ghost use Rattle.std.specs.Prelude.{◌≡◌, pos, ◌+ℤ◌, ◌-ℤ◌, IfSome};
 ghost use Rattle.std.specs.Int.{int_max, int_min};
 ghost use Rattle.fr_base.specs.Within.{IsBetween};
-ghost use Rattle.fr_course.specs.Course.{allowed, apart_by, between, course_back, course_by, course_from, course_on, is_there, length_seen};
+ghost use Rattle.fr_course.specs.Course.{allowed, apart_by, between, course_back, course_by, course_from, course_on, is_there, length_seen, seen_apart};
 ghost use Rattle.fr_course.specs.Near.{IsBox, IsNearCourse, IsReadingScale, IsSpan, EndBetween, EndWithin};
 
 use crate::intervals::{Interval, is_empty, meet, meet_if};
@@ -172,8 +172,8 @@ fn behind(even: &Interval, odd: &Interval, apart: &Interval) -> Interval
     }
 }
 
-// The lengths that a cluster allows.
-fn allowed(scale: &Scale) -> Interval
+/// The lengths of cycles, before their offset correction, that a cluster allows, as readings.
+pub fn allowed(scale: &Scale) -> Interval
     requires { IsReadingScale scale.now }
     ensures value { result ≡ allowed scale.now }
     ensures near { EndWithin (pos 1_001_000_000_000) result }
@@ -184,12 +184,15 @@ fn allowed(scale: &Scale) -> Interval
     }
 }
 
-// How far apart action points can be that lie in two intervals.
-pub(crate) fn between(from: &Interval, to: &Interval) -> Interval
-    requires from { EndWithin (pos 1_900_000_000_000_000_000) from.now }
-    requires to { EndWithin (pos 1_900_000_000_000_000_000) to.now }
+/// How much later points can be that lie in one interval than points that lie in another, as readings.
+pub fn between(from: &Interval, to: &Interval) -> Interval
+    requires from { EndWithin (pos 3_000_000_000_000_000_000) from.now }
+    requires to { EndWithin (pos 3_000_000_000_000_000_000) to.now }
     ensures value { result ≡ between from.now to.now }
-    ensures near { EndWithin (pos 3_800_000_000_000_000_000) result }
+    ensures near { EndWithin (pos 6_000_000_000_000_000_000) result }
+    ensures courses { EndWithin (pos 1_900_000_000_000_000_000) from.now →
+        EndWithin (pos 1_900_000_000_000_000_000) to.now →
+        EndWithin (pos 3_800_000_000_000_000_000) result }
     ensures boxes { IsBox from.now → IsBox to.now →
         EndWithin (pos 920_000_000_000_000_000) result }
 {
@@ -197,6 +200,18 @@ pub(crate) fn between(from: &Interval, to: &Interval) -> Interval
         low: to.low - from.high,
         high: to.high - from.low,
     }
+}
+
+/// How far apart the action points of a node in the even and in the odd cycle lie, by the boxes of its frames and by the
+/// spans between them, as readings: whether its cluster allows it or not.
+pub fn seen_apart(even: &Interval, odd: &Interval, span: Option<Interval>) -> Interval
+    requires even { IsBox even.now }
+    requires odd { IsBox odd.now }
+    requires span { IfSome span IsSpan }
+    ensures value { result ≡ seen_apart even.now odd.now span }
+    ensures near { EndWithin (pos 920_000_000_000_000_000) result }
+{
+    meet_if(span, &between(even, odd))
 }
 
 // How far apart two action points can be by what is known of each, and by the spans.

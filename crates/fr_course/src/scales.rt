@@ -89,17 +89,17 @@ fn greatest_change(params: &Params) -> i128
 }
 
 // The ticks of the shortest microtick.
-fn shortest_micro(params: &Params) -> i128
+pub(crate) fn shortest_micro(params: &Params) -> i128
     ensures value { result ≡ pos (shortest_micro params.now) }
-    ensures within { IsBetween (pos 2) (pos 1_000_000_000_000) result }
+    ensures within { IsBetween (pos 998_500) (pos 1_001_500) result }
 {
     (1_000_000 - params.natural(ParamName::xRateBound)) as i128
 }
 
 // The ticks of the longest microtick.
-fn longest_micro(params: &Params) -> i128
+pub(crate) fn longest_micro(params: &Params) -> i128
     ensures value { result ≡ pos (longest_micro params.now) }
-    ensures within { IsBetween (pos 2) (pos 1_000_000_000_000) result }
+    ensures within { IsBetween (pos 998_500) (pos 1_001_500) result }
 {
     (1_000_000 + params.natural(ParamName::xRateBound)) as i128
 }

@@ -2,7 +2,7 @@ ghost use Rattle.std.specs.Prelude.{◌≡◌, pos, map, All};
 ghost use Rattle.fr_base.specs.Within.{IsBetween, IsWithin};
 ghost use Rattle.fr_course.specs.Corners.{corner_place};
 ghost use Rattle.fr_course.specs.Near.{IsNearCourse, IsReadingScale, EndWithin};
-ghost use Rattle.fr_course.specs.Spread.{least_at, least_distance, least_even_skew, least_from, least_odd_skew, most_at, most_distance, most_even_skew, most_from, most_odd_skew};
+ghost use Rattle.fr_course.specs.Spread.{least_at, least_distance, least_even_skew, least_from, least_odd_skew, lengths_apart, most_at, most_distance, most_even_skew, most_from, most_odd_skew, starts_apart};
 
 use crate::corners::{even_start, even_turn, odd_start, odd_turn};
 use crate::courses::Course;
@@ -10,13 +10,14 @@ use crate::intervals::Interval;
 use crate::readings::{least_ticks, most_ticks};
 use crate::scales::Scale;
 
-// A corner of a course.
+// A corner of a course, or the length of its cycles.
 #[derive(Clone, Copy)]
 pub(crate) enum Corner {
     EvenStart,
     EvenTurn,
     OddStart,
     OddTurn,
+    Length,
 }
 
 /// The skew of the even cycle of nodes with these courses is no less, in ticks; 0 of none.
@@ -64,6 +65,33 @@ pub fn most_odd_skew(scale: &Scale, courses: &[Course], next: &[Course]) -> i64
     let turns = most_at(scale, Corner::OddTurn, courses) + scale.micro_to;
     let ends = most_at(scale, Corner::EvenStart, next);
     most_ticks(scale.drift, starts.max(turns.max(ends)) + scale.micro_to) as i64
+}
+
+/// How far apart the even starts of nodes with these courses lie, in ticks: the greatest distance of two, from the least
+/// to the greatest number that it can be; 0 of one alone and of none.
+pub fn starts_apart(scale: &Scale, courses: &[Course]) -> Interval
+    requires scale { IsReadingScale scale.now }
+    requires courses { All (IsNearCourse scale.now) courses.now }
+    ensures value { result ≡ starts_apart scale.now courses.now }
+    ensures near { EndWithin (pos 6_200_000_000_000_000_000) result }
+{
+    Interval {
+        low: least_ticks(scale.drift, least_at(scale, Corner::EvenStart, courses)),
+        high: most_ticks(scale.drift, most_at(scale, Corner::EvenStart, courses)),
+    }
+}
+
+/// How far apart the lengths of their cycles lie, in ticks.
+pub fn lengths_apart(scale: &Scale, courses: &[Course]) -> Interval
+    requires scale { IsReadingScale scale.now }
+    requires courses { All (IsNearCourse scale.now) courses.now }
+    ensures value { result ≡ lengths_apart scale.now courses.now }
+    ensures near { EndWithin (pos 6_200_000_000_000_000_000) result }
+{
+    Interval {
+        low: least_ticks(scale.drift, least_at(scale, Corner::Length, courses)),
+        high: most_ticks(scale.drift, most_at(scale, Corner::Length, courses)),
+    }
 }
 
 // How far apart a corner of any two courses lies at least: 0 of one alone and of none.
@@ -130,7 +158,7 @@ fn most_from(scale: &Scale, corner: Corner, point: &Interval, courses: &[Course]
     most
 }
 
-// Where a corner of a course can lie.
+// Where a corner of a course can lie, or how long its cycles can be.
 fn corner_place(scale: &Scale, corner: Corner, course: &Course) -> Interval
     requires scale { IsReadingScale scale.now }
     requires course { IsNearCourse scale.now course.now }
@@ -142,6 +170,7 @@ fn corner_place(scale: &Scale, corner: Corner, course: &Course) -> Interval
         Corner::EvenTurn => even_turn(scale, course),
         Corner::OddStart => odd_start(scale, course),
         Corner::OddTurn => odd_turn(scale, course),
+        Corner::Length => course.length,
     }
 }
 

@@ -1,0 +1,117 @@
+ghost use Rattle.std.specs.Prelude.{◌≡◌, ◌+ℤ◌, ℤ, pos, int_lt, if◌then◌else◌};
+ghost use Rattle.fr_base.specs.Within.{IsBetween, IsWithin};
+ghost use Rattle.fr_course.specs.Computed.{further_by, measuring_of, values_from, counted_in, values_to};
+ghost use Rattle.fr_course.specs.Near.{EndWithin, IsMeasuring};
+
+use crate::intervals::Interval;
+use crate::quotients::floor;
+use crate::scales::{longest_micro, shortest_micro};
+use fr_bound::{arrival_error, bounds};
+use fr_cluster::{ParamName, Params};
+
+/// How the nodes of a cluster measure.
+#[derive(Clone, Copy, Debug, PartialEq, Eq)]
+pub struct Measuring {
+    /// The error of an arrival, in ticks.
+    pub arrival_error: i128,
+    /// How far a rate value may place the length of a sender's cycle from the true one, in ticks.
+    pub rate_error: i128,
+    /// The shortest microtick, in ticks.
+    pub shortest: i128,
+    /// The longest microtick, in ticks.
+    pub longest: i128,
+    /// The damping of rate terms, in microticks.
+    pub damping: i128,
+}
+
+impl Measuring {
+    /// How the nodes of these parameters measure.
+    pub fn of(params: &Params) -> Measuring
+        ensures value { result ≡ measuring_of params.now }
+        ensures sane { IsMeasuring result }
+    {
+        Measuring {
+            arrival_error: arrival_error(params) as i128,
+            rate_error: bounds(params).y1 as i128,
+            shortest: shortest_micro(params),
+            longest: longest_micro(params),
+            damping: params.natural(ParamName::pClusterDriftDamping) as i128,
+        }
+    }
+}
+
+// What a receiver can have counted of so many ticks with an error, in microticks: from the least to the greatest.
+pub(crate) fn counted_in(measuring: &Measuring, error: i128, ticks: &Interval) -> Interval
+    requires measuring { IsMeasuring measuring.now }
+    requires error { IsBetween (pos 0) (pos 10_000_000_000_000_000_000) error }
+    requires ticks { EndWithin (pos 6_200_000_000_000_000_000) ticks.now }
+    ensures value { result ≡ counted_in measuring.now error ticks.now }
+    ensures near { EndWithin (pos 21_000_000_000_000) result }
+{
+    let off = further_by(error, ticks);
+    Interval {
+        low: values_from(measuring, off.low),
+        high: values_to(measuring, off.high),
+    }
+}
+
+// An interval that goes so much farther at both ends.
+pub(crate) fn further_by(more: i128, interval: &Interval) -> Interval
+    requires more { IsBetween (pos 0) (pos 10_000_000_000_000_000_000) more }
+    requires interval { EndWithin (pos 6_200_000_000_000_000_000) interval.now }
+    ensures value { result ≡ further_by more interval.now }
+    ensures near { (bound : ℤ) → EndWithin bound interval.now → EndWithin (bound +ℤ more) result }
+{
+    Interval {
+        low: interval.low - more,
+        high: interval.high + more,
+    }
+}
+
+// The least number of a receiver's microticks that so many ticks are, rounded down.
+fn values_from(measuring: &Measuring, ticks: i128) -> i128
+    requires measuring { IsMeasuring measuring.now }
+    requires ticks { IsWithin (pos 20_000_000_000_000_000_000) ticks }
+    ensures value { result ≡ values_from measuring.now ticks }
+    ensures within { IsWithin (pos 21_000_000_000_000) result }
+{
+    floor(ticks, outer_measure(measuring, ticks))
+}
+
+// The greatest number of them.
+fn values_to(measuring: &Measuring, ticks: i128) -> i128
+    requires measuring { IsMeasuring measuring.now }
+    requires ticks { IsWithin (pos 20_000_000_000_000_000_000) ticks }
+    ensures value { result ≡ values_to measuring.now ticks }
+    ensures within { IsWithin (pos 21_000_000_000_000) result }
+{
+    floor(ticks, inner_measure(measuring, ticks))
+}
+
+// The microtick of which so many ticks are the least number.
+fn outer_measure(measuring: &Measuring, ticks: i128) -> i128
+    requires { IsMeasuring measuring.now }
+    ensures value { result ≡
+        (if int_lt ticks (pos 0) then measuring.now.shortest else measuring.now.longest) }
+    ensures within { IsBetween (pos 998_500) (pos 1_001_500) result }
+{
+    if ticks < 0 {
+        measuring.shortest
+    } else {
+        measuring.longest
+    }
+}
+
+// The microtick of which they are the greatest number.
+fn inner_measure(measuring: &Measuring, ticks: i128) -> i128
+    requires { IsMeasuring measuring.now }
+    ensures value { result ≡
+        (if int_lt ticks (pos 0) then measuring.now.longest else measuring.now.shortest) }
+    ensures within { IsBetween (pos 998_500) (pos 1_001_500) result }
+{
+    if ticks < 0 {
+        measuring.longest
+    } else {
+        measuring.shortest
+    }
+}
