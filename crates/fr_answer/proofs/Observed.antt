@@ -2,7 +2,7 @@
 use Rattle.std.proofs.Common.{inl, refl, sym, ◌∙◌}
 use Rattle.fr_cluster.specs.Values.{Values}
 use Rattle.fr_log.specs.Files.{log_file}
-use Rattle.fr_observe.specs.Observing.{observe_text}
+use Rattle.fr_findings.specs.Text.{observe_text}
 use Rattle.fr_params.specs.Files.{params_file}
 use Rattle.fr_text.proofs.Commands.{decided}
 use Rattle.fr_text.proofs.Defining.{one_status, some_status}

@@ -40,7 +40,7 @@ use Rattle.fr_verdict.specs.RunFits.{IsFitting, RunsFit}
 use Rattle.fr_verdict.specs.Runs.{trace_of_run}
 use Rattle.fr_verdict.specs.declared.unlawful.Unlawful.{Unlawful}
 use Rattle.fr_verdict.specs.declared.unlawful.Verdict.{Verdict}
-use Rattle.fr_answer.specs.Rounds.{WhatIsTracedAloneIsChecked, WhatIsTracedIsChecked, verdict_of}
+use Rattle.fr_answer.specs.Rounds.{WhatIsTracedAloneIsChecked, WhatIsTracedIsChecked, told_verdict}
 
 -- ---- a trace that passes has a verdict
 
@@ -58,7 +58,7 @@ never-said p t said passes refusal = by refusal.answered
 
 -- ---- its lines are those of what is told of the run
 
-verdict-is : (x : Setting) (h : Cycles) (v : Verdict) → TellsGreatest x h v → verdict_text x.params (trace_of_run x h) v ≡ verdict_of (run_told x None h) v.synced
+verdict-is : (x : Setting) (h : Cycles) (v : Verdict) → TellsGreatest x h v → verdict_text x.params (trace_of_run x h) v ≡ told_verdict (run_told x None h) v.synced
 unfolding run_told
 verdict-is x h v tells =
     let named : length (trace_of_run x h).arbitrary ≡ length (filter (λ (node : NodeSpec). x.is_arbitrary node.id) x.params.nodes) = length-map (filter (λ (node : NodeSpec). x.is_arbitrary node.id) x.params.nodes) (λ (node : NodeSpec). node.id) in

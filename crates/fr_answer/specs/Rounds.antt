@@ -34,8 +34,8 @@ use Rattle.fr_verdict.specs.CoveredRuns.{IsPassing, IsSyncByTrace}
 -- what is told of a run in the lines of a verdict, with a first double cycle in sync or none: how many nodes and
 -- arbitrary nodes and double cycles there are, the precision, that double cycle or none, and the greatest skew with its
 -- first place
-abbrev pub verdict_of : Told → Option ℕ → List ℕ
-verdict_of told synced =
+abbrev pub told_verdict : Told → Option ℕ → List ℕ
+told_verdict told synced =
     line (codes "trace nodes " ++ decimal told.nodes ++ codes " arbitrary " ++ decimal told.arbitrary ++ codes " doubles " ++ decimal told.doubles)
     ++ line (precision_text told.precision)
     ++ line (sync_text synced)
@@ -49,7 +49,7 @@ pub record TellTheSame (AreSynced : Option ℕ → Option ℕ → Type 0) (verdi
   pub reported : report ≡ told_text told
   pub synced : Option ℕ
   pub are_synced : AreSynced told.synced synced
-  pub judged : verdict ≡ verdict_of told synced
+  pub judged : verdict ≡ told_verdict told synced
 
 -- both tell the same one, or both tell none
 abbrev pub IsSameSync : Option ℕ → Option ℕ → Type 0

@@ -1,6 +1,5 @@
-ghost use Rattle.std.specs.Prelude.{◌≡◌, All, IfErr, IfOk};
-ghost use Rattle.fr_observe.specs.Ranges.{DoublesAscend};
-ghost use Rattle.fr_observe.specs.Sightings.{IsSighting, sightings_of, tally_of};
+ghost use Rattle.std.specs.Prelude.{◌≡◌, IfErr, IfOk};
+ghost use Rattle.fr_findings.specs.Text.{AreGathered};
 ghost use Rattle.fr_program.specs.Around.{around_of};
 ghost use Rattle.fr_program.specs.Command.{CommandEnds};
 ghost use Rattle.fr_program.specs.Failure.{EndingWritesNothing};
@@ -10,10 +9,11 @@ ghost use Rattle.fr_answer.specs.ObserveAnswer.{observe_command, observe_files};
 
 use fr_base::{Shelf, Sink};
 use fr_cluster::Params;
+use fr_findings::write_observed;
 use fr_log::{Log, LogFile};
-use fr_observe::{SightingList, sightings, write_observed};
 use fr_params::ParamsFile;
 use fr_program::Failure;
+use fr_sightings::{SightingList, sightings};
 use fr_text::{Told, accepted};
 use std::alloc::Global;
 
@@ -51,10 +51,7 @@ pub fn answer_observe<S: Shelf, O: Sink>(
 
 // The sightings of a log.
 fn seen_in(alloc: Global, params: &Params, log: &Log) -> Result<SightingList, Told>
-    ensures list { IfOk result (λ seen. seen.list ≡ sightings_of params.now log.now) }
-    ensures tally { IfOk result (λ seen. seen.tally ≡ tally_of params.now log.now) }
-    ensures proper { IfOk result (λ seen. All (IsSighting params.now log.now) seen.list) }
-    ensures ascend { IfOk result (λ seen. DoublesAscend seen.list) }
+    ensures gathered { IfOk result (AreGathered params.now log.now) }
     ensures failed { IfErr result (λ why. why ≡ no_memory) }
 {
     match sightings(alloc, params, log) {

@@ -1,6 +1,6 @@
 use fr_log::read;
-use fr_observe::{Sighting, SightingList, Tally, sightings};
 use fr_samples::params_of;
+use fr_sightings::{Sighting, SightingList, Tally, sightings};
 use std::alloc::{AllocError, Global};
 use std::test::Fail;
 
@@ -11,9 +11,9 @@ const NODES: &str = "node,1,1,AB,1\nnode,2,2,A,1\nnode,3,140,A,0\nslot,4,1,0,1\n
 // A cycle is 5,000,000 units long.
 const HEAD: &str = "unit,40000,,,\ndrift,50,,,\ndelay,,,0,0\n";
 
-// The other records of a log; of each sighting its number, node, channel and stamp; how many entries are sightings,
-// damaged, of an arbitrary node, of another kind, strays, and behind a silence.
-const LOGS: &[(&str, &str, &str)] = &[
+// The other records of a log; of each sighting, and of each frame that does not come in time, its number, node, channel
+// and stamp; how many entries are sightings, damaged, of an arbitrary node, of another kind, strays, and behind a silence.
+const LOGS: &[(&str, &str, &str, &str)] = &[
     // Two nodes in two cycles.
     (
         "\
@@ -23,6 +23,7 @@ frame,5007000,A,3801006F0179B420,\n\
 head,5037062,A,380200E8C1,\n\
 ",
         "0 1 A 7000, 0 2 A 37062, 1 1 A 5007000, 1 2 A 5037062, ",
+        "",
         "4 0 0 0 0 0",
     ),
     // A count that jumps.
@@ -33,6 +34,7 @@ head,5007000,A,3801006F09,\n\
 head,10007000,A,3801006F02,\n\
 ",
         "0 1 A 7000, 2 1 A 10007000, ",
+        "0 1 A 5007000, ",
         "2 0 0 0 1 0",
     ),
     // The count begins again.
@@ -42,6 +44,7 @@ head,7000,A,3801006F3F,\n\
 head,5007000,A,3801006F00,\n\
 ",
         "63 1 A 7000, 64 1 A 5007000, ",
+        "",
         "2 0 0 0 0 0",
     ),
     // The count of the cycle before, in one double cycle and over two.
@@ -53,6 +56,7 @@ head,10007000,A,3801006F02,\n\
 head,10007000,A,308C00C981,\n\
 ",
         "1 1 A 5007000, 0 3 A 5007000, 2 1 A 10007000, ",
+        "",
         "3 0 0 0 1 0",
     ),
     // A silence of thirty cycles.
@@ -62,6 +66,7 @@ head,7000,A,3801006F00,\n\
 head,150007000,A,3801006F1E,\n\
 ",
         "0 1 A 7000, 30 1 A 150007000, ",
+        "",
         "2 0 0 0 0 0",
     ),
     // A longer one.
@@ -72,6 +77,7 @@ head,150007001,A,3801006F1E,\n\
 head,155007000,A,3801006F1F,\n\
 ",
         "0 1 A 7000, ",
+        "",
         "1 0 0 0 0 2",
     ),
     // Unused, dynamic and further slots.
@@ -81,6 +87,7 @@ head,7000,A,3809016440,\n\
 head,7000,A,388D000C80,\n\
 head,7000,A,2004002F80,\n\
 ",
+        "",
         "",
         "0 0 0 3 0 0",
     ),
@@ -95,6 +102,7 @@ head,7000,A,3801006F0000,\n\
 frame,7000,A,3801006F0024D9E5,\n\
 ",
         "",
+        "",
         "0 6 0 0 0 0",
     ),
     // An arbitrary node.
@@ -105,6 +113,7 @@ head,7000,A,3801006F00,\n\
 head,37000,A,380200E8C0,\n\
 ",
         "0 1 A 7000, ",
+        "",
         "1 0 1 0 0 0",
     ),
     // Two clocks.
@@ -116,6 +125,7 @@ head,5007000,A,3801006F01,\n\
 head,8037000,A,380200E8C1,\n\
 ",
         "0 1 A 7000, 1 1 A 5007000, ",
+        "0 2 A 3037000, 1 2 A 8037000, ",
         "2 0 0 0 2 0",
     ),
     // Channels.
@@ -126,6 +136,7 @@ head,7001,B,3801006F00,\n\
 head,37000,B,380200E8C0,\n\
 ",
         "0 1 A 7000, 0 1 B 7001, ",
+        "",
         "2 0 0 1 0 0",
     ),
     // Forms.
@@ -138,6 +149,7 @@ head,4177000,A,308C00C980,\n\
 head,4177000,A,388C0071C0,\n\
 ",
         "0 1 A 7000, 0 3 A 4177000, ",
+        "",
         "2 0 0 3 0 0",
     ),
 ];
@@ -155,9 +167,9 @@ fn sighting_shown(alloc: Global, sighting: &Sighting) -> Result<String, AllocErr
     format!(in alloc; "{number} {node} {channel:?} {stamp}, ")
 }
 
-fn list_shown(alloc: Global, found: &SightingList) -> Result<String, AllocError> {
+fn list_shown(alloc: Global, frames: &[Sighting]) -> Result<String, AllocError> {
     let mut text = String::new(alloc);
-    for sighting in found.as_slice() {
+    for sighting in frames {
         text.push_str(sighting_shown(alloc, sighting)?.as_str())?;
     }
     Ok(text)
@@ -171,11 +183,16 @@ fn tally_shown(alloc: Global, tally: &Tally) -> Result<String, AllocError> {
 
 #[test]
 fn logs_have_their_sightings(rt: HostRuntime) -> Result<(), Fail> {
-    for (rows, list, tally) in LOGS {
+    for (rows, list, late, tally) in LOGS {
         let found = found_in(rt.alloc(), rows)?;
         assert_eq!(rt;
-            list_shown(rt.alloc(), &found)?.as_str(),
+            list_shown(rt.alloc(), found.as_slice())?.as_str(),
             *list,
+            "at {rows:?}"
+        );
+        assert_eq!(rt;
+            list_shown(rt.alloc(), found.untimely())?.as_str(),
+            *late,
             "at {rows:?}"
         );
         assert_eq!(rt;

@@ -1,10 +1,5 @@
-pub mod Quotients
-pub mod Headers
-pub mod Senders
-pub mod Proper
-pub mod Passed
-pub mod Rising
-pub mod Gathering
-pub mod Printing
-pub mod Windows
-pub mod Silence
+pub mod Onward
+pub mod Told
+pub mod Others
+pub mod Beyond
+pub mod Firsts

@@ -1,8 +1,5 @@
 -- what the public contract cites
-pub mod Judging
-pub mod Sightings
-pub mod Senders
 pub mod Observing
-pub mod Ranges
--- what only functions inside cite
-pub mod Passing
+pub mod Faults
+pub mod Telling
+pub mod Skews

@@ -1,27 +1,22 @@
 -- What a log tells of a cluster's clocks, as a text: records of eight fields. Skews and the precision are in ticks, lengths in
 -- ticks of the observer's clock, offset terms in microticks; a number that is not known is a dash.
-use Rattle.std.specs.Prelude.{ℕ, ◌+◌, ◌-◌, ◌*◌, ℤ, pos, int_le, int_lt, Bool, true, false, List, [], ◌∷◌, ◌++◌, codes, length, map, Option, Some, None, if◌then◌else◌}
+use Rattle.std.specs.Prelude.{ℕ, ◌+◌, ◌-◌, ◌*◌, ℤ, int_le, int_lt, List, [], ◌∷◌, ◌++◌, codes, length, map, Option, Some, None, if◌then◌else◌}
 use Rattle.std.specs.Fmt.{decimal, signed_decimal}
-use Rattle.std.specs.List.{count_by, flat_map, range_with_len, slice_get}
+use Rattle.std.specs.List.{flat_map, range_with_len, slice_get}
 use Rattle.std.specs.Option.{option_map}
-use Rattle.fr_bound.specs.Bounds.{precision_of}
 use Rattle.fr_cluster.specs.Values.{Values}
 use Rattle.fr_text.specs.Pieces.{line}
 use Rattle.fr_log.specs.View.{LogView}
-use Rattle.fr_course.specs.Readings.{reading_scale}
 use Rattle.fr_course.specs.declared.intervals.Interval.{Interval}
 use Rattle.fr_course.specs.declared.scales.Scale.{Scale}
 use Rattle.fr_course.specs.declared.courses.Course.{Course}
 use Rattle.fr_course.specs.Spread.{least_even_skew, least_odd_skew, most_even_skew, most_odd_skew}
 use Rattle.fr_course.specs.Terms.{offset_seen}
-use Rattle.fr_observe.specs.Senders.{double_of, seen_senders, sightings_in}
-use Rattle.fr_observe.specs.Sightings.{sightings_of, tally_of}
-use Rattle.fr_observe.specs.declared.counts.Counts.{Counts}
+use Rattle.fr_sightings.specs.Senders.{double_of, seen_senders, sightings_in}
 use Rattle.fr_observe.specs.declared.says.Says.{Says}
 use Rattle.fr_observe.specs.declared.says.Says.TheVariants.{Over, Within, Open}
-use Rattle.fr_observe.specs.declared.sender.Sender.{Sender}
-use Rattle.fr_observe.specs.declared.sighting.Sighting.{Sighting}
-use Rattle.fr_observe.specs.declared.sighting.Tally.{Tally}
+use Rattle.fr_sightings.specs.declared.sender.Sender.{Sender}
+use Rattle.fr_sightings.specs.declared.sighting.Sighting.{Sighting}
 
 -- ---- fields
 
@@ -123,60 +118,7 @@ both_say precision scale senders =
     ∷ says_of precision (odd_low scale senders) (odd_high scale senders)
     ∷ []
 
-abbrev pub is_within : Says → Bool
-is_within Within = true
-is_within Over = false
-is_within Open = false
-
-abbrev pub is_over : Says → Bool
-is_over Over = true
-is_over Within = false
-is_over Open = false
-
-abbrev pub is_open : Says → Bool
-is_open Open = true
-is_open Within = false
-is_open Over = false
-
--- how many there are of each, beside others
-abbrev pub counted : Counts → List Says → Counts
-counted counts said =
-    record {
-      within = counts.within + count_by is_within said;
-      over = counts.over + count_by is_over said;
-      neither = counts.neither + count_by is_open said;
-    }
-
-abbrev pub no_cycles_told : Counts
-no_cycles_told = record { within = 0; over = 0; neither = 0 }
-
-abbrev pub cycle_counts : List Says → Counts
-cycle_counts said = counted no_cycles_told said
-
 -- ---- the log
-
--- what became of its entries
-abbrev pub log_row : Tally → List ℕ
-log_row t =
-    row (codes "log")
-    (
-    decimal t.judged ∷ decimal t.damaged ∷ decimal t.arbitrary ∷ decimal t.other ∷ decimal t.stray ∷ decimal t.behind ∷ [] ∷ []
-    )
-
--- the first and the last of its cycles that have rows, and how many of them say what
-abbrev pub first_row_cycle : List Sighting → Option ℕ
-first_row_cycle seen = option_map (λ s. 2 * double_of s) (slice_get seen 0)
-
-abbrev pub last_row_cycle : List Sighting → Option ℕ
-last_row_cycle seen = option_map (λ s. 2 * double_of s + 1) (slice_get seen (length seen - 1))
-
-abbrev pub cycles_told : List Sighting → Counts → List ℕ
-cycles_told seen counts =
-    row (codes "cycles")
-    (
-    known_count (first_row_cycle seen) ∷ known_count (last_row_cycle seen)
-    ∷ decimal counts.within ∷ decimal counts.over ∷ decimal counts.neither ∷ [] ∷ [] ∷ []
-    )
 
 -- the double cycles from that of the first sighting to that of the last
 abbrev pub doubles_between : Option Sighting → Option Sighting → List ℕ
@@ -194,29 +136,5 @@ unfoldable pub senders_of : Scale → Values → LogView → List Sighting → �
 senders_of scale p l seen double =
     seen_senders scale p l (sightings_in seen double) (sightings_in seen (double + 1)) double
 
-abbrev pub double_told : ℤ → Scale → Values → LogView → List Sighting → ℕ → List ℕ
-double_told precision scale p l seen double = double_rows precision scale double (senders_of scale p l seen double)
-
-abbrev pub double_says : ℤ → Scale → Values → LogView → List Sighting → ℕ → List Says
-double_says precision scale p l seen double = both_say precision scale (senders_of scale p l seen double)
-
-unfoldable pub doubles_rows : ℤ → Scale → Values → LogView → List Sighting → List ℕ → List ℕ
-doubles_rows precision scale p l seen doubles = flat_map (double_told precision scale p l seen) doubles
-
-unfoldable pub doubles_say : ℤ → Scale → Values → LogView → List Sighting → List ℕ → List Says
-doubles_say precision scale p l seen doubles = flat_map (double_says precision scale p l seen) doubles
-
 abbrev pub precision_row : ℤ → List ℕ
 precision_row precision = row (codes "precision") (signed_decimal precision ∷ [] ∷ [] ∷ [] ∷ [] ∷ [] ∷ [] ∷ [])
-
--- each double cycle and what became of the entries, by the sightings of a log; behind the precision
-unfoldable pub rest_by : ℤ → Scale → Values → LogView → List Sighting → Tally → List ℕ
-rest_by precision scale p l seen tally =
-    doubles_rows precision scale p l seen (seen_doubles seen)
-    ++ (log_row tally ++ cycles_told seen (cycle_counts (doubles_say precision scale p l seen (seen_doubles seen))))
-
-unfoldable pub text_by : ℤ → Scale → Values → LogView → List Sighting → Tally → List ℕ
-text_by precision scale p l seen tally = precision_row precision ++ rest_by precision scale p l seen tally
-
-unfoldable pub observe_text : Values → LogView → List ℕ
-observe_text p l = text_by (pos (precision_of p)) (reading_scale l.drift p) p l (sightings_of p l) (tally_of p l)

@@ -1,7 +1,8 @@
 ghost use Rattle.std.specs.Prelude.{◌≡◌, ◌<◌, [], ◌∷◌, ◌++◌, length};
 
 use fr_base::ROW_ROOM;
-use fr_course::{Course, Interval};
+use fr_course::Course;
+use fr_sightings::no_course;
 use std::marker::Model;
 
 // The courses of nodes, one of each at most: contracts see their list. No call takes memory.
@@ -20,18 +21,6 @@ impl Model for CourseList {
     ghost view = { λ list. take list.used list.courses };
 
     ghost invariant = { λ list. list.used ≤ 64 };
-}
-
-// What stands in the places that are not in use.
-pub(crate) fn no_course() -> Course {
-    let nowhere = Interval { low: 0, high: 0 };
-    Course {
-        action: 0,
-        even: nowhere,
-        odd: nowhere,
-        apart: nowhere,
-        length: nowhere,
-    }
 }
 
 impl CourseList {

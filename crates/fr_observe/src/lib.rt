@@ -1,31 +1,25 @@
-//! What one bus analyzer tells for certain of a cluster's clocks: which frames of its log say where a sender's clock
-//! was, and the text of what follows.
+//! What a double cycle of a log tells for certain of a cluster's clocks, by its sightings: the skew of those that send, their
+//! lengths and terms, and what contradicts lawful runs.
 #![tactic(auto)]
 
-mod counts;
 mod course_list;
-mod gathered;
-mod intervals;
-mod judging;
-mod laws;
-mod looking;
-mod numbering;
-mod observing;
-mod placing;
+mod fault;
+mod first_list;
+mod missing;
+mod nodes;
+mod own_faults;
 mod rows;
 mod says;
-mod sender;
-mod sending;
-mod sighting;
+mod sender_faults;
 mod skews;
-mod walking;
-mod writing;
+mod sync_faults;
+mod synced;
+mod telling;
 
-pub use counts::Counts;
-pub use gathered::SightingList;
-pub use laws::silence_ends_all;
-pub use observing::write_observed;
+pub use fault::{Fault, FaultKind, LogSpan, SyncFrom, known_node};
+pub use own_faults::put_own_faults;
+pub use rows::{cycle_row, node_row, precision_row};
 pub use says::Says;
-pub use sender::Sender;
-pub use sighting::{Fate, Sighting, Tally};
-pub use walking::sightings;
+pub use skews::{Skews, skews_of};
+pub use sync_faults::put_sync_faults;
+pub use synced::{is_sync_seen, sync_behind};

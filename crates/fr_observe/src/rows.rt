@@ -1,23 +1,20 @@
-ghost use Rattle.std.specs.Prelude.{◌≡◌, ◌+◌, ◌*◌, pos, IfSome};
+ghost use Rattle.std.specs.Prelude.{◌≡◌, pos, IfSome};
 ghost use Rattle.std.specs.Fmt.{decimal, signed_decimal};
 ghost use Rattle.std.specs.Option.{option_map};
 ghost use Rattle.fr_base.specs.Within.{IsWithin};
 ghost use Rattle.fr_course.specs.Near.{IsReadingScale, EndWithin};
-ghost use Rattle.fr_time.specs.Cycles.{double_cycle_of};
 ghost use Rattle.fr_text.specs.Pieces.{Spells};
-ghost use Rattle.fr_observe.specs.Observing.{cycle_row, cycles_told, first_row_cycle, known, known_count, last_row_cycle, log_row, node_row, precision_row, terms_of};
-ghost use Rattle.fr_observe.specs.Ranges.{IsProperSender};
+ghost use Rattle.fr_observe.specs.Observing.{cycle_row, known, node_row, precision_row, terms_of};
+ghost use Rattle.fr_sightings.specs.Ranges.{IsProperSender};
 
-use crate::counts::Counts;
 use crate::says::Says;
-use crate::sender::Sender;
-use crate::sighting::{Sighting, Tally};
 use fr_course::{Interval, Scale, offset_seen};
+use fr_sightings::Sender;
 use fr_text::Piece::{Natural, Signed, Word};
 use fr_text::{Line, Piece, row_of};
 
 // A number, if it is known.
-fn known(number: Option<i64>) -> Piece<'static>
+pub(crate) fn known(number: Option<i64>) -> Piece<'static>
     ensures { Spells result (known number) 20 }
 {
     match number {
@@ -26,17 +23,8 @@ fn known(number: Option<i64>) -> Piece<'static>
     }
 }
 
-fn known_count(number: Option<u64>) -> Piece<'static>
-    ensures { Spells result (known_count number) 20 }
-{
-    match number {
-        None => Word(b"-"),
-        Some(number) => Natural(number),
-    }
-}
-
-// The precision, in ticks.
-pub(crate) fn precision_row(precision: i64) -> Line
+/// The precision, in ticks, as a record.
+pub fn precision_row(precision: i64) -> Line
     ensures { result ≡ precision_row precision }
 {
     row_of(
@@ -53,15 +41,9 @@ pub(crate) fn precision_row(precision: i64) -> Line
     )
 }
 
-// A cycle: how many nodes sent, and the limits of their skew in ticks.
+/// A cycle as a record: how many nodes sent, the limits of their skew in ticks, and what these say.
 #[tactic(auto, unfolding(crate::specs::Observing::cycle_row))]
-pub(crate) fn cycle_row(
-    precision: i64,
-    cycle: u32,
-    senders: usize,
-    low: i64,
-    high: Option<i64>,
-) -> Line
+pub fn cycle_row(precision: i64, cycle: u32, senders: usize, low: i64, high: Option<i64>) -> Line
     ensures { result ≡ cycle_row precision cycle senders low high }
 {
     row_of(
@@ -80,7 +62,7 @@ pub(crate) fn cycle_row(
 
 // The limits of the offset term of a sender, in microticks.
 #[tactic(auto, unfolding(crate::specs::Observing::terms_of))]
-fn terms_of(scale: &Scale, sender: &Sender) -> Option<Interval>
+pub(crate) fn terms_of(scale: &Scale, sender: &Sender) -> Option<Interval>
     requires scale { IsReadingScale scale.now }
     requires sender { IsProperSender scale.now sender.now }
     ensures value { result ≡ terms_of scale.now sender.now }
@@ -143,9 +125,10 @@ fn natural(value: u64) -> Piece<'static>
     Natural(value)
 }
 
-// A sender: the limits of the length of its cycles, and of its offset term.
+/// A sender as a record: the limits of the length of its cycles, in ticks of the observer's clock, and of its offset term,
+/// in microticks.
 #[tactic(auto, unfolding(crate::specs::Observing::node_row))]
-pub(crate) fn node_row(scale: &Scale, double: u32, sender: &Sender) -> Line
+pub fn node_row(scale: &Scale, double: u32, sender: &Sender) -> Line
     requires scale { IsReadingScale scale.now }
     requires sender { IsProperSender scale.now sender.now }
     ensures { result ≡ node_row scale.now double sender.now }
@@ -159,73 +142,6 @@ pub(crate) fn node_row(scale: &Scale, double: u32, sender: &Sender) -> Line
             ticks(sender.course.length.high),
             least_term(scale, sender),
             most_term(scale, sender),
-            Word(b""),
-        ],
-    )
-}
-
-// What became of the entries of a log.
-pub(crate) fn log_row(tally: &Tally) -> Line
-    ensures { result ≡ log_row tally.now }
-{
-    row_of(
-        b"log",
-        &[
-            Natural(tally.judged),
-            Natural(tally.damaged),
-            Natural(tally.arbitrary),
-            Natural(tally.other),
-            Natural(tally.stray),
-            Natural(tally.behind),
-            Word(b""),
-        ],
-    )
-}
-
-// The even and the odd cycle of the double cycle of a cycle.
-fn even_of(number: u32) -> u64
-    ensures { result ≡ 2 * double_cycle_of number }
-{
-    u64::from(2 * (number / 2))
-}
-
-fn odd_of(number: u32) -> u64
-    ensures { result ≡ 2 * double_cycle_of number + 1 }
-{
-    u64::from(2 * (number / 2) + 1)
-}
-
-fn first_row_cycle(seen: &[Sighting]) -> Option<u64>
-    ensures { result ≡ first_row_cycle seen.now }
-{
-    match seen.first() {
-        None => None,
-        Some(first) => Some(even_of(first.number)),
-    }
-}
-
-fn last_row_cycle(seen: &[Sighting]) -> Option<u64>
-    ensures { result ≡ last_row_cycle seen.now }
-{
-    match seen.last() {
-        None => None,
-        Some(last) => Some(odd_of(last.number)),
-    }
-}
-
-// The first and the last cycle with a row, and how many of them say what.
-pub(crate) fn cycles_told(seen: &[Sighting], counts: &Counts) -> Line
-    ensures { result ≡ cycles_told seen.now counts.now }
-{
-    row_of(
-        b"cycles",
-        &[
-            known_count(first_row_cycle(seen)),
-            known_count(last_row_cycle(seen)),
-            Natural(counts.within),
-            Natural(counts.over),
-            Natural(counts.neither),
-            Word(b""),
             Word(b""),
         ],
     )

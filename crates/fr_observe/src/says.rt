@@ -13,8 +13,8 @@ pub enum Says {
 }
 
 impl Says {
-    // What limits say, in ticks, of which the upper one may be missing.
-    pub(crate) fn of(precision: i64, low: i64, high: Option<i64>) -> Says
+    /// What limits say, in ticks, of which the upper one may be missing.
+    pub fn of(precision: i64, low: i64, high: Option<i64>) -> Says
         ensures { result ≡ says_of precision low high }
     {
         if precision < low {

@@ -3,23 +3,24 @@ ghost use Rattle.std.specs.Option.{option_map};
 ghost use Rattle.fr_course.specs.Near.{IsNearCourse, IsReadingScale};
 ghost use Rattle.fr_course.specs.Spread.{most_odd_skew};
 ghost use Rattle.fr_observe.specs.Observing.{courses_of, next_courses, with_senders};
-ghost use Rattle.fr_observe.specs.Ranges.{AreSkews, IsProperSender};
+ghost use Rattle.fr_sightings.specs.Ranges.{IsProperSender};
+ghost use Rattle.fr_observe.specs.Skews.{AreSkews};
 
 use crate::course_list::CourseList;
-use crate::sender::Sender;
 use fr_course::{Course, Scale, least_even_skew, least_odd_skew, most_even_skew, most_odd_skew};
+use fr_sightings::Sender;
 
-// The limits of the skew of both cycles of a double cycle, in ticks; an upper one may be missing.
+/// The limits of the skew of both cycles of a double cycle, in ticks; an upper one may be missing.
 #[derive(Clone, Copy, Debug, PartialEq, Eq)]
-pub(crate) struct Skews {
-    pub(crate) even_low: i64,
-    pub(crate) even_high: Option<i64>,
-    pub(crate) odd_low: i64,
-    pub(crate) odd_high: Option<i64>,
+pub struct Skews {
+    pub even_low: i64,
+    pub even_high: Option<i64>,
+    pub odd_low: i64,
+    pub odd_high: Option<i64>,
 }
 
 // The courses of senders.
-fn courses_of(scale: &Scale, senders: &[Sender]) -> CourseList
+pub(crate) fn courses_of(scale: &Scale, senders: &[Sender]) -> CourseList
     requires few { length senders.now ≤ 64 }
     requires senders { All (IsProperSender scale.now) senders.now }
     ensures value { result ≡ courses_of senders.now }
@@ -71,9 +72,9 @@ fn next_skew(scale: &Scale, courses: &[Course], senders: &[Sender]) -> Option<i6
     }
 }
 
-// The limits of the skew of these senders.
+/// The limits of the skew of these senders.
 #[tactic(auto, unfolding(crate::specs::Observing::even_low, crate::specs::Observing::even_high, crate::specs::Observing::odd_low, crate::specs::Observing::odd_high))]
-pub(crate) fn skews_of(scale: &Scale, senders: &[Sender]) -> Skews
+pub fn skews_of(scale: &Scale, senders: &[Sender]) -> Skews
     requires scale { IsReadingScale scale.now }
     requires few { length senders.now ≤ 64 }
     requires senders { All (IsProperSender scale.now) senders.now }

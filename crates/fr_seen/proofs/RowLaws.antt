@@ -14,7 +14,7 @@ use Rattle.fr_course.specs.Terms.{offset_seen}
 use Rattle.fr_course.specs.declared.courses.Course.{Course}
 use Rattle.fr_course.specs.declared.scales.Scale.{Scale}
 use Rattle.fr_observe.specs.Observing.{all_there, courses_of, even_high, even_low, next_courses, odd_high, odd_low, terms_of, with_senders}
-use Rattle.fr_observe.specs.declared.sender.Sender.{Sender}
+use Rattle.fr_sightings.specs.declared.sender.Sender.{Sender}
 use Rattle.fr_seen.specs.Clocks.{IsWithinDrift, StraightClock}
 use Rattle.fr_seen.specs.Skews.{HasSkew, IsOnCourse, IsOnCourses, SeenNode, SeenTwice, StaysWithin}
 use Rattle.fr_seen.specs.LogSeen.{CycleRowsHold, GoesOnBy, HasBoth, IsSenderOn, NodeRowHolds, ObservedNextRowsHold, ObservedRowsHold, OddRowHolds, SenderGoesOn, TermHolds, log_senders, run_double, seen_in, seen_twice, sender_rows}

@@ -27,12 +27,12 @@ use Rattle.fr_course.specs.declared.intervals.Interval.{Interval}
 use Rattle.fr_course.specs.declared.scales.Scale.{Scale}
 use Rattle.fr_course.specs.declared.stamps.Delays.{Delays}
 use Rattle.fr_observe.specs.Observing.{senders_of}
-use Rattle.fr_observe.specs.Senders.{box_by, seen_box, box_on, course_in, delays_in, first_stamp, if_there, is_in, is_sent_in, observer_of, on_both_channels, own_slot, seen_sender_by, seen_sender, sender_on, seen_senders, sightings_in, span_by, seen_span, span_on}
-use Rattle.fr_observe.specs.Sightings.{IsSighting, sightings_of}
-use Rattle.fr_observe.specs.declared.sender.Sender.{Sender}
-use Rattle.fr_observe.specs.declared.sighting.Sighting.{Sighting}
-use Rattle.fr_observe.proofs.Proper.{both}
-use Rattle.fr_observe.proofs.Rising.{sightings_are_rising}
+use Rattle.fr_sightings.specs.Senders.{box_by, seen_box, box_on, course_in, delays_in, first_stamp, if_there, is_in, is_sent_in, observer_of, on_both_channels, own_slot, seen_sender_by, seen_sender, sender_on, seen_senders, sightings_in, span_by, seen_span, span_on}
+use Rattle.fr_sightings.specs.Sightings.{IsSighting, sightings_of}
+use Rattle.fr_sightings.specs.declared.sender.Sender.{Sender}
+use Rattle.fr_sightings.specs.declared.sighting.Sighting.{Sighting}
+use Rattle.fr_sightings.proofs.Proper.{both}
+use Rattle.fr_sightings.proofs.Rising.{sightings_are_rising}
 use Rattle.fr_seen.specs.Clocks.{StraightClock}
 use Rattle.fr_seen.specs.Observed.{ArePaired, ArePicked, HasRows, IsCourseBy, IsSentBy, IsSentIn, Picked, SentFrame, box_of, span_between}
 use Rattle.fr_seen.specs.RunRows.{IsTimedRun}
@@ -65,15 +65,15 @@ mapped_some {Y = Y} f (Some z) y is = (z, (refl, same (f z) y is))
     same a b is = cc is
 
 -- some that pass, whose intervals are those of a channel, or meet where both channels do
-record Picks {X : Type 0} (P : X → Type 0) (f : X → Interval) (on : Option Interval) : Type 0 where
-  some : List X
-  each : All P some
-  are : option_to_list on ≡ map f some
+pub record Picks {X : Type 0} (P : X → Type 0) (f : X → Interval) (on : Option Interval) : Type 0 where
+  pub some : List X
+  pub each : All P some
+  pub are : option_to_list on ≡ map f some
 
-record Meets {X : Type 0} (P : X → Type 0) (f : X → Interval) (met : Option Interval) : Type 0 where
-  some : List X
-  each : All P some
-  are : met ≡ meet_all (map f some)
+pub record Meets {X : Type 0} (P : X → Type 0) (f : X → Interval) (met : Option Interval) : Type 0 where
+  pub some : List X
+  pub each : All P some
+  pub are : met ≡ meet_all (map f some)
 
 picks_none : {X : Type 0} (P : X → Type 0) (f : X → Interval) → Picks P f None
 picks_none P f = record { some = []; each = All-nil P; are = refl }
@@ -106,18 +106,18 @@ module _ (x : Setting) (h : Cycles) (base : ℕ) (delays : ℕ → Channel → D
   Sightings = sightings_of x.params l
 
   -- a frame that a node sent in a slot of a cycle of the run, on a channel and with a stamp
-  record IsSentOn (node slot at : ℕ) (ch : Channel) (stamp : ℕ) : Type 0 where
-    sent : SentFrame
-    sent_so : IsSentBy is.sent node slot at sent
-    channel : sent.frame.channel ≡ ch
-    stamp_is : sent.frame.stamp ≡ pos stamp
+  pub record IsSentOn (node slot at : ℕ) (ch : Channel) (stamp : ℕ) : Type 0 where
+    pub sent : SentFrame
+    pub sent_so : IsSentBy is.sent node slot at sent
+    pub channel : sent.frame.channel ≡ ch
+    pub stamp_is : sent.frame.stamp ≡ pos stamp
 
-  all_proper : All (IsSighting x.params l) (sightings_of x.params l)
+  pub all_proper : All (IsSighting x.params l) (sightings_of x.params l)
   unfolding sightings_of
   all_proper = (sightings_are_rising x.params l l.entries sane is_log.entries).proper
 
   -- a sighting is such a frame
-  sent_by : (node slot cycle at : ℕ) (ch : Channel) (s : Sighting) → own_key x.params node ≡ Some slot → at ≡ cycle + base
+  pub sent_by : (node slot cycle at : ℕ) (ch : Channel) (s : Sighting) → own_key x.params node ≡ Some slot → at ≡ cycle + base
       → Contains (sightings_of x.params l) s → is_sent_in node ch cycle s ≡ true → IsSentOn node slot at ch s.stamp
   sent_by node slot cycle at ch s own at_is there passes =
       let one = both ((s.node == node) && (channel_rank s.channel == channel_rank ch)) (s.number == cycle) passes in
@@ -154,7 +154,7 @@ module _ (x : Setting) (h : Cycles) (base : ℕ) (delays : ℕ → Channel → D
       counted : (c n cycle b at : ℕ) (number : ℤ) → pos c ≡ number +ℤ pos b → number ≡ pos n → n ≡ cycle → at ≡ cycle + b → c ≡ at
       counted c n cycle b at number a e f g = omega (arith, ints)
 
-  sent_first : (node slot cycle at d : ℕ) (ch : Channel) (stamp : ℕ) → own_key x.params node ≡ Some slot → at ≡ cycle + base
+  pub sent_first : (node slot cycle at d : ℕ) (ch : Channel) (stamp : ℕ) → own_key x.params node ≡ Some slot → at ≡ cycle + base
       → first_stamp (sightings_in Sightings d) node ch cycle ≡ Some stamp → IsSentOn node slot at ch stamp
   unfolding first_stamp
   sent_first node slot cycle at d ch stamp own at_is first = by (find (is_sent_in node ch cycle) (sightings_in Sightings d)) refl first
@@ -190,7 +190,7 @@ module _ (x : Setting) (h : Cycles) (base : ℕ) (delays : ℕ → Channel → D
       picks_one (IsSentBy is.sent node slot at) (box_of (observer_of l) delays) f.sent (stamped (observer_of l) limit (pos stamp)) f.sent_so
       (sym (ap (λ t. stamped (observer_of l) (delays f.sent.node f.sent.frame.channel) t) f.stamp_is ∙ ap (λ e. stamped (observer_of l) e (pos stamp)) same))
 
-  box_meets : (node slot cycle at d : ℕ) → own_key x.params node ≡ Some slot → at ≡ cycle + base
+  pub box_meets : (node slot cycle at d : ℕ) → own_key x.params node ≡ Some slot → at ≡ cycle + base
       → Meets (IsSentBy is.sent node slot at) (box_of (observer_of l) delays) (seen_box l (sightings_in Sightings d) node cycle)
   unfolding seen_box
   box_meets node slot cycle at d own at_is =
@@ -239,24 +239,24 @@ module _ (x : Setting) (h : Cycles) (base : ℕ) (delays : ℕ → Channel → D
 
   -- ---- a course
 
-  record IsPicked (node slot double run : ℕ) (course : Course) : Type 0 where
-    picked : Picked
-    are : ArePicked is.sent node slot run picked
-    course_is : IsCourseBy x (observer_of l) delays slot picked course
+  pub record IsPicked (node slot double run : ℕ) (course : Course) : Type 0 where
+    pub picked : Picked
+    pub are : ArePicked is.sent node slot run picked
+    pub course_is : IsCourseBy x (observer_of l) delays slot picked course
 
-  even_at : (double run : ℕ) → run ≡ run_double base double → 2 * run ≡ 2 * double + base
+  pub even_at : (double run : ℕ) → run ≡ run_double base double → 2 * run ≡ 2 * double + base
   even_at double run run_is = twice base double run is.seen.whole_base run_is
     where
       twice : (b k r : ℕ) → b % 64 ≡ 0 → r ≡ k + b / 2 → 2 * r ≡ 2 * k + b
       twice b k r whole r_is = omega (arith, whole, r_is)
 
-  odd_at : (double run : ℕ) → run ≡ run_double base double → suc (2 * run) ≡ 2 * double + 1 + base
+  pub odd_at : (double run : ℕ) → run ≡ run_double base double → suc (2 * run) ≡ 2 * double + 1 + base
   odd_at double run run_is = more (2 * run) (2 * double) base (even_at double run run_is)
     where
       more : (r k b : ℕ) → r ≡ k + b → suc r ≡ k + 1 + b
       more r k b is = omega (arith, is)
 
-  is_picked : (node slot double run : ℕ) (course : Course) → own_key x.params node ≡ Some slot → run ≡ run_double base double
+  pub is_picked : (node slot double run : ℕ) (course : Course) → own_key x.params node ≡ Some slot → run ≡ run_double base double
       → course_in (reading_scale l.drift x.params) x.params l (sightings_in Sightings double) double node slot ≡ Some course → IsPicked node slot double run course
   unfolding course_in
   is_picked node slot double run course own run_is is_course =
@@ -303,10 +303,10 @@ module _ (x : Setting) (h : Cycles) (base : ℕ) (delays : ℕ → Channel → D
       inr (sent_row node slot (suc (2 * at)) odd f has.has_odd (All-head (IsSentBy is.sent node slot (suc (2 * at))) f odds odds_are))
   rows_by node slot at even odd course span has [] evens_are [] odds_are is_course = absurd (cc is_course)
 
-  own_is : (node : NodeSpec) (slot : ℕ) → Contains x.params.nodes node → node.key ≡ Some slot → own_key x.params node.id ≡ Some slot
+  pub own_is : (node : NodeSpec) (slot : ℕ) → Contains x.params.nodes node → node.key ≡ Some slot → own_key x.params node.id ≡ Some slot
   own_is node slot among keyed = ap key_in (node_there x.params node sane among) ∙ keyed
 
-  sender_has_rows : (node : NodeSpec) (slot at : ℕ) (even odd : Cycle) → Contains x.params.nodes node → node.key ≡ Some slot → HasDouble h at even odd → HasBoth even odd node.id
+  pub sender_has_rows : (node : NodeSpec) (slot at : ℕ) (even odd : Cycle) → Contains x.params.nodes node → node.key ≡ Some slot → HasDouble h at even odd → HasBoth even odd node.id
       → HasRows x h node.id slot at (row_for even.told.rows node.id) (row_for odd.told.rows node.id)
   sender_has_rows node slot at even odd among keyed has rows =
       let key = key_slot_there x.params node slot sane among keyed in
@@ -320,7 +320,7 @@ module _ (x : Setting) (h : Cycles) (base : ℕ) (delays : ℕ → Channel → D
         slot_to = key.to;
       }
 
-  sender_has_both : (node slot double at : ℕ) (even odd : Cycle) (course : Course) → IsTimedRun x h → HasDouble h at even odd → IsPicked node slot double at course → HasBoth even odd node
+  pub sender_has_both : (node slot double at : ℕ) (even odd : Cycle) (course : Course) → IsTimedRun x h → HasDouble h at even odd → IsPicked node slot double at course → HasBoth even odd node
   sender_has_both node slot double at even odd course run has by =
       let rows =
       rows_by node slot at even odd course (meet_all (map (span_between (observer_of l) delays) by.picked.pairs)) has by.picked.even by.are.in_even by.picked.odd by.are.in_odd by.course_is in
@@ -335,17 +335,17 @@ module _ (x : Setting) (h : Cycles) (base : ℕ) (delays : ℕ → Channel → D
   abbrev Scaled : Scale
   Scaled = reading_scale l.drift x.params
 
-  record IsSenderBy (double : ℕ) (node : NodeSpec) (s : Sender) : Type 0 where
-    slot : ℕ
-    keyed : node.key ≡ Some slot
-    course : Course
-    course_is : course_in Scaled x.params l (sightings_in Sightings double) double node.id slot ≡ Some course
-    sender_is :
+  pub record IsSenderBy (double : ℕ) (node : NodeSpec) (s : Sender) : Type 0 where
+    pub slot : ℕ
+    pub keyed : node.key ≡ Some slot
+    pub course : Course
+    pub course_is : course_in Scaled x.params l (sightings_in Sightings double) double node.id slot ≡ Some course
+    pub sender_is :
         sender_on l (sightings_in Sightings double) (sightings_in Sightings (double + 1)) double node.id
         (if_there (course_in Scaled x.params l (sightings_in Sightings (double + 1)) (double + 1) node.id slot)) course
         ≡ s
 
-  there_some : (o : Option Course) (course : Course) → if_there o ≡ Some course → o ≡ Some course
+  pub there_some : (o : Option Course) (course : Course) → if_there o ≡ Some course → o ≡ Some course
   there_some None course is = absurd (cc is)
   there_some (Some other) course is = by (is_there other) is
     where
@@ -353,14 +353,14 @@ module _ (x : Setting) (h : Cycles) (base : ℕ) (delays : ℕ → Channel → D
       by true is = is
       by false is = absurd (cc is)
 
-  keyed_by : (node : NodeSpec) (slot : ℕ) → own_slot l node ≡ Some slot → node.key ≡ Some slot
+  pub keyed_by : (node : NodeSpec) (slot : ℕ) → own_slot l node ≡ Some slot → node.key ≡ Some slot
   keyed_by node slot is = by (is_arbitrary_in l node.id) is
     where
       by : (b : Bool) → (if b then None else node.key) ≡ Some slot → node.key ≡ Some slot
       by true is = absurd (cc is)
       by false is = is
 
-  sender_found : (double : ℕ) (node : NodeSpec) (s : Sender)
+  pub sender_found : (double : ℕ) (node : NodeSpec) (s : Sender)
       → seen_sender Scaled x.params l (sightings_in Sightings double) (sightings_in Sightings (double + 1)) double node ≡ Some s → IsSenderBy double node s
   unfolding seen_sender
   sender_found double node s is = by (own_slot l node) refl is
@@ -400,13 +400,13 @@ module _ (x : Setting) (h : Cycles) (base : ℕ) (delays : ℕ → Channel → D
       }
       )
 
-  next_run : (double : ℕ) → suc (run_double base double) ≡ run_double base (double + 1)
+  pub next_run : (double : ℕ) → suc (run_double base double) ≡ run_double base (double + 1)
   next_run double = later double (base / 2)
     where
       later : (d b : ℕ) → suc (d + b) ≡ d + 1 + b
       later d b = omega arith
 
-  next_at : (double : ℕ) → 2 * suc (run_double base double) ≡ 2 * double + 2 + base
+  pub next_at : (double : ℕ) → 2 * suc (run_double base double) ≡ 2 * double + 2 + base
   next_at double = later (run_double base double) double base (even_at double (run_double base double) refl)
     where
       later : (r d b : ℕ) → 2 * r ≡ 2 * d + b → 2 * suc r ≡ 2 * d + 2 + b

@@ -17,12 +17,12 @@ use Rattle.fr_course.specs.Readings.{reading_scale}
 use Rattle.fr_course.specs.declared.courses.Course.{Course}
 use Rattle.fr_course.specs.declared.stamps.Delays.{Delays}
 use Rattle.fr_observe.specs.Observing.{even_high, even_low, odd_high, odd_low, says_of, senders_of, terms_of}
-use Rattle.fr_observe.specs.Senders.{delays_in, observer_of}
-use Rattle.fr_observe.specs.Sightings.{fate_of, sighting_in, sightings_of}
+use Rattle.fr_sightings.specs.Senders.{delays_in, observer_of}
+use Rattle.fr_sightings.specs.Sightings.{fate_of, sighting_in, sightings_of, untimely_of}
 use Rattle.fr_observe.specs.declared.says.Says.{Says}
 use Rattle.fr_observe.specs.declared.says.Says.TheVariants.{Over, Within, Open}
-use Rattle.fr_observe.specs.declared.sender.Sender.{Sender}
-use Rattle.fr_observe.specs.declared.sighting.Sighting.{Sighting}
+use Rattle.fr_sightings.specs.declared.sender.Sender.{Sender}
+use Rattle.fr_sightings.specs.declared.sighting.Sighting.{Sighting}
 use Rattle.fr_seen.specs.Clocks.{LastsIn, StraightClock}
 use Rattle.fr_seen.specs.Observed.{IsSeenOf, SentFrame}
 use Rattle.fr_seen.specs.RunRows.{IsTimedRun}
@@ -83,6 +83,12 @@ SightingsAreSent =
     (x : Setting) (h : Cycles) (base : ℕ) (delays : ℕ → Channel → Delays) (clock : ℕ → StraightClock) (l : LogView)
     → IsSane x.params → IsLog l → (seen : IsLogSeen x h base delays clock l)
     → All (IsAmongSent seen.sent) (sightings_of x.params l)
+
+-- and none of its judged frames comes at another time than its cycle count says
+abbrev pub NoFrameIsUntimely : Type 0
+NoFrameIsUntimely =
+    (x : Setting) (h : Cycles) (base : ℕ) (delays : ℕ → Channel → Delays) (clock : ℕ → StraightClock) (l : LogView)
+    → IsSane x.params → IsLog l → IsLogSeen x h base delays clock l → untimely_of x.params l ≡ []
 
 -- ---- its senders
 

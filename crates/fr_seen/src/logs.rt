@@ -1,8 +1,14 @@
-ghost use Rattle.fr_seen.specs.LogSeen.{EvenWordsHold, ObservedNextRowsHold, ObservedRowsHold, OddWordsHold, SendersAreOnCourse, SendersGoOn, SightingsAreSent};
+ghost use Rattle.fr_seen.specs.LogSeen.{EvenWordsHold, NoFrameIsUntimely, ObservedNextRowsHold, ObservedRowsHold, OddWordsHold, SendersAreOnCourse, SendersGoOn, SightingsAreSent};
 
 /// A law: each sighting of a log that is seen of a run is a frame that was sent there, in the cycle of its number.
 pub fn sightings_are_sent()
     ensures { SightingsAreSent }
+{}
+
+/// A law: no judged frame of such a log comes at another time than its cycle count says, as counted from the sighting
+/// before it. Where one does, no run can have given the log.
+pub fn no_frame_of_a_seen_log_is_untimely()
+    ensures { NoFrameIsUntimely }
 {}
 
 /// A law: the senders of a double cycle of such a log have rows in that of the run, in sync or not, and their courses

@@ -5,7 +5,7 @@ use Rattle.fr_cluster.specs.Values.{Values}
 use Rattle.fr_log.specs.Files.{log_file}
 use Rattle.fr_log.specs.Told.{log_says}
 use Rattle.fr_log.specs.View.{LogView}
-use Rattle.fr_observe.specs.Observing.{observe_text}
+use Rattle.fr_findings.specs.Text.{observe_text}
 use Rattle.fr_params.specs.Files.{params_file}
 use Rattle.fr_params.specs.Told.{params_says}
 use Rattle.fr_program.proofs.Endings.{cut_short, whole}

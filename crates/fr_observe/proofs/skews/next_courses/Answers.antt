@@ -1,7 +1,7 @@
 use Rattle.std.proofs.Common.{◌≡◌, ◌∙◌, ◌+◌, ◌<◌, ◌≤◌, ◌++◌, ◌∷◌, [], List, All, Some, get_or, length, length-append, ap, sym, subst, arith, rules}
 use Rattle.fr_course.specs.Near.{IsNearCourse}
 use Rattle.fr_course.specs.declared.courses.Course.{Course}
-use Rattle.fr_observe.proofs.Gathering.{all-push, next-more, next-near, next-none}
+use Rattle.fr_observe.proofs.Onward.{all-push, next-more, next-near, next-none}
 use Rattle.fr_observe.proofs.skews.next_courses.Goals as goal
 
 pub returns-in-None-clause-value : goal.returns-in-None-clause-value

@@ -1,0 +1,4 @@
+pub mod Checks
+pub mod Missed
+pub mod Printing
+pub mod Windows

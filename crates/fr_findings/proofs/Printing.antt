@@ -1,0 +1,168 @@
+-- The rows of double cycles are put one double cycle after the other, and what is known behind them is kept.
+use Rattle.std.proofs.Common.{◌≡◌, ℕ, zero, suc, ◌+◌, ◌-◌, ◌*◌, ◌<◌, ◌≤◌, ℤ, Bool, true, false, List, [], ◌∷◌, ◌++◌, length, slice_get, Option, Some, None, Result, Ok, Err, refl, sym, ap, ◌∙◌, subst, append-nil, arith}
+use Rattle.std.specs.List.{count_by, range_with_len}
+use Rattle.std.specs.Result.{IsErr}
+use Rattle.std.proofs.lemmas.List.Elements.{All-weaker}
+use Rattle.std.proofs.lemmas.List.Sums.{count_by-le-length}
+use Rattle.fr_base.specs.Device.{Puts, Sunk}
+use Rattle.fr_base.specs.declared.sink.PutFault.{PutFault}
+use Rattle.fr_base.proofs.Putting.{cut, then}
+use Rattle.fr_cluster.specs.Values.{Values}
+use Rattle.fr_log.specs.View.{LogView}
+use Rattle.fr_course.specs.declared.scales.Scale.{Scale}
+use Rattle.fr_observe.specs.Faults.{faults_in_sync}
+use Rattle.fr_observe.specs.Telling.{TellsFaults}
+use Rattle.fr_observe.specs.declared.fault.Fault.{Fault}
+use Rattle.fr_observe.specs.declared.fault.LogSpan.{LogSpan}
+use Rattle.fr_observe.specs.declared.fault.SyncFrom.{SyncFrom}
+use Rattle.fr_observe.proofs.Told.{told_cut}
+use Rattle.fr_sightings.specs.Ranges.{AreSeenFrom}
+use Rattle.fr_sightings.specs.Senders.{double_of, sightings_in}
+use Rattle.fr_sightings.specs.declared.sender.Sender.{Sender}
+use Rattle.fr_sightings.specs.declared.sighting.Sighting.{Sighting}
+use Rattle.fr_findings.specs.Counting.{counted, is_open, is_over, is_within}
+use Rattle.fr_observe.specs.Observing.{both_say, cycle_row, cycles_text, doubles_between, seen_doubles}
+use Rattle.fr_findings.specs.Counting.{AreFewCycles}
+use Rattle.fr_observe.specs.Skews.{AreSkews}
+use Rattle.fr_findings.specs.Verdict.{Basis, DoubleCycle, double_at, double_told, double_with, even_says, no_progress, odd_says, progress_of, progress_told, sightings_before, told_of_doubles}
+use Rattle.fr_findings.specs.declared.counts.Counts.{Counts}
+use Rattle.fr_findings.specs.declared.progress.Progress.{Progress}
+use Rattle.fr_observe.specs.declared.says.Says.{Says}
+use Rattle.fr_observe.specs.declared.skews.Skews.{Skews}
+use Rattle.fr_findings.proofs.Windows.{none-later}
+
+-- ---- double cycles
+
+-- those up to a last one
+abbrev pub up_to : ℕ → ℕ → List ℕ
+up_to double last = range_with_len double (last + 1 - double)
+
+range-first : (double last : ℕ) → double ≤ last → up_to double last ≡ double ∷ up_to (double + 1) last
+range-first double last le =
+    let more : last + 1 - double ≡ suc (last + 1 - (double + 1)) = omega (arith, le) in
+    ap (range_with_len double) more
+
+range-none : (double last : ℕ) → last < double → up_to double last ≡ []
+range-none double last less =
+    let none : last + 1 - double ≡ 0 = omega (arith, less) in
+    ap (range_with_len double) none
+
+-- a text that stopped at its front, by another name
+pub ended : {fault : PutFault} {a b : Sunk} {text : List ℕ} (result : Result (Unit {0}) PutFault) → Puts (Err fault) a b text → IsErr result → Puts result a b text
+ended (Ok done) put is = absurd cc
+ended (Err other) put is = record { whole = tt; front = put.front; never_fall = put.never_fall }
+
+-- what was told, and then nothing more could be put
+pub told_failed : {fault : PutFault} {a b : Sunk} {x y : Option Fault} {told : List Fault} (result : Result (Unit {0}) PutFault) → TellsFaults (Err fault) a b x y told
+    → IsErr result → TellsFaults result a b x y told
+told_failed {a = a} {b = b} {x = x} {y = y} {told = told} result one is = subst (TellsFaults result a b x y) (append-nil told) (told_cut result [] one is)
+
+-- no contradiction of a covered run in sync where sync is not known
+pub none-in-sync : (covered : Bool) (sync : Option SyncFrom) (faults : SyncFrom → List Fault) → sync ≡ None → faults_in_sync covered sync faults ≡ []
+none-in-sync true None faults is = refl
+none-in-sync false None faults is = refl
+none-in-sync covered (Some from) faults is = absurd (cc is)
+
+-- what stays the same over a log
+abbrev pub made-basis : ℤ → Scale → Values → LogView → LogSpan → Bool → Basis
+made-basis precision scale p l span covered =
+    record { precision = precision; scale = scale; params = p; log = l; span = span; may_be_covered = covered }
+
+-- ---- what both cycles say
+
+two-at-most : (test : Says → Bool) (a b : Says) → count_by test (a ∷ b ∷ []) ≤ 2
+two-at-most test a b = count_by-le-length test (a ∷ b ∷ [])
+
+few-more : (most : ℕ) (counts : Counts) (a b : Says) → AreFewCycles most counts → AreFewCycles (most + 2) (counted counts (a ∷ b ∷ []))
+few-more most counts a b few = record {
+  within = omega (arith, two-at-most is_within a b, few.within);
+  over = omega (arith, two-at-most is_over a b, few.over);
+  neither = omega (arith, two-at-most is_open a b, few.neither);
+}
+
+pub few-none : (most : ℕ) (progress : Progress) → progress ≡ no_progress → AreFewCycles most progress.counts
+few-none most progress is =
+    subst (λ (p : Progress). AreFewCycles most p.counts) (sym is) (record { within = omega arith; over = omega arith; neither = omega arith })
+
+pub few-told : (most : ℕ) (b : Basis) (d : DoubleCycle) (progress : Progress) → AreFewCycles most progress.counts → AreFewCycles (most + 2) (progress_told b d progress).counts
+unfolding progress_told both_say
+few-told most b d progress few = few-more most progress.counts (even_says b d) (odd_says b d) few
+
+-- ---- one double cycle, and those behind it
+
+module _ (b : Basis) (seen late : List Sighting) (d : DoubleCycle) (progress : Progress) (double last : ℕ) where
+  told-first : double ≤ last → d ≡ double_at b seen late double
+      → double_told b d progress ++ told_of_doubles b seen late (progress_told b d progress) (up_to (double + 1) last) ≡ told_of_doubles b seen late progress (up_to double last)
+  unfolding told_of_doubles
+  told-first le is =
+      ap (λ (e : DoubleCycle). double_told b e progress ++ told_of_doubles b seen late (progress_told b e progress) (up_to (double + 1) last)) is
+      ∙ ap (told_of_doubles b seen late progress) (sym (range-first double last le))
+
+  pub told-then : {done : Unit {0}} {x y z : Sunk} (result : Result (Unit {0}) PutFault) → double ≤ last → d ≡ double_at b seen late double
+      → Puts (Ok done) x y (double_told b d progress) → Puts result y z (told_of_doubles b seen late (progress_told b d progress) (up_to (double + 1) last))
+      → Puts result x z (told_of_doubles b seen late progress (up_to double last))
+  told-then {done} {x} {y} {z} result le is put rest =
+      subst (Puts result x z) (told-first le is)
+      (then {text = double_told b d progress} {rest = told_of_doubles b seen late (progress_told b d progress) (up_to (double + 1) last)} result put rest)
+
+  pub told-cut : {fault : PutFault} {x y : Sunk} (result : Result (Unit {0}) PutFault) → double ≤ last → d ≡ double_at b seen late double
+      → Puts (Err fault) x y (double_told b d progress) → IsErr result → Puts result x y (told_of_doubles b seen late progress (up_to double last))
+  told-cut {fault} {x} {y} result le is put failed =
+      subst (Puts result x y) (told-first le is)
+      (cut {text = double_told b d progress} result (told_of_doubles b seen late (progress_told b d progress) (up_to (double + 1) last)) put failed)
+
+  pub progress-then : double ≤ last → d ≡ double_at b seen late double
+      → progress_of b seen late (progress_told b d progress) (up_to (double + 1) last) ≡ progress_of b seen late progress (up_to double last)
+  unfolding progress_of
+  progress-then le is =
+      ap (λ (e : DoubleCycle). progress_of b seen late (progress_told b e progress) (up_to (double + 1) last)) is
+      ∙ ap (progress_of b seen late progress) (sym (range-first double last le))
+
+-- none behind the last
+pub told-end : (b : Basis) (seen late : List Sighting) (progress : Progress) (double last : ℕ) → last < double → told_of_doubles b seen late progress (up_to double last) ≡ []
+unfolding told_of_doubles
+told-end b seen late progress double last less = ap (told_of_doubles b seen late progress) (range-none double last less)
+
+pub progress-end : (b : Basis) (seen late : List Sighting) (progress : Progress) (double last : ℕ) → last < double → progress_of b seen late progress (up_to double last) ≡ progress
+unfolding progress_of
+progress-end b seen late progress double last less = ap (progress_of b seen late progress) (range-none double last less)
+
+-- the double cycle that is looked at
+pub double-is : (b : Basis) (seen late before here next untimely : List Sighting) (double : ℕ)
+    → before ≡ sightings_before seen double → here ≡ sightings_in seen double → next ≡ sightings_in seen (double + 1) → untimely ≡ sightings_in late double
+    → double_with b double before here next untimely ≡ double_at b seen late double
+unfolding double_at
+double-is b seen late before here next untimely double before_is here_is next_is late_is = λ i. double_with b double (before_is i) (here_is i) (next_is i) (late_is i)
+
+-- before the first one there are none
+pub before-first : (seen : List Sighting) (first : ℕ) → AreSeenFrom first seen → [] ≡ sightings_before seen first
+before-first seen zero from = refl
+before-first seen (suc first) from =
+    sym (none-later first seen (All-weaker (λ s. suc first ≤ double_of s) (λ s. first + 1 ≤ double_of s) (λ s le. omega (arith, le)) seen from))
+
+pub before-next : (seen : List Sighting) (double : ℕ) → sightings_in seen double ≡ sightings_before seen (double + 1)
+before-next seen double = let one : suc double ≡ double + 1 = omega arith in ap (sightings_before seen) one
+
+-- ---- without a sighting
+
+none-doubles : (seen : List Sighting) → slice_get seen 0 ≡ None → seen_doubles seen ≡ []
+unfolding seen_doubles
+none-doubles seen none = ap (λ (o : Option Sighting). doubles_between o (slice_get seen (length seen - 1))) none
+
+pub none-told : (b : Basis) (seen late : List Sighting) (progress : Progress) → slice_get seen 0 ≡ None → told_of_doubles b seen late progress (seen_doubles seen) ≡ []
+unfolding told_of_doubles
+none-told b seen late progress none = ap (told_of_doubles b seen late progress) (none-doubles seen none)
+
+pub none-known : (b : Basis) (seen late : List Sighting) (progress : Progress) → slice_get seen 0 ≡ None → progress_of b seen late progress (seen_doubles seen) ≡ progress
+unfolding progress_of
+none-known b seen late progress none = ap (progress_of b seen late progress) (none-doubles seen none)
+
+-- ---- both cycles
+
+pub cycles-are : (precision : ℤ) (scale : Scale) (double : ℕ) (senders : List Sender) (skews : Skews) → AreSkews scale senders skews
+    → cycle_row precision (2 * double) (length senders) skews.even_low skews.even_high ++ cycle_row precision (2 * double + 1) (length senders) skews.odd_low skews.odd_high
+    ≡ cycles_text precision scale double senders
+unfolding cycles_text
+cycles-are precision scale double senders skews are = λ i.
+    cycle_row precision (2 * double) (length senders) (are.even_low i) (are.even_high i)
+    ++ cycle_row precision (2 * double + 1) (length senders) (are.odd_low i) (are.odd_high i)

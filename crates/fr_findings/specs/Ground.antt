@@ -1,0 +1,84 @@
+-- What functions pass to each other: what stays the same over a log, and a double cycle.
+use Rattle.std.specs.Prelude.{ℕ, ◌<◌, ◌≤◌, nat_lt, Bool, All, List, [], ◌∷◌, length}
+use Rattle.std.specs.Option.{option_or}
+use Rattle.fr_log.specs.View.{LogView}
+use Rattle.fr_observe.specs.Faults.{first_of_faults}
+use Rattle.fr_findings.specs.Counting.{counted}
+use Rattle.fr_findings.specs.Verdict.{Basis, DoubleCycle, double_with, faults_told, reach_behind_both, sync_told}
+use Rattle.fr_findings.specs.declared.ground.Around.{Around}
+use Rattle.fr_findings.specs.declared.ground.Double.{Double}
+use Rattle.fr_findings.specs.declared.ground.Ground.{Ground}
+use Rattle.fr_findings.specs.declared.progress.Progress.{Progress}
+use Rattle.fr_observe.specs.declared.says.Says.{Says}
+use Rattle.fr_sightings.specs.Ranges.{AreLogStamps, AreNumbered, AreSeenFrom, DoublesAscend, IsProperSender, IsScaleOf}
+use Rattle.fr_sightings.specs.Senders.{double_of}
+use Rattle.fr_sightings.specs.declared.sighting.Sighting.{Sighting}
+
+abbrev pub basis_in : Ground → Basis
+basis_in g =
+    record {
+      precision = g.precision;
+      scale = g.scale.now;
+      params = g.params.now;
+      log = g.log.now;
+      span = g.span;
+      may_be_covered = g.may_be_covered;
+    }
+
+abbrev pub double_in : Double → DoubleCycle
+double_in d =
+    record { number = d.number; before = d.before.now; here = d.here.now; late = d.late.now; senders = d.senders.now }
+
+abbrev pub double_around : Ground → Around → ℕ → DoubleCycle
+double_around g a double = double_with (basis_in g) double a.before.now a.here.now a.next.now a.late.now
+
+-- the scale is that of the parameters
+abbrev pub IsGround : Ground → Type 0
+IsGround g = IsScaleOf g.params.now g.scale.now
+
+-- stamps lie within the limits of the log
+pub record IsAround (g : Ground) (a : Around) : Type 0 where
+  pub here : AreLogStamps g.log.now a.here.now
+  pub next : AreLogStamps g.log.now a.next.now
+  pub late : AreLogStamps g.log.now a.late.now
+
+-- and senders are those of a cluster
+pub record IsDouble (g : Ground) (d : Double) : Type 0 where
+  pub number : d.number < 1_000_000
+  pub here : AreLogStamps g.log.now d.here.now
+  pub late : AreLogStamps g.log.now d.late.now
+  pub few : length d.senders.now ≤ 64
+  pub senders : All (IsProperSender g.scale.now) d.senders.now
+
+-- sightings come in the order of their double cycles, and stamps lie within the limits of a log
+pub record ComeInOrder (l : LogView) (seen : List Sighting) : Type 0 where
+  pub numbered : AreNumbered seen
+  pub timed : AreLogStamps l seen
+  pub ascend : DoublesAscend seen
+
+-- one is of a double cycle before another
+abbrev pub is_of_earlier : ℕ → Sighting → Bool
+is_of_earlier double s = nat_lt (double_of s) double
+
+-- sightings are walked from a double cycle on
+pub record AreWalked (g : Ground) (double : ℕ) (seen : List Sighting) : Type 0 where
+  pub timed : AreLogStamps g.log.now seen
+  pub ascend : DoublesAscend seen
+  pub from : AreSeenFrom double seen
+
+-- ---- what is known behind a double cycle, step by step
+
+abbrev pub with_faults : Basis → DoubleCycle → Progress → Progress
+with_faults b d progress =
+    record progress {
+      sync = sync_told b d progress.sync;
+      first = option_or progress.first (first_of_faults (faults_told b d (sync_told b d progress.sync)));
+    }
+
+abbrev pub with_both : Progress → ℕ → Says → Says → Progress
+with_both progress double even odd =
+    record progress {
+      counts = counted progress.counts (even ∷ odd ∷ []);
+      reach = (reach_behind_both progress.sync double even odd (progress.reach, progress.is_ended)).0;
+      is_ended = (reach_behind_both progress.sync double even odd (progress.reach, progress.is_ended)).1;
+    }

@@ -1,0 +1,7 @@
+-- what the public contract cites
+pub mod Counting
+pub mod Verdict
+pub mod Census
+pub mod Text
+-- what only functions inside cite
+pub mod Ground

@@ -1,0 +1,245 @@
+-- What the rows of a log come to: from which double cycle on the cluster is certainly in sync, what contradicts what, how far
+-- the rows say within, and the verdict.
+use Rattle.std.specs.Prelude.{ℕ, zero, suc, ◌+◌, ◌-◌, ◌*◌, ◌==◌, ◌&&◌, ◌||◌, not, nat_le, ℤ, pos, Bool, true, false, List, [], ◌∷◌, ◌++◌, length, Option, Some, None, is_some, slice_get, if◌then◌else◌}
+use Rattle.std.specs.List.{count_by, flat_map}
+use Rattle.std.specs.Option.{option_or}
+use Rattle.fr_bound.specs.Bounds.{precision_of}
+use Rattle.fr_bound.specs.Checks.{holds_of, left_of, right_of}
+use Rattle.fr_cluster.specs.Values.{Values}
+use Rattle.fr_cluster.specs.declared.nodes.NodeSpec.{NodeSpec}
+use Rattle.fr_log.specs.View.{LogView, is_arbitrary_in}
+use Rattle.fr_course.specs.Readings.{reading_scale}
+use Rattle.fr_course.specs.declared.scales.Scale.{Scale}
+use Rattle.fr_observe.specs.Faults.{before_in_sync, fault_row, faults_in_sync, first_of_faults, is_sync_seen, own_faults, sync_behind, sync_faults}
+use Rattle.fr_findings.specs.Counting.{counted, no_cycles_told}
+use Rattle.fr_observe.specs.Observing.{both_say, double_rows, even_high, even_low, odd_high, odd_low, says_of, seen_doubles}
+use Rattle.fr_sightings.specs.Senders.{seen_senders, sightings_in}
+use Rattle.fr_sightings.specs.Sightings.{sightings_of, untimely_of}
+use Rattle.fr_findings.specs.declared.coverable.Coverable.{Coverable}
+use Rattle.fr_findings.specs.declared.coverable.Coverable.TheVariants as coverable
+use Rattle.fr_observe.specs.declared.fault.Fault.{Fault}
+use Rattle.fr_observe.specs.declared.fault.LogSpan.{LogSpan}
+use Rattle.fr_findings.specs.declared.progress.Progress.{Progress}
+use Rattle.fr_findings.specs.declared.progress.Reach.{Reach}
+use Rattle.fr_observe.specs.declared.says.Says.{Says}
+use Rattle.fr_observe.specs.declared.says.Says.TheVariants.{Over, Within, Open}
+use Rattle.fr_sightings.specs.declared.sender.Sender.{Sender}
+use Rattle.fr_sightings.specs.declared.sighting.Sighting.{Sighting}
+use Rattle.fr_observe.specs.declared.fault.SyncFrom.{SyncFrom}
+use Rattle.fr_findings.specs.declared.verdict.Verdict.{Verdict}
+use Rattle.fr_findings.specs.declared.verdict.Verdict.TheVariants as verdict
+
+-- ---- whether a run can be covered
+
+-- the least number up to some of a check that fails
+unfoldable pub first_failing : Values → ℕ → Option ℕ
+first_failing p zero = None
+first_failing p (suc n) = option_or (first_failing p n) (if holds_of (suc n) p then None else Some (suc n))
+
+-- a node that sends sync frames, and that the log names arbitrary or does not
+abbrev pub is_named_as : LogView → Bool → ℕ → Bool
+is_named_as l arbitrary node = if arbitrary then is_arbitrary_in l node else not (is_arbitrary_in l node)
+
+abbrev pub is_sync_as : LogView → Bool → NodeSpec → Bool
+is_sync_as l arbitrary node = is_some node.key && is_named_as l arbitrary node.id
+
+-- so many correct sync nodes suffice for so many arbitrary ones
+abbrev pub are_enough : ℕ → ℕ → Bool
+are_enough correct arbitrary =
+    ((arbitrary == 0) && nat_le 1 correct) || ((arbitrary == 1) && nat_le 3 correct) || ((arbitrary == 2) && nat_le 6 correct)
+
+abbrev pub coverable_with : ℕ → ℕ → Coverable
+coverable_with correct arbitrary = if are_enough correct arbitrary then coverable.Open else coverable.Count correct arbitrary
+
+abbrev pub coverable_by : Values → LogView → Option ℕ → Coverable
+coverable_by p l (Some number) = coverable.Check number (pos (left_of number p)) (pos (right_of number p))
+coverable_by p l None = coverable_with (count_by (is_sync_as l false) p.nodes) (count_by (is_sync_as l true) p.nodes)
+
+-- whether nothing that the parameters and the head of a log tell keeps a run from being covered; else the first of the five
+-- checks that fails, or the counts of sync nodes that do not suffice
+unfoldable pub coverable_of : Values → LogView → Coverable
+coverable_of p l = coverable_by p l (first_failing p 5)
+
+abbrev pub is_coverable : Coverable → Bool
+is_coverable coverable.Open = true
+is_coverable (coverable.Check number left right) = false
+is_coverable (coverable.Count correct arbitrary) = false
+
+-- ---- what stays the same over a log
+
+pub record Basis : Type 0 where
+  pub precision : ℤ
+  pub scale : Scale
+  pub params : Values
+  pub log : LogView
+  pub span : LogSpan
+  pub may_be_covered : Bool
+
+-- the numbers of the first and the last sighting
+abbrev pub number_or_none : Option Sighting → ℕ
+number_or_none None = 0
+number_or_none (Some s) = s.number
+
+abbrev pub log_span : List Sighting → LogSpan
+log_span seen =
+    record {
+      first = number_or_none (slice_get seen 0);
+      last = number_or_none (slice_get seen (length seen - 1));
+    }
+
+abbrev pub basis_with : Values → LogView → List Sighting → Bool → Basis
+basis_with p l seen covered =
+    record {
+      precision = pos (precision_of p);
+      scale = reading_scale l.drift p;
+      params = p;
+      log = l;
+      span = log_span seen;
+      may_be_covered = covered;
+    }
+
+abbrev pub log_basis : Values → LogView → Basis
+log_basis p l = basis_with p l (sightings_of p l) (is_coverable (coverable_of p l))
+
+-- ---- a double cycle
+
+-- its number, the sightings of the double cycle before and its own, its untimely frames, and its senders
+pub record DoubleCycle : Type 0 where
+  pub number : ℕ
+  pub before : List Sighting
+  pub here : List Sighting
+  pub late : List Sighting
+  pub senders : List Sender
+
+-- before the first one there are none
+abbrev pub sightings_before : List Sighting → ℕ → List Sighting
+sightings_before seen zero = []
+sightings_before seen (suc double) = sightings_in seen double
+
+-- by its sightings and those of the next one
+abbrev pub double_with : Basis → ℕ → List Sighting → List Sighting → List Sighting → List Sighting → DoubleCycle
+double_with b double before here next late =
+    record {
+      number = double;
+      before = before;
+      here = here;
+      late = late;
+      senders = seen_senders b.scale b.params b.log here next double;
+    }
+
+-- by the sightings of a log and its untimely frames
+unfoldable pub double_at : Basis → List Sighting → List Sighting → ℕ → DoubleCycle
+double_at b seen late double =
+    double_with b double (sightings_before seen double) (sightings_in seen double) (sightings_in seen (double + 1))
+    (sightings_in late double)
+
+-- what contradicts any run
+unfoldable pub own_told : Basis → DoubleCycle → List Fault
+own_told b d = own_faults b.params b.scale b.log d.here d.late d.number d.senders
+
+-- from which double cycle on the cluster is in sync, as it is known behind this one
+unfoldable pub sync_told : Basis → DoubleCycle → Option SyncFrom → Option SyncFrom
+sync_told b d sync =
+    sync_behind b.log d.number (is_sync_seen b.params b.scale b.log d.here d.number d.senders (own_told b d)) sync
+
+-- what contradicts a covered run that is in sync
+abbrev pub in_sync_told : Basis → DoubleCycle → SyncFrom → List Fault
+in_sync_told b d from =
+    sync_faults b.precision b.params b.scale b.log b.span (before_in_sync from d.number d.before) d.here d.number d.senders
+
+-- all faults of it, where the cluster is in sync from there on
+unfoldable pub faults_told : Basis → DoubleCycle → Option SyncFrom → List Fault
+faults_told b d sync = own_told b d ++ faults_in_sync b.may_be_covered sync (in_sync_told b d)
+
+-- ---- what is known behind it
+
+abbrev pub no_progress : Progress
+no_progress = record { sync = None; first = None; counts = no_cycles_told; reach = None; is_ended = false }
+
+-- how far the rows of cycles in sync say within without a gap; `ended` where one of them said something else
+abbrev pub further_within : Option Reach → ℕ → Reach
+further_within None cycle = record { from = cycle; to = cycle }
+further_within (Some reach) cycle = record { from = reach.from; to = cycle }
+
+abbrev pub reach_by : Option Reach → ℕ → Says → (Option Reach × Bool)
+reach_by reach cycle Within = (Some (further_within reach cycle), false)
+reach_by reach cycle Over = (reach, true)
+reach_by reach cycle Open = (reach, true)
+
+abbrev pub reach_behind : (Option Reach × Bool) → ℕ → Says → (Option Reach × Bool)
+reach_behind reach cycle says = if reach.1 then reach else reach_by reach.0 cycle says
+
+-- behind both of its cycles, where the cluster is in sync
+abbrev pub reach_behind_both : Option SyncFrom → ℕ → Says → Says → (Option Reach × Bool) → (Option Reach × Bool)
+reach_behind_both None double even odd reach = reach
+reach_behind_both (Some from) double even odd reach = reach_behind (reach_behind reach (2 * double) even) (2 * double + 1) odd
+
+abbrev pub even_says : Basis → DoubleCycle → Says
+even_says b d = says_of b.precision (even_low b.scale d.senders) (even_high b.scale d.senders)
+
+abbrev pub odd_says : Basis → DoubleCycle → Says
+odd_says b d = says_of b.precision (odd_low b.scale d.senders) (odd_high b.scale d.senders)
+
+abbrev pub reach_told : Basis → DoubleCycle → Option SyncFrom → Progress → (Option Reach × Bool)
+reach_told b d sync progress =
+    reach_behind_both sync d.number (even_says b d) (odd_says b d) (progress.reach, progress.is_ended)
+
+unfoldable pub progress_told : Basis → DoubleCycle → Progress → Progress
+progress_told b d progress =
+    record {
+      sync = sync_told b d progress.sync;
+      first = option_or progress.first (first_of_faults (faults_told b d (sync_told b d progress.sync)));
+      counts = counted progress.counts (both_say b.precision b.scale d.senders);
+      reach = (reach_told b d (sync_told b d progress.sync) progress).0;
+      is_ended = (reach_told b d (sync_told b d progress.sync) progress).1;
+    }
+
+-- its rows, and behind them those of its faults
+unfoldable pub double_told : Basis → DoubleCycle → Progress → List ℕ
+double_told b d progress =
+    double_rows b.precision b.scale d.number d.senders
+    ++ flat_map fault_row (faults_told b d (sync_told b d progress.sync))
+
+-- ---- a log
+
+-- the faults of a double cycle, where the cluster is in sync from there on
+abbrev pub double_faults : Basis → List Sighting → List Sighting → ℕ → Option SyncFrom → List Fault
+double_faults b seen late double sync = faults_told b (double_at b seen late double) sync
+
+abbrev pub progress_behind : Basis → List Sighting → List Sighting → ℕ → Progress → Progress
+progress_behind b seen late double progress = progress_told b (double_at b seen late double) progress
+
+-- behind some double cycles, from the first on
+unfoldable pub progress_of : Basis → List Sighting → List Sighting → Progress → List ℕ → Progress
+progress_of b seen late progress [] = progress
+progress_of b seen late progress (double ∷ doubles) =
+    progress_of b seen late (progress_behind b seen late double progress) doubles
+
+-- their text
+unfoldable pub told_of_doubles : Basis → List Sighting → List Sighting → Progress → List ℕ → List ℕ
+told_of_doubles b seen late progress [] = []
+told_of_doubles b seen late progress (double ∷ doubles) =
+    double_told b (double_at b seen late double) progress
+    ++ told_of_doubles b seen late (progress_behind b seen late double progress) doubles
+
+-- behind the last one
+abbrev pub log_progress : Basis → List Sighting → List Sighting → Progress
+log_progress b seen late = progress_of b seen late no_progress (seen_doubles seen)
+
+-- ---- the verdict
+
+abbrev pub verdict_where : Option SyncFrom → Option Reach → Verdict
+verdict_where None reach = verdict.Open
+verdict_where (Some from) None = verdict.Open
+verdict_where (Some from) (Some reach) = verdict.Within reach
+
+abbrev pub verdict_with : Option Fault → Option SyncFrom → Option Reach → Verdict
+verdict_with (Some fault) sync reach = verdict.No fault
+verdict_with None sync reach = verdict_where sync reach
+
+-- the first fault; or how far each row says within from the first cycle in sync on; or neither
+unfoldable pub verdict_by : Progress → Verdict
+verdict_by progress = verdict_with progress.first progress.sync progress.reach
+
+unfoldable pub verdict_of : Values → LogView → Verdict
+verdict_of p l = verdict_by (log_progress (log_basis p l) (sightings_of p l) (untimely_of p l))

@@ -1,0 +1,314 @@
+ghost use Rattle.std.specs.Prelude.{◌≡◌, ◌==◌, ◌+◌, ◌-◌, ◌≤◌, ◌<◌, ◌++◌, Some, is_none, length, slice_get};
+ghost use Rattle.std.specs.List.{range_with_len};
+ghost use Rattle.fr_base.specs.Device.{Puts};
+ghost use Rattle.fr_base.specs.Rows.{channel_rank};
+ghost use Rattle.fr_base.specs.declared.channel.Channel.TheVariants.{A, B};
+ghost use Rattle.fr_time.specs.Cycles.{double_cycle_of};
+ghost use Rattle.fr_text.specs.Pieces.{Spells};
+ghost use Rattle.fr_sightings.specs.Senders.{first_stamp};
+ghost use Rattle.fr_sightings.specs.Ranges.{AreSeenFrom, AreNumbered, DoublesAscend};
+ghost use Rattle.fr_findings.specs.Census.{census_row, census_row_if, census_rows, census_text, first_frame_from, frames_from, is_from, is_of_log, lacks_both, lacks_in, last_frame_from, later_frame_from, missed_among, missed_of, own_rows};
+ghost use Rattle.fr_observe.specs.Observing.{known_count};
+
+use crate::looking::look_at;
+use fr_base::{Channel, NodeId, PutFault, Sink, Slot};
+use fr_cluster::{NodeList, NodeSpec, Params};
+use fr_log::Log;
+use fr_sightings::{Sighting, first_stamp};
+use fr_text::Piece::{Natural, Word};
+use fr_text::{Line, Piece, letter_of, put_line, row_of};
+
+fn is_same(one: Channel, other: Channel) -> bool
+    ensures { result ≡ (channel_rank one == channel_rank other) }
+{
+    one == other
+}
+
+// Whether a sighting is that of a node on a channel.
+fn is_from(sighting: &Sighting, node: NodeId, channel: Channel) -> bool
+    ensures { result ≡ is_from node channel sighting.now }
+{
+    sighting.node == node && is_same(sighting.channel, channel)
+}
+
+// How many there are.
+#[tactic(auto, unfolding(crate::specs::Census::frames_from))]
+fn frames_from(seen: &[Sighting], node: NodeId, channel: Channel) -> u64
+    ensures { result ≡ frames_from seen.now node channel }
+{
+    let mut frames = 0;
+    for sighting in seen {
+        if is_from(sighting, node, channel) {
+            frames += 1;
+        }
+    }
+    frames
+}
+
+// The cycle of the first.
+#[tactic(auto, unfolding(crate::specs::Census::first_frame_from))]
+fn first_frame_from(seen: &[Sighting], node: NodeId, channel: Channel) -> Option<u32>
+    ensures { result ≡ first_frame_from seen.now node channel }
+{
+    match seen
+        .iter()
+        .find(|s| s.node == node && is_same(s.channel, channel))
+    {
+        None => None,
+        Some(first) => Some(first.number),
+    }
+}
+
+fn later_frame_from(
+    last: Option<u32>,
+    sighting: &Sighting,
+    node: NodeId,
+    channel: Channel,
+) -> Option<u32>
+    ensures { result ≡ later_frame_from node channel last sighting.now }
+{
+    if is_from(sighting, node, channel) {
+        Some(sighting.number)
+    } else {
+        last
+    }
+}
+
+// The cycle of the last.
+#[tactic(auto, unfolding(crate::specs::Census::last_frame_from))]
+fn last_frame_from(seen: &[Sighting], node: NodeId, channel: Channel) -> Option<u32>
+    ensures { result ≡ last_frame_from seen.now node channel }
+{
+    let mut last = None;
+    for sighting in seen {
+        last = later_frame_from(last, sighting, node, channel);
+    }
+    last
+}
+
+// Whether there is none in a cycle.
+fn is_lacking(here: &[Sighting], node: NodeId, channel: Channel, cycle: u32) -> bool
+    ensures { result ≡ is_none (first_stamp here.now node channel cycle) }
+{
+    match first_stamp(here, node, channel, cycle) {
+        None => true,
+        Some(_) => false,
+    }
+}
+
+// Whether a cycle is one of the log, from that of its first sighting to that of its last.
+fn is_of_log(first: u32, last: u32, cycle: u32) -> bool
+    ensures { result ≡ is_of_log first last cycle }
+{
+    first <= cycle && cycle <= last
+}
+
+fn lacks_in(
+    first: u32,
+    last: u32,
+    here: &[Sighting],
+    node: NodeId,
+    channel: Channel,
+    cycle: u32,
+) -> u64
+    ensures value { result ≡ lacks_in first last here.now node channel cycle }
+    ensures most { result ≤ 1 }
+{
+    if is_of_log(first, last, cycle) && is_lacking(here, node, channel, cycle) {
+        1
+    } else {
+        0
+    }
+}
+
+#[tactic(auto, unfolding(crate::specs::Census::lacks_both))]
+fn lacks_both(
+    first: u32,
+    last: u32,
+    here: &[Sighting],
+    node: NodeId,
+    channel: Channel,
+    double: u32,
+) -> u64
+    requires { double < 1_000_000 }
+    ensures value { result ≡ lacks_both first last here.now node channel double }
+    ensures most { result ≤ 2 }
+{
+    lacks_in(first, last, here, node, channel, 2 * double)
+        + lacks_in(first, last, here, node, channel, 2 * double + 1)
+}
+
+// In how many cycles of the log, from its first to its last, there is none.
+fn missed_between(seen: &[Sighting], first: u32, last: u32, node: NodeId, channel: Channel) -> u64
+    requires ascend { DoublesAscend seen.now }
+    requires from { AreSeenFrom (double_cycle_of first) seen.now }
+    requires first { double_cycle_of first ≤ double_cycle_of last }
+    requires last { last ≤ 199_999 }
+    ensures { result ≡ missed_among first last seen.now node channel
+        (range_with_len (double_cycle_of first) (double_cycle_of last + 1 - double_cycle_of first)) }
+{
+    let mut rest = seen;
+    let mut double = first / 2;
+    let mut missed = 0;
+    while double <= last / 2 {
+        let look = look_at(rest, double);
+        missed += lacks_both(first, last, look.here, node, channel, double);
+        rest = look.behind;
+        double += 1;
+    }
+    missed
+}
+
+// The same by all sightings.
+#[tactic(auto, unfolding(crate::specs::Census::missed_of))]
+fn missed_of(seen: &[Sighting], node: NodeId, channel: Channel) -> u64
+    requires ascend { DoublesAscend seen.now }
+    requires numbered { AreNumbered seen.now }
+    ensures { result ≡ missed_of seen.now node channel }
+{
+    match seen.first() {
+        None => 0,
+        Some(first) => match seen.last() {
+            None => 0,
+            Some(last) => missed_between(seen, first.number, last.number, node, channel),
+        },
+    }
+}
+
+// A cycle, if it is known.
+fn cycle(number: Option<u32>) -> Piece<'static>
+    ensures { Spells result (known_count number) 20 }
+{
+    match number {
+        None => Word(b"-"),
+        Some(number) => Natural(u64::from(number)),
+    }
+}
+
+// A sender of the log on a channel: how many sightings of it there are, the first and the last cycle, and in how many
+// cycles there is none.
+#[tactic(auto, unfolding(crate::specs::Census::census_row))]
+fn census_row(seen: &[Sighting], node: NodeId, channel: Channel) -> Line
+    requires ascend { DoublesAscend seen.now }
+    requires numbered { AreNumbered seen.now }
+    ensures { result ≡ census_row seen.now node channel }
+{
+    row_of(
+        b"sender",
+        &[
+            Natural(u64::from(node.0)),
+            letter_of(channel),
+            Natural(frames_from(seen, node, channel)),
+            cycle(first_frame_from(seen, node, channel)),
+            cycle(last_frame_from(seen, node, channel)),
+            Natural(missed_of(seen, node, channel)),
+            Word(b""),
+        ],
+    )
+}
+
+// The row of a node on a channel, if it has it.
+fn put_if<O: Sink>(
+    seen: &[Sighting],
+    node: NodeId,
+    channel: Channel,
+    has: bool,
+    out: &mut O,
+) -> Result<(), PutFault>
+    requires ascend { DoublesAscend seen.now }
+    requires numbered { AreNumbered seen.now }
+    ensures { Puts result (O.state out.old) (O.state out.new) (census_row_if seen.now node channel has) }
+{
+    if has {
+        put_line(&census_row(seen, node, channel), out)
+    } else {
+        Ok(())
+    }
+}
+
+fn put_both<O: Sink>(seen: &[Sighting], node: &NodeSpec, out: &mut O) -> Result<(), PutFault>
+    requires ascend { DoublesAscend seen.now }
+    requires numbered { AreNumbered seen.now }
+    ensures { Puts result (O.state out.old) (O.state out.new)
+        (census_row_if seen.now node.now.id A node.now.on_a ++ census_row_if seen.now node.now.id B node.now.on_b) }
+{
+    put_if(seen, node.id, Channel::A, node.on_a, out)?;
+    put_if(seen, node.id, Channel::B, node.on_b, out)
+}
+
+fn put_own<O: Sink>(
+    seen: &[Sighting],
+    node: &NodeSpec,
+    key: Option<Slot>,
+    out: &mut O,
+) -> Result<(), PutFault>
+    requires ascend { DoublesAscend seen.now }
+    requires numbered { AreNumbered seen.now }
+    ensures { Puts result (O.state out.old) (O.state out.new) (own_rows seen.now node.now key) }
+{
+    match key {
+        None => Ok(()),
+        Some(_) => put_both(seen, node, out),
+    }
+}
+
+// The rows of a node, if it is correct and has a key slot.
+#[tactic(auto, unfolding(crate::specs::Census::census_rows))]
+fn put_sender<O: Sink>(
+    log: &Log,
+    seen: &[Sighting],
+    node: &NodeSpec,
+    out: &mut O,
+) -> Result<(), PutFault>
+    requires ascend { DoublesAscend seen.now }
+    requires numbered { AreNumbered seen.now }
+    ensures { Puts result (O.state out.old) (O.state out.new) (census_rows log.now seen.now node.now) }
+{
+    if log.is_arbitrary(node.id) {
+        Ok(())
+    } else {
+        put_own(seen, node, node.key, out)
+    }
+}
+
+// How many nodes there are.
+fn node_count(params: &Params) -> usize
+    ensures { result ≡ length params.now.nodes }
+{
+    params.nodes.len()
+}
+
+fn node_in(nodes: &NodeList, place: usize) -> &NodeSpec
+    requires { place < length nodes.now }
+    ensures { slice_get nodes.now place ≡ Some result.now }
+{
+    match nodes.get(place) {
+        Some(node) => node,
+        None => unreachable!(),
+    }
+}
+
+// The node at a place.
+fn node_at(params: &Params, place: usize) -> &NodeSpec
+    requires { place < length params.now.nodes }
+    ensures { slice_get params.now.nodes place ≡ Some result.now }
+{
+    node_in(&params.nodes, place)
+}
+
+// The rows of all senders of a log by its sightings, in the order of the parameters, each line in one put.
+pub(crate) fn put_census<O: Sink>(
+    params: &Params,
+    log: &Log,
+    seen: &[Sighting],
+    out: &mut O,
+) -> Result<(), PutFault>
+    requires ascend { DoublesAscend seen.now }
+    requires numbered { AreNumbered seen.now }
+    ensures { Puts result (O.state out.old) (O.state out.new) (census_text params.now log.now seen.now) }
+{
+    for place in 0..node_count(params) {
+        put_sender(log, seen, node_at(params, place), out)?;
+    }
+    Ok(())
+}

@@ -1,0 +1,118 @@
+ghost use Rattle.std.specs.Prelude.{◌≡◌, ◌≤◌, count_by, length, pos};
+ghost use Rattle.fr_bound.specs.Checks.{FirstFailing, left_of, right_of};
+ghost use Rattle.fr_findings.specs.Verdict.{are_enough, coverable_of, coverable_with, is_coverable, is_named_as, is_sync_as};
+
+use fr_bound::{checks, side};
+use fr_cluster::{NodeList, NodeSpec, Params};
+use fr_log::Log;
+
+/// Whether a run can be covered, by the parameters of a cluster and the head of a log.
+#[derive(Clone, Copy, Debug, PartialEq, Eq)]
+pub enum Coverable {
+    /// Nothing that they tell keeps it from that.
+    Open,
+    /// The check of this number fails, with these sides.
+    Check { number: u8, left: i64, right: i64 },
+    /// So many correct sync nodes do not suffice for so many arbitrary ones.
+    Count { correct: u64, arbitrary: u64 },
+}
+
+impl Coverable {
+    // By these files.
+    #[tactic(auto, unfolding(crate::specs::Verdict::coverable_of))]
+    pub(crate) fn of(params: &Params, log: &Log) -> Coverable
+        ensures { result ≡ coverable_of params.now log.now }
+    {
+        match checks(params) {
+            Err(number) => failing(params, number),
+            Ok(()) => counted(
+                sync_nodes(params, log, false),
+                sync_nodes(params, log, true),
+            ),
+        }
+    }
+
+    // Whether nothing keeps it from that.
+    pub(crate) fn is_open(self) -> bool
+        ensures { result ≡ is_coverable self }
+    {
+        match self {
+            Coverable::Open => true,
+            Coverable::Check { .. } | Coverable::Count { .. } => false,
+        }
+    }
+}
+
+// A check that fails.
+fn failing(params: &Params, number: u8) -> Coverable
+    requires { FirstFailing number params.now }
+    ensures { result ≡ Coverable.Check number (pos (left_of number params.now)) (pos (right_of number params.now)) }
+{
+    let sides = side(params, number);
+    Coverable::Check {
+        number,
+        left: sides.left,
+        right: sides.right,
+    }
+}
+
+// Whether so many correct sync nodes suffice for so many arbitrary ones.
+fn are_enough(correct: u64, arbitrary: u64) -> bool
+    ensures { result ≡ are_enough correct arbitrary }
+{
+    match arbitrary {
+        0 => correct >= 1,
+        1 => correct >= 3,
+        2 => correct >= 6,
+        _ => false,
+    }
+}
+
+fn counted(correct: u64, arbitrary: u64) -> Coverable
+    ensures { result ≡ coverable_with correct arbitrary }
+{
+    if are_enough(correct, arbitrary) {
+        Coverable::Open
+    } else {
+        Coverable::Count { correct, arbitrary }
+    }
+}
+
+// Whether a node sends sync frames, and the log names it arbitrary or does not.
+fn is_sync_as(log: &Log, arbitrary: bool, node: &NodeSpec) -> bool
+    ensures { result ≡ is_sync_as log.now arbitrary node.now }
+{
+    node.key.is_some() && is_named_as(log, arbitrary, node)
+}
+
+fn is_named_as(log: &Log, arbitrary: bool, node: &NodeSpec) -> bool
+    ensures { result ≡ is_named_as log.now arbitrary node.now.id }
+{
+    let named = log.is_arbitrary(node.id);
+    if arbitrary { named } else { !named }
+}
+
+// How many such nodes there are.
+fn sync_nodes(params: &Params, log: &Log, arbitrary: bool) -> u64
+    ensures { result ≡ count_by (is_sync_as log.now arbitrary) params.now.nodes }
+{
+    sync_count(&params.nodes, log, arbitrary)
+}
+
+fn sync_count(nodes: &NodeList, log: &Log, arbitrary: bool) -> u64
+    requires { length nodes.now ≤ 64 }
+    ensures { result ≡ count_by (is_sync_as log.now arbitrary) nodes.now }
+{
+    let mut count = 0;
+    for place in 0..nodes.len() {
+        match nodes.get(place) {
+            Some(node) => {
+                if is_sync_as(log, arbitrary, node) {
+                    count += 1;
+                }
+            }
+            None => {}
+        }
+    }
+    count
+}

@@ -1,0 +1,37 @@
+use fr_cluster::Params;
+use fr_course::Scale;
+use fr_log::Log;
+use fr_observe::LogSpan;
+use fr_sightings::{Sender, Sighting};
+
+// What stays the same over a log: the precision of its cluster in ticks, the cluster's numbers as readings, both files,
+// the cycles from the first sighting to the last, and whether a run can be covered.
+#[derive(Clone, Copy)]
+pub(crate) struct Ground<'a> {
+    pub(crate) precision: i64,
+    pub(crate) scale: &'a Scale,
+    pub(crate) params: &'a Params,
+    pub(crate) log: &'a Log,
+    pub(crate) span: LogSpan,
+    pub(crate) may_be_covered: bool,
+}
+
+// The sightings that a double cycle is looked at with: those of the one before, its own, those of the next one, and its
+// untimely frames.
+#[derive(Clone, Copy)]
+pub(crate) struct Around<'a> {
+    pub(crate) before: &'a [Sighting],
+    pub(crate) here: &'a [Sighting],
+    pub(crate) next: &'a [Sighting],
+    pub(crate) late: &'a [Sighting],
+}
+
+// A double cycle: its number, the sightings of the one before and its own, its untimely frames, and its senders.
+#[derive(Clone, Copy)]
+pub(crate) struct Double<'a> {
+    pub(crate) number: u32,
+    pub(crate) before: &'a [Sighting],
+    pub(crate) here: &'a [Sighting],
+    pub(crate) late: &'a [Sighting],
+    pub(crate) senders: &'a [Sender],
+}

@@ -1,0 +1,216 @@
+ghost use Rattle.std.specs.Prelude.{◌≡◌, ◌++◌, OnOk};
+ghost use Rattle.std.specs.Option.{option_copied};
+ghost use Rattle.fr_base.specs.Device.{Puts};
+ghost use Rattle.fr_course.specs.Readings.{reading_scale};
+ghost use Rattle.fr_text.specs.Lines.{joined_lines};
+ghost use Rattle.fr_findings.specs.Census.{census_text};
+ghost use Rattle.fr_findings.specs.Ground.{ComeInOrder, IsGround, basis_in};
+ghost use Rattle.fr_observe.specs.Observing.{seen_doubles};
+ghost use Rattle.fr_findings.specs.Text.{AreGathered, all_told, end_told, observe_text, text_with, whole_told};
+ghost use Rattle.fr_findings.specs.Verdict.{coverable_of, log_span, no_progress, number_or_none, progress_of, told_of_doubles};
+ghost use Rattle.fr_sightings.specs.Ranges.{IsScaleOf};
+
+use crate::census::put_census;
+use crate::coverable::Coverable;
+use crate::ends::{covered_row, cycles_told, log_row, sync_row, verdict_row};
+use crate::ground::Ground;
+use crate::progress::Progress;
+use crate::verdict::Verdict;
+use crate::writing::put_doubles;
+use fr_base::{PutFault, Sink};
+use fr_bound::bounds;
+use fr_cluster::Params;
+use fr_course::Scale;
+use fr_log::Log;
+use fr_observe::{LogSpan, precision_row};
+use fr_sightings::{Sighting, SightingList, Tally};
+use fr_text::{Line, put_line, put_lines};
+
+// The numbers of a cluster as readings of the clock of a log.
+fn scale_of(params: &Params, log: &Log) -> Scale
+    ensures value { result ≡ reading_scale log.now.drift params.now }
+    ensures proper { IsScaleOf params.now result }
+{
+    Scale::of(params, log.drift())
+}
+
+// The cycles from the first sighting to the last.
+fn number_or_none(sighting: Option<&Sighting>) -> u32
+    ensures { result ≡ number_or_none (option_copied sighting.entry) }
+{
+    match sighting {
+        None => 0,
+        Some(sighting) => sighting.number,
+    }
+}
+
+fn log_span(seen: &[Sighting]) -> LogSpan
+    ensures { result ≡ log_span seen.now }
+{
+    LogSpan {
+        first: number_or_none(seen.first()),
+        last: number_or_none(seen.last()),
+    }
+}
+
+// All double cycles.
+#[tactic(auto, unfolding(fr_observe::specs::Observing::seen_doubles))]
+fn put_all<O: Sink>(
+    ground: &Ground<'_>,
+    seen: &[Sighting],
+    untimely: &[Sighting],
+    progress: &mut Progress,
+    out: &mut O,
+) -> Result<(), PutFault>
+    requires ground { IsGround ground.now }
+    requires seen { ComeInOrder ground.now.log.now seen.now }
+    requires untimely { ComeInOrder ground.now.log.now untimely.now }
+    requires progress { progress.old ≡ no_progress }
+    ensures puts { Puts result (O.state out.old) (O.state out.new)
+        (told_of_doubles (basis_in ground.now) seen.now untimely.now no_progress (seen_doubles seen.now)) }
+    ensures progress { OnOk result (progress.new ≡
+        progress_of (basis_in ground.now) seen.now untimely.now no_progress (seen_doubles seen.now)) }
+{
+    match seen.first() {
+        None => Ok(()),
+        Some(first) => match seen.last() {
+            None => Ok(()),
+            Some(last) => put_doubles(
+                ground,
+                seen,
+                untimely,
+                first.number / 2,
+                last.number / 2,
+                progress,
+                out,
+            ),
+        },
+    }
+}
+
+// What holds of the whole log.
+#[tactic(auto, unfolding(crate::specs::Text::end_told))]
+fn end_lines(
+    seen: &[Sighting],
+    tally: &Tally,
+    covered: Coverable,
+    progress: &Progress,
+) -> [Option<Line>; 5]
+    ensures { joined_lines result ≡ end_told seen.now tally.now covered progress.now }
+{
+    [
+        Some(log_row(tally)),
+        Some(covered_row(covered)),
+        Some(sync_row(progress.sync)),
+        Some(cycles_told(seen, &progress.counts)),
+        Some(verdict_row(Verdict::of(progress))),
+    ]
+}
+
+// Behind all double cycles: the senders, and what holds of the whole log.
+fn put_end<O: Sink>(
+    ground: &Ground<'_>,
+    seen: &[Sighting],
+    tally: &Tally,
+    covered: Coverable,
+    progress: &Progress,
+    out: &mut O,
+) -> Result<(), PutFault>
+    requires { ComeInOrder ground.now.log.now seen.now }
+    ensures { Puts result (O.state out.old) (O.state out.new)
+        (census_text ground.now.params.now ground.now.log.now seen.now
+        ++ end_told seen.now tally.now covered progress.now) }
+{
+    put_census(ground.params, ground.log, seen, out)?;
+    put_lines(&end_lines(seen, tally, covered, progress), out)
+}
+
+// All behind the precision.
+#[tactic(auto, unfolding(crate::specs::Text::all_told))]
+fn put_rest<O: Sink>(
+    ground: &Ground<'_>,
+    seen: &[Sighting],
+    untimely: &[Sighting],
+    tally: &Tally,
+    covered: Coverable,
+    out: &mut O,
+) -> Result<(), PutFault>
+    requires ground { IsGround ground.now }
+    requires seen { ComeInOrder ground.now.log.now seen.now }
+    requires untimely { ComeInOrder ground.now.log.now untimely.now }
+    ensures { Puts result (O.state out.old) (O.state out.new)
+        (all_told (basis_in ground.now) seen.now untimely.now tally.now covered) }
+{
+    let mut progress = Progress::none();
+    put_all(ground, seen, untimely, &mut progress, out)?;
+    put_end(ground, seen, tally, covered, &progress, out)
+}
+
+#[tactic(auto, unfolding(crate::specs::Text::whole_told))]
+fn put_whole<O: Sink>(
+    ground: &Ground<'_>,
+    seen: &[Sighting],
+    untimely: &[Sighting],
+    tally: &Tally,
+    covered: Coverable,
+    out: &mut O,
+) -> Result<(), PutFault>
+    requires ground { IsGround ground.now }
+    requires seen { ComeInOrder ground.now.log.now seen.now }
+    requires untimely { ComeInOrder ground.now.log.now untimely.now }
+    ensures { Puts result (O.state out.old) (O.state out.new)
+        (whole_told (basis_in ground.now) seen.now untimely.now tally.now covered) }
+{
+    put_line(&precision_row(ground.precision), out)?;
+    put_rest(ground, seen, untimely, tally, covered, out)
+}
+
+// What these sightings of a log tell, its untimely frames, and what became of its entries.
+fn put_told<O: Sink>(
+    params: &Params,
+    log: &Log,
+    seen: &[Sighting],
+    untimely: &[Sighting],
+    tally: &Tally,
+    out: &mut O,
+) -> Result<(), PutFault>
+    requires seen { ComeInOrder log.now seen.now }
+    requires untimely { ComeInOrder log.now untimely.now }
+    ensures { Puts result (O.state out.old) (O.state out.new)
+        (text_with params.now log.now seen.now untimely.now tally.now (coverable_of params.now log.now)) }
+{
+    let scale = scale_of(params, log);
+    let covered = Coverable::of(params, log);
+    let ground = Ground {
+        precision: bounds(params).precision,
+        scale: &scale,
+        params,
+        log,
+        span: log_span(seen),
+        may_be_covered: covered.is_open(),
+    };
+    put_whole(&ground, seen, untimely, tally, covered, out)
+}
+
+/// Writes what a log tells of a cluster's clocks, what contradicts it, and its verdict, by its sightings: records of
+/// eight fields, each line in one put. It takes no memory but what the sink does; a fault comes only where the sink
+/// counted it, and then a front of the text was put.
+#[tactic(auto, unfolding(crate::specs::Text::observe_text))]
+pub fn write_observed<O: Sink>(
+    params: &Params,
+    log: &Log,
+    sightings: &SightingList,
+    out: &mut O,
+) -> Result<(), PutFault>
+    requires { AreGathered params.now log.now sightings.now }
+    ensures { Puts result (O.state out.old) (O.state out.new) (observe_text params.now log.now) }
+{
+    put_told(
+        params,
+        log,
+        sightings.as_slice(),
+        sightings.untimely(),
+        &sightings.tally(),
+        out,
+    )
+}

@@ -1,0 +1,219 @@
+ghost use Rattle.std.specs.Prelude.{◌≡◌, ◌+◌, ◌-◌, ◌≤◌, ◌<◌, All, OnOk};
+ghost use Rattle.std.specs.List.{flat_map, range_with_len};
+ghost use Rattle.fr_base.specs.Device.{Puts};
+ghost use Rattle.fr_course.specs.Near.{IsReadingScale};
+ghost use Rattle.fr_findings.specs.Ground.{ComeInOrder, AreWalked, IsAround, IsDouble, IsGround, basis_in, double_around, double_in};
+ghost use Rattle.fr_observe.specs.Observing.{cycles_text, double_rows, node_row};
+ghost use Rattle.fr_findings.specs.Counting.{AreFewCycles};
+ghost use Rattle.fr_observe.specs.Skews.{AreSkews};
+ghost use Rattle.fr_findings.specs.Verdict.{double_told, even_says, no_progress, odd_says, progress_of, progress_told, told_of_doubles};
+ghost use Rattle.fr_sightings.specs.Ranges.{IsProperSender};
+
+use crate::contradicting::put_faults;
+use crate::ground::{Around, Double, Ground};
+use crate::looking::{look_at, look_from};
+use crate::progress::Progress;
+use fr_base::{PutFault, Sink};
+use fr_course::Scale;
+use fr_observe::{Says, Skews, cycle_row, node_row, skews_of};
+use fr_sightings::{Sender, Sighting, seen_senders};
+use fr_text::put_line;
+
+fn put_nodes<O: Sink>(
+    scale: &Scale,
+    double: u32,
+    senders: &[Sender],
+    out: &mut O,
+) -> Result<(), PutFault>
+    requires scale { IsReadingScale scale.now }
+    requires senders { All (IsProperSender scale.now) senders.now }
+    ensures { Puts result (O.state out.old) (O.state out.new) (flat_map (node_row scale.now double) senders.now) }
+{
+    for sender in senders {
+        put_line(&node_row(scale, double, sender), out)?;
+    }
+    Ok(())
+}
+
+// The rows of both cycles of a double cycle.
+#[tactic(auto, unfolding(fr_observe::specs::Observing::cycles_text))]
+fn put_cycles<O: Sink>(
+    scale: &Scale,
+    precision: i64,
+    double: u32,
+    senders: &[Sender],
+    skews: &Skews,
+    out: &mut O,
+) -> Result<(), PutFault>
+    requires double { double < 1_000_000 }
+    requires skews { AreSkews scale.now senders.now skews.now }
+    ensures { Puts result (O.state out.old) (O.state out.new)
+        (cycles_text precision scale.now double senders.now) }
+{
+    let count = senders.len();
+    put_line(
+        &cycle_row(
+            precision,
+            2 * double,
+            count,
+            skews.even_low,
+            skews.even_high,
+        ),
+        out,
+    )?;
+    put_line(
+        &cycle_row(
+            precision,
+            2 * double + 1,
+            count,
+            skews.odd_low,
+            skews.odd_high,
+        ),
+        out,
+    )
+}
+
+// The rows of a double cycle.
+#[tactic(auto, unfolding(fr_observe::specs::Observing::double_rows))]
+fn put_rows<O: Sink>(
+    scale: &Scale,
+    precision: i64,
+    double: u32,
+    senders: &[Sender],
+    skews: &Skews,
+    out: &mut O,
+) -> Result<(), PutFault>
+    requires scale { IsReadingScale scale.now }
+    requires double { double < 1_000_000 }
+    requires senders { All (IsProperSender scale.now) senders.now }
+    requires skews { AreSkews scale.now senders.now skews.now }
+    ensures { Puts result (O.state out.old) (O.state out.new)
+        (double_rows precision scale.now double senders.now) }
+{
+    put_cycles(scale, precision, double, senders, skews, out)?;
+    put_nodes(scale, double, senders, out)
+}
+
+// What both cycles of a double cycle say.
+fn both_say(ground: &Ground<'_>, double: &Double<'_>, skews: &Skews) -> (Says, Says)
+    requires skews { AreSkews ground.now.scale.now double.now.senders.now skews.now }
+    ensures even { result.0 ≡ even_says (basis_in ground.now) (double_in double.now) }
+    ensures odd { result.1 ≡ odd_says (basis_in ground.now) (double_in double.now) }
+{
+    let precision = ground.precision;
+    (
+        Says::of(precision, skews.even_low, skews.even_high),
+        Says::of(precision, skews.odd_low, skews.odd_high),
+    )
+}
+
+// A double cycle: its rows, and behind them those of its faults.
+#[tactic(auto, unfolding(crate::specs::Verdict::double_told, crate::specs::Verdict::progress_told))]
+fn put_double<O: Sink>(
+    ground: &Ground<'_>,
+    double: &Double<'_>,
+    progress: &mut Progress,
+    out: &mut O,
+) -> Result<(), PutFault>
+    requires ground { IsGround ground.now }
+    requires double { IsDouble ground.now double.now }
+    requires few { AreFewCycles 900_000 progress.old.counts }
+    ensures puts { Puts result (O.state out.old) (O.state out.new)
+        (double_told (basis_in ground.now) (double_in double.now) progress.old) }
+    ensures progress { OnOk result (progress.new ≡
+        progress_told (basis_in ground.now) (double_in double.now) progress.old) }
+{
+    let (scale, senders) = (ground.scale, double.senders);
+    let skews = skews_of(scale, senders);
+    let precision = ground.precision;
+    put_rows(scale, precision, double.number, senders, &skews, out)?;
+    put_faults(ground, double, progress, out)?;
+    let (even, odd) = both_say(ground, double, &skews);
+    progress.pass(double.number, even, odd);
+    Ok(())
+}
+
+// The same by the sightings that it is looked at with.
+fn put_around<O: Sink>(
+    ground: &Ground<'_>,
+    around: &Around<'_>,
+    number: u32,
+    progress: &mut Progress,
+    out: &mut O,
+) -> Result<(), PutFault>
+    requires ground { IsGround ground.now }
+    requires around { IsAround ground.now around.now }
+    requires number { number < 1_000_000 }
+    requires few { AreFewCycles 900_000 progress.old.counts }
+    ensures puts { Puts result (O.state out.old) (O.state out.new)
+        (double_told (basis_in ground.now) (double_around ground.now around.now number) progress.old) }
+    ensures progress { OnOk result (progress.new ≡
+        progress_told (basis_in ground.now) (double_around ground.now around.now number) progress.old) }
+{
+    let Ground {
+        scale,
+        params,
+        log,
+        ..
+    } = *ground;
+    let list = seen_senders(scale, params, log, around.here, around.next, number);
+    let senders = list.as_slice();
+    let Around {
+        before,
+        here,
+        late,
+        ..
+    } = *around;
+    let double = Double {
+        number,
+        before,
+        here,
+        late,
+        senders,
+    };
+    put_double(ground, &double, progress, out)
+}
+
+// The double cycles from the first to the last.
+pub(crate) fn put_doubles<O: Sink>(
+    ground: &Ground<'_>,
+    seen: &[Sighting],
+    untimely: &[Sighting],
+    first: u32,
+    last: u32,
+    progress: &mut Progress,
+    out: &mut O,
+) -> Result<(), PutFault>
+    requires ground { IsGround ground.now }
+    requires seen { AreWalked ground.now first seen.now }
+    requires untimely { ComeInOrder ground.now.log.now untimely.now }
+    requires first { first ≤ last }
+    requires last { last < 100_000 }
+    requires progress { progress.old ≡ no_progress }
+    ensures puts { Puts result (O.state out.old) (O.state out.new)
+        (told_of_doubles (basis_in ground.now) seen.now untimely.now no_progress
+        (range_with_len first (last + 1 - first))) }
+    ensures progress { OnOk result (progress.new ≡
+        progress_of (basis_in ground.now) seen.now untimely.now no_progress (range_with_len first (last + 1 - first))) }
+{
+    let mut before: &[Sighting] = &[];
+    let mut rest = seen;
+    let mut rest_untimely = look_from(untimely, first);
+    let mut double = first;
+    while double <= last {
+        let look = look_at(rest, double);
+        let late = look_at(rest_untimely, double);
+        let around = Around {
+            before,
+            here: look.here,
+            next: look.next,
+            late: late.here,
+        };
+        put_around(ground, &around, double, progress, out)?;
+        before = look.here;
+        rest = look.behind;
+        rest_untimely = late.behind;
+        double += 1;
+    }
+    Ok(())
+}

@@ -1,6 +1,0 @@
-use Rattle.std.proofs.Common.{take}
-use Rattle.fr_observe.proofs.Passed.{IsPassed}
-use Rattle.fr_observe.proofs.walking.sightings.Given as goal
-
-abbrev pub invariant-loop-place : goal.invariant-loop-place
-invariant-loop-place l = IsPassed l.params l.log (take l.place l.entries) l.seen

@@ -1,0 +1,350 @@
+-- Contradictions of a log: what no lawful run can have given whose oscillators keep within what is stated; and what none can
+-- have given that is covered and in sync.
+use Rattle.std.specs.Prelude.{◌≡◌, ℕ, ◌+◌, ◌-◌, ◌*◌, ◌/◌, ◌==◌, ◌&&◌, ◌||◌, not, nat_le, nat_lt, ℤ, pos, neg_ℤ, int_le, int_lt, Bool, true, false, List, [], ◌∷◌, ◌++◌, codes, length, map, filter_map, count_by, Option, Some, None, is_some, if◌then◌else◌}
+use Rattle.std.specs.Fmt.{decimal}
+use Rattle.std.specs.List.{filter, flat_map, list_all, list_any}
+use Rattle.std.specs.Option.{option_and_then, option_map, option_or, option_to_list}
+use Rattle.fr_base.specs.Channels.{letter}
+use Rattle.fr_base.specs.declared.channel.Channel.{Channel}
+use Rattle.fr_base.specs.declared.channel.Channel.TheVariants as channel
+use Rattle.fr_bound.specs.Bounds.{lambda_of, longest_micro, pi_of, shortest_micro}
+use Rattle.fr_cluster.specs.Questions.{has_channel}
+use Rattle.fr_cluster.specs.Values.{Values, amount}
+use Rattle.fr_cluster.specs.declared.names.ParamName.TheVariants as name
+use Rattle.fr_cluster.specs.declared.nodes.NodeSpec.{NodeSpec}
+use Rattle.fr_log.specs.View.{LogView, is_arbitrary_in}
+use Rattle.fr_course.specs.Computed.{length_ticks, measuring_of, offset_computed, rate_computed}
+use Rattle.fr_course.specs.Course.{apart_by, is_empty, seen_apart}
+use Rattle.fr_course.specs.Spread.{lengths_apart, starts_apart}
+use Rattle.fr_course.specs.Terms.{rate_step_seen}
+use Rattle.fr_course.specs.declared.courses.Course.{Course}
+use Rattle.fr_course.specs.declared.intervals.Interval.{Interval}
+use Rattle.fr_course.specs.declared.scales.Scale.{Scale}
+use Rattle.fr_sightings.specs.Senders.{first_stamp, own_slot, seen_box, seen_span}
+use Rattle.fr_sightings.specs.declared.sender.Sender.{Sender}
+use Rattle.fr_sightings.specs.declared.sighting.Sighting.{Sighting}
+use Rattle.fr_observe.specs.Observing.{courses_of, even_high, even_low, known, known_count, odd_high, odd_low, row, terms_of}
+use Rattle.fr_observe.specs.declared.fault.Fault.{Fault}
+use Rattle.fr_observe.specs.declared.fault.FaultKind.{FaultKind}
+use Rattle.fr_observe.specs.declared.fault.FaultKind.TheVariants.{Channels, Limit, Correction, Twice, Cycle, Skew, Start, Lengths, Length, Offset, Rate, Missing}
+use Rattle.fr_observe.specs.declared.fault.LogSpan.{LogSpan}
+use Rattle.fr_observe.specs.declared.fault.SyncFrom.{SyncFrom}
+
+-- whether a kind is a contradiction only of covered runs in sync
+abbrev pub asks_sync : FaultKind → Bool
+asks_sync Channels = false
+asks_sync Limit = false
+asks_sync Correction = false
+asks_sync Twice = false
+asks_sync Cycle = false
+asks_sync Skew = true
+asks_sync Start = true
+asks_sync Lengths = true
+asks_sync Length = true
+asks_sync Offset = true
+asks_sync Rate = true
+asks_sync Missing = true
+
+-- one without a channel
+abbrev pub plain_fault : ℕ → Option ℕ → FaultKind → Option ℤ → Option ℤ → Option ℤ → Option ℤ → Fault
+plain_fault cycle node kind low high from to =
+    record { cycle = cycle; node = node; kind = kind; channel = None; low = low; high = high; from = from; to = to }
+
+-- whether there are none, and the first of some
+abbrev pub is_nil : List Fault → Bool
+is_nil [] = true
+is_nil (fault ∷ faults) = false
+
+abbrev pub first_of_faults : List Fault → Option Fault
+first_of_faults [] = None
+first_of_faults (fault ∷ faults) = Some fault
+
+-- ---- of a node, whatever the run
+
+-- by its frames on both channels its action point in a cycle lies nowhere
+abbrev pub box_fault : ℕ → ℕ → Option Interval → Option Fault
+box_fault cycle node None = None
+box_fault cycle node (Some box) =
+    if is_empty box then Some (plain_fault cycle (Some node) Channels (Some box.low) (Some box.high) None None) else None
+
+-- both of its action points in a double cycle lie somewhere, but so far apart as no cycle is long
+abbrev pub limit_with : Scale → ℕ → ℕ → Interval → Fault
+limit_with scale cycle node apart =
+    plain_fault cycle (Some node) Limit (Some apart.low) (Some apart.high) (Some scale.length_from) (Some scale.length_to)
+
+abbrev pub limit_fault : Scale → ℕ → ℕ → Option Interval → Option Interval → Option Interval → Option Fault
+limit_fault scale cycle node None odd span = None
+limit_fault scale cycle node (Some even) None span = None
+limit_fault scale cycle node (Some even) (Some odd) span =
+    if is_empty even || is_empty odd then None
+    else if is_empty (apart_by scale even odd span)
+    then Some (limit_with scale cycle node (seen_apart even odd span))
+    else None
+
+unfoldable pub clock_faults : Scale → LogView → List Sighting → ℕ → ℕ → List Fault
+clock_faults scale l here double node =
+    option_to_list (box_fault (2 * double) node (seen_box l here node (2 * double)))
+    ++ option_to_list (box_fault (2 * double + 1) node (seen_box l here node (2 * double + 1)))
+    ++ option_to_list
+    (
+    limit_fault scale (2 * double) node (seen_box l here node (2 * double)) (seen_box l here node (2 * double + 1))
+    (seen_span l here here node (2 * double) (2 * double + 1))
+    )
+
+-- of a correct node with a key slot
+abbrev pub node_faults : Scale → LogView → List Sighting → ℕ → NodeSpec → List Fault
+node_faults scale l here double node = if is_some (own_slot l node) then clock_faults scale l here double node.id else []
+
+-- the offset term that was seen is none that the limits allow
+abbrev pub term_fault : Values → ℕ → ℕ → Interval → Option Fault
+term_fault p cycle node term =
+    if is_empty term || int_lt p.offset_limit term.low || int_lt term.high (neg_ℤ p.offset_limit)
+    then Some (
+    plain_fault cycle (Some node) Correction (Some term.low) (Some term.high) (Some (neg_ℤ p.offset_limit)) (Some p.offset_limit)
+    )
+    else None
+
+abbrev pub correction_fault : Values → Scale → ℕ → Sender → Option Fault
+correction_fault p scale double s = option_and_then (term_fault p (2 * double + 1) s.node) (terms_of scale s)
+
+-- a frame is there twice, with two stamps: B is its stamp, C that of the first one
+abbrev pub twice_with : Sighting → ℕ → Fault
+twice_with s first =
+    record {
+      cycle = s.number;
+      node = Some s.node;
+      kind = Twice;
+      channel = Some s.channel;
+      low = None;
+      high = Some (pos s.stamp);
+      from = Some (pos first);
+      to = None;
+    }
+
+abbrev pub twice_by : Sighting → Option ℕ → Option Fault
+twice_by s None = None
+twice_by s (Some first) = if first == s.stamp then None else Some (twice_with s first)
+
+abbrev pub twice_fault : List Sighting → Sighting → Option Fault
+twice_fault here s = twice_by s (first_stamp here s.node s.channel s.number)
+
+-- a sighting has the stamp of the first one of its node on its channel in its cycle
+abbrev pub IsFirst : List Sighting → Sighting → Type 0
+IsFirst here s = first_stamp here s.node s.channel s.number ≡ Some s.stamp
+
+-- a frame comes at another time than its cycle count says: B is its stamp, C its cycle count; the cycle is that of the
+-- sighting before it
+abbrev pub cycle_fault : Sighting → Fault
+cycle_fault s =
+    record {
+      cycle = s.number;
+      node = Some s.node;
+      kind = Cycle;
+      channel = Some s.channel;
+      low = None;
+      high = Some (pos s.stamp);
+      from = Some (pos s.count);
+      to = None;
+    }
+
+-- what contradicts any run: `here` are the sightings of the double cycle, `late` its untimely frames, `senders` its senders
+unfoldable pub own_faults : Values → Scale → LogView → List Sighting → List Sighting → ℕ → List Sender → List Fault
+own_faults p scale l here late double senders =
+    flat_map (node_faults scale l here double) p.nodes
+    ++ filter_map (correction_fault p scale double) senders
+    ++ filter_map (twice_fault here) here
+    ++ map cycle_fault late
+
+-- ---- in sync
+
+-- a node is arbitrary, or was seen in both cycles
+abbrev pub is_seen_whole : LogView → List Sighting → ℕ → NodeSpec → Bool
+is_seen_whole l here double node =
+    is_arbitrary_in l node.id
+    || (
+    is_some node.key && is_some (seen_box l here node.id (2 * double)) && is_some (seen_box l here node.id (2 * double + 1))
+    )
+
+-- the ticks of a cycle at the shortest and at the longest microtick
+abbrev pub shortest_cycle_of : Values → ℤ
+shortest_cycle_of p = pos (amount p name.pMicroPerCycle * shortest_micro p)
+
+abbrev pub longest_cycle_of : Values → ℤ
+longest_cycle_of p = pos (amount p name.pMicroPerCycle * longest_micro p)
+
+abbrev pub has_proper_length : Values → Scale → Sender → Bool
+has_proper_length p scale s =
+    int_le (shortest_cycle_of p) (length_ticks scale s.course).low
+    && int_le (length_ticks scale s.course).high (longest_cycle_of p)
+
+-- a double cycle is certainly in sync: nothing contradicts it, all nodes that are not arbitrary were seen in both of its cycles,
+-- and their starts and lengths certainly lie within the bounds of the cluster
+unfoldable pub is_sync_seen : Values → Scale → LogView → List Sighting → ℕ → List Sender → List Fault → Bool
+is_sync_seen p scale l here double senders faults =
+    is_nil faults && list_all (is_seen_whole l here double) p.nodes
+    && int_le (starts_apart scale (courses_of senders)).high (pos (pi_of p))
+    && int_le (lengths_apart scale (courses_of senders)).high (pos (lambda_of p))
+    && list_all (has_proper_length p scale) senders
+
+-- from which double cycle on the cluster is in sync: as seen, or as the log states
+abbrev pub stated_sync : Option ℕ → ℕ → Option SyncFrom
+stated_sync None double = None
+stated_sync (Some cycle) double = if nat_le cycle (2 * double) then Some (record { double = cycle / 2; is_stated = true }) else None
+
+abbrev pub seen_sync : Bool → ℕ → Option SyncFrom
+seen_sync true double = Some (record { double = double; is_stated = false })
+seen_sync false double = None
+
+abbrev pub sync_behind : LogView → ℕ → Bool → Option SyncFrom → Option SyncFrom
+sync_behind l double seen None = option_or (stated_sync l.since double) (seen_sync seen double)
+sync_behind l double seen (Some from) = Some from
+
+-- ---- of a covered run in sync
+
+-- the skew was certainly greater than the precision
+abbrev pub skew_fault : ℤ → ℕ → ℤ → Option ℤ → Option Fault
+skew_fault precision cycle low high =
+    if int_lt precision low then Some (plain_fault cycle None Skew (Some low) high None (Some precision)) else None
+
+-- starts, or lengths, certainly lay further apart than a bound
+abbrev pub beyond_fault : FaultKind → ℕ → ℤ → Interval → Option Fault
+beyond_fault kind cycle bound apart =
+    if int_lt bound apart.low
+    then Some (plain_fault cycle None kind (Some apart.low) (Some apart.high) None (Some bound))
+    else None
+
+-- a length is certainly none of an oscillator within its bounds
+abbrev pub length_fault_by : ℕ → ℕ → ℤ → ℤ → Interval → Option Fault
+length_fault_by cycle node least most long =
+    if int_lt most long.low || int_lt long.high least
+    then Some (plain_fault cycle (Some node) Length (Some long.low) (Some long.high) (Some least) (Some most))
+    else None
+
+abbrev pub length_fault : Values → Scale → ℕ → Sender → Option Fault
+length_fault p scale double s =
+    length_fault_by (2 * double) s.node (shortest_cycle_of p) (longest_cycle_of p) (length_ticks scale s.course)
+
+-- what was seen of a term, and what the node must have computed, have no number in common
+abbrev pub unlike_with : FaultKind → ℕ → ℕ → Interval → Interval → Fault
+unlike_with kind cycle node seen computed =
+    plain_fault cycle (Some node) kind (Some seen.low) (Some seen.high) (Some computed.low) (Some computed.high)
+
+abbrev pub unlike_fault : FaultKind → ℕ → ℕ → Option Interval → Option Interval → Option Fault
+unlike_fault kind cycle node None computed = None
+unlike_fault kind cycle node (Some seen) None = None
+unlike_fault kind cycle node (Some seen) (Some computed) =
+    if int_lt seen.high computed.low || int_lt computed.high seen.low
+    then Some (unlike_with kind cycle node seen computed)
+    else None
+
+-- the courses of the other senders; how many further sync nodes may have been heard
+abbrev pub other_courses : List Sender → ℕ → List Course
+other_courses senders node = courses_of (filter (λ s. not (s.node == node)) senders)
+
+abbrev pub further_of : Values → List Sender → ℕ
+further_of p senders = count_by (λ node. is_some node.key) p.nodes - length senders
+
+abbrev pub offset_fault : Values → Scale → ℕ → List Sender → Sender → Option Fault
+offset_fault p scale double senders s =
+    unlike_fault Offset (2 * double + 1) s.node (terms_of scale s)
+    (offset_computed scale (measuring_of p) s.course (other_courses senders s.node) (further_of p senders))
+
+abbrev pub rate_fault : Values → Scale → ℕ → List Sender → Sender → Option Fault
+rate_fault p scale double senders s =
+    unlike_fault Rate (2 * double + 1) s.node (option_map (rate_step_seen scale s.course) s.next)
+    (rate_computed scale (measuring_of p) s.course (other_courses senders s.node) (further_of p senders))
+
+-- no frame of a node is there that must have been: it sent in the double cycle before, in sync, and the observer missed none
+-- between the first and the last sighting of the log
+abbrev pub is_inside : LogSpan → ℕ → Bool
+is_inside span cycle = nat_lt span.first cycle && nat_lt cycle span.last
+
+abbrev pub missing_with : ℕ → ℕ → Channel → Fault
+missing_with cycle node ch =
+    record {
+      cycle = cycle;
+      node = Some node;
+      kind = Missing;
+      channel = Some ch;
+      low = None;
+      high = None;
+      from = None;
+      to = None;
+    }
+
+abbrev pub missing_on : LogSpan → List Sighting → ℕ → ℕ → Channel → Option Fault
+missing_on span here cycle node ch =
+    if is_inside span cycle && not (is_some (first_stamp here node ch cycle)) then Some (missing_with cycle node ch) else None
+
+-- on a channel that the node has
+abbrev pub missing_by : LogSpan → List Sighting → ℕ → NodeSpec → Channel → Option Fault
+missing_by span here cycle node ch = if has_channel (Some node) ch then missing_on span here cycle node.id ch else None
+
+abbrev pub missing_in : LogSpan → List Sighting → ℕ → NodeSpec → List Fault
+missing_in span here cycle node =
+    option_to_list (missing_by span here cycle node channel.A) ++ option_to_list (missing_by span here cycle node channel.B)
+
+-- on each channel that the node has, in the even and then in the odd cycle
+abbrev pub missing_of : LogSpan → List Sighting → ℕ → NodeSpec → List Fault
+missing_of span here double node = missing_in span here (2 * double) node ++ missing_in span here (2 * double + 1) node
+
+abbrev pub was_seen : List Sighting → ℕ → Bool
+was_seen before node = list_any (λ s. s.node == node) before
+
+-- `before` are the sightings of the double cycle before
+abbrev pub node_missing : LogView → LogSpan → List Sighting → List Sighting → ℕ → NodeSpec → List Fault
+node_missing l span before here double node =
+    if is_some (own_slot l node) && was_seen before node.id then missing_of span here double node else []
+
+abbrev pub missing_frames : Values → LogView → LogSpan → List Sighting → List Sighting → ℕ → List Fault
+missing_frames p l span before here double = if l.whole then flat_map (node_missing l span before here double) p.nodes else []
+
+-- what contradicts a covered run in sync
+unfoldable pub sync_faults : ℤ → Values → Scale → LogView → LogSpan → List Sighting → List Sighting → ℕ → List Sender → List Fault
+sync_faults precision p scale l span before here double senders =
+    option_to_list (skew_fault precision (2 * double) (even_low scale senders) (even_high scale senders))
+    ++ option_to_list (skew_fault precision (2 * double + 1) (odd_low scale senders) (odd_high scale senders))
+    ++ option_to_list (beyond_fault Start (2 * double) (pos (pi_of p)) (starts_apart scale (courses_of senders)))
+    ++ option_to_list (beyond_fault Lengths (2 * double) (pos (lambda_of p)) (lengths_apart scale (courses_of senders)))
+    ++ filter_map (length_fault p scale double) senders
+    ++ filter_map (offset_fault p scale double senders) senders
+    ++ filter_map (rate_fault p scale double senders) senders
+    ++ missing_frames p l span before here double
+
+-- told where sync is known and nothing keeps a run from being covered; the double cycle before counts from that of sync on
+abbrev pub before_in_sync : SyncFrom → ℕ → List Sighting → List Sighting
+before_in_sync from double before = if nat_lt from.double double then before else []
+
+abbrev pub faults_in_sync : Bool → Option SyncFrom → (SyncFrom → List Fault) → List Fault
+faults_in_sync may_be_covered None faults = []
+faults_in_sync false (Some from) faults = []
+faults_in_sync true (Some from) faults = faults from
+
+-- ---- as records
+
+abbrev pub kind_word : FaultKind → List ℕ
+kind_word Channels = codes "channels"
+kind_word Limit = codes "limit"
+kind_word Correction = codes "correction"
+kind_word Twice = codes "twice"
+kind_word Cycle = codes "cycle"
+kind_word Skew = codes "skew"
+kind_word Start = codes "start"
+kind_word Lengths = codes "lengths"
+kind_word Length = codes "length"
+kind_word Offset = codes "offset"
+kind_word Rate = codes "rate"
+kind_word Missing = codes "missing"
+
+-- the channel of a fault that has one, and else its least number
+abbrev pub first_field : Option Channel → Option ℤ → List ℕ
+first_field None low = known low
+first_field (Some ch) low = letter ch
+
+unfoldable pub fault_row : Fault → List ℕ
+fault_row f =
+    row (codes "fault")
+    (
+    decimal f.cycle ∷ known_count f.node ∷ kind_word f.kind ∷ first_field f.channel f.low ∷ known f.high ∷ known f.from
+    ∷ known f.to ∷ []
+    )

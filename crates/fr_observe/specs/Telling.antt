@@ -1,0 +1,25 @@
+-- Contradictions as they are told, one after the other.
+use Rattle.std.specs.Prelude.{◌≡◌, ℕ, List, Option, Result, OnOk}
+use Rattle.std.specs.List.{flat_map}
+use Rattle.std.specs.Option.{option_or}
+use Rattle.fr_base.specs.Device.{Puts, Sunk}
+use Rattle.fr_base.specs.declared.sink.PutFault.{PutFault}
+use Rattle.fr_cluster.specs.Values.{Values}
+use Rattle.fr_course.specs.declared.scales.Scale.{Scale}
+use Rattle.fr_sightings.specs.declared.sender.Sender.{Sender}
+use Rattle.fr_observe.specs.Faults.{correction_fault, fault_row, first_of_faults, length_fault, offset_fault, rate_fault}
+use Rattle.fr_observe.specs.declared.fault.Fault.{Fault}
+use Rattle.fr_observe.specs.declared.sender_faults.Asked.{Asked}
+use Rattle.fr_observe.specs.declared.sender_faults.Asked.TheVariants as asked
+
+-- the rows of some were put, and the first one of all that were told is kept
+pub record TellsFaults (result : Result (Unit {0}) PutFault) (before now : Sunk) (earlier kept : Option Fault) (faults : List Fault) : Type 0 where
+  pub puts : Puts result before now (flat_map fault_row faults)
+  pub first : OnOk result (kept ≡ option_or earlier (first_of_faults faults))
+
+-- what is asked of a sender
+abbrev pub sender_fault : Asked → Values → Scale → ℕ → List Sender → Sender → Option Fault
+sender_fault asked.Correction p scale double senders s = correction_fault p scale double s
+sender_fault asked.Length p scale double senders s = length_fault p scale double s
+sender_fault asked.Offset p scale double senders s = offset_fault p scale double senders s
+sender_fault asked.Rate p scale double senders s = rate_fault p scale double senders s

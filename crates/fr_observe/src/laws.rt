@@ -1,7 +1,0 @@
-ghost use Rattle.fr_observe.specs.Sightings.{SilenceEndsAll};
-
-/// A law: behind a silence that is too long to go on no entry of a log is a sighting any more, and none a stray, since
-/// the last sighting stays and stamps do not fall.
-pub fn silence_ends_all()
-    ensures { SilenceEndsAll }
-{}

@@ -1,0 +1,379 @@
+ghost use Rattle.std.specs.Prelude.{◌≡◌, ◌*◌, ◌≤◌, ◌<◌, Some, All, IfSome, filter_map, length, map, pos};
+ghost use Rattle.std.specs.List.{flat_map};
+ghost use Rattle.fr_course.specs.Course.{apart_by};
+ghost use Rattle.fr_course.specs.Near.{EndWithin, IsBox, IsReadingScale, IsSpan};
+ghost use Rattle.fr_log.specs.Rows.{last_stamp};
+ghost use Rattle.fr_sightings.specs.Ranges.{AreLogStamps, IsProperSender};
+ghost use Rattle.fr_sightings.specs.Senders.{first_stamp};
+ghost use Rattle.fr_observe.specs.Faults.{IsFirst, box_fault, clock_faults, cycle_fault, limit_fault, limit_with, node_faults, own_faults, twice_by, twice_fault};
+ghost use Rattle.fr_observe.specs.Telling.{TellsFaults};
+
+use crate::fault::{Fault, FaultKind, printed};
+use crate::first_list::FirstList;
+use crate::nodes::{is_judged, node_at, node_count};
+use crate::sender_faults::{Asked, put_of_senders};
+use crate::telling::{tell, tell_one};
+use fr_base::{NodeId, PutFault, Sink};
+use fr_cluster::{NodeSpec, Params};
+use fr_course::{Interval, Scale, allowed, between, is_empty, meet, meet_if, seen_apart};
+use fr_log::Log;
+use fr_sightings::{Sender, Sighting, first_stamp, seen_box, seen_span};
+
+// By its frames on both channels an action point of a node lies nowhere.
+fn box_fault(cycle: u32, node: NodeId, place: Option<Interval>) -> Option<Fault>
+    requires { IfSome place IsBox }
+    ensures { result ≡ box_fault cycle node place }
+{
+    match place {
+        None => None,
+        Some(place) => {
+            if is_empty(&place) {
+                Some(Fault::plain(
+                    cycle,
+                    Some(node),
+                    FaultKind::Channels,
+                    (printed(place.low), Some(printed(place.high))),
+                    (None, None),
+                ))
+            } else {
+                None
+            }
+        }
+    }
+}
+
+// How far apart both action points of a double cycle can be.
+fn apart_by(scale: &Scale, even: &Interval, odd: &Interval, span: Option<Interval>) -> Interval
+    requires scale { IsReadingScale scale.now }
+    requires even { IsBox even.now }
+    requires odd { IsBox odd.now }
+    ensures { result ≡ apart_by scale.now even.now odd.now span }
+{
+    meet_if(span, &meet(&allowed(scale), &between(even, odd)))
+}
+
+// They lie so far apart as no cycle is long.
+fn limit_with(scale: &Scale, cycle: u32, node: NodeId, apart: &Interval) -> Fault
+    requires scale { IsReadingScale scale.now }
+    requires apart { EndWithin (pos 920_000_000_000_000_000) apart.now }
+    ensures { result ≡ limit_with scale.now cycle node apart.now }
+{
+    Fault::apart(cycle, node, FaultKind::Limit, apart, &allowed(scale))
+}
+
+fn limit_by(
+    scale: &Scale,
+    cycle: u32,
+    node: NodeId,
+    even: &Interval,
+    odd: &Interval,
+    span: Option<Interval>,
+) -> Option<Fault>
+    requires scale { IsReadingScale scale.now }
+    requires even { IsBox even.now }
+    requires odd { IsBox odd.now }
+    requires span { IfSome span IsSpan }
+    ensures { result ≡ limit_fault scale.now cycle node (Some even.now) (Some odd.now) span }
+{
+    if is_empty(even) || is_empty(odd) {
+        None
+    } else if is_empty(&apart_by(scale, even, odd, span)) {
+        Some(limit_with(scale, cycle, node, &seen_apart(even, odd, span)))
+    } else {
+        None
+    }
+}
+
+fn limit_fault(
+    scale: &Scale,
+    cycle: u32,
+    node: NodeId,
+    even: Option<Interval>,
+    odd: Option<Interval>,
+    span: Option<Interval>,
+) -> Option<Fault>
+    requires scale { IsReadingScale scale.now }
+    requires even { IfSome even IsBox }
+    requires odd { IfSome odd IsBox }
+    requires span { IfSome span IsSpan }
+    ensures { result ≡ limit_fault scale.now cycle node even odd span }
+{
+    match even {
+        None => None,
+        Some(even) => match odd {
+            None => None,
+            Some(odd) => limit_by(scale, cycle, node, &even, &odd, span),
+        },
+    }
+}
+
+// What contradicts any clock of a node in a double cycle.
+#[tactic(auto, unfolding(crate::specs::Faults::clock_faults))]
+fn put_clock<O: Sink>(
+    scale: &Scale,
+    log: &Log,
+    here: &[Sighting],
+    double: u32,
+    node: NodeId,
+    first: &mut Option<Fault>,
+    out: &mut O,
+) -> Result<(), PutFault>
+    requires scale { IsReadingScale scale.now }
+    requires here { AreLogStamps log.now here.now }
+    requires double { double < 1_000_000 }
+    ensures { TellsFaults result (O.state out.old) (O.state out.new) first.old first.new
+        (clock_faults scale.now log.now here.now double node) }
+{
+    let (even, odd) = (2 * double, 2 * double + 1);
+    let at_even = seen_box(log, here, node, even);
+    let at_odd = seen_box(log, here, node, odd);
+    let span = seen_span(log, here, here, node, even, odd);
+    tell(box_fault(even, node, at_even), first, out)?;
+    tell(box_fault(odd, node, at_odd), first, out)?;
+    tell(
+        limit_fault(scale, even, node, at_even, at_odd, span),
+        first,
+        out,
+    )
+}
+
+fn put_node<O: Sink>(
+    scale: &Scale,
+    log: &Log,
+    here: &[Sighting],
+    double: u32,
+    node: &NodeSpec,
+    first: &mut Option<Fault>,
+    out: &mut O,
+) -> Result<(), PutFault>
+    requires scale { IsReadingScale scale.now }
+    requires here { AreLogStamps log.now here.now }
+    requires double { double < 1_000_000 }
+    ensures { TellsFaults result (O.state out.old) (O.state out.new) first.old first.new
+        (node_faults scale.now log.now here.now double node.now) }
+{
+    if is_judged(log, node) {
+        put_clock(scale, log, here, double, node.id, first, out)
+    } else {
+        Ok(())
+    }
+}
+
+// The same of all nodes.
+fn put_clocks<O: Sink>(
+    scale: &Scale,
+    params: &Params,
+    log: &Log,
+    here: &[Sighting],
+    double: u32,
+    first: &mut Option<Fault>,
+    out: &mut O,
+) -> Result<(), PutFault>
+    requires scale { IsReadingScale scale.now }
+    requires here { AreLogStamps log.now here.now }
+    requires double { double < 1_000_000 }
+    ensures { TellsFaults result (O.state out.old) (O.state out.new) first.old first.new
+        (flat_map (node_faults scale.now log.now here.now double) params.now.nodes) }
+{
+    for place in 0..node_count(params) {
+        let node = node_at(params, place);
+        put_node(scale, log, here, double, node, first, out)?;
+    }
+    Ok(())
+}
+
+// A stamp of a log as a number that is printed.
+fn stamp_number(log: &Log, stamp: u64) -> i64
+    requires { log.now.unit * stamp ≤ last_stamp }
+    ensures { result ≡ pos stamp }
+{
+    let _unit = log.unit();
+    stamp as i64
+}
+
+// Keeps a sighting that is the first one of its node on its channel in its cycle, if it has room.
+#[tactic(auto, using(crate::proofs::Firsts::firsts_more))]
+fn keep_first(firsts: &mut FirstList, here: &[Sighting], sighting: &Sighting, stamp: u64)
+    requires firsts { All (IsFirst here.now) firsts.old }
+    requires stamp { first_stamp here.now sighting.now.node sighting.now.channel sighting.now.number ≡ Some stamp }
+    ensures { All (IsFirst here.now) firsts.new }
+{
+    if stamp == sighting.stamp && firsts.has_room() {
+        firsts.push(*sighting);
+    }
+}
+
+// The stamp of the first frame that is sent with a sighting, by a search of all: what is found is kept.
+fn searched(firsts: &mut FirstList, here: &[Sighting], sighting: &Sighting) -> Option<u64>
+    requires { All (IsFirst here.now) firsts.old }
+    ensures value { result ≡ first_stamp here.now sighting.now.node sighting.now.channel sighting.now.number }
+    ensures firsts { All (IsFirst here.now) firsts.new }
+{
+    match first_stamp(here, sighting.node, sighting.channel, sighting.number) {
+        None => None,
+        Some(stamp) => {
+            keep_first(firsts, here, sighting, stamp);
+            Some(stamp)
+        }
+    }
+}
+
+// The same by those that were kept, so that all are searched only once for each node, channel and cycle.
+#[tactic(auto, using(crate::proofs::Firsts::firsts_say))]
+fn first_beside(firsts: &mut FirstList, here: &[Sighting], sighting: &Sighting) -> Option<u64>
+    requires { All (IsFirst here.now) firsts.old }
+    ensures value { result ≡ first_stamp here.now sighting.now.node sighting.now.channel sighting.now.number }
+    ensures firsts { All (IsFirst here.now) firsts.new }
+{
+    match first_stamp(
+        firsts.as_slice(),
+        sighting.node,
+        sighting.channel,
+        sighting.number,
+    ) {
+        None => searched(firsts, here, sighting),
+        Some(stamp) => Some(stamp),
+    }
+}
+
+// The same, which lies within the limits of the log.
+fn timed_beside(
+    log: &Log,
+    firsts: &mut FirstList,
+    here: &[Sighting],
+    sighting: &Sighting,
+) -> Option<u64>
+    requires here { AreLogStamps log.now here.now }
+    requires firsts { All (IsFirst here.now) firsts.old }
+    ensures value { result ≡ first_stamp here.now sighting.now.node sighting.now.channel sighting.now.number }
+    ensures firsts { All (IsFirst here.now) firsts.new }
+    ensures timed { IfSome result (λ stamp. log.now.unit * stamp ≤ last_stamp) }
+{
+    first_beside(firsts, here, sighting)
+}
+
+fn twice_by(log: &Log, sighting: &Sighting, first: u64) -> Option<Fault>
+    requires stamp { log.now.unit * sighting.now.stamp ≤ last_stamp }
+    requires first { log.now.unit * first ≤ last_stamp }
+    ensures { result ≡ twice_by sighting.now (Some first) }
+{
+    if first == sighting.stamp {
+        None
+    } else {
+        Some(Fault {
+            cycle: sighting.number,
+            node: Some(sighting.node),
+            kind: FaultKind::Twice,
+            channel: Some(sighting.channel),
+            low: None,
+            high: Some(stamp_number(log, sighting.stamp)),
+            from: Some(stamp_number(log, first)),
+            to: None,
+        })
+    }
+}
+
+// A frame is there twice, with two stamps.
+fn twice_fault(
+    log: &Log,
+    firsts: &mut FirstList,
+    here: &[Sighting],
+    sighting: &Sighting,
+) -> Option<Fault>
+    requires here { AreLogStamps log.now here.now }
+    requires firsts { All (IsFirst here.now) firsts.old }
+    requires stamp { log.now.unit * sighting.now.stamp ≤ last_stamp }
+    ensures value { result ≡ twice_fault here.now sighting.now }
+    ensures firsts { All (IsFirst here.now) firsts.new }
+{
+    match timed_beside(log, firsts, here, sighting) {
+        None => None,
+        Some(first) => twice_by(log, sighting, first),
+    }
+}
+
+fn put_twice<O: Sink>(
+    log: &Log,
+    here: &[Sighting],
+    first: &mut Option<Fault>,
+    out: &mut O,
+) -> Result<(), PutFault>
+    requires { AreLogStamps log.now here.now }
+    ensures { TellsFaults result (O.state out.old) (O.state out.new) first.old first.new
+        (filter_map (twice_fault here.now) here.now) }
+{
+    let mut firsts = FirstList::new();
+    for sighting in here {
+        tell(twice_fault(log, &mut firsts, here, sighting), first, out)?;
+    }
+    Ok(())
+}
+
+// A frame comes at another time than its cycle count says.
+fn cycle_fault(log: &Log, sighting: &Sighting) -> Fault
+    requires { log.now.unit * sighting.now.stamp ≤ last_stamp }
+    ensures { result ≡ cycle_fault sighting.now }
+{
+    Fault {
+        cycle: sighting.number,
+        node: Some(sighting.node),
+        kind: FaultKind::Cycle,
+        channel: Some(sighting.channel),
+        low: None,
+        high: Some(stamp_number(log, sighting.stamp)),
+        from: Some(i64::from(sighting.count)),
+        to: None,
+    }
+}
+
+fn put_late<O: Sink>(
+    log: &Log,
+    late: &[Sighting],
+    first: &mut Option<Fault>,
+    out: &mut O,
+) -> Result<(), PutFault>
+    requires { AreLogStamps log.now late.now }
+    ensures { TellsFaults result (O.state out.old) (O.state out.new) first.old first.new (map cycle_fault late.now) }
+{
+    for sighting in late {
+        tell_one(&cycle_fault(log, sighting), first, out)?;
+    }
+    Ok(())
+}
+
+/// Tells what contradicts any run in a double cycle, by its sightings, its untimely frames and its senders: each in one
+/// put, and the first one of all that were told is kept.
+#[tactic(auto, unfolding(crate::specs::Faults::own_faults))]
+pub fn put_own_faults<O: Sink>(
+    scale: &Scale,
+    params: &Params,
+    log: &Log,
+    here: &[Sighting],
+    late: &[Sighting],
+    double: u32,
+    senders: &[Sender],
+    first: &mut Option<Fault>,
+    out: &mut O,
+) -> Result<(), PutFault>
+    requires scale { IsReadingScale scale.now }
+    requires here { AreLogStamps log.now here.now }
+    requires late { AreLogStamps log.now late.now }
+    requires double { double < 1_000_000 }
+    requires few { length senders.now ≤ 64 }
+    requires senders { All (IsProperSender scale.now) senders.now }
+    ensures { TellsFaults result (O.state out.old) (O.state out.new) first.old first.new
+        (own_faults params.now scale.now log.now here.now late.now double senders.now) }
+{
+    put_clocks(scale, params, log, here, double, first, out)?;
+    put_of_senders(
+        Asked::Correction,
+        scale,
+        params,
+        double,
+        senders,
+        first,
+        out,
+    )?;
+    put_twice(log, here, first, out)?;
+    put_late(log, late, first, out)
+}

@@ -1,0 +1,350 @@
+ghost use Rattle.std.specs.Prelude.{◌≡◌, ◌≤◌, ◌<◌, ◌||◌, Some, All, IfSome, filter_map, int_lt, is_some, length, neg_ℤ, pos};
+ghost use Rattle.std.specs.List.{Contains};
+ghost use Rattle.std.specs.Option.{option_map};
+ghost use Rattle.fr_base.specs.Within.{IsBetween};
+ghost use Rattle.fr_course.specs.Computed.{measuring_of, offset_computed, rate_computed};
+ghost use Rattle.fr_course.specs.Course.{is_empty};
+ghost use Rattle.fr_course.specs.Near.{EndWithin, IsNearCourse, IsReadingScale};
+ghost use Rattle.fr_course.specs.Terms.{rate_step_seen};
+ghost use Rattle.fr_sightings.specs.Ranges.{IsProperSender};
+ghost use Rattle.fr_observe.specs.Faults.{correction_fault, further_of, length_fault, length_fault_by, longest_cycle_of, offset_fault, other_courses, rate_fault, shortest_cycle_of, term_fault, unlike_fault};
+ghost use Rattle.fr_observe.specs.Telling.{TellsFaults, sender_fault};
+
+use crate::course_list::CourseList;
+use crate::fault::{Fault, FaultKind};
+use crate::nodes::keyed_count;
+use crate::rows::terms_of;
+use crate::telling::tell;
+use fr_base::{NodeId, PutFault, Sink};
+use fr_bound::{longest_microtick, shortest_microtick};
+use fr_cluster::{ParamName, Params};
+use fr_course::{
+    Interval, Measuring, Scale, is_empty, length_ticks, offset_computed, rate_computed,
+    rate_step_seen,
+};
+use fr_sightings::Sender;
+
+// What is asked of a sender.
+#[derive(Clone, Copy)]
+pub(crate) enum Asked {
+    Correction,
+    Length,
+    Offset,
+    Rate,
+}
+
+// The limit of offset terms, in microticks.
+fn offset_limit(params: &Params) -> i128
+    ensures value { result ≡ params.now.offset_limit }
+    ensures within { IsBetween (pos 0) (pos 16_000) result }
+{
+    i128::from(params.value(ParamName::pOffsetCorrectionOut))
+}
+
+// The offset terms that it allows.
+fn allowed_terms(params: &Params) -> Interval
+    ensures low { result.low ≡ neg_ℤ params.now.offset_limit }
+    ensures high { result.high ≡ params.now.offset_limit }
+    ensures near { EndWithin (pos 16_000) result }
+{
+    let limit = offset_limit(params);
+    Interval {
+        low: -limit,
+        high: limit,
+    }
+}
+
+fn is_beyond(term: &Interval, allowed: &Interval) -> bool
+    ensures { result ≡ (is_empty term.now || int_lt allowed.now.high term.now.low
+        || int_lt term.now.high allowed.now.low) }
+{
+    is_empty(term) || allowed.high < term.low || term.high < allowed.low
+}
+
+// An offset term is none that the limits allow.
+fn term_fault(params: &Params, cycle: u32, node: NodeId, term: &Interval) -> Option<Fault>
+    requires { EndWithin (pos 6_000_000_000_000_000_000) term.now }
+    ensures { result ≡ term_fault params.now cycle node term.now }
+{
+    let allowed = allowed_terms(params);
+    if is_beyond(term, &allowed) {
+        Some(Fault::apart(cycle, node, FaultKind::Correction, term, &allowed))
+    } else {
+        None
+    }
+}
+
+fn correction_fault(params: &Params, scale: &Scale, double: u32, sender: &Sender) -> Option<Fault>
+    requires scale { IsReadingScale scale.now }
+    requires double { double < 1_000_000 }
+    requires sender { IsProperSender scale.now sender.now }
+    ensures { result ≡ correction_fault params.now scale.now double sender.now }
+{
+    match terms_of(scale, sender) {
+        None => None,
+        Some(term) => term_fault(params, 2 * double + 1, sender.node, &term),
+    }
+}
+
+// The lengths of cycles in sync, in ticks.
+pub(crate) fn proper_lengths(params: &Params) -> Interval
+    ensures low { result.low ≡ shortest_cycle_of params.now }
+    ensures high { result.high ≡ longest_cycle_of params.now }
+    ensures near { EndWithin (pos 1_000_000_000_000) result }
+{
+    let micros = params.natural(ParamName::pMicroPerCycle);
+    Interval {
+        low: (micros * shortest_microtick(params)) as i128,
+        high: (micros * longest_microtick(params)) as i128,
+    }
+}
+
+// Cycles are certainly too long or too short.
+fn length_by(cycle: u32, node: NodeId, proper: &Interval, long: &Interval) -> Option<Fault>
+    requires proper { EndWithin (pos 1_000_000_000_000) proper.now }
+    requires long { EndWithin (pos 6_200_000_000_000_000_000) long.now }
+    ensures { result ≡ length_fault_by cycle node proper.now.low proper.now.high long.now }
+{
+    if proper.high < long.low || long.high < proper.low {
+        Some(Fault::apart(cycle, node, FaultKind::Length, long, proper))
+    } else {
+        None
+    }
+}
+
+// Those of a sender are.
+fn length_fault(params: &Params, scale: &Scale, double: u32, sender: &Sender) -> Option<Fault>
+    requires scale { IsReadingScale scale.now }
+    requires double { double < 1_000_000 }
+    requires sender { IsProperSender scale.now sender.now }
+    ensures { result ≡ length_fault params.now scale.now double sender.now }
+{
+    length_by(
+        2 * double,
+        sender.node,
+        &proper_lengths(params),
+        &length_ticks(scale, &sender.course),
+    )
+}
+
+fn unlike_by(
+    kind: FaultKind,
+    cycle: u32,
+    node: NodeId,
+    seen: &Interval,
+    computed: &Interval,
+) -> Option<Fault>
+    requires seen { EndWithin (pos 6_000_000_000_000_000_000) seen.now }
+    requires computed { EndWithin (pos 22_000_000_000_000) computed.now }
+    ensures { result ≡ unlike_fault kind cycle node (Some seen.now) (Some computed.now) }
+{
+    if seen.high < computed.low || computed.high < seen.low {
+        Some(Fault::apart(cycle, node, kind, seen, computed))
+    } else {
+        None
+    }
+}
+
+// What was seen of a term, and what the node must have computed, have no number in common.
+fn unlike_fault(
+    kind: FaultKind,
+    cycle: u32,
+    node: NodeId,
+    seen: Option<Interval>,
+    computed: Option<Interval>,
+) -> Option<Fault>
+    requires seen { IfSome seen (EndWithin (pos 6_000_000_000_000_000_000)) }
+    requires computed { IfSome computed (EndWithin (pos 22_000_000_000_000)) }
+    ensures { result ≡ unlike_fault kind cycle node seen computed }
+{
+    match seen {
+        None => None,
+        Some(seen) => match computed {
+            None => None,
+            Some(computed) => unlike_by(kind, cycle, node, &seen, &computed),
+        },
+    }
+}
+
+// The courses of the senders but one.
+fn other_courses(scale: &Scale, senders: &[Sender], node: NodeId) -> CourseList
+    requires few { length senders.now ≤ 64 }
+    requires senders { All (IsProperSender scale.now) senders.now }
+    ensures value { result ≡ other_courses senders.now node }
+    ensures near { All (IsNearCourse scale.now) result }
+{
+    let mut courses = CourseList::new();
+    for sender in senders {
+        if sender.node != node {
+            courses.push(sender.course);
+        }
+    }
+    courses
+}
+
+// How many further sync nodes may have been heard.
+fn further_of(params: &Params, senders: &[Sender]) -> usize
+    ensures value { result ≡ further_of params.now senders.now }
+    ensures few { result ≤ 64 }
+{
+    keyed_count(params).saturating_sub(senders.len())
+}
+
+// What a sender must have computed of its offset term.
+fn offset_by(
+    params: &Params,
+    scale: &Scale,
+    senders: &[Sender],
+    sender: &Sender,
+) -> Option<Interval>
+    requires scale { IsReadingScale scale.now }
+    requires few { length senders.now ≤ 64 }
+    requires senders { All (IsProperSender scale.now) senders.now }
+    requires among { Contains senders.now sender.now }
+    requires sender { IsProperSender scale.now sender.now }
+    ensures value { result ≡ offset_computed scale.now (measuring_of params.now) sender.now.course
+        (other_courses senders.now sender.now.node) (further_of params.now senders.now) }
+    ensures near { IfSome result (EndWithin (pos 22_000_000_000_000)) }
+{
+    let others = other_courses(scale, senders, sender.node);
+    offset_computed(
+        scale,
+        &Measuring::of(params),
+        &sender.course,
+        others.as_slice(),
+        further_of(params, senders),
+    )
+}
+
+// And of the step of its rate term.
+fn rate_by(params: &Params, scale: &Scale, senders: &[Sender], sender: &Sender) -> Option<Interval>
+    requires scale { IsReadingScale scale.now }
+    requires few { length senders.now ≤ 64 }
+    requires senders { All (IsProperSender scale.now) senders.now }
+    requires among { Contains senders.now sender.now }
+    requires sender { IsProperSender scale.now sender.now }
+    ensures value { result ≡ rate_computed scale.now (measuring_of params.now) sender.now.course
+        (other_courses senders.now sender.now.node) (further_of params.now senders.now) }
+    ensures near { IfSome result (EndWithin (pos 22_000_000_000_000)) }
+{
+    let others = other_courses(scale, senders, sender.node);
+    rate_computed(
+        scale,
+        &Measuring::of(params),
+        &sender.course,
+        others.as_slice(),
+        further_of(params, senders),
+    )
+}
+
+fn offset_fault(
+    params: &Params,
+    scale: &Scale,
+    double: u32,
+    senders: &[Sender],
+    sender: &Sender,
+) -> Option<Fault>
+    requires scale { IsReadingScale scale.now }
+    requires double { double < 1_000_000 }
+    requires few { length senders.now ≤ 64 }
+    requires senders { All (IsProperSender scale.now) senders.now }
+    requires among { Contains senders.now sender.now }
+    requires sender { IsProperSender scale.now sender.now }
+    ensures { result ≡ offset_fault params.now scale.now double senders.now sender.now }
+{
+    unlike_fault(
+        FaultKind::Offset,
+        2 * double + 1,
+        sender.node,
+        terms_of(scale, sender),
+        offset_by(params, scale, senders, sender),
+    )
+}
+
+// By how much the rate term of a sender grew.
+fn step_of(scale: &Scale, sender: &Sender) -> Option<Interval>
+    requires scale { IsReadingScale scale.now }
+    requires sender { IsProperSender scale.now sender.now }
+    ensures value { result ≡ option_map (rate_step_seen scale.now sender.now.course) sender.now.next }
+    ensures near { IfSome result (EndWithin (pos 6_000_000_000_000_000_000)) }
+{
+    match sender.next {
+        None => None,
+        Some(next) => Some(rate_step_seen(scale, &sender.course, &next)),
+    }
+}
+
+fn rate_fault(
+    params: &Params,
+    scale: &Scale,
+    double: u32,
+    senders: &[Sender],
+    sender: &Sender,
+) -> Option<Fault>
+    requires scale { IsReadingScale scale.now }
+    requires double { double < 1_000_000 }
+    requires few { length senders.now ≤ 64 }
+    requires senders { All (IsProperSender scale.now) senders.now }
+    requires among { Contains senders.now sender.now }
+    requires sender { IsProperSender scale.now sender.now }
+    ensures { result ≡ rate_fault params.now scale.now double senders.now sender.now }
+{
+    unlike_fault(
+        FaultKind::Rate,
+        2 * double + 1,
+        sender.node,
+        step_of(scale, sender),
+        rate_by(params, scale, senders, sender),
+    )
+}
+
+fn sender_fault(
+    asked: Asked,
+    params: &Params,
+    scale: &Scale,
+    double: u32,
+    senders: &[Sender],
+    sender: &Sender,
+) -> Option<Fault>
+    requires scale { IsReadingScale scale.now }
+    requires double { double < 1_000_000 }
+    requires few { length senders.now ≤ 64 }
+    requires senders { All (IsProperSender scale.now) senders.now }
+    requires among { Contains senders.now sender.now }
+    requires sender { IsProperSender scale.now sender.now }
+    ensures { result ≡ sender_fault asked params.now scale.now double senders.now sender.now }
+{
+    match asked {
+        Asked::Correction => correction_fault(params, scale, double, sender),
+        Asked::Length => length_fault(params, scale, double, sender),
+        Asked::Offset => offset_fault(params, scale, double, senders, sender),
+        Asked::Rate => rate_fault(params, scale, double, senders, sender),
+    }
+}
+
+// Tells what contradicts a run by this of each sender.
+pub(crate) fn put_of_senders<O: Sink>(
+    asked: Asked,
+    scale: &Scale,
+    params: &Params,
+    double: u32,
+    senders: &[Sender],
+    first: &mut Option<Fault>,
+    out: &mut O,
+) -> Result<(), PutFault>
+    requires scale { IsReadingScale scale.now }
+    requires double { double < 1_000_000 }
+    requires few { length senders.now ≤ 64 }
+    requires senders { All (IsProperSender scale.now) senders.now }
+    ensures { TellsFaults result (O.state out.old) (O.state out.new) first.old first.new
+        (filter_map (sender_fault asked params.now scale.now double senders.now) senders.now) }
+{
+    for sender in senders {
+        tell(
+            sender_fault(asked, params, scale, double, senders, sender),
+            first,
+            out,
+        )?;
+    }
+    Ok(())
+}

@@ -1,0 +1,10 @@
+pub mod Quotients
+pub mod Headers
+pub mod Senders
+pub mod Proper
+pub mod Passed
+pub mod Rising
+pub mod Late
+pub mod Stamps
+pub mod Gathering
+pub mod Silence

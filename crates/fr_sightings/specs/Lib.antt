@@ -1,0 +1,7 @@
+-- what the public contract cites
+pub mod Judging
+pub mod Sightings
+pub mod Senders
+pub mod Ranges
+-- what only functions inside cite
+pub mod Passing
