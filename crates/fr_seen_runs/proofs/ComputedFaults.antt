@@ -1,0 +1,273 @@
+-- No term that was seen contradicts a covered run, from a double cycle in sync on.
+use Rattle.std.proofs.Common.{◌≡◌, ◌⊎◌, ℕ, suc, ◌+◌, ◌*◌, ◌/◌, ◌%◌, ◌<◌, ◌≤◌, ◌==◌, Bool, true, false, ◌||◌, ℤ, pos, Option, Some, None, [], All, length, refl, ap, ◌∙◌, subst, inl, inr, arith}
+use Rattle.std.specs.Prelude.{◌-ℤ◌, ◌≤ℤ◌, Contains, IfSome, int_lt, filter_map, find, if◌then◌else◌}
+use Rattle.std.specs.Option.{option_and_then, option_map}
+use Rattle.std.proofs.lemmas.Int.{ints}
+use Rattle.std.proofs.lemmas.List.Elements.{All-contains, All-contains_itself}
+use Rattle.fr_base.specs.Within.{IsBetween}
+use Rattle.fr_base.specs.declared.channel.Channel.{Channel}
+use Rattle.fr_base.specs.declared.channel.Channel.TheVariants.{A, B}
+use Rattle.fr_cluster.specs.Setting.{Setting}
+use Rattle.fr_cluster.specs.Values.{Values}
+use Rattle.fr_cluster.specs.declared.nodes.NodeSpec.{NodeSpec}
+use Rattle.fr_cluster.proofs.Elements.{filtered, found}
+use Rattle.fr_precision.proofs.Senders.{All-along}
+use Rattle.fr_time.specs.Slots.{action_point_of}
+use Rattle.fr_history.specs.Cycles.{Cycles}
+use Rattle.fr_history.specs.History.{row_for}
+use Rattle.fr_history.specs.Unfollowed.{IsUnfollowedSyncAt}
+use Rattle.fr_runs.specs.Numbers.{HasDouble, IsSyncedRun}
+use Rattle.fr_log.specs.View.{LogView}
+use Rattle.fr_course.specs.Course.{course_from}
+use Rattle.fr_course.specs.Readings.{meet_all, reading_scale}
+use Rattle.fr_course.specs.Terms.{offset_seen, rate_step_seen}
+use Rattle.fr_course.specs.declared.courses.Course.{Course}
+use Rattle.fr_course.specs.declared.intervals.Interval.{Interval}
+use Rattle.fr_course.specs.declared.scales.Scale.{Scale}
+use Rattle.fr_course.specs.declared.stamps.Delays.{Delays}
+use Rattle.fr_course.specs.declared.stamps.Observer.{Observer}
+use Rattle.fr_observe.specs.Observing.{senders_of, terms_of}
+use Rattle.fr_sightings.specs.Senders.{box_by, box_on, course_in, delays_in, double_of, first_stamp, if_there, is_in, is_sent_in, observer_of, on_both_channels, own_slot, seen_box, seen_sender, seen_sender_by, seen_senders, seen_span, sender_on, sightings_in}
+use Rattle.fr_sightings.specs.Sightings.{sightings_of}
+use Rattle.fr_sightings.specs.declared.sender.Sender.{Sender}
+use Rattle.fr_sightings.specs.declared.sighting.Sighting.{Sighting}
+use Rattle.fr_seen.specs.Clocks.{StraightClock}
+use Rattle.fr_seen.specs.LogSeen.{GoesOnBy, SenderGoesOn, TermHolds, log_senders, run_double, seen_twice}
+use Rattle.fr_seen.proofs.RowLaws.{observed_next_rows_hold}
+use Rattle.fr_seen.proofs.SenderLaws.{all_given, mapped_some, senders_go_on}
+use Rattle.fr_seen.proofs.TermLaws.{rate_steps_are_seen}
+use Rattle.fr_course.specs.Computed.{ValuesAreCounted, measuring_of, offset_computed, rate_computed}
+use Rattle.fr_course.specs.Middles.{MiddlesHold}
+use Rattle.fr_seen_runs.specs.Contradictions.{IsAsStated, IsObservedRun}
+use Rattle.fr_observe.specs.declared.fault.FaultKind.{FaultKind}
+use Rattle.fr_observe.specs.Faults.{further_of, offset_fault, other_courses, rate_fault, unlike_fault, unlike_with}
+use Rattle.fr_observe.specs.declared.fault.FaultKind.TheVariants.{Offset, Rate}
+use Rattle.fr_seen_runs.specs.ComputedTerms.{IsNamedLog, OffsetIsComputed, OffsetsAreComputed, RateIsComputed, RatesAreComputed}
+use Rattle.fr_seen_runs.specs.KeptInSync.{IsDoubleThere}
+use Rattle.fr_seen_runs.specs.SyncFaults.{FromSyncOn, HasNoOffsetFault, HasNoRateFault}
+use Rattle.fr_seen_runs.proofs.ComputedLaws.{offset_is_computed, rate_is_computed}
+use Rattle.fr_seen_runs.proofs.ComputedRounds.{has_double}
+use Rattle.fr_seen_runs.proofs.ComputedSenders.{there_some}
+use Rattle.fr_seen_runs.proofs.FaultsInSync.{none_given}
+use Rattle.fr_seen_runs.proofs.StaysInSync.{doubles_to, sighting_within, together}
+
+-- ---- what was seen and what was computed have a number in common
+
+unlike_none : (kind : FaultKind) (cycle node : ℕ) (seen computed : Option Interval) (value : ℤ)
+    → IfSome seen (λ i. IsBetween i.low i.high value) → IfSome computed (λ i. IsBetween i.low i.high value) → unlike_fault kind cycle node seen computed ≡ None
+unlike_none kind cycle node None computed value one other = refl
+unlike_none kind cycle node (Some seen) None value one other = refl
+unlike_none kind cycle node (Some seen) (Some computed) value one other =
+    by (int_lt seen.high computed.low) (int_lt computed.high seen.low) (no_less computed.low seen.high value other.low one.high) (no_less seen.low computed.high value one.low other.high)
+  where
+    no_less : (low high v : ℤ) → low ≤ℤ v → v ≤ℤ high → int_lt high low ≡ false
+    no_less low high v from to = grind (arith, ints)
+
+    by : (first second : Bool) → first ≡ false → second ≡ false → (if first || second then Some (unlike_with kind cycle node seen computed) else None) ≡ None
+    by true second a b = absurd (cc a)
+    by false true a b = absurd (cc b)
+    by false false a b = refl
+
+-- ---- a sender of the next double cycle is seen there
+
+-- one of some sightings of a double cycle
+record IsSeenIn (p : Values) (l : LogView) (double : ℕ) : Type 0 where
+  sighting : Sighting
+  there : Contains (sightings_of p l) sighting
+  is : double_of sighting ≡ double
+
+met_one : (a b : Option Interval) (i : Interval) → on_both_channels a b ≡ Some i → ((j : Interval) × (a ≡ Some j)) ⊎ ((j : Interval) × (b ≡ Some j))
+unfolding meet_all
+met_one None None i is = absurd (cc is)
+met_one (Some j) b i is = inl (j, refl)
+met_one None (Some j) i is = inr (j, refl)
+
+stamp_of : (observer : Observer) (delays : Option Delays) (stamp : Option ℕ) (i : Interval) → box_by observer delays stamp ≡ Some i → (n : ℕ) × (stamp ≡ Some n)
+stamp_of observer None stamp i is = absurd (cc is)
+stamp_of observer (Some delays) None i is = absurd (cc is)
+stamp_of observer (Some delays) (Some n) i is = (n, refl)
+
+module _ (p : Values) (l : LogView) (double : ℕ) where
+  stamped_in : (node cycle : ℕ) (ch : Channel) (stamp : ℕ) → first_stamp (sightings_in (sightings_of p l) double) node ch cycle ≡ Some stamp → IsSeenIn p l double
+  unfolding first_stamp
+  stamped_in node cycle ch stamp is =
+      let some = mapped_some (λ (s : Sighting). s.stamp) (find (is_sent_in node ch cycle) (sightings_in (sightings_of p l) double)) stamp is in
+      let among = (found (is_sent_in node ch cycle) (sightings_in (sightings_of p l) double) some.0 some.1.0).1 in
+      let kept = filtered (is_in double) (sightings_of p l) some.0 among in
+      record { sighting = some.0; there = kept.0; is = same (double_of some.0) double kept.1 }
+    where
+      same : (a b : ℕ) → (a == b) ≡ true → a ≡ b
+      same a b is = grind arith
+
+  boxed_on : (node cycle : ℕ) (ch : Channel) (i : Interval) → box_on l (sightings_in (sightings_of p l) double) node cycle ch ≡ Some i → IsSeenIn p l double
+  boxed_on node cycle ch i is =
+      let stamp = stamp_of (observer_of l) (delays_in l node ch) (first_stamp (sightings_in (sightings_of p l) double) node ch cycle) i is in
+      stamped_in node cycle ch stamp.0 stamp.1
+
+  boxed_in : (node cycle : ℕ) (i : Interval) → seen_box l (sightings_in (sightings_of p l) double) node cycle ≡ Some i → IsSeenIn p l double
+  unfolding seen_box
+  boxed_in node cycle i is =
+      elim (met_one (box_on l (sightings_in (sightings_of p l) double) node cycle A) (box_on l (sightings_in (sightings_of p l) double) node cycle B) i is) [
+        | inl on ↦ boxed_on node cycle A on.0 on.1
+        | inr on ↦ boxed_on node cycle B on.0 on.1
+      ]
+
+  course_seen : (scale : Scale) (node slot : ℕ) (course : Course) → course_in scale p l (sightings_in (sightings_of p l) double) double node slot ≡ Some course → IsSeenIn p l double
+  unfolding course_in
+  course_seen scale node slot course is =
+      by (seen_box l (sightings_in (sightings_of p l) double) node (2 * double)) (seen_box l (sightings_in (sightings_of p l) double) node (2 * double + 1)) refl refl is
+    where
+      by : (early late : Option Interval) → seen_box l (sightings_in (sightings_of p l) double) node (2 * double) ≡ early
+          → seen_box l (sightings_in (sightings_of p l) double) node (2 * double + 1) ≡ late → course_from scale (pos (action_point_of p slot)) early late
+          (seen_span l (sightings_in (sightings_of p l) double) (sightings_in (sightings_of p l) double) node (2 * double) (2 * double + 1)) ≡ Some course → IsSeenIn p l double
+      by (Some early) late one other is = boxed_in node (2 * double) early one
+      by None (Some late) one other is = boxed_in node (2 * double + 1) late other
+      by None None one other is = absurd (cc is)
+
+-- where a sender is one of the next double cycle too
+next_by : (scale : Scale) (p : Values) (l : LogView) (double : ℕ) (node : NodeSpec) (s : Sender) (next : Course)
+    → seen_sender scale p l (sightings_in (sightings_of p l) double) (sightings_in (sightings_of p l) (double + 1)) double node ≡ Some s → s.next ≡ Some next → IsSeenIn p l (double + 1)
+unfolding seen_sender
+next_by scale p l double node s next is goes = by (own_slot l node) is
+  where
+    by : (o : Option ℕ) → option_and_then (seen_sender_by scale p l (sightings_in (sightings_of p l) double) (sightings_in (sightings_of p l) (double + 1)) double node.id) o ≡ Some s → IsSeenIn p l (double + 1)
+    by None is = absurd (cc is)
+    by (Some slot) is =
+        let onward = if_there (course_in scale p l (sightings_in (sightings_of p l) (double + 1)) (double + 1) node.id slot) in
+        let some =
+        mapped_some (sender_on l (sightings_in (sightings_of p l) double) (sightings_in (sightings_of p l) (double + 1)) double node.id onward)
+        (if_there (course_in scale p l (sightings_in (sightings_of p l) double) double node.id slot)) s is in
+        course_seen p l (double + 1) scale node.id slot next
+        (there_some (course_in scale p l (sightings_in (sightings_of p l) (double + 1)) (double + 1) node.id slot) next (ap (λ (t : Sender). t.next) some.1.1 ∙ goes))
+
+abbrev NextSeen : Values → LogView → ℕ → Sender → Type 0
+NextSeen p l double s = (next : Course) → s.next ≡ Some next → IsSeenIn p l (double + 1)
+
+next_seen : (x : Setting) (l : LogView) (double : ℕ) → All (NextSeen x.params l double) (log_senders x l double)
+unfolding senders_of seen_senders
+next_seen x l double =
+    let scale = reading_scale l.drift x.params in
+    let seen = sightings_of x.params l in
+    all_given (seen_sender scale x.params l (sightings_in seen double) (sightings_in seen (double + 1)) double) (NextSeen x.params l double) x.params.nodes
+    (λ node among s given next goes. next_by scale x.params l double node s next given goes)
+
+-- ---- the run
+
+module _
+    (x : Setting) (h : Cycles) (base : ℕ) (delays : ℕ → Channel → Delays) (clock : ℕ → StraightClock) (l : LogView) (from double : ℕ)
+    (o : IsObservedRun x h base delays clock l) (stated : IsAsStated x h base l) (unfollowed : IsUnfollowedSyncAt x.params h (run_double base from)) (later : from ≤ double)
+    (counted : ValuesAreCounted) (holds : MiddlesHold)
+  where
+    seen_within : (d : ℕ) → IsSeenIn x.params l d → run_double base d < x.doubles
+    seen_within d seen =
+        less seen.sighting.number base d x.doubles (length h) seen.is o.whole (sighting_within x h base delays clock l seen.sighting o seen.there) o.seen.seen.whole_base
+      where
+        less : (n b d k long : ℕ) → n / 2 ≡ d → long ≡ 2 * k → n + b < long → b % 64 ≡ 0 → d + b / 2 < k
+        less n b d k long half whole below base_is = omega (arith, half, whole, below, base_is)
+
+    named : IsNamedLog x h base delays clock l
+    named = record { timed = o.timed; log = o.log; seen = o.seen; named = stated.named }
+
+    synced : run_double base double < x.doubles → IsSyncedRun x h (run_double base double)
+    synced less = record {
+      covered = stated.covered;
+      rates = o.timed.rates;
+      lawful = o.timed.lawful;
+      within = (let whole = o.whole in omega (arith, whole));
+      synced = (together x h base delays clock l from o stated unfollowed).synced (run_double base double) (more from double (base / 2) later) less;
+    }
+      where
+        more : (a b c : ℕ) → a ≤ b → a + c ≤ b + c
+        more a b c le = omega (arith, le)
+
+    -- it and the next one, where a sender is one of both
+    record AreBoth : Type 0 where
+      here : IsSyncedRun x h (run_double base double)
+      has : HasDouble h (run_double base double) here.synced.even here.synced.odd
+      next : IsDoubleThere h (suc (run_double base double))
+
+    both_there : (s : Sender) (next : Course) → Contains (log_senders x l double) s → s.next ≡ Some next → AreBoth
+    both_there s next among goes =
+        let seen = All-contains (NextSeen x.params l double) (log_senders x l double) s (next_seen x l double) among next goes in
+        let below : suc (run_double base double) < x.doubles = after double (base / 2) x.doubles (seen_within (double + 1) seen) in
+        let here = synced (before (run_double base double) x.doubles below) in
+        record { here = here; has = has_double x h (run_double base double) here; next = doubles_to h x.doubles (suc (run_double base double)) o.whole below }
+      where
+        after : (d b k : ℕ) → d + 1 + b < k → suc (d + b) < k
+        after d b k less = omega (arith, less)
+
+        before : (d k : ℕ) → suc d < k → d < k
+        before d k less = omega (arith, less)
+
+    -- ---- offsets
+
+    offset_none : (s : Sender) → Contains (log_senders x l double) s → offset_fault x.params (reading_scale l.drift x.params) double (log_senders x l double) s ≡ None
+    unfolding terms_of
+    offset_none s among = by s.next refl
+      where
+        by : (next : Option Course) → s.next ≡ next
+            → unlike_fault Offset (2 * double + 1) s.node (option_map (λ course. offset_seen (reading_scale l.drift x.params) s.course course s.onward) next)
+            (offset_computed (reading_scale l.drift x.params) (measuring_of x.params) s.course (other_courses (log_senders x l double) s.node) (further_of x.params (log_senders x l double)))
+            ≡ None
+        by None goes = refl
+        by (Some next) goes =
+            let both = both_there s next among goes in
+            let terms =
+            All-contains (TermHolds x l.drift both.here.synced.odd) (log_senders x l double) s
+            (observed_next_rows_hold x h base delays clock l double both.here.synced.even both.here.synced.odd both.next.even both.next.odd o.timed o.log o.seen both.has both.next.has).terms among in
+            let Term : Option Course → Type 0 = λ n. IfSome (option_map (λ course. offset_seen (reading_scale l.drift x.params) s.course course s.onward) n) (λ i. IsBetween i.low i.high (row_for both.here.synced.odd.told.rows s.node).offset) in
+            unlike_none Offset (2 * double + 1) s.node (Some (offset_seen (reading_scale l.drift x.params) s.course next s.onward))
+            (offset_computed (reading_scale l.drift x.params) (measuring_of x.params) s.course (other_courses (log_senders x l double) s.node) (further_of x.params (log_senders x l double)))
+            (row_for both.here.synced.odd.told.rows s.node).offset (subst Term goes terms)
+            (offset_is_computed x h base delays clock l double named both.here counted holds s among)
+
+    pub no_offset_fault : filter_map (offset_fault x.params (reading_scale l.drift x.params) double (log_senders x l double)) (log_senders x l double) ≡ []
+    no_offset_fault = none_given (offset_fault x.params (reading_scale l.drift x.params) double (log_senders x l double)) (log_senders x l double) (λ s among. offset_none s among)
+
+    -- ---- rates
+
+    rate_none : (s : Sender) → Contains (log_senders x l double) s → rate_fault x.params (reading_scale l.drift x.params) double (log_senders x l double) s ≡ None
+    rate_none s among = by s.next refl
+      where
+        by : (next : Option Course) → s.next ≡ next
+            → unlike_fault Rate (2 * double + 1) s.node (option_map (rate_step_seen (reading_scale l.drift x.params) s.course) next)
+            (rate_computed (reading_scale l.drift x.params) (measuring_of x.params) s.course (other_courses (log_senders x l double) s.node) (further_of x.params (log_senders x l double)))
+            ≡ None
+        by None goes = refl
+        by (Some next) goes =
+            let both = both_there s next among goes in
+            let goes_on =
+            All-contains (SenderGoesOn x l.drift (clock (run_double base double)) both.here.synced.even both.here.synced.odd both.next.even both.next.odd) (log_senders x l double) s
+            (senders_go_on x h base delays clock l double both.here.synced.even both.here.synced.odd both.next.even both.next.odd o.timed o.log o.seen both.has both.next.has) among in
+            let Goes : Option Course → Type 0 = λ n. IfSome n (GoesOnBy x l.drift (clock (run_double base double)) both.here.synced.even both.here.synced.odd both.next.even both.next.odd s) in
+            let on = subst Goes goes goes_on in
+            unlike_none Rate (2 * double + 1) s.node (Some (rate_step_seen (reading_scale l.drift x.params) s.course next))
+            (rate_computed (reading_scale l.drift x.params) (measuring_of x.params) s.course (other_courses (log_senders x l double) s.node) (further_of x.params (log_senders x l double)))
+            ((row_for both.next.even.told.rows s.node).rate -ℤ (row_for both.here.synced.odd.told.rows s.node).rate)
+            (
+            rate_steps_are_seen x.params l.drift (clock (run_double base double)) (seen_twice both.here.synced.even both.here.synced.odd both.next.even both.next.odd s next) s.onward on.goes
+            )
+            (rate_is_computed x h base delays clock l double named both.here counted holds both.next.even both.next.odd s both.next.has among)
+
+    pub no_rate_fault : filter_map (rate_fault x.params (reading_scale l.drift x.params) double (log_senders x l double)) (log_senders x l double) ≡ []
+    no_rate_fault = none_given (rate_fault x.params (reading_scale l.drift x.params) double (log_senders x l double)) (log_senders x l double) (λ s among. rate_none s among)
+
+-- ---- the laws
+
+pub offsets_are_computed : ValuesAreCounted → MiddlesHold → OffsetsAreComputed
+offsets_are_computed counted holds x h base delays clock l double log s =
+    All-along (Contains (log_senders x l double)) (OffsetIsComputed x l.drift s.synced.odd (log_senders x l double)) (log_senders x l double)
+    (λ r among. offset_is_computed x h base delays clock l double log s counted holds r among) (All-contains_itself (log_senders x l double))
+
+pub rates_are_computed : ValuesAreCounted → MiddlesHold → RatesAreComputed
+rates_are_computed counted holds x h base delays clock l double next_even next_odd log s next =
+    All-along (Contains (log_senders x l double)) (RateIsComputed x l.drift s.synced.odd next_even (log_senders x l double)) (log_senders x l double)
+    (λ r among. rate_is_computed x h base delays clock l double log s counted holds next_even next_odd r next among) (All-contains_itself (log_senders x l double))
+
+pub offset_faults_are_none : ValuesAreCounted → MiddlesHold → FromSyncOn HasNoOffsetFault
+offset_faults_are_none counted holds x h base delays clock l from double o stated unfollowed later among =
+    no_offset_fault x h base delays clock l from.double double o stated unfollowed later counted holds
+
+pub rate_faults_are_none : ValuesAreCounted → MiddlesHold → FromSyncOn HasNoRateFault
+rate_faults_are_none counted holds x h base delays clock l from double o stated unfollowed later among =
+    no_rate_fault x h base delays clock l from.double double o stated unfollowed later counted holds

@@ -1,0 +1,251 @@
+-- A log that is seen of a run has no fault that does not ask for sync, and where the run is as the log states none at all.
+use Rattle.std.proofs.Common.{◌≡◌, ℕ, suc, ◌+◌, ◌*◌, ◌/◌, ◌≤◌, Bool, true, false, Option, Some, None, pos, List, [], ◌∷◌, ◌++◌, All, refl, ap, sym, ◌∙◌, subst, arith}
+use Rattle.std.specs.Prelude.{Contains, IfSome, filter_map, nat_le, if◌then◌else◌}
+use Rattle.std.specs.Option.{option_or, option_to_list}
+use Rattle.std.proofs.lemmas.List.Elements.{All-append, All-head, All-nil}
+use Rattle.fr_base.specs.declared.channel.Channel.{Channel}
+use Rattle.fr_bound.specs.Bounds.{lambda_of, pi_of, precision_of}
+use Rattle.fr_cluster.specs.Setting.{Setting}
+use Rattle.fr_history.specs.Cycles.{Cycles}
+use Rattle.fr_history.specs.Unfollowed.{IsUnfollowedSyncAt}
+use Rattle.fr_log.specs.View.{LogView}
+use Rattle.fr_course.specs.Readings.{reading_scale}
+use Rattle.fr_course.specs.declared.scales.Scale.{Scale}
+use Rattle.fr_course.specs.declared.stamps.Delays.{Delays}
+use Rattle.fr_observe.specs.Observing.{courses_of, even_high, even_low, odd_high, odd_low, seen_doubles, senders_of}
+use Rattle.fr_sightings.specs.Senders.{sightings_in}
+use Rattle.fr_sightings.specs.Sightings.{sightings_of}
+use Rattle.fr_sightings.specs.declared.sender.Sender.{Sender}
+use Rattle.fr_sightings.specs.declared.sighting.Sighting.{Sighting}
+use Rattle.fr_seen.specs.Clocks.{StraightClock}
+use Rattle.fr_seen.specs.LogSeen.{log_senders, run_double}
+use Rattle.fr_seen_runs.specs.Contradictions.{IsAsStated, IsObservedRun}
+use Rattle.fr_seen_runs.specs.SyncFaults.{FromSyncOn, HasNoLengthFault, HasNoLengthsFault, HasNoMissingFault, HasNoOffsetFault, HasNoRateFault, HasNoSkewFault, HasNoStartFault}
+use Rattle.fr_seen_runs.specs.ToldFaults.{NoFaultIsTold, ToldFaultsAskSync, VerdictTellsFirst, log_faults}
+use Rattle.fr_seen_runs.specs.NotContradicted.{NoRunHasOwnFaults, NoRunIsContradicted}
+use Rattle.fr_observe.specs.declared.fault.Fault.{Fault}
+use Rattle.fr_observe.specs.declared.fault.SyncFrom.{SyncFrom}
+use Rattle.fr_observe.specs.Faults.{before_in_sync, beyond_fault, faults_in_sync, first_of_faults, is_sync_seen, length_fault, missing_frames, offset_fault, rate_fault, seen_sync, skew_fault, stated_sync, sync_faults}
+use Rattle.fr_course.specs.Spread.{lengths_apart, starts_apart}
+use Rattle.fr_observe.specs.declared.fault.FaultKind.TheVariants.{Lengths, Start}
+use Rattle.fr_findings.specs.Verdict.{Basis, DoubleCycle, double_at, faults_told, in_sync_told, log_basis, log_progress, log_span, no_progress, own_told, progress_behind, progress_told, sightings_before, sync_told, verdict_by, verdict_of, verdict_with}
+use Rattle.fr_findings.specs.declared.progress.Progress.{Progress}
+use Rattle.fr_findings.specs.declared.progress.Reach.{Reach}
+use Rattle.fr_sightings.specs.Sightings.{untimely_of}
+use Rattle.fr_findings.specs.declared.verdict.Verdict.TheVariants as verdict
+use Rattle.fr_seen_runs.proofs.SyncKinds.{AsksSync, sync_faults_ask}
+use Rattle.fr_seen_runs.proofs.OwnFaults.{sync_is_seen}
+use Rattle.fr_seen_runs.proofs.Progressing.{faults_left, first_is, seen_in_turn, told_all}
+
+-- ---- the laws of sync
+
+pub record SyncIsKept : Type 0 where
+  pub skew : FromSyncOn HasNoSkewFault
+  pub start : FromSyncOn HasNoStartFault
+  pub lengths : FromSyncOn HasNoLengthsFault
+  pub length : FromSyncOn HasNoLengthFault
+  pub offset : FromSyncOn HasNoOffsetFault
+  pub rate : FromSyncOn HasNoRateFault
+  pub missing : FromSyncOn HasNoMissingFault
+
+-- ---- the first fault
+
+first_all : (P : Fault → Type 0) (faults : List Fault) → All P faults → IfSome (first_of_faults faults) P
+first_all P [] all = tt
+first_all P (fault ∷ faults) all = All-head P fault faults all
+
+-- the fault that a verdict tells is the first one
+fault_is_first : (first : Option Fault) (sync : Option SyncFrom) (reach : Option Reach) (fault : Fault) → verdict_with first sync reach ≡ verdict.No fault → first ≡ Some fault
+fault_is_first (Some other) sync reach fault is = ap Some (same other fault is)
+  where
+    same : (a b : Fault) → verdict.No a ≡ verdict.No b → a ≡ b
+    same a b is = cc is
+fault_is_first None None reach fault is = absurd (cc is)
+fault_is_first None (Some from) None fault is = absurd (cc is)
+fault_is_first None (Some from) (Some reach) fault is = absurd (cc is)
+
+module _ (x : Setting) (h : Cycles) (base : ℕ) (delays : ℕ → Channel → Delays) (clock : ℕ → StraightClock) (l : LogView) (run : IsObservedRun x h base delays clock l) where
+  abbrev Seen : List Sighting
+  Seen = sightings_of x.params l
+
+  abbrev Late : List Sighting
+  Late = untimely_of x.params l
+
+  abbrev Log : Basis
+  Log = log_basis x.params l
+
+  abbrev At : ℕ → DoubleCycle
+  At double = double_at Log Seen Late double
+
+  -- ---- faults that ask for no sync
+
+  in_sync_asks : (covered : Bool) (sync : Option SyncFrom) (double : ℕ) → All AsksSync (faults_in_sync covered sync (in_sync_told Log (At double)))
+  in_sync_asks covered None double = All-nil AsksSync
+  in_sync_asks false (Some from) double = All-nil AsksSync
+  in_sync_asks true (Some from) double =
+      sync_faults_ask Log.precision x.params Log.scale l Log.span (before_in_sync from (At double).number (At double).before) (At double).here (At double).number (At double).senders
+
+  asks_step : (double : ℕ) (progress : Progress) → Contains (seen_doubles Seen) double → Unit {0}
+      → All AsksSync (faults_told Log (At double) (sync_told Log (At double) progress.sync)) × Unit {0}
+  asks_step double progress among known =
+      let sync = sync_told Log (At double) progress.sync in
+      (subst (All AsksSync) (sym (faults_left x h base delays clock l run double sync among)) (in_sync_asks Log.may_be_covered sync double), tt)
+
+  pub all_ask : All AsksSync (log_faults x.params l)
+  unfolding log_faults
+  all_ask =
+      told_all Log Seen Late (All AsksSync) (All-nil AsksSync) (All-append AsksSync) (λ double progress. Unit {0}) (seen_doubles Seen) no_progress (seen_in_turn Seen) asks_step
+      (λ first. tt)
+
+  -- ---- no fault at all
+
+  module _ (stated : IsAsStated x h base l) (kept : SyncIsKept) where
+    abbrev Senders : ℕ → List Sender
+    Senders double = log_senders x l double
+
+    abbrev Scaled : Scale
+    Scaled = reading_scale l.drift x.params
+
+    -- from a double cycle on the run is in sync
+    record IsSyncFrom (double : ℕ) (from : SyncFrom) : Type 0 where
+      there : IsUnfollowedSyncAt x.params h (run_double base from.double)
+      before : from.double ≤ double
+
+    none_of_eight : (a b c d e f g k : List Fault) → a ≡ [] → b ≡ [] → c ≡ [] → d ≡ [] → e ≡ [] → f ≡ [] → g ≡ [] → k ≡ []
+        → a ++ b ++ c ++ d ++ e ++ f ++ g ++ k ≡ []
+    none_of_eight a b c d e f g k a0 b0 c0 d0 e0 f0 g0 k0 =
+        ap (λ z. z ++ b ++ c ++ d ++ e ++ f ++ g ++ k) a0 ∙ ap (λ z. z ++ c ++ d ++ e ++ f ++ g ++ k) b0 ∙ ap (λ z. z ++ d ++ e ++ f ++ g ++ k) c0
+        ∙ ap (λ z. z ++ e ++ f ++ g ++ k) d0 ∙ ap (λ z. z ++ f ++ g ++ k) e0 ∙ ap (λ z. z ++ g ++ k) f0 ∙ ap (λ z. z ++ k) g0 ∙ k0
+
+    in_sync_none : (double : ℕ) (from : SyncFrom) → Contains (seen_doubles Seen) double → IsSyncFrom double from → in_sync_told Log (At double) from ≡ []
+    unfolding sync_faults double_at senders_of
+    in_sync_none double from among sync =
+        let p = x.params in
+        let precision = pos (precision_of p) in
+        let senders = Senders double in
+        let here = sightings_in Seen double in
+        let before = before_in_sync from double (sightings_before Seen double) in
+        let skew = kept.skew x h base delays clock l from double run stated sync.there sync.before among in
+        none_of_eight (option_to_list (skew_fault precision (2 * double) (even_low Scaled senders) (even_high Scaled senders)))
+        (option_to_list (skew_fault precision (2 * double + 1) (odd_low Scaled senders) (odd_high Scaled senders)))
+        (option_to_list (beyond_fault Start (2 * double) (pos (pi_of p)) (starts_apart Scaled (courses_of senders))))
+        (option_to_list (beyond_fault Lengths (2 * double) (pos (lambda_of p)) (lengths_apart Scaled (courses_of senders))))
+        (filter_map (length_fault p Scaled double) senders) (filter_map (offset_fault p Scaled double senders) senders) (filter_map (rate_fault p Scaled double senders) senders)
+        (missing_frames p l (log_span Seen) before here double)
+        (ap option_to_list skew.even) (ap option_to_list skew.odd)
+        (ap option_to_list (kept.start x h base delays clock l from double run stated sync.there sync.before among))
+        (ap option_to_list (kept.lengths x h base delays clock l from double run stated sync.there sync.before among))
+        (kept.length x h base delays clock l from double run stated sync.there sync.before among)
+        (kept.offset x h base delays clock l from double run stated sync.there sync.before among)
+        (kept.rate x h base delays clock l from double run stated sync.there sync.before among)
+        (kept.missing x h base delays clock l from double run stated sync.there sync.before among)
+
+    told_none : (covered : Bool) (double : ℕ) (sync : Option SyncFrom) → Contains (seen_doubles Seen) double → IfSome sync (IsSyncFrom double)
+        → faults_in_sync covered sync (in_sync_told Log (At double)) ≡ []
+    told_none covered double None among is = refl
+    told_none false double (Some from) among is = refl
+    told_none true double (Some from) among is = in_sync_none double from among is
+
+    -- sync that is stated, or seen
+    stated_there : (double : ℕ) (since : Option ℕ) → IfSome since (λ cycle. IsUnfollowedSyncAt x.params h (run_double base (cycle / 2)))
+        → IfSome (stated_sync since double) (IsSyncFrom double)
+    stated_there double None is = tt
+    stated_there double (Some cycle) is = by (nat_le cycle (2 * double)) refl
+      where
+        half : (c d : ℕ) → nat_le c (2 * d) ≡ true → c / 2 ≤ d
+        half c d le = grind arith
+
+        by : (test : Bool) → nat_le cycle (2 * double) ≡ test
+            → IfSome (if test then Some (record { double = cycle / 2; is_stated = true }) else None) (IsSyncFrom double)
+        by true le = record { there = is; before = half cycle double le }
+        by false le = tt
+
+    seen_there : (double : ℕ) (seen : Bool) → (seen ≡ true → IsUnfollowedSyncAt x.params h (run_double base double)) → IfSome (seen_sync seen double) (IsSyncFrom double)
+    seen_there double true is = record { there = is refl; before = itself double }
+      where
+        itself : (a : ℕ) → a ≤ a
+        itself a = omega arith
+    seen_there double false is = tt
+
+    either_there : (double : ℕ) (one other : Option SyncFrom) → IfSome one (IsSyncFrom double) → IfSome other (IsSyncFrom double) → IfSome (option_or one other) (IsSyncFrom double)
+    either_there double None other first second = second
+    either_there double (Some from) other first second = first
+
+    is_seen : (double : ℕ) → Contains (seen_doubles Seen) double
+        → is_sync_seen Log.params Log.scale Log.log (At double).here (At double).number (At double).senders (own_told Log (At double)) ≡ true
+        → IsUnfollowedSyncAt x.params h (run_double base double)
+    unfolding double_at senders_of
+    is_seen double among seen = sync_is_seen x h base delays clock l double (own_told Log (At double)) run stated.named among seen
+
+    sync_there : (double : ℕ) (sync : Option SyncFrom) → Contains (seen_doubles Seen) double → IfSome sync (IsSyncFrom double)
+        → IfSome (sync_told Log (At double) sync) (IsSyncFrom double)
+    unfolding sync_told double_at
+    sync_there double (Some from) among is = is
+    sync_there double None among is =
+        let seen = is_sync_seen Log.params Log.scale Log.log (At double).here (At double).number (At double).senders (own_told Log (At double)) in
+        either_there double (stated_sync l.since (At double).number) (seen_sync seen (At double).number) (stated_by double) (seen_by double among)
+      where
+        stated_by : (double : ℕ) → IfSome (stated_sync l.since (At double).number) (IsSyncFrom double)
+        stated_by double = stated_there double l.since stated.since
+
+        seen_by : (double : ℕ) → Contains (seen_doubles Seen) double
+            → IfSome (seen_sync (is_sync_seen Log.params Log.scale Log.log (At double).here (At double).number (At double).senders (own_told Log (At double))) (At double).number) (IsSyncFrom double)
+        seen_by double among = seen_there double (is_sync_seen Log.params Log.scale Log.log (At double).here (At double).number (At double).senders (own_told Log (At double))) (is_seen double among)
+
+    later : (double : ℕ) (sync : Option SyncFrom) → IfSome sync (IsSyncFrom double) → IfSome sync (IsSyncFrom (suc double))
+    later double None is = tt
+    later double (Some from) is = record { there = is.there; before = more from.double double is.before }
+      where
+        more : (a b : ℕ) → a ≤ b → a ≤ suc b
+        more a b le = omega (arith, le)
+
+    -- behind each double cycle sync is known of one before
+    abbrev IsKnown : ℕ → Progress → Type 0
+    IsKnown double progress = IfSome progress.sync (IsSyncFrom double)
+
+    none_step : (double : ℕ) (progress : Progress) → Contains (seen_doubles Seen) double → IsKnown double progress
+        → (faults_told Log (At double) (sync_told Log (At double) progress.sync) ≡ []) × IsKnown (suc double) (progress_behind Log Seen Late double progress)
+    unfolding progress_told
+    none_step double progress among known =
+        let sync = sync_told Log (At double) progress.sync in
+        let is = sync_there double progress.sync among known in
+        (faults_left x h base delays clock l run double sync among ∙ told_none Log.may_be_covered double sync among is, later double sync is)
+
+    none_both : (some more : List Fault) → some ≡ [] → more ≡ [] → some ++ more ≡ []
+    none_both some more is other = ap (λ faults. faults ++ more) is ∙ other
+
+    pub none_told : log_faults x.params l ≡ []
+    unfolding log_faults
+    none_told = told_all Log Seen Late (λ faults. faults ≡ []) refl none_both IsKnown (seen_doubles Seen) no_progress (seen_in_turn Seen) none_step (λ first. tt)
+
+pub told_faults_ask_sync : ToldFaultsAskSync
+told_faults_ask_sync = all_ask
+
+-- where the laws of sync hold
+pub no_fault_is_told : SyncIsKept → NoFaultIsTold
+no_fault_is_told kept x h base delays clock l run stated = none_told x h base delays clock l run stated kept
+
+-- ---- the verdict
+
+pub verdict_tells_first : VerdictTellsFirst
+unfolding verdict_of verdict_by log_faults
+verdict_tells_first p l fault =
+    let seen = sightings_of p l in
+    let late = untimely_of p l in
+    let progress = log_progress (log_basis p l) seen late in
+    let first : progress.first ≡ first_of_faults (log_faults p l) = first_is (log_basis p l) seen late (seen_doubles seen) no_progress in (
+      λ is. sym first ∙ fault_is_first progress.first progress.sync progress.reach fault is,
+      λ is. ap (λ o. verdict_with o progress.sync progress.reach) (first ∙ is),
+    )
+
+pub no_run_has_own_faults : NoRunHasOwnFaults
+no_run_has_own_faults x h base delays clock l fault run is =
+    let told = (verdict_tells_first x.params l fault).0 is in
+    subst (λ o. IfSome o AsksSync) told (first_all AsksSync (log_faults x.params l) (all_ask x h base delays clock l run))
+
+pub none_is_contradicted : SyncIsKept → NoRunIsContradicted
+none_is_contradicted kept x h base delays clock l fault run stated is =
+    never fault (sym (ap first_of_faults (none_told x h base delays clock l run stated kept)) ∙ (verdict_tells_first x.params l fault).0 is)
+  where
+    never : (fault : Fault) → None ≡ Some fault → ⊥
+    never fault is = cc is

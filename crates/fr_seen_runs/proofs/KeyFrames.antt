@@ -1,0 +1,267 @@
+-- Which frames of key slots must be in a log where the observer missed none.
+use Rattle.std.proofs.Common.{◌≡◌, ◌⊎◌, ℕ, suc, ◌+◌, ◌-◌, ◌*◌, ◌/◌, ◌%◌, ◌==◌, ◌<◌, ◌≤◌, Bool, true, false, if◌then◌else◌, Option, Some, None, IsSome, ℤ, pos, List, [], ◌∷◌, All, length, refl, ap, sym, ◌∙◌, subst, inl, inr, arith}
+use Rattle.std.specs.Prelude.{◌+ℤ◌, ◌&&◌, not, is_some, Contains, filter, find}
+use Rattle.std.specs.Option.{option_map}
+use Rattle.std.proofs.lemmas.Int.{ints}
+use Rattle.std.proofs.lemmas.List.Elements.{All-contains}
+use Rattle.fr_base.specs.Rows.{channel_rank}
+use Rattle.fr_base.specs.declared.channel.Channel.{Channel}
+use Rattle.fr_base.specs.declared.node_row.NodeRow.{NodeRow}
+use Rattle.fr_base.specs.declared.state.State.TheVariants.{Active}
+use Rattle.fr_cluster.specs.Questions.{has_channel}
+use Rattle.fr_cluster.specs.Setting.{Setting, correct_nodes, is_correct}
+use Rattle.fr_cluster.specs.declared.nodes.NodeSpec.{NodeSpec}
+use Rattle.fr_cluster.specs.declared.join.Join.{Join}
+use Rattle.fr_cluster.proofs.Elements.{filtered, found, kept_filtered}
+use Rattle.fr_history.specs.Cycles.{Cycle, Cycles, cycle_at}
+use Rattle.fr_history.specs.History.{row_for, row_of}
+use Rattle.fr_history.specs.Offers.{is_on}
+use Rattle.fr_history.specs.Standing.{has_row, has_row_by}
+use Rattle.fr_runs.specs.Gathered.{CycleRuns}
+use Rattle.fr_runs.specs.Numbers.{HasDouble}
+use Rattle.fr_runs.specs.Rounds.{IsDoubleOf}
+use Rattle.fr_runs.proofs.Lawful.{lawful_cycles_run}
+use Rattle.fr_runs.proofs.Nodes.{node_there}
+use Rattle.fr_runs.proofs.Parts.{odd_is}
+use Rattle.fr_runs.proofs.Standing.{had_none, told_has}
+use Rattle.fr_runs.proofs.Whole.{double_runs, prior_of}
+use Rattle.fr_log.specs.View.{LogView, is_arbitrary_in}
+use Rattle.fr_course.specs.declared.stamps.Delays.{Delays}
+use Rattle.fr_sightings.specs.Senders.{first_stamp, is_in, is_sent_in, own_slot, sightings_in}
+use Rattle.fr_sightings.specs.Sightings.{sightings_of}
+use Rattle.fr_sightings.specs.declared.sighting.Sighting.{Sighting}
+use Rattle.fr_sightings.proofs.Proper.{both}
+use Rattle.fr_seen.specs.Clocks.{StraightClock}
+use Rattle.fr_seen.specs.Observed.{IsSentIn}
+use Rattle.fr_seen.specs.LogSeen.{HasBoth, IsAmongSent, run_double}
+use Rattle.fr_seen.specs.RunRows.{IsTimedRun}
+use Rattle.fr_seen.proofs.RunLaws.{cut_at, nodes_have_both_rows}
+use Rattle.fr_seen.proofs.SenderLaws.{some_row}
+use Rattle.fr_seen.proofs.SightingLaws.{sightings_are_sent}
+use Rattle.fr_seen_runs.specs.Contradictions.{IsAsStated, IsInside, IsObservedRun}
+use Rattle.fr_seen_runs.specs.KeptInSync.{IsCycleOf, IsDoubleThere, KeyFramesAreThere, WasSeen}
+use Rattle.fr_seen_runs.proofs.StaysInSync.{doubles_to, keeps, last_there, sighting_within}
+
+-- ---- lists
+
+-- what is found among those kept by another test is found among all, where each that passes is kept
+find_kept : {X : Type 0} (p q : X → Bool) (xs : List X) → ((x : X) → p x ≡ true → q x ≡ true) → find p (filter q xs) ≡ find p xs
+find_kept p q [] kept = refl
+find_kept {X = X} p q (x ∷ xs) kept = by (q x) refl (find_kept p q xs kept)
+  where
+    by : (b : Bool) → q x ≡ b → find p (filter q xs) ≡ find p xs → find p (filter q (x ∷ xs)) ≡ find p (x ∷ xs)
+    by true is rest =
+        let here : filter q (x ∷ xs) ≡ x ∷ filter q xs = rw is refl in
+        ap (find p) here ∙ ap (λ (o : Option X). if p x then Some x else o) rest
+    by false is rest =
+        let gone : filter q (x ∷ xs) ≡ filter q xs = rw is refl in
+        ap (find p) gone ∙ rest ∙ sym (passed (p x) refl)
+      where
+        passed : (b : Bool) → p x ≡ b → find p (x ∷ xs) ≡ find p xs
+        passed true passes = let e : true ≡ false = sym (kept x passes) ∙ is in absurd (cc)
+        passed false fails = rw fails refl
+
+same_number : (a b : ℕ) → (a == b) ≡ true → a ≡ b
+same_number a b is = grind arith
+
+-- the first stamp of a cycle is one of the sightings of its double cycle
+pub stamp_in : (seen : List Sighting) (double node cycle : ℕ) (ch : Channel) → cycle / 2 ≡ double
+    → first_stamp (sightings_in seen double) node ch cycle ≡ first_stamp seen node ch cycle
+unfolding first_stamp
+stamp_in seen double node cycle ch is =
+    ap (option_map (λ (s : Sighting). s.stamp))
+    (find_kept (is_sent_in node ch cycle) (is_in double) seen
+    (λ s passes. half s.number cycle double (same_number s.number cycle (both ((s.node == node) && (channel_rank s.channel == channel_rank ch)) (s.number == cycle) passes).1) is))
+  where
+    half : (a b c : ℕ) → a ≡ b → b / 2 ≡ c → (a / 2 == c) ≡ true
+    half a b c h k = let e : a / 2 ≡ c = omega (arith, h, k) in equal (a / 2) c e
+      where
+        equal : (a b : ℕ) → a ≡ b → (a == b) ≡ true
+        equal a b is = grind arith
+
+-- ---- rows stay
+
+-- a correct node that has a row in a cycle has one in the next
+row_next : (x : Setting) (h : Cycles) (c d : Cycle) (node : NodeSpec) → CycleRuns x (c ∷ h) d → Contains (correct_nodes x) node → is_some (row_of c.told.rows node.id) ≡ true
+    → is_some (row_of d.told.rows node.id) ≡ true
+row_next x h c d node runs correct had = told_has x (c ∷ h) d node runs correct ∙ by_join (x.join node.id) refl
+  where
+    by_join : (join : Option Join) → x.join node.id ≡ join → has_row x (c ∷ h) node.id ≡ true
+    by_join None at = ap (has_row_by x (c ∷ h) node.id) at
+    by_join (Some join) at = by (has_row x (c ∷ h) node.id) refl
+      where
+        by : (b : Bool) → has_row x (c ∷ h) node.id ≡ b → has_row x (c ∷ h) node.id ≡ true
+        by true is = is
+        by false is = let e : true ≡ false = sym had ∙ had_none x h c node.id join at is in absurd (cc)
+
+row_goes_on : (x : Setting) (h : Cycles) (double : ℕ) (even odd next_even next_odd : Cycle) (node : NodeSpec) (earlier : Cycles) → IsTimedRun x h → HasDouble h double even odd
+    → Contains (correct_nodes x) node → is_some (row_of odd.told.rows node.id) ≡ true → IsDoubleOf h (suc double) earlier next_even next_odd → is_some (row_of next_even.told.rows node.id) ≡ true
+row_goes_on x h double even odd next_even next_odd node [] run has correct had d = absurd (none double d.counted)
+  where
+    none : (k : ℕ) → 0 ≡ 2 * suc k → ⊥
+    none k e = omega arith
+row_goes_on x h double even odd next_even next_odd node (o ∷ []) run has correct had d = absurd (one double d.counted)
+  where
+    one : (k : ℕ) → 1 ≡ 2 * suc k → ⊥
+    one k e = omega arith
+row_goes_on x h double even odd next_even next_odd node (o ∷ e ∷ rest) run has correct had d =
+    let runs = double_runs x h (suc double) (o ∷ e ∷ rest) next_even next_odd d (lawful_cycles_run x h run.lawful) in
+    let before = prior_of h double rest e o next_even next_odd d in
+    let same : odd ≡ o = some_same odd o (sym has.has_odd ∙ odd_is h double rest e o before) in
+    row_next x (e ∷ rest) o next_even node runs.1.0 correct (subst (λ (c : Cycle). is_some (row_of c.told.rows node.id) ≡ true) same had)
+  where
+    some_same : (one other : Cycle) → Some one ≡ Some other → one ≡ other
+    some_same one other is = cc is
+
+-- ---- a node that sends
+
+record IsSync (l : LogView) (node : NodeSpec) : Type 0 where
+  correct : is_arbitrary_in l node.id ≡ false
+  keyed : IsSome node.key
+
+is_sync : (l : LogView) (node : NodeSpec) → IsSome (own_slot l node) → IsSync l node
+is_sync l node is = by (is_arbitrary_in l node.id) refl is
+  where
+    by : (b : Bool) → is_arbitrary_in l node.id ≡ b → IsSome (if b then None else node.key) → IsSync l node
+    by true at some = absurd (cc)
+    by false at some = record { correct = at; keyed = some }
+
+module _
+    (x : Setting) (h : Cycles) (base : ℕ) (delays : ℕ → Channel → Delays) (clock : ℕ → StraightClock) (l : LogView)
+    (o : IsObservedRun x h base delays clock l)
+  where
+    -- the double cycle of a cycle of the log, in the run
+    double_at : (number double : ℕ) → number / 2 ≡ double → number + base < length h → IsDoubleThere h (run_double base double)
+    double_at number double is less = doubles_to h x.doubles (run_double base double) o.whole (half number double base x.doubles (length h) is o.seen.seen.whole_base o.whole less)
+      where
+        half : (n k b d long : ℕ) → n / 2 ≡ k → b % 64 ≡ 0 → long ≡ 2 * d → n + b < long → k + b / 2 < d
+        half n k b d long is whole long_is less = omega (arith, is, whole, long_is, less)
+
+    twice : (double : ℕ) → 2 * run_double base double ≡ 2 * double + base
+    twice double = by base double o.seen.seen.whole_base
+      where
+        by : (b k : ℕ) → b % 64 ≡ 0 → 2 * (k + b / 2) ≡ 2 * k + b
+        by b k whole = omega (arith, whole)
+
+    -- whoever was seen in a double cycle has rows in both of its cycles
+    seen_has_rows : (double : ℕ) (node : ℕ) (there : IsDoubleThere h (run_double base double)) → WasSeen (sightings_in (sightings_of x.params l) double) node
+        → HasBoth there.even there.odd node
+    seen_has_rows double node there was =
+        let parts = filtered (is_in double) (sightings_of x.params l) was.sighting was.there in
+        let of = All-contains (IsAmongSent o.seen.sent) (sightings_of x.params l) was.sighting (sightings_are_sent x h base delays clock l o.timed.sane o.log o.seen) parts.0 in
+        let sent = All-contains (IsSentIn x h base) o.seen.sent of.sent o.seen.seen.sent of.there in
+        let ways = nodes_have_both_rows x h (run_double base double) there.even there.odd node o.timed there.has in
+        let named : row_of sent.told.told.rows node ≡ Some of.sent.row = ap (row_of sent.told.told.rows) (sym (of.is.told.by_node ∙ was.of_node)) ∙ sent.has_row in
+        let at : of.sent.cycle ≡ was.sighting.number + base = counted of.sent.cycle was.sighting.number base of.sent.frame.number sent.numbered of.is.number in
+        elim (halves was.sighting.number double (same_number (was.sighting.number / 2) double parts.1)) [
+          | inl even ↦
+              let same : sent.told ≡ there.even =
+              some_same sent.told there.even (sym sent.has_cycle ∙ ap (cycle_at h) (at ∙ ap (λ n. n + base) even ∙ sym (twice double)) ∙ there.has.has_even) in
+              let row : is_some (row_of there.even.told.rows node) ≡ true = subst (λ (c : Cycle). is_some (row_of c.told.rows node) ≡ true) same (ap is_some named) in
+              record { in_even = row; in_odd = ways.0 row }
+          | inr odd ↦
+              let same : sent.told ≡ there.odd =
+              some_same sent.told there.odd (sym sent.has_cycle ∙ ap (cycle_at h) (at ∙ odd_at was.sighting.number double base (run_double base double) odd (twice double)) ∙ there.has.has_odd) in
+              let row : is_some (row_of there.odd.told.rows node) ≡ true = subst (λ (c : Cycle). is_some (row_of c.told.rows node) ≡ true) same (ap is_some named) in
+              record { in_even = ways.1 row; in_odd = row }
+        ]
+      where
+        counted : (c n b : ℕ) (number : ℤ) → pos c ≡ number +ℤ pos b → number ≡ pos n → c ≡ n + b
+        counted c n b number a e = omega (arith, ints, a, e)
+
+        odd_at : (n k b r : ℕ) → n ≡ suc (2 * k) → 2 * r ≡ 2 * k + b → n + b ≡ suc (2 * r)
+        odd_at n k b r is two = omega (arith, is, two)
+
+        halves : (n k : ℕ) → n / 2 ≡ k → (n ≡ 2 * k) ⊎ (n ≡ suc (2 * k))
+        halves n k is = grind arith
+
+        some_same : (one other : Cycle) → Some one ≡ Some other → one ≡ other
+        some_same one other is = cc is
+
+    -- and in both of the next double cycle
+    rows_go_on : (double : ℕ) (node : NodeSpec) (there : IsDoubleThere h (run_double base double)) (next : IsDoubleThere h (run_double base (suc double)))
+        → Contains (correct_nodes x) node → HasBoth there.even there.odd node.id → HasBoth next.even next.odd node.id
+    rows_go_on double node there next correct had =
+        let cut = cut_at h (run_double base (suc double)) next.even next.odd next.has in
+        let ways = nodes_have_both_rows x h (run_double base (suc double)) next.even next.odd node.id o.timed next.has in
+        let row = row_goes_on x h (run_double base double) there.even there.odd next.even next.odd node cut.earlier o.timed there.has correct had.in_odd
+        (subst (λ k. IsDoubleOf h k cut.earlier next.even next.odd) (later double (base / 2)) cut.is) in
+        record { in_even = row; in_odd = ways.0 row }
+      where
+        later : (k b : ℕ) → suc k + b ≡ suc (k + b)
+        later k b = omega arith
+
+    pub correct_by : (node : NodeSpec) → IsAsStated x h base l → Contains x.params.nodes node → is_arbitrary_in l node.id ≡ false → Contains (correct_nodes x) node
+    correct_by node s there named =
+        kept_filtered (λ (n : NodeSpec). is_correct x n.id) x.params.nodes node there (ap not (s.named node there ∙ named))
+
+    -- the row of a node in a cycle, active
+    record HasActive (c : Cycle) (node : ℕ) : Type 0 where
+      row : NodeRow
+      is : row_of c.told.rows node ≡ Some row
+      active : row.state ≡ Active
+
+    active_in : (c : Cycle) (node : ℕ) → All (λ (r : NodeRow). r.state ≡ Active) c.told.rows → is_some (row_of c.told.rows node) ≡ true → HasActive c node
+    active_in c node all some =
+        let is = some_row c.told.rows node some in
+        record {
+          row = row_for c.told.rows node;
+          is = is;
+          active =
+              All-contains (λ (r : NodeRow). r.state ≡ Active) c.told.rows (row_for c.told.rows node) all
+              (found (λ (r : NodeRow). r.node == node) c.told.rows (row_for c.told.rows node) is).1;
+        }
+
+    number_within : (number : ℕ) → IsInside (sightings_of x.params l) number → number + base < length h
+    number_within number inside =
+        less number inside.last.number base (length h) inside.before
+        (sighting_within x h base delays clock l inside.last o (last_there (sightings_of x.params l) (length (sightings_of x.params l) - 1) inside.last inside.is_last))
+      where
+        less : (n m b long : ℕ) → n < m → m + b < long → n + b < long
+        less n m b long a e = omega (arith, a, e)
+
+    pub there_by : (number : ℕ) (node : NodeSpec) (channel : Channel) (even odd : Cycle) (double : ℕ) → IsAsStated x h base l → l.whole ≡ true → IsInside (sightings_of x.params l) number
+        → Contains (correct_nodes x) node → IsSome node.key → is_on x node.id channel ≡ true → HasDouble h (run_double base double) even odd → IsCycleOf double number
+        → HasBoth even odd node.id → All (λ (r : NodeRow). r.state ≡ Active) even.told.rows → All (λ (r : NodeRow). r.state ≡ Active) odd.told.rows
+        → IsSome (first_stamp (sightings_of x.params l) node.id channel number)
+    there_by number node channel even odd double s whole inside correct keyed on has (inl is) rows even_active odd_active =
+        let a = active_in even node.id even_active rows.in_even in
+        s.unmissed whole number node channel even a.row inside correct keyed on (ap (cycle_at h) (ap (λ n. n + base) is ∙ sym (twice double)) ∙ has.has_even) a.is a.active
+    there_by number node channel even odd double s whole inside correct keyed on has (inr is) rows even_active odd_active =
+        let a = active_in odd node.id odd_active rows.in_odd in
+        s.unmissed whole number node channel odd a.row inside correct keyed on (ap (cycle_at h) (more number double base is (twice double)) ∙ has.has_odd) a.is a.active
+      where
+        more : (n k b : ℕ) → n ≡ 2 * k + 1 → 2 * run_double b k ≡ 2 * k + b → n + b ≡ suc (2 * run_double b k)
+        more n k b is two = omega (arith, is, two)
+
+pub key_frames_are_there : KeyFramesAreThere
+key_frames_are_there x h base delays clock l from before number node channel o s u le whole among own was of inside has =
+    let seen = sightings_of x.params l in
+    let sync = is_sync l node own in
+    let correct = correct_by x h base delays clock l o node s among sync.correct in
+    let within = number_within x h base delays clock l o number inside in
+    let half : number / 2 ≡ suc before = half_of number before of in
+    let next = double_at x h base delays clock l o number (suc before) half within in
+    let early = double_at x h base delays clock l o (2 * before) before (half_of_twice before) (less number before base (length h) half within) in
+    let had = seen_has_rows x h base delays clock l o before node.id early was in
+    let rows = rows_go_on x h base delays clock l o before node early next correct had in
+    let kept = keeps x h base delays clock l from o s u (suc before) next.even next.odd (le_suc from before le) next.has in
+    let on : is_on x node.id channel ≡ true = ap (λ n. has_channel n channel) (node_there x.params node o.timed.sane among) ∙ has in
+    subst IsSome (sym (stamp_in seen (suc before) node.id number channel half))
+    (
+    there_by x h base delays clock l o number node channel next.even next.odd (suc before) s whole inside correct sync.keyed on next.has of rows kept.gathered.in_sync.active_even
+    kept.gathered.in_sync.active_odd
+    )
+  where
+    half_of : (n k : ℕ) → IsCycleOf (suc k) n → n / 2 ≡ suc k
+    half_of n k (inl is) = omega (arith, is)
+    half_of n k (inr is) = omega (arith, is)
+
+    half_of_twice : (k : ℕ) → (2 * k) / 2 ≡ k
+    half_of_twice k = omega arith
+
+    less : (n k b long : ℕ) → n / 2 ≡ suc k → n + b < long → 2 * k + b < long
+    less n k b long is within = omega (arith, is, within)
+
+    le_suc : (a b : ℕ) → a ≤ b → a ≤ suc b
+    le_suc a b le = omega (arith, le)

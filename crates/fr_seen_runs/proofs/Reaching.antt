@@ -1,0 +1,403 @@
+-- Where the verdict of a log is within, the skew stays within the precision in each of its cycles, in each run that the log is seen of.
+use Rattle.std.proofs.Common.{◌≡◌, ◌⊎◌, ℕ, suc, ◌+◌, ◌*◌, ◌/◌, ◌%◌, ◌==◌, ◌≤◌, Bool, true, false, Option, Some, None, ℤ, pos, List, [], ◌∷◌, All, map, refl, ap, sym, ◌∙◌, subst, inl, inr, arith}
+use Rattle.std.specs.Prelude.{Contains, IfSome, int_lt, if◌then◌else◌}
+use Rattle.std.specs.Option.{option_map, option_or}
+use Rattle.std.proofs.lemmas.List.Elements.{All-head}
+use Rattle.fr_base.specs.declared.channel.Channel.{Channel}
+use Rattle.fr_bound.specs.Bounds.{precision_of}
+use Rattle.fr_cluster.specs.Setting.{Setting}
+use Rattle.fr_history.specs.Cycles.{Cycles}
+use Rattle.fr_history.specs.Unfollowed.{IsUnfollowedSyncAt}
+use Rattle.fr_log.specs.View.{LogView}
+use Rattle.fr_course.specs.Readings.{reading_scale}
+use Rattle.fr_course.specs.Spread.{most_odd_skew}
+use Rattle.fr_course.specs.declared.courses.Course.{Course}
+use Rattle.fr_course.specs.declared.scales.Scale.{Scale}
+use Rattle.fr_course.specs.declared.stamps.Delays.{Delays}
+use Rattle.fr_observe.specs.Observing.{all_there, courses_of, even_high, even_low, odd_high, odd_low, says_of, seen_doubles, senders_of}
+use Rattle.fr_sightings.specs.Sightings.{sightings_of}
+use Rattle.fr_observe.specs.declared.says.Says.{Says}
+use Rattle.fr_observe.specs.declared.says.Says.TheVariants.{Over, Within, Open}
+use Rattle.fr_sightings.specs.declared.sender.Sender.{Sender}
+use Rattle.fr_sightings.specs.declared.sighting.Sighting.{Sighting}
+use Rattle.fr_seen.specs.Clocks.{StraightClock}
+use Rattle.fr_seen.specs.LogSeen.{SaysSo, log_senders, run_double, sender_rows}
+use Rattle.fr_seen.proofs.WordLaws.{even_words_hold, odd_words_hold}
+use Rattle.fr_seen_runs.specs.Contradictions.{IsObservedRun, NamesArbitrary}
+use Rattle.fr_seen_runs.specs.KeptInSync.{IsDoubleThere}
+use Rattle.fr_seen_runs.specs.NotContradicted.{WithinIsInSync, WithinIsSo, WithinIsThere}
+use Rattle.fr_observe.specs.declared.fault.Fault.{Fault}
+use Rattle.fr_observe.specs.declared.fault.SyncFrom.{SyncFrom}
+use Rattle.fr_observe.specs.Faults.{is_sync_seen, seen_sync, stated_sync, sync_behind}
+use Rattle.fr_findings.specs.Verdict.{Basis, DoubleCycle, double_at, even_says, further_within, log_basis, log_progress, no_progress, odd_says, own_told, progress_behind, progress_told, reach_behind, reach_behind_both, reach_by, sync_told, verdict_by, verdict_of, verdict_with}
+use Rattle.fr_findings.specs.declared.progress.Progress.{Progress}
+use Rattle.fr_findings.specs.declared.progress.Reach.{Reach}
+use Rattle.fr_sightings.specs.Sightings.{untimely_of}
+use Rattle.fr_findings.specs.declared.verdict.Verdict.TheVariants as verdict
+use Rattle.fr_seen_runs.proofs.OwnSightings.{here_there, next_there}
+use Rattle.fr_seen_runs.proofs.OwnFaults.{sync_is_seen}
+use Rattle.fr_seen_runs.proofs.Progressing.{behind_all, seen_in_turn}
+
+-- ---- the reach of what cycles say
+
+module _ (said : ℕ → Says) where
+  -- each cycle up to the last of them says within; and behind the last one the next one comes, unless they are ended
+  pub record IsReached (next : ℕ) (reach : Option Reach) (is_ended : Bool) : Type 0 where
+    pub within : IfSome reach (λ r. (cycle : ℕ) → r.from ≤ cycle → cycle ≤ r.to → said cycle ≡ Within)
+    pub last : is_ended ≡ false → IfSome reach (λ r. suc r.to ≡ next)
+
+  none_reached : (next : ℕ) (is_ended : Bool) → IsReached next None is_ended
+  none_reached next is_ended = record { within = tt; last = λ goes. tt }
+
+  ended : (next later : ℕ) (reach : Option Reach) (is_ended : Bool) → IsReached next reach is_ended → IsReached later reach true
+  ended next later reach is_ended is = record { within = is.within; last = λ goes. absurd (cc goes) }
+
+  one_more : (next : ℕ) (reach : Option Reach) → said next ≡ Within → IsReached next reach false → IsReached (suc next) (Some (further_within reach next)) false
+  one_more next None says is =
+      record {
+        within = λ cycle from to. ap said (only cycle next from to) ∙ says;
+        last = λ goes. refl;
+      }
+    where
+      only : (c n : ℕ) → n ≤ c → c ≤ n → c ≡ n
+      only c n from to = omega (arith, from, to)
+  one_more next (Some r) says is =
+      record {
+        within = λ cycle from to. by cycle from (last_or cycle r.to next to (is.last refl));
+        last = λ goes. refl;
+      }
+    where
+      last_or : (c t n : ℕ) → c ≤ n → suc t ≡ n → (c ≤ t) ⊎ (c ≡ n)
+      last_or c t n le is = grind arith
+
+      by : (cycle : ℕ) → r.from ≤ cycle → (cycle ≤ r.to) ⊎ (cycle ≡ next) → said cycle ≡ Within
+      by cycle from (inl before) = is.within cycle from before
+      by cycle from (inr here) = ap said here ∙ says
+
+  reached_by : (next : ℕ) (reach : Option Reach) (says : Says) → said next ≡ says → IsReached next reach false
+      → IsReached (suc next) (reach_by reach next says).0 (reach_by reach next says).1
+  reached_by next reach Within says is = one_more next reach says is
+  reached_by next reach Over says is = ended next (suc next) reach false is
+  reached_by next reach Open says is = ended next (suc next) reach false is
+
+  reached_behind : (next : ℕ) (reach : Option Reach) (is_ended : Bool) → IsReached next reach is_ended
+      → IsReached (suc next) (reach_behind (reach, is_ended) next (said next)).0 (reach_behind (reach, is_ended) next (said next)).1
+  reached_behind next reach true is = ended next (suc next) reach true is
+  reached_behind next reach false is = reached_by next reach (said next) refl is
+
+  reached_both : (sync : Option SyncFrom) (double : ℕ) (reach : Option Reach) (is_ended : Bool) → (sync ≡ None → reach ≡ None) → IsReached (2 * double) reach is_ended
+      → IsReached (2 * suc double) (reach_behind_both sync double (said (2 * double)) (said (2 * double + 1)) (reach, is_ended)).0
+      (reach_behind_both sync double (said (2 * double)) (said (2 * double + 1)) (reach, is_ended)).1
+  reached_both None double reach is_ended none is = subst (λ r. IsReached (2 * suc double) r is_ended) (sym (none refl)) (none_reached (2 * suc double) is_ended)
+  reached_both (Some from) double reach is_ended none is =
+      let even = reach_behind (reach, is_ended) (2 * double) (said (2 * double)) in
+      let first = reached_behind (2 * double) reach is_ended is in
+      let next : suc (2 * double) ≡ 2 * double + 1 = one (2 * double) in
+      let after : suc (2 * double + 1) ≡ 2 * suc double = two double in
+      let second = reached_behind (2 * double + 1) even.0 even.1 (subst (λ n. IsReached n even.0 even.1) next first) in
+      let odd = reach_behind even (2 * double + 1) (said (2 * double + 1)) in
+      subst (λ n. IsReached n odd.0 odd.1) after second
+    where
+      one : (n : ℕ) → suc n ≡ n + 1
+      one n = omega arith
+
+      two : (d : ℕ) → suc (2 * d + 1) ≡ 2 * suc d
+      two d = omega arith
+
+-- ---- where a verdict is within
+
+pub record IsToldWithin (first : Option Fault) (sync : Option SyncFrom) (reach : Option Reach) (told : Reach) : Type 0 where
+  pub from : SyncFrom
+  pub synced : sync ≡ Some from
+  pub reached : reach ≡ Some told
+
+within_told : (first : Option Fault) (sync : Option SyncFrom) (reach : Option Reach) (told : Reach) → verdict_with first sync reach ≡ verdict.Within told → IsToldWithin first sync reach told
+within_told (Some fault) sync reach told is = absurd (cc is)
+within_told None None reach told is = absurd (cc is)
+within_told None (Some from) None told is = absurd (cc is)
+within_told None (Some from) (Some reach) told is = record { from = from; synced = refl; reached = ap Some (same reach told is) }
+  where
+    same : (a b : Reach) → verdict.Within a ≡ verdict.Within b → a ≡ b
+    same a b is = cc is
+
+-- the odd cycle says within only where each sender has a course in the next double cycle, and there is a sender
+says_some : (precision low : ℤ) (high : Option ℤ) → says_of precision low high ≡ Within → (most : ℤ) × (high ≡ Some most)
+says_some precision low (Some most) is = (most, refl)
+says_some precision low None is = by (int_lt precision low) is
+  where
+    by : (over : Bool) → (if over then Over else Open) ≡ Within → (most : ℤ) × (None ≡ Some most)
+    by true is = absurd (cc is)
+    by false is = absurd (cc is)
+
+module _ (x : Setting) (h : Cycles) (base : ℕ) (delays : ℕ → Channel → Delays) (clock : ℕ → StraightClock) (l : LogView) (run : IsObservedRun x h base delays clock l) where
+  abbrev Seen : List Sighting
+  Seen = sightings_of x.params l
+
+  abbrev Late : List Sighting
+  Late = untimely_of x.params l
+
+  abbrev Log : Basis
+  Log = log_basis x.params l
+
+  abbrev At : ℕ → DoubleCycle
+  At double = double_at Log Seen Late double
+
+  abbrev Scaled : Scale
+  Scaled = reading_scale l.drift x.params
+
+  -- what the row of a cycle says
+  pub cycle_by : ℕ → Bool → Says
+  cycle_by double true = even_says Log (At double)
+  cycle_by double false = odd_says Log (At double)
+
+  pub cycle_says : ℕ → Says
+  cycle_says cycle = cycle_by (cycle / 2) (cycle % 2 == 0)
+
+  even_cycle_says : (double : ℕ) → cycle_says (2 * double) ≡ even_says Log (At double)
+  unfolding cycle_says cycle_by
+  even_cycle_says double = ap (λ d. cycle_by d (2 * double % 2 == 0)) (half double) ∙ ap (cycle_by double) (even double)
+    where
+      half : (d : ℕ) → 2 * d / 2 ≡ d
+      half d = omega arith
+
+      even : (d : ℕ) → (2 * d % 2 == 0) ≡ true
+      even d = grind arith
+
+  odd_cycle_says : (double : ℕ) → cycle_says (2 * double + 1) ≡ odd_says Log (At double)
+  unfolding cycle_says cycle_by
+  odd_cycle_says double = ap (λ d. cycle_by d ((2 * double + 1) % 2 == 0)) (half double) ∙ ap (cycle_by double) (odd double)
+    where
+      half : (d : ℕ) → (2 * d + 1) / 2 ≡ d
+      half d = omega arith
+
+      odd : (d : ℕ) → ((2 * d + 1) % 2 == 0) ≡ false
+      odd d = grind arith
+
+  -- behind each double cycle
+  pub record Reaches (double : ℕ) (progress : Progress) : Type 0 where
+    pub none : progress.sync ≡ None → progress.reach ≡ None
+    pub is : IsReached cycle_says (2 * double) progress.reach progress.is_ended
+
+  unsynced : (double : ℕ) (sync : Option SyncFrom) → sync_told Log (At double) sync ≡ None → sync ≡ None
+  unfolding sync_told
+  unsynced double None is = refl
+  unsynced double (Some from) is = absurd (cc is)
+
+  none_behind : (sync : Option SyncFrom) (double : ℕ) (even odd : Says) (reach : Option Reach) (is_ended : Bool) → sync ≡ None → reach ≡ None
+      → (reach_behind_both sync double even odd (reach, is_ended)).0 ≡ None
+  none_behind None double even odd reach is_ended is none = none
+  none_behind (Some from) double even odd reach is_ended is none = absurd (cc is)
+
+  reaches_behind : (double : ℕ) (progress : Progress) → Contains (seen_doubles Seen) double → Reaches double progress → Reaches (suc double) (progress_behind Log Seen Late double progress)
+  unfolding progress_told double_at
+  reaches_behind double progress among before =
+      let sync = sync_told Log (At double) progress.sync in
+      let none_before : sync ≡ None → progress.reach ≡ None = λ is. before.none (unsynced double progress.sync is) in
+      let both = reached_both cycle_says sync double progress.reach progress.is_ended none_before before.is in
+      let Behind : Says → Says → Type 0 = λ even odd. IsReached cycle_says (2 * suc double)
+      (reach_behind_both sync double even odd (progress.reach, progress.is_ended)).0 (reach_behind_both sync double even odd (progress.reach, progress.is_ended)).1 in
+      record {
+        none = λ is. none_behind sync double (even_says Log (At double)) (odd_says Log (At double)) progress.reach progress.is_ended is (none_before is);
+        is = subst (Behind (even_says Log (At double))) (odd_cycle_says double) (subst (λ even. Behind even (cycle_says (2 * double + 1))) (even_cycle_says double) both);
+      }
+
+  pub reached : (r : Reach) → (log_progress Log Seen Late).reach ≡ Some r → (cycle : ℕ) → r.from ≤ cycle → cycle ≤ r.to → cycle_says cycle ≡ Within
+  reached r is =
+      let all = behind_all Log Seen Late Reaches (seen_doubles Seen) no_progress (seen_in_turn Seen) reaches_behind (λ first. record { none = λ none. refl; is = none_reached cycle_says (2 * first) false }) in
+      subst (λ o. IfSome o (λ r. (cycle : ℕ) → r.from ≤ cycle → cycle ≤ r.to → cycle_says cycle ≡ Within)) is all.holds.is.within
+
+  -- ---- its double cycle
+
+  some_even : (double : ℕ) (senders : List Sender) → All (λ (s : Sender). IsDoubleThere h (run_double base double)) senders → (most : ℤ) → even_high Scaled senders ≡ Some most
+      → IsDoubleThere h (run_double base double)
+  unfolding even_high
+  some_even double [] all most is = absurd (cc is)
+  some_even double (s ∷ senders) all most is = All-head (λ (s : Sender). IsDoubleThere h (run_double base double)) s senders all
+
+  some_odd : (double : ℕ) (senders : List Sender) → All (λ (s : Sender). IsDoubleThere h (run_double base double)) senders → (most : ℤ) → odd_high Scaled senders ≡ Some most
+      → IsDoubleThere h (run_double base double)
+  unfolding odd_high
+  some_odd double [] all most is = absurd (cc is)
+  some_odd double (s ∷ senders) all most is = All-head (λ (s : Sender). IsDoubleThere h (run_double base double)) s senders all
+
+  says_there : (double : ℕ) (even : Bool) → cycle_by double even ≡ Within → IsDoubleThere h (run_double base double)
+  unfolding cycle_by double_at senders_of
+  says_there double true is =
+      let senders = log_senders x l double in
+      let most = says_some (pos (precision_of x.params)) (even_low Scaled senders) (even_high Scaled senders) is in
+      some_even double senders (here_there x h base delays clock l run double) most.0 most.1
+  says_there double false is =
+      let senders = log_senders x l double in
+      let most = says_some (pos (precision_of x.params)) (odd_low Scaled senders) (odd_high Scaled senders) is in
+      some_odd double senders (here_there x h base delays clock l run double) most.0 most.1
+
+  pub cycle_there : (cycle : ℕ) → cycle_says cycle ≡ Within → IsDoubleThere h (run_double base (cycle / 2))
+  unfolding cycle_says
+  cycle_there cycle is = says_there (cycle / 2) (cycle % 2 == 0) is
+
+  -- ---- the next double cycle
+
+  next_by : (double : ℕ) (senders : List Sender) → All (λ (s : Sender). IfSome s.next (λ next. IsDoubleThere h (suc (run_double base double)))) senders
+      → (most : ℤ) → odd_high Scaled senders ≡ Some most → IsDoubleThere h (suc (run_double base double))
+  unfolding odd_high
+  next_by double [] all most is = absurd (cc is)
+  next_by double (s ∷ senders) all most is = by s.next (All-head (λ (s : Sender). IfSome s.next (λ next. IsDoubleThere h (suc (run_double base double)))) s senders all) is
+    where
+      by : (next : Option Course) → IfSome next (λ next. IsDoubleThere h (suc (run_double base double)))
+          → option_map (most_odd_skew Scaled (courses_of (s ∷ senders))) (all_there (next ∷ map (λ (t : Sender). t.next) senders)) ≡ Some most
+          → IsDoubleThere h (suc (run_double base double))
+      by None there is = absurd (cc is)
+      by (Some next) there is = there
+
+  -- ---- from the first cycle on
+
+  module _ (named : NamesArbitrary x l) (unstated : l.since ≡ None) where
+    -- the reach begins with the first cycle in sync
+    pub record IsFromFirst (first : ℕ) (reach : Option Reach) (is_ended : Bool) : Type 0 where
+      pub begins : IfSome reach (λ r. r.from ≡ first)
+      pub gone : reach ≡ None → is_ended ≡ true
+
+    still_ended : (first : ℕ) (reach : Option Reach) (is_ended : Bool) → IsFromFirst first reach is_ended → IsFromFirst first reach true
+    still_ended first reach is_ended is = record { begins = is.begins; gone = λ none. refl }
+
+    never_none : (reach : Reach) (is_ended : Bool) → Some reach ≡ None → is_ended ≡ true
+    never_none reach is_ended is = absurd (cc is)
+
+    from_by : (first cycle : ℕ) (reach : Option Reach) (says : Says) → IsFromFirst first reach false → IsFromFirst first (reach_by reach cycle says).0 (reach_by reach cycle says).1
+    from_by first cycle None Within is = absurd (let e = is.gone refl in cc e)
+    from_by first cycle (Some r) Within is = record { begins = is.begins; gone = never_none (record { from = r.from; to = cycle }) false }
+    from_by first cycle reach Over is = still_ended first reach false is
+    from_by first cycle reach Open is = still_ended first reach false is
+
+    from_behind : (first cycle : ℕ) (reach : Option Reach) (is_ended : Bool) (says : Says) → IsFromFirst first reach is_ended
+        → IsFromFirst first (reach_behind (reach, is_ended) cycle says).0 (reach_behind (reach, is_ended) cycle says).1
+    from_behind first cycle reach true says is = still_ended first reach true is
+    from_behind first cycle reach false says is = from_by first cycle reach says is
+
+    from_new : (cycle : ℕ) (says : Says) → IsFromFirst cycle (reach_behind (None, false) cycle says).0 (reach_behind (None, false) cycle says).1
+    from_new cycle Within = record { begins = refl; gone = never_none (record { from = cycle; to = cycle }) false }
+    from_new cycle Over = record { begins = tt; gone = λ none. refl }
+    from_new cycle Open = record { begins = tt; gone = λ none. refl }
+
+    pub record BeginsIn (from : SyncFrom) (reach : Option Reach) (is_ended : Bool) : Type 0 where
+      pub there : IsUnfollowedSyncAt x.params h (run_double base from.double)
+      pub is : IsFromFirst (2 * from.double) reach is_ended
+
+    pub record Begins (sync : Option SyncFrom) (reach : Option Reach) (is_ended : Bool) : Type 0 where
+      pub none : sync ≡ None → (reach ≡ None) × (is_ended ≡ false)
+      pub some : IfSome sync (λ from. BeginsIn from reach is_ended)
+
+    -- behind both cycles of a double cycle
+    abbrev BeginsBehind : Option SyncFrom → ℕ → Says → Says → Option Reach → Bool → Type 0
+    BeginsBehind sync double even odd reach is_ended =
+        Begins sync (reach_behind_both sync double even odd (reach, is_ended)).0 (reach_behind_both sync double even odd (reach, is_ended)).1
+
+    some_never : (from : SyncFrom) (reach : Option Reach) (is_ended : Bool) → Some from ≡ None → (reach ≡ None) × (is_ended ≡ false)
+    some_never from reach is_ended is = absurd (cc is)
+
+    goes_on : (from : SyncFrom) (double : ℕ) (even odd : Says) (reach : Option Reach) (is_ended : Bool) → BeginsIn from reach is_ended → BeginsBehind (Some from) double even odd reach is_ended
+    goes_on from double even odd reach is_ended is =
+        let one = reach_behind (reach, is_ended) (2 * double) even in
+        let two = reach_behind one (2 * double + 1) odd in
+        record {
+          none = some_never from two.0 two.1;
+          some = record {
+            there = is.there;
+            is = from_behind (2 * from.double) (2 * double + 1) one.0 one.1 odd (from_behind (2 * from.double) (2 * double) reach is_ended even is.is);
+          };
+        }
+
+    begins_new : (double : ℕ) (even odd : Says) → IsUnfollowedSyncAt x.params h (run_double base double)
+        → BeginsBehind (Some (record { double = double; is_stated = false })) double even odd None false
+    begins_new double even odd there =
+        let from : SyncFrom = record { double = double; is_stated = false } in
+        let one = reach_behind (None, false) (2 * double) even in
+        let two = reach_behind one (2 * double + 1) odd in
+        record {
+          none = some_never from two.0 two.1;
+          some = record { there = there; is = from_behind (2 * double) (2 * double + 1) one.0 one.1 odd (from_new (2 * double) even) };
+        }
+
+    begins_by : (since : Option ℕ) → since ≡ None → (double : ℕ) (seen : Bool) (even odd : Says) → (seen ≡ true → IsUnfollowedSyncAt x.params h (run_double base double))
+        → BeginsBehind (option_or (stated_sync since double) (seen_sync seen double)) double even odd None false
+    begins_by (Some cycle) none double seen even odd there = absurd (cc none)
+    begins_by None none double true even odd there = begins_new double even odd (there refl)
+    begins_by None none double false even odd there = record { none = λ is. (refl, refl); some = tt }
+
+    begins_step : (sync : Option SyncFrom) (double : ℕ) (seen : Bool) (even odd : Says) (reach : Option Reach) (is_ended : Bool)
+        → (seen ≡ true → IsUnfollowedSyncAt x.params h (run_double base double)) → Begins sync reach is_ended
+        → BeginsBehind (sync_behind l double seen sync) double even odd reach is_ended
+    begins_step (Some from) double seen even odd reach is_ended there before = goes_on from double even odd reach is_ended before.some
+    begins_step None double seen even odd reach is_ended there before =
+        let none = before.none refl in
+        let sync = option_or (stated_sync l.since double) (seen_sync seen double) in
+        subst (λ r. BeginsBehind sync double even odd r is_ended) (sym none.0)
+        (subst (λ e. BeginsBehind sync double even odd None e) (sym none.1) (begins_by l.since unstated double seen even odd there))
+
+    abbrev IsSeen : ℕ → Bool
+    IsSeen double = is_sync_seen Log.params Log.scale Log.log (At double).here (At double).number (At double).senders (own_told Log (At double))
+
+    is_seen : (double : ℕ) → Contains (seen_doubles Seen) double → IsSeen double ≡ true → IsUnfollowedSyncAt x.params h (run_double base double)
+    unfolding double_at senders_of
+    is_seen double among seen = sync_is_seen x h base delays clock l double (own_told Log (At double)) run named among seen
+
+    abbrev BeginsAt : ℕ → Progress → Type 0
+    BeginsAt double progress = Begins progress.sync progress.reach progress.is_ended
+
+    begins_behind : (double : ℕ) (progress : Progress) → Contains (seen_doubles Seen) double → BeginsAt double progress → BeginsAt (suc double) (progress_behind Log Seen Late double progress)
+    unfolding progress_told sync_told double_at
+    begins_behind double progress among before =
+        begins_step progress.sync double (IsSeen double) (even_says Log (At double)) (odd_says Log (At double)) progress.reach progress.is_ended (is_seen double among) before
+
+    pub begun : Begins (log_progress Log Seen Late).sync (log_progress Log Seen Late).reach (log_progress Log Seen Late).is_ended
+    begun = (behind_all Log Seen Late BeginsAt (seen_doubles Seen) no_progress (seen_in_turn Seen) begins_behind (λ first. record { none = λ is. (refl, refl); some = tt })).holds
+
+    pub in_sync_from : (r : Reach) → IsToldWithin (log_progress Log Seen Late).first (log_progress Log Seen Late).sync (log_progress Log Seen Late).reach r
+        → IsUnfollowedSyncAt x.params h (run_double base (r.from / 2))
+    in_sync_from r told =
+        let progress = log_progress Log Seen Late in
+        let is = subst (λ o. IfSome o (λ from. BeginsIn from progress.reach progress.is_ended)) told.synced begun.some in
+        let first : r.from ≡ 2 * told.from.double = subst (λ o. IfSome o (λ r. r.from ≡ 2 * told.from.double)) told.reached is.is.begins in
+        subst (λ d. IsUnfollowedSyncAt x.params h (run_double base d)) (half r.from told.from.double first) is.there
+      where
+        half : (a d : ℕ) → a ≡ 2 * d → d ≡ a / 2
+        half a d is = omega (arith, is)
+
+pub within_is_so : WithinIsSo
+unfolding verdict_of verdict_by double_at senders_of
+within_is_so x h base delays clock l r double even odd run is has =
+    let precision = pos (precision_of x.params) in
+    let scale = reading_scale l.drift x.params in
+    let senders = log_senders x l double in
+    let progress = log_progress (log_basis x.params l) (sightings_of x.params l) (untimely_of x.params l) in
+    let told = within_told progress.first progress.sync progress.reach r is in
+    let says = reached x h base delays clock l run r told.reached in
+    record {
+      in_even = λ from to.
+          let word : says_of precision (even_low scale senders) (even_high scale senders) ≡ Within = sym (even_cycle_says x h base delays clock l run double) ∙ says (2 * double) from to in
+          subst (SaysSo x.params false (sender_rows even senders) precision) word (even_words_hold x h base delays clock l double even odd precision run.timed run.log run.seen has);
+      in_odd = λ from to.
+          let next : suc (2 * double) ≡ 2 * double + 1 = one (2 * double) in
+          let word : says_of precision (odd_low scale senders) (odd_high scale senders) ≡ Within =
+          sym (odd_cycle_says x h base delays clock l run double) ∙ says (2 * double + 1) (subst (λ n. r.from ≤ n) next from) (subst (λ n. n ≤ r.to) next to) in
+          let most = says_some precision (odd_low scale senders) (odd_high scale senders) word in
+          let later = next_by x h base delays clock l run double senders (next_there x h base delays clock l run double) most.0 most.1 in
+          subst (SaysSo x.params true (sender_rows odd senders) precision) word
+          (odd_words_hold x h base delays clock l double even odd later.even later.odd precision run.timed run.log run.seen has later.has);
+    }
+  where
+    one : (n : ℕ) → suc n ≡ n + 1
+    one n = omega arith
+
+pub within_is_there : WithinIsThere
+unfolding verdict_of verdict_by
+within_is_there x h base delays clock l r cycle run is from to =
+    let progress = log_progress (log_basis x.params l) (sightings_of x.params l) (untimely_of x.params l) in
+    let told = within_told progress.first progress.sync progress.reach r is in
+    cycle_there x h base delays clock l run cycle (reached x h base delays clock l run r told.reached cycle from to)
+
+pub within_is_in_sync : WithinIsInSync
+unfolding verdict_of verdict_by
+within_is_in_sync x h base delays clock l r run named unstated is =
+    let progress = log_progress (log_basis x.params l) (sightings_of x.params l) (untimely_of x.params l) in
+    in_sync_from x h base delays clock l run named unstated r (within_told progress.first progress.sync progress.reach r is)

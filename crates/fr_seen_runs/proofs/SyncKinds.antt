@@ -1,0 +1,128 @@
+-- The kinds of the faults that are told of a cluster in sync.
+use Rattle.std.proofs.Common.{◌≡◌, ℕ, ◌+◌, ◌*◌, Bool, true, false, Option, Some, None, ℤ, pos, List, [], ◌∷◌, ◌++◌, All, refl, subst}
+use Rattle.std.specs.Prelude.{◌||◌, ◌&&◌, not, IfSome, filter_map, int_lt, is_some, if◌then◌else◌}
+use Rattle.std.specs.List.{flat_map}
+use Rattle.std.specs.Option.{option_map, option_to_list}
+use Rattle.std.proofs.lemmas.List.Elements.{All-append, All-cons, All-nil}
+use Rattle.fr_base.specs.declared.channel.Channel.{Channel}
+use Rattle.fr_base.specs.declared.channel.Channel.TheVariants.{A, B}
+use Rattle.fr_bound.specs.Bounds.{lambda_of, pi_of}
+use Rattle.fr_cluster.specs.Questions.{has_channel}
+use Rattle.fr_cluster.specs.Values.{Values}
+use Rattle.fr_cluster.specs.declared.nodes.NodeSpec.{NodeSpec}
+use Rattle.fr_log.specs.View.{LogView}
+use Rattle.fr_course.specs.Terms.{rate_step_seen}
+use Rattle.fr_course.specs.declared.intervals.Interval.{Interval}
+use Rattle.fr_course.specs.declared.scales.Scale.{Scale}
+use Rattle.fr_observe.specs.Observing.{courses_of, even_high, even_low, odd_high, odd_low, terms_of}
+use Rattle.fr_sightings.specs.Senders.{first_stamp, own_slot}
+use Rattle.fr_sightings.specs.declared.sender.Sender.{Sender}
+use Rattle.fr_sightings.specs.declared.sighting.Sighting.{Sighting}
+use Rattle.fr_seen.proofs.SenderLaws.{all_given}
+use Rattle.fr_observe.specs.declared.fault.Fault.{Fault}
+use Rattle.fr_observe.specs.declared.fault.FaultKind.{FaultKind}
+use Rattle.fr_observe.specs.declared.fault.LogSpan.{LogSpan}
+use Rattle.fr_observe.specs.Faults.{asks_sync, beyond_fault, further_of, is_inside, length_fault, length_fault_by, longest_cycle_of, missing_by, missing_frames, missing_in, missing_of, missing_on, missing_with, node_missing, offset_fault, other_courses, plain_fault, rate_fault, shortest_cycle_of, skew_fault, sync_faults, unlike_fault, unlike_with, was_seen}
+use Rattle.fr_course.specs.Computed.{length_ticks, measuring_of, offset_computed, rate_computed}
+use Rattle.fr_course.specs.Spread.{lengths_apart, starts_apart}
+use Rattle.fr_observe.specs.declared.fault.FaultKind.TheVariants.{Lengths, Length, Offset, Rate, Skew, Start}
+
+abbrev pub AsksSync : Fault → Type 0
+AsksSync fault = asks_sync fault.kind ≡ true
+
+-- where a test tells a fault, one that asks for sync
+told_asks : (test : Bool) (fault : Fault) → AsksSync fault → IfSome (if test then Some fault else None) AsksSync
+told_asks true fault asks = asks
+told_asks false fault asks = tt
+
+listed : (told : Option Fault) → IfSome told AsksSync → All AsksSync (option_to_list told)
+listed None asks = All-nil AsksSync
+listed (Some fault) asks = All-cons AsksSync fault [] asks (All-nil AsksSync)
+
+given : {X : Type 0} (f : X → Option Fault) (xs : List X) → ((x : X) → IfSome (f x) AsksSync) → All AsksSync (filter_map f xs)
+given f xs each = all_given f AsksSync xs (λ x among fault is. subst (λ o. IfSome o AsksSync) is (each x))
+
+flat : {X : Type 0} (f : X → List Fault) (xs : List X) → ((x : X) → All AsksSync (f x)) → All AsksSync (flat_map f xs)
+flat f [] each = All-nil AsksSync
+flat f (x ∷ xs) each = All-append AsksSync (f x) (flat_map f xs) (each x) (flat f xs each)
+
+either : (test : Bool) (faults : List Fault) → All AsksSync faults → All AsksSync (if test then faults else [])
+either true faults all = all
+either false faults all = All-nil AsksSync
+
+unlike_asks : (kind : FaultKind) (cycle node : ℕ) → asks_sync kind ≡ true → (seen computed : Option Interval) → IfSome (unlike_fault kind cycle node seen computed) AsksSync
+unlike_asks kind cycle node asks None computed = tt
+unlike_asks kind cycle node asks (Some seen) None = tt
+unlike_asks kind cycle node asks (Some seen) (Some computed) =
+    told_asks (int_lt seen.high computed.low || int_lt computed.high seen.low) (unlike_with kind cycle node seen computed) asks
+
+beyond_asks : (kind : FaultKind) (cycle : ℕ) (bound : ℤ) (apart : Interval) → asks_sync kind ≡ true → IfSome (beyond_fault kind cycle bound apart) AsksSync
+beyond_asks kind cycle bound apart asks =
+    told_asks (int_lt bound apart.low) (plain_fault cycle None kind (Some apart.low) (Some apart.high) None (Some bound)) asks
+
+length_asks : (cycle node : ℕ) (least most : ℤ) (long : Interval) → IfSome (length_fault_by cycle node least most long) AsksSync
+length_asks cycle node least most long =
+    told_asks (int_lt most long.low || int_lt long.high least)
+    (plain_fault cycle (Some node) Length (Some long.low) (Some long.high) (Some least) (Some most)) refl
+
+missing_asks : (span : LogSpan) (here : List Sighting) (cycle : ℕ) (node : NodeSpec) (ch : Channel) → IfSome (missing_by span here cycle node ch) AsksSync
+missing_asks span here cycle node ch = by (has_channel (Some node) ch)
+  where
+    by : (test : Bool) → IfSome (if test then missing_on span here cycle node.id ch else None) AsksSync
+    by true = told_asks (is_inside span cycle && not (is_some (first_stamp here node.id ch cycle))) (missing_with cycle node.id ch) refl
+    by false = tt
+
+missing_in_asks : (span : LogSpan) (here : List Sighting) (cycle : ℕ) (node : NodeSpec) → All AsksSync (missing_in span here cycle node)
+missing_in_asks span here cycle node =
+    All-append AsksSync (option_to_list (missing_by span here cycle node A)) (option_to_list (missing_by span here cycle node B))
+    (listed (missing_by span here cycle node A) (missing_asks span here cycle node A)) (listed (missing_by span here cycle node B) (missing_asks span here cycle node B))
+
+all_missing_asks : (p : Values) (l : LogView) (span : LogSpan) (before here : List Sighting) (double : ℕ) → All AsksSync (missing_frames p l span before here double)
+all_missing_asks p l span before here double =
+    either l.whole (flat_map (node_missing l span before here double) p.nodes)
+    (
+    flat (node_missing l span before here double) p.nodes
+    (λ node.
+    either (is_some (own_slot l node) && was_seen before node.id) (missing_of span here double node)
+    (All-append AsksSync (missing_in span here (2 * double) node) (missing_in span here (2 * double + 1) node)
+    (missing_in_asks span here (2 * double) node) (missing_in_asks span here (2 * double + 1) node)))
+    )
+
+-- each fault that is told of a cluster in sync asks for sync
+pub sync_faults_ask : (precision : ℤ) (p : Values) (scale : Scale) (l : LogView) (span : LogSpan) (before here : List Sighting) (double : ℕ) (senders : List Sender)
+    → All AsksSync (sync_faults precision p scale l span before here double senders)
+unfolding sync_faults
+sync_faults_ask precision p scale l span before here double senders =
+    let skew = skew_fault precision (2 * double) (even_low scale senders) (even_high scale senders) in
+    let odd_skew = skew_fault precision (2 * double + 1) (odd_low scale senders) (odd_high scale senders) in
+    let start = beyond_fault Start (2 * double) (pos (pi_of p)) (starts_apart scale (courses_of senders)) in
+    let lengths = beyond_fault Lengths (2 * double) (pos (lambda_of p)) (lengths_apart scale (courses_of senders)) in
+    let long = filter_map (length_fault p scale double) senders in
+    let offset = filter_map (offset_fault p scale double senders) senders in
+    let rate = filter_map (rate_fault p scale double senders) senders in
+    let missing = missing_frames p l span before here double in
+    let one = option_to_list skew in
+    let two = one ++ option_to_list odd_skew in
+    let three = two ++ option_to_list start in
+    let four = three ++ option_to_list lengths in
+    let five = four ++ long in
+    let six = five ++ offset in
+    let seven = six ++ rate in
+    let asks_one = listed skew (told_asks (int_lt precision (even_low scale senders)) (plain_fault (2 * double) None Skew (Some (even_low scale senders)) (even_high scale senders) None (Some precision)) refl) in
+    let asks_two = All-append AsksSync one (option_to_list odd_skew) asks_one (listed odd_skew (told_asks (int_lt precision (odd_low scale senders)) (plain_fault (2 * double + 1) None Skew (Some (odd_low scale senders)) (odd_high scale senders) None (Some precision)) refl)) in
+    let asks_three = All-append AsksSync two (option_to_list start) asks_two (listed start (beyond_asks Start (2 * double) (pos (pi_of p)) (starts_apart scale (courses_of senders)) refl)) in
+    let asks_four = All-append AsksSync three (option_to_list lengths) asks_three (listed lengths (beyond_asks Lengths (2 * double) (pos (lambda_of p)) (lengths_apart scale (courses_of senders)) refl)) in
+    let asks_five = All-append AsksSync four long asks_four
+    (given (length_fault p scale double) senders
+    (λ s. length_asks (2 * double) s.node (shortest_cycle_of p) (longest_cycle_of p) (length_ticks scale s.course))) in
+    let asks_six = All-append AsksSync five offset asks_five
+    (given (offset_fault p scale double senders) senders
+    (λ s.
+    unlike_asks Offset (2 * double + 1) s.node refl (terms_of scale s)
+    (offset_computed scale (measuring_of p) s.course (other_courses senders s.node) (further_of p senders)))) in
+    let asks_seven = All-append AsksSync six rate asks_six
+    (given (rate_fault p scale double senders) senders
+    (λ s.
+    unlike_asks Rate (2 * double + 1) s.node refl (option_map (rate_step_seen scale s.course) s.next)
+    (rate_computed scale (measuring_of p) s.course (other_courses senders s.node) (further_of p senders)))) in
+    All-append AsksSync seven missing asks_seven (all_missing_asks p l span before here double)

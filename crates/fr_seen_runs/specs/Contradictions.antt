@@ -1,0 +1,59 @@
+-- When a run can have given a log whole, and what the log may state of it.
+use Rattle.std.specs.Prelude.{◌≡◌, ◌+◌, ◌-◌, ◌*◌, ◌/◌, ◌<◌, ℕ, true, List, length, Contains, Some, IfSome, IsSome, slice_get}
+use Rattle.fr_base.specs.declared.channel.Channel.{Channel}
+use Rattle.fr_base.specs.declared.node_row.NodeRow.{NodeRow}
+use Rattle.fr_base.specs.declared.state.State.TheVariants.{Active}
+use Rattle.fr_cluster.specs.Setting.{Setting, correct_nodes}
+use Rattle.fr_cluster.specs.declared.nodes.NodeSpec.{NodeSpec}
+use Rattle.fr_history.specs.Cycles.{Cycle, Cycles, cycle_at, some_joins}
+use Rattle.fr_history.specs.History.{row_of}
+use Rattle.fr_history.specs.Offers.{is_on}
+use Rattle.fr_history.specs.Unfollowed.{IsUnfollowedSyncAt}
+use Rattle.fr_runs.specs.Supplied.{IsCovered, StartsBegin}
+use Rattle.fr_log.specs.View.{IsLog, LogView, is_arbitrary_in}
+use Rattle.fr_course.specs.declared.stamps.Delays.{Delays}
+use Rattle.fr_sightings.specs.Senders.{first_stamp}
+use Rattle.fr_sightings.specs.Sightings.{sightings_of}
+use Rattle.fr_sightings.specs.declared.sighting.Sighting.{Sighting}
+use Rattle.fr_seen.specs.Clocks.{StraightClock}
+use Rattle.fr_seen.specs.LogSeen.{IsLogSeen, run_double}
+use Rattle.fr_seen.specs.RunRows.{IsTimedRun}
+
+-- a whole run that the log is seen of
+pub record IsObservedRun
+    (x : Setting) (h : Cycles) (base : ℕ) (delays : ℕ → Channel → Delays) (clock : ℕ → StraightClock) (l : LogView)
+    : Type 0 where
+  pub timed : IsTimedRun x h
+  pub whole : length h ≡ 2 * x.doubles
+  pub log : IsLog l
+  pub seen : IsLogSeen x h base delays clock l
+
+-- the log names the arbitrary nodes of the run, and no other
+abbrev pub NamesArbitrary : Setting → LogView → Type 0
+NamesArbitrary x l =
+    (node : NodeSpec) → Contains x.params.nodes node → x.is_arbitrary node.id ≡ is_arbitrary_in l node.id
+
+-- a number lies strictly between those of the first and the last sighting
+pub record IsInside (seen : List Sighting) (number : ℕ) : Type 0 where
+  pub first : Sighting
+  pub last : Sighting
+  pub is_first : slice_get seen 0 ≡ Some first
+  pub is_last : slice_get seen (length seen - 1) ≡ Some last
+  pub behind : first.number < number
+  pub before : number < last.number
+
+-- the observer missed no frame of a key slot there
+abbrev pub MissesNone : Setting → Cycles → ℕ → LogView → Type 0
+MissesNone x h base l =
+    (number : ℕ) (node : NodeSpec) (channel : Channel) (c : Cycle) (row : NodeRow)
+    → IsInside (sightings_of x.params l) number → Contains (correct_nodes x) node → IsSome node.key
+    → is_on x node.id channel ≡ true → cycle_at h (number + base) ≡ Some c → row_of c.told.rows node.id ≡ Some row
+    → row.state ≡ Active → IsSome (first_stamp (sightings_of x.params l) node.id channel number)
+
+-- what faults of sync ask of the run and of what the log states
+pub record IsAsStated (x : Setting) (h : Cycles) (base : ℕ) (l : LogView) : Type 0 where
+  pub named : NamesArbitrary x l
+  pub covered : IsCovered x
+  pub starts : some_joins x ≡ true → StartsBegin x
+  pub since : IfSome l.since (λ cycle. IsUnfollowedSyncAt x.params h (run_double base (cycle / 2)))
+  pub unmissed : l.whole ≡ true → MissesNone x h base l

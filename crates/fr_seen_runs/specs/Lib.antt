@@ -1,0 +1,13 @@
+-- what the public contract cites
+pub mod Contradictions
+pub mod Completeness
+pub mod KeptInSync
+pub mod SyncFaults
+pub mod ComputedValues
+pub mod ComputedTerms
+pub mod ToldFaults
+pub mod NotContradicted
+pub mod RowsTold
+pub mod WorkedLog
+pub mod WorkedFaults
+pub mod WorkedFile

@@ -1,0 +1,17 @@
+ghost use Rattle.fr_seen_runs.specs.NotContradicted.{NoRunHasOwnFaults, NoRunIsContradicted, WithinIsInSync, WithinIsSo, WithinIsThere};
+
+/// The law of contradictions: where the verdict of a log is no, it is seen of no covered run that is as the log states;
+/// and where the kind of the fault asks for no sync, of no run at all whose oscillators keep within what is stated.
+pub fn no_run_is_contradicted()
+    ensures own { NoRunHasOwnFaults }
+    ensures sync { NoRunIsContradicted }
+{}
+
+/// The law of what is within: where the verdict of a log is within, each run that the log is seen of has each of its
+/// cycles, and in these the skew of the senders, in ticks, is no greater than the precision; and where the log states no
+/// cycle of sync, and names the arbitrary nodes of the run, the run is in sync from the first of these cycles on.
+pub fn within_is_so()
+    ensures there { WithinIsThere }
+    ensures within { WithinIsSo }
+    ensures sync { WithinIsInSync }
+{}
