@@ -17,6 +17,7 @@ from .units import TICKS, decimal, us_of_ticks
 
 FATES = ("say where a clock was", "are damaged", "are of arbitrary nodes", "tell nothing of a clock",
          "come at another time than their cycle count has it", "come behind a silence of more than 30 cycles")
+MOST_FAULTS = 8
 ORIGIN = ("Every limit here is one that flexray printed, converted and rounded outwards: it holds in every run of the "
           "cluster that can have given the log, if what is stated of the analyzer and of the oscillators is so. "
           "flexlab computes no answer of its own.")
@@ -25,12 +26,16 @@ ORIGIN = ("Every limit here is one that flexray printed, converted and rounded o
 @dataclass
 class Observed:
     """The rows of a text: of each cycle how many nodes sent, the limits of their skew in ticks, and what these say; of
-    each node its double cycles, with limits of the length of its cycles and of its offset term."""
+    each node its double cycles, with limits of the length of its cycles and of its offset term; contradictions, as
+    (cycle, node, kind, fields); of each sender and channel its frames; and the last rows by their first word."""
     precision: int = 0
     cycles: list = field(default_factory=list)
     nodes: dict = field(default_factory=dict)
+    faults: list = field(default_factory=list)
+    senders: list = field(default_factory=list)
     log: list = field(default_factory=list)
     said: list = field(default_factory=list)
+    ends: dict = field(default_factory=dict)
 
 
 def number(text):
@@ -47,12 +52,18 @@ def read_observed(text):
             found.cycles.append((int(fields[0]), int(fields[1]), int(fields[2]), number(fields[3]), fields[4]))
         elif word == "node":
             found.nodes.setdefault(int(fields[1]), []).append((int(fields[0]), *map(number, fields[2:6])))
+        elif word == "fault":
+            found.faults.append((int(fields[0]), number(fields[1]), fields[2], fields[3:7]))
+        elif word == "sender":
+            found.senders.append((int(fields[0]), fields[1], *map(number, fields[2:6])))
+        elif word in ("covered", "sync", "verdict"):
+            found.ends[word] = [part for part in fields if part]
         elif word == "log":
             found.log = [int(count) for count in fields[:6]]
         elif word == "cycles":
             found.said = [int(count) for count in fields[2:5]]
-    if not found.log or len(found.said) != 3:
-        raise Stop(PROGRAM, "flexray observe printed no row of the log, or none of its cycles")
+    if not found.log or len(found.said) != 3 or len(found.ends) != 3:
+        raise Stop(PROGRAM, "flexray observe printed no row of the log, of its cycles, or no verdict")
     return found
 
 
@@ -76,6 +87,90 @@ def ppm_of_cycle(length, cluster):
 def rates(rows, cluster):
     """(double cycle, least, greatest ppm) of a node."""
     return [(double, ppm_of_cycle(high, cluster), ppm_of_cycle(low, cluster)) for double, low, high, _, _ in rows]
+
+
+# ---- contradictions
+
+
+class Words:
+    """Contradictions in words, with numbers in microseconds and microticks."""
+
+    def __init__(self, cluster):
+        self.unit = cluster.microtick_ns
+
+    def us(self, low, high):
+        """A pair of numbers of ticks; the upper one may not be known."""
+        most = "no limit" if high in ("-", "") else f"{upper(us_of_ticks(int(high), self.unit))} us"
+        return f"{lower(us_of_ticks(int(low), self.unit))} to {most}"
+
+    def beyond(self, what, fields):
+        return (f"{what} at least {lower(us_of_ticks(int(fields[0]), self.unit))} us apart, and in sync at most "
+                f"{upper(us_of_ticks(int(fields[3]), self.unit))} us")
+
+    def of(self, fault):
+        cycle, node, kind, fields = fault
+        return f"cycle {cycle}" + ("" if node is None else f", node {node}") + f": {self.told(kind, fields)}"
+
+    def told(self, kind, fields):
+        one, two, three, four = fields
+        if kind == "channels":
+            return "the stamps of both channels place its clock nowhere"
+        if kind == "limit":
+            if int(one) > int(two):
+                return "its stamps of this double cycle contradict each other"
+            return f"both its cycles last {self.us(one, two)}, and one of the cluster {self.us(three, four)}"
+        if kind == "correction":
+            if int(one) > int(two):
+                return "its stamps here and in the next double cycle contradict each other"
+            return f"an offset term of {one} to {two} microticks, and the limit is {four}"
+        if kind == "twice":
+            return f"its frame on channel {one} is there twice"
+        if kind == "cycle":
+            return f"its frame on channel {one} comes at another time than its cycle count {three} says"
+        if kind == "missing":
+            return f"its frame on channel {one} is not there"
+        if kind == "length":
+            return f"a cycle of {self.us(one, two)}, and in sync one of {self.us(three, four)}"
+        if kind in ("offset", "rate"):
+            step = "an offset term" if kind == "offset" else "a change of the rate term"
+            return f"{step} of {one} to {two} microticks, and by all that were seen {three} to {four}"
+        what = {"skew": "clocks", "start": "starts", "lengths": "lengths of cycles"}[kind]
+        return self.beyond(what, fields)
+
+
+def fault_lines(cluster, told):
+    words, some = Words(cluster), told.faults[:MOST_FAULTS]
+    found = lines_of("CONTRADICTION", *map(words.of, some)) if some else []
+    if len(told.faults) > len(some):
+        found += lines_of("", f"and {len(told.faults) - len(some)} more, in observed.csv")
+    return found
+
+
+def verdict_lines(cluster, told):
+    """What the log comes to."""
+    covered, sync, verdict = (told.ends[word] for word in ("covered", "sync", "verdict"))
+    found = []
+    if covered[0] == "no":
+        why = f"check {covered[2]} fails" if covered[1] == "check" else (
+            f"{covered[2]} correct nodes with a key slot do not outweigh {covered[3]} arbitrary ones")
+        found += lines_of("Covered", f"no run of this cluster is: {why}; so nothing is held against the rules of sync")
+    if sync[0] == "-":
+        unseen = [str(node.number) for node in cluster.nodes.values() if not node.key_slot and not node.arbitrary]
+        text = "of no double cycle it is certain"
+        text += (f": no frame shows the clock of node {', '.join(unseen)}" if unseen else "") + (
+            "; in_sync_from_cycle of [observer] can state it")
+    else:
+        text = (f"double cycle {sync[0]} is, as " + ("its stamps show" if sync[1] == "seen" else "[observer] states")
+                + "; a covered cluster stays so")
+    found += lines_of("In sync", text)
+    if verdict[0] == "within":
+        text = f"in cycles {verdict[1]} to {verdict[2]} the clocks of the nodes that sent lay within the precision"
+    elif verdict[0] == "no":
+        text = ("NO: no run of this cluster that keeps to what is stated can have given this log; the first "
+                f"contradiction is in cycle {verdict[1]}")
+    else:
+        text = "open: nothing contradicts the rules, and it is not certain that the clocks lay within the precision"
+    return found + lines_of("Verdict", text)
 
 
 # ---- the page
@@ -115,6 +210,13 @@ def node_lines(cluster, told):
             "clock, in all its double cycles. Offset terms are microticks.")
 
 
+def missed_lines(told):
+    """Which senders have cycles of the log without a frame."""
+    return lines_of("Not seen", *(
+        f"node {node} on channel {channel} in {missed} cycles" + ("" if frames else ", in none at all")
+        for node, channel, frames, _, _, missed in told.senders if missed)) if any(row[5] for row in told.senders) else []
+
+
 def page_lines(cluster, told, observer, frames, entries, name):
     keys = sum(node.key_slot is not None for node in cluster.nodes.values())
     found = lines_of("Log", f"{name}: {entries} frames of key slots")
@@ -126,10 +228,12 @@ def page_lines(cluster, told, observer, frames, entries, name):
     found += lines_of("Left out", *left_lines(frames))
     if told.cycles:
         within, over, neither = told.said
-        found += lines_of("Cycles", f"{told.cycles[0][0]} to {told.cycles[-1][0]}, by the cycle counts; the skew of {within} "
-                                    f"is within the precision, that of {over} over it, and of {neither} it is open")
+        found += lines_of("Cycles", f"{told.cycles[0][0]} to {told.cycles[-1][0]}, by the cycle counts: {within} within the "
+                                    f"precision, {over} over it, {neither} open")
+    found += missed_lines(told)
     found += lines_of("Precision", f"{decimal(us_of_ticks(told.precision, cluster.microtick_ns), 3)} us")
-    return found + skew_lines(cluster, told) + node_lines(cluster, told) + lines_of("Origin", ORIGIN)
+    return (found + skew_lines(cluster, told) + verdict_lines(cluster, told) + fault_lines(cluster, told)
+            + node_lines(cluster, told) + lines_of("Origin", ORIGIN))
 
 
 def observed_object(cluster, told, frames, entries):
@@ -139,7 +243,11 @@ def observed_object(cluster, told, frames, entries):
     return {
         "entries": entries, "left_out": frames.left, "precision": {"ticks": told.precision},
         "log": dict(zip(("judged", "damaged", "arbitrary", "other", "stray", "behind"), told.log)),
-        "said": dict(zip(("within", "over", "open"), told.said)),
+        "said": dict(zip(("within", "over", "open"), told.said)), "verdict": told.ends["verdict"],
+        "sync": told.ends["sync"], "covered": told.ends["covered"],
+        "faults": [{"cycle": cycle, "node": node, "kind": kind, "fields": fields, "told": Words(cluster).told(kind, fields)}
+                   for cycle, node, kind, fields in told.faults],
+        "senders": [dict(zip(("node", "channel", "frames", "first", "last", "missed"), row)) for row in told.senders],
         "cycles": [{"cycle": cycle, "senders": senders, "least_us": us(low, lower), "most_us": us(high, upper),
                     "says": says} for cycle, senders, low, high, says in told.cycles],
         "nodes": {str(node): [{"double_cycle": row[0], "least_ppm": float(lower(ppm[1])),
@@ -231,4 +339,4 @@ def observe(words, folder):
         print(f"{'Files':<16}{folder}/: params.csv, log.csv, observed.csv, observed.txt")
         for path in drawn:
             print(f"{'Picture':<16}{path}")
-    return NO if told.said[1] else DONE
+    return NO if told.said[1] or told.ends["verdict"][0] == "no" else DONE

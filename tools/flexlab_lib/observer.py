@@ -7,27 +7,33 @@ import re
 import struct
 from dataclasses import dataclass, field
 from fractions import Fraction
+from functools import cached_property
 
 from . import ranges
 from .capture import load, sort_packets
 from .ending import FILE, NO, REFUSED, USAGE, Stop
+from .frames import crc, frame_crc
 from .source import Source
 from .units import TICKS, decimal
 
-LAST_STAMP, MOST_TICKS = 9 * 10**17, 10**9
+LAST_STAMP, MOST_TICKS, MOST_CYCLE = 9 * 10**17, 10**9, 199998
 WANTED = ("a table [observer] states what is known of the analyzer: resolution_ns, drift_ppm, delay_from_ns and "
           "delay_to_ns; docs/FLEXLAB.md, \"Logs\", has more")
+SHORT, FLAWED = "frames that are not as long as they say", "frames without a trailer, with an error flag"
 UNITS = {"s": Fraction(10**9), "ms": Fraction(10**6), "us": Fraction(1000), "ns": Fraction(1)}
 
 
 @dataclass
 class Observer:
-    """What is stated of an analyzer, in ns and ppm; limits are the least and the greatest delay by node and channel."""
+    """What is stated of an analyzer, in ns and ppm; limits are the least and the greatest delay by node and channel;
+    whether it missed no frame; and the cycle of the log, even, from which on the cluster is in sync."""
     resolution: Fraction
     drift: int
     error: Fraction
     jitter: Fraction | None
     limits: dict
+    is_whole: bool = False
+    since: int | None = None
 
 
 @dataclass
@@ -42,6 +48,19 @@ class Frames:
     def leave(self, reason, count=1):
         if count:
             self.left[reason] = self.left.get(reason, 0) + count
+
+    @cached_property
+    def is_torn(self):
+        """Whether frames of key slots may have been left out, or are damaged."""
+        return any(reason in self.left for reason in (SHORT, FLAWED)) or any(
+            is_damaged(channel, data, is_all) for _, channel, data, is_all in self.found)
+
+
+def is_damaged(channel, data, is_all):
+    """Whether a CRC of a frame does not fit."""
+    number = int.from_bytes(data[:5], "big")
+    return crc(11, 0x385, 0x01A, number >> 17 & 0xFFFFF, 20) != number >> 6 & 0x7FF or (
+        is_all and frame_crc(channel, data[:-3]) != int.from_bytes(data[-3:], "big"))
 
 
 def up(value):
@@ -62,6 +81,7 @@ def read_observer(cluster):
     drift = up(table.number("drift_ppm", 0, 1000, "ppm"))
     error = table.number("error_ns", 0, most, "ns", (Fraction(0),))
     jitter = table.number("jitter_ns", 0, most, "ns") if table.has("jitter_ns") else None
+    is_whole, since = table.flag("missed_none", (False,)), since_of(table)
     all_limits = limits_of(table, "delay_from_ns", "delay_to_ns", most)
     found = {(node.number, channel): all_limits for node in cluster.nodes.values() for channel in node.channels}
     for table in source.tables("observer_delay"):
@@ -69,7 +89,16 @@ def read_observer(cluster):
         channels = table.channels("channels", ("AB",))
         for node in table.nodes("nodes", cluster.nodes):
             found.update({(node, channel): own for channel in cluster.nodes[node].channels if channel in channels})
-    return Observer(resolution, drift, error, jitter, found)
+    return Observer(resolution, drift, error, jitter, found, is_whole, since)
+
+
+def since_of(table):
+    if not table.has("in_sync_from_cycle"):
+        return None
+    since = table.whole("in_sync_from_cycle", 0, MOST_CYCLE)
+    if since % 2:
+        table.refuse("in_sync_from_cycle", "it is odd: a double cycle begins with an even cycle")
+    return since
 
 
 def limits_of(table, low, high, most):
@@ -138,8 +167,8 @@ def capture_frames(path):
     frames.found = [(Fraction(packet.ns), packet.channel, packet.frame, is_all) for packet, is_all in packets]
     frames.leave("symbols", len(taken.symbols))
     frames.leave("packets of another kind", len(taken.other))
-    frames.leave("frames that are not as long as they say", len(taken.damaged))
-    frames.leave("frames without a trailer, with an error flag", sum(packet.flags != 0 for packet in taken.bare))
+    frames.leave(SHORT, len(taken.damaged))
+    frames.leave(FLAWED, sum(packet.flags != 0 for packet in taken.bare))
     return frames
 
 
@@ -188,7 +217,7 @@ def table_frames(path, columns, unit):
         data = bytes.fromhex(digits)
         length = 8 + 2 * (data[2] >> 1) if len(data) > 2 else 0
         if len(data) not in (5, length - 3, length) or len(data) < 5:
-            frames.leave("frames that are not as long as they say")
+            frames.leave(SHORT)
         else:
             frames.found.append((Fraction(time) * UNITS[unit], channel.upper(), data, len(data) == length))
     frames.step = UNITS[unit] / 10**most
@@ -218,11 +247,15 @@ def step_ticks(observer, step, microtick_ns):
     return unit, up((breadth - unit if is_whole else breadth) + observer.error * size)
 
 
-def head_lines(cluster, observer, unit, error):
+def head_lines(cluster, observer, frames, unit, error):
     size = TICKS / Fraction(cluster.microtick_ns)
     yield from (f"unit,{unit},,,\n", f"drift,{observer.drift},,,\n", f"error,{error},,,\n")
     if observer.jitter is not None:
         yield f"jitter,{up(observer.jitter * size)},,,\n"
+    if observer.is_whole and not frames.is_torn:
+        yield "whole,,,,\n"
+    if observer.since is not None:
+        yield f"since,{observer.since},,,\n"
     yield from (f"arbitrary,{node},,,\n" for node in cluster.arbitrary)
     for (node, channel), (low, high) in sorted(observer.limits.items()):
         if cluster.nodes[node].key_slot:
@@ -255,7 +288,7 @@ def log_of(cluster, observer, frames):
     if error > MOST_TICKS:
         raise Stop(REFUSED, f"{cluster.path}: by [observer] a stamp is off by {error} ticks, and a log takes at most "
                             f"{MOST_TICKS}")
-    lines = list(head_lines(cluster, observer, unit, error))
+    lines = list(head_lines(cluster, observer, frames, unit, error))
     size, entries = sum(map(len, lines)), 0
     for line in entry_lines(cluster, frames, unit):
         size += len(line)
@@ -290,11 +323,15 @@ def analyzer_words(observer, frames):
     if resolution > observer.resolution:
         found += f", since the file keeps no more of the {plain(observer.resolution)} ns"
     if observer.error:
-        found += f", off by {plain(observer.error)} ns at most beside"
+        found += f", off by {plain(observer.error)} ns in all beside"
     found += f", its clock within {observer.drift} ppm"
     low, high = min(low for low, _ in observer.limits.values()), max(high for _, high in observer.limits.values())
     found += f", delays from {plain(low)} to {plain(high)} ns"
-    return found if observer.jitter is None else found + f", those of a node within {plain(observer.jitter)} ns"
+    if observer.jitter is not None:
+        found += f", those of a node within {plain(observer.jitter)} ns"
+    if observer.is_whole:
+        found += "; it missed no frame" + (", which is not taken where frames are damaged" if frames.is_torn else "")
+    return found if observer.since is None else found + f"; the cluster is in sync from cycle {observer.since} on"
 
 
 def plain(ns):

@@ -34,7 +34,8 @@ KEYS = {
     "flip": ("from", "to", "cycles", "channels", "bit"),
     "join": ("node", "reference", "double_cycle"),
     "power": ("nodes", *(f"{switch}_{unit}" for switch in ("on", "off") for unit in TIMES)),
-    "observer": ("resolution_ns", "drift_ppm", "error_ns", "jitter_ns", "delay_from_ns", "delay_to_ns"),
+    "observer": ("resolution_ns", "drift_ppm", "error_ns", "jitter_ns", "delay_from_ns", "delay_to_ns", "missed_none",
+                 "in_sync_from_cycle"),
     "observer_delay": ("nodes", "channels", "from_ns", "to_ns"),
 }
 SINGLE = ("bench", "cluster", "limits", "run", "values", "observer")

@@ -1,6 +1,6 @@
 #!/usr/bin/env python3
 """What `flexray observe PARAMS LOG` prints, reckoned by another program: plain Python and whole numbers, after
-docs/FORMATS.md and the definitions in crates/fr_course/specs and crates/fr_observe/specs.
+docs/FORMATS.md and the definitions in specs/ of crates fr_course, fr_sightings, fr_observe and fr_findings.
 
     observe_peer.py PARAMS LOG
 
@@ -44,20 +44,41 @@ class Params:
         self.slot, self.action = value["gdStaticSlot"], value["gdActionPointOffset"]
         self.rate_bound, self.change = value["xRateBound"], value["xChangeBound"]
         self.delay_error, self.damping = value["xDelayError"], value["pClusterDriftDamping"]
+        self.offset_out = value["pOffsetCorrectionOut"]
         ways = ("pDelayCompensation", "pDelayCompensationA", "pDelayCompensationB")
         self.widest = max(value[name] for name in ways if name in value)
+        self.bounds()
 
-    def precision(self):
-        longest = MILLION + self.rate_bound
-        arrival = self.delay_error + self.widest * self.rate_bound
-        change = (self.micros + self.rate_out) * self.change
-        learnt = 2 * arrival + 2 * longest + 3 * change
-        lengths = 4 * learnt + 2 * longest + 4 * self.damping * longest + 8 * change
-        starts = 6 * lengths + 4 * arrival + 8 * longest
-        return starts + 2 * lengths + 2 * longest
+    def bounds(self):
+        """What the clocks of a covered cluster keep within, in ticks."""
+        self.shortest, self.longest = MILLION - self.rate_bound, MILLION + self.rate_bound
+        self.arrival = self.delay_error + self.widest * self.rate_bound
+        self.step = (self.micros + self.rate_out) * self.change
+        self.learnt = 2 * self.arrival + 2 * self.longest + 3 * self.step
+        self.lengths = 4 * self.learnt + 2 * self.longest + 4 * self.damping * self.longest + 8 * self.step
+        self.starts = 6 * self.lengths + 4 * self.arrival + 8 * self.longest
+        self.precision = self.starts + 2 * self.lengths + 2 * self.longest
 
     def action_point(self, slot):
         return (slot - 1) * self.slot + self.action
+
+    def checks(self):
+        """Both sides of each of the five checks of a cluster."""
+        clear = self.micros - self.rate_out
+
+        def of_slot(macroticks):
+            return (macroticks * clear - self.macros) * self.shortest
+
+        front = self.macros * (self.precision + self.delay_error)
+        return [(self.damping * self.shortest, self.learnt + 2 * self.step),
+                (self.rate_out * self.shortest, 2 * self.micros * self.rate_bound),
+                (self.offset_out * self.shortest, self.precision + self.arrival + self.longest),
+                (of_slot(self.action), front),
+                (of_slot(self.slot - self.action), front + self.macros * self.widest * MILLION)]
+
+    def key_nodes(self):
+        """The nodes with a key slot: number, slot, channels."""
+        return [(node, key, channels) for node, key, channels, _ in self.nodes if key is not None]
 
 
 class Log:
@@ -126,8 +147,9 @@ def judgement(params, log, kind, channel, data):
 
 
 def sightings(params, log):
-    """The sightings (number, node, slot, channel, stamp), and how many entries became what."""
-    seen, tally, nominal = [], dict.fromkeys(KINDS, 0), params.micros * MILLION
+    """The sightings (number, node, slot, channel, stamp), how many entries became what, and the frames that came at
+    another time than their cycle count says: (number of the sighting before, node, channel, stamp, count)."""
+    seen, tally, untimely, nominal = [], dict.fromkeys(KINDS, 0), [], params.micros * MILLION
     for kind, stamp, channel, data in log.entries:
         word, judged = judgement(params, log, kind, channel, data)
         if judged:
@@ -141,12 +163,15 @@ def sightings(params, log):
                 is_timely = abs(apart - scheduled) <= nominal // 2
                 if apart > 30 * nominal:
                     word = "behind"
-                elif not is_timely or not 0 <= number <= 199_999 or number // 2 < last // 2:
+                elif not is_timely:
+                    word = "stray"
+                    untimely.append((last, node, channel, stamp, count))
+                elif not 0 <= number <= 199_999 or number // 2 < last // 2:
                     word = "stray"
             if word == "judged":
                 seen.append((number, node, slot, channel, stamp))
         tally[word] += 1
-    return seen, tally
+    return seen, tally, untimely
 
 
 # ---- courses
@@ -162,6 +187,10 @@ class Clock:
                         self.most((params.micros + params.rate_out) * longest))
         self.change = self.most((params.micros + params.rate_out) * params.change)
         self.micro_low, self.micro_high = self.least(shortest), self.most(longest)
+
+    def ticks(self, low, high):
+        """How many ticks such readings are, at least and at most."""
+        return self.least_ticks(low), self.most_ticks(high)
 
     def least(self, ticks):
         return ticks * (MILLION + self.drift if ticks < 0 else MILLION - self.drift) // MILLION
@@ -188,7 +217,7 @@ class Seen:
     """What the sightings of one double cycle tell."""
 
     def __init__(self, params, log, clock, seen):
-        self.params, self.log, self.clock, self.stamps = params, log, clock, {}
+        self.params, self.log, self.clock, self.seen, self.stamps = params, log, clock, seen, {}
         for number, node, _, channel, stamp in seen:
             self.stamps.setdefault((node, channel, number % 2), stamp)
 
@@ -298,6 +327,169 @@ def offset(clock, course, onward, span):
     return clock.micros(low, high)
 
 
+# ---- what a node must have computed
+
+
+class Value:
+    """The values that a node can have measured, and their midpoint."""
+
+    def __init__(self, params, clock, further):
+        self.params, self.clock, self.further = params, clock, further
+
+    def microticks(self, low, high, error):
+        """From which whole number to which such a value lies: what is told of it in readings, and by how many ticks it
+        may be off."""
+        low, high = self.clock.ticks(low, high)
+        low, high, shortest, longest = low - error, high + error, self.params.shortest, self.params.longest
+        return low // (shortest if low < 0 else longest), high // (longest if high < 0 else shortest)
+
+    def deviation(self, receiver, sender):
+        """The odd macrotick of the receiver at which the sender sends, and the deviation of the sender's frame."""
+        ahead, macros, micro = sender["action"] - receiver["action"], self.clock.macros, self.clock.micro_high
+        (low, high), (short, long) = receiver["odd"], receiver["length"]
+        if ahead < 0:
+            short, long = long, short
+        at = low + ahead * short // macros - micro, high + up(ahead * long, macros) + micro
+        return self.microticks(sender["odd"][0] - at[1], sender["odd"][1] - at[0], self.params.arrival)
+
+    def rate(self, receiver, sender):
+        return self.microticks(sender["length"][0] - receiver["length"][1], sender["length"][1] - receiver["length"][0],
+                               self.params.learnt)
+
+    def middle(self, known):
+        """The least and the greatest midpoint of these values and of up to so many further ones."""
+        lows, highs = [], []
+        for more in range(self.further + 1):
+            if more > discarded(more + len(known)):
+                return None
+            lows.append(midpoint([min(low for low, _ in known)] * more + [low for low, _ in known]))
+            highs.append(midpoint([max(high for _, high in known)] * more + [high for _, high in known]))
+        return min(lows), max(highs)
+
+
+def discarded(count):
+    return 0 if count < 3 else 1 if count < 8 else 2
+
+
+def midpoint(values):
+    values, off = sorted(values), discarded(len(values))
+    total = values[off] + values[len(values) - 1 - off]
+    return total // 2 if total >= 0 else -(-total // 2)
+
+
+def step(clock, course, onward):
+    """Limits of the next rate term less the one before, in microticks."""
+    return clock.micros(onward["length"][0] - course["length"][1] - clock.change,
+                        onward["length"][1] - course["length"][0] + clock.change)
+
+
+# ---- contradictions
+
+
+class Double:
+    """A double cycle of a log: what its own sightings tell, and those of the double cycles before and behind it."""
+
+    def __init__(self, params, log, clock, double, before, here, behind, late, ends):
+        self.params, self.log, self.clock, self.double, self.ends = params, log, clock, double, ends
+        self.before, self.here, self.behind, self.late = before, here, behind, late
+        self.keys = [(node, key, channels) for node, key, channels in params.key_nodes() if node not in log.arbitrary]
+        # Each node that was seen with its course, and its course in the next double cycle.
+        self.active = [(node, here.sender(node, key), behind.sender(node, key)) for node, key, _ in self.keys
+                       if here.sender(node, key)]
+        courses = [course for _, course, _ in self.active]
+        self.skews = skews(clock, courses, [onward for _, _, onward in self.active])
+        self.starts = clock.ticks(*spread([corners(clock, course)["even start"] for course in courses]))
+        self.lengths = clock.ticks(*spread([course["length"] for course in courses]))
+        self.proper = params.micros * params.shortest, params.micros * params.longest
+
+    def term(self, node, course, onward):
+        return offset(self.clock, course, onward, self.here.span(node, 1, self.behind, 0)) if onward else None
+
+    def own(self):
+        """What no run gives: (cycle, node, kind, A, B, C, D)."""
+        found, even = [], 2 * self.double
+        for node, _, _ in self.keys:
+            boxes = [self.here.box(node, odd) for odd in (0, 1)]
+            found += [(even + odd, node, "channels", *box) for odd, box in enumerate(boxes) if box and box[0] > box[1]]
+            if all(box and box[0] <= box[1] for box in boxes):
+                span = self.here.span(node, 0, self.here, 1)
+                apart = [(boxes[1][0] - boxes[0][1], boxes[1][1] - boxes[0][0])] + ([span] if span else [])
+                low, high = meet([self.clock.allowed, *apart])
+                if low > high:
+                    found.append((even, node, "limit", *meet(apart), *self.clock.allowed))
+        limit = self.params.offset_out
+        for node, course, onward in self.active:
+            term = self.term(node, course, onward)
+            if term and (term[0] > term[1] or term[0] > limit or term[1] < -limit):
+                found.append((even + 1, node, "correction", *term, -limit, limit))
+        for number, node, _, channel, stamp in self.here.seen:
+            first = self.here.stamps[node, channel, number % 2]
+            if first != stamp:
+                found.append((number, node, "twice", channel, stamp, first))
+        return found + [(number, node, "cycle", channel, stamp, count)
+                        for number, node, channel, stamp, count in self.late]
+
+    def is_in_sync(self):
+        """Whether it is certainly in sync, where nothing contradicts it."""
+        arbitrary, here = self.log.arbitrary, self.here
+        return (all(node in arbitrary or (key is not None and here.box(node, 0) and here.box(node, 1))
+                    for node, key, _, _ in self.params.nodes)
+                and self.starts[1] <= self.params.starts and self.lengths[1] <= self.params.lengths
+                and all(self.proper[0] <= self.clock.least_ticks(course["length"][0])
+                        and self.clock.most_ticks(course["length"][1]) <= self.proper[1]
+                        for _, course, _ in self.active))
+
+    def in_sync(self, since):
+        """What no covered run gives that is in sync from a double cycle on."""
+        params, even, found = self.params, 2 * self.double, []
+        for odd, (low, high) in enumerate(self.skews):
+            if low > params.precision:
+                found.append((even + odd, "-", "skew", low, "-" if high is None else high, "-", params.precision))
+        for kind, apart, bound in (("start", self.starts, params.starts), ("lengths", self.lengths, params.lengths)):
+            if apart[0] > bound:
+                found.append((even, "-", kind, *apart, "-", bound))
+        for node, course, _ in self.active:
+            long = self.clock.ticks(*course["length"])
+            if long[0] > self.proper[1] or long[1] < self.proper[0]:
+                found.append((even, node, "length", *long, *self.proper))
+        value = Value(params, self.clock, len(params.key_nodes()) - len(self.active))
+        return found + self.terms(value, "offset") + self.terms(value, "rate") + self.missing(since)
+
+    def terms(self, value, kind):
+        found = []
+        for node, course, onward in self.active:
+            others = [other for number, other, _ in self.active if number != node]
+            if kind == "offset":
+                seen = self.term(node, course, onward)
+                computed = value.middle([(0, 0)] + [value.deviation(course, other) for other in others])
+            else:
+                seen = step(self.clock, course, onward) if onward else None
+                computed = value.middle([(0, 0)] + [value.rate(course, other) for other in others])
+                if computed:
+                    computed = computed[0] - self.params.damping, computed[1] + self.params.damping
+            if seen and computed and (seen[1] < computed[0] or computed[1] < seen[0]):
+                found.append((2 * self.double + 1, node, kind, *seen, *computed))
+        return found
+
+    def missing(self, since):
+        """Frames that are not there of nodes that sent in the double cycle before, in sync."""
+        if not self.log.whole or since >= self.double:
+            return []
+        seen, even = {node for _, node, _, _, _ in self.before.seen}, 2 * self.double
+        return [(even + odd, node, "missing", channel) for node, _, channels in self.keys if node in seen
+                for odd in (0, 1) for channel in channels
+                if self.ends[0] < even + odd < self.ends[1] and (node, channel, odd) not in self.here.stamps]
+
+    def lines(self):
+        limit = self.params.precision
+        lines = [["cycle", 2 * self.double + odd, len(self.active), low, "-" if high is None else high,
+                  says(limit, low, high)] for odd, (low, high) in enumerate(self.skews)]
+        for node, course, onward in self.active:
+            lines.append(["node", self.double, node, *course["length"],
+                          *(self.term(node, course, onward) or ("-", "-"))])
+        return lines
+
+
 # ---- the text
 
 
@@ -305,36 +497,82 @@ def says(limit, low, high):
     return "over" if low > limit else "within" if high is not None and high <= limit else "open"
 
 
-def double_lines(params, log, clock, double, here, behind):
-    """The lines of a double cycle."""
-    keys = [(node, key) for node, key, _, _ in params.nodes if key is not None and node not in log.arbitrary]
-    active = [(node, here.sender(node, key), behind.sender(node, key)) for node, key in keys if here.sender(node, key)]
-    limits = skews(clock, [course for _, course, _ in active], [onward for _, _, onward in active])
-    limit = params.precision()
-    lines = [["cycle", 2 * double + odd, len(active), low, "-" if high is None else high, says(limit, low, high)]
-             for odd, (low, high) in enumerate(limits)]
-    for node, course, onward in active:
-        term = offset(clock, course, onward, here.span(node, 1, behind, 0)) if onward else ("-", "-")
-        lines.append(["node", double, node, *course["length"], *term])
+def coverable(params, log):
+    """Why no run of this cluster is covered, if that is certain."""
+    for number, (left, right) in enumerate(params.checks(), 1):
+        if left < right or (number == 5 and left == right):
+            return ["check", number, left, right]
+    arbitrary = sum(node in log.arbitrary for node, _, _ in params.key_nodes())
+    correct = len(params.key_nodes()) - arbitrary
+    if arbitrary > 2 or correct < (1, 3, 6)[arbitrary]:
+        return ["count", correct, arbitrary]
+    return None
+
+
+def sender_lines(params, log, seen):
+    """Of each sender and channel how many frames are there, in which cycles, and in how many of the log none."""
+    lines, span = [], range(seen[0][0], seen[-1][0] + 1) if seen else range(0)
+    for node, _, channels in params.key_nodes():
+        for channel in channels if node not in log.arbitrary else "":
+            cycles = [number for number, sender, _, on, _ in seen if (sender, on) == (node, channel)]
+            ends = (cycles[0], cycles[-1]) if cycles else ("-", "-")
+            lines.append(["sender", node, channel, len(cycles), *ends, len(set(span) - set(cycles))])
     return lines
+
+
+class Progress:
+    """What is known behind some double cycles: sync, the first contradiction, and how far rows say within."""
+
+    def __init__(self, params, log):
+        self.log, self.covered, self.sync, self.first, self.reach = log, coverable(params, log) is None, None, None, None
+        self.is_ended = False
+
+    def pass_double(self, double):
+        """Its lines with those of its contradictions."""
+        lines, found = double.lines(), double.own()
+        if self.sync is None and self.log.since is not None and self.log.since <= 2 * double.double:
+            self.sync = self.log.since // 2, "stated"
+        elif self.sync is None and not found and double.is_in_sync():
+            self.sync = double.double, "seen"
+        if self.sync and self.covered:
+            found = found + double.in_sync(self.sync[0])
+        self.first = self.first or (found[0] if found else None)
+        for _, cycle, _, _, _, word in (line for line in lines if line[0] == "cycle" and self.sync):
+            self.is_ended = self.is_ended or word != "within"
+            if not self.is_ended:
+                self.reach = (self.reach[0] if self.reach else cycle), cycle
+        return lines + [["fault", *fault, *["-"] * (7 - len(fault))] for fault in found]
+
+    def verdict(self):
+        if self.first:
+            cycle, node, kind, *_ = self.first
+            return ["no", cycle, kind, node]
+        return ["within", *self.reach] if self.sync and self.reach else ["open"]
 
 
 def observe(params, log):
     """The lines of the text, each a list of its fields, without the empty ones at its end."""
-    clock, (seen, tally) = Clock(params, log), sightings(params, log)
-    lines, doubles = [["precision", params.precision()]], {}
+    clock, (seen, tally, untimely) = Clock(params, log), sightings(params, log)
+    lines, doubles, late, progress = [["precision", params.precision]], {}, {}, Progress(params, log)
     for one in seen:
         doubles.setdefault(one[0] // 2, []).append(one)
-    parts = {}
-    span = range(min(doubles), max(doubles) + 1) if seen else ()
-    for double in [*span, *(last + 1 for last in span[-1:])]:
+    for one in untimely:
+        late.setdefault(one[0] // 2, []).append(one)
+    parts, span = {}, range(min(doubles), max(doubles) + 1) if seen else ()
+    for double in [*(span[0] - 1 for _ in span[:1]), *span, *(last + 1 for last in span[-1:])]:
         parts[double] = Seen(params, log, clock, doubles.get(double, []))
     for double in span:
-        lines += double_lines(params, log, clock, double, parts[double], parts[double + 1])
+        lines += progress.pass_double(Double(params, log, clock, double, parts[double - 1], parts[double],
+                                             parts[double + 1], late.get(double, []), (seen[0][0], seen[-1][0])))
     words = [line[5] for line in lines if line[0] == "cycle"]
+    lines += sender_lines(params, log, seen)
     lines.append(["log", *(tally[kind] for kind in KINDS)])
+    why = coverable(params, log)
+    lines.append(["covered", *(["no", *why] if why else ["open"])])
+    lines.append(["sync", *(progress.sync or ("-", "open"))])
     ends = (2 * span[0], 2 * span[-1] + 1) if seen else ("-", "-")
     lines.append(["cycles", *ends, *(words.count(word) for word in ("within", "over", "open"))])
+    lines.append(["verdict", *progress.verdict()])
     return lines
 
 

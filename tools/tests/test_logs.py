@@ -20,6 +20,13 @@ drift_ppm = 20
 delay_from_ns = 100
 delay_to_ns = 200
 """
+
+
+class Cluster:
+    """What words of contradictions ask of a cluster."""
+    microtick_ns = Fraction(25)
+
+
 MICROTICK_NS, MACROS, MICROS, TURN = 25, 5000, 200000, 4900
 
 
@@ -113,6 +120,8 @@ class Logs(Bench):
             with self.subTest(seed=seed):
                 found = self.observed(self.sent(text))
                 self.assertEqual(found["log"]["judged"], found["entries"])
+                self.assertEqual(found["faults"], [])
+                self.assertIn(found["verdict"][0], ("within", "open"))
                 held += self.hold(found)
         self.assertGreater(held, 30 * CLUSTERS)
 
@@ -122,9 +131,11 @@ class Logs(Bench):
         self.assertIn("Analyzer stamps of 10 ns, its clock within 20 ppm, delays from 100 to 200 ns", page)
         self.assertIn("Frames 160 say where a clock was, 0 are damaged", page)
         self.assertIn("Left out 40 frames of static slots that are no key slots", page)
-        self.assertIn("Cycles 0 to 19, by the cycle counts; the skew of 19 is within the precision, that of 0 over it, "
-                      "and of 1", page)
+        self.assertIn("Cycles 0 to 19, by the cycle counts: 19 within the precision, 0 over it, 1 open", page)
         self.assertIn("Precision 7.902 us", page)
+        self.assertIn("In sync of no double cycle it is certain: no frame shows the clock of node 5; in_sync_from_cycle of "
+                      "[observer] can state it Verdict open: nothing contradicts the rules", page)
+        self.assertNotIn("Not seen", page)
         text = self.flexray("observe", "seen/params.csv", "seen/log.csv")[1]
         self.assertEqual(text, self.read("seen", "observed.csv"))
         self.assertIn("Precision       7.902 us\n", self.read("seen", "observed.txt"))
@@ -132,7 +143,7 @@ class Logs(Bench):
     def test_what_is_stated_of_the_analyzer(self):
         path = self.sent(SHORT + OBSERVER + "error_ns = 2.5\njitter_ns = 5\n")
         told = self.one_line(self.flexlab("log", "-o", "log.csv", path, "net.toml")[0])
-        self.assertIn("stamps of 10 ns, off by 2.5 ns at most beside, its clock within 20 ppm, delays from 100 to 200 "
+        self.assertIn("stamps of 10 ns, off by 2.5 ns in all beside, its clock within 20 ppm, delays from 100 to 200 "
                       "ns, those of a node within 5 ns", told)
         # In units of 1 ns: 9 ns of the resolution are left, and the error.
         wanted = ("unit,40000,,,\ndrift,20,,,\nerror,460000,,,\njitter,200000,,,\narbitrary,6,,,\n"
@@ -146,6 +157,60 @@ class Logs(Bench):
         found = json.loads(self.flexlab("observe", "--json", "-o", "seen", path, "net.toml", status=1)[0])
         self.assertEqual(found["cycles"][0]["says"], "over")
         self.assertGreater(self.hold(found), 0)
+
+    def test_sync_that_is_seen(self):
+        """Where each node has a key slot and stamps are fine, the log itself shows that it is in sync."""
+        text = edited(("double_cycles = 200", "double_cycles = 10"),
+                      ("id = 5\nchannels = \"A\"\n", "id = 5\nchannels = \"A\"\nkey_slot = 5\n"))
+        path = self.sent(text + OBSERVER.replace("resolution_ns = 10", "resolution_ns = 1"))
+        page = self.one_line(self.flexlab("observe", "-o", "seen", path, "net.toml")[0])
+        self.assertRegex(page, r"In sync double cycle \d is, as its stamps show")
+        self.assertRegex(page, r"Verdict in cycles \d+ to 18 the clocks of the nodes that sent lay within the precision")
+
+    def test_a_node_that_drops_out(self):
+        """Where the analyzer missed nothing, that is told in the cycle in which it is so, and without that it is not."""
+        path = self.sent(SHORT + OBSERVER + "missed_none = true\nin_sync_from_cycle = 2\n")
+        made = [packet for packet in packets.read_capture(path)[1]
+                if packet.frame[1] != 3 or packet.frame[4] & 63 < 11]
+        packets.write_capture(self.path("less.pcap"), [(packet.ns, packet.channel, packet.frame) for packet in made])
+        page = self.one_line(self.flexlab("observe", "-o", "seen", "less.pcap", "net.toml", status=1)[0])
+        self.assertIn("it missed no frame; the cluster is in sync from cycle 2 on", page)
+        self.assertIn("Verdict NO: no run of this cluster", page)
+        self.assertRegex(page, r"CONTRADICTION cycle 11, node \d: its frame on channel A is not there")
+        self.assertRegex(page, r"Not seen node \d on channel A in 9 cycles")
+        found = json.loads(self.flexlab("observe", "--json", "-o", "seen", "less.pcap", "net.toml", status=1)[0])
+        self.assertEqual((found["faults"][0]["cycle"], found["faults"][0]["kind"]), (11, "missing"))
+        self.write("net.toml", SHORT + OBSERVER)
+        self.assertEqual(self.observed("less.pcap")["faults"], [])
+        # Nor where frames were left out, whatever is stated.
+        self.write("net.toml", SHORT + OBSERVER + "missed_none = true\n")
+        torn = [(packet.ns, packet.channel, packet.frame) for packet in made]
+        torn[0] = (*torn[0][:2], torn[0][2][:-1])
+        packets.write_capture(self.path("torn.pcap"), torn)
+        page = self.one_line(self.flexlab("observe", "-o", "seen", "torn.pcap", "net.toml")[0])
+        self.assertIn("it missed no frame, which is not taken where frames are damaged", page)
+        torn[0] = (made[0].ns, made[0].channel, made[0].frame[:-1] + bytes([made[0].frame[-1] ^ 1]))
+        packets.write_capture(self.path("torn.pcap"), torn)
+        page = self.one_line(self.flexlab("observe", "-o", "seen", "torn.pcap", "net.toml")[0])
+        self.assertIn("it missed no frame, which is not taken where frames are damaged", page)
+
+    def test_contradictions_in_words(self):
+        words = observed.Words(Cluster)
+        for kind, fields, told in (
+                ("limit", ("1", "40000", "80000", "120000"), "both its cycles last 0.000 to 0.001 us, and one of the"),
+                ("correction", ("500", "501", "-200", "200"), "an offset term of 500 to 501 microticks, and the limit is 200"),
+                ("offset", ("5", "6", "1", "3"), "an offset term of 5 to 6 microticks, and by all that were seen 1 to 3"),
+                ("rate", ("5", "6", "1", "3"), "a change of the rate term of 5 to 6 microticks, and by all that"),
+                ("skew", ("80000000", "-", "-", "40000000"), "clocks at least 2.000 us apart, and in sync at most 1.000 us"),
+                ("start", ("80000000", "9", "-", "40000000"), "starts at least 2.000 us apart, and in sync at most 1.000"),
+                ("lengths", ("80000000", "9", "-", "40000000"), "lengths of cycles at least 2.000 us apart"),
+                ("length", ("40000000", "80000000", "1", "2"), "a cycle of 1.000 to 2.000 us, and in sync one of 0.000"),
+                ("channels", ("2", "1", "-", "-"), "the stamps of both channels place its clock nowhere"),
+                ("twice", ("A", "4", "3", "-"), "its frame on channel A is there twice"),
+                ("missing", ("B", "-", "-", "-"), "its frame on channel B is not there"),
+                ("cycle", ("B", "9", "63", "-"), "its frame on channel B comes at another time than its cycle count 63")):
+            self.assertIn(told, words.of((7, 2, kind, fields)))
+            self.assertTrue(words.of((7, 2, kind, fields)).startswith("cycle 7, node 2: "))
 
     def test_a_log_of_nobody(self):
         """Where another network is taken for this one, no frame says where a clock was."""

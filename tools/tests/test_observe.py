@@ -8,6 +8,7 @@ FLEXRAY_OBSERVE_RUNS is how many runs are taken (40).
 """
 import os
 import random
+import re
 import unittest
 from fractions import Fraction
 
@@ -31,7 +32,8 @@ def header_bytes(slot, words, sync, startup, count):
 class Cluster:
     """A random cluster and its run: parameters, drift and script as files, and the rows of its trace."""
 
-    def __init__(self, draw, is_long):
+    def __init__(self, draw, is_long, is_covered=False):
+        """`is_covered`: with parameters of which runs can be covered."""
         self.doubles = draw.randrange(24, 40) if is_long else draw.randrange(2, 7)
         macros = 400 if is_long else draw.choice([400, 500, 1000])
         slot, count, further = max(20, macros // 20), draw.randrange(1, 5 if is_long else 7), draw.randrange(0, 4)
@@ -43,6 +45,9 @@ class Cluster:
             "gPayloadLengthStatic": draw.randrange(6), "gOffsetCorrectionStart": macros - nit // 2,
             "pClusterDriftDamping": draw.randrange(4), "xRateBound": draw.choice([50, 200, 1000]),
             "xChangeBound": draw.choice([0, 0, 1]), "xDelayError": draw.choice([0, 500000]), **FIXED}
+        if is_covered:
+            self.values.update(pMicroPerCycle=40 * macros, gdActionPointOffset=draw.randrange(8, 11), xRateBound=draw.choice([50, 200]),
+                               pClusterDriftDamping=4, xDelayError=draw.choice([0, 200000]), pOffsetCorrectionOut=400)
         slots = draw.sample(range(1, static + 1), static)
         # Of each node its number, key slot, channels, and whether it is a coldstart node.
         self.nodes = [(node, slots.pop(), draw.choice(["A", "AB", "AB"]), draw.randrange(2))
@@ -207,8 +212,9 @@ class Analyzer:
         found += [self.foreign(draw.choice(found)) for _ in range(len(found) // 8)]
         return sorted(found, key=lambda entry: entry[0])
 
-    def log(self, entries):
-        lines = [f"unit,{self.unit},,,\ndrift,{self.drift},,,\n"]
+    def log(self, entries, *stated):
+        """A log of these entries; `stated` are more records of its head."""
+        lines = [*stated, f"unit,{self.unit},,,\ndrift,{self.drift},,,\n"]
         lines += [f"error,{self.error},,,\n"] if self.error else []
         lines += [f"jitter,{self.jitter},,,\n"] if self.jitter is not None else []
         lines += [f"arbitrary,{self.cluster.arbitrary},,,\n"] if self.cluster.arbitrary else []
@@ -218,6 +224,12 @@ class Analyzer:
         lines += [*delays[:-1], last] if self.draw.random() < 0.5 else delays
         lines += [f"{kind},{stamp},{channel},{data.hex().upper()},\n" for stamp, kind, channel, data in entries]
         return "".join(lines)
+
+
+def rows_of(text, *words):
+    """The rows of a text, or those that begin with one of these words."""
+    rows = [line.split(",") for line in text.splitlines()]
+    return [row for row in rows if row[0] in words] if words else rows
 
 
 class Observed(Bench):
@@ -235,9 +247,9 @@ class Observed(Bench):
         self.assertEqual(text, peer.text_of(peer.observe(params, log)))
         return text
 
-    def run_of(self, draw, is_long=False):
+    def run_of(self, draw, is_long=False, is_covered=False):
         """A cluster with the rows of its trace."""
-        cluster = Cluster(draw, is_long)
+        cluster = Cluster(draw, is_long, is_covered)
         self.write("params.csv", cluster.params())
         self.write("drift.csv", cluster.drift(draw))
         self.write("script.csv", cluster.script(draw))
@@ -248,7 +260,7 @@ class Observed(Bench):
 
     def hold(self, cluster, rates, text):
         """Holds each interval of a text against the trace, and hands back how many there are."""
-        fields, held, senders = [line.split(",") for line in text.splitlines()], 0, {}
+        fields, held, senders = rows_of(text), 0, {}
         for row in fields:
             if row[0] == "node":
                 senders.setdefault(int(row[1]), []).append(int(row[2]))
@@ -295,7 +307,7 @@ class Observed(Bench):
                 analyzer = Analyzer(draw, cluster)
                 text = self.told(analyzer.log(analyzer.see(is_long)))
                 held += self.hold(cluster, analyzer.rates, text)
-                *_, log, cycles = (line.split(",") for line in text.splitlines())
+                log, cycles = rows_of(text, "log", "cycles")
                 for at, kind in enumerate(tally, 1):
                     tally[kind] += int(log[at])
                 for at, word in enumerate(said, 3):
@@ -355,12 +367,178 @@ class Observed(Bench):
                            for stamp, kind, channel, data in entries]
                 text = self.told(analyzer.log(sorted(entries, key=lambda entry: entry[0])))
                 self.assertNotIn("node,", text)
-                self.assertEqual(text.splitlines()[-1].split(",")[3:5], ["0", "0"])
+                self.assertEqual(rows_of(text, "cycles")[0][3:5], ["0", "0"])
         self.assertGreater(tried, 3)
 
     def test_a_log_without_entries(self):
         _, analyzer, _ = self.seen(2)
-        self.assertTrue(self.told(analyzer.log([])).endswith("log,0,0,0,0,0,0,\ncycles,-,-,0,0,0,,\n"))
+        text = self.told(analyzer.log([]))
+        self.assertIn("\nlog,0,0,0,0,0,0,\n", text)
+        self.assertTrue(text.endswith("sync,-,open,,,,,\ncycles,-,-,0,0,0,,\nverdict,open,,,,,,\n"))
+
+    # ---- verdicts
+
+    def is_covered(self):
+        """Whether `flexray run` covers the run, and the first double cycle in sync in which none follows."""
+        status, report, _ = self.flexray("run", "params.csv", "drift.csv", "script.csv")
+        synced = re.search(r"^in sync (\d+)$", report, re.MULTILINE)
+        return "\ncovered yes\n" in report, int(synced[1]) if synced else None
+
+    def test_lawful_runs_are_not_contradicted(self):
+        """Whatever was lost on the bus or on the way to the observer, of what correct nodes sent."""
+        told = dict.fromkeys(("within", "open", "seen", "stated", "whole", "untimely", "covered"), 0)
+        for seed in range(RUNS):
+            with self.subTest(seed=seed):
+                draw = random.Random(seed)
+                cluster = self.run_of(draw, seed % 5 == 0, seed % 4 > 0)
+                analyzer, lost = Analyzer(draw, cluster), draw.choice([0, 0, 0.1, 0.5])
+                entries = analyzer.entries(analyzer.rates[0], analyzer.zero, "AB", lost)
+                covered, synced = self.is_covered()
+                stated = ["whole,,,,\n"] if not lost else []
+                # The cycle of the run that has number 0 in the log.
+                first = min((cycle for (cycle, _), row in cluster.rows.items() if cycle >= analyzer.first), default=0)
+                if synced is not None and draw.random() < 0.5 and 2 * synced >= first - first % 64:
+                    stated.append(f"since,{2 * synced - (first - first % 64)},,,\n")
+                text = self.told(analyzer.log(entries, *stated))
+                faults = rows_of(text, "fault")
+                # A small cluster that is not in sync can send when a log does not take it for timely.
+                told["untimely"] += any(row[3] == "cycle" for row in faults)
+                kinds = {row[3] for row in faults}
+                self.assertEqual(kinds & {"channels", "limit", "correction", "twice"}, set())
+                if covered:
+                    self.assertEqual(kinds - {"cycle"}, set())
+                if covered and synced == 0:
+                    self.assertEqual(faults, [])
+                sync, verdict = rows_of(text, "sync", "verdict")
+                told[sync[2]] = told.get(sync[2], 0) + 1
+                told[verdict[1]] = told.get(verdict[1], 0) + 1
+                told["whole"] += not lost
+                told["covered"] += covered
+                if sync[2] == "seen":
+                    self.in_sync(cluster, int(sync[1]))
+        if RUNS != 40:
+            print(f"{RUNS} lawful runs: {told}")
+        self.assertGreater(min(told[word] for word in ("within", "open", "seen", "stated")), 0, told)
+
+    def in_sync(self, cluster, double):
+        """A double cycle that is told in sync is so in the run."""
+        params = peer.Params(peer.rows_of(self.path("params.csv")))
+        rows = [[cluster.rows[2 * double + odd, node] for node, _, _, _ in cluster.correct] for odd in (0, 1)]
+        starts = [start for start, *_ in rows[0]]
+        self.assertLessEqual(max(starts) - min(starts), params.starts)
+        for of_cycle in rows:
+            lengths = [(params.micros + rate) * length for _, length, rate, _, _ in of_cycle]
+            self.assertLessEqual(max(lengths) - min(lengths), params.lengths)
+            self.assertTrue(all(params.micros * params.shortest <= long <= params.micros * params.longest
+                                for long in lengths))
+            self.assertTrue(all(row[4] == "active" for row in of_cycle))
+
+    def exact(self, seed):
+        """A covered run of correct nodes, seen by an exact analyzer that misses nothing, from its first cycle on; None
+        where the run is none."""
+        draw = random.Random(seed)
+        cluster = self.run_of(draw, is_long=True, is_covered=True)
+        if cluster.arbitrary or cluster.joins or len(cluster.nodes) < 3 or self.is_covered() != (True, 0):
+            return None
+        analyzer = Analyzer(draw, cluster)
+        analyzer.unit, analyzer.error, analyzer.jitter, analyzer.drift, analyzer.first = 40_000, 0, 0, 20, 0
+        analyzer.rates = [analyzer.any_rate()]
+        analyzer.limits = {way: (low, low + 40_000) for way, (low, _) in analyzer.limits.items()}
+        analyzer.middle = {way: low for way, (low, _) in analyzer.limits.items()}
+        return cluster, analyzer
+
+    def exact_log(self, analyzer, change=None):
+        """Its log; `change` makes other bytes of those of an entry by its slot and cycle, or none."""
+        cluster, entries = analyzer.cluster, []
+        long = cluster.values["pMicroPerCycle"] * MILLION
+        for stamp, kind, channel, data in analyzer.entries(analyzer.rates[0], analyzer.zero, "AB", 0):
+            cycle = (stamp * analyzer.unit - analyzer.zero) // long
+            if change:
+                data = change((data[0] & 7) << 8 | data[1], cycle, data[:5])
+            if data:
+                entries.append((stamp, "head" if len(data) == 5 else kind, channel, data))
+        return analyzer.log(entries, "whole,,,,\n")
+
+    def test_planted_faults(self):
+        """What a node does against the rules from some cycle on is told of that node, in that cycle."""
+        tried = dict.fromkeys(("offset", "correction", "rate", "limit", "missing", "cycle"), 0)
+        for seed in range(1000, 1000 + max(60, RUNS // 4)):
+            found = None if all(tried.values()) and RUNS == 40 else self.exact(seed)
+            if found is None:
+                continue
+            cluster, analyzer = found
+            text = self.told(self.exact_log(analyzer))
+            sync, verdict = rows_of(text, "sync", "verdict")
+            self.assertEqual(rows_of(text, "fault"), [])
+            if sync[1] == "-" or int(sync[1]) > 3:
+                continue
+            self.assertEqual(verdict[1], "within")
+            lawful, draw = dict(cluster.rows), random.Random(seed)
+            for kind in tried:
+                cluster.rows = dict(lawful)
+                node, slot, _, _ = draw.choice(cluster.correct)
+                cycle = 2 * draw.randrange(5, cluster.doubles - 3) + 1
+                with self.subTest(seed=seed, kind=kind):
+                    change = self.plant(kind, cluster, node, slot, cycle)
+                    faults = rows_of(self.told(self.exact_log(analyzer, change)), "fault")
+                    self.assertEqual(faults[0][3], kind)
+                    wanted = cycle + (kind in ("limit", "missing"))
+                    if kind != "cycle":
+                        self.assertEqual(faults[0][1:3], [str(wanted), str(node)])
+                    tried[kind] += 1
+        if RUNS != 40:
+            print(f"planted faults told: {tried}")
+        self.assertGreater(min(tried.values()), 0, tried)
+
+    def plant(self, kind, cluster, node, slot, cycle):
+        """Plants a fault of a node at the end of an odd cycle, and hands back what becomes of the bytes of entries."""
+        if kind == "missing":
+            return lambda number, at, data: None if number == slot and at > cycle else data
+        if kind == "cycle":
+            return lambda number, at, data: data if at <= cycle else data[:4] + bytes([data[4] & 0xC0 | (data[4] + 7) & 63])
+        for at in range(cycle, 2 * cluster.doubles):
+            start, length, rate, term, state = cluster.rows[at, node]
+            if at == cycle:
+                term += {"offset": 12, "correction": 500}.get(kind, 0)
+            elif kind == "rate":
+                rate += 40
+            elif kind == "limit":
+                length += length // 50
+            cluster.rows[at, node] = start, length, rate, term, state
+            if (at + 1, node) in cluster.rows:
+                long = cluster.values["pMicroPerCycle"] + rate + (term if at % 2 else 0)
+                cluster.rows[at + 1, node] = start + long * length, *cluster.rows[at + 1, node][1:]
+        return None
+
+    def test_sync_that_is_stated_wrongly(self):
+        """Where clocks begin further apart than the precision, and the log states that they are in sync, that is told."""
+        found = set()
+        for seed in range(2000, 2060):
+            draw = random.Random(seed)
+            cluster = self.run_of(draw, is_covered=True)
+            covered, synced = self.is_covered()
+            if covered and synced != 0 and not cluster.joins:
+                analyzer = Analyzer(draw, cluster)
+                analyzer.first = 0
+                entries = analyzer.entries(analyzer.rates[0], analyzer.zero, "AB", 0)
+                text = self.told(analyzer.log(entries, "since,0,,,\n"))
+                self.assertIn("\nsync,0,stated,,,,,\n", text)
+                found.update(row[3] for row in rows_of(text, "fault"))
+        self.assertTrue({"skew", "start"} <= found, found)
+
+    def test_a_cluster_that_is_never_covered(self):
+        _, analyzer, entries = self.seen(1)
+        params = self.read("params.csv")
+        self.write("params.csv", re.sub("xDelayError,.*", "xDelayError,10000000,,", params))
+        text = self.told(analyzer.log(entries))
+        self.assertRegex(text, r"\ncovered,no,check,[1-5],[0-9]+,[0-9]+,,\n")
+
+    def test_a_frame_that_is_there_twice(self):
+        _, analyzer, entries = self.seen(4)
+        stamp, kind, channel, data = entries[len(entries) // 2]
+        again = entries[:len(entries) // 2 + 1] + [(stamp + 1, kind, channel, data)] + entries[len(entries) // 2 + 1:]
+        fault = rows_of(self.told(analyzer.log(sorted(again, key=lambda entry: entry[0]))), "fault")[0]
+        self.assertEqual(fault[3:7], ["twice", channel, str(stamp + 1), str(stamp)])
 
 
 if __name__ == "__main__":
