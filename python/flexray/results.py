@@ -6,6 +6,7 @@ from dataclasses import dataclass, field
 
 __all__ = ["Check", "Bound", "SharpSide", "SharpBound", "Skew", "Sent", "Heard", "NodeEnd", "Report", "SeriesCycle", "Series",
            "SharpSeries", "CycleRow", "Deviation", "Join", "Trace", "Verdict", "ObservedCycle", "ObservedNode",
+           "ObservedFault", "ObservedSender",
            "LogCounts", "Observation", "FailedCheck", "Settled", "SharpWay", "SharpSettled", "Lead", "Startup", "Frame",
            "CapturedFrame", "Capture", "Vector", "Vectors", "Upgraded"]
 
@@ -279,10 +280,35 @@ class LogCounts:
 
 
 @dataclass(frozen=True)
+class ObservedFault:
+    """A contradiction of a log in a cycle, of a node or of several (None): its kind, and the four fields A to D, as
+    docs/FORMATS.md has them."""
+
+    cycle: int
+    node: int | None
+    kind: str
+    fields: tuple[str, ...]
+
+
+@dataclass(frozen=True)
+class ObservedSender:
+    """How many frames of a node are there on a channel, in which cycles the first and the last, and in how many none."""
+
+    node: int
+    channel: str
+    frames: int
+    first: int | None
+    last: int | None
+    missed: int
+
+
+@dataclass(frozen=True)
 class Observation:
     """What a log tells of the clocks. `precision` is that of the parameters, in ticks, as the skews of `cycles` are;
     `nodes` has each sender of each double cycle. `first` and `last` are the numbers of the first and the last of
-    `cycles`, None where there are none, and `within`, `over` and `open` how many of them say so."""
+    `cycles`, None where there are none, and `within`, `over` and `open` how many of them say so. `faults` are what
+    contradicts the rules, `senders` which frames are there; `covered`, `sync` and `verdict` have the fields of these
+    rows."""
 
     text: str = field(repr=False)
     precision: int
@@ -294,6 +320,11 @@ class Observation:
     within: int
     over: int
     open: int
+    faults: tuple[ObservedFault, ...]
+    senders: tuple[ObservedSender, ...] = field(repr=False)
+    covered: tuple[str, ...]
+    sync: tuple[str, ...]
+    verdict: tuple[str, ...]
 
 
 @dataclass(frozen=True)

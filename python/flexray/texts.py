@@ -4,7 +4,7 @@ from __future__ import annotations
 import re
 
 from .results import (Bound, Capture, CapturedFrame, Check, CycleRow, Deviation, FailedCheck, Frame, Heard, Join, Lead,
-                      LogCounts, NodeEnd, Observation, ObservedCycle, ObservedNode, Report, Sent, Series, SeriesCycle,
+                      LogCounts, NodeEnd, Observation, ObservedCycle, ObservedFault, ObservedNode, ObservedSender, Report, Sent, Series, SeriesCycle,
                       Settled, SharpBound, SharpSeries, SharpSettled, SharpSide, SharpWay, Skew, Startup, Trace,
                       Upgraded, Vector, Vectors, Verdict)
 
@@ -191,6 +191,8 @@ NUMBER = r"(-?\d+)"
 KNOWN = r"(-|-?\d+)"
 OBSERVED_CYCLE = rf"cycle,(\d+),(\d+),{NUMBER},{KNOWN},(over|within|open),,"
 OBSERVED_NODE = rf"node,(\d+),(\d+),{NUMBER},{NUMBER},{KNOWN},{KNOWN},"
+OBSERVED_FAULT = r"fault,(\d+),(-|\d+),([a-z]+),(-|A|B|-?\d+),(-|-?\d+),(-|-?\d+),(-|-?\d+)"
+OBSERVED_SENDER = r"sender,(\d+),(A|B),(\d+),(-|\d+),(-|\d+),(\d+),"
 
 
 def _known(group: str) -> int | None:
@@ -202,16 +204,27 @@ def observation(text: str) -> Observation:
     precision = lines.one(r"precision,(\d+),,,,,,")
     cycles: list[ObservedCycle] = []
     nodes: list[ObservedNode] = []
+    faults: list[ObservedFault] = []
     while rows := lines.every(OBSERVED_CYCLE):
         cycles.extend(ObservedCycle(int(cycle), int(senders), int(low), _known(high), says)
                       for cycle, senders, low, high, says in rows)
         nodes.extend(ObservedNode(int(double), int(node), int(low), int(high), _known(least), _known(most))
                      for double, node, low, high, least, most in lines.every(OBSERVED_NODE))
+        faults.extend(ObservedFault(int(cycle), _known(node), kind, tuple(fields))
+                      for cycle, node, kind, *fields in lines.every(OBSERVED_FAULT))
+    senders = tuple(ObservedSender(int(node), channel, int(frames), _known(begin), _known(end), int(missed))
+                    for node, channel, frames, begin, end, missed in lines.every(OBSERVED_SENDER))
     log = LogCounts(*_numbers(lines.take(r"log,(\d+),(\d+),(\d+),(\d+),(\d+),(\d+),")))
+    covered, sync = _row(lines, "covered"), _row(lines, "sync")
     first, last, *told = lines.take(r"cycles,(-|\d+),(-|\d+),(\d+),(\d+),(\d+),,")
     within, over, neither = map(int, told)
     return Observation(text, precision, tuple(cycles), tuple(nodes), log, _known(first), _known(last), within, over,
-                       neither)
+                       neither, tuple(faults), senders, covered, sync, _row(lines, "verdict"))
+
+
+def _row(lines: _Lines, word: str) -> tuple[str, ...]:
+    """The fields of a row with this first word, without the empty ones."""
+    return tuple(part for part in lines.take(rf"{word},([^\n]*)")[0].split(",") if part)
 
 
 def _way(lines: _Lines, before: str) -> tuple[int, int | None, FailedCheck | None]:

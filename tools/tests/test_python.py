@@ -99,6 +99,12 @@ class Calls(Bench):
         found = flexray.observe(params, log)
         self.assertEqual(found, texts.observation(Path(EXAMPLES, "observe", "printed.txt").read_text()))
         self.assertEqual(found.precision, flexray.bound(params).precision)
+        self.assertEqual((found.faults, found.covered, found.sync, found.verdict),
+                         ((), ("open",), ("0", "seen"), ("within", "0", "2")))
+        self.assertEqual(found.senders[1], flexray.ObservedSender(2, "A", 4, 0, 3, 0))
+        wrong = flexray.observe(*(Path(EXAMPLES, "observe-fault", f"{name}.csv") for name in ("params", "log")))
+        self.assertEqual(wrong.verdict, ("no", "11", "offset", "3"))
+        self.assertEqual(wrong.faults[0], flexray.ObservedFault(11, 3, "offset", ("29", "32", "-12", "15")))
         silent = flexray.observe(params, re.sub("head,.*\n", "", log.read_text()))
         self.assertEqual((silent.cycles, silent.nodes, silent.log, silent.first, silent.last),
                          ((), (), flexray.LogCounts(0, 0, 0, 0, 0, 0), None, None))
