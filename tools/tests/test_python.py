@@ -339,8 +339,9 @@ class Alone(Bench):
     def test_counts_of_a_log(self):
         """Other numbers in each place: a row over the precision, a double cycle without a sender, each count."""
         found = texts.observation("precision,7,,,,,,\ncycle,4,2,8,9,over,,\ncycle,5,2,1,-,open,,\nnode,2,1,-3,5,-,-,\n"
-                                  "node,2,64,4,6,-9,-8,\ncycle,6,0,0,-,open,,\ncycle,7,0,0,-,open,,\n"
-                                  "log,1,2,3,4,5,6,\ncycles,4,7,0,1,3,,\n")
+                                  "node,2,64,4,6,-9,-8,\nfault,5,64,twice,B,9,8,-\nfault,5,-,skew,8,-,-,7\ncycle,6,0,0,-,open,,\ncycle,7,0,0,-,open,,\n"
+                                  "sender,64,B,3,4,5,2,\nsender,1,A,0,-,-,4,\nlog,1,2,3,4,5,6,\ncovered,no,count,1,1,,,\nsync,-,open,,,,,\n"
+                                  "cycles,4,7,0,1,3,,\nverdict,no,5,twice,64,,,\n")
         self.assertEqual([(row.cycle, row.senders, row.low, row.high, row.says) for row in found.cycles],
                          [(4, 2, 8, 9, "over"), (5, 2, 1, None, "open"), (6, 0, 0, None, "open"),
                           (7, 0, 0, None, "open")])
@@ -350,6 +351,12 @@ class Alone(Bench):
         self.assertEqual((counts.judged, counts.damaged, counts.arbitrary, counts.other, counts.stray, counts.behind),
                          (1, 2, 3, 4, 5, 6))
         self.assertEqual((found.first, found.last, found.within, found.over, found.open), (4, 7, 0, 1, 3))
+        self.assertEqual(found.faults, (flexray.ObservedFault(5, 64, "twice", ("B", "9", "8", "-")),
+                                        flexray.ObservedFault(5, None, "skew", ("8", "-", "-", "7"))))
+        self.assertEqual(found.senders, (flexray.ObservedSender(64, "B", 3, 4, 5, 2),
+                                         flexray.ObservedSender(1, "A", 0, None, None, 4)))
+        self.assertEqual((found.covered, found.sync, found.verdict),
+                         (("no", "count", "1", "1"), ("-", "open"), ("no", "5", "twice", "64")))
 
     def test_what_is_not_understood_is_no_answer(self):
         self.assertRaises(ValueError, texts.report, "nodes 2 sync 2 arbitrary 0 doubles 2\nprecision many\n")
