@@ -1,3 +1,7 @@
+pub mod Counted
+pub mod Counts
+pub mod Extremes
+pub mod Fits
 pub mod Floors
 pub mod Limits
 pub mod Meets

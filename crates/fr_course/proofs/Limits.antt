@@ -8,8 +8,9 @@ use Rattle.fr_base.specs.Within.{IsBetween, IsWithin}
 use Rattle.fr_midpoint.proofs.Products.{lez_of_mulz-lez, mulz_comm, mulz_within, negz-mulz, subz-mulz}
 use Rattle.fr_time.specs.Position.{floor_of}
 use Rattle.fr_course.specs.Readings.{ceiling_of, meet, meet_if, Interval, Scale}
-use Rattle.fr_course.specs.Course.{length_seen, share_from, share_to}
-use Rattle.fr_course.specs.Near.{IsBox, IsReadingScale, IsSpan, EndBetween, EndWithin}
+use Rattle.fr_course.specs.Course.{course_back, course_on, length_seen, share_from, share_to}
+use Rattle.fr_course.specs.Near.{IsBox, IsNearCourse, IsReadingScale, IsSpan, EndBetween, EndWithin}
+use Rattle.fr_course.proofs.Fits.{box_near, difference_near, ends_near, high_near, low_near, sum_near, wider_near}
 use Rattle.fr_course.proofs.Floors.{floor_above, floor_below}
 
 -- a quotient lies within a bound where the number lies within as many divisors
@@ -148,9 +149,6 @@ sum_within x micro near short =
 pub max_between : (bound x y : ℤ) → IsWithin bound x → IsBetween (pos 0) bound y → IsBetween (pos 0) bound (int_max x y)
 max_between bound x y a b = record { low = omega (arith, ints, clamps, b.low); high = omega (arith, ints, clamps, a.high, b.high) }
 
-pub greater_between : (bound x y : ℤ) → IsBetween (pos 0) bound x → IsBetween (pos 0) bound y → IsBetween (pos 0) bound (int_max x y)
-greater_between bound x y a b = record { low = omega (arith, ints, clamps, b.low); high = omega (arith, ints, clamps, a.high, b.high) }
-
 -- a share of so many macroticks before a point
 pub share_from-negz : (scale : Scale) (macroticks length : ℤ) → share_from scale (neg_ℤ macroticks) length ≡ neg_ℤ (share_to scale macroticks length)
 share_from-negz scale macroticks length =
@@ -165,3 +163,33 @@ share_to-negz scale macroticks length =
   where
     twice : (x : ℤ) → neg_ℤ (neg_ℤ x) ≡ x
     twice x = omega (arith, ints)
+
+-- ---- courses by a frame in one cycle
+
+pub course_on-near : (scale : Scale) (action : ℤ) (even : Interval) → IsReadingScale scale → IsBetween (pos 0) scale.correction action → IsBox even
+    → IsNearCourse scale (course_on scale action even)
+course_on-near scale action even is at box =
+    record {
+      action_from = at.low;
+      action_to = at.high;
+      even = ends_near (wider_near (record { le = tt }) (low_near {bound = pos 910_000_000_000_000_000} (box_near box))) (wider_near (record { le = tt }) (high_near {bound = pos 910_000_000_000_000_000} (box_near box)));
+      odd =
+          ends_near (wider_near (record { le = tt }) (sum_near (low_near {bound = pos 910_000_000_000_000_000} (box_near box)) is.length_from))
+          (wider_near (record { le = tt }) (sum_near (high_near {bound = pos 910_000_000_000_000_000} (box_near box)) is.length_to));
+      apart = ends_near (wider_near (record { le = tt }) is.length_from) (wider_near (record { le = tt }) is.length_to);
+      length = ends_near (wider_near (record { le = tt }) is.length_from) (wider_near (record { le = tt }) is.length_to);
+    }
+
+pub course_back-near : (scale : Scale) (action : ℤ) (odd : Interval) → IsReadingScale scale → IsBetween (pos 0) scale.correction action → IsBox odd
+    → IsNearCourse scale (course_back scale action odd)
+course_back-near scale action odd is at box =
+    record {
+      action_from = at.low;
+      action_to = at.high;
+      even =
+          ends_near (wider_near (record { le = tt }) (difference_near (low_near {bound = pos 910_000_000_000_000_000} (box_near box)) is.length_to))
+          (wider_near (record { le = tt }) (difference_near (high_near {bound = pos 910_000_000_000_000_000} (box_near box)) is.length_from));
+      odd = ends_near (wider_near (record { le = tt }) (low_near {bound = pos 910_000_000_000_000_000} (box_near box))) (wider_near (record { le = tt }) (high_near {bound = pos 910_000_000_000_000_000} (box_near box)));
+      apart = ends_near (wider_near (record { le = tt }) is.length_from) (wider_near (record { le = tt }) is.length_to);
+      length = ends_near (wider_near (record { le = tt }) is.length_from) (wider_near (record { le = tt }) is.length_to);
+    }

@@ -1,9 +1,10 @@
 -- Middles, step by step, and the ends that are found.
 use Rattle.std.proofs.Common.{◌≡◌, ◌∙◌, ℕ, suc, ◌+◌, Bool, true, false, cond, ℤ, pos, Option, Some, None, IfSome, unwrap_or, ◌<◌, List, [], ◌∷◌, All, length, drop, get_or, map, arith, ap, refl, subst}
-use Rattle.std.specs.Prelude.{◌≤ℤ◌, find, nat_lt, if◌then◌else◌}
+use Rattle.std.specs.Prelude.{◌≤ℤ◌, count_by, find, int_le, int_lt, nat_lt, not, if◌then◌else◌}
+use Rattle.std.proofs.lemmas.List.Sums.{sum_by-cons}
 use Rattle.std.specs.Option.{option_map}
 use Rattle.std.proofs.lemmas.Int.{ints}
-use Rattle.std.proofs.lemmas.List.{drop_all, drop_more}
+use Rattle.std.proofs.lemmas.List.{drop_all, drop_more, length-map}
 use Rattle.std.proofs.lemmas.List.Elements.{All-map}
 use Rattle.fr_base.specs.Within.{IsWithin}
 use Rattle.fr_cluster.proofs.Found.{find_keeps}
@@ -80,3 +81,39 @@ find-more p xs place d inside = ap (find p) (drop_more xs place d inside)
 
 pub find-none : (p : Interval → Bool) (xs : List Interval) → find p (drop (length xs) xs) ≡ None
 find-none p xs = ap (find p) (drop_all (length xs) xs (omega arith))
+
+-- ---- those that pass, and those that do not
+
+one_of_two : (a b : Bool) → b ≡ not a → cond a 1 0 + cond b 1 0 ≡ 1
+one_of_two true b is = rw is refl
+one_of_two false b is = rw is refl
+
+count_by-both : {X : Type 0} (p q : X → Bool) (xs : List X) → ((x : X) → q x ≡ not (p x)) → count_by p xs + count_by q xs ≡ length xs
+count_by-both p q [] other = omega arith
+count_by-both p q (x ∷ xs) other =
+    omega (
+      arith,
+      sum_by-cons (λ y. cond (p y) 1 0) x xs,
+      sum_by-cons (λ y. cond (q y) 1 0) x xs,
+      one_of_two (p x) (q x) (other x),
+      count_by-both p q xs other,
+    )
+
+le-not : (a b : ℤ) → int_le a b ≡ not (int_lt b a)
+le-not a b = by (int_lt b a) refl
+  where
+    by : (t : Bool) → int_lt b a ≡ t → int_le a b ≡ not t
+    by true is = grind (arith, ints)
+    by false is = grind (arith, ints)
+
+ends-both : (p q : ℤ → Bool) (e : End) (known : List Interval) → ((x : ℤ) → q x ≡ not (p x))
+    → count_by p (map (interval_end e) known) + count_by q (map (interval_end e) known) ≡ length known
+ends-both p q e known other = count_by-both p q (map (interval_end e) known) other ∙ length-map known (interval_end e)
+
+pub up_to-above : (e : End) (known : List Interval) (number : ℤ)
+    → count_by (λ (value : ℤ). int_lt number value) (map (interval_end e) known) + count_by (λ (value : ℤ). int_le value number) (map (interval_end e) known) ≡ length known
+up_to-above e known number = ends-both (λ value. int_lt number value) (λ value. int_le value number) e known (λ value. le-not value number)
+
+pub from-below : (e : End) (known : List Interval) (number : ℤ)
+    → count_by (λ (value : ℤ). int_lt value number) (map (interval_end e) known) + count_by (λ (value : ℤ). int_le number value) (map (interval_end e) known) ≡ length known
+from-below e known number = ends-both (λ value. int_lt value number) (λ value. int_le number value) e known (λ value. le-not number value)

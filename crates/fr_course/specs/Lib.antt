@@ -9,4 +9,5 @@ pub mod Numbering
 pub mod Near
 -- what only functions inside cite
 pub mod Corners
+pub mod Extremes
 pub mod Ends

@@ -139,7 +139,8 @@ pub(crate) fn rest_from(scale: &Scale, course: &Course) -> i128
         share_from scale.now (scale.now.macros -ℤ course.now.action) course.now.length.low }
     ensures within { IsWithin (pos 930_000_000_000_000_000) result }
 {
-    share_from(scale, scale.macros - course.action, course.length.low)
+    let rest = scale.macros - course.action;
+    share_from(scale, rest, course.length.low)
 }
 
 pub(crate) fn rest_to(scale: &Scale, course: &Course) -> i128
@@ -149,7 +150,8 @@ pub(crate) fn rest_to(scale: &Scale, course: &Course) -> i128
         share_to scale.now (scale.now.macros -ℤ course.now.action) course.now.length.high }
     ensures within { IsWithin (pos 930_000_000_000_000_000) result }
 {
-    share_to(scale, scale.macros - course.action, course.length.high)
+    let rest = scale.macros - course.action;
+    share_to(scale, rest, course.length.high)
 }
 
 // How long those between it and the start of the offset correction last.
@@ -160,7 +162,8 @@ fn ahead_from(scale: &Scale, course: &Course) -> i128
         share_from scale.now (scale.now.correction -ℤ course.now.action) course.now.length.low }
     ensures within { IsWithin (pos 930_000_000_000_000_000) result }
 {
-    share_from(scale, scale.correction - course.action, course.length.low)
+    let ahead = scale.correction - course.action;
+    share_from(scale, ahead, course.length.low)
 }
 
 fn ahead_to(scale: &Scale, course: &Course) -> i128
@@ -170,7 +173,8 @@ fn ahead_to(scale: &Scale, course: &Course) -> i128
         share_to scale.now (scale.now.correction -ℤ course.now.action) course.now.length.high }
     ensures within { IsWithin (pos 930_000_000_000_000_000) result }
 {
-    share_to(scale, scale.correction - course.action, course.length.high)
+    let ahead = scale.correction - course.action;
+    share_to(scale, ahead, course.length.high)
 }
 
 // The start of the odd cycle: by the action point before it, by that behind it, and between both.
@@ -251,7 +255,8 @@ fn turn_from(scale: &Scale, course: &Course) -> i128
         -ℤ scale.now.change }
     ensures within { IsWithin (pos 2_000_000_000_000_000_000) result }
 {
-    let before = scale.macros - (scale.correction - course.action);
+    let ahead = scale.correction - course.action;
+    let before = scale.macros - ahead;
     mean_from(scale, before, course.even.low, course.odd.low) - scale.change
 }
 
@@ -264,6 +269,7 @@ fn turn_to(scale: &Scale, course: &Course) -> i128
         +ℤ scale.now.change }
     ensures within { IsWithin (pos 2_000_000_000_000_000_000) result }
 {
-    let before = scale.macros - (scale.correction - course.action);
+    let ahead = scale.correction - course.action;
+    let before = scale.macros - ahead;
     mean_to(scale, before, course.even.high, course.odd.high) + scale.change
 }

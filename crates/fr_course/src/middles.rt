@@ -1,4 +1,4 @@
-ghost use Rattle.std.specs.Prelude.{◌≡◌, ◌≤◌, ◌&&◌, if◌then◌else◌, pos, All, IfSome, Some, count_by, find, int_le, int_lt, length, map, nat_le, nat_lt, unwrap_or};
+ghost use Rattle.std.specs.Prelude.{◌≡◌, ◌≤◌, if◌then◌else◌, pos, All, IfSome, Some, count_by, find, int_le, int_lt, length, map, unwrap_or};
 ghost use Rattle.std.specs.Option.{option_map};
 ghost use Rattle.fr_base.specs.Within.{IsWithin};
 ghost use Rattle.fr_midpoint.specs.Midpoint.{discarded, half_of_sum, is_high, is_low};
@@ -173,7 +173,7 @@ fn has_low(known: &[Interval], end: End, ends: usize, interval: &Interval) -> bo
     ensures { result ≡ is_low ends (map (interval_end end) known.now) (interval_end end interval.now) }
 {
     let low = interval_end(interval, end);
-    is_rank(ends, below(known, end, low), up_to(known, end, low))
+    below(known, end, low) <= ends && ends < up_to(known, end, low)
 }
 
 // It is the greatest one: at most so many lie above it, and more at or above it.
@@ -181,14 +181,7 @@ fn has_high(known: &[Interval], end: End, ends: usize, interval: &Interval) -> b
     ensures { result ≡ is_high ends (map (interval_end end) known.now) (interval_end end interval.now) }
 {
     let high = interval_end(interval, end);
-    is_rank(ends, above(known, end, high), from(known, end, high))
-}
-
-// At most so many lie beyond a number, and more at it or beyond.
-fn is_rank(ends: usize, beyond: usize, more: usize) -> bool
-    ensures { result ≡ (nat_le beyond ends && nat_lt ends more) }
-{
-    beyond <= ends && ends < more
+    above(known, end, high) <= ends && ends < from(known, end, high)
 }
 
 // How many of the ends lie below a number.
@@ -202,15 +195,11 @@ fn below(known: &[Interval], end: End, number: i128) -> usize
         .count()
 }
 
-// How many at or below it.
+// How many at or below it: those that are not above it.
 fn up_to(known: &[Interval], end: End, number: i128) -> usize
     ensures { result ≡ count_by (λ value. int_le value number) (map (interval_end end) known.now) }
 {
-    known
-        .iter()
-        .map(|interval| interval_end(interval, end))
-        .filter(|value| *value <= number)
-        .count()
+    known.len() - above(known, end, number)
 }
 
 // How many above it.
@@ -224,15 +213,11 @@ fn above(known: &[Interval], end: End, number: i128) -> usize
         .count()
 }
 
-// How many at or above it.
+// How many at or above it: those that are not below it.
 fn from(known: &[Interval], end: End, number: i128) -> usize
     ensures { result ≡ count_by (λ value. int_le number value) (map (interval_end end) known.now) }
 {
-    known
-        .iter()
-        .map(|interval| interval_end(interval, end))
-        .filter(|value| number <= *value)
-        .count()
+    known.len() - below(known, end, number)
 }
 
 fn interval_end(interval: &Interval, end: End) -> i128

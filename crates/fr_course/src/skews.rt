@@ -1,12 +1,13 @@
-ghost use Rattle.std.specs.Prelude.{◌≡◌, pos, map, All};
+ghost use Rattle.std.specs.Prelude.{◌≡◌, pos, All};
 ghost use Rattle.fr_base.specs.Within.{IsBetween, IsWithin};
 ghost use Rattle.fr_course.specs.Corners.{corner_place};
+ghost use Rattle.fr_course.specs.Extremes.{join};
 ghost use Rattle.fr_course.specs.Near.{IsNearCourse, IsReadingScale, EndWithin};
-ghost use Rattle.fr_course.specs.Spread.{least_at, least_distance, least_even_skew, least_from, least_odd_skew, lengths_apart, most_at, most_distance, most_even_skew, most_from, most_odd_skew, starts_apart};
+ghost use Rattle.fr_course.specs.Spread.{least_at, least_distance, least_even_skew, least_odd_skew, lengths_apart, most_at, most_distance, most_even_skew, most_odd_skew, starts_apart};
 
 use crate::corners::{even_start, even_turn, odd_start, odd_turn};
 use crate::courses::Course;
-use crate::intervals::Interval;
+use crate::intervals::{Interval, meet};
 use crate::readings::{least_ticks, most_ticks};
 use crate::scales::Scale;
 
@@ -102,10 +103,14 @@ fn least_at(scale: &Scale, corner: Corner, courses: &[Course]) -> i128
     ensures within { IsBetween (pos 0) (pos 6_000_000_000_000_000_000) result }
 {
     let mut least = 0;
+    let mut behind = Interval {
+        low: -3_000_000_000_000_000_000,
+        high: 3_000_000_000_000_000_000,
+    };
     for place in (0..courses.len()).rev() {
         let point = corner_place(scale, corner, &courses[place]);
-        let others = &courses[place + 1..];
-        least = least_from(scale, corner, &point, others).max(least);
+        least = least_distance(&point, &behind).max(least);
+        behind = meet(&behind, &point);
     }
     least
 }
@@ -118,42 +123,14 @@ fn most_at(scale: &Scale, corner: Corner, courses: &[Course]) -> i128
     ensures within { IsBetween (pos 0) (pos 6_000_000_000_000_000_000) result }
 {
     let mut most = 0;
+    let mut behind = Interval {
+        low: 3_000_000_000_000_000_000,
+        high: -3_000_000_000_000_000_000,
+    };
     for place in (0..courses.len()).rev() {
         let point = corner_place(scale, corner, &courses[place]);
-        let others = &courses[place + 1..];
-        most = most_from(scale, corner, &point, others).max(most);
-    }
-    most
-}
-
-// How far a point lies at least from that corner of one of these courses.
-fn least_from(scale: &Scale, corner: Corner, point: &Interval, courses: &[Course]) -> i128
-    requires scale { IsReadingScale scale.now }
-    requires courses { All (IsNearCourse scale.now) courses.now }
-    requires point { EndWithin (pos 3_000_000_000_000_000_000) point.now }
-    ensures value { result ≡ least_from point.now (map (corner_place corner scale.now) courses.now) }
-    ensures within { IsBetween (pos 0) (pos 6_000_000_000_000_000_000) result }
-{
-    let mut least = 0;
-    for place in (0..courses.len()).rev() {
-        let other = corner_place(scale, corner, &courses[place]);
-        least = least_distance(point, &other).max(least);
-    }
-    least
-}
-
-// How far at most from that of any.
-fn most_from(scale: &Scale, corner: Corner, point: &Interval, courses: &[Course]) -> i128
-    requires scale { IsReadingScale scale.now }
-    requires courses { All (IsNearCourse scale.now) courses.now }
-    requires point { EndWithin (pos 3_000_000_000_000_000_000) point.now }
-    ensures value { result ≡ most_from point.now (map (corner_place corner scale.now) courses.now) }
-    ensures within { IsBetween (pos 0) (pos 6_000_000_000_000_000_000) result }
-{
-    let mut most = 0;
-    for place in (0..courses.len()).rev() {
-        let other = corner_place(scale, corner, &courses[place]);
-        most = most_distance(point, &other).max(most);
+        most = most_distance(&point, &behind).max(most);
+        behind = join(&behind, &point);
     }
     most
 }
@@ -192,4 +169,17 @@ fn most_distance(one: &Interval, other: &Interval) -> i128
     ensures within { IsWithin (pos 6_000_000_000_000_000_000) result }
 {
     (one.high - other.low).max(other.high - one.low)
+}
+
+// From where the one begins that begins first to where the one ends that ends last.
+fn join(one: &Interval, other: &Interval) -> Interval
+    requires one { EndWithin (pos 3_000_000_000_000_000_000) one.now }
+    requires other { EndWithin (pos 3_000_000_000_000_000_000) other.now }
+    ensures value { result ≡ join one.now other.now }
+    ensures near { EndWithin (pos 3_000_000_000_000_000_000) result }
+{
+    Interval {
+        low: one.low.min(other.low),
+        high: one.high.max(other.high),
+    }
 }

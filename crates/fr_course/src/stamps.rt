@@ -51,9 +51,11 @@ pub fn span_of(observer: &Observer, delays: &Delays, stamp: u64, later: u64) -> 
     ensures value { result ≡ span_of observer.now delays.now (pos stamp) (pos later) }
     ensures near { IsSpan result }
 {
+    let units = units_apart(observer, stamp, later);
+    let off = off_by(observer, delays);
     Interval {
-        low: units_apart(observer, stamp, later) - off_by(observer, delays),
-        high: units_apart(observer, stamp, later) + off_by(observer, delays),
+        low: units - off,
+        high: units + off,
     }
 }
 

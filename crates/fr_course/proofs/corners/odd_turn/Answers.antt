@@ -1,17 +1,32 @@
-use Rattle.std.proofs.Common.{FitsSigned, refl, arith, rules}
-use Rattle.std.specs.Prelude.{◌+ℤ◌}
+use Rattle.std.proofs.Common.{FitsSigned, pos, refl}
+use Rattle.std.specs.Prelude.{◌+ℤ◌, ◌-ℤ◌}
 use mir.Syntax.{w128}
-use Rattle.std.proofs.lemmas.Int.{ints, to_z-of_z}
+use Rattle.std.proofs.lemmas.Int.{to_z-of_z}
+use Rattle.fr_course.proofs.Fits.{fits, high_near, low_near, micro_near, sum_near, wider_near}
 use Rattle.fr_course.proofs.corners.odd_turn.Goals as goal
 
 pub returns-clause-value : goal.returns-clause-value
 returns-clause-value c =
-    let l : FitsSigned w128 (c.args.course.now.odd.low) = search rules in
-    let h : FitsSigned w128 (c.args.course.now.odd.high) = search rules in
-    let x : FitsSigned w128 (c.ahead_from.result) = search rules in
-    let y : FitsSigned w128 (c.ahead_to.result) = search rules in
-    let m : FitsSigned w128 (c.args.scale.now.micro_to) = search rules in
-    let low : FitsSigned w128 (c.args.course.now.odd.low +ℤ c.ahead_from.result) = omega (arith, ints, c.requires.course.odd, c.ahead_from.ensures.within) in
-    let high : FitsSigned w128 (c.args.course.now.odd.high +ℤ c.ahead_to.result) = omega (arith, ints, c.requires.course.odd, c.ahead_to.ensures.within) in
-    let higher : FitsSigned w128 ((c.args.course.now.odd.high +ℤ c.ahead_to.result) +ℤ c.args.scale.now.micro_to) = omega (arith, ints, c.requires.course.odd, c.ahead_to.ensures.within, c.requires.scale.micro_to) in
+    let a : FitsSigned w128 c.args.course.now.odd.low = fits (record { le = tt }) (low_near {bound = pos 1_900_000_000_000_000_000} c.requires.course.odd) in
+    let b : FitsSigned w128 c.ahead_from.result = fits (record { le = tt }) c.ahead_from.ensures.within in
+    let d : FitsSigned w128 (c.args.course.now.odd.low +ℤ c.ahead_from.result) = fits (record { le = tt }) (sum_near (low_near {bound = pos 1_900_000_000_000_000_000} c.requires.course.odd) c.ahead_from.ensures.within) in
+    let e : FitsSigned w128 c.args.course.now.odd.high = fits (record { le = tt }) (high_near {bound = pos 1_900_000_000_000_000_000} c.requires.course.odd) in
+    let f : FitsSigned w128 c.ahead_to.result = fits (record { le = tt }) c.ahead_to.ensures.within in
+    let g : FitsSigned w128 (c.args.course.now.odd.high +ℤ c.ahead_to.result) = fits (record { le = tt }) (sum_near (high_near {bound = pos 1_900_000_000_000_000_000} c.requires.course.odd) c.ahead_to.ensures.within) in
+    let h : FitsSigned w128 c.args.scale.now.micro_to = fits (record { le = tt }) (micro_near c.requires.scale.micro_to) in
+    let i : FitsSigned w128 ((c.args.course.now.odd.high +ℤ c.ahead_to.result) +ℤ c.args.scale.now.micro_to) = fits (record { le = tt }) (sum_near (sum_near (high_near {bound = pos 1_900_000_000_000_000_000} c.requires.course.odd) c.ahead_to.ensures.within) (micro_near c.requires.scale.micro_to)) in
     simp to_z-of_z (rw (c.ahead_from.ensures.value, c.ahead_to.ensures.value) refl)
+
+pub returns-clause-near : goal.returns-clause-near
+returns-clause-near c =
+    let a : FitsSigned w128 c.args.course.now.odd.low = fits (record { le = tt }) (low_near {bound = pos 1_900_000_000_000_000_000} c.requires.course.odd) in
+    let b : FitsSigned w128 c.ahead_from.result = fits (record { le = tt }) c.ahead_from.ensures.within in
+    let d : FitsSigned w128 (c.args.course.now.odd.low +ℤ c.ahead_from.result) = fits (record { le = tt }) (sum_near (low_near {bound = pos 1_900_000_000_000_000_000} c.requires.course.odd) c.ahead_from.ensures.within) in
+    let e : FitsSigned w128 c.args.course.now.odd.high = fits (record { le = tt }) (high_near {bound = pos 1_900_000_000_000_000_000} c.requires.course.odd) in
+    let f : FitsSigned w128 c.ahead_to.result = fits (record { le = tt }) c.ahead_to.ensures.within in
+    let g : FitsSigned w128 (c.args.course.now.odd.high +ℤ c.ahead_to.result) = fits (record { le = tt }) (sum_near (high_near {bound = pos 1_900_000_000_000_000_000} c.requires.course.odd) c.ahead_to.ensures.within) in
+    let h : FitsSigned w128 c.args.scale.now.micro_to = fits (record { le = tt }) (micro_near c.requires.scale.micro_to) in
+    let i : FitsSigned w128 ((c.args.course.now.odd.high +ℤ c.ahead_to.result) +ℤ c.args.scale.now.micro_to) = fits (record { le = tt }) (sum_near (sum_near (high_near {bound = pos 1_900_000_000_000_000_000} c.requires.course.odd) c.ahead_to.ensures.within) (micro_near c.requires.scale.micro_to)) in
+    let low = (wider_near {bound = pos 2_830_000_000_000_000_000} {other = pos 3_000_000_000_000_000_000} (record { le = tt }) (sum_near (low_near {bound = pos 1_900_000_000_000_000_000} c.requires.course.odd) c.ahead_from.ensures.within)) in
+    let high = (wider_near {bound = pos 2_830_001_001_000_000_000} {other = pos 3_000_000_000_000_000_000} (record { le = tt }) (sum_near (sum_near (high_near {bound = pos 1_900_000_000_000_000_000} c.requires.course.odd) c.ahead_to.ensures.within) (micro_near c.requires.scale.micro_to))) in
+    simp to_z-of_z (record { low_from = low.low; low_to = low.high; high_from = high.low; high_to = high.high })

@@ -1,21 +1,72 @@
-use Rattle.std.proofs.Common.{◌≡◌, FitsSigned, refl, arith, rules}
+use Rattle.std.proofs.Common.{◌≡◌, FitsSigned, pos, refl}
 use Rattle.std.specs.Prelude.{◌+ℤ◌, ◌-ℤ◌}
 use mir.Syntax.{w128}
-use Rattle.std.proofs.lemmas.Int.{ints, to_z-of_z}
+use Rattle.std.proofs.lemmas.Int.{to_z-of_z}
 use Rattle.fr_course.specs.Course.{mean_to}
+use Rattle.fr_course.proofs.Counted.{action_between, ahead_between, before_between, correction_between, counted_near, macros_between}
+use Rattle.fr_course.proofs.Fits.{between_near, fits, high_near, sum_near, wider_near}
 use Rattle.fr_course.proofs.corners.turn_to.Goals as goal
+
+pub overflow_sub-ahead : goal.overflow_sub-ahead
+overflow_sub-ahead c =
+    let action : FitsSigned w128 c.args.course.now.action = fits (record { le = tt }) (counted_near (action_between c.args.scale.now c.args.course.now c.requires.scale c.requires.course) c.requires.scale.macros_to) in
+    let correction : FitsSigned w128 c.args.scale.now.correction = fits (record { le = tt }) (counted_near (correction_between c.requires.scale) c.requires.scale.macros_to) in
+    let ahead : FitsSigned w128 (c.args.scale.now.correction -ℤ c.args.course.now.action) = fits (record { le = tt }) (counted_near (ahead_between c.args.scale.now c.args.course.now c.requires.scale c.requires.course) c.requires.scale.macros_to) in
+    simp to_z-of_z ahead
+
+pub overflow_sub-before : goal.overflow_sub-before
+overflow_sub-before c =
+    let action : FitsSigned w128 c.args.course.now.action = fits (record { le = tt }) (counted_near (action_between c.args.scale.now c.args.course.now c.requires.scale c.requires.course) c.requires.scale.macros_to) in
+    let correction : FitsSigned w128 c.args.scale.now.correction = fits (record { le = tt }) (counted_near (correction_between c.requires.scale) c.requires.scale.macros_to) in
+    let ahead : FitsSigned w128 (c.args.scale.now.correction -ℤ c.args.course.now.action) = fits (record { le = tt }) (counted_near (ahead_between c.args.scale.now c.args.course.now c.requires.scale c.requires.course) c.requires.scale.macros_to) in
+    let macros : FitsSigned w128 c.args.scale.now.macros = fits (record { le = tt }) (between_near {least = pos 1} (record { le = tt }) (record { le = tt }) (macros_between c.requires.scale)) in
+    let before : FitsSigned w128 (c.args.scale.now.macros -ℤ (c.args.scale.now.correction -ℤ c.args.course.now.action)) = fits (record { le = tt }) (counted_near (before_between c.args.scale.now c.args.course.now c.requires.scale c.requires.course) c.requires.scale.macros_to) in
+    simp to_z-of_z before
+
+pub mean_to-requires-clause-before : goal.mean_to-requires-clause-before
+mean_to-requires-clause-before c =
+    let action : FitsSigned w128 c.args.course.now.action = fits (record { le = tt }) (counted_near (action_between c.args.scale.now c.args.course.now c.requires.scale c.requires.course) c.requires.scale.macros_to) in
+    let correction : FitsSigned w128 c.args.scale.now.correction = fits (record { le = tt }) (counted_near (correction_between c.requires.scale) c.requires.scale.macros_to) in
+    let ahead : FitsSigned w128 (c.args.scale.now.correction -ℤ c.args.course.now.action) = fits (record { le = tt }) (counted_near (ahead_between c.args.scale.now c.args.course.now c.requires.scale c.requires.course) c.requires.scale.macros_to) in
+    let macros : FitsSigned w128 c.args.scale.now.macros = fits (record { le = tt }) (between_near {least = pos 1} (record { le = tt }) (record { le = tt }) (macros_between c.requires.scale)) in
+    let before : FitsSigned w128 (c.args.scale.now.macros -ℤ (c.args.scale.now.correction -ℤ c.args.course.now.action)) = fits (record { le = tt }) (counted_near (before_between c.args.scale.now c.args.course.now c.requires.scale c.requires.course) c.requires.scale.macros_to) in
+    simp to_z-of_z (before_between c.args.scale.now c.args.course.now c.requires.scale c.requires.course)
+
+pub mean_to-requires-clause-first : goal.mean_to-requires-clause-first
+mean_to-requires-clause-first c =
+    let first : FitsSigned w128 c.args.course.now.even.high = fits (record { le = tt }) (high_near {bound = pos 1_900_000_000_000_000_000} c.requires.course.even) in
+    simp to_z-of_z (high_near {bound = pos 1_900_000_000_000_000_000} c.requires.course.even)
+
+pub mean_to-requires-clause-second : goal.mean_to-requires-clause-second
+mean_to-requires-clause-second c =
+    let second : FitsSigned w128 c.args.course.now.odd.high = fits (record { le = tt }) (high_near {bound = pos 1_900_000_000_000_000_000} c.requires.course.odd) in
+    simp to_z-of_z (high_near {bound = pos 1_900_000_000_000_000_000} c.requires.course.odd)
+
+pub overflow_add-result : goal.overflow_add-result
+overflow_add-result c =
+    let change : FitsSigned w128 c.args.scale.now.change = fits (record { le = tt }) c.requires.scale.change in
+    let mean : FitsSigned w128 c.mean_to.result = fits (record { le = tt }) c.mean_to.ensures.within in
+    let sum : FitsSigned w128 (c.mean_to.result +ℤ c.args.scale.now.change) = fits (record { le = tt }) (sum_near c.mean_to.ensures.within c.requires.scale.change) in
+    simp to_z-of_z sum
 
 pub returns-clause-value : goal.returns-clause-value
 returns-clause-value c =
-    let action : FitsSigned w128 (c.args.course.now.action) = search rules in
-    let macros : FitsSigned w128 (c.args.scale.now.macros) = search rules in
-    let correction : FitsSigned w128 (c.args.scale.now.correction) = search rules in
-    let ahead : FitsSigned w128 (c.args.scale.now.correction -ℤ c.args.course.now.action) = omega (arith, ints, c.requires.scale.macros_from, c.requires.scale.macros_to, c.requires.scale.correction_from, c.requires.scale.correction_to, c.requires.course.action_from, c.requires.course.action_to) in
-    let before : FitsSigned w128 (c.args.scale.now.macros -ℤ (c.args.scale.now.correction -ℤ c.args.course.now.action)) = omega (arith, ints, c.requires.scale.macros_from, c.requires.scale.macros_to, c.requires.scale.correction_from, c.requires.scale.correction_to, c.requires.course.action_from, c.requires.course.action_to) in
-    let first : FitsSigned w128 (c.args.course.now.even.high) = search rules in
-    let second : FitsSigned w128 (c.args.course.now.odd.high) = search rules in
-    let change : FitsSigned w128 (c.args.scale.now.change) = search rules in
-    let r : FitsSigned w128 (c.mean_to.result) = search rules in
-    let sum : FitsSigned w128 (c.mean_to.result +ℤ c.args.scale.now.change) = omega (arith, ints, c.mean_to.ensures.within, c.requires.scale.change) in
-    let mean : c.mean_to.result ≡ mean_to c.args.scale.now (c.args.scale.now.macros -ℤ (c.args.scale.now.correction -ℤ c.args.course.now.action)) c.args.course.now.even.high c.args.course.now.odd.high = simp to_z-of_z at c.mean_to.ensures.value in
-    simp to_z-of_z (rw mean refl)
+    let action : FitsSigned w128 c.args.course.now.action = fits (record { le = tt }) (counted_near (action_between c.args.scale.now c.args.course.now c.requires.scale c.requires.course) c.requires.scale.macros_to) in
+    let correction : FitsSigned w128 c.args.scale.now.correction = fits (record { le = tt }) (counted_near (correction_between c.requires.scale) c.requires.scale.macros_to) in
+    let ahead : FitsSigned w128 (c.args.scale.now.correction -ℤ c.args.course.now.action) = fits (record { le = tt }) (counted_near (ahead_between c.args.scale.now c.args.course.now c.requires.scale c.requires.course) c.requires.scale.macros_to) in
+    let macros : FitsSigned w128 c.args.scale.now.macros = fits (record { le = tt }) (between_near {least = pos 1} (record { le = tt }) (record { le = tt }) (macros_between c.requires.scale)) in
+    let before : FitsSigned w128 (c.args.scale.now.macros -ℤ (c.args.scale.now.correction -ℤ c.args.course.now.action)) = fits (record { le = tt }) (counted_near (before_between c.args.scale.now c.args.course.now c.requires.scale c.requires.course) c.requires.scale.macros_to) in
+    let first : FitsSigned w128 c.args.course.now.even.high = fits (record { le = tt }) (high_near {bound = pos 1_900_000_000_000_000_000} c.requires.course.even) in
+    let second : FitsSigned w128 c.args.course.now.odd.high = fits (record { le = tt }) (high_near {bound = pos 1_900_000_000_000_000_000} c.requires.course.odd) in
+    let change : FitsSigned w128 c.args.scale.now.change = fits (record { le = tt }) c.requires.scale.change in
+    let mean : FitsSigned w128 c.mean_to.result = fits (record { le = tt }) c.mean_to.ensures.within in
+    let sum : FitsSigned w128 (c.mean_to.result +ℤ c.args.scale.now.change) = fits (record { le = tt }) (sum_near c.mean_to.ensures.within c.requires.scale.change) in
+    let value : c.mean_to.result ≡ mean_to c.args.scale.now (c.args.scale.now.macros -ℤ (c.args.scale.now.correction -ℤ c.args.course.now.action)) c.args.course.now.even.high c.args.course.now.odd.high = simp to_z-of_z at c.mean_to.ensures.value in
+    simp to_z-of_z (rw value refl)
+
+pub returns-clause-within : goal.returns-clause-within
+returns-clause-within c =
+    let change : FitsSigned w128 c.args.scale.now.change = fits (record { le = tt }) c.requires.scale.change in
+    let mean : FitsSigned w128 c.mean_to.result = fits (record { le = tt }) c.mean_to.ensures.within in
+    let sum : FitsSigned w128 (c.mean_to.result +ℤ c.args.scale.now.change) = fits (record { le = tt }) (sum_near c.mean_to.ensures.within c.requires.scale.change) in
+    simp to_z-of_z (wider_near (record { le = tt }) (sum_near c.mean_to.ensures.within c.requires.scale.change))

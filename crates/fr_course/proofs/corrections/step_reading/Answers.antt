@@ -1,18 +1,34 @@
-use Rattle.std.proofs.Common.{FitsSigned, arith, rules}
+use Rattle.std.proofs.Common.{FitsSigned, pos, refl}
 use Rattle.std.specs.Prelude.{◌+ℤ◌, ◌-ℤ◌}
 use mir.Syntax.{w128}
-use Rattle.std.proofs.lemmas.Int.{ints, to_z-of_z}
+use Rattle.std.proofs.lemmas.Int.{to_z-of_z}
+use Rattle.fr_course.proofs.Fits.{between_near, difference_near, fits, high_near, low_near, sum_near, wider_near}
 use Rattle.fr_course.proofs.corrections.step_reading.Goals as goal
 
 pub returns-clause-value : goal.returns-clause-value
 returns-clause-value c =
-    let nl : FitsSigned w128 (c.args.next.now.length.low) = search rules in
-    let nh : FitsSigned w128 (c.args.next.now.length.high) = search rules in
-    let cl : FitsSigned w128 (c.args.course.now.length.low) = search rules in
-    let ch : FitsSigned w128 (c.args.course.now.length.high) = search rules in
-    let change : FitsSigned w128 (c.args.scale.now.change) = search rules in
-    let low : FitsSigned w128 (c.args.next.now.length.low -ℤ c.args.course.now.length.high) = omega (arith, ints, c.requires.next.length, c.requires.course.length) in
-    let lower : FitsSigned w128 ((c.args.next.now.length.low -ℤ c.args.course.now.length.high) -ℤ c.args.scale.now.change) = omega (arith, ints, c.requires.next.length, c.requires.course.length, c.requires.scale.change) in
-    let high : FitsSigned w128 (c.args.next.now.length.high -ℤ c.args.course.now.length.low) = omega (arith, ints, c.requires.next.length, c.requires.course.length) in
-    let higher : FitsSigned w128 ((c.args.next.now.length.high -ℤ c.args.course.now.length.low) +ℤ c.args.scale.now.change) = omega (arith, ints, c.requires.next.length, c.requires.course.length, c.requires.scale.change) in
+    let a : FitsSigned w128 c.args.next.now.length.low = fits (record { le = tt }) (low_near {bound = pos 930_000_000_000_000_000} c.requires.next.length) in
+    let b : FitsSigned w128 c.args.course.now.length.high = fits (record { le = tt }) (high_near {bound = pos 930_000_000_000_000_000} c.requires.course.length) in
+    let d : FitsSigned w128 (c.args.next.now.length.low -ℤ c.args.course.now.length.high) = fits (record { le = tt }) (difference_near (low_near {bound = pos 930_000_000_000_000_000} c.requires.next.length) (high_near {bound = pos 930_000_000_000_000_000} c.requires.course.length)) in
+    let e : FitsSigned w128 c.args.scale.now.change = fits (record { le = tt }) c.requires.scale.change in
+    let f : FitsSigned w128 ((c.args.next.now.length.low -ℤ c.args.course.now.length.high) -ℤ c.args.scale.now.change) = fits (record { le = tt }) (difference_near (difference_near (low_near {bound = pos 930_000_000_000_000_000} c.requires.next.length) (high_near {bound = pos 930_000_000_000_000_000} c.requires.course.length)) c.requires.scale.change) in
+    let g : FitsSigned w128 c.args.next.now.length.high = fits (record { le = tt }) (high_near {bound = pos 930_000_000_000_000_000} c.requires.next.length) in
+    let h : FitsSigned w128 c.args.course.now.length.low = fits (record { le = tt }) (low_near {bound = pos 930_000_000_000_000_000} c.requires.course.length) in
+    let i : FitsSigned w128 (c.args.next.now.length.high -ℤ c.args.course.now.length.low) = fits (record { le = tt }) (difference_near (high_near {bound = pos 930_000_000_000_000_000} c.requires.next.length) (low_near {bound = pos 930_000_000_000_000_000} c.requires.course.length)) in
+    let j : FitsSigned w128 ((c.args.next.now.length.high -ℤ c.args.course.now.length.low) +ℤ c.args.scale.now.change) = fits (record { le = tt }) (sum_near (difference_near (high_near {bound = pos 930_000_000_000_000_000} c.requires.next.length) (low_near {bound = pos 930_000_000_000_000_000} c.requires.course.length)) c.requires.scale.change) in
     simp to_z-of_z
+
+pub returns-clause-near : goal.returns-clause-near
+returns-clause-near c =
+    let a : FitsSigned w128 c.args.next.now.length.low = fits (record { le = tt }) (low_near {bound = pos 930_000_000_000_000_000} c.requires.next.length) in
+    let b : FitsSigned w128 c.args.course.now.length.high = fits (record { le = tt }) (high_near {bound = pos 930_000_000_000_000_000} c.requires.course.length) in
+    let d : FitsSigned w128 (c.args.next.now.length.low -ℤ c.args.course.now.length.high) = fits (record { le = tt }) (difference_near (low_near {bound = pos 930_000_000_000_000_000} c.requires.next.length) (high_near {bound = pos 930_000_000_000_000_000} c.requires.course.length)) in
+    let e : FitsSigned w128 c.args.scale.now.change = fits (record { le = tt }) c.requires.scale.change in
+    let f : FitsSigned w128 ((c.args.next.now.length.low -ℤ c.args.course.now.length.high) -ℤ c.args.scale.now.change) = fits (record { le = tt }) (difference_near (difference_near (low_near {bound = pos 930_000_000_000_000_000} c.requires.next.length) (high_near {bound = pos 930_000_000_000_000_000} c.requires.course.length)) c.requires.scale.change) in
+    let g : FitsSigned w128 c.args.next.now.length.high = fits (record { le = tt }) (high_near {bound = pos 930_000_000_000_000_000} c.requires.next.length) in
+    let h : FitsSigned w128 c.args.course.now.length.low = fits (record { le = tt }) (low_near {bound = pos 930_000_000_000_000_000} c.requires.course.length) in
+    let i : FitsSigned w128 (c.args.next.now.length.high -ℤ c.args.course.now.length.low) = fits (record { le = tt }) (difference_near (high_near {bound = pos 930_000_000_000_000_000} c.requires.next.length) (low_near {bound = pos 930_000_000_000_000_000} c.requires.course.length)) in
+    let j : FitsSigned w128 ((c.args.next.now.length.high -ℤ c.args.course.now.length.low) +ℤ c.args.scale.now.change) = fits (record { le = tt }) (sum_near (difference_near (high_near {bound = pos 930_000_000_000_000_000} c.requires.next.length) (low_near {bound = pos 930_000_000_000_000_000} c.requires.course.length)) c.requires.scale.change) in
+    let low = (wider_near {bound = pos 1_860_001_001_000_000_000} {other = pos 6_000_000_000_000_000_000} (record { le = tt }) (difference_near (difference_near (low_near {bound = pos 930_000_000_000_000_000} c.requires.next.length) (high_near {bound = pos 930_000_000_000_000_000} c.requires.course.length)) c.requires.scale.change)) in
+    let high = (wider_near {bound = pos 1_860_001_001_000_000_000} {other = pos 6_000_000_000_000_000_000} (record { le = tt }) (sum_near (difference_near (high_near {bound = pos 930_000_000_000_000_000} c.requires.next.length) (low_near {bound = pos 930_000_000_000_000_000} c.requires.course.length)) c.requires.scale.change)) in
+    simp to_z-of_z (record { low_from = low.low; low_to = low.high; high_from = high.low; high_to = high.high })

@@ -1,16 +1,29 @@
-use Rattle.std.proofs.Common.{◌≡◌, ◌∙◌, FitsSigned, ℕ, ℤ, List, of_z, to_z, map, ap, ap₂, rules}
+use Rattle.std.proofs.Common.{◌≡◌, ◌∙◌, FitsSigned, ℕ, ℤ, Bool, true, false, List, of_z, to_z, map, ap, ap₂, sym, rules}
 use Rattle.std.specs.Prelude.{◌&&◌, count_by, int_le, int_lt, nat_le, nat_lt}
 use mir.Syntax.{w128}
+use Rattle.std.proofs.lemmas.Bool.{le-leb, lt-leb}
 use Rattle.std.proofs.lemmas.Int.{to_z-of_z}
 use Rattle.fr_course.specs.Ends.{interval_end}
 use Rattle.fr_course.proofs.middles.has_high.Goals as goal
 
-pub returns : goal.returns
-returns c =
+pub returns-then-above-ends : goal.returns-then-above-ends
+returns-then-above-ends c =
     let xs : List ℤ = map (interval_end c.args.end) c.args.known.now in
     let high : ℤ = interval_end c.args.end c.args.interval.now in
     let fits : FitsSigned w128 c.interval_end-high.result = search rules in
     let same : to_z w128 (of_z w128 c.interval_end-high.result) ≡ high = to_z-of_z w128 c.interval_end-high.result fits ∙ c.interval_end-high.ensures in
     let few : c.above.result ≡ count_by (λ (value : ℤ). int_lt high value) xs = c.above.ensures ∙ ap (λ (n : ℤ). count_by (λ (value : ℤ). int_lt n value) xs) same in
     let more : c.from.result ≡ count_by (λ (value : ℤ). int_le high value) xs = c.from.ensures ∙ ap (λ (n : ℤ). count_by (λ (value : ℤ). int_le n value) xs) same in
-    c.is_rank.ensures ∙ ap₂ (λ (a b : ℕ). nat_le a c.args.ends && nat_lt c.args.ends b) few more
+    let yes : nat_le c.above.result c.args.ends ≡ true = le-leb _ _ c.if-above-ends.true in
+    ap (λ (b : Bool). b && nat_lt c.args.ends c.from.result) (sym yes) ∙ ap₂ (λ (a b : ℕ). nat_le a c.args.ends && nat_lt c.args.ends b) few more
+
+pub returns-else-above-ends : goal.returns-else-above-ends
+returns-else-above-ends c =
+    let xs : List ℤ = map (interval_end c.args.end) c.args.known.now in
+    let high : ℤ = interval_end c.args.end c.args.interval.now in
+    let fits : FitsSigned w128 c.interval_end-high.result = search rules in
+    let same : to_z w128 (of_z w128 c.interval_end-high.result) ≡ high = to_z-of_z w128 c.interval_end-high.result fits ∙ c.interval_end-high.ensures in
+    let few : c.above.result ≡ count_by (λ (value : ℤ). int_lt high value) xs = c.above.ensures ∙ ap (λ (n : ℤ). count_by (λ (value : ℤ). int_lt n value) xs) same in
+    let no : nat_le c.above.result c.args.ends ≡ false = lt-leb _ _ c.if-above-ends.false in
+    let none : nat_le (count_by (λ (value : ℤ). int_lt high value) xs) c.args.ends ≡ false = ap (λ (n : ℕ). nat_le n c.args.ends) (sym few) ∙ no in
+    no ∙ sym (ap (λ (b : Bool). b && nat_lt c.args.ends (count_by (λ (value : ℤ). int_le high value) xs)) none)

@@ -1,21 +1,41 @@
-use Rattle.std.proofs.Common.{◌≡◌, FitsSigned, pos, arith, rules}
+use Rattle.std.proofs.Common.{◌≡◌, FitsSigned, ℤ, pos, refl, subst, sym, arith, rules}
+use Rattle.std.specs.Prelude.{◌+ℤ◌, ◌-ℤ◌, ◌*ℤ◌, ◌≤ℤ◌}
 use mir.Syntax.{w128}
 use Rattle.std.proofs.lemmas.Int.{ints, to_z-of_z}
+use Rattle.fr_base.specs.Within.{IsWithin}
 use Rattle.fr_course.specs.Readings.{ceiling_of}
+use Rattle.fr_course.proofs.Counted.{counted_near, macros_between}
+use Rattle.fr_course.proofs.Fits.{between_near, fits}
 use Rattle.fr_course.proofs.Limits.{ceiling_within}
 use Rattle.fr_course.proofs.shares.mean_to.Goals as goal
 
+few : (macros x : ℤ) → macros ≤ℤ pos 16_000 → IsWithin (macros *ℤ (pos 1_900_000_000_000_000_000)) x → IsWithin (pos 10_000_000_000_000_000_000_000_000_000_000) x
+few macros x to near = record { low = omega (arith, ints, near.low, to); high = omega (arith, ints, near.high, to) }
+
 pub ceiling-requires-clause-number : goal.ceiling-requires-clause-number
 ceiling-requires-clause-number c =
-    let w : FitsSigned w128 (c.weighed.result) = search rules in
-    let near = c.weighed.ensures.within in
-    record { low = omega (arith, ints, w, near.low, c.requires.scale.macros_to); high = omega (arith, ints, w, near.high, c.requires.scale.macros_to) }
+    let w : FitsSigned w128 c.weighed.result = search rules in
+    simp to_z-of_z (few c.args.scale.now.macros c.weighed.result c.requires.scale.macros_to c.weighed.ensures.within)
+
+value_lem : (c : goal.After-ceiling) → c.ceiling.result ≡ ceiling_of c.weighed.result c.args.scale.now.macros
+value_lem c =
+    let w : FitsSigned w128 c.weighed.result = search rules in
+    let macros : FitsSigned w128 c.args.scale.now.macros = fits (record { le = tt }) (between_near {least = pos 1} (record { le = tt }) (record { le = tt }) (macros_between c.requires.scale)) in
+    simp to_z-of_z at c.ceiling.ensures
+
+near_lem : (c : goal.After-ceiling) → IsWithin (pos 1_900_000_000_000_000_000) c.ceiling.result
+near_lem c = subst (IsWithin (pos 1_900_000_000_000_000_000)) (sym (value_lem c)) (ceiling_within c.weighed.result c.args.scale.now.macros (pos 1_900_000_000_000_000_000) c.requires.scale.macros_from c.weighed.ensures.within)
+
+pub returns-clause-value : goal.returns-clause-value
+returns-clause-value c =
+    let r : FitsSigned w128 c.ceiling.result = fits (record { le = tt }) (near_lem c) in
+    let before : FitsSigned w128 c.args.before = fits (record { le = tt }) (counted_near c.requires.before c.requires.scale.macros_to) in
+    let first : FitsSigned w128 c.args.first = fits (record { le = tt }) c.requires.first in
+    let second : FitsSigned w128 c.args.second = fits (record { le = tt }) c.requires.second in
+    let point : c.weighed.result ≡ (c.args.before *ℤ c.args.first) +ℤ ((c.args.scale.now.macros -ℤ c.args.before) *ℤ c.args.second) = simp to_z-of_z at c.weighed.ensures.value in
+    simp to_z-of_z (rw (value_lem c, point) refl)
 
 pub returns-clause-within : goal.returns-clause-within
 returns-clause-within c =
-    let w : FitsSigned w128 (c.weighed.result) = search rules in
-    let macros : FitsSigned w128 (c.args.scale.now.macros) = omega (arith, ints, c.requires.scale.macros_from, c.requires.scale.macros_to) in
-    let r : FitsSigned w128 (c.ceiling.result) = search rules in
-    let value : c.ceiling.result ≡ ceiling_of c.weighed.result c.args.scale.now.macros = simp to_z-of_z at c.ceiling.ensures in
-    let near = ceiling_within c.weighed.result (c.args.scale.now.macros) (pos 1_900_000_000_000_000_000) c.requires.scale.macros_from c.weighed.ensures.within in
-    record { low = omega (arith, ints, value, near.low); high = omega (arith, ints, value, near.high) }
+    let r : FitsSigned w128 c.ceiling.result = fits (record { le = tt }) (near_lem c) in
+    simp to_z-of_z (near_lem c)

@@ -1,27 +1,27 @@
-use Rattle.std.proofs.Common.{◌≡◌, ◌∙◌, FitsSigned, ℤ, pos, subst, sym, ap, arith, rules}
+use Rattle.std.proofs.Common.{◌≡◌, ◌∙◌, ℕ, ℤ, ◌+◌, ◌-◌, ◌<◌, FitsSigned, List, pos, length, get_or, drop, map, sym, ap, arith, rules}
 use Rattle.std.specs.Int.{int_max}
 use mir.Syntax.{w128}
-use Rattle.std.proofs.lemmas.Int.{ints, to_z-of_z}
-use Rattle.std.proofs.Common.{ℕ, ◌+◌, ◌-◌, ◌<◌, All, List, length, get_or, take, drop, map}
-use Rattle.std.proofs.lemmas.List.Elements.{All-drop}
 use mir.Val.{to_z}
+use Rattle.std.proofs.lemmas.Int.{ints, to_z-of_z}
 use Rattle.fr_course.specs.Course.{Course}
 use Rattle.fr_course.specs.Readings.{Interval}
 use Rattle.fr_course.specs.Corners.{corner_place}
-use Rattle.fr_course.specs.Near.{IsNearCourse}
-use Rattle.fr_course.specs.Spread.{most_from, most_spread}
-use Rattle.fr_course.proofs.Limits.{greater_between}
-use Rattle.fr_course.proofs.Spreads.{nowhere, most_spread-none, most_spread-more, tail_is}
+use Rattle.fr_course.specs.Extremes.{around, join}
+use Rattle.fr_course.specs.Near.{EndWithin}
+use Rattle.fr_course.specs.Spread.{most_spread}
+use Rattle.fr_course.proofs.Extremes.{around-more, around-none, most_spread-around}
+use Rattle.fr_course.proofs.Limits.{max_between}
+use Rattle.fr_course.proofs.Spreads.{nowhere, most_spread-none}
 use Rattle.fr_course.proofs.skews.most_at.Goals as goal
 
 pub loop-place-init : goal.loop-place-init
 loop-place-init c =
-    record { within = record { low = omega (arith, ints); high = omega (arith, ints) }; value = sym (most_spread-none (corner_place c.args.corner c.args.scale.now) c.args.courses.now) }
-
-pub most_from-requires-clause-courses : goal.most_from-requires-clause-courses
-most_from-requires-clause-courses c =
-    let near : List Course → Type 0 = All (IsNearCourse c.args.scale.now) in
-    subst near (sym (tail_is (c.loop-place.place - 1 + 1) c.args.courses.now)) (All-drop (IsNearCourse c.args.scale.now) (c.loop-place.place - 1 + 1) c.args.courses.now c.requires.courses)
+    record {
+      within = record { low = omega (arith, ints); high = omega (arith, ints) };
+      value = sym (most_spread-none (corner_place c.args.corner c.args.scale.now) c.args.courses.now);
+      near = record { low_from = record { le = tt }; low_to = record { le = tt }; high_from = record { le = tt }; high_to = record { le = tt } };
+      ends = sym (around-none (corner_place c.args.corner c.args.scale.now) c.args.courses.now);
+    }
 
 pub loop-place-preserved : goal.loop-place-preserved
 loop-place-preserved c =
@@ -31,15 +31,18 @@ loop-place-preserved c =
     let next : at + 1 ≡ c.loop-place.place = omega arith in
     let inside : at < length courses = omega arith in
     let so_far = c.loop-place.invariant in
-    let apart : FitsSigned w128 c.most_from.result = search rules in
+    let apart : FitsSigned w128 c.most_distance.result = search rules in
     let kept : FitsSigned w128 (to_z w128 c.loop-place.most-bits) = omega (arith, ints, so_far.within.low, so_far.within.high) in
     let r : FitsSigned w128 c.max-most.result = search rules in
-    let value : c.max-most.result ≡ int_max c.most_from.result (to_z w128 c.loop-place.most-bits) = cc (to_z-of_z w128 c.most_from.result apart, to_z-of_z w128 (to_z w128 c.loop-place.most-bits) kept) in
+    let value : c.max-most.result ≡ int_max c.most_distance.result (to_z w128 c.loop-place.most-bits) = cc (to_z-of_z w128 c.most_distance.result apart) in
     let here : c.corner_place-point.result ≡ f (get_or courses at nowhere) = c.corner_place-point.ensures.value in
-    let tail : take (length courses - (at + 1)) (drop (at + 1) courses) ≡ drop (at + 1) courses = tail_is (at + 1) courses in
-    let far : c.most_from.result ≡ most_from (f (get_or courses at nowhere)) (map f (drop (at + 1) courses)) =
-    c.most_from.ensures.value ∙ ap (λ (xs : List Course). most_from c.corner_place-point.result (map f xs)) tail ∙ ap (λ (x : Interval). most_from x (map f (drop (at + 1) courses))) here in
+    let behind : c.loop-place.behind ≡ around (map f (drop (at + 1) courses)) = so_far.ends ∙ ap (λ (n : ℕ). around (map f (drop n courses))) (sym next) in
     let others : (to_z w128 c.loop-place.most-bits) ≡ most_spread (map f (drop (at + 1) courses)) = so_far.value ∙ ap (λ (n : ℕ). most_spread (map f (drop n courses))) (sym next) in
-    let all : int_max c.most_from.result (to_z w128 c.loop-place.most-bits) ≡ most_spread (map f (drop at courses)) =
-    ap (λ (x : ℤ). int_max x (to_z w128 c.loop-place.most-bits)) far ∙ ap (int_max (most_from (f (get_or courses at nowhere)) (map f (drop (at + 1) courses)))) others ∙ sym (most_spread-more f courses at nowhere inside) in
-    simp to_z-of_z (record { within = rw value (greater_between (pos 6_000_000_000_000_000_000) c.most_from.result (to_z w128 c.loop-place.most-bits) c.most_from.ensures.within so_far.within); value = value ∙ all })
+    let all : int_max c.most_distance.result (to_z w128 c.loop-place.most-bits) ≡ most_spread (map f (drop at courses)) =
+    ap (λ (x : ℤ). int_max x (to_z w128 c.loop-place.most-bits)) c.most_distance.ensures.value
+    ∙ most_spread-around f courses at nowhere c.corner_place-point.result c.loop-place.behind (to_z w128 c.loop-place.most-bits) inside here c.corner_place-point.ensures.near behind others so_far.within.low in
+    let met : c.join-behind.result ≡ around (map f (drop at courses)) =
+    c.join-behind.ensures.value ∙ ap (λ (x : Interval). join x c.corner_place-point.result) behind ∙ ap (join (around (map f (drop (at + 1) courses)))) here ∙ sym (around-more f courses at nowhere inside) in
+    let near : EndWithin (pos 3_000_000_000_000_000_000) c.join-behind.result =
+    c.join-behind.ensures.near in
+    simp to_z-of_z (record { within = rw value (max_between (pos 6_000_000_000_000_000_000) c.most_distance.result (to_z w128 c.loop-place.most-bits) c.most_distance.ensures.within so_far.within); value = value ∙ all; near = near; ends = met })
