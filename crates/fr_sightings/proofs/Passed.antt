@@ -1,7 +1,7 @@
 -- What has become of entries, and of one more.
 use Rattle.std.proofs.Common.{◌≡◌, ℕ, suc, ◌+◌, ◌-◌, List, [], ◌∷◌, ◌++◌, length, Option, Some, None, refl, ap, sym, subst, ◌∙◌, arith}
 use Rattle.std.specs.Prelude.{All, IfSome, slice_get}
-use Rattle.std.specs.List.{filter_map, fold}
+use Rattle.std.specs.List.{cons_option, filter_map, fold}
 use Rattle.std.specs.Option.{option_or, option_to_list}
 use Rattle.std.proofs.lemmas.List.Elements.{filter_map-append}
 use Rattle.std.proofs.lemmas.List.Sums.{fold-append}
@@ -10,7 +10,7 @@ use Rattle.fr_cluster.specs.Values.{Values}
 use Rattle.fr_log.specs.View.{LogView}
 use Rattle.fr_log.specs.declared.entry.Entry.{Entry}
 use Rattle.fr_sightings.specs.Passing.{last_sighting, with_fate}
-use Rattle.fr_sightings.specs.Sightings.{SightingsView, all_tallied, fate_of, fates_from, last_behind, no_tally, sighting_in, untimely_in, fate_counted}
+use Rattle.fr_sightings.specs.Sightings.{SightingsView, all_tallied, fate_of, fates_from, irregular_in, last_behind, no_tally, sighting_in, untimely_in, fate_counted}
 use Rattle.fr_sightings.specs.declared.sighting.Fate.{Fate}
 use Rattle.fr_sightings.specs.declared.sighting.Fate.TheVariants as fate
 use Rattle.fr_sightings.specs.declared.sighting.Sighting.{Sighting}
@@ -56,6 +56,7 @@ last_kept [] last = refl
 last_kept (fate.Damaged ∷ fates) last = last_kept fates last
 last_kept (fate.Arbitrary ∷ fates) last = last_kept fates last
 last_kept (fate.Other ∷ fates) last = last_kept fates last
+last_kept (fate.Irregular frame ∷ fates) last = last_kept fates last
 last_kept (fate.Untimely frame ∷ fates) last = last_kept fates last
 last_kept (fate.Stray ∷ fates) last = last_kept fates last
 last_kept (fate.Behind ∷ fates) last = last_kept fates last
@@ -64,33 +65,33 @@ last_kept (fate.Seen sighting ∷ fates) last =
     ∙ sym (or_assoc (last_sighting (filter_map sighting_in fates)) (Some sighting) last)
     ∙ ap (λ o. option_or o last) (sym (last_more sighting (filter_map sighting_in fates)))
 
-kept_one : (found : Fate) → filter_map sighting_in (found ∷ []) ≡ option_to_list (sighting_in found)
-kept_one fate.Damaged = refl
-kept_one fate.Arbitrary = refl
-kept_one fate.Other = refl
-kept_one (fate.Untimely frame) = refl
-kept_one fate.Stray = refl
-kept_one fate.Behind = refl
-kept_one (fate.Seen sighting) = refl
+kept_one : (taken : Fate → Option Sighting) (found : Fate) → filter_map taken (found ∷ []) ≡ option_to_list (taken found)
+kept_one taken found = by (taken found)
+  where
+    by : (o : Option Sighting) → cons_option o [] ≡ option_to_list o
+    by None = refl
+    by (Some frame) = refl
 
-late_one : (found : Fate) → filter_map untimely_in (found ∷ []) ≡ option_to_list (untimely_in found)
-late_one fate.Damaged = refl
-late_one fate.Arbitrary = refl
-late_one fate.Other = refl
-late_one (fate.Untimely frame) = refl
-late_one fate.Stray = refl
-late_one fate.Behind = refl
-late_one (fate.Seen sighting) = refl
+-- with what is taken of one entry more
+kept_more : (taken : Fate → Option Sighting) (fates more : List Fate) (found : Fate) (list : List Sighting) → list ≡ filter_map taken fates
+    → more ≡ fates ++ found ∷ [] → list ++ option_to_list (taken found) ≡ filter_map taken more
+kept_more taken fates more found list is are =
+    ap (λ (l : List Sighting). l ++ option_to_list (taken found)) is
+    ∙ ap (λ (one : List Sighting). filter_map taken fates ++ one) (sym (kept_one taken found))
+    ∙ sym (filter_map-append taken fates (found ∷ []))
+    ∙ ap (filter_map taken) (sym are)
 
 -- what is gathered of entries
 pub record IsPassed (p : Values) (l : LogView) (entries : List Entry) (seen : SightingsView) : Type 0 where
   pub list : seen.list ≡ filter_map sighting_in (fates_from p l None entries)
-  pub untimely : seen.untimely ≡ filter_map untimely_in (fates_from p l None entries)
+  pub untimely : seen.offending.untimely ≡ filter_map untimely_in (fates_from p l None entries)
+  pub irregular : seen.offending.irregular ≡ filter_map irregular_in (fates_from p l None entries)
   pub tally : seen.tally ≡ fold fate_counted no_tally (fates_from p l None entries)
 
-pub passed_none : (p : Values) (l : LogView) (seen : SightingsView) → seen.list ≡ [] → seen.untimely ≡ [] → seen.tally ≡ no_tally → IsPassed p l [] seen
+pub passed_none : (p : Values) (l : LogView) (seen : SightingsView) → seen.list ≡ [] → seen.offending.untimely ≡ []
+    → seen.offending.irregular ≡ [] → seen.tally ≡ no_tally → IsPassed p l [] seen
 unfolding fates_from
-passed_none p l seen list untimely tally = record { list = list; untimely = untimely; tally = tally }
+passed_none p l seen list untimely irregular tally = record { list = list; untimely = untimely; irregular = irregular; tally = tally }
 
 pub passed_more : (p : Values) (l : LogView) (entries : List Entry) (e : Entry) (seen : SightingsView) → IsPassed p l entries seen
     → IsPassed p l (entries ++ e ∷ []) (with_fate seen (fate_of p l (last_sighting seen.list) e))
@@ -102,16 +103,9 @@ passed_more p l entries e seen passed =
     let more : fates_from p l None (entries ++ e ∷ []) ≡ fates ++ found ∷ [] =
     fates_more p l None entries e ∙ ap (λ o. fates ++ fate_of p l o e ∷ []) last in
     record {
-      list =
-          ap (λ (list : List Sighting). list ++ option_to_list (sighting_in found)) passed.list
-          ∙ ap (λ (one : List Sighting). filter_map sighting_in fates ++ one) (sym (kept_one found))
-          ∙ sym (filter_map-append sighting_in fates (found ∷ []))
-          ∙ ap (filter_map sighting_in) (sym more);
-      untimely =
-          ap (λ (list : List Sighting). list ++ option_to_list (untimely_in found)) passed.untimely
-          ∙ ap (λ (one : List Sighting). filter_map untimely_in fates ++ one) (sym (late_one found))
-          ∙ sym (filter_map-append untimely_in fates (found ∷ []))
-          ∙ ap (filter_map untimely_in) (sym more);
+      list = kept_more sighting_in fates (fates_from p l None (entries ++ e ∷ [])) found seen.list passed.list more;
+      untimely = kept_more untimely_in fates (fates_from p l None (entries ++ e ∷ [])) found seen.offending.untimely passed.untimely more;
+      irregular = kept_more irregular_in fates (fates_from p l None (entries ++ e ∷ [])) found seen.offending.irregular passed.irregular more;
       tally =
           ap (λ (tally : Tally). fate_counted tally found) passed.tally
           ∙ sym (fold-append fate_counted no_tally fates (found ∷ []))
@@ -124,6 +118,7 @@ one_more : (tally : Tally) (found : Fate) → all_tallied (fate_counted tally fo
 one_more tally fate.Damaged = omega arith
 one_more tally fate.Arbitrary = omega arith
 one_more tally fate.Other = omega arith
+one_more tally (fate.Irregular frame) = omega arith
 one_more tally (fate.Untimely frame) = omega arith
 one_more tally fate.Stray = omega arith
 one_more tally fate.Behind = omega arith

@@ -1,11 +1,12 @@
 -- What is judged, and what is a sighting, is of a correct node in its key slot; a sighting is of no double cycle before that of
 -- the last one.
 use Rattle.std.proofs.Common.{◌≡◌, ℕ, suc, ◌+◌, ◌*◌, ◌%◌, ◌<◌, ◌≤◌, Bool, true, false, Option, Some, None, ℤ, pos, negsuc, refl, ap, sym, subst, ◌∙◌, arith}
-use Rattle.std.specs.Prelude.{◌&&◌, IfSome, nat_abs, nat_le, int_le, ◌≤ℤ◌, ◌+ℤ◌, ◌-ℤ◌, ◌*ℤ◌, if◌then◌else◌}
+use Rattle.std.specs.Prelude.{◌&&◌, not, IfSome, nat_abs, nat_le, int_le, ◌≤ℤ◌, ◌+ℤ◌, ◌-ℤ◌, ◌*ℤ◌, if◌then◌else◌}
 use Rattle.std.proofs.lemmas.Int.{ints}
 use Rattle.fr_cluster.specs.Questions.{has_channel, node_of}
 use Rattle.fr_cluster.specs.Sane.{IsSane}
-use Rattle.fr_cluster.specs.Values.{Values}
+use Rattle.fr_cluster.specs.Values.{Values, amount, figure}
+use Rattle.fr_cluster.specs.declared.names.ParamName.TheVariants as name
 use Rattle.fr_frame.specs.declared.header.Header.{Header}
 use Rattle.fr_time.specs.Cycles.{cycle_count, double_cycle_of}
 use Rattle.fr_time.specs.Position.{floor_of}
@@ -13,8 +14,8 @@ use Rattle.fr_time.specs.declared.senders.Sending.{Sending}
 use Rattle.fr_reception.specs.Regular.{is_sync_frame, regular_header}
 use Rattle.fr_log.specs.View.{LogView, IsEntry, is_arbitrary_in}
 use Rattle.fr_log.specs.declared.entry.Entry.{Entry}
-use Rattle.fr_sightings.specs.Judging.{IsJudged, has_form_of, is_regular_sync, judged_as, judgement_by, judgement_of, judgement_with, static_sending, whole_header}
-use Rattle.fr_sightings.specs.Sightings.{IsSighting, fate_by, fate_of, is_behind_silence, is_in_time, keeps_order, number_behind, fate_judged, fate_behind, sighting_with}
+use Rattle.fr_sightings.specs.Judging.{IsIrregular, IsJudged, has_form_of, is_regular_of, judged_as, judgement_by, judgement_of, judgement_with, static_sending, whole_header}
+use Rattle.fr_sightings.specs.Sightings.{IsSighting, fate_by, fate_of, is_behind_silence, is_in_time, keeps_order, number_behind, fate_irregular, fate_judged, fate_behind, sighting_with}
 use Rattle.fr_sightings.specs.declared.judging.Judged.{Judged}
 use Rattle.fr_sightings.specs.declared.judging.Judgement.{Judgement}
 use Rattle.fr_sightings.specs.declared.judging.Judgement.TheVariants as judgement
@@ -31,35 +32,43 @@ both false b is = absurd (cc is)
 
 -- ---- what is judged
 
+-- what a frame in the slot of a node is, by three questions
+abbrev pub judgement_as : Bool → Bool → Bool → Judged → Judgement
+judgement_as arbitrary passes sync judged =
+    if arbitrary then judgement.Arbitrary
+    else if not passes then judgement.Irregular judged
+    else if sync then judgement.Regular judged
+    else judgement.Other
+
 module _ (p : Values) (l : LogView) (e : Entry) (judged : Judged) (sane : IsSane p) (entry : IsEntry l.unit e) where
   judged_sent : (header : Header) (sending : Sending) → IsProperHeader header → IsStatic p header sending
       → judgement_by p l e header (Some sending) ≡ judgement.Regular judged → IsJudged p l judged
   judged_sent header sending proper static is =
-      by (is_arbitrary_in l sending.node) refl (is_regular_sync p e.channel header sending) refl is
+      by (is_arbitrary_in l sending.node) refl (is_regular_of p e.channel header sending) refl (is_sync_frame sending.kind) refl is
     where
-      regular : is_arbitrary_in l sending.node ≡ false → is_regular_sync p e.channel header sending ≡ true → IsJudged p l (judged_as e header sending)
-      regular correct passes =
-          let first = both (is_sync_frame sending.kind && has_channel (node_of p sending.node) e.channel)
-          (has_form_of (regular_header p sending header.id header.cycle) header) passes in
-          let second = both (is_sync_frame sending.kind) (has_channel (node_of p sending.node) e.channel) first.0 in
+      regular : is_arbitrary_in l sending.node ≡ false → is_regular_of p e.channel header sending ≡ true → is_sync_frame sending.kind ≡ true
+          → IsJudged p l (judged_as e header sending)
+      regular correct passes sync =
+          let first = both (has_channel (node_of p sending.node) e.channel) (has_form_of (regular_header p sending header.id header.cycle) header) passes in
           record {
             count = proper.count;
-            own = sync_is_own p header.id header.cycle sending sane static.sends second.0;
+            own = sync_is_own p header.id header.cycle sending sane static.sends sync;
             static = static.slot;
             correct = correct;
-            on_channel = second.1;
+            on_channel = first.0;
             stamp = entry.stamp;
           }
 
       same : (one : Judged) → judgement.Regular one ≡ judgement.Regular judged → one ≡ judged
       same one is = cc is
 
-      by : (arbitrary : Bool) → is_arbitrary_in l sending.node ≡ arbitrary → (passes : Bool) → is_regular_sync p e.channel header sending ≡ passes
-          → (if arbitrary then judgement.Arbitrary else (if passes then judgement.Regular (judged_as e header sending) else judgement.Other)) ≡ judgement.Regular judged
-          → IsJudged p l judged
-      by true at passes is_passes is = absurd (cc is)
-      by false at false is_passes is = absurd (cc is)
-      by false at true is_passes is = subst (IsJudged p l) (same (judged_as e header sending) is) (regular at is_passes)
+      by : (arbitrary : Bool) → is_arbitrary_in l sending.node ≡ arbitrary → (passes : Bool) → is_regular_of p e.channel header sending ≡ passes
+          → (sync : Bool) → is_sync_frame sending.kind ≡ sync
+          → judgement_as arbitrary passes sync (judged_as e header sending) ≡ judgement.Regular judged → IsJudged p l judged
+      by true at passes is_passes sync is_sync is = absurd (cc is)
+      by false at false is_passes sync is_sync is = absurd (cc is)
+      by false at true is_passes false is_sync is = absurd (cc is)
+      by false at true is_passes true is_sync is = subst (IsJudged p l) (same (judged_as e header sending) is) (regular at is_passes is_sync)
 
   judged_whole : (header : Header) (sending : Option Sending) → static_sending p header ≡ sending → IsProperHeader header
       → judgement_by p l e header sending ≡ judgement.Regular judged → IsJudged p l judged
@@ -76,6 +85,50 @@ pub judged_is_proper : (p : Values) (l : LogView) (e : Entry) (judged : Judged) 
     → judgement_of p l e ≡ judgement.Regular judged → IsJudged p l judged
 unfolding judgement_of
 judged_is_proper p l e judged sane entry is = judged_entry p l e judged sane entry (whole_header e.kind e.channel e.bytes) refl is
+
+-- ---- what is irregular
+
+least_few : (n : ℤ) → pos 1 ≤ℤ n → n ≤ℤ pos 1023 → nat_abs n ≤ 1023
+least_few (pos n) from to = omega (arith, ints, to)
+least_few (negsuc n) from to = absurd (omega (arith, ints, from))
+
+few_static : (p : Values) → IsSane p → amount p name.gNumberOfStaticSlots ≤ 1023
+few_static p sane =
+    let range = sane.ranges name.gNumberOfStaticSlots in
+    least_few (figure p name.gNumberOfStaticSlots) range.0 range.1
+
+module _ (p : Values) (l : LogView) (e : Entry) (judged : Judged) (sane : IsSane p) (entry : IsEntry l.unit e) where
+  irregular_sent : (header : Header) (sending : Sending) → IsStatic p header sending
+      → judgement_by p l e header (Some sending) ≡ judgement.Irregular judged → IsIrregular l judged
+  irregular_sent header sending static is =
+      by (is_arbitrary_in l sending.node) refl (is_regular_of p e.channel header sending) (is_sync_frame sending.kind) is
+    where
+      irregular : is_arbitrary_in l sending.node ≡ false → IsIrregular l (judged_as e header sending)
+      irregular correct = record { correct = correct; slot = omega (arith, static.slot, few_static p sane); stamp = entry.stamp }
+
+      same : (one : Judged) → judgement.Irregular one ≡ judgement.Irregular judged → one ≡ judged
+      same one is = cc is
+
+      by : (arbitrary : Bool) → is_arbitrary_in l sending.node ≡ arbitrary → (passes sync : Bool)
+          → judgement_as arbitrary passes sync (judged_as e header sending) ≡ judgement.Irregular judged → IsIrregular l judged
+      by true at passes sync is = absurd (cc is)
+      by false at false sync is = subst (IsIrregular l) (same (judged_as e header sending) is) (irregular at)
+      by false at true false is = absurd (cc is)
+      by false at true true is = absurd (cc is)
+
+  irregular_whole : (header : Header) (sending : Option Sending) → static_sending p header ≡ sending
+      → judgement_by p l e header sending ≡ judgement.Irregular judged → IsIrregular l judged
+  irregular_whole header None at is = absurd (cc is)
+  irregular_whole header (Some sending) at is = irregular_sent header sending (static_is p header sending at) is
+
+  irregular_entry : (header : Option Header) → judgement_with p l e header ≡ judgement.Irregular judged → IsIrregular l judged
+  irregular_entry None is = absurd (cc is)
+  irregular_entry (Some header) is = irregular_whole header (static_sending p header) refl is
+
+pub irregular_is_proper : (p : Values) (l : LogView) (e : Entry) (judged : Judged) → IsSane p → IsEntry l.unit e
+    → judgement_of p l e ≡ judgement.Irregular judged → IsIrregular l judged
+unfolding judgement_of
+irregular_is_proper p l e judged sane entry is = irregular_entry p l e judged sane entry (whole_header e.kind e.channel e.bytes) is
 
 -- ---- what is a sighting
 
@@ -163,11 +216,21 @@ module _ (p : Values) (l : LogView) (sighting : Sighting) (judged : Judged) (is_
   fate_judged_follows None is = placed_first is
   fate_judged_follows (Some last) is = placed_later last is
 
+irregular_unseen : (p : Values) (l : LogView) (last : Option Sighting) (judged : Judged) (sighting : Sighting)
+    → fate_irregular p l last judged ≡ fate.Seen sighting → ⊥
+irregular_unseen p l None judged sighting is = cc is
+irregular_unseen p l (Some last) judged sighting is = by (is_behind_silence p l last judged) is
+  where
+    by : (behind : Bool) → (if behind then fate.Behind else fate.Irregular (sighting_with last.number judged)) ≡ fate.Seen sighting → ⊥
+    by true is = cc is
+    by false is = cc is
+
 fate_follows : (p : Values) (l : LogView) (last : Option Sighting) (sighting : Sighting) (found : Judgement)
     → ((judged : Judged) → found ≡ judgement.Regular judged → IsJudged p l judged) → fate_by p l last found ≡ fate.Seen sighting → Follows p l last sighting
 fate_follows p l last sighting judgement.Damaged proper is = absurd (cc is)
 fate_follows p l last sighting judgement.Arbitrary proper is = absurd (cc is)
 fate_follows p l last sighting judgement.Other proper is = absurd (cc is)
+fate_follows p l last sighting (judgement.Irregular judged) proper is = absurd (irregular_unseen p l last judged sighting is)
 fate_follows p l last sighting (judgement.Regular judged) proper is = fate_judged_follows p l sighting judged (proper judged refl) last is
 
 pub seen_follows : (p : Values) (l : LogView) (last : Option Sighting) (e : Entry) (sighting : Sighting) → IsSane p → IsEntry l.unit e

@@ -73,6 +73,7 @@ module _ (p : Values) (l : LogView) (sane : IsSane p) where
       by fate.Damaged is rest = rest last
       by fate.Arbitrary is rest = rest last
       by fate.Other is rest = rest last
+      by (fate.Irregular frame) is rest = rest last
       by (fate.Untimely frame) is rest = rest last
       by fate.Stray is rest = rest last
       by fate.Behind is rest = rest last

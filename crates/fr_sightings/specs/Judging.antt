@@ -1,4 +1,5 @@
--- What an entry of a log is: damaged, a frame that tells nothing of a clock, or a frame of a key slot that is judged.
+-- What an entry of a log is: damaged, a frame that tells nothing of a clock, one that its sender does not send, or a frame of a
+-- key slot that is judged.
 use Rattle.std.specs.Prelude.{◌≡◌, ℕ, ◌*◌, ◌≤◌, ◌==◌, ◌&&◌, nat_lt, Bool, true, false, not, if◌then◌else◌, List, length, Option, Some, None, Result, Ok, Err}
 use Rattle.fr_base.specs.declared.channel.Channel.{Channel}
 use Rattle.fr_cluster.specs.Questions.{has_channel, node_of, own_key}
@@ -17,7 +18,7 @@ use Rattle.fr_log.specs.declared.entry.EntryKind.{EntryKind}
 use Rattle.fr_log.specs.declared.entry.EntryKind.TheVariants as kind
 use Rattle.fr_sightings.specs.declared.judging.Judged.{Judged}
 use Rattle.fr_sightings.specs.declared.judging.Judgement.{Judgement}
-use Rattle.fr_sightings.specs.declared.judging.Judgement.TheVariants.{Damaged, Arbitrary, Other, Regular}
+use Rattle.fr_sightings.specs.declared.judging.Judgement.TheVariants.{Damaged, Arbitrary, Other, Irregular, Regular}
 
 -- ---- the header
 
@@ -57,15 +58,14 @@ has_form_of regular header =
     (header.words == regular.words) && is_same_indicator regular.sync header.sync
     && is_same_indicator regular.startup header.startup
 
--- a frame of a key slot, on a channel of its node and with the form of its regular frame
-abbrev pub is_regular_sync : Values → Channel → Header → Sending → Bool
-is_regular_sync p channel header sending =
-    is_sync_frame sending.kind && has_channel (node_of p sending.node) channel
-    && has_form_of (regular_header p sending header.id header.cycle) header
+-- a frame as its sender sends it: on a channel of its node, and with the form of its regular frame
+abbrev pub is_regular_of : Values → Channel → Header → Sending → Bool
+is_regular_of p channel header sending =
+    has_channel (node_of p sending.node) channel && has_form_of (regular_header p sending header.id header.cycle) header
 
 -- ---- the judgement
 
--- what a regular frame of a key slot tells
+-- what a frame in the slot of a node tells
 abbrev pub judged_as : Entry → Header → Sending → Judged
 judged_as e header sending =
     record { node = sending.node; slot = header.id; channel = e.channel; count = header.cycle; stamp = e.stamp }
@@ -74,15 +74,17 @@ abbrev pub judgement_by : Values → LogView → Entry → Header → Option Sen
 judgement_by p l e header None = Other
 judgement_by p l e header (Some sending) =
     if is_arbitrary_in l sending.node then Arbitrary
-    else if is_regular_sync p e.channel header sending then Regular (judged_as e header sending)
+    else if not (is_regular_of p e.channel header sending) then Irregular (judged_as e header sending)
+    else if is_sync_frame sending.kind then Regular (judged_as e header sending)
     else Other
 
 abbrev pub judgement_with : Values → LogView → Entry → Option Header → Judgement
 judgement_with p l e None = Damaged
 judgement_with p l e (Some header) = judgement_by p l e header (static_sending p header)
 
--- an entry is damaged where it is not whole; of an arbitrary node where its slot is that of one; judged where it is a regular
--- frame of a key slot; and else it tells nothing of a clock
+-- an entry is damaged where it is not whole; of an arbitrary node where its slot is that of one; irregular where its slot is
+-- that of another node, which does not send it so; judged where it is a regular frame of a key slot; and else it tells nothing
+-- of a clock
 unfoldable pub judgement_of : Values → LogView → Entry → Judgement
 judgement_of p l e = judgement_with p l e (whole_header e.kind e.channel e.bytes)
 
@@ -94,4 +96,10 @@ pub record IsJudged (p : Values) (l : LogView) (judged : Judged) : Type 0 where
   pub static : judged.slot ≤ amount p name.gNumberOfStaticSlots
   pub correct : is_arbitrary_in l judged.node ≡ false
   pub on_channel : has_channel (node_of p judged.node) judged.channel ≡ true
+  pub stamp : l.unit * judged.stamp ≤ last_stamp
+
+-- an irregular frame is of a correct node, in a slot of at most 1,023, and its stamp lies within the limits of the log
+pub record IsIrregular (l : LogView) (judged : Judged) : Type 0 where
+  pub correct : is_arbitrary_in l judged.node ≡ false
+  pub slot : judged.slot ≤ 1023
   pub stamp : l.unit * judged.stamp ≤ last_stamp

@@ -5,7 +5,7 @@ use Rattle.std.specs.Option.{option_to_list}
 use Rattle.fr_cluster.specs.Values.{Values}
 use Rattle.fr_log.specs.View.{LogView}
 use Rattle.fr_log.specs.declared.entry.Entry.{Entry}
-use Rattle.fr_sightings.specs.Sightings.{SightingsView, fates_from, no_tally, sighting_in, untimely_in, fate_counted}
+use Rattle.fr_sightings.specs.Sightings.{OffendingFrames, SightingsView, fates_from, irregular_in, no_tally, sighting_in, untimely_in, fate_counted}
 use Rattle.fr_sightings.specs.declared.sighting.Fate.{Fate}
 use Rattle.fr_sightings.specs.declared.sighting.Sighting.{Sighting}
 
@@ -13,11 +13,18 @@ use Rattle.fr_sightings.specs.declared.sighting.Sighting.{Sighting}
 abbrev pub last_sighting : List Sighting → Option Sighting
 last_sighting sightings = slice_get sightings (length sightings - 1)
 
+abbrev pub with_offending : OffendingFrames → Fate → OffendingFrames
+with_offending offending fate =
+    record {
+      untimely = offending.untimely ++ option_to_list (untimely_in fate);
+      irregular = offending.irregular ++ option_to_list (irregular_in fate);
+    }
+
 -- with what became of one entry more
 abbrev pub with_fate : SightingsView → Fate → SightingsView
 with_fate seen fate =
     record {
       list = seen.list ++ option_to_list (sighting_in fate);
-      untimely = seen.untimely ++ option_to_list (untimely_in fate);
+      offending = with_offending seen.offending fate;
       tally = fate_counted seen.tally fate;
     }

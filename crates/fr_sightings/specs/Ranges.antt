@@ -29,7 +29,8 @@ AreNumbered seen = All (λ s. s.number ≤ 199_999) seen
 abbrev pub AreLogStamps : LogView → List Sighting → Type 0
 AreLogStamps l seen = All (λ s. l.unit * s.stamp ≤ last_stamp) seen
 
--- so do those of frames that do not come in time, and each has the number of a sighting before it
+-- so do those of frames that do not come in time and of irregular ones; their numbers are those of cycles of a log, and no double
+-- cycle is before that of one before it
 pub record AreLate (l : LogView) (frames : List Sighting) : Type 0 where
   pub numbered : AreNumbered frames
   pub timed : AreLogStamps l frames

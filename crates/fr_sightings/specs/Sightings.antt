@@ -73,11 +73,22 @@ abbrev pub fate_judged : Values → LogView → Option Sighting → Judged → F
 fate_judged p l None judged = fate.Seen (sighting_with judged.count judged)
 fate_judged p l (Some last) judged = fate_behind p l last judged
 
+-- what becomes of a frame that its sender does not send: it has the number of the last sighting before it, and before the first
+-- one it tells nothing
+abbrev pub fate_irregular_behind : Values → LogView → Sighting → Judged → Fate
+fate_irregular_behind p l last judged =
+    if is_behind_silence p l last judged then fate.Behind else fate.Irregular (sighting_with last.number judged)
+
+abbrev pub fate_irregular : Values → LogView → Option Sighting → Judged → Fate
+fate_irregular p l None judged = fate.Other
+fate_irregular p l (Some last) judged = fate_irregular_behind p l last judged
+
 -- and of an entry
 abbrev pub fate_by : Values → LogView → Option Sighting → Judgement → Fate
 fate_by p l last judgement.Damaged = fate.Damaged
 fate_by p l last judgement.Arbitrary = fate.Arbitrary
 fate_by p l last judgement.Other = fate.Other
+fate_by p l last (judgement.Irregular judged) = fate_irregular p l last judged
 fate_by p l last (judgement.Regular judged) = fate_judged p l last judged
 
 unfoldable pub fate_of : Values → LogView → Option Sighting → Entry → Fate
@@ -90,6 +101,7 @@ abbrev pub sighting_in : Fate → Option Sighting
 sighting_in fate.Damaged = None
 sighting_in fate.Arbitrary = None
 sighting_in fate.Other = None
+sighting_in (fate.Irregular frame) = None
 sighting_in (fate.Untimely frame) = None
 sighting_in fate.Stray = None
 sighting_in fate.Behind = None
@@ -100,10 +112,22 @@ abbrev pub untimely_in : Fate → Option Sighting
 untimely_in fate.Damaged = None
 untimely_in fate.Arbitrary = None
 untimely_in fate.Other = None
+untimely_in (fate.Irregular frame) = None
 untimely_in (fate.Untimely frame) = Some frame
 untimely_in fate.Stray = None
 untimely_in fate.Behind = None
 untimely_in (fate.Seen sighting) = None
+
+-- the irregular frame of one, with the number of the last sighting before it
+abbrev pub irregular_in : Fate → Option Sighting
+irregular_in fate.Damaged = None
+irregular_in fate.Arbitrary = None
+irregular_in fate.Other = None
+irregular_in (fate.Irregular frame) = Some frame
+irregular_in (fate.Untimely frame) = None
+irregular_in fate.Stray = None
+irregular_in fate.Behind = None
+irregular_in (fate.Seen sighting) = None
 
 -- the last sighting behind an entry
 abbrev pub last_behind : Option Sighting → Fate → Option Sighting
@@ -124,7 +148,18 @@ sightings_of p l = filter_map sighting_in (fates_of p l)
 unfoldable pub untimely_of : Values → LogView → List Sighting
 untimely_of p l = filter_map untimely_in (fates_of p l)
 
--- how many there are of each kind
+unfoldable pub irregular_of : Values → LogView → List Sighting
+irregular_of p l = filter_map irregular_in (fates_of p l)
+
+-- the offending frames of a log: they are no sightings and contradict it, as they do not come in time or are irregular
+pub record OffendingFrames : Type 0 where
+  pub untimely : List Sighting
+  pub irregular : List Sighting
+
+abbrev pub offending_frames_of : Values → LogView → OffendingFrames
+offending_frames_of p l = record { untimely = untimely_of p l; irregular = irregular_of p l }
+
+-- how many there are of each kind; an irregular one is counted with those that tell nothing
 abbrev pub no_tally : Tally
 no_tally = record { judged = 0; damaged = 0; arbitrary = 0; other = 0; stray = 0; behind = 0 }
 
@@ -132,6 +167,7 @@ abbrev pub fate_counted : Tally → Fate → Tally
 fate_counted tally fate.Damaged = record tally { damaged = tally.damaged + 1 }
 fate_counted tally fate.Arbitrary = record tally { arbitrary = tally.arbitrary + 1 }
 fate_counted tally fate.Other = record tally { other = tally.other + 1 }
+fate_counted tally (fate.Irregular frame) = record tally { other = tally.other + 1 }
 fate_counted tally (fate.Untimely frame) = record tally { stray = tally.stray + 1 }
 fate_counted tally fate.Stray = record tally { stray = tally.stray + 1 }
 fate_counted tally fate.Behind = record tally { behind = tally.behind + 1 }
@@ -143,7 +179,7 @@ tally_of p l = fold fate_counted no_tally (fates_of p l)
 -- what contracts see of all three
 pub record SightingsView : Type 0 where
   pub list : List Sighting
-  pub untimely : List Sighting
+  pub offending : OffendingFrames
   pub tally : Tally
 
 -- ---- what holds of them
@@ -165,11 +201,12 @@ all_tallied tally = tally.judged + tally.damaged + tally.arbitrary + tally.other
 
 -- ---- silence
 
--- what is not numbered: neither a sighting, nor one that does not come in time, nor a stray
+-- what is not numbered: neither a sighting, nor one that does not come in time, nor an irregular one, nor a stray
 abbrev pub IsUnnumbered : Fate → Type 0
 IsUnnumbered fate.Damaged = Unit {0}
 IsUnnumbered fate.Arbitrary = Unit {0}
 IsUnnumbered fate.Other = Unit {0}
+IsUnnumbered (fate.Irregular frame) = ⊥
 IsUnnumbered (fate.Untimely frame) = ⊥
 IsUnnumbered fate.Stray = ⊥
 IsUnnumbered fate.Behind = Unit {0}

@@ -1,26 +1,31 @@
 ghost use Rattle.std.specs.Prelude.{◌≡◌, ◌<◌, ◌++◌, [], OnOk};
 ghost use Rattle.std.specs.Option.{option_copied, option_to_list};
 ghost use Rattle.fr_sightings.specs.Passing.{last_sighting, with_fate};
-ghost use Rattle.fr_sightings.specs.Sightings.{all_tallied, no_tally, sighting_in, untimely_in, fate_counted};
+ghost use Rattle.fr_sightings.specs.Sightings.{all_tallied, irregular_in, no_tally, sighting_in, untimely_in, fate_counted};
 
 use crate::sighting::{Fate, Sighting, Tally};
 use std::alloc::{AllocError, Global};
 use std::marker::Model;
 
-/// The sightings of a log in the order of the log, its frames that do not come in time, and how many of its entries have
-/// which fate.
+/// The sightings of a log in the order of the log, its frames that do not come in time, its irregular ones, and how many of
+/// its entries have which fate.
 pub struct SightingList {
     list: Vec<Sighting>,
     untimely: Vec<Sighting>,
+    irregular: Vec<Sighting>,
     tally: Tally,
 }
 
 impl Model for SightingList {
-    ghost use Rattle.fr_sightings.specs.Sightings.{SightingsView};
+    ghost use Rattle.fr_sightings.specs.Sightings.{OffendingFrames, SightingsView};
 
     ghost Value = { SightingsView };
 
-    ghost view = { λ a. record { list = a.list.items; untimely = a.untimely.items; tally = a.tally } };
+    ghost view = { λ a. record {
+      list = a.list.items;
+      offending = record { untimely = a.untimely.items; irregular = a.irregular.items };
+      tally = a.tally;
+    } };
 }
 
 // One call: a derived drop is opened in each function that drops a value, and proved there.
@@ -29,6 +34,7 @@ impl Drop for SightingList {
         let SightingList {
             list: _,
             untimely: _,
+            irregular: _,
             tally: _,
         } = self;
     }
@@ -45,9 +51,17 @@ impl SightingList {
     /// The frames that come at another time than their cycle counts say, in the order in which they came, each with the
     /// number of the sighting before it.
     pub fn untimely(&self) -> &[Sighting]
-        ensures { result.now ≡ self.now.untimely }
+        ensures { result.now ≡ self.now.offending.untimely }
     {
         self.untimely.as_slice()
+    }
+
+    /// The frames in the slots of nodes that do not send them, in the order in which they came, each with the number of the
+    /// sighting before it.
+    pub fn irregular(&self) -> &[Sighting]
+        ensures { result.now ≡ self.now.offending.irregular }
+    {
+        self.irregular.as_slice()
     }
 
     /// How many entries have which fate.
@@ -60,12 +74,14 @@ impl SightingList {
     // Those of no entries.
     pub(crate) fn none(alloc: Global) -> SightingList
         ensures list { result.list ≡ [] }
-        ensures untimely { result.untimely ≡ [] }
+        ensures untimely { result.offending.untimely ≡ [] }
+        ensures irregular { result.offending.irregular ≡ [] }
         ensures tally { result.tally ≡ no_tally }
     {
         SightingList {
             list: Vec::new(alloc),
             untimely: Vec::new(alloc),
+            irregular: Vec::new(alloc),
             tally: Tally {
                 judged: 0,
                 damaged: 0,
@@ -91,7 +107,8 @@ impl SightingList {
     {
         count(&mut self.tally, &fate);
         keep(&mut self.list, sighting_in(&fate))?;
-        keep(&mut self.untimely, untimely_in(&fate))
+        keep(&mut self.untimely, untimely_in(&fate))?;
+        keep(&mut self.irregular, irregular_in(&fate))
     }
 }
 
@@ -103,7 +120,7 @@ fn count(tally: &mut Tally, fate: &Fate)
     match fate {
         Fate::Damaged => tally.damaged += 1,
         Fate::Arbitrary => tally.arbitrary += 1,
-        Fate::Other => tally.other += 1,
+        Fate::Other | Fate::Irregular(_) => tally.other += 1,
         Fate::Untimely(_) | Fate::Stray => tally.stray += 1,
         Fate::Behind => tally.behind += 1,
         Fate::Seen(_) => tally.judged += 1,
@@ -119,6 +136,7 @@ fn sighting_in(fate: &Fate) -> Option<Sighting>
         Fate::Damaged
         | Fate::Arbitrary
         | Fate::Other
+        | Fate::Irregular(_)
         | Fate::Untimely(_)
         | Fate::Stray
         | Fate::Behind => None,
@@ -134,6 +152,23 @@ fn untimely_in(fate: &Fate) -> Option<Sighting>
         Fate::Damaged
         | Fate::Arbitrary
         | Fate::Other
+        | Fate::Irregular(_)
+        | Fate::Stray
+        | Fate::Behind
+        | Fate::Seen(_) => None,
+    }
+}
+
+// The frame of one that its sender does not send.
+fn irregular_in(fate: &Fate) -> Option<Sighting>
+    ensures { result ≡ irregular_in fate.now }
+{
+    match fate {
+        Fate::Irregular(frame) => Some(*frame),
+        Fate::Damaged
+        | Fate::Arbitrary
+        | Fate::Other
+        | Fate::Untimely(_)
         | Fate::Stray
         | Fate::Behind
         | Fate::Seen(_) => None,

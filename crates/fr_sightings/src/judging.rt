@@ -3,7 +3,7 @@ ghost use Rattle.std.specs.Option.{option_copied};
 ghost use Rattle.fr_cluster.specs.Questions.{has_channel, node_of};
 ghost use Rattle.fr_frame.specs.Reading.{read_as, read_checked};
 ghost use Rattle.fr_reception.specs.Regular.{is_coldstart, is_sync_frame, regular_header};
-ghost use Rattle.fr_sightings.specs.Judging.{has_form_of, head_read, header_read, is_regular_sync, is_same_indicator, judged_as, judgement_by, judgement_of, static_sending, whole_header};
+ghost use Rattle.fr_sightings.specs.Judging.{has_form_of, head_read, header_read, is_regular_of, is_same_indicator, judged_as, judgement_by, judgement_of, static_sending, whole_header};
 
 use fr_base::{Channel, NodeId, Slot};
 use fr_cluster::{ParamName, Params};
@@ -11,8 +11,8 @@ use fr_frame::{Header, decode, front_of};
 use fr_log::{Entry, EntryKind, Log};
 use fr_time::{Kind, Sending, sender};
 
-// What a regular frame of a key slot tells: who sent it and in which slot, on which channel, with which cycle count,
-// and its stamp in units of the log.
+// What a frame in the slot of a node tells: whose slot it is and which slot, on which channel it came, with which cycle
+// count, and its stamp in units of the log.
 #[derive(Clone, Copy, Debug, PartialEq, Eq)]
 pub(crate) struct Judged {
     pub(crate) node: NodeId,
@@ -28,6 +28,7 @@ pub(crate) enum Judgement {
     Damaged,
     Arbitrary,
     Other,
+    Irregular(Judged),
     Regular(Judged),
 }
 
@@ -54,16 +55,29 @@ fn whole_judgement(params: &Params, log: &Log, entry: &Entry, header: &Header) -
     if log.is_arbitrary(sending.node) {
         return Judgement::Arbitrary;
     }
-    if !is_regular_sync(params, entry.channel, header, &sending) {
-        return Judgement::Other;
+    if !is_regular_of(params, entry.channel, header, &sending) {
+        return Judgement::Irregular(judged_as(entry, header, &sending));
     }
-    Judgement::Regular(Judged {
+    if is_sync_frame(sending.kind) {
+        Judgement::Regular(judged_as(entry, header, &sending))
+    } else {
+        Judgement::Other
+    }
+}
+
+// What a frame in the slot of a node tells.
+fn judged_as(entry: &Entry, header: &Header, sending: &Sending) -> Judged
+    requires from { 1 ≤ header.now.id }
+    requires to { header.now.id ≤ 1023 }
+    ensures { result ≡ judged_as entry.now header.now sending.now }
+{
+    Judged {
         node: sending.node,
         slot: Slot(header.id),
         channel: entry.channel,
         count: header.cycle,
         stamp: entry.stamp,
-    })
+    }
 }
 
 // The header of an entry that is whole.
@@ -127,13 +141,11 @@ fn static_sending(params: &Params, header: &Header) -> Option<Sending>
     sender(params, Slot(header.id), u32::from(header.cycle))
 }
 
-// Whether a frame is one of a key slot, on a channel of its node and with the form of its regular frame.
-fn is_regular_sync(params: &Params, channel: Channel, header: &Header, sending: &Sending) -> bool
-    ensures { result ≡ is_regular_sync params.now channel header.now sending.now }
+// Whether a frame is as its sender sends it: on a channel of its node, and with the form of its regular frame.
+fn is_regular_of(params: &Params, channel: Channel, header: &Header, sending: &Sending) -> bool
+    ensures { result ≡ is_regular_of params.now channel header.now sending.now }
 {
-    is_sync_frame(sending.kind)
-        && has_channel(params, sending.node, channel)
-        && has_form(params, header, sending)
+    has_channel(params, sending.node, channel) && has_form(params, header, sending)
 }
 
 // Whether a frame is one of a key slot.

@@ -1,4 +1,4 @@
-ghost use Rattle.std.specs.Prelude.{◌≡◌, ◌*◌, ◌≤◌, ◌-ℤ◌, IfSome, nat_abs, neg_ℤ, pos, true};
+ghost use Rattle.std.specs.Prelude.{◌≡◌, ◌*◌, ◌≤◌, ◌-ℤ◌, IfSome, int_lt, nat_abs, neg_ℤ, pos, true};
 ghost use Rattle.std.specs.Option.{option_copied};
 ghost use Rattle.fr_base.specs.Within.{IsBetween, IsWithin};
 ghost use Rattle.fr_cluster.specs.Sane.{IsSane};
@@ -6,9 +6,9 @@ ghost use Rattle.fr_cluster.specs.Values.{amount};
 ghost use Rattle.fr_cluster.specs.declared.names.ParamName.TheVariants as name;
 ghost use Rattle.fr_time.specs.Slots.{action_point_of};
 ghost use Rattle.fr_log.specs.View.{IsEntry};
-ghost use Rattle.fr_course.specs.Numbering.{is_timely};
-ghost use Rattle.fr_sightings.specs.Judging.{IsJudged};
-ghost use Rattle.fr_sightings.specs.Sightings.{IsSighting, fate_of, keeps_order, fate_judged, fate_behind, fate_timely, sighting_with, stamped_behind};
+ghost use Rattle.fr_course.specs.Numbering.{is_timely, longest_silence};
+ghost use Rattle.fr_sightings.specs.Judging.{IsIrregular, IsJudged};
+ghost use Rattle.fr_sightings.specs.Sightings.{IsSighting, fate_of, keeps_order, fate_irregular, fate_irregular_behind, fate_judged, fate_behind, fate_timely, sighting_with, stamped_behind};
 
 use crate::judging::{Judged, Judgement, judgement_of};
 use crate::numbering::{is_timely, longest_silence, next_number};
@@ -29,7 +29,33 @@ pub(crate) fn fate_of(params: &Params, log: &Log, last: Option<&Sighting>, entry
         Judgement::Damaged => Fate::Damaged,
         Judgement::Arbitrary => Fate::Arbitrary,
         Judgement::Other => Fate::Other,
+        Judgement::Irregular(judged) => fate_irregular(params, log, last, &judged),
         Judgement::Regular(judged) => fate_judged(params, log, last, &judged),
+    }
+}
+
+// What becomes of a frame that its sender does not send.
+fn fate_irregular(params: &Params, log: &Log, last: Option<&Sighting>, judged: &Judged) -> Fate
+    requires last { IfSome (option_copied last) (IsSighting params.now log.now) }
+    requires judged { IsIrregular log.now judged.now }
+    ensures { result ≡ fate_irregular params.now log.now (option_copied last.entry) judged.now }
+{
+    match last {
+        None => Fate::Other,
+        Some(last) => fate_irregular_behind(params, log, last, judged),
+    }
+}
+
+// What becomes of it behind a sighting.
+fn fate_irregular_behind(params: &Params, log: &Log, last: &Sighting, judged: &Judged) -> Fate
+    requires last { IsSighting params.now log.now last.now }
+    requires judged { IsIrregular log.now judged.now }
+    ensures { result ≡ fate_irregular_behind params.now log.now last.now judged.now }
+{
+    if is_silence(params, stamped_behind(log, last, judged)) {
+        Fate::Behind
+    } else {
+        Fate::Irregular(sighting_with(last.number, judged))
     }
 }
 
@@ -52,7 +78,7 @@ fn fate_behind(params: &Params, log: &Log, last: &Sighting, judged: &Judged) -> 
     ensures { result ≡ fate_behind params.now log.now last.now judged.now }
 {
     let apart = stamped_behind(log, last, judged);
-    if longest_silence(params) < apart {
+    if is_silence(params, apart) {
         return Fate::Behind;
     }
     let number = next_number(last.number, judged.count);
@@ -83,6 +109,13 @@ fn stamped_behind(log: &Log, last: &Sighting, judged: &Judged) -> i64
 {
     let unit = log.unit();
     (unit * judged.stamp) as i64 - (unit * last.stamp) as i64
+}
+
+// Whether that is a silence behind which nothing is judged.
+fn is_silence(params: &Params, apart: i64) -> bool
+    ensures { result ≡ int_lt (longest_silence params.now) apart }
+{
+    longest_silence(params) < apart
 }
 
 // Whether it comes when the schedule has its number.

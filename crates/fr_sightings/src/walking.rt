@@ -4,7 +4,7 @@ ghost use Rattle.fr_time.specs.Cycles.{double_cycle_of};
 ghost use Rattle.fr_log.specs.View.{IsEntry};
 ghost use Rattle.fr_sightings.specs.Ranges.{AreLate};
 ghost use Rattle.fr_sightings.specs.Passing.{last_sighting, with_fate};
-ghost use Rattle.fr_sightings.specs.Sightings.{IsSighting, all_tallied, fate_of, sightings_of, tally_of, untimely_of};
+ghost use Rattle.fr_sightings.specs.Sightings.{IsSighting, all_tallied, fate_of, offending_frames_of, sightings_of, tally_of};
 
 use crate::gathered::SightingList;
 use crate::placing::{fate_of, sane};
@@ -13,10 +13,11 @@ use fr_log::{Entry, Log};
 use std::alloc::{AllocError, Global};
 
 /// The frames of a log that say where their senders' clocks were, in the order in which they came, those that do not
-/// come in time, and how many of its entries have which fate. It reads each entry once; an Err is want of memory.
+/// come in time, irregular ones, and how many of its entries have which fate. It reads each entry once; an Err is want of
+/// memory.
 pub fn sightings(alloc: Global, params: &Params, log: &Log) -> Result<SightingList, AllocError>
     ensures seen { IfOk result (λ found. found.list ≡ sightings_of params.now log.now) }
-    ensures untimely { IfOk result (λ found. found.untimely ≡ untimely_of params.now log.now) }
+    ensures offending { IfOk result (λ found. found.offending ≡ offending_frames_of params.now log.now) }
     ensures tally { IfOk result (λ found. found.tally ≡ tally_of params.now log.now) }
     // No entry is left out.
     ensures all { IfOk result (λ found. all_tallied found.tally ≡ length log.now.entries) }
@@ -24,8 +25,10 @@ pub fn sightings(alloc: Global, params: &Params, log: &Log) -> Result<SightingLi
     // No double cycle is before that of a sighting before it.
     ensures ascending { IfOk result (λ found.
         IsNonDecreasingBy (λ sighting. double_cycle_of sighting.number) found.list) }
-    // Each of those that do not come in time has the number of a sighting.
-    ensures late { IfOk result (λ found. AreLate log.now found.untimely) }
+    // Of those that do not come in time stamps lie within the limits of the log, numbers are those of its cycles, and no
+    // double cycle is before that of one before it; of irregular ones too.
+    ensures late { IfOk result (λ found. AreLate log.now found.offending.untimely) }
+    ensures irregular { IfOk result (λ found. AreLate log.now found.offending.irregular) }
 {
     sane(params);
     let mut seen = SightingList::none(alloc);

@@ -8,16 +8,18 @@ use Rattle.fr_time.specs.Cycles.{double_cycle_of}
 use Rattle.fr_log.specs.View.{LogView, IsEntry}
 use Rattle.fr_log.specs.declared.entry.Entry.{Entry}
 use Rattle.fr_sightings.specs.Passing.{last_sighting}
-use Rattle.fr_sightings.specs.Sightings.{IsSighting, SightingsView, all_tallied, sightings_of, tally_of, untimely_of}
+use Rattle.fr_sightings.specs.Sightings.{IsSighting, OffendingFrames, SightingsView, all_tallied, irregular_of, offending_frames_of, sightings_of, tally_of, untimely_of}
 use Rattle.fr_sightings.specs.declared.sighting.Sighting.{Sighting}
 use Rattle.fr_sightings.specs.Ranges.{AreLate}
-use Rattle.fr_sightings.proofs.Late.{untimely_are_late}
+use Rattle.fr_sightings.proofs.Late.{irregular_are_late, untimely_are_late}
 use Rattle.fr_sightings.proofs.Passed.{IsPassed, last_holds, passed_all, passed_more, passed_none}
 use Rattle.fr_sightings.proofs.Rising.{sightings_are_rising}
 use Rattle.fr_sightings.proofs.walking.sightings.Goals as goal
 
 pub loop-place-init : goal.loop-place-init
-loop-place-init c = passed_none c.args.params.now c.args.log.now c.none-seen.result c.none-seen.ensures.list c.none-seen.ensures.untimely c.none-seen.ensures.tally
+loop-place-init c =
+    passed_none c.args.params.now c.args.log.now c.none-seen.result c.none-seen.ensures.list c.none-seen.ensures.untimely c.none-seen.ensures.irregular
+    c.none-seen.ensures.tally
 
 pub pass-requires-clause-room : goal.pass-requires-clause-room
 pass-requires-clause-room c =
@@ -57,10 +59,18 @@ unfolding sightings_of
 returns-clause-seen c =
     (whole c.args.params.now c.args.log.now c.entries-entries.result.now c.loop-place.place c.loop-place.seen c.loop-place-test.false c.entries-entries.ensures.value c.loop-place.invariant).list
 
-pub returns-clause-untimely : goal.returns-clause-untimely
-unfolding untimely_of
-returns-clause-untimely c =
-    (whole c.args.params.now c.args.log.now c.entries-entries.result.now c.loop-place.place c.loop-place.seen c.loop-place-test.false c.entries-entries.ensures.value c.loop-place.invariant).untimely
+-- both lists of offending frames are those of a log
+both : (one other : OffendingFrames) → one.untimely ≡ other.untimely → one.irregular ≡ other.irregular → one ≡ other
+both one other untimely irregular = λ i. record { untimely = untimely i; irregular = irregular i }
+
+pub returns-clause-offending : goal.returns-clause-offending
+unfolding untimely_of irregular_of
+returns-clause-offending c =
+    let p = c.args.params.now in
+    let l = c.args.log.now in
+    let passed =
+    whole p l c.entries-entries.result.now c.loop-place.place c.loop-place.seen c.loop-place-test.false c.entries-entries.ensures.value c.loop-place.invariant in
+    both c.loop-place.seen.offending (offending_frames_of p l) passed.untimely passed.irregular
 
 pub returns-clause-tally : goal.returns-clause-tally
 unfolding tally_of
@@ -100,3 +110,12 @@ returns-clause-late c =
     let late =
     untimely_are_late p l (take c.loop-place.place entries) c.sane.ensures (All-take (IsEntry l.unit) c.loop-place.place entries c.entries-entries.ensures.proper) in
     subst (AreLate l) (sym c.loop-place.invariant.untimely) late
+
+pub returns-clause-irregular : goal.returns-clause-irregular
+returns-clause-irregular c =
+    let p = c.args.params.now in
+    let l = c.args.log.now in
+    let entries = c.entries-entries.result.now in
+    let late =
+    irregular_are_late p l (take c.loop-place.place entries) c.sane.ensures (All-take (IsEntry l.unit) c.loop-place.place entries c.entries-entries.ensures.proper) in
+    subst (AreLate l) (sym c.loop-place.invariant.irregular) late
