@@ -1,5 +1,5 @@
--- Contradictions of a log: what no lawful run can have given whose oscillators keep within what is stated; and what none can
--- have given that is covered and in sync.
+-- Contradictions of a log: what no lawful run can have given of which the log is seen, with oscillators within what is stated;
+-- and what none can have given that is covered and in sync.
 use Rattle.std.specs.Prelude.{◌≡◌, ℕ, ◌+◌, ◌-◌, ◌*◌, ◌/◌, ◌==◌, ◌&&◌, ◌||◌, not, nat_le, nat_lt, ℤ, pos, neg_ℤ, int_le, int_lt, Bool, true, false, List, [], ◌∷◌, ◌++◌, codes, length, map, filter_map, count_by, Option, Some, None, is_some, if◌then◌else◌}
 use Rattle.std.specs.Fmt.{decimal}
 use Rattle.std.specs.List.{filter, flat_map, list_all, list_any}
@@ -8,7 +8,7 @@ use Rattle.fr_base.specs.Channels.{letter}
 use Rattle.fr_base.specs.declared.channel.Channel.{Channel}
 use Rattle.fr_base.specs.declared.channel.Channel.TheVariants as channel
 use Rattle.fr_bound.specs.Bounds.{lambda_of, longest_micro, pi_of, shortest_micro}
-use Rattle.fr_cluster.specs.Questions.{has_channel}
+use Rattle.fr_cluster.specs.Questions.{has_channel, node_of}
 use Rattle.fr_cluster.specs.Values.{Values, amount}
 use Rattle.fr_cluster.specs.declared.names.ParamName.TheVariants as name
 use Rattle.fr_cluster.specs.declared.nodes.NodeSpec.{NodeSpec}
@@ -26,7 +26,7 @@ use Rattle.fr_sightings.specs.declared.sighting.Sighting.{Sighting}
 use Rattle.fr_observe.specs.Observing.{courses_of, even_high, even_low, known, known_count, odd_high, odd_low, row, terms_of}
 use Rattle.fr_observe.specs.declared.fault.Fault.{Fault}
 use Rattle.fr_observe.specs.declared.fault.FaultKind.{FaultKind}
-use Rattle.fr_observe.specs.declared.fault.FaultKind.TheVariants.{Channels, Limit, Correction, Twice, Cycle, Skew, Start, Lengths, Length, Offset, Rate, Missing}
+use Rattle.fr_observe.specs.declared.fault.FaultKind.TheVariants.{Channels, Limit, Correction, Twice, Cycle, Stranger, Form, Skew, Start, Lengths, Length, Offset, Rate, Missing}
 use Rattle.fr_observe.specs.declared.fault.LogSpan.{LogSpan}
 use Rattle.fr_observe.specs.declared.fault.SyncFrom.{SyncFrom}
 
@@ -37,6 +37,8 @@ asks_sync Limit = false
 asks_sync Correction = false
 asks_sync Twice = false
 asks_sync Cycle = false
+asks_sync Stranger = false
+asks_sync Form = false
 asks_sync Skew = true
 asks_sync Start = true
 asks_sync Lengths = true
@@ -44,6 +46,23 @@ asks_sync Length = true
 asks_sync Offset = true
 asks_sync Rate = true
 asks_sync Missing = true
+
+-- whether a kind is a contradiction only where each whole frame in the slot of a node is one that it sends
+abbrev pub asks_own_slots : FaultKind → Bool
+asks_own_slots Channels = false
+asks_own_slots Limit = false
+asks_own_slots Correction = false
+asks_own_slots Twice = false
+asks_own_slots Cycle = false
+asks_own_slots Stranger = true
+asks_own_slots Form = true
+asks_own_slots Skew = false
+asks_own_slots Start = false
+asks_own_slots Lengths = false
+asks_own_slots Length = false
+asks_own_slots Offset = false
+asks_own_slots Rate = false
+asks_own_slots Missing = false
 
 -- one without a channel
 abbrev pub plain_fault : ℕ → Option ℕ → FaultKind → Option ℤ → Option ℤ → Option ℤ → Option ℤ → Fault
@@ -146,6 +165,28 @@ cycle_fault s =
       from = Some (pos s.count);
       to = None;
     }
+
+-- a frame is in the slot of a node that does not send it: on a channel that the node does not have, or of another form than the
+-- node's frames in that slot. B is its stamp, C its slot; the cycle is that of the sighting before it
+abbrev pub irregular_kind : Values → Sighting → FaultKind
+irregular_kind p s = if has_channel (node_of p s.node) s.channel then Form else Stranger
+
+abbrev pub irregular_fault : Values → Sighting → Fault
+irregular_fault p s =
+    record {
+      cycle = s.number;
+      node = Some s.node;
+      kind = irregular_kind p s;
+      channel = Some s.channel;
+      low = None;
+      high = Some (pos s.stamp);
+      from = Some (pos s.slot);
+      to = None;
+    }
+
+-- what contradicts any run that sends each whole frame of the log in the slot of a node
+unfoldable pub slot_faults : Values → List Sighting → List Fault
+slot_faults p frames = map (irregular_fault p) frames
 
 -- what contradicts any run: `here` are the sightings of the double cycle, `late` its untimely frames, `senders` its senders
 unfoldable pub own_faults : Values → Scale → LogView → List Sighting → List Sighting → ℕ → List Sender → List Fault
@@ -328,6 +369,8 @@ kind_word Limit = codes "limit"
 kind_word Correction = codes "correction"
 kind_word Twice = codes "twice"
 kind_word Cycle = codes "cycle"
+kind_word Stranger = codes "stranger"
+kind_word Form = codes "form"
 kind_word Skew = codes "skew"
 kind_word Start = codes "start"
 kind_word Lengths = codes "lengths"

@@ -11,8 +11,9 @@ use fr_course::Interval;
 use fr_text::Piece::{Natural, Word};
 use fr_text::{Line, Piece, letter_of, row_of};
 
-/// What a contradiction in a log is of, with what its four numbers are. The first five contradict any lawful run whose
-/// oscillators keep within their bounds, the others covered runs in sync.
+/// What a contradiction in a log is of, with what its four numbers are. The first five contradict that the log is seen of any
+/// lawful run whose oscillators keep within their bounds (`Cycle` that its frames come in time, which that asks for), and the
+/// next two that each whole frame in the slot of a node is one that the node sends; the others contradict covered runs in sync.
 #[derive(Clone, Copy, Debug, PartialEq, Eq)]
 pub enum FaultKind {
     /// By the frames of both channels an action point lies nowhere: it was seen from `low` to `high`, a greater and a
@@ -28,6 +29,12 @@ pub enum FaultKind {
     /// A frame on `channel` with the stamp `high`, in units of the log, comes at another time than its cycle count
     /// `from` says; the cycle is that of the sighting before it.
     Cycle,
+    /// A frame with the stamp `high`, in units of the log, is in the node's slot `from` on `channel`, which the node does not
+    /// have; the cycle is that of the sighting before it.
+    Stranger,
+    /// A frame on `channel` with the stamp `high`, in units of the log, is in the node's slot `from`, and its payload length or
+    /// its sync or startup indicator is not that of the node's frames there; the cycle is that of the sighting before it.
+    Form,
     /// The skew is `low` to `high`, `high` where it is known, and the precision is `to`, in ticks.
     Skew,
     /// Starts of even cycles lie `low` to `high` apart, and at most `to` in sync, in ticks.
@@ -56,6 +63,8 @@ impl FaultKind {
             FaultKind::Correction => b"correction",
             FaultKind::Twice => b"twice",
             FaultKind::Cycle => b"cycle",
+            FaultKind::Stranger => b"stranger",
+            FaultKind::Form => b"form",
             FaultKind::Skew => b"skew",
             FaultKind::Start => b"start",
             FaultKind::Lengths => b"lengths",

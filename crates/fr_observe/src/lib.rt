@@ -23,3 +23,4 @@ pub use says::Says;
 pub use skews::{Skews, skews_of};
 pub use sync_faults::put_sync_faults;
 pub use synced::{is_sync_seen, sync_behind};
+pub use telling::tell_one;

@@ -341,8 +341,8 @@ fn put_late<O: Sink>(
     Ok(())
 }
 
-/// Tells what contradicts any run in a double cycle, by its sightings, its untimely frames and its senders: each in one
-/// put, and the first one of all that were told is kept.
+/// Tells what in a double cycle contradicts any run of which the log is seen, by its sightings, its untimely frames and its
+/// senders: each in one put, and the first one of all that were told is kept.
 #[tactic(auto, unfolding(crate::specs::Faults::own_faults))]
 pub fn put_own_faults<O: Sink>(
     scale: &Scale,
