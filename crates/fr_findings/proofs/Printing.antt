@@ -18,6 +18,7 @@ use Rattle.fr_observe.specs.declared.fault.SyncFrom.{SyncFrom}
 use Rattle.fr_observe.proofs.Told.{told_cut}
 use Rattle.fr_sightings.specs.Ranges.{AreSeenFrom}
 use Rattle.fr_sightings.specs.Senders.{double_of, sightings_in}
+use Rattle.fr_sightings.specs.Sightings.{OffendingFrames}
 use Rattle.fr_sightings.specs.declared.sender.Sender.{Sender}
 use Rattle.fr_sightings.specs.declared.sighting.Sighting.{Sighting}
 use Rattle.fr_findings.specs.Counting.{counted, is_open, is_over, is_within}
@@ -90,49 +91,54 @@ few-told most b d progress few = few-more most progress.counts (even_says b d) (
 
 -- ---- one double cycle, and those behind it
 
-module _ (b : Basis) (seen late : List Sighting) (d : DoubleCycle) (progress : Progress) (double last : ℕ) where
-  told-first : double ≤ last → d ≡ double_at b seen late double
-      → double_told b d progress ++ told_of_doubles b seen late (progress_told b d progress) (up_to (double + 1) last) ≡ told_of_doubles b seen late progress (up_to double last)
+module _ (b : Basis) (seen : List Sighting) (frames : OffendingFrames) (d : DoubleCycle) (progress : Progress) (double last : ℕ) where
+  told-first : double ≤ last → d ≡ double_at b seen frames double
+      → double_told b d progress ++ told_of_doubles b seen frames (progress_told b d progress) (up_to (double + 1) last) ≡ told_of_doubles b seen frames progress (up_to double last)
   unfolding told_of_doubles
   told-first le is =
-      ap (λ (e : DoubleCycle). double_told b e progress ++ told_of_doubles b seen late (progress_told b e progress) (up_to (double + 1) last)) is
-      ∙ ap (told_of_doubles b seen late progress) (sym (range-first double last le))
+      ap (λ (e : DoubleCycle). double_told b e progress ++ told_of_doubles b seen frames (progress_told b e progress) (up_to (double + 1) last)) is
+      ∙ ap (told_of_doubles b seen frames progress) (sym (range-first double last le))
 
-  pub told-then : {done : Unit {0}} {x y z : Sunk} (result : Result (Unit {0}) PutFault) → double ≤ last → d ≡ double_at b seen late double
-      → Puts (Ok done) x y (double_told b d progress) → Puts result y z (told_of_doubles b seen late (progress_told b d progress) (up_to (double + 1) last))
-      → Puts result x z (told_of_doubles b seen late progress (up_to double last))
+  pub told-then : {done : Unit {0}} {x y z : Sunk} (result : Result (Unit {0}) PutFault) → double ≤ last → d ≡ double_at b seen frames double
+      → Puts (Ok done) x y (double_told b d progress) → Puts result y z (told_of_doubles b seen frames (progress_told b d progress) (up_to (double + 1) last))
+      → Puts result x z (told_of_doubles b seen frames progress (up_to double last))
   told-then {done} {x} {y} {z} result le is put rest =
       subst (Puts result x z) (told-first le is)
-      (then {text = double_told b d progress} {rest = told_of_doubles b seen late (progress_told b d progress) (up_to (double + 1) last)} result put rest)
+      (then {text = double_told b d progress} {rest = told_of_doubles b seen frames (progress_told b d progress) (up_to (double + 1) last)} result put rest)
 
-  pub told-cut : {fault : PutFault} {x y : Sunk} (result : Result (Unit {0}) PutFault) → double ≤ last → d ≡ double_at b seen late double
-      → Puts (Err fault) x y (double_told b d progress) → IsErr result → Puts result x y (told_of_doubles b seen late progress (up_to double last))
+  pub told-cut : {fault : PutFault} {x y : Sunk} (result : Result (Unit {0}) PutFault) → double ≤ last → d ≡ double_at b seen frames double
+      → Puts (Err fault) x y (double_told b d progress) → IsErr result → Puts result x y (told_of_doubles b seen frames progress (up_to double last))
   told-cut {fault} {x} {y} result le is put failed =
       subst (Puts result x y) (told-first le is)
-      (cut {text = double_told b d progress} result (told_of_doubles b seen late (progress_told b d progress) (up_to (double + 1) last)) put failed)
+      (cut {text = double_told b d progress} result (told_of_doubles b seen frames (progress_told b d progress) (up_to (double + 1) last)) put failed)
 
-  pub progress-then : double ≤ last → d ≡ double_at b seen late double
-      → progress_of b seen late (progress_told b d progress) (up_to (double + 1) last) ≡ progress_of b seen late progress (up_to double last)
+  pub progress-then : double ≤ last → d ≡ double_at b seen frames double
+      → progress_of b seen frames (progress_told b d progress) (up_to (double + 1) last) ≡ progress_of b seen frames progress (up_to double last)
   unfolding progress_of
   progress-then le is =
-      ap (λ (e : DoubleCycle). progress_of b seen late (progress_told b e progress) (up_to (double + 1) last)) is
-      ∙ ap (progress_of b seen late progress) (sym (range-first double last le))
+      ap (λ (e : DoubleCycle). progress_of b seen frames (progress_told b e progress) (up_to (double + 1) last)) is
+      ∙ ap (progress_of b seen frames progress) (sym (range-first double last le))
 
 -- none behind the last
-pub told-end : (b : Basis) (seen late : List Sighting) (progress : Progress) (double last : ℕ) → last < double → told_of_doubles b seen late progress (up_to double last) ≡ []
+pub told-end : (b : Basis) (seen : List Sighting) (frames : OffendingFrames) (progress : Progress) (double last : ℕ) → last < double → told_of_doubles b seen frames progress (up_to double last) ≡ []
 unfolding told_of_doubles
-told-end b seen late progress double last less = ap (told_of_doubles b seen late progress) (range-none double last less)
+told-end b seen frames progress double last less = ap (told_of_doubles b seen frames progress) (range-none double last less)
 
-pub progress-end : (b : Basis) (seen late : List Sighting) (progress : Progress) (double last : ℕ) → last < double → progress_of b seen late progress (up_to double last) ≡ progress
+pub progress-end : (b : Basis) (seen : List Sighting) (frames : OffendingFrames) (progress : Progress) (double last : ℕ) → last < double → progress_of b seen frames progress (up_to double last) ≡ progress
 unfolding progress_of
-progress-end b seen late progress double last less = ap (progress_of b seen late progress) (range-none double last less)
+progress-end b seen frames progress double last less = ap (progress_of b seen frames progress) (range-none double last less)
 
 -- the double cycle that is looked at
-pub double-is : (b : Basis) (seen late before here next untimely : List Sighting) (double : ℕ)
-    → before ≡ sightings_before seen double → here ≡ sightings_in seen double → next ≡ sightings_in seen (double + 1) → untimely ≡ sightings_in late double
-    → double_with b double before here next untimely ≡ double_at b seen late double
+abbrev pub offending-of : List Sighting → List Sighting → OffendingFrames
+offending-of untimely irregular = record { untimely = untimely; irregular = irregular }
+
+pub double-is : (b : Basis) (seen : List Sighting) (frames : OffendingFrames) (before here next untimely irregular : List Sighting) (double : ℕ)
+    → before ≡ sightings_before seen double → here ≡ sightings_in seen double → next ≡ sightings_in seen (double + 1)
+    → untimely ≡ sightings_in frames.untimely double → irregular ≡ sightings_in frames.irregular double
+    → double_with b double before here next (offending-of untimely irregular) ≡ double_at b seen frames double
 unfolding double_at
-double-is b seen late before here next untimely double before_is here_is next_is late_is = λ i. double_with b double (before_is i) (here_is i) (next_is i) (late_is i)
+double-is b seen frames before here next untimely irregular double before_is here_is next_is untimely_is irregular_is = λ i.
+    double_with b double (before_is i) (here_is i) (next_is i) (offending-of (untimely_is i) (irregular_is i))
 
 -- before the first one there are none
 pub before-first : (seen : List Sighting) (first : ℕ) → AreSeenFrom first seen → [] ≡ sightings_before seen first
@@ -149,13 +155,13 @@ none-doubles : (seen : List Sighting) → slice_get seen 0 ≡ None → seen_dou
 unfolding seen_doubles
 none-doubles seen none = ap (λ (o : Option Sighting). doubles_between o (slice_get seen (length seen - 1))) none
 
-pub none-told : (b : Basis) (seen late : List Sighting) (progress : Progress) → slice_get seen 0 ≡ None → told_of_doubles b seen late progress (seen_doubles seen) ≡ []
+pub none-told : (b : Basis) (seen : List Sighting) (frames : OffendingFrames) (progress : Progress) → slice_get seen 0 ≡ None → told_of_doubles b seen frames progress (seen_doubles seen) ≡ []
 unfolding told_of_doubles
-none-told b seen late progress none = ap (told_of_doubles b seen late progress) (none-doubles seen none)
+none-told b seen frames progress none = ap (told_of_doubles b seen frames progress) (none-doubles seen none)
 
-pub none-known : (b : Basis) (seen late : List Sighting) (progress : Progress) → slice_get seen 0 ≡ None → progress_of b seen late progress (seen_doubles seen) ≡ progress
+pub none-known : (b : Basis) (seen : List Sighting) (frames : OffendingFrames) (progress : Progress) → slice_get seen 0 ≡ None → progress_of b seen frames progress (seen_doubles seen) ≡ progress
 unfolding progress_of
-none-known b seen late progress none = ap (progress_of b seen late progress) (none-doubles seen none)
+none-known b seen frames progress none = ap (progress_of b seen frames progress) (none-doubles seen none)
 
 -- ---- both cycles
 

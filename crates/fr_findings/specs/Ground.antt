@@ -8,10 +8,12 @@ use Rattle.fr_findings.specs.Verdict.{Basis, DoubleCycle, double_with, faults_to
 use Rattle.fr_findings.specs.declared.ground.Around.{Around}
 use Rattle.fr_findings.specs.declared.ground.Double.{Double}
 use Rattle.fr_findings.specs.declared.ground.Ground.{Ground}
+use Rattle.fr_findings.specs.declared.ground.Offending.{Offending}
 use Rattle.fr_findings.specs.declared.progress.Progress.{Progress}
 use Rattle.fr_observe.specs.declared.says.Says.{Says}
 use Rattle.fr_sightings.specs.Ranges.{AreLogStamps, AreNumbered, AreSeenFrom, DoublesAscend, IsProperSender, IsScaleOf}
 use Rattle.fr_sightings.specs.Senders.{double_of}
+use Rattle.fr_sightings.specs.Sightings.{OffendingFrames}
 use Rattle.fr_sightings.specs.declared.sighting.Sighting.{Sighting}
 
 abbrev pub basis_in : Ground → Basis
@@ -25,28 +27,41 @@ basis_in g =
       may_be_covered = g.may_be_covered;
     }
 
+abbrev pub offending_given : Offending → OffendingFrames
+offending_given frames = record { untimely = frames.untimely.now; irregular = frames.irregular.now }
+
 abbrev pub double_in : Double → DoubleCycle
 double_in d =
-    record { number = d.number; before = d.before.now; here = d.here.now; late = d.late.now; senders = d.senders.now }
+    record {
+      number = d.number;
+      before = d.before.now;
+      here = d.here.now;
+      offending = offending_given d.offending;
+      senders = d.senders.now;
+    }
 
 abbrev pub double_around : Ground → Around → ℕ → DoubleCycle
-double_around g a double = double_with (basis_in g) double a.before.now a.here.now a.next.now a.late.now
+double_around g a double = double_with (basis_in g) double a.before.now a.here.now a.next.now (offending_given a.offending)
 
 -- the scale is that of the parameters
 abbrev pub IsGround : Ground → Type 0
 IsGround g = IsScaleOf g.params.now g.scale.now
 
 -- stamps lie within the limits of the log
+pub record AreOffending (l : LogView) (frames : OffendingFrames) : Type 0 where
+  pub untimely : AreLogStamps l frames.untimely
+  pub irregular : AreLogStamps l frames.irregular
+
 pub record IsAround (g : Ground) (a : Around) : Type 0 where
   pub here : AreLogStamps g.log.now a.here.now
   pub next : AreLogStamps g.log.now a.next.now
-  pub late : AreLogStamps g.log.now a.late.now
+  pub offending : AreOffending g.log.now (offending_given a.offending)
 
 -- and senders are those of a cluster
 pub record IsDouble (g : Ground) (d : Double) : Type 0 where
   pub number : d.number < 1_000_000
   pub here : AreLogStamps g.log.now d.here.now
-  pub late : AreLogStamps g.log.now d.late.now
+  pub offending : AreOffending g.log.now (offending_given d.offending)
   pub few : length d.senders.now ≤ 64
   pub senders : All (IsProperSender g.scale.now) d.senders.now
 
@@ -55,6 +70,11 @@ pub record ComeInOrder (l : LogView) (seen : List Sighting) : Type 0 where
   pub numbered : AreNumbered seen
   pub timed : AreLogStamps l seen
   pub ascend : DoublesAscend seen
+
+-- so do offending frames
+pub record OffendInOrder (l : LogView) (frames : OffendingFrames) : Type 0 where
+  pub untimely : ComeInOrder l frames.untimely
+  pub irregular : ComeInOrder l frames.irregular
 
 -- one is of a double cycle before another
 abbrev pub is_of_earlier : ℕ → Sighting → Bool

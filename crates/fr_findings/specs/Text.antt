@@ -9,7 +9,8 @@ use Rattle.fr_observe.specs.Faults.{kind_word}
 use Rattle.fr_findings.specs.Counting.{cycles_told, log_row}
 use Rattle.fr_observe.specs.Observing.{known_count, precision_row, row, seen_doubles}
 use Rattle.fr_sightings.specs.Ranges.{AreLate, DoublesAscend}
-use Rattle.fr_sightings.specs.Sightings.{IsSighting, SightingsView, sightings_of, tally_of, untimely_of}
+use Rattle.fr_sightings.specs.Sightings.{IsSighting, OffendingFrames, SightingsView, offending_frames_of, sightings_of, tally_of}
+use Rattle.fr_findings.specs.Sure.{are_numbers_sure, numbers_row}
 use Rattle.fr_findings.specs.Verdict.{Basis, basis_with, coverable_of, is_coverable, log_progress, no_progress, told_of_doubles, verdict_by}
 use Rattle.fr_findings.specs.declared.coverable.Coverable.{Coverable}
 use Rattle.fr_findings.specs.declared.coverable.Coverable.TheVariants as coverable
@@ -49,33 +50,35 @@ verdict_row (verdict.Within reach) =
 verdict_row verdict.Open = row (codes "verdict") (codes "open" ∷ [] ∷ [] ∷ [] ∷ [] ∷ [] ∷ [] ∷ [])
 
 -- what holds of the whole log, behind the rows of its senders
-unfoldable pub end_told : List Sighting → Tally → Coverable → Progress → List ℕ
-end_told seen tally covered progress =
-    log_row tally ++ covered_row covered ++ sync_row progress.sync ++ cycles_told seen progress.counts
+unfoldable pub end_told : List Sighting → Tally → Coverable → Bool → Progress → List ℕ
+end_told seen tally covered sure progress =
+    log_row tally ++ covered_row covered ++ numbers_row sure ++ sync_row progress.sync ++ cycles_told seen progress.counts
     ++ verdict_row (verdict_by progress)
 
 -- all behind the precision
-unfoldable pub all_told : Basis → List Sighting → List Sighting → Tally → Coverable → List ℕ
-all_told b seen late tally covered =
-    told_of_doubles b seen late no_progress (seen_doubles seen)
-    ++ (census_text b.params b.log seen ++ end_told seen tally covered (log_progress b seen late))
+unfoldable pub all_told : Basis → List Sighting → OffendingFrames → Tally → Coverable → List ℕ
+all_told b seen offending tally covered =
+    told_of_doubles b seen offending no_progress (seen_doubles seen)
+    ++ (census_text b.params b.log seen
+    ++ end_told seen tally covered (are_numbers_sure b.params b.log) (log_progress b seen offending))
 
-unfoldable pub whole_told : Basis → List Sighting → List Sighting → Tally → Coverable → List ℕ
-whole_told b seen late tally covered = precision_row b.precision ++ all_told b seen late tally covered
+unfoldable pub whole_told : Basis → List Sighting → OffendingFrames → Tally → Coverable → List ℕ
+whole_told b seen offending tally covered = precision_row b.precision ++ all_told b seen offending tally covered
 
--- the text of a log, by its sightings, its untimely frames, and what became of its entries
-abbrev pub text_with : Values → LogView → List Sighting → List Sighting → Tally → Coverable → List ℕ
-text_with p l seen late tally covered =
-    whole_told (basis_with p l seen (is_coverable covered)) seen late tally covered
+-- the text of a log, by its sightings, its offending frames, and what became of its entries
+abbrev pub text_with : Values → LogView → List Sighting → OffendingFrames → Tally → Coverable → List ℕ
+text_with p l seen offending tally covered =
+    whole_told (basis_with p l seen (is_coverable covered)) seen offending tally covered
 
 unfoldable pub observe_text : Values → LogView → List ℕ
-observe_text p l = text_with p l (sightings_of p l) (untimely_of p l) (tally_of p l) (coverable_of p l)
+observe_text p l = text_with p l (sightings_of p l) (offending_frames_of p l) (tally_of p l) (coverable_of p l)
 
--- the sightings of a log, its untimely frames, and what became of its entries, as they are gathered
+-- the sightings of a log, its offending frames, and what became of its entries, as they are gathered
 pub record AreGathered (p : Values) (l : LogView) (seen : SightingsView) : Type 0 where
   pub list : seen.list ≡ sightings_of p l
-  pub untimely : seen.untimely ≡ untimely_of p l
+  pub offending : seen.offending ≡ offending_frames_of p l
   pub tally : seen.tally ≡ tally_of p l
   pub proper : All (IsSighting p l) seen.list
   pub ascend : DoublesAscend seen.list
-  pub late : AreLate l seen.untimely
+  pub late : AreLate l seen.offending.untimely
+  pub irregular : AreLate l seen.offending.irregular

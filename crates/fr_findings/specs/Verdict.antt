@@ -10,11 +10,11 @@ use Rattle.fr_cluster.specs.declared.nodes.NodeSpec.{NodeSpec}
 use Rattle.fr_log.specs.View.{LogView, is_arbitrary_in}
 use Rattle.fr_course.specs.Readings.{reading_scale}
 use Rattle.fr_course.specs.declared.scales.Scale.{Scale}
-use Rattle.fr_observe.specs.Faults.{before_in_sync, fault_row, faults_in_sync, first_of_faults, is_sync_seen, own_faults, sync_behind, sync_faults}
+use Rattle.fr_observe.specs.Faults.{before_in_sync, fault_row, faults_in_sync, first_of_faults, is_sync_seen, own_faults, slot_faults, sync_behind, sync_faults}
 use Rattle.fr_findings.specs.Counting.{counted, no_cycles_told}
 use Rattle.fr_observe.specs.Observing.{both_say, double_rows, even_high, even_low, odd_high, odd_low, says_of, seen_doubles}
 use Rattle.fr_sightings.specs.Senders.{seen_senders, sightings_in}
-use Rattle.fr_sightings.specs.Sightings.{sightings_of, untimely_of}
+use Rattle.fr_sightings.specs.Sightings.{OffendingFrames, offending_frames_of, sightings_of}
 use Rattle.fr_findings.specs.declared.coverable.Coverable.{Coverable}
 use Rattle.fr_findings.specs.declared.coverable.Coverable.TheVariants as coverable
 use Rattle.fr_observe.specs.declared.fault.Fault.{Fault}
@@ -103,12 +103,12 @@ log_basis p l = basis_with p l (sightings_of p l) (is_coverable (coverable_of p 
 
 -- ---- a double cycle
 
--- its number, the sightings of the double cycle before and its own, its untimely frames, and its senders
+-- its number, the sightings of the double cycle before and its own, its offending frames, and its senders
 pub record DoubleCycle : Type 0 where
   pub number : ℕ
   pub before : List Sighting
   pub here : List Sighting
-  pub late : List Sighting
+  pub offending : OffendingFrames
   pub senders : List Sender
 
 -- before the first one there are none
@@ -117,25 +117,35 @@ sightings_before seen zero = []
 sightings_before seen (suc double) = sightings_in seen double
 
 -- by its sightings and those of the next one
-abbrev pub double_with : Basis → ℕ → List Sighting → List Sighting → List Sighting → List Sighting → DoubleCycle
-double_with b double before here next late =
+abbrev pub double_with : Basis → ℕ → List Sighting → List Sighting → List Sighting → OffendingFrames → DoubleCycle
+double_with b double before here next offending =
     record {
       number = double;
       before = before;
       here = here;
-      late = late;
+      offending = offending;
       senders = seen_senders b.scale b.params b.log here next double;
     }
 
--- by the sightings of a log and its untimely frames
-unfoldable pub double_at : Basis → List Sighting → List Sighting → ℕ → DoubleCycle
-double_at b seen late double =
-    double_with b double (sightings_before seen double) (sightings_in seen double) (sightings_in seen (double + 1))
-    (sightings_in late double)
+-- those of a double cycle
+abbrev pub offending_in : OffendingFrames → ℕ → OffendingFrames
+offending_in offending double =
+    record {
+      untimely = sightings_in offending.untimely double;
+      irregular = sightings_in offending.irregular double;
+    }
 
--- what contradicts any run
+-- by the sightings of a log and those frames
+unfoldable pub double_at : Basis → List Sighting → OffendingFrames → ℕ → DoubleCycle
+double_at b seen offending double =
+    double_with b double (sightings_before seen double) (sightings_in seen double) (sightings_in seen (double + 1))
+    (offending_in offending double)
+
+-- what contradicts any run, and any that sends each whole frame of the log in the slot of a node
 unfoldable pub own_told : Basis → DoubleCycle → List Fault
-own_told b d = own_faults b.params b.scale b.log d.here d.late d.number d.senders
+own_told b d =
+    own_faults b.params b.scale b.log d.here d.offending.untimely d.number d.senders
+    ++ slot_faults b.params d.offending.irregular
 
 -- from which double cycle on the cluster is in sync, as it is known behind this one
 unfoldable pub sync_told : Basis → DoubleCycle → Option SyncFrom → Option SyncFrom
@@ -203,28 +213,28 @@ double_told b d progress =
 -- ---- a log
 
 -- the faults of a double cycle, where the cluster is in sync from there on
-abbrev pub double_faults : Basis → List Sighting → List Sighting → ℕ → Option SyncFrom → List Fault
-double_faults b seen late double sync = faults_told b (double_at b seen late double) sync
+abbrev pub double_faults : Basis → List Sighting → OffendingFrames → ℕ → Option SyncFrom → List Fault
+double_faults b seen offending double sync = faults_told b (double_at b seen offending double) sync
 
-abbrev pub progress_behind : Basis → List Sighting → List Sighting → ℕ → Progress → Progress
-progress_behind b seen late double progress = progress_told b (double_at b seen late double) progress
+abbrev pub progress_behind : Basis → List Sighting → OffendingFrames → ℕ → Progress → Progress
+progress_behind b seen offending double progress = progress_told b (double_at b seen offending double) progress
 
 -- behind some double cycles, from the first on
-unfoldable pub progress_of : Basis → List Sighting → List Sighting → Progress → List ℕ → Progress
-progress_of b seen late progress [] = progress
-progress_of b seen late progress (double ∷ doubles) =
-    progress_of b seen late (progress_behind b seen late double progress) doubles
+unfoldable pub progress_of : Basis → List Sighting → OffendingFrames → Progress → List ℕ → Progress
+progress_of b seen offending progress [] = progress
+progress_of b seen offending progress (double ∷ doubles) =
+    progress_of b seen offending (progress_behind b seen offending double progress) doubles
 
 -- their text
-unfoldable pub told_of_doubles : Basis → List Sighting → List Sighting → Progress → List ℕ → List ℕ
-told_of_doubles b seen late progress [] = []
-told_of_doubles b seen late progress (double ∷ doubles) =
-    double_told b (double_at b seen late double) progress
-    ++ told_of_doubles b seen late (progress_behind b seen late double progress) doubles
+unfoldable pub told_of_doubles : Basis → List Sighting → OffendingFrames → Progress → List ℕ → List ℕ
+told_of_doubles b seen offending progress [] = []
+told_of_doubles b seen offending progress (double ∷ doubles) =
+    double_told b (double_at b seen offending double) progress
+    ++ told_of_doubles b seen offending (progress_behind b seen offending double progress) doubles
 
 -- behind the last one
-abbrev pub log_progress : Basis → List Sighting → List Sighting → Progress
-log_progress b seen late = progress_of b seen late no_progress (seen_doubles seen)
+abbrev pub log_progress : Basis → List Sighting → OffendingFrames → Progress
+log_progress b seen offending = progress_of b seen offending no_progress (seen_doubles seen)
 
 -- ---- the verdict
 
@@ -242,4 +252,4 @@ unfoldable pub verdict_by : Progress → Verdict
 verdict_by progress = verdict_with progress.first progress.sync progress.reach
 
 unfoldable pub verdict_of : Values → LogView → Verdict
-verdict_of p l = verdict_by (log_progress (log_basis p l) (sightings_of p l) (untimely_of p l))
+verdict_of p l = verdict_by (log_progress (log_basis p l) (sightings_of p l) (offending_frames_of p l))

@@ -7,13 +7,14 @@ ghost use Rattle.fr_findings.specs.Ground.{IsDouble, IsGround, basis_in, double_
 ghost use Rattle.fr_observe.specs.Telling.{TellsFaults};
 ghost use Rattle.fr_findings.specs.Verdict.{faults_told, in_sync_told, own_told, sync_told};
 
-use crate::ground::{Double, Ground};
+use crate::ground::{Double, Ground, Offending};
 use crate::progress::Progress;
+use crate::slot_faults::put_slot_faults;
 use fr_base::{PutFault, Sink};
 use fr_observe::{Fault, SyncFrom, is_sync_seen, put_own_faults, put_sync_faults, sync_behind};
 use fr_sightings::Sighting;
 
-// What contradicts any run.
+// What contradicts any run, and any that sends each whole frame of the log in the slot of a node.
 #[tactic(auto, unfolding(crate::specs::Verdict::own_told))]
 fn put_own<O: Sink>(
     ground: &Ground<'_>,
@@ -35,11 +36,18 @@ fn put_own<O: Sink>(
     let Double {
         number,
         here,
-        late,
+        offending,
         senders,
         ..
     } = *double;
-    put_own_faults(scale, params, log, here, late, number, senders, first, out)
+    let Offending {
+        untimely,
+        irregular,
+    } = offending;
+    put_own_faults(
+        scale, params, log, here, untimely, number, senders, first, out,
+    )?;
+    put_slot_faults(params, log, irregular, first, out)
 }
 
 // From when on the cluster is in sync behind a double cycle, where this says whether nothing contradicts any run in it.

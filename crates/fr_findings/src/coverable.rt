@@ -79,7 +79,7 @@ fn counted(correct: u64, arbitrary: u64) -> Coverable
 }
 
 // Whether a node sends sync frames, and the log names it arbitrary or does not.
-fn is_sync_as(log: &Log, arbitrary: bool, node: &NodeSpec) -> bool
+pub(crate) fn is_sync_as(log: &Log, arbitrary: bool, node: &NodeSpec) -> bool
     ensures { result ≡ is_sync_as log.now arbitrary node.now }
 {
     node.key.is_some() && is_named_as(log, arbitrary, node)

@@ -16,22 +16,29 @@ pub(crate) struct Ground<'a> {
     pub(crate) may_be_covered: bool,
 }
 
+// The offending frames of a log, or of a double cycle: those that do not come in time, and irregular ones.
+#[derive(Clone, Copy)]
+pub(crate) struct Offending<'a> {
+    pub(crate) untimely: &'a [Sighting],
+    pub(crate) irregular: &'a [Sighting],
+}
+
 // The sightings that a double cycle is looked at with: those of the one before, its own, those of the next one, and its
-// untimely frames.
+// offending frames.
 #[derive(Clone, Copy)]
 pub(crate) struct Around<'a> {
     pub(crate) before: &'a [Sighting],
     pub(crate) here: &'a [Sighting],
     pub(crate) next: &'a [Sighting],
-    pub(crate) late: &'a [Sighting],
+    pub(crate) offending: Offending<'a>,
 }
 
-// A double cycle: its number, the sightings of the one before and its own, its untimely frames, and its senders.
+// A double cycle: its number, the sightings of the one before and its own, its offending frames, and its senders.
 #[derive(Clone, Copy)]
 pub(crate) struct Double<'a> {
     pub(crate) number: u32,
     pub(crate) before: &'a [Sighting],
     pub(crate) here: &'a [Sighting],
-    pub(crate) late: &'a [Sighting],
+    pub(crate) offending: Offending<'a>,
     pub(crate) senders: &'a [Sender],
 }

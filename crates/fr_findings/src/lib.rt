@@ -11,6 +11,8 @@ mod ground;
 mod looking;
 mod observing;
 mod progress;
+mod slot_faults;
+mod sure;
 mod verdict;
 mod writing;
 

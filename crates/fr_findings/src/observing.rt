@@ -4,8 +4,9 @@ ghost use Rattle.fr_base.specs.Device.{Puts};
 ghost use Rattle.fr_course.specs.Readings.{reading_scale};
 ghost use Rattle.fr_text.specs.Lines.{joined_lines};
 ghost use Rattle.fr_findings.specs.Census.{census_text};
-ghost use Rattle.fr_findings.specs.Ground.{ComeInOrder, IsGround, basis_in};
+ghost use Rattle.fr_findings.specs.Ground.{ComeInOrder, IsGround, OffendInOrder, basis_in, offending_given};
 ghost use Rattle.fr_observe.specs.Observing.{seen_doubles};
+ghost use Rattle.fr_findings.specs.Sure.{are_numbers_sure};
 ghost use Rattle.fr_findings.specs.Text.{AreGathered, all_told, end_told, observe_text, text_with, whole_told};
 ghost use Rattle.fr_findings.specs.Verdict.{coverable_of, log_span, no_progress, number_or_none, progress_of, told_of_doubles};
 ghost use Rattle.fr_sightings.specs.Ranges.{IsScaleOf};
@@ -13,8 +14,9 @@ ghost use Rattle.fr_sightings.specs.Ranges.{IsScaleOf};
 use crate::census::put_census;
 use crate::coverable::Coverable;
 use crate::ends::{covered_row, cycles_told, log_row, sync_row, verdict_row};
-use crate::ground::Ground;
+use crate::ground::{Ground, Offending};
 use crate::progress::Progress;
+use crate::sure::{are_numbers_sure, numbers_row};
 use crate::verdict::Verdict;
 use crate::writing::put_doubles;
 use fr_base::{PutFault, Sink};
@@ -58,18 +60,20 @@ fn log_span(seen: &[Sighting]) -> LogSpan
 fn put_all<O: Sink>(
     ground: &Ground<'_>,
     seen: &[Sighting],
-    untimely: &[Sighting],
+    offending: &Offending<'_>,
     progress: &mut Progress,
     out: &mut O,
 ) -> Result<(), PutFault>
     requires ground { IsGround ground.now }
     requires seen { ComeInOrder ground.now.log.now seen.now }
-    requires untimely { ComeInOrder ground.now.log.now untimely.now }
+    requires offending { OffendInOrder ground.now.log.now (offending_given offending.now) }
     requires progress { progress.old ≡ no_progress }
     ensures puts { Puts result (O.state out.old) (O.state out.new)
-        (told_of_doubles (basis_in ground.now) seen.now untimely.now no_progress (seen_doubles seen.now)) }
+        (told_of_doubles (basis_in ground.now) seen.now (offending_given offending.now) no_progress
+        (seen_doubles seen.now)) }
     ensures progress { OnOk result (progress.new ≡
-        progress_of (basis_in ground.now) seen.now untimely.now no_progress (seen_doubles seen.now)) }
+        progress_of (basis_in ground.now) seen.now (offending_given offending.now) no_progress
+        (seen_doubles seen.now)) }
 {
     match seen.first() {
         None => Ok(()),
@@ -78,7 +82,7 @@ fn put_all<O: Sink>(
             Some(last) => put_doubles(
                 ground,
                 seen,
-                untimely,
+                offending,
                 first.number / 2,
                 last.number / 2,
                 progress,
@@ -94,13 +98,15 @@ fn end_lines(
     seen: &[Sighting],
     tally: &Tally,
     covered: Coverable,
+    sure: bool,
     progress: &Progress,
-) -> [Option<Line>; 5]
-    ensures { joined_lines result ≡ end_told seen.now tally.now covered progress.now }
+) -> [Option<Line>; 6]
+    ensures { joined_lines result ≡ end_told seen.now tally.now covered sure progress.now }
 {
     [
         Some(log_row(tally)),
         Some(covered_row(covered)),
+        Some(numbers_row(sure)),
         Some(sync_row(progress.sync)),
         Some(cycles_told(seen, &progress.counts)),
         Some(verdict_row(Verdict::of(progress))),
@@ -119,10 +125,12 @@ fn put_end<O: Sink>(
     requires { ComeInOrder ground.now.log.now seen.now }
     ensures { Puts result (O.state out.old) (O.state out.new)
         (census_text ground.now.params.now ground.now.log.now seen.now
-        ++ end_told seen.now tally.now covered progress.now) }
+        ++ end_told seen.now tally.now covered (are_numbers_sure ground.now.params.now ground.now.log.now)
+        progress.now) }
 {
+    let sure = are_numbers_sure(ground.params, ground.log);
     put_census(ground.params, ground.log, seen, out)?;
-    put_lines(&end_lines(seen, tally, covered, progress), out)
+    put_lines(&end_lines(seen, tally, covered, sure, progress), out)
 }
 
 // All behind the precision.
@@ -130,19 +138,19 @@ fn put_end<O: Sink>(
 fn put_rest<O: Sink>(
     ground: &Ground<'_>,
     seen: &[Sighting],
-    untimely: &[Sighting],
+    offending: &Offending<'_>,
     tally: &Tally,
     covered: Coverable,
     out: &mut O,
 ) -> Result<(), PutFault>
     requires ground { IsGround ground.now }
     requires seen { ComeInOrder ground.now.log.now seen.now }
-    requires untimely { ComeInOrder ground.now.log.now untimely.now }
+    requires offending { OffendInOrder ground.now.log.now (offending_given offending.now) }
     ensures { Puts result (O.state out.old) (O.state out.new)
-        (all_told (basis_in ground.now) seen.now untimely.now tally.now covered) }
+        (all_told (basis_in ground.now) seen.now (offending_given offending.now) tally.now covered) }
 {
     let mut progress = Progress::none();
-    put_all(ground, seen, untimely, &mut progress, out)?;
+    put_all(ground, seen, offending, &mut progress, out)?;
     put_end(ground, seen, tally, covered, &progress, out)
 }
 
@@ -150,34 +158,35 @@ fn put_rest<O: Sink>(
 fn put_whole<O: Sink>(
     ground: &Ground<'_>,
     seen: &[Sighting],
-    untimely: &[Sighting],
+    offending: &Offending<'_>,
     tally: &Tally,
     covered: Coverable,
     out: &mut O,
 ) -> Result<(), PutFault>
     requires ground { IsGround ground.now }
     requires seen { ComeInOrder ground.now.log.now seen.now }
-    requires untimely { ComeInOrder ground.now.log.now untimely.now }
+    requires offending { OffendInOrder ground.now.log.now (offending_given offending.now) }
     ensures { Puts result (O.state out.old) (O.state out.new)
-        (whole_told (basis_in ground.now) seen.now untimely.now tally.now covered) }
+        (whole_told (basis_in ground.now) seen.now (offending_given offending.now) tally.now covered) }
 {
     put_line(&precision_row(ground.precision), out)?;
-    put_rest(ground, seen, untimely, tally, covered, out)
+    put_rest(ground, seen, offending, tally, covered, out)
 }
 
-// What these sightings of a log tell, its untimely frames, and what became of its entries.
+// What these sightings of a log tell, its offending frames, and what became of its entries.
 fn put_told<O: Sink>(
     params: &Params,
     log: &Log,
     seen: &[Sighting],
-    untimely: &[Sighting],
+    offending: &Offending<'_>,
     tally: &Tally,
     out: &mut O,
 ) -> Result<(), PutFault>
     requires seen { ComeInOrder log.now seen.now }
-    requires untimely { ComeInOrder log.now untimely.now }
+    requires offending { OffendInOrder log.now (offending_given offending.now) }
     ensures { Puts result (O.state out.old) (O.state out.new)
-        (text_with params.now log.now seen.now untimely.now tally.now (coverable_of params.now log.now)) }
+        (text_with params.now log.now seen.now (offending_given offending.now) tally.now
+        (coverable_of params.now log.now)) }
 {
     let scale = scale_of(params, log);
     let covered = Coverable::of(params, log);
@@ -189,7 +198,7 @@ fn put_told<O: Sink>(
         span: log_span(seen),
         may_be_covered: covered.is_open(),
     };
-    put_whole(&ground, seen, untimely, tally, covered, out)
+    put_whole(&ground, seen, offending, tally, covered, out)
 }
 
 /// Writes what a log tells of a cluster's clocks, what contradicts it, and its verdict, by its sightings: records of
@@ -205,11 +214,15 @@ pub fn write_observed<O: Sink>(
     requires { AreGathered params.now log.now sightings.now }
     ensures { Puts result (O.state out.old) (O.state out.new) (observe_text params.now log.now) }
 {
+    let offending = Offending {
+        untimely: sightings.untimely(),
+        irregular: sightings.irregular(),
+    };
     put_told(
         params,
         log,
         sightings.as_slice(),
-        sightings.untimely(),
+        &offending,
         &sightings.tally(),
         out,
     )

@@ -2,7 +2,7 @@ ghost use Rattle.std.specs.Prelude.{◌≡◌, ◌+◌, ◌-◌, ◌≤◌, ◌<
 ghost use Rattle.std.specs.List.{flat_map, range_with_len};
 ghost use Rattle.fr_base.specs.Device.{Puts};
 ghost use Rattle.fr_course.specs.Near.{IsReadingScale};
-ghost use Rattle.fr_findings.specs.Ground.{ComeInOrder, AreWalked, IsAround, IsDouble, IsGround, basis_in, double_around, double_in};
+ghost use Rattle.fr_findings.specs.Ground.{AreWalked, IsAround, IsDouble, IsGround, OffendInOrder, basis_in, double_around, double_in, offending_given};
 ghost use Rattle.fr_observe.specs.Observing.{cycles_text, double_rows, node_row};
 ghost use Rattle.fr_findings.specs.Counting.{AreFewCycles};
 ghost use Rattle.fr_observe.specs.Skews.{AreSkews};
@@ -10,7 +10,7 @@ ghost use Rattle.fr_findings.specs.Verdict.{double_told, even_says, no_progress,
 ghost use Rattle.fr_sightings.specs.Ranges.{IsProperSender};
 
 use crate::contradicting::put_faults;
-use crate::ground::{Around, Double, Ground};
+use crate::ground::{Around, Double, Ground, Offending};
 use crate::looking::{look_at, look_from};
 use crate::progress::Progress;
 use fr_base::{PutFault, Sink};
@@ -161,14 +161,14 @@ fn put_around<O: Sink>(
     let Around {
         before,
         here,
-        late,
+        offending,
         ..
     } = *around;
     let double = Double {
         number,
         before,
         here,
-        late,
+        offending,
         senders,
     };
     put_double(ground, &double, progress, out)
@@ -178,7 +178,7 @@ fn put_around<O: Sink>(
 pub(crate) fn put_doubles<O: Sink>(
     ground: &Ground<'_>,
     seen: &[Sighting],
-    untimely: &[Sighting],
+    offending: &Offending<'_>,
     first: u32,
     last: u32,
     progress: &mut Progress,
@@ -186,33 +186,40 @@ pub(crate) fn put_doubles<O: Sink>(
 ) -> Result<(), PutFault>
     requires ground { IsGround ground.now }
     requires seen { AreWalked ground.now first seen.now }
-    requires untimely { ComeInOrder ground.now.log.now untimely.now }
+    requires offending { OffendInOrder ground.now.log.now (offending_given offending.now) }
     requires first { first ≤ last }
     requires last { last < 100_000 }
     requires progress { progress.old ≡ no_progress }
     ensures puts { Puts result (O.state out.old) (O.state out.new)
-        (told_of_doubles (basis_in ground.now) seen.now untimely.now no_progress
+        (told_of_doubles (basis_in ground.now) seen.now (offending_given offending.now) no_progress
         (range_with_len first (last + 1 - first))) }
     ensures progress { OnOk result (progress.new ≡
-        progress_of (basis_in ground.now) seen.now untimely.now no_progress (range_with_len first (last + 1 - first))) }
+        progress_of (basis_in ground.now) seen.now (offending_given offending.now) no_progress
+        (range_with_len first (last + 1 - first))) }
 {
     let mut before: &[Sighting] = &[];
     let mut rest = seen;
-    let mut rest_untimely = look_from(untimely, first);
+    let mut rest_untimely = look_from(offending.untimely, first);
+    let mut rest_irregular = look_from(offending.irregular, first);
     let mut double = first;
     while double <= last {
         let look = look_at(rest, double);
-        let late = look_at(rest_untimely, double);
+        let untimely = look_at(rest_untimely, double);
+        let irregular = look_at(rest_irregular, double);
         let around = Around {
             before,
             here: look.here,
             next: look.next,
-            late: late.here,
+            offending: Offending {
+                untimely: untimely.here,
+                irregular: irregular.here,
+            },
         };
         put_around(ground, &around, double, progress, out)?;
         before = look.here;
         rest = look.behind;
-        rest_untimely = late.behind;
+        rest_untimely = untimely.behind;
+        rest_irregular = irregular.behind;
         double += 1;
     }
     Ok(())

@@ -2,7 +2,7 @@ use Rattle.std.proofs.Common.{◌≡◌, ◌∙◌, ◌-◌, None, Some, Ok, len
 use Rattle.std.specs.Option.{option_copied}
 use Rattle.fr_base.specs.Device.{Puts}
 use Rattle.fr_base.proofs.Putting.{puts_none}
-use Rattle.fr_findings.specs.Ground.{basis_in}
+use Rattle.fr_findings.specs.Ground.{basis_in, offending_given}
 use Rattle.fr_findings.specs.Verdict.{no_progress}
 use Rattle.fr_findings.proofs.Printing.{none-known, none-told}
 use Rattle.fr_findings.proofs.Windows.{first-last, from-first}
@@ -27,9 +27,9 @@ pub returns-in-None-clause-puts : goal.returns-in-None-clause-puts
 returns-in-None-clause-puts g c =
     let none : slice_get c.args.seen.now 0 ≡ None = sym c.first.ensures.value ∙ ap option_copied c.in-None.is in
     let a = g.O.Sink.state c.args.out.now in
-    subst (Puts (Ok tt) a a) (sym (none-told (basis_in c.args.ground.now) c.args.seen.now c.args.untimely.now no_progress none)) (puts_none a)
+    subst (Puts (Ok tt) a a) (sym (none-told (basis_in c.args.ground.now) c.args.seen.now (offending_given c.args.offending.now) no_progress none)) (puts_none a)
 
 pub returns-in-None-clause-progress : goal.returns-in-None-clause-progress
 returns-in-None-clause-progress g c =
     let none : slice_get c.args.seen.now 0 ≡ None = sym c.first.ensures.value ∙ ap option_copied c.in-None.is in
-    c.requires.progress ∙ sym (none-known (basis_in c.args.ground.now) c.args.seen.now c.args.untimely.now no_progress none)
+    c.requires.progress ∙ sym (none-known (basis_in c.args.ground.now) c.args.seen.now (offending_given c.args.offending.now) no_progress none)

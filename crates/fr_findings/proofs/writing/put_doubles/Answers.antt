@@ -2,54 +2,63 @@ use Rattle.std.proofs.Common.{◌≡◌, ◌∙◌, ℕ, ◌+◌, ◌-◌, ◌*�
 use Rattle.fr_base.specs.Device.{Puts}
 use Rattle.fr_base.proofs.Putting.{puts_none}
 use Rattle.fr_sightings.specs.Senders.{sightings_in}
-use Rattle.fr_findings.specs.Ground.{basis_in}
+use Rattle.fr_findings.specs.Ground.{basis_in, offending_given}
 use Rattle.fr_findings.specs.Counting.{AreFewCycles}
 use Rattle.fr_findings.specs.Verdict.{DoubleCycle, double_at, double_with, progress_of, progress_told, told_of_doubles}
 use Rattle.fr_findings.specs.declared.progress.Progress.{Progress}
-use Rattle.fr_findings.proofs.Printing.{before-first, before-next, double-is, few-none, few-told, progress-end, progress-then, told-cut, told-end, told-then, up_to}
+use Rattle.fr_findings.proofs.Printing.{before-first, before-next, double-is, few-none, few-told, offending-of, progress-end, progress-then, told-cut, told-end, told-then, up_to}
 use Rattle.fr_findings.proofs.writing.put_doubles.Goals as goal
 
 pub put_around-requires-clause-around : goal.put_around-requires-clause-around
 put_around-requires-clause-around g c =
     let look = c.look_at-look.ensures.timed c.args.ground.now.log.now c.loop-double.invariant.seen.timed in
-    let late = c.look_at-late.ensures.timed c.args.ground.now.log.now c.loop-double.invariant.untimely.timed in
-    record { here = look.0; next = look.1; late = late.0 }
+    let untimely = c.look_at-untimely.ensures.timed c.args.ground.now.log.now c.loop-double.invariant.untimely.timed in
+    let irregular = c.look_at-irregular.ensures.timed c.args.ground.now.log.now c.loop-double.invariant.irregular.timed in
+    record { here = look.0; next = look.1; offending = record { untimely = untimely.0; irregular = irregular.0 } }
 
 pub loop-double-init : goal.loop-double-init
 loop-double-init g c =
     let first = c.args.first in
     let last = c.args.last in
-    let timed = c.look_from-rest_untimely.ensures.timed c.args.ground.now.log.now c.requires.untimely.timed in
+    let untimely = c.look_from-rest_untimely.ensures in
+    let irregular = c.look_from-rest_irregular.ensures in
+    let l = c.args.ground.now.log.now in
     record {
       seen = c.requires.seen;
-      untimely = record { timed = timed; ascend = c.look_from-rest_untimely.ensures.ascend; from = c.look_from-rest_untimely.ensures.from };
+      untimely = record { timed = untimely.timed l c.requires.offending.untimely.timed; ascend = untimely.ascend; from = untimely.from };
+      irregular = record { timed = irregular.timed l c.requires.offending.irregular.timed; ascend = irregular.ascend; from = irregular.from };
       same = λ later le. refl;
-      same_untimely = λ later le. c.look_from-rest_untimely.ensures.same later le;
+      same_untimely = λ later le. untimely.same later le;
+      same_irregular = λ later le. irregular.same later le;
       before = before-first c.args.seen.now first c.requires.seen.from;
       within = omega (arith, c.requires.first);
       started = omega arith;
       few = few-none (2 * (first - first)) c.args.progress.now c.requires.progress;
       puts = λ result after put.
-          subst (λ (progress : Progress). Puts result (g.O.Sink.state c.args.out.now) after (told_of_doubles (basis_in c.args.ground.now) c.args.seen.now c.args.untimely.now progress (up_to first last)))
+          subst (λ (progress : Progress). Puts result (g.O.Sink.state c.args.out.now) after (told_of_doubles (basis_in c.args.ground.now) c.args.seen.now (offending_given c.args.offending.now) progress (up_to first last)))
           c.requires.progress put;
       progress =
-          ap (λ (progress : Progress). progress_of (basis_in c.args.ground.now) c.args.seen.now c.args.untimely.now progress (up_to first last)) c.requires.progress;
+          ap (λ (progress : Progress). progress_of (basis_in c.args.ground.now) c.args.seen.now (offending_given c.args.offending.now) progress (up_to first last)) c.requires.progress;
     }
 
 pub returns-in_err-put_around-clause-puts : goal.returns-in_err-put_around-clause-puts
 returns-in_err-put_around-clause-puts g c =
     let double = c.loop-double.double in
     let b = basis_in c.args.ground.now in
+    let frames = offending_given c.args.offending.now in
     let look = c.look_at-look in
-    let late = c.look_at-late in
+    let untimely = c.look_at-untimely in
+    let irregular = c.look_at-irregular in
     let here_is : look.result.here.now ≡ sightings_in c.args.seen.now double = look.ensures.here ∙ c.loop-double.invariant.same double (omega arith) in
     let next_is : look.result.next.now ≡ sightings_in c.args.seen.now (double + 1) = look.ensures.next ∙ c.loop-double.invariant.same (double + 1) (omega arith) in
-    let late_is : late.result.here.now ≡ sightings_in c.args.untimely.now double = late.ensures.here ∙ c.loop-double.invariant.same_untimely double (omega arith) in
-    let d : DoubleCycle = double_with b double c.loop-double.before.now look.result.here.now look.result.next.now late.result.here.now in
+    let untimely_is : untimely.result.here.now ≡ sightings_in frames.untimely double = untimely.ensures.here ∙ c.loop-double.invariant.same_untimely double (omega arith) in
+    let irregular_is : irregular.result.here.now ≡ sightings_in frames.irregular double = irregular.ensures.here ∙ c.loop-double.invariant.same_irregular double (omega arith) in
+    let d : DoubleCycle = double_with b double c.loop-double.before.now look.result.here.now look.result.next.now (offending-of untimely.result.here.now irregular.result.here.now) in
     c.loop-double.invariant.puts _ _
-    (told-cut b c.args.seen.now c.args.untimely.now d c.loop-double.progress double c.args.last
+    (told-cut b c.args.seen.now frames d c.loop-double.progress double c.args.last
     c.from_residual.result (omega (arith, c.loop-double-test.true))
-    (double-is b c.args.seen.now c.args.untimely.now c.loop-double.before.now look.result.here.now look.result.next.now late.result.here.now double c.loop-double.invariant.before here_is next_is late_is)
+    (double-is b c.args.seen.now frames c.loop-double.before.now look.result.here.now look.result.next.now untimely.result.here.now irregular.result.here.now double
+    c.loop-double.invariant.before here_is next_is untimely_is irregular_is)
     c.in_err-put_around.ensures.puts c.from_residual.ensures.0)
 
 pub loop-double-preserved : goal.loop-double-preserved
@@ -58,37 +67,46 @@ loop-double-preserved g c =
     let ground = c.args.ground.now in
     let b = basis_in ground in
     let seen = c.args.seen.now in
-    let untimely = c.args.untimely.now in
+    let frames = offending_given c.args.offending.now in
     let look = c.look_at-look in
-    let late = c.look_at-late in
+    let untimely = c.look_at-untimely in
+    let irregular = c.look_at-irregular in
     let here = look.result.here.now in
     let le : double ≤ c.args.last = omega (arith, c.loop-double-test.true) in
     let here_is : here ≡ sightings_in seen double = look.ensures.here ∙ c.loop-double.invariant.same double (omega arith) in
     let next_is : look.result.next.now ≡ sightings_in seen (double + 1) = look.ensures.next ∙ c.loop-double.invariant.same (double + 1) (omega arith) in
-    let late_is : late.result.here.now ≡ sightings_in untimely double = late.ensures.here ∙ c.loop-double.invariant.same_untimely double (omega arith) in
-    let d : DoubleCycle = double_with b double c.loop-double.before.now here look.result.next.now late.result.here.now in
-    let is : d ≡ double_at b seen untimely double =
-    double-is b seen untimely c.loop-double.before.now here look.result.next.now late.result.here.now double c.loop-double.invariant.before here_is next_is late_is in
+    let untimely_is : untimely.result.here.now ≡ sightings_in frames.untimely double = untimely.ensures.here ∙ c.loop-double.invariant.same_untimely double (omega arith) in
+    let irregular_is : irregular.result.here.now ≡ sightings_in frames.irregular double = irregular.ensures.here ∙ c.loop-double.invariant.same_irregular double (omega arith) in
+    let d : DoubleCycle = double_with b double c.loop-double.before.now here look.result.next.now (offending-of untimely.result.here.now irregular.result.here.now) in
+    let is : d ≡ double_at b seen frames double =
+    double-is b seen frames c.loop-double.before.now here look.result.next.now untimely.result.here.now irregular.result.here.now double
+    c.loop-double.invariant.before here_is next_is untimely_is irregular_is in
     let told : c.put_around.new.progress ≡ progress_told b d c.loop-double.progress = c.in_ok-put_around.ensures.progress in
     let before : ℕ = 2 * (double - c.args.first) in
     let more : before + 2 ≡ 2 * (double + 1 - c.args.first) = omega (arith, c.loop-double.invariant.started) in
     let few : AreFewCycles (before + 2) c.put_around.new.progress.counts =
     subst (λ (progress : Progress). AreFewCycles (before + 2) progress.counts) (sym told) (few-told before b d c.loop-double.progress c.loop-double.invariant.few) in record {
       seen = record { timed = (look.ensures.timed ground.log.now c.loop-double.invariant.seen.timed).2; ascend = look.ensures.ascend; from = look.ensures.from };
-      untimely = record { timed = (late.ensures.timed ground.log.now c.loop-double.invariant.untimely.timed).2; ascend = late.ensures.ascend; from = late.ensures.from };
+      untimely = record { timed = (untimely.ensures.timed ground.log.now c.loop-double.invariant.untimely.timed).2; ascend = untimely.ensures.ascend; from = untimely.ensures.from };
+      irregular = record {
+        timed = (irregular.ensures.timed ground.log.now c.loop-double.invariant.irregular.timed).2;
+        ascend = irregular.ensures.ascend;
+        from = irregular.ensures.from;
+      };
       same = λ later later_le. look.ensures.later later (omega (arith, later_le)) ∙ c.loop-double.invariant.same later (omega (arith, later_le));
-      same_untimely = λ later later_le. late.ensures.later later (omega (arith, later_le)) ∙ c.loop-double.invariant.same_untimely later (omega (arith, later_le));
+      same_untimely = λ later later_le. untimely.ensures.later later (omega (arith, later_le)) ∙ c.loop-double.invariant.same_untimely later (omega (arith, later_le));
+      same_irregular = λ later later_le. irregular.ensures.later later (omega (arith, later_le)) ∙ c.loop-double.invariant.same_irregular later (omega (arith, later_le));
       before = here_is ∙ before-next seen double;
       within = omega (arith, le);
       started = omega (arith, c.loop-double.invariant.started);
       few = subst (λ (most : ℕ). AreFewCycles most c.put_around.new.progress.counts) more few;
       puts = λ result after put.
           c.loop-double.invariant.puts result after
-          (told-then b seen untimely d c.loop-double.progress double c.args.last result le is c.in_ok-put_around.ensures.puts
-          (subst (λ (progress : Progress). Puts result (g.O.Sink.state c.put_around.new.out) after (told_of_doubles b seen untimely progress (up_to (double + 1) c.args.last))) told put));
+          (told-then b seen frames d c.loop-double.progress double c.args.last result le is c.in_ok-put_around.ensures.puts
+          (subst (λ (progress : Progress). Puts result (g.O.Sink.state c.put_around.new.out) after (told_of_doubles b seen frames progress (up_to (double + 1) c.args.last))) told put));
       progress =
-          ap (λ (progress : Progress). progress_of b seen untimely progress (up_to (double + 1) c.args.last)) told
-          ∙ progress-then b seen untimely d c.loop-double.progress double c.args.last le is
+          ap (λ (progress : Progress). progress_of b seen frames progress (up_to (double + 1) c.args.last)) told
+          ∙ progress-then b seen frames d c.loop-double.progress double c.args.last le is
           ∙ c.loop-double.invariant.progress;
     }
 
@@ -98,10 +116,10 @@ returns-clause-puts g c =
     let less : c.args.last < c.loop-double.double = omega (arith, c.loop-double-test.false) in
     c.loop-double.invariant.puts _ _
     (subst (Puts (Ok tt) a a)
-    (sym (told-end (basis_in c.args.ground.now) c.args.seen.now c.args.untimely.now c.loop-double.progress c.loop-double.double c.args.last less)) (puts_none a))
+    (sym (told-end (basis_in c.args.ground.now) c.args.seen.now (offending_given c.args.offending.now) c.loop-double.progress c.loop-double.double c.args.last less)) (puts_none a))
 
 pub returns-clause-progress : goal.returns-clause-progress
 returns-clause-progress g c =
     let less : c.args.last < c.loop-double.double = omega (arith, c.loop-double-test.false) in
-    sym (progress-end (basis_in c.args.ground.now) c.args.seen.now c.args.untimely.now c.loop-double.progress c.loop-double.double c.args.last less)
+    sym (progress-end (basis_in c.args.ground.now) c.args.seen.now (offending_given c.args.offending.now) c.loop-double.progress c.loop-double.double c.args.last less)
     ∙ c.loop-double.invariant.progress

@@ -2,7 +2,7 @@ use Rattle.std.proofs.Common.{◌≡◌, ℕ, ◌+◌, ◌-◌, ◌*◌, ◌≤�
 use Rattle.fr_base.specs.Device.{Puts, Sunk}
 use Rattle.fr_base.specs.declared.sink.PutFault.{PutFault}
 use Rattle.fr_sightings.specs.Senders.{sightings_in}
-use Rattle.fr_findings.specs.Ground.{AreWalked, basis_in}
+use Rattle.fr_findings.specs.Ground.{AreWalked, basis_in, offending_given}
 use Rattle.fr_findings.specs.Counting.{AreFewCycles}
 use Rattle.fr_findings.specs.Verdict.{no_progress, progress_of, sightings_before, told_of_doubles}
 use Rattle.fr_findings.proofs.Printing.{up_to}
@@ -14,17 +14,19 @@ abbrev pub invariant-loop-double : goal.invariant-loop-double
 invariant-loop-double g l = record {
   seen : AreWalked l.ground l.double l.rest;
   untimely : AreWalked l.ground l.double l.rest_untimely;
+  irregular : AreWalked l.ground l.double l.rest_irregular;
   same : (later : ℕ) → l.double ≤ later → sightings_in l.rest later ≡ sightings_in l.seen later;
-  same_untimely : (later : ℕ) → l.double ≤ later → sightings_in l.rest_untimely later ≡ sightings_in l.untimely later;
+  same_untimely : (later : ℕ) → l.double ≤ later → sightings_in l.rest_untimely later ≡ sightings_in l.offending.untimely.now later;
+  same_irregular : (later : ℕ) → l.double ≤ later → sightings_in l.rest_irregular later ≡ sightings_in l.offending.irregular.now later;
   before : l.before ≡ sightings_before l.seen l.double;
   within : l.double ≤ l.last + 1;
   started : l.first ≤ l.double;
   few : AreFewCycles (2 * (l.double - l.first)) l.progress.counts;
   puts : (result : Result (Unit {0}) PutFault) (after : Sunk)
-      → Puts result (g.O.Sink.state l.out) after (told_of_doubles (basis_in l.ground) l.seen l.untimely l.progress (up_to l.double l.last))
-      → Puts result (g.O.Sink.state l.initial.out) after (told_of_doubles (basis_in l.ground) l.seen l.untimely no_progress (up_to l.first l.last));
-  progress : progress_of (basis_in l.ground) l.seen l.untimely l.progress (up_to l.double l.last)
-      ≡ progress_of (basis_in l.ground) l.seen l.untimely no_progress (up_to l.first l.last);
+      → Puts result (g.O.Sink.state l.out) after (told_of_doubles (basis_in l.ground) l.seen (offending_given l.offending) l.progress (up_to l.double l.last))
+      → Puts result (g.O.Sink.state l.initial.out) after (told_of_doubles (basis_in l.ground) l.seen (offending_given l.offending) no_progress (up_to l.first l.last));
+  progress : progress_of (basis_in l.ground) l.seen (offending_given l.offending) l.progress (up_to l.double l.last)
+      ≡ progress_of (basis_in l.ground) l.seen (offending_given l.offending) no_progress (up_to l.first l.last);
 }
 
 abbrev pub decreases-loop-double : goal.decreases-loop-double
