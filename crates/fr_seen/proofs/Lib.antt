@@ -12,6 +12,7 @@ pub mod RunLaws
 pub mod ObservedLaws
 pub mod WorkedRows
 pub mod SightingLaws
+pub mod OwnSlotLaws
 pub mod SenderLaws
 pub mod RowLaws
 pub mod WordLaws

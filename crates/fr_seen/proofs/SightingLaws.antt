@@ -1,6 +1,6 @@
 -- The sightings of a log that is seen of a run.
 use Rattle.std.proofs.Common.{◌≡◌, ◌⊎◌, ℕ, suc, ◌≤◌, Bool, true, false, Option, Some, None, ℤ, pos, negsuc, List, [], ◌∷◌, All, refl, ap, sym, ◌∙◌, subst, inl, inr, arith}
-use Rattle.std.specs.Prelude.{◌≤ℤ◌, ◌-ℤ◌, ◌*ℤ◌, ◌&&◌, Contains, filter_map, int_le, int_lt, nat_abs, nat_le}
+use Rattle.std.specs.Prelude.{◌≤ℤ◌, ◌-ℤ◌, ◌*ℤ◌, ◌&&◌, Contains, filter_map, int_le, int_lt, nat_abs, nat_le, if◌then◌else◌}
 use Rattle.std.specs.List.{AllZip, cons_option}
 use Rattle.std.specs.List.Sorted.{IsNonDecreasingBy}
 use Rattle.std.specs.Option.{option_or}
@@ -15,15 +15,16 @@ use Rattle.fr_frame.specs.declared.header.Header.{Header}
 use Rattle.fr_midpoint.proofs.Products.{mulz_from}
 use Rattle.fr_time.specs.Cycles.{double_cycle_of}
 use Rattle.fr_time.specs.declared.senders.Sending.{Sending}
+use Rattle.fr_reception.specs.Regular.{is_sync_frame}
 use Rattle.fr_history.specs.Cycles.{Cycles}
 use Rattle.fr_time.specs.Slots.{action_point_of}
 use Rattle.fr_log.specs.View.{IsLog, LogView, is_arbitrary_in}
 use Rattle.fr_log.specs.declared.entry.Entry.{Entry}
 use Rattle.fr_course.specs.Numbering.{is_timely, longest_silence, next_number}
 use Rattle.fr_course.specs.declared.stamps.Delays.{Delays}
-use Rattle.fr_sightings.specs.Judging.{is_regular_sync, judged_as, judgement_of, static_sending, whole_header}
+use Rattle.fr_sightings.specs.Judging.{is_regular_of, judged_as, judgement_of, static_sending, whole_header}
 use Rattle.fr_sightings.specs.Senders.{observer_of}
-use Rattle.fr_sightings.specs.Sightings.{fate_behind, fate_judged, fate_of, fates_from, fates_of, is_behind_silence, is_in_time, keeps_order, last_behind, number_behind, sighting_in, sighting_with, sightings_of, untimely_in, untimely_of}
+use Rattle.fr_sightings.specs.Sightings.{fate_behind, fate_irregular, fate_judged, fate_of, fates_from, fates_of, is_behind_silence, is_in_time, keeps_order, last_behind, number_behind, sighting_in, sighting_with, sightings_of, untimely_in, untimely_of}
 use Rattle.fr_sightings.specs.declared.sighting.Fate.{Fate}
 use Rattle.fr_sightings.specs.declared.sighting.Fate.TheVariants as fate
 use Rattle.fr_sightings.specs.declared.sighting.Sighting.{Sighting}
@@ -47,22 +48,35 @@ pub record IsJudgedBy (p : Values) (l : LogView) (e : Entry) : Type 0 where
   pub sending : Sending
   pub fated : (last : Option Sighting) → fate_of p l last e ≡ fate_judged p l last (judged_as e header sending)
 
+-- a frame that its sender does not send is no sighting, and not untimely
+irregular_told : (p : Values) (l : LogView) (last : Option Sighting) (e : Entry) (header : Header) (sending : Sending)
+    → IsNoFrame (fate_irregular p l last (judged_as e header sending))
+irregular_told p l None e header sending = (refl, refl)
+irregular_told p l (Some last) e header sending = by (is_behind_silence p l last (judged_as e header sending))
+  where
+    by : (behind : Bool) → IsNoFrame (if behind then fate.Behind else fate.Irregular (sighting_with last.number (judged_as e header sending)))
+    by true = (refl, refl)
+    by false = (refl, refl)
+
 module _ (p : Values) (l : LogView) (e : Entry) where
   sending_told : (header : Header) (sending : Sending) → whole_header e.kind e.channel e.bytes ≡ Some header → static_sending p header ≡ Some sending
-      → (arbitrary : Bool) → is_arbitrary_in l sending.node ≡ arbitrary → (passes : Bool) → is_regular_sync p e.channel header sending ≡ passes
-      → IsNoSighting p l e ⊎ IsJudgedBy p l e
+      → (arbitrary : Bool) → is_arbitrary_in l sending.node ≡ arbitrary → (passes : Bool) → is_regular_of p e.channel header sending ≡ passes
+      → (sync : Bool) → is_sync_frame sending.kind ≡ sync → IsNoSighting p l e ⊎ IsJudgedBy p l e
   unfolding fate_of judgement_of
-  sending_told header sending whole sends true at passes is = inl (λ last. rw (whole, sends, at) (refl, refl))
-  sending_told header sending whole sends false at false is = inl (λ last. rw (whole, sends, at, is) (refl, refl))
-  sending_told header sending whole sends false at true is =
-      inr (record { header = header; sending = sending; fated = λ last. rw (whole, sends, at, is) refl })
+  sending_told header sending whole sends true at passes is sync kind = inl (λ last. rw (whole, sends, at) (refl, refl))
+  sending_told header sending whole sends false at false is sync kind =
+      inl (λ last. rw (whole, sends, at, is) (irregular_told p l last e header sending))
+  sending_told header sending whole sends false at true is false kind = inl (λ last. rw (whole, sends, at, is, kind) (refl, refl))
+  sending_told header sending whole sends false at true is true kind =
+      inr (record { header = header; sending = sending; fated = λ last. rw (whole, sends, at, is, kind) refl })
 
   header_told : (header : Header) → whole_header e.kind e.channel e.bytes ≡ Some header → (sending : Option Sending) → static_sending p header ≡ sending
       → IsNoSighting p l e ⊎ IsJudgedBy p l e
   unfolding fate_of judgement_of
   header_told header whole None sends = inl (λ last. rw (whole, sends) (refl, refl))
   header_told header whole (Some sending) sends =
-      sending_told header sending whole sends (is_arbitrary_in l sending.node) refl (is_regular_sync p e.channel header sending) refl
+      sending_told header sending whole sends (is_arbitrary_in l sending.node) refl (is_regular_of p e.channel header sending) refl
+      (is_sync_frame sending.kind) refl
 
   whole_told : (header : Option Header) → whole_header e.kind e.channel e.bytes ≡ header → IsNoSighting p l e ⊎ IsJudgedBy p l e
   unfolding fate_of judgement_of

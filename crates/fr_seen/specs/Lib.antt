@@ -6,4 +6,5 @@ pub mod TermsSeen
 pub mod RunRows
 pub mod Observed
 pub mod LogSeen
+pub mod OwnSlots
 pub mod WorkedStamps

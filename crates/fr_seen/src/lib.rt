@@ -14,8 +14,8 @@ mod worked;
 pub use clocks::{intervals_are_shared, readings_are_near_ticks, stamps_place_action_points};
 pub use courses::{corners_lie, courses_hold};
 pub use logs::{
-    cycle_words_hold, no_frame_of_a_seen_log_is_untimely, observed_rows_hold,
-    senders_are_on_course, sightings_are_sent,
+    cycle_words_hold, no_frame_of_a_seen_log_is_untimely, no_frame_of_own_slots_is_irregular,
+    observed_rows_hold, senders_are_on_course, sightings_are_sent,
 };
 pub use observed::{numbers_are_found, seen_courses_hold};
 pub use runs::nodes_run_regularly;

@@ -1,4 +1,5 @@
 ghost use Rattle.fr_seen.specs.LogSeen.{EvenWordsHold, NoFrameIsUntimely, ObservedNextRowsHold, ObservedRowsHold, OddWordsHold, SendersAreOnCourse, SendersGoOn, SightingsAreSent};
+ghost use Rattle.fr_seen.specs.OwnSlots.{NoFrameIsIrregular};
 
 /// A law: each sighting of a log that is seen of a run is a frame that was sent there, in the cycle of its number.
 pub fn sightings_are_sent()
@@ -9,6 +10,13 @@ pub fn sightings_are_sent()
 /// before it. Where one does, no run can have given the log.
 pub fn no_frame_of_a_seen_log_is_untimely()
     ensures { NoFrameIsUntimely }
+{}
+
+/// A law: no frame of a log is irregular where each whole frame in the slot of a node that the log does not name
+/// arbitrary is one that the node sends there in some cycle of the run: on a channel that it has, and with the payload
+/// length and the sync and startup indicators of its frames in that slot.
+pub fn no_frame_of_own_slots_is_irregular()
+    ensures { NoFrameIsIrregular }
 {}
 
 /// A law: the senders of a double cycle of such a log have rows in that of the run, in sync or not, and their courses

@@ -1,11 +1,13 @@
--- A log that is seen of a run has no fault that does not ask for sync, and where the run is as the log states none at all.
+-- A log that is seen of a run has no fault that asks neither for sync nor for own slots, where the run is as the log states none that
+-- asks for no own slots, and where its slots are own none that asks for them.
 use Rattle.std.proofs.Common.{◌≡◌, ℕ, suc, ◌+◌, ◌*◌, ◌/◌, ◌≤◌, Bool, true, false, Option, Some, None, pos, List, [], ◌∷◌, ◌++◌, All, refl, ap, sym, ◌∙◌, subst, arith}
-use Rattle.std.specs.Prelude.{Contains, IfSome, filter_map, nat_le, if◌then◌else◌}
+use Rattle.std.specs.Prelude.{◌||◌, Contains, IfSome, filter_map, nat_le, if◌then◌else◌}
 use Rattle.std.specs.Option.{option_or, option_to_list}
-use Rattle.std.proofs.lemmas.List.Elements.{All-append, All-head, All-nil}
+use Rattle.std.proofs.lemmas.List.Elements.{All-append, All-head, All-nil, All-weaker}
 use Rattle.fr_base.specs.declared.channel.Channel.{Channel}
 use Rattle.fr_bound.specs.Bounds.{lambda_of, pi_of, precision_of}
 use Rattle.fr_cluster.specs.Setting.{Setting}
+use Rattle.fr_cluster.specs.Values.{Values}
 use Rattle.fr_history.specs.Cycles.{Cycles}
 use Rattle.fr_history.specs.Unfollowed.{IsUnfollowedSyncAt}
 use Rattle.fr_log.specs.View.{LogView}
@@ -19,22 +21,23 @@ use Rattle.fr_sightings.specs.declared.sender.Sender.{Sender}
 use Rattle.fr_sightings.specs.declared.sighting.Sighting.{Sighting}
 use Rattle.fr_seen.specs.Clocks.{StraightClock}
 use Rattle.fr_seen.specs.LogSeen.{log_senders, run_double}
+use Rattle.fr_seen.specs.OwnSlots.{SlotsAreOwn}
 use Rattle.fr_seen_runs.specs.Contradictions.{IsAsStated, IsObservedRun}
 use Rattle.fr_seen_runs.specs.SyncFaults.{FromSyncOn, HasNoLengthFault, HasNoLengthsFault, HasNoMissingFault, HasNoOffsetFault, HasNoRateFault, HasNoSkewFault, HasNoStartFault}
-use Rattle.fr_seen_runs.specs.ToldFaults.{NoFaultIsTold, ToldFaultsAskSync, VerdictTellsFirst, log_faults}
+use Rattle.fr_seen_runs.specs.ToldFaults.{NoFaultIsTold, ToldFaultsAskEither, ToldFaultsAskOwnSlots, ToldFaultsAskSync, VerdictTellsFirst, log_faults}
 use Rattle.fr_seen_runs.specs.NotContradicted.{NoRunHasOwnFaults, NoRunIsContradicted}
 use Rattle.fr_observe.specs.declared.fault.Fault.{Fault}
 use Rattle.fr_observe.specs.declared.fault.SyncFrom.{SyncFrom}
-use Rattle.fr_observe.specs.Faults.{before_in_sync, beyond_fault, faults_in_sync, first_of_faults, is_sync_seen, length_fault, missing_frames, offset_fault, rate_fault, seen_sync, skew_fault, stated_sync, sync_faults}
+use Rattle.fr_observe.specs.Faults.{asks_own_slots, asks_sync, before_in_sync, beyond_fault, faults_in_sync, first_of_faults, is_sync_seen, length_fault, missing_frames, offset_fault, rate_fault, seen_sync, skew_fault, slot_faults, stated_sync, sync_faults}
 use Rattle.fr_course.specs.Spread.{lengths_apart, starts_apart}
 use Rattle.fr_observe.specs.declared.fault.FaultKind.TheVariants.{Lengths, Start}
 use Rattle.fr_findings.specs.Verdict.{Basis, DoubleCycle, double_at, faults_told, in_sync_told, log_basis, log_progress, log_span, no_progress, own_told, progress_behind, progress_told, sightings_before, sync_told, verdict_by, verdict_of, verdict_with}
 use Rattle.fr_findings.specs.declared.progress.Progress.{Progress}
 use Rattle.fr_findings.specs.declared.progress.Reach.{Reach}
-use Rattle.fr_sightings.specs.Sightings.{untimely_of}
+use Rattle.fr_sightings.specs.Sightings.{OffendingFrames, irregular_of, offending_frames_of}
 use Rattle.fr_findings.specs.declared.verdict.Verdict.TheVariants as verdict
-use Rattle.fr_seen_runs.proofs.SyncKinds.{AsksSync, sync_faults_ask}
-use Rattle.fr_seen_runs.proofs.OwnFaults.{sync_is_seen}
+use Rattle.fr_seen_runs.proofs.SyncKinds.{AsksOwnSlots, AsksSync, slot_faults_ask, sync_faults_ask}
+use Rattle.fr_seen_runs.proofs.OwnFaults.{slot_faults_are_none, sync_is_seen}
 use Rattle.fr_seen_runs.proofs.Progressing.{faults_left, first_is, seen_in_turn, told_all}
 
 -- ---- the laws of sync
@@ -68,14 +71,50 @@ module _ (x : Setting) (h : Cycles) (base : ℕ) (delays : ℕ → Channel → D
   abbrev Seen : List Sighting
   Seen = sightings_of x.params l
 
-  abbrev Late : List Sighting
-  Late = untimely_of x.params l
+  abbrev Offending : OffendingFrames
+  Offending = offending_frames_of x.params l
+
+  abbrev Irregular : ℕ → List Sighting
+  Irregular double = sightings_in (irregular_of x.params l) double
 
   abbrev Log : Basis
   Log = log_basis x.params l
 
   abbrev At : ℕ → DoubleCycle
-  At double = double_at Log Seen Late double
+  At double = double_at Log Seen Offending double
+
+  -- ---- what holds of faults of irregular frames, and of those of sync, holds of all
+
+  abbrev InSync : Option SyncFrom → ℕ → List Fault
+  InSync sync double = faults_in_sync Log.may_be_covered sync (in_sync_told Log (At double))
+
+  module _ (Q : Fault → Type 0) (slots : (double : ℕ) → All Q (slot_faults x.params (Irregular double))) (P : ℕ → Progress → Type 0) where
+    abbrev SyncSteps : Type 0
+    SyncSteps =
+        (double : ℕ) (progress : Progress) → Contains (seen_doubles Seen) double → P double progress
+        → All Q (InSync (sync_told Log (At double) progress.sync) double) × P (suc double) (progress_behind Log Seen Offending double progress)
+
+    told_step : SyncSteps → (double : ℕ) (progress : Progress) → Contains (seen_doubles Seen) double → P double progress
+        → All Q (faults_told Log (At double) (sync_told Log (At double) progress.sync)) × P (suc double) (progress_behind Log Seen Offending double progress)
+    told_step step double progress among known =
+        let sync = sync_told Log (At double) progress.sync in
+        let is = step double progress among known in (
+          subst (All Q) (sym (faults_left x h base delays clock l run double sync among))
+              (All-append Q (slot_faults x.params (Irregular double)) (InSync sync double) (slots double) is.0),
+          is.1,
+        )
+
+    pub told_are : SyncSteps → ((first : ℕ) → P first no_progress) → All Q (log_faults x.params l)
+    unfolding log_faults
+    told_are step first =
+        told_all Log Seen Offending (All Q) (All-nil Q) (All-append Q) P (seen_doubles Seen) no_progress (seen_in_turn Seen) (told_step step) first
+
+  slots_ask : (double : ℕ) → All AsksOwnSlots (slot_faults x.params (Irregular double))
+  slots_ask double = slot_faults_ask x.params (Irregular double)
+
+  -- with own slots there is none of an irregular frame
+  no_slots : (Q : Fault → Type 0) → SlotsAreOwn x h l → (double : ℕ) → All Q (slot_faults x.params (Irregular double))
+  no_slots Q own double = subst (All Q) (sym (slot_faults_are_none x h l double own)) (All-nil Q)
 
   -- ---- faults that ask for no sync
 
@@ -85,17 +124,34 @@ module _ (x : Setting) (h : Cycles) (base : ℕ) (delays : ℕ → Channel → D
   in_sync_asks true (Some from) double =
       sync_faults_ask Log.precision x.params Log.scale l Log.span (before_in_sync from (At double).number (At double).before) (At double).here (At double).number (At double).senders
 
-  asks_step : (double : ℕ) (progress : Progress) → Contains (seen_doubles Seen) double → Unit {0}
-      → All AsksSync (faults_told Log (At double) (sync_told Log (At double) progress.sync)) × Unit {0}
-  asks_step double progress among known =
-      let sync = sync_told Log (At double) progress.sync in
-      (subst (All AsksSync) (sym (faults_left x h base delays clock l run double sync among)) (in_sync_asks Log.may_be_covered sync double), tt)
+  AsksEither : Fault → Type 0
+  AsksEither fault = (asks_sync fault.kind || asks_own_slots fault.kind) ≡ true
 
-  pub all_ask : All AsksSync (log_faults x.params l)
-  unfolding log_faults
-  all_ask =
-      told_all Log Seen Late (All AsksSync) (All-nil AsksSync) (All-append AsksSync) (λ double progress. Unit {0}) (seen_doubles Seen) no_progress (seen_in_turn Seen) asks_step
+  sync_either : (fault : Fault) → AsksSync fault → AsksEither fault
+  unfolding AsksEither
+  sync_either fault asks = ap (λ sync. sync || asks_own_slots fault.kind) asks
+
+  slots_either : (fault : Fault) → AsksOwnSlots fault → AsksEither fault
+  unfolding AsksEither
+  slots_either fault asks = by (asks_sync fault.kind) (asks_own_slots fault.kind) asks
+    where
+      by : (sync slots : Bool) → slots ≡ true → (sync || slots) ≡ true
+      by true slots is = refl
+      by false slots is = is
+
+  pub either_asks : All (λ fault. (asks_sync fault.kind || asks_own_slots fault.kind) ≡ true) (log_faults x.params l)
+  unfolding AsksEither
+  either_asks =
+      told_are AsksEither (λ double. All-weaker AsksOwnSlots AsksEither slots_either (slot_faults x.params (Irregular double)) (slots_ask double)) (λ double progress. Unit {0})
+      (λ double progress among known.
+      let sync = sync_told Log (At double) progress.sync in
+      (All-weaker AsksSync AsksEither sync_either (InSync sync double) (in_sync_asks Log.may_be_covered sync double), tt))
       (λ first. tt)
+
+  pub all_ask : SlotsAreOwn x h l → All AsksSync (log_faults x.params l)
+  all_ask own =
+      told_are AsksSync (no_slots AsksSync own) (λ double progress. Unit {0})
+      (λ double progress among known. (in_sync_asks Log.may_be_covered (sync_told Log (At double) progress.sync) double, tt)) (λ first. tt)
 
   -- ---- no fault at all
 
@@ -203,27 +259,36 @@ module _ (x : Setting) (h : Cycles) (base : ℕ) (delays : ℕ → Channel → D
     abbrev IsKnown : ℕ → Progress → Type 0
     IsKnown double progress = IfSome progress.sync (IsSyncFrom double)
 
-    none_step : (double : ℕ) (progress : Progress) → Contains (seen_doubles Seen) double → IsKnown double progress
-        → (faults_told Log (At double) (sync_told Log (At double) progress.sync) ≡ []) × IsKnown (suc double) (progress_behind Log Seen Late double progress)
+    in_sync_step : (Q : Fault → Type 0) (double : ℕ) (progress : Progress) → Contains (seen_doubles Seen) double → IsKnown double progress
+        → All Q (InSync (sync_told Log (At double) progress.sync) double) × IsKnown (suc double) (progress_behind Log Seen Offending double progress)
     unfolding progress_told
-    none_step double progress among known =
+    in_sync_step Q double progress among known =
         let sync = sync_told Log (At double) progress.sync in
         let is = sync_there double progress.sync among known in
-        (faults_left x h base delays clock l run double sync among ∙ told_none Log.may_be_covered double sync among is, later double sync is)
+        (subst (All Q) (sym (told_none Log.may_be_covered double sync among is)) (All-nil Q), later double sync is)
 
-    none_both : (some more : List Fault) → some ≡ [] → more ≡ [] → some ++ more ≡ []
-    none_both some more is other = ap (λ faults. faults ++ more) is ∙ other
+    pub slots_told : All AsksOwnSlots (log_faults x.params l)
+    slots_told = told_are AsksOwnSlots slots_ask IsKnown (in_sync_step AsksOwnSlots) (λ first. tt)
 
-    pub none_told : log_faults x.params l ≡ []
-    unfolding log_faults
-    none_told = told_all Log Seen Late (λ faults. faults ≡ []) refl none_both IsKnown (seen_doubles Seen) no_progress (seen_in_turn Seen) none_step (λ first. tt)
+    none_of : (faults : List Fault) → All (λ fault. ⊥) faults → faults ≡ []
+    none_of [] all = refl
+    none_of (fault ∷ faults) all = absurd (All-head (λ fault. ⊥) fault faults all)
+
+    pub none_told : SlotsAreOwn x h l → log_faults x.params l ≡ []
+    none_told own = none_of (log_faults x.params l) (told_are (λ fault. ⊥) (no_slots (λ fault. ⊥) own) IsKnown (in_sync_step (λ fault. ⊥)) (λ first. tt))
+
+pub told_faults_ask_either : ToldFaultsAskEither
+told_faults_ask_either = either_asks
 
 pub told_faults_ask_sync : ToldFaultsAskSync
 told_faults_ask_sync = all_ask
 
 -- where the laws of sync hold
+pub told_faults_ask_own_slots : SyncIsKept → ToldFaultsAskOwnSlots
+told_faults_ask_own_slots kept x h base delays clock l run stated = slots_told x h base delays clock l run stated kept
+
 pub no_fault_is_told : SyncIsKept → NoFaultIsTold
-no_fault_is_told kept x h base delays clock l run stated = none_told x h base delays clock l run stated kept
+no_fault_is_told kept x h base delays clock l run stated own = none_told x h base delays clock l run stated kept own
 
 -- ---- the verdict
 
@@ -231,21 +296,33 @@ pub verdict_tells_first : VerdictTellsFirst
 unfolding verdict_of verdict_by log_faults
 verdict_tells_first p l fault =
     let seen = sightings_of p l in
-    let late = untimely_of p l in
-    let progress = log_progress (log_basis p l) seen late in
-    let first : progress.first ≡ first_of_faults (log_faults p l) = first_is (log_basis p l) seen late (seen_doubles seen) no_progress in (
+    let offending = offending_frames_of p l in
+    let progress = log_progress (log_basis p l) seen offending in
+    let first : progress.first ≡ first_of_faults (log_faults p l) = first_is (log_basis p l) seen offending (seen_doubles seen) no_progress in (
       λ is. sym first ∙ fault_is_first progress.first progress.sync progress.reach fault is,
       λ is. ap (λ o. verdict_with o progress.sync progress.reach) (first ∙ is),
     )
 
+-- what holds of all faults holds of that of a verdict
+told_is : (Q : Fault → Type 0) (p : Values) (l : LogView) (fault : Fault) → verdict_of p l ≡ verdict.No fault → All Q (log_faults p l) → Q fault
+told_is Q p l fault is all = subst (λ o. IfSome o Q) ((verdict_tells_first p l fault).0 is) (first_all Q (log_faults p l) all)
+
 pub no_run_has_own_faults : NoRunHasOwnFaults
-no_run_has_own_faults x h base delays clock l fault run is =
-    let told = (verdict_tells_first x.params l fault).0 is in
-    subst (λ o. IfSome o AsksSync) told (first_all AsksSync (log_faults x.params l) (all_ask x h base delays clock l run))
+no_run_has_own_faults x h base delays clock l fault run own is =
+    by (asks_own_slots fault.kind) refl (asks_sync fault.kind) refl (told_is Either x.params l fault is (either_asks x h base delays clock l run))
+  where
+    Either : Fault → Type 0
+    Either fault = (asks_sync fault.kind || asks_own_slots fault.kind) ≡ true
+
+    by : (slots : Bool) → asks_own_slots fault.kind ≡ slots → (sync : Bool) → asks_sync fault.kind ≡ sync → (sync || slots) ≡ true → asks_sync fault.kind ≡ true
+    by true asks sync of_sync told = told_is AsksSync x.params l fault is (all_ask x h base delays clock l run (own asks))
+    by false asks true of_sync told = of_sync
+    by false asks false of_sync told = absurd (cc told)
 
 pub none_is_contradicted : SyncIsKept → NoRunIsContradicted
-none_is_contradicted kept x h base delays clock l fault run stated is =
-    never fault (sym (ap first_of_faults (none_told x h base delays clock l run stated kept)) ∙ (verdict_tells_first x.params l fault).0 is)
+none_is_contradicted kept x h base delays clock l fault run stated own is =
+    let asks = told_is AsksOwnSlots x.params l fault is (slots_told x h base delays clock l run stated kept) in
+    never fault (sym (ap first_of_faults (none_told x h base delays clock l run stated kept (own asks))) ∙ (verdict_tells_first x.params l fault).0 is)
   where
     never : (fault : Fault) → None ≡ Some fault → ⊥
     never fault is = cc is

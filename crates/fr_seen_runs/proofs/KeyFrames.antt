@@ -94,7 +94,7 @@ row_next x h c d node runs correct had = told_has x (c ∷ h) d node runs correc
         by true is = is
         by false is = let e : true ≡ false = sym had ∙ had_none x h c node.id join at is in absurd (cc)
 
-row_goes_on : (x : Setting) (h : Cycles) (double : ℕ) (even odd next_even next_odd : Cycle) (node : NodeSpec) (earlier : Cycles) → IsTimedRun x h → HasDouble h double even odd
+pub row_goes_on : (x : Setting) (h : Cycles) (double : ℕ) (even odd next_even next_odd : Cycle) (node : NodeSpec) (earlier : Cycles) → IsTimedRun x h → HasDouble h double even odd
     → Contains (correct_nodes x) node → is_some (row_of odd.told.rows node.id) ≡ true → IsDoubleOf h (suc double) earlier next_even next_odd → is_some (row_of next_even.told.rows node.id) ≡ true
 row_goes_on x h double even odd next_even next_odd node [] run has correct had d = absurd (none double d.counted)
   where

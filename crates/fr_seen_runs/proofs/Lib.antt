@@ -25,8 +25,10 @@ pub mod SyncKept
 pub mod RowsTold
 pub mod WorkedCycles
 pub mod WorkedSeen
+pub mod WorkedSlots
 pub mod WorkedVerdict
 pub mod WorkedFaults
+pub mod WorkedStrangers
 pub mod WorkedFiles
 pub mod CompletenessWidths
 pub mod CompletenessSenders
@@ -37,3 +39,10 @@ pub mod CompletenessMacroticks
 pub mod CompletenessNext
 pub mod CompletenessOddWithin
 pub mod CompletenessLate
+pub mod Schedule
+pub mod Places
+pub mod Starts
+pub mod Frames
+pub mod InTime
+pub mod InTimeVerdicts
+pub mod WorkedReading

@@ -12,11 +12,12 @@ use Rattle.fr_sightings.specs.Senders.{sightings_in}
 use Rattle.fr_sightings.specs.Sightings.{sightings_of}
 use Rattle.fr_seen.specs.Clocks.{StraightClock}
 use Rattle.fr_seen.specs.LogSeen.{log_senders}
+use Rattle.fr_seen.proofs.OwnSlotLaws.{no_frame_is_irregular}
 use Rattle.fr_seen.proofs.SightingLaws.{no_frame_is_untimely}
 use Rattle.fr_seen_runs.specs.Contradictions.{IsObservedRun}
-use Rattle.fr_observe.specs.Faults.{correction_fault, cycle_fault, node_faults, own_faults, twice_fault}
+use Rattle.fr_observe.specs.Faults.{correction_fault, cycle_fault, irregular_fault, node_faults, own_faults, slot_faults, twice_fault}
 use Rattle.fr_sightings.specs.Sightings.{untimely_of}
-use Rattle.fr_seen_runs.specs.NotContradicted.{OwnFaultsAreNone, SyncIsSeen}
+use Rattle.fr_seen_runs.specs.NotContradicted.{OwnFaultsAreNone, SlotFaultsAreNone, SyncIsSeen}
 use Rattle.fr_seen_runs.proofs.SeenDoubles.{seen_double_there}
 use Rattle.fr_seen_runs.proofs.OwnClocks.{nodes_none}
 use Rattle.fr_seen_runs.proofs.OwnSightings.{corrections_none, twices_none}
@@ -42,6 +43,11 @@ own_faults_are_none x h base delays clock l double run among =
     none_of_four (flat_map (node_faults scale l here double) p.nodes) (filter_map (correction_fault p scale double) senders) (filter_map (twice_fault here) here) (map cycle_fault late)
     (nodes_none x h base delays clock l run double) (corrections_none x h base delays clock l run double there) (twices_none x h base delays clock l run double)
     (ap (λ seen. map cycle_fault (sightings_in seen double)) (none_untimely x h base delays clock l run))
+
+-- nor an irregular frame where slots are own
+pub slot_faults_are_none : SlotFaultsAreNone
+unfolding slot_faults
+slot_faults_are_none x h l double own = ap (λ seen. map (irregular_fault x.params) (sightings_in seen double)) (no_frame_is_irregular x h l own)
 
 pub sync_is_seen : SyncIsSeen
 sync_is_seen x h base delays clock l double faults run named among synced =

@@ -23,7 +23,7 @@ use Rattle.fr_runs.specs.Numbers.{HasDouble}
 use Rattle.fr_seen.specs.RunRows.{IsTimedRun}
 use Rattle.fr_seen.proofs.RunLaws.{cut_at, two_at}
 
-limit_from : (p : Values) → IsSane p → pos 0 ≤ℤ p.offset_limit
+pub limit_from : (p : Values) → IsSane p → pos 0 ≤ℤ p.offset_limit
 limit_from p sane = let range = sane.ranges name.pOffsetCorrectionOut in omega (arith, ints, range.0)
 
 none_within : (limit : ℤ) → pos 0 ≤ℤ limit → IsWithin limit (pos 0)

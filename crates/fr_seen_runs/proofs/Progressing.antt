@@ -10,17 +10,17 @@ use Rattle.fr_history.specs.Cycles.{Cycles}
 use Rattle.fr_log.specs.View.{LogView}
 use Rattle.fr_course.specs.declared.stamps.Delays.{Delays}
 use Rattle.fr_observe.specs.Observing.{doubles_between, seen_doubles, senders_of}
-use Rattle.fr_sightings.specs.Senders.{double_of}
+use Rattle.fr_sightings.specs.Senders.{double_of, sightings_in}
 use Rattle.fr_sightings.specs.Sightings.{sightings_of}
 use Rattle.fr_sightings.specs.declared.sighting.Sighting.{Sighting}
 use Rattle.fr_seen.specs.Clocks.{StraightClock}
 use Rattle.fr_seen_runs.specs.Contradictions.{IsObservedRun}
 use Rattle.fr_observe.specs.declared.fault.SyncFrom.{SyncFrom}
 use Rattle.fr_observe.specs.declared.fault.Fault.{Fault}
-use Rattle.fr_observe.specs.Faults.{faults_in_sync, first_of_faults}
+use Rattle.fr_observe.specs.Faults.{faults_in_sync, first_of_faults, slot_faults}
 use Rattle.fr_findings.specs.Verdict.{Basis, DoubleCycle, double_at, double_faults, faults_told, in_sync_told, log_basis, own_told, progress_behind, progress_of, progress_told, sync_told}
 use Rattle.fr_findings.specs.declared.progress.Progress.{Progress}
-use Rattle.fr_sightings.specs.Sightings.{untimely_of}
+use Rattle.fr_sightings.specs.Sightings.{OffendingFrames, irregular_of, offending_frames_of}
 use Rattle.fr_seen_runs.specs.ToldFaults.{faults_from}
 use Rattle.fr_seen_runs.proofs.OwnFaults.{own_faults_are_none}
 
@@ -46,25 +46,25 @@ pub record HoldsBehind (P : ℕ → Progress → Type 0) (progress : Progress) :
   pub behind : ℕ
   pub holds : P behind progress
 
-module _ (b : Basis) (seen late : List Sighting) (P : ℕ → Progress → Type 0) where
+module _ (b : Basis) (seen : List Sighting) (offending : OffendingFrames) (P : ℕ → Progress → Type 0) where
   behind_each : (count first : ℕ) (progress : Progress)
-      → ((double : ℕ) (before : Progress) → Contains (range_with_len first count) double → P double before → P (suc double) (progress_behind b seen late double before))
-      → P first progress → HoldsBehind P (progress_of b seen late progress (range_with_len first count))
+      → ((double : ℕ) (before : Progress) → Contains (range_with_len first count) double → P double before → P (suc double) (progress_behind b seen offending double before))
+      → P first progress → HoldsBehind P (progress_of b seen offending progress (range_with_len first count))
   unfolding progress_of
   behind_each zero first progress step holds = record { behind = first; holds = holds }
   behind_each (suc count) first progress step holds =
-      behind_each count (first + 1) (progress_behind b seen late first progress)
+      behind_each count (first + 1) (progress_behind b seen offending first progress)
       (λ double before among. step double before (Contains-there first (range_with_len (first + 1) count) double among))
-      (subst (λ n. P n (progress_behind b seen late first progress)) (next first) (step first progress (Contains-here first (range_with_len (first + 1) count)) holds))
+      (subst (λ n. P n (progress_behind b seen offending first progress)) (next first) (step first progress (Contains-here first (range_with_len (first + 1) count)) holds))
     where
       next : (n : ℕ) → suc n ≡ n + 1
       next n = omega arith
 
   pub behind_all : (doubles : List ℕ) (progress : Progress) → AreInTurn doubles
-      → ((double : ℕ) (before : Progress) → Contains doubles double → P double before → P (suc double) (progress_behind b seen late double before))
-      → ((first : ℕ) → P first progress) → HoldsBehind P (progress_of b seen late progress doubles)
+      → ((double : ℕ) (before : Progress) → Contains doubles double → P double before → P (suc double) (progress_behind b seen offending double before))
+      → ((first : ℕ) → P first progress) → HoldsBehind P (progress_of b seen offending progress doubles)
   behind_all doubles progress turn step holds =
-      subst (λ ds. HoldsBehind P (progress_of b seen late progress ds)) (sym turn.are)
+      subst (λ ds. HoldsBehind P (progress_of b seen offending progress ds)) (sym turn.are)
       (
       behind_each turn.count turn.first progress (λ double before among. step double before (subst (λ ds. Contains ds double) (sym turn.are) among))
       (holds turn.first)
@@ -82,40 +82,40 @@ or_both (Some fault) some more = refl
 or_both None [] more = refl
 or_both None (fault ∷ some) more = refl
 
-module _ (b : Basis) (seen late : List Sighting) where
+module _ (b : Basis) (seen : List Sighting) (offending : OffendingFrames) where
   pub first_is : (doubles : List ℕ) (progress : Progress)
-      → (progress_of b seen late progress doubles).first ≡ option_or progress.first (first_of_faults (faults_from b seen late progress doubles))
+      → (progress_of b seen offending progress doubles).first ≡ option_or progress.first (first_of_faults (faults_from b seen offending progress doubles))
   unfolding progress_of faults_from progress_told
   first_is [] progress = or_none progress.first
   first_is (double ∷ doubles) progress =
-      first_is doubles (progress_behind b seen late double progress)
-      ∙ or_both progress.first (double_faults b seen late double (sync_told b (double_at b seen late double) progress.sync))
-      (faults_from b seen late (progress_behind b seen late double progress) doubles)
+      first_is doubles (progress_behind b seen offending double progress)
+      ∙ or_both progress.first (double_faults b seen offending double (sync_told b (double_at b seen offending double) progress.sync))
+      (faults_from b seen offending (progress_behind b seen offending double progress) doubles)
 
   -- what holds of none of them, and of some with others, and of those of each double cycle, holds of all
   module _ (Q : List Fault → Type 0) (none : Q []) (both : (some more : List Fault) → Q some → Q more → Q (some ++ more)) (P : ℕ → Progress → Type 0) where
     abbrev Steps : List ℕ → Type 0
     Steps doubles =
         (double : ℕ) (before : Progress) → Contains doubles double → P double before
-        → Q (double_faults b seen late double (sync_told b (double_at b seen late double) before.sync)) × P (suc double) (progress_behind b seen late double before)
+        → Q (double_faults b seen offending double (sync_told b (double_at b seen offending double) before.sync)) × P (suc double) (progress_behind b seen offending double before)
 
-    told_each : (count first : ℕ) (progress : Progress) → Steps (range_with_len first count) → P first progress → Q (faults_from b seen late progress (range_with_len first count))
+    told_each : (count first : ℕ) (progress : Progress) → Steps (range_with_len first count) → P first progress → Q (faults_from b seen offending progress (range_with_len first count))
     unfolding faults_from
     told_each zero first progress step holds = none
     told_each (suc count) first progress step holds =
         let one = step first progress (Contains-here first (range_with_len (first + 1) count)) holds in
-        both (double_faults b seen late first (sync_told b (double_at b seen late first) progress.sync))
-        (faults_from b seen late (progress_behind b seen late first progress) (range_with_len (first + 1) count)) one.0
-        (told_each count (first + 1) (progress_behind b seen late first progress)
+        both (double_faults b seen offending first (sync_told b (double_at b seen offending first) progress.sync))
+        (faults_from b seen offending (progress_behind b seen offending first progress) (range_with_len (first + 1) count)) one.0
+        (told_each count (first + 1) (progress_behind b seen offending first progress)
         (λ double before among. step double before (Contains-there first (range_with_len (first + 1) count) double among))
-        (subst (λ n. P n (progress_behind b seen late first progress)) (next first) one.1))
+        (subst (λ n. P n (progress_behind b seen offending first progress)) (next first) one.1))
       where
         next : (n : ℕ) → suc n ≡ n + 1
         next n = omega arith
 
-    pub told_all : (doubles : List ℕ) (progress : Progress) → AreInTurn doubles → Steps doubles → ((first : ℕ) → P first progress) → Q (faults_from b seen late progress doubles)
+    pub told_all : (doubles : List ℕ) (progress : Progress) → AreInTurn doubles → Steps doubles → ((first : ℕ) → P first progress) → Q (faults_from b seen offending progress doubles)
     told_all doubles progress turn step holds =
-        subst (λ ds. Q (faults_from b seen late progress ds)) (sym turn.are)
+        subst (λ ds. Q (faults_from b seen offending progress ds)) (sym turn.are)
         (told_each turn.count turn.first progress (λ double before among. step double before (subst (λ ds. Contains ds double) (sym turn.are) among)) (holds turn.first))
 
 -- ---- the faults of one
@@ -124,20 +124,25 @@ module _ (x : Setting) (h : Cycles) (base : ℕ) (delays : ℕ → Channel → D
   abbrev Seen : List Sighting
   Seen = sightings_of x.params l
 
-  abbrev Late : List Sighting
-  Late = untimely_of x.params l
+  abbrev Offending : OffendingFrames
+  Offending = offending_frames_of x.params l
 
   abbrev At : ℕ → DoubleCycle
-  At double = double_at (log_basis x.params l) Seen Late double
+  At double = double_at (log_basis x.params l) Seen Offending double
 
-  pub own_none : (double : ℕ) → Contains (seen_doubles Seen) double → own_told (log_basis x.params l) (At double) ≡ []
+  -- those of irregular frames are left of those that ask for no sync
+  abbrev Irregular : ℕ → List Sighting
+  Irregular double = sightings_in (irregular_of x.params l) double
+
+  pub own_left : (double : ℕ) → Contains (seen_doubles Seen) double
+      → own_told (log_basis x.params l) (At double) ≡ slot_faults x.params (Irregular double)
   unfolding own_told double_at senders_of
-  own_none double among = own_faults_are_none x h base delays clock l double run among
+  own_left double among =
+      ap (λ own. own ++ slot_faults x.params (Irregular double)) (own_faults_are_none x h base delays clock l double run among)
 
-  -- only those of sync are left
   pub faults_left : (double : ℕ) (sync : Option SyncFrom) → Contains (seen_doubles Seen) double
       → faults_told (log_basis x.params l) (At double) sync
-      ≡ faults_in_sync (log_basis x.params l).may_be_covered sync (in_sync_told (log_basis x.params l) (At double))
+      ≡ slot_faults x.params (Irregular double) ++ faults_in_sync (log_basis x.params l).may_be_covered sync (in_sync_told (log_basis x.params l) (At double))
   unfolding faults_told
   faults_left double sync among =
-      ap (λ own. own ++ faults_in_sync (log_basis x.params l).may_be_covered sync (in_sync_told (log_basis x.params l) (At double))) (own_none double among)
+      ap (λ own. own ++ faults_in_sync (log_basis x.params l).may_be_covered sync (in_sync_told (log_basis x.params l) (At double))) (own_left double among)

@@ -32,7 +32,7 @@ use Rattle.fr_observe.specs.Faults.{is_sync_seen, seen_sync, stated_sync, sync_b
 use Rattle.fr_findings.specs.Verdict.{Basis, DoubleCycle, double_at, even_says, further_within, log_basis, log_progress, no_progress, odd_says, own_told, progress_behind, progress_told, reach_behind, reach_behind_both, reach_by, sync_told, verdict_by, verdict_of, verdict_with}
 use Rattle.fr_findings.specs.declared.progress.Progress.{Progress}
 use Rattle.fr_findings.specs.declared.progress.Reach.{Reach}
-use Rattle.fr_sightings.specs.Sightings.{untimely_of}
+use Rattle.fr_sightings.specs.Sightings.{OffendingFrames, offending_frames_of}
 use Rattle.fr_findings.specs.declared.verdict.Verdict.TheVariants as verdict
 use Rattle.fr_seen_runs.proofs.OwnSightings.{here_there, next_there}
 use Rattle.fr_seen_runs.proofs.OwnFaults.{sync_is_seen}
@@ -133,14 +133,14 @@ module _ (x : Setting) (h : Cycles) (base : ℕ) (delays : ℕ → Channel → D
   abbrev Seen : List Sighting
   Seen = sightings_of x.params l
 
-  abbrev Late : List Sighting
-  Late = untimely_of x.params l
+  abbrev Offending : OffendingFrames
+  Offending = offending_frames_of x.params l
 
   abbrev Log : Basis
   Log = log_basis x.params l
 
   abbrev At : ℕ → DoubleCycle
-  At double = double_at Log Seen Late double
+  At double = double_at Log Seen Offending double
 
   abbrev Scaled : Scale
   Scaled = reading_scale l.drift x.params
@@ -188,7 +188,7 @@ module _ (x : Setting) (h : Cycles) (base : ℕ) (delays : ℕ → Channel → D
   none_behind None double even odd reach is_ended is none = none
   none_behind (Some from) double even odd reach is_ended is none = absurd (cc is)
 
-  reaches_behind : (double : ℕ) (progress : Progress) → Contains (seen_doubles Seen) double → Reaches double progress → Reaches (suc double) (progress_behind Log Seen Late double progress)
+  reaches_behind : (double : ℕ) (progress : Progress) → Contains (seen_doubles Seen) double → Reaches double progress → Reaches (suc double) (progress_behind Log Seen Offending double progress)
   unfolding progress_told double_at
   reaches_behind double progress among before =
       let sync = sync_told Log (At double) progress.sync in
@@ -201,9 +201,9 @@ module _ (x : Setting) (h : Cycles) (base : ℕ) (delays : ℕ → Channel → D
         is = subst (Behind (even_says Log (At double))) (odd_cycle_says double) (subst (λ even. Behind even (cycle_says (2 * double + 1))) (even_cycle_says double) both);
       }
 
-  pub reached : (r : Reach) → (log_progress Log Seen Late).reach ≡ Some r → (cycle : ℕ) → r.from ≤ cycle → cycle ≤ r.to → cycle_says cycle ≡ Within
+  pub reached : (r : Reach) → (log_progress Log Seen Offending).reach ≡ Some r → (cycle : ℕ) → r.from ≤ cycle → cycle ≤ r.to → cycle_says cycle ≡ Within
   reached r is =
-      let all = behind_all Log Seen Late Reaches (seen_doubles Seen) no_progress (seen_in_turn Seen) reaches_behind (λ first. record { none = λ none. refl; is = none_reached cycle_says (2 * first) false }) in
+      let all = behind_all Log Seen Offending Reaches (seen_doubles Seen) no_progress (seen_in_turn Seen) reaches_behind (λ first. record { none = λ none. refl; is = none_reached cycle_says (2 * first) false }) in
       subst (λ o. IfSome o (λ r. (cycle : ℕ) → r.from ≤ cycle → cycle ≤ r.to → cycle_says cycle ≡ Within)) is all.holds.is.within
 
   -- ---- its double cycle
@@ -344,18 +344,18 @@ module _ (x : Setting) (h : Cycles) (base : ℕ) (delays : ℕ → Channel → D
     abbrev BeginsAt : ℕ → Progress → Type 0
     BeginsAt double progress = Begins progress.sync progress.reach progress.is_ended
 
-    begins_behind : (double : ℕ) (progress : Progress) → Contains (seen_doubles Seen) double → BeginsAt double progress → BeginsAt (suc double) (progress_behind Log Seen Late double progress)
+    begins_behind : (double : ℕ) (progress : Progress) → Contains (seen_doubles Seen) double → BeginsAt double progress → BeginsAt (suc double) (progress_behind Log Seen Offending double progress)
     unfolding progress_told sync_told double_at
     begins_behind double progress among before =
         begins_step progress.sync double (IsSeen double) (even_says Log (At double)) (odd_says Log (At double)) progress.reach progress.is_ended (is_seen double among) before
 
-    pub begun : Begins (log_progress Log Seen Late).sync (log_progress Log Seen Late).reach (log_progress Log Seen Late).is_ended
-    begun = (behind_all Log Seen Late BeginsAt (seen_doubles Seen) no_progress (seen_in_turn Seen) begins_behind (λ first. record { none = λ is. (refl, refl); some = tt })).holds
+    pub begun : Begins (log_progress Log Seen Offending).sync (log_progress Log Seen Offending).reach (log_progress Log Seen Offending).is_ended
+    begun = (behind_all Log Seen Offending BeginsAt (seen_doubles Seen) no_progress (seen_in_turn Seen) begins_behind (λ first. record { none = λ is. (refl, refl); some = tt })).holds
 
-    pub in_sync_from : (r : Reach) → IsToldWithin (log_progress Log Seen Late).first (log_progress Log Seen Late).sync (log_progress Log Seen Late).reach r
+    pub in_sync_from : (r : Reach) → IsToldWithin (log_progress Log Seen Offending).first (log_progress Log Seen Offending).sync (log_progress Log Seen Offending).reach r
         → IsUnfollowedSyncAt x.params h (run_double base (r.from / 2))
     in_sync_from r told =
-        let progress = log_progress Log Seen Late in
+        let progress = log_progress Log Seen Offending in
         let is = subst (λ o. IfSome o (λ from. BeginsIn from progress.reach progress.is_ended)) told.synced begun.some in
         let first : r.from ≡ 2 * told.from.double = subst (λ o. IfSome o (λ r. r.from ≡ 2 * told.from.double)) told.reached is.is.begins in
         subst (λ d. IsUnfollowedSyncAt x.params h (run_double base d)) (half r.from told.from.double first) is.there
@@ -369,7 +369,7 @@ within_is_so x h base delays clock l r double even odd run is has =
     let precision = pos (precision_of x.params) in
     let scale = reading_scale l.drift x.params in
     let senders = log_senders x l double in
-    let progress = log_progress (log_basis x.params l) (sightings_of x.params l) (untimely_of x.params l) in
+    let progress = log_progress (log_basis x.params l) (sightings_of x.params l) (offending_frames_of x.params l) in
     let told = within_told progress.first progress.sync progress.reach r is in
     let says = reached x h base delays clock l run r told.reached in
     record {
@@ -392,12 +392,12 @@ within_is_so x h base delays clock l r double even odd run is has =
 pub within_is_there : WithinIsThere
 unfolding verdict_of verdict_by
 within_is_there x h base delays clock l r cycle run is from to =
-    let progress = log_progress (log_basis x.params l) (sightings_of x.params l) (untimely_of x.params l) in
+    let progress = log_progress (log_basis x.params l) (sightings_of x.params l) (offending_frames_of x.params l) in
     let told = within_told progress.first progress.sync progress.reach r is in
     cycle_there x h base delays clock l run cycle (reached x h base delays clock l run r told.reached cycle from to)
 
 pub within_is_in_sync : WithinIsInSync
 unfolding verdict_of verdict_by
 within_is_in_sync x h base delays clock l r run named unstated is =
-    let progress = log_progress (log_basis x.params l) (sightings_of x.params l) (untimely_of x.params l) in
+    let progress = log_progress (log_basis x.params l) (sightings_of x.params l) (offending_frames_of x.params l) in
     in_sync_from x h base delays clock l run named unstated r (within_told progress.first progress.sync progress.reach r is)

@@ -19,7 +19,7 @@ use Rattle.fr_history.specs.Unfollowed.{IsUnfollowedSyncAt}
 use Rattle.fr_runs.specs.Supplied.{IsCovered, IsCoveredByFiles}
 use Rattle.fr_runs.proofs.Covers.{coverage_suffices, more_are_few}
 use Rattle.fr_log.specs.View.{LogView}
-use Rattle.fr_sightings.specs.Sightings.{sightings_of, untimely_of}
+use Rattle.fr_sightings.specs.Sightings.{OffendingFrames, offending_frames_of, sightings_of}
 use Rattle.fr_sightings.specs.declared.sighting.Sighting.{Sighting}
 use Rattle.fr_observe.specs.Faults.{is_sync_seen, seen_sync, stated_sync, sync_behind}
 use Rattle.fr_observe.specs.Observing.{seen_doubles, senders_of}
@@ -41,14 +41,14 @@ module _ (p : Values) (l : LogView) (Q : SyncFrom → Type 0) where
   abbrev Seen : List Sighting
   Seen = sightings_of p l
 
-  abbrev Late : List Sighting
-  Late = untimely_of p l
+  abbrev Offending : OffendingFrames
+  Offending = offending_frames_of p l
 
   abbrev Log : Basis
   Log = log_basis p l
 
   abbrev At : ℕ → DoubleCycle
-  At double = double_at Log Seen Late double
+  At double = double_at Log Seen Offending double
 
   abbrev IsSeen : ℕ → Bool
   IsSeen double = is_sync_seen Log.params Log.scale Log.log (At double).here (At double).number (At double).senders (own_told Log (At double))
@@ -70,13 +70,13 @@ module _ (p : Values) (l : LogView) (Q : SyncFrom → Type 0) where
     abbrev IsKnown : ℕ → Progress → Type 0
     IsKnown double progress = IfSome progress.sync Q
 
-    known_step : (double : ℕ) (progress : Progress) → Contains (seen_doubles Seen) double → IsKnown double progress → IsKnown (suc double) (progress_behind Log Seen Late double progress)
+    known_step : (double : ℕ) (progress : Progress) → Contains (seen_doubles Seen) double → IsKnown double progress → IsKnown (suc double) (progress_behind Log Seen Offending double progress)
     unfolding progress_told sync_told double_at
     known_step double progress among before =
         behind_known double (IsSeen double) progress.sync (stated double) (seen_known double (IsSeen double) (seen double among)) before
 
-    pub sync_known : IfSome (log_progress Log Seen Late).sync Q
-    sync_known = (behind_all Log Seen Late IsKnown (seen_doubles Seen) no_progress (seen_in_turn Seen) known_step (λ first. tt)).holds
+    pub sync_known : IfSome (log_progress Log Seen Offending).sync Q
+    sync_known = (behind_all Log Seen Offending IsKnown (seen_doubles Seen) no_progress (seen_in_turn Seen) known_step (λ first. tt)).holds
 
 -- what is stated
 given_stated : (Q : SyncFrom → Type 0) (since : Option ℕ) (double : ℕ) → ((cycle : ℕ) → since ≡ Some cycle → Q (record { double = cycle / 2; is_stated = true })) → IfSome (stated_sync since double) Q
@@ -102,7 +102,7 @@ seen_sync_is_so x h base delays clock l from run named is =
         → false ≡ false → IsUnfollowedSyncAt x.params h (run_double base double)
     seen double among told same =
         let b = log_basis x.params l in
-        sync_is_seen x h base delays clock l double (own_told b (double_at b (sightings_of x.params l) (untimely_of x.params l) double)) run named among told
+        sync_is_seen x h base delays clock l double (own_told b (double_at b (sightings_of x.params l) (offending_frames_of x.params l) double)) run named among told
 
 pub stated_sync_is_so : StatedSyncIsSo
 stated_sync_is_so p l from is =

@@ -1,4 +1,4 @@
--- The kinds of the faults that are told of a cluster in sync.
+-- The kinds of the faults that are told of a cluster in sync, and of irregular frames.
 use Rattle.std.proofs.Common.{◌≡◌, ℕ, ◌+◌, ◌*◌, Bool, true, false, Option, Some, None, ℤ, pos, List, [], ◌∷◌, ◌++◌, All, refl, subst}
 use Rattle.std.specs.Prelude.{◌||◌, ◌&&◌, not, IfSome, filter_map, int_lt, is_some, if◌then◌else◌}
 use Rattle.std.specs.List.{flat_map}
@@ -7,7 +7,7 @@ use Rattle.std.proofs.lemmas.List.Elements.{All-append, All-cons, All-nil}
 use Rattle.fr_base.specs.declared.channel.Channel.{Channel}
 use Rattle.fr_base.specs.declared.channel.Channel.TheVariants.{A, B}
 use Rattle.fr_bound.specs.Bounds.{lambda_of, pi_of}
-use Rattle.fr_cluster.specs.Questions.{has_channel}
+use Rattle.fr_cluster.specs.Questions.{has_channel, node_of}
 use Rattle.fr_cluster.specs.Values.{Values}
 use Rattle.fr_cluster.specs.declared.nodes.NodeSpec.{NodeSpec}
 use Rattle.fr_log.specs.View.{LogView}
@@ -22,10 +22,10 @@ use Rattle.fr_seen.proofs.SenderLaws.{all_given}
 use Rattle.fr_observe.specs.declared.fault.Fault.{Fault}
 use Rattle.fr_observe.specs.declared.fault.FaultKind.{FaultKind}
 use Rattle.fr_observe.specs.declared.fault.LogSpan.{LogSpan}
-use Rattle.fr_observe.specs.Faults.{asks_sync, beyond_fault, further_of, is_inside, length_fault, length_fault_by, longest_cycle_of, missing_by, missing_frames, missing_in, missing_of, missing_on, missing_with, node_missing, offset_fault, other_courses, plain_fault, rate_fault, shortest_cycle_of, skew_fault, sync_faults, unlike_fault, unlike_with, was_seen}
+use Rattle.fr_observe.specs.Faults.{asks_own_slots, asks_sync, beyond_fault, further_of, irregular_fault, is_inside, length_fault, length_fault_by, longest_cycle_of, missing_by, missing_frames, missing_in, missing_of, missing_on, missing_with, node_missing, offset_fault, other_courses, plain_fault, rate_fault, shortest_cycle_of, skew_fault, slot_faults, sync_faults, unlike_fault, unlike_with, was_seen}
 use Rattle.fr_course.specs.Computed.{length_ticks, measuring_of, offset_computed, rate_computed}
 use Rattle.fr_course.specs.Spread.{lengths_apart, starts_apart}
-use Rattle.fr_observe.specs.declared.fault.FaultKind.TheVariants.{Lengths, Length, Offset, Rate, Skew, Start}
+use Rattle.fr_observe.specs.declared.fault.FaultKind.TheVariants.{Form, Lengths, Length, Offset, Rate, Skew, Start, Stranger}
 
 abbrev pub AsksSync : Fault → Type 0
 AsksSync fault = asks_sync fault.kind ≡ true
@@ -126,3 +126,21 @@ sync_faults_ask precision p scale l span before here double senders =
     unlike_asks Rate (2 * double + 1) s.node refl (option_map (rate_step_seen scale s.course) s.next)
     (rate_computed scale (measuring_of p) s.course (other_courses senders s.node) (further_of p senders)))) in
     All-append AsksSync seven missing asks_seven (all_missing_asks p l span before here double)
+
+-- ---- irregular frames
+
+abbrev pub AsksOwnSlots : Fault → Type 0
+AsksOwnSlots fault = asks_own_slots fault.kind ≡ true
+
+irregular_asks : (p : Values) (frame : Sighting) → AsksOwnSlots (irregular_fault p frame)
+irregular_asks p frame = by (has_channel (node_of p frame.node) frame.channel)
+  where
+    by : (there : Bool) → asks_own_slots (if there then Form else Stranger) ≡ true
+    by true = refl
+    by false = refl
+
+-- each asks for own slots
+pub slot_faults_ask : (p : Values) (frames : List Sighting) → All AsksOwnSlots (slot_faults p frames)
+unfolding slot_faults
+slot_faults_ask p [] = All-nil AsksOwnSlots
+slot_faults_ask p (frame ∷ frames) = All-cons AsksOwnSlots (irregular_fault p frame) (slot_faults p frames) (irregular_asks p frame) (slot_faults_ask p frames)

@@ -170,7 +170,7 @@ sent_is node cycle is = record {
   on_channel = is.on_channel;
 }
 
-are_sent : All (IsSentIn seen_run seen_cycles 0) seen_sent
+pub are_sent : All (IsSentIn seen_run seen_cycles 0) seen_sent
 unfolding cycle_at
 are_sent =
     all_of (IsSentIn seen_run seen_cycles 0) sent_frame
@@ -243,7 +243,7 @@ is_within_drift = record {
   fast = record { le = tt };
 }
 
-seen_of_run : (since : Option ℕ) (whole : Bool) → IsSeenOf seen_run seen_cycles 0 (observer_of (seen_log since whole)) no_delays true_clock seen_sent
+pub seen_of_run : (since : Option ℕ) (whole : Bool) → IsSeenOf seen_run seen_cycles 0 (observer_of (seen_log since whole)) no_delays true_clock seen_sent
 unfolding IsRead IsInTime
 seen_of_run since whole = record {
   whole_base = refl;

@@ -9,11 +9,11 @@ use Rattle.fr_log.specs.View.{IsEvenCycle, delay_limits_of, is_arbitrary_in, jit
 use Rattle.fr_course.specs.Middles.{middle}
 use Rattle.fr_course.specs.Readings.{meet_all, reading_scale}
 use Rattle.fr_course.specs.Spread.{least_from, least_spread, most_from, most_spread}
-use Rattle.fr_observe.specs.Faults.{clock_faults, is_sync_seen, own_faults, sync_faults}
+use Rattle.fr_observe.specs.Faults.{clock_faults, is_sync_seen, own_faults, slot_faults, sync_faults}
 use Rattle.fr_observe.specs.Observing.{both_say, even_high, even_low, odd_high, odd_low, seen_doubles, terms_of}
 use Rattle.fr_sightings.specs.Senders.{course_in, delays_in, first_stamp, seen_box, seen_sender, seen_senders, seen_span}
 use Rattle.fr_sightings.specs.Judging.{judgement_of}
-use Rattle.fr_sightings.specs.Sightings.{fate_of, fates_from, sightings_of, untimely_of}
+use Rattle.fr_sightings.specs.Sightings.{OffendingFrames, fate_of, fates_from, irregular_of, offending_frames_of, sightings_of, untimely_of}
 use Rattle.fr_sightings.specs.declared.sighting.Sighting.{Sighting}
 use Rattle.fr_findings.specs.Verdict.{Basis, coverable_of, double_at, faults_told, first_failing, log_basis, log_progress, own_told, progress_of, progress_told, sync_told, verdict_by, verdict_of}
 use Rattle.fr_findings.specs.declared.verdict.Verdict.{Verdict}
@@ -28,6 +28,7 @@ use Rattle.fr_history.specs.Unfollowed.{IsUnfollowedSyncAt}
 use Rattle.fr_seen_runs.specs.WorkedLog.{WorkedLog, no_delays, seen_cluster, seen_cycles, seen_log, seen_run, seen_sightings, true_clock}
 use Rattle.fr_seen_runs.proofs.WorkedCycles.{cycles_are, each_node, is_in_sync_first, run_is_covered, run_is_setting, run_is_timed}
 use Rattle.fr_seen_runs.proofs.WorkedSeen.{log_is, log_is_seen, none_named}
+use Rattle.fr_seen_runs.proofs.WorkedSlots.{slots_are_own}
 
 -- ---- what is computed with
 
@@ -38,7 +39,7 @@ on_senders = tt
 
 -- the faults of a double cycle
 unfoldable pub on_faults : ⊤
-unfolding own_faults clock_faults is_sync_seen sync_faults terms_of middle
+unfolding own_faults slot_faults clock_faults is_sync_seen sync_faults terms_of middle
 on_faults = tt
 
 -- the rows of its cycles
@@ -52,9 +53,12 @@ sightings_are : (since : Option ℕ) (whole : Bool) → sightings_of seen_cluste
 unfolding sightings_of fates_from fate_of judgement_of is_arbitrary_in on_frames
 sightings_are since whole = refl
 
-none_untimely : (since : Option ℕ) (whole : Bool) → untimely_of seen_cluster (seen_log since whole) ≡ []
-unfolding untimely_of fates_from fate_of judgement_of is_arbitrary_in on_frames
-none_untimely since whole = refl
+abbrev pub none_offending : OffendingFrames
+none_offending = record { untimely = []; irregular = [] }
+
+none_offend : (since : Option ℕ) (whole : Bool) → offending_frames_of seen_cluster (seen_log since whole) ≡ none_offending
+unfolding untimely_of irregular_of fates_from fate_of judgement_of is_arbitrary_in on_frames
+none_offend since whole = refl
 
 -- ---- its verdict
 
@@ -76,19 +80,19 @@ basis_is since whole = Prim.rw (sightings_are since whole) refl
 abbrev within_to_2 : Verdict
 within_to_2 = verdict.Within (record { from = 0; to = 2 })
 
-plain_progress : verdict_by (log_progress (seen_basis None false) seen_sightings []) ≡ within_to_2
+plain_progress : verdict_by (log_progress (seen_basis None false) seen_sightings none_offending) ≡ within_to_2
 unfolding verdict_by progress_of progress_told sync_told own_told faults_told double_at on_senders on_faults on_rows
 plain_progress = refl
 
-stated_progress : verdict_by (log_progress (seen_basis (Some 0) true) seen_sightings []) ≡ within_to_2
+stated_progress : verdict_by (log_progress (seen_basis (Some 0) true) seen_sightings none_offending) ≡ within_to_2
 unfolding verdict_by progress_of progress_told sync_told own_told faults_told double_at on_senders on_faults on_rows
 stated_progress = refl
 
 verdict_is :
-    (since : Option ℕ) (whole : Bool) → verdict_by (log_progress (seen_basis since whole) seen_sightings []) ≡ within_to_2
+    (since : Option ℕ) (whole : Bool) → verdict_by (log_progress (seen_basis since whole) seen_sightings none_offending) ≡ within_to_2
     → verdict_of seen_cluster (seen_log since whole) ≡ within_to_2
 unfolding verdict_of
-verdict_is since whole progress = Prim.rw (basis_is since whole, sightings_are since whole, none_untimely since whole) progress
+verdict_is since whole progress = Prim.rw (basis_is since whole, sightings_are since whole, none_offend since whole) progress
 
 -- ---- as stated
 
@@ -172,6 +176,7 @@ plain_log_is lawful = record {
   cycles = cycles_are;
   observed = observed lawful None false tt;
   stated = as_stated None false tt;
+  slots = slots_are_own None false;
   sightings = sightings_are None false;
   verdict = verdict_is None false plain_progress;
 }
@@ -182,6 +187,7 @@ stated_log_is lawful = record {
   cycles = cycles_are;
   observed = observed lawful (Some 0) true (record { even = refl; most = lit≤ tt });
   stated = as_stated (Some 0) true is_in_sync_first;
+  slots = slots_are_own (Some 0) true;
   sightings = sightings_are (Some 0) true;
   verdict = verdict_is (Some 0) true stated_progress;
 }

@@ -7,7 +7,9 @@ pub mod ComputedValues
 pub mod ComputedTerms
 pub mod ToldFaults
 pub mod NotContradicted
+pub mod InTime
 pub mod RowsTold
 pub mod WorkedLog
 pub mod WorkedFaults
 pub mod WorkedFile
+pub mod WorkedReading

@@ -14,13 +14,14 @@ use Rattle.fr_sightings.specs.Senders.{sightings_in}
 use Rattle.fr_sightings.specs.Sightings.{sightings_of}
 use Rattle.fr_seen.specs.Clocks.{StraightClock}
 use Rattle.fr_seen.specs.LogSeen.{log_senders, run_double, sender_rows}
+use Rattle.fr_seen.specs.OwnSlots.{SlotsAreOwn}
 use Rattle.fr_seen.specs.Skews.{StaysWithin}
 use Rattle.fr_seen_runs.specs.Contradictions.{IsAsStated, IsObservedRun, NamesArbitrary}
 use Rattle.fr_seen_runs.specs.KeptInSync.{IsDoubleThere}
 use Rattle.fr_observe.specs.declared.fault.Fault.{Fault}
-use Rattle.fr_observe.specs.Faults.{asks_sync, is_sync_seen, own_faults}
+use Rattle.fr_observe.specs.Faults.{asks_own_slots, asks_sync, is_sync_seen, own_faults, slot_faults}
 use Rattle.fr_findings.specs.declared.progress.Reach.{Reach}
-use Rattle.fr_sightings.specs.Sightings.{untimely_of}
+use Rattle.fr_sightings.specs.Sightings.{irregular_of, untimely_of}
 use Rattle.fr_findings.specs.Verdict.{verdict_of}
 use Rattle.fr_findings.specs.declared.verdict.Verdict.TheVariants as verdict
 
@@ -36,6 +37,12 @@ OwnFaultsAreNone =
     (sightings_in (untimely_of x.params l) double) double (log_senders x l double)
     ≡ []
 
+-- nor is there an irregular frame, where each whole frame in the slot of a node is one that the node sends
+abbrev pub SlotFaultsAreNone : Type 0
+SlotFaultsAreNone =
+    (x : Setting) (h : Cycles) (l : LogView) (double : ℕ)
+    → SlotsAreOwn x h l → slot_faults x.params (sightings_in (irregular_of x.params l) double) ≡ []
+
 -- one that is seen in sync is in sync in the run, and no node follows in it
 abbrev pub SyncIsSeen : Type 0
 SyncIsSeen =
@@ -50,18 +57,21 @@ SyncIsSeen =
 -- ---- the verdict
 
 -- where the verdict is no, there is no covered run that is as the log states; and where the kind of the fault asks for no sync,
--- there is no run at all that the log is seen of
+-- there is no run at all that the log is seen of. By a fault whose kind asks for own slots, this is said of runs where each whole
+-- frame in the slot of a node is one that the node sends
 abbrev pub NoRunIsContradicted : Type 0
 NoRunIsContradicted =
     (x : Setting) (h : Cycles) (base : ℕ) (delays : ℕ → Channel → Delays) (clock : ℕ → StraightClock) (l : LogView)
     (fault : Fault)
-    → IsObservedRun x h base delays clock l → IsAsStated x h base l → verdict_of x.params l ≡ verdict.No fault → ⊥
+    → IsObservedRun x h base delays clock l → IsAsStated x h base l
+    → (asks_own_slots fault.kind ≡ true → SlotsAreOwn x h l) → verdict_of x.params l ≡ verdict.No fault → ⊥
 
 abbrev pub NoRunHasOwnFaults : Type 0
 NoRunHasOwnFaults =
     (x : Setting) (h : Cycles) (base : ℕ) (delays : ℕ → Channel → Delays) (clock : ℕ → StraightClock) (l : LogView)
     (fault : Fault)
-    → IsObservedRun x h base delays clock l → verdict_of x.params l ≡ verdict.No fault → asks_sync fault.kind ≡ true
+    → IsObservedRun x h base delays clock l → (asks_own_slots fault.kind ≡ true → SlotsAreOwn x h l)
+    → verdict_of x.params l ≡ verdict.No fault → asks_sync fault.kind ≡ true
 
 -- the skew of the senders of a log stays within the precision in a cycle of the log
 pub record IsWithinReach (x : Setting) (l : LogView) (reach : Reach) (double : ℕ) (even odd : Cycle) : Type 0 where

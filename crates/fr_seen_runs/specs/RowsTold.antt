@@ -8,7 +8,7 @@ use Rattle.fr_history.specs.Unfollowed.{IsUnfollowedSyncAt}
 use Rattle.fr_runs.specs.Supplied.{IsCovered, IsCoveredByFiles}
 use Rattle.fr_log.specs.View.{LogView}
 use Rattle.fr_course.specs.declared.stamps.Delays.{Delays}
-use Rattle.fr_sightings.specs.Sightings.{sightings_of, untimely_of}
+use Rattle.fr_sightings.specs.Sightings.{offending_frames_of, sightings_of}
 use Rattle.fr_observe.specs.declared.fault.SyncFrom.{SyncFrom}
 use Rattle.fr_findings.specs.Verdict.{coverable_of, log_basis, log_progress}
 use Rattle.fr_findings.specs.declared.coverable.Coverable.TheVariants as coverable
@@ -21,7 +21,7 @@ use Rattle.fr_seen_runs.specs.Contradictions.{IsObservedRun, NamesArbitrary}
 
 -- what is known behind the last double cycle of a log, as its rows tell it
 abbrev pub known_of : Values → LogView → Progress
-known_of p l = log_progress (log_basis p l) (sightings_of p l) (untimely_of p l)
+known_of p l = log_progress (log_basis p l) (sightings_of p l) (offending_frames_of p l)
 
 -- where the row of sync says seen, the run is in sync in the double cycle that it names, and no node follows in it
 abbrev pub SeenSyncIsSo : Type 0

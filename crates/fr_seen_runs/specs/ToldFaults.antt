@@ -1,44 +1,61 @@
 -- All faults that the text of a log tells: what they exclude, and that its verdict is by the first of them.
-use Rattle.std.specs.Prelude.{◌≡◌, ◌↔◌, ℕ, true, List, [], ◌∷◌, ◌++◌, All, Some}
+use Rattle.std.specs.Prelude.{◌≡◌, ◌↔◌, ◌||◌, ℕ, true, List, [], ◌∷◌, ◌++◌, All, Some}
 use Rattle.fr_base.specs.declared.channel.Channel.{Channel}
 use Rattle.fr_cluster.specs.Setting.{Setting}
 use Rattle.fr_cluster.specs.Values.{Values}
 use Rattle.fr_history.specs.Cycles.{Cycles}
 use Rattle.fr_log.specs.View.{LogView}
 use Rattle.fr_course.specs.declared.stamps.Delays.{Delays}
-use Rattle.fr_sightings.specs.Sightings.{sightings_of, untimely_of}
+use Rattle.fr_sightings.specs.Sightings.{OffendingFrames, offending_frames_of, sightings_of}
 use Rattle.fr_sightings.specs.declared.sighting.Sighting.{Sighting}
-use Rattle.fr_observe.specs.Faults.{asks_sync, first_of_faults}
+use Rattle.fr_observe.specs.Faults.{asks_own_slots, asks_sync, first_of_faults}
 use Rattle.fr_observe.specs.Observing.{seen_doubles}
 use Rattle.fr_observe.specs.declared.fault.Fault.{Fault}
 use Rattle.fr_findings.specs.Verdict.{Basis, double_at, double_faults, log_basis, no_progress, progress_behind, sync_told, verdict_of}
 use Rattle.fr_findings.specs.declared.progress.Progress.{Progress}
 use Rattle.fr_findings.specs.declared.verdict.Verdict.TheVariants as verdict
 use Rattle.fr_seen.specs.Clocks.{StraightClock}
+use Rattle.fr_seen.specs.OwnSlots.{SlotsAreOwn}
 use Rattle.fr_seen_runs.specs.Contradictions.{IsAsStated, IsObservedRun}
 
 -- those of some double cycles, one after the other: each by what is known behind it
-unfoldable pub faults_from : Basis → List Sighting → List Sighting → Progress → List ℕ → List Fault
-faults_from b seen late progress [] = []
-faults_from b seen late progress (double ∷ doubles) =
-    double_faults b seen late double (sync_told b (double_at b seen late double) progress.sync)
-    ++ faults_from b seen late (progress_behind b seen late double progress) doubles
+unfoldable pub faults_from : Basis → List Sighting → OffendingFrames → Progress → List ℕ → List Fault
+faults_from b seen offending progress [] = []
+faults_from b seen offending progress (double ∷ doubles) =
+    double_faults b seen offending double (sync_told b (double_at b seen offending double) progress.sync)
+    ++ faults_from b seen offending (progress_behind b seen offending double progress) doubles
 
 -- of all of a log
 unfoldable pub log_faults : Values → LogView → List Fault
 log_faults p l =
-    faults_from (log_basis p l) (sightings_of p l) (untimely_of p l) no_progress (seen_doubles (sightings_of p l))
+    faults_from (log_basis p l) (sightings_of p l) (offending_frames_of p l) no_progress (seen_doubles (sightings_of p l))
 
--- a log that is seen of a covered run, as it states, has none; and one that is seen of any run has none that asks for no sync
+-- a log that is seen of a covered run, as it states, has none where each whole frame in the slot of a node is one that the node
+-- sends; and wherever it is seen of one it has only such as ask for that
 abbrev pub NoFaultIsTold : Type 0
 NoFaultIsTold =
     (x : Setting) (h : Cycles) (base : ℕ) (delays : ℕ → Channel → Delays) (clock : ℕ → StraightClock) (l : LogView)
-    → IsObservedRun x h base delays clock l → IsAsStated x h base l → log_faults x.params l ≡ []
+    → IsObservedRun x h base delays clock l → IsAsStated x h base l → SlotsAreOwn x h l → log_faults x.params l ≡ []
 
+abbrev pub ToldFaultsAskOwnSlots : Type 0
+ToldFaultsAskOwnSlots =
+    (x : Setting) (h : Cycles) (base : ℕ) (delays : ℕ → Channel → Delays) (clock : ℕ → StraightClock) (l : LogView)
+    → IsObservedRun x h base delays clock l → IsAsStated x h base l
+    → All (λ fault. asks_own_slots fault.kind ≡ true) (log_faults x.params l)
+
+-- one that is seen of any run has only such as ask for sync, where its slots are own; and wherever it is seen of one, only such
+-- as ask for sync or for that
 abbrev pub ToldFaultsAskSync : Type 0
 ToldFaultsAskSync =
     (x : Setting) (h : Cycles) (base : ℕ) (delays : ℕ → Channel → Delays) (clock : ℕ → StraightClock) (l : LogView)
-    → IsObservedRun x h base delays clock l → All (λ fault. asks_sync fault.kind ≡ true) (log_faults x.params l)
+    → IsObservedRun x h base delays clock l → SlotsAreOwn x h l
+    → All (λ fault. asks_sync fault.kind ≡ true) (log_faults x.params l)
+
+abbrev pub ToldFaultsAskEither : Type 0
+ToldFaultsAskEither =
+    (x : Setting) (h : Cycles) (base : ℕ) (delays : ℕ → Channel → Delays) (clock : ℕ → StraightClock) (l : LogView)
+    → IsObservedRun x h base delays clock l
+    → All (λ fault. (asks_sync fault.kind || asks_own_slots fault.kind) ≡ true) (log_faults x.params l)
 
 -- the verdict is no exactly where there is one, and tells the first
 abbrev pub VerdictTellsFirst : Type 0

@@ -22,6 +22,7 @@ use Rattle.fr_findings.specs.Verdict.{verdict_of}
 use Rattle.fr_findings.specs.declared.verdict.Verdict.TheVariants as verdict
 use Rattle.fr_seen.specs.Clocks.{StraightClock}
 use Rattle.fr_seen.specs.Observed.{SentFrame}
+use Rattle.fr_seen.specs.OwnSlots.{SlotsAreOwn}
 use Rattle.fr_seen.specs.WorkedStamps.{worked_delays, worked_values}
 use Rattle.fr_seen_runs.specs.Contradictions.{IsAsStated, IsObservedRun}
 
@@ -154,11 +155,13 @@ true_clock double = record { ticks = pos 1; counts = pos 1; zero = pos 0 }
 
 -- ---- the instance
 
--- the cycles of the run are these, the log is seen of them, and they are as it states; its entries are these sightings; and its
--- verdict is that the senders are within the precision in cycles 0 to 2
+-- the cycles of the run are these, the log is seen of them, and they are as it states; each whole frame in the slot of a node is
+-- one that the node sends; its entries are these sightings; and its verdict is that the senders are within the precision in
+-- cycles 0 to 2
 pub record WorkedLog (since : Option ℕ) (whole : Bool) : Type 0 where
   pub cycles : cycles_of seen_run 4 ≡ seen_cycles
   pub observed : IsObservedRun seen_run seen_cycles 0 no_delays true_clock (seen_log since whole)
   pub stated : IsAsStated seen_run seen_cycles 0 (seen_log since whole)
+  pub slots : SlotsAreOwn seen_run seen_cycles (seen_log since whole)
   pub sightings : sightings_of seen_cluster (seen_log since whole) ≡ seen_sightings
   pub verdict : verdict_of seen_cluster (seen_log since whole) ≡ verdict.Within (record { from = 0; to = 2 })

@@ -5,6 +5,7 @@
 mod completeness;
 mod computed;
 mod faults_in_sync;
+mod in_time;
 mod kept_in_sync;
 mod own;
 mod rows_told;
@@ -15,11 +16,12 @@ mod worked;
 pub use completeness::{corners_are_narrow, far_senders_are_told, near_senders_are_within};
 pub use computed::{nodes_apply_midpoints, term_faults_are_none, terms_are_computed};
 pub use faults_in_sync::{missing_faults_are_none, skew_and_length_faults_are_none};
+pub use in_time::{a_worked_reading, no_run_in_sync_is_contradicted, sync_is_timely};
 pub use kept_in_sync::{
     doubles_are_there, key_frames_are_there, senders_lie_as_seen, senders_stay_in_sync,
 };
-pub use own::{own_faults_are_none, sync_is_seen};
+pub use own::{own_faults_are_none, slot_faults_are_none, sync_is_seen};
 pub use rows_told::{covered_row_is_so, sync_row_is_so};
 pub use told::{no_fault_is_told, verdict_tells_first};
 pub use verdicts::{no_run_is_contradicted, within_is_so};
-pub use worked::{a_worked_log, worked_contradictions};
+pub use worked::{a_worked_log, worked_contradictions, worked_strangers};

@@ -1,12 +1,18 @@
-ghost use Rattle.fr_seen_runs.specs.NotContradicted.{OwnFaultsAreNone, SyncIsSeen};
+ghost use Rattle.fr_seen_runs.specs.NotContradicted.{OwnFaultsAreNone, SlotFaultsAreNone, SyncIsSeen};
 
 /// A law: in no double cycle of a log that is seen of a run, in sync or not, is there a fault that contradicts any run.
 pub fn own_faults_are_none()
     ensures { OwnFaultsAreNone }
 {}
 
-/// A law: a double cycle of such a log that is seen in sync is in sync in the run, and no node follows in it, where the
-/// log names the arbitrary nodes of the run and no other.
+/// A law: nor is there one of an irregular frame in a log where each whole frame in the slot of a node that the log does
+/// not name arbitrary is one that the node sends there in some cycle of the run.
+pub fn slot_faults_are_none()
+    ensures { SlotFaultsAreNone }
+{}
+
+/// A law: a double cycle of a log that is seen of a run is in sync in the run where it is seen in sync, and no node
+/// follows in it, if the log names the arbitrary nodes of the run and no other.
 pub fn sync_is_seen()
     ensures { SyncIsSeen }
 {}

@@ -1,7 +1,9 @@
 ghost use Rattle.fr_seen_runs.specs.NotContradicted.{NoRunHasOwnFaults, NoRunIsContradicted, WithinIsInSync, WithinIsSo, WithinIsThere};
 
 /// The law of contradictions: where the verdict of a log is no, it is seen of no covered run that is as the log states;
-/// and where the kind of the fault asks for no sync, of no run at all whose oscillators keep within what is stated.
+/// and where the kind of the fault asks for no sync, of no run at all whose oscillators keep within what is stated. Where
+/// the kind asks for own slots, as that of an irregular frame does, this is said of runs in which each whole frame of the
+/// log in the slot of a node that the log does not name arbitrary is one that the node sends there, in some cycle.
 pub fn no_run_is_contradicted()
     ensures own { NoRunHasOwnFaults }
     ensures sync { NoRunIsContradicted }

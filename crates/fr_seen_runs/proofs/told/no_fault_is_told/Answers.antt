@@ -1,9 +1,15 @@
-use Rattle.fr_seen_runs.proofs.Contradicted.{no_fault_is_told, told_faults_ask_sync}
+use Rattle.fr_seen_runs.proofs.Contradicted.{no_fault_is_told, told_faults_ask_either, told_faults_ask_own_slots, told_faults_ask_sync}
 use Rattle.fr_seen_runs.proofs.SyncKept.{sync_is_kept}
 use Rattle.fr_seen_runs.proofs.told.no_fault_is_told.Goals as goal
 
-pub returns-clause-own : goal.returns-clause-own
-returns-clause-own c = told_faults_ask_sync
+pub returns-clause-run : goal.returns-clause-run
+returns-clause-run c = told_faults_ask_either
 
-pub returns-clause-sync : goal.returns-clause-sync
-returns-clause-sync c = no_fault_is_told sync_is_kept
+pub returns-clause-run_with_own_slots : goal.returns-clause-run_with_own_slots
+returns-clause-run_with_own_slots c = told_faults_ask_sync
+
+pub returns-clause-stated : goal.returns-clause-stated
+returns-clause-stated c = told_faults_ask_own_slots sync_is_kept
+
+pub returns-clause-stated_with_own_slots : goal.returns-clause-stated_with_own_slots
+returns-clause-stated_with_own_slots c = no_fault_is_told sync_is_kept
