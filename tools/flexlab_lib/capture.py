@@ -6,6 +6,7 @@ import tempfile
 from dataclasses import dataclass, field
 
 from . import program as programs
+from .blf import MAGIC, read_blf
 from .cluster import read_cluster
 from .ending import DONE, FILE, NO, PROGRAM, REFUSED, USAGE, Stop
 from .frames import frame_crc
@@ -39,10 +40,21 @@ class Taken:
 
 
 def load(path):
-    """The packets of a capture, whatever form tshark reads, by their numbers there."""
+    """The packets of a capture, a BLF file or whatever form tshark reads, by their numbers there."""
     with open(path, "rb") as file:
-        if not file.read(1):
-            raise Stop(NO, f"{path}: it has 0 bytes, so it is no capture: did the logger write?")
+        first = file.read(4)
+    if not first:
+        raise Stop(NO, f"{path}: it has 0 bytes, so it is no capture: did the logger write?")
+    link, packets = (LINK_FLEXRAY, read_blf(path)[0]) if first == MAGIC else load_by_tshark(path)
+    if packets and link != LINK_FLEXRAY:
+        raise Stop(REFUSED, f"{path}: its link type is {link}, and FlexRay's is {LINK_FLEXRAY}")
+    if not packets:
+        raise Stop(NO, f"{path}: a capture without a packet: was the logger on the bus, and its filter open?")
+    return packets
+
+
+def load_by_tshark(path):
+    """The link type and the packets."""
     tshark = programs.helper("tshark")
     with tempfile.TemporaryDirectory() as room:
         plain = os.path.join(room, "plain.pcap")
@@ -51,12 +63,7 @@ def load(path):
             raise Stop(REFUSED, f"{path}: tshark does not read it: {told}")
         if status != 0:
             print(f"{'WARNING':<16}tshark says: {told}")
-        link, packets = read_capture(plain)
-    if packets and link != LINK_FLEXRAY:
-        raise Stop(REFUSED, f"{path}: its link type is {link}, and FlexRay's is {LINK_FLEXRAY}")
-    if not packets:
-        raise Stop(NO, f"{path}: a capture without a packet: was the logger on the bus, and its filter open?")
-    return packets
+        return read_capture(plain)
 
 
 def stated(frame):

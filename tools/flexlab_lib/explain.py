@@ -36,6 +36,8 @@ USAGE = {
                                                                            "FILE", "cold": "cold PARAMS POWER",
     "observe": "observe PARAMS LOG",
 }
+# How names of files end that `flexlab log` turns into logs, beside CSV files.
+CAPTURES = (".asc", ".blf", ".pcap", ".pcapng")
 
 
 def file_of(role, words):
@@ -192,6 +194,9 @@ def beyond(path, number):
 
 def explain_record(role, number, reason, words):
     path, cluster = named(role, words), known_of(words)
+    if role == "log" and path.lower().endswith(CAPTURES):
+        return [f"{path}: this is a capture, and flexray reads logs: `flexlab log {path} CLUSTER.toml` writes one, and `flexlab observe` "
+                "asks flexray itself"]
     found = loaded(path)
     if number > len(found):
         return [beyond(path, number)]

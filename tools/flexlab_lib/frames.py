@@ -1,4 +1,5 @@
 """The regular frames of a cluster as bytes (docs/PROTOCOL.md, "Frames", "The two CRCs", "Regular frames")."""
+from functools import cache
 
 START = {"A": 0xFEDCBA, "B": 0xABCDEF}
 
@@ -22,11 +23,32 @@ def frame_crc(channel, data):
     return register
 
 
-def frame_bytes(channel, slot, cycle, payload, valid, sync=False, startup=False, preamble=False):
-    words = len(payload) // 2
-    head = crc(11, 0x385, 0x01A, sync << 19 | startup << 18 | slot << 7 | words, 20)
+def header_crc(slot, words, sync, startup):
+    return crc(11, 0x385, 0x01A, sync << 19 | startup << 18 | slot << 7 | words, 20)
+
+
+def header_bytes(slot, cycle, words, valid, sync, startup, preamble=False):
+    head = header_crc(slot, words, sync, startup)
     first = preamble << 6 | valid << 5 | sync << 4 | startup << 3 | slot >> 8
-    data = bytes([first, slot & 255, words << 1 | head >> 10, head >> 2 & 255, (head & 3) << 6 | cycle % 64]) + payload
+    return bytes([first, slot & 255, words << 1 | head >> 10, head >> 2 & 255, (head & 3) << 6 | cycle % 64])
+
+
+@cache
+def header_crcs(slot, words):
+    """The header CRCs that a frame can have, each with its sync and startup indicators; none has startup without sync."""
+    return {header_crc(slot, words, *both): both for both in ((False, False), (True, False), (True, True))}
+
+
+def proved_header(slot, words, kept, cycle):
+    """The header with this header CRC, or None where no indicators give it. By its CRC alone are slot, length, sync and
+    startup what they are; the cycle count has none, and the null frame indicator says that there is data."""
+    if not (1 <= slot <= 2047 and 0 <= words <= 127 and 0 <= cycle <= 63) or kept not in header_crcs(slot, words):
+        return None
+    return header_bytes(slot, cycle, words, True, *header_crcs(slot, words)[kept])
+
+
+def frame_bytes(channel, slot, cycle, payload, valid, sync=False, startup=False, preamble=False):
+    data = header_bytes(slot, cycle, len(payload) // 2, valid, sync, startup, preamble) + payload
     return data + frame_crc(channel, data).to_bytes(3, "big")
 
 

@@ -16,8 +16,11 @@ from .runs import answer, keep
 from .units import TICKS, decimal, us_of_ticks
 
 FATES = ("say where a clock was", "are damaged", "are of arbitrary nodes", "tell nothing of a clock",
-         "come at another time than their cycle count has it", "come behind a silence of more than 30 cycles")
+         "come at another time than their cycle count has it or are of a past double cycle or of none",
+         "come behind a silence of more than 30 cycles")
 MOST_FAULTS = 8
+# Kinds of contradictions to that each whole frame with the ID of a node is one that it sends.
+IRREGULAR = ("stranger", "form")
 ORIGIN = ("Every limit here is one that flexray printed, converted and rounded outwards: it holds in every run of the "
           "cluster that can have given the log, if what is stated of the analyzer and of the oscillators is so. "
           "flexlab computes no answer of its own.")
@@ -56,13 +59,13 @@ def read_observed(text):
             found.faults.append((int(fields[0]), number(fields[1]), fields[2], fields[3:7]))
         elif word == "sender":
             found.senders.append((int(fields[0]), fields[1], *map(number, fields[2:6])))
-        elif word in ("covered", "sync", "verdict"):
+        elif word in ("covered", "numbers", "sync", "verdict"):
             found.ends[word] = [part for part in fields if part]
         elif word == "log":
             found.log = [int(count) for count in fields[:6]]
         elif word == "cycles":
             found.said = [int(count) for count in fields[2:5]]
-    if not found.log or len(found.said) != 3 or len(found.ends) != 3:
+    if not found.log or len(found.said) != 3 or len(found.ends) != 4:
         raise Stop(PROGRAM, "flexray observe printed no row of the log, of its cycles, or no verdict")
     return found
 
@@ -127,6 +130,11 @@ class Words:
             return f"its frame on channel {one} is there twice"
         if kind == "cycle":
             return f"its frame on channel {one} comes at another time than its cycle count {three} says"
+        if kind == "stranger":
+            return f"a frame is in its slot {three} on channel {one}, which it does not have"
+        if kind == "form":
+            return (f"the frame in its slot {three} on channel {one} has another payload length, or another sync or startup "
+                    "indicator, than its frames there")
         if kind == "missing":
             return f"its frame on channel {one} is not there"
         if kind == "length":
@@ -154,6 +162,9 @@ def verdict_lines(cluster, told):
         why = f"check {covered[2]} fails" if covered[1] == "check" else (
             f"{covered[2]} correct nodes with a key slot do not outweigh {covered[3]} arbitrary ones")
         found += lines_of("Covered", f"no run of this cluster is: {why}; so nothing is held against the rules of sync")
+    if told.ends["numbers"][0] == "premise":
+        found += lines_of("Numbers", "that each frame comes within half a cycle of the schedule is taken for granted: the limits that "
+                                     "are stated do not suffice to be sure of it of clocks in sync")
     if sync[0] == "-":
         unseen = [str(node.number) for node in cluster.nodes.values() if not node.key_slot and not node.arbitrary]
         text = "of no double cycle it is certain"
@@ -166,8 +177,9 @@ def verdict_lines(cluster, told):
     if verdict[0] == "within":
         text = f"in cycles {verdict[1]} to {verdict[2]} the clocks of the nodes that sent lay within the precision"
     elif verdict[0] == "no":
-        text = ("NO: no run of this cluster that keeps to what is stated can have given this log; the first "
-                f"contradiction is in cycle {verdict[1]}")
+        alone = ", and in which no other sender takes the ID of a node," if verdict[2] in IRREGULAR else ""
+        text = ("NO: no run of this cluster that keeps to what is stated and whose frames come within half a cycle of the "
+                f"schedule{alone} can have given this log; the first contradiction is in cycle {verdict[1]}")
     else:
         text = "open: nothing contradicts the rules, and it is not certain that the clocks lay within the precision"
     return found + lines_of("Verdict", text)
@@ -225,7 +237,7 @@ def page_lines(cluster, told, observer, frames, entries, name):
                                  f"{plain(cluster.microtick_ns)} ns")
     found += lines_of("Analyzer", analyzer_words(observer, frames))
     found += lines_of("Frames", ", ".join(f"{count} {fate}" for count, fate in zip(told.log, FATES)))
-    found += lines_of("Left out", *left_lines(frames))
+    found += left_lines(frames)
     if told.cycles:
         within, over, neither = told.said
         found += lines_of("Cycles", f"{told.cycles[0][0]} to {told.cycles[-1][0]}, by the cycle counts: {within} within the "
@@ -244,7 +256,7 @@ def observed_object(cluster, told, frames, entries):
         "entries": entries, "left_out": frames.left, "precision": {"ticks": told.precision},
         "log": dict(zip(("judged", "damaged", "arbitrary", "other", "stray", "behind"), told.log)),
         "said": dict(zip(("within", "over", "open"), told.said)), "verdict": told.ends["verdict"],
-        "sync": told.ends["sync"], "covered": told.ends["covered"],
+        "sync": told.ends["sync"], "covered": told.ends["covered"], "numbers": told.ends["numbers"],
         "faults": [{"cycle": cycle, "node": node, "kind": kind, "fields": fields, "told": Words(cluster).told(kind, fields)}
                    for cycle, node, kind, fields in told.faults],
         "senders": [dict(zip(("node", "channel", "frames", "first", "last", "missed"), row)) for row in told.senders],

@@ -10,9 +10,13 @@ from fractions import Fraction
 from functools import cached_property
 
 from . import ranges
+from .asc import UNPROVED, read_asc
+from .blf import MAGIC, read_blf
 from .capture import load, sort_packets
 from .ending import FILE, NO, REFUSED, USAGE, Stop
 from .frames import crc, frame_crc
+from .packets import UNSURE
+from .page import field as lines_of
 from .source import Source
 from .units import TICKS, decimal
 
@@ -20,6 +24,7 @@ LAST_STAMP, MOST_TICKS, MOST_CYCLE = 9 * 10**17, 10**9, 199998
 WANTED = ("a table [observer] states what is known of the analyzer: resolution_ns, drift_ppm, delay_from_ns and "
           "delay_to_ns; docs/FLEXLAB.md, \"Logs\", has more")
 SHORT, FLAWED = "frames that are not as long as they say", "frames without a trailer, with an error flag"
+REQUESTED = "frames that may be mere requests to transmit"
 UNITS = {"s": Fraction(10**9), "ms": Fraction(10**6), "us": Fraction(1000), "ns": Fraction(1)}
 
 
@@ -39,11 +44,12 @@ class Observer:
 @dataclass
 class Frames:
     """(ns, channel, bytes, whether these are all of the frame), of a file that keeps times in steps of so many ns; how
-    many were left out, by reason."""
+    many were left out, by reason; and the columns that were read, where these are not stated by their names."""
     path: str
     step: Fraction
     found: list
     left: dict = field(default_factory=dict)
+    columns: str = ""
 
     def leave(self, reason, count=1):
         if count:
@@ -52,7 +58,7 @@ class Frames:
     @cached_property
     def is_torn(self):
         """Whether frames of key slots may have been left out, or are damaged."""
-        return any(reason in self.left for reason in (SHORT, FLAWED)) or any(
+        return any(reason in self.left for reason in (SHORT, FLAWED, UNPROVED, REQUESTED)) or any(
             is_damaged(channel, data, is_all) for _, channel, data, is_all in self.found)
 
 
@@ -120,9 +126,11 @@ def stated(cluster):
 
 
 def step_of(path):
-    """In steps of how many ns a pcap or pcapng file keeps its times; None where its first bytes do not say it."""
+    """In steps of how many ns a pcap, pcapng or BLF file keeps its times; None where it does not say it."""
     with open(path, "rb") as file:
         data = file.read(1 << 16)
+    if data[:4] == MAGIC:
+        return Fraction(read_blf(path)[1])
     if data[:4] in (b"\xd4\xc3\xb2\xa1", b"\xa1\xb2\xc3\xd4"):
         return Fraction(1000)
     if data[:4] in (b"\x4d\x3c\xb2\xa1", b"\xa1\xb2\x3c\x4d"):
@@ -155,20 +163,24 @@ def interface_step(options, order):
 
 
 def capture_frames(path):
-    """The frames of a pcap or pcapng file. Of one without its frame CRC the header counts, where the logger saw no
+    """The frames of a capture. Of one without its frame CRC, or that was cut, the header counts, where the logger saw no
     error. Of a file that does not say its steps, as one that is packed, these are microseconds where its times are."""
     taken, todo = sort_packets(load(path))
     step = step_of(path)
     if step is None:
         step = Fraction(1000 if all(packet.ns % 1000 == 0 for packet in taken.packets) else 1)
     frames = Frames(path, max(Fraction(1), step), [])
+    cut = [packet for packet in taken.packets if packet.number in taken.damaged and packet.cut and len(packet.frame) >= 5]
+    bare = taken.bare + cut
     packets = [(packet, True) for channel in "AB" for packet in todo[channel]]
-    packets += [(packet, False) for packet in taken.bare if not packet.flags]
+    packets += [(packet, False) for packet in bare if not packet.flags]
     frames.found = [(Fraction(packet.ns), packet.channel, packet.frame, is_all) for packet, is_all in packets]
+    requested = sum(bool(packet.data) and packet.kind == UNSURE for packet in taken.other)
     frames.leave("symbols", len(taken.symbols))
-    frames.leave("packets of another kind", len(taken.other))
-    frames.leave(SHORT, len(taken.damaged))
-    frames.leave(FLAWED, sum(packet.flags != 0 for packet in taken.bare))
+    frames.leave(REQUESTED, requested)
+    frames.leave("packets of another kind", len(taken.other) - requested)
+    frames.leave(SHORT, len(taken.damaged) - len(cut))
+    frames.leave(FLAWED, sum(packet.flags != 0 for packet in bare))
     return frames
 
 
@@ -224,13 +236,19 @@ def table_frames(path, columns, unit):
     return frames
 
 
-def read_frames(path, columns, unit):
+def asc_frames(path, cluster):
+    """The frames of an ASC file, by their headers."""
+    step, found, left, columns = read_asc(path, cluster)
+    frames = Frames(path, step, [(ns, channel, header, False) for ns, channel, header in found], columns=columns)
+    for reason, count in left.items():
+        frames.leave(reason, count)
+    return frames
+
+
+def read_frames(cluster, path, columns, unit):
     if columns:
         return table_frames(path, columns_of(columns), unit)
-    if path.lower().endswith(".asc"):
-        raise Stop(REFUSED, f"{path}: flexlab reads no ASC files: export the capture as pcapng, pcap, or CSV "
-                            "(--columns)")
-    return capture_frames(path)
+    return asc_frames(path, cluster) if path.lower().endswith(".asc") else capture_frames(path)
 
 
 # ---- the log
@@ -286,8 +304,8 @@ def log_of(cluster, observer, frames):
         raise Stop(NO, f"{frames.path}: there is no frame that could be used")
     unit, error = step_ticks(observer, frames.step, cluster.microtick_ns)
     if error > MOST_TICKS:
-        raise Stop(REFUSED, f"{cluster.path}: by [observer] a stamp is off by {error} ticks, and a log takes at most "
-                            f"{MOST_TICKS}")
+        raise Stop(REFUSED, f"{cluster.path}: by [observer] and the steps of {frames.path} a stamp is off by {error} "
+                            f"ticks, and a log takes at most {MOST_TICKS}")
     lines = list(head_lines(cluster, observer, frames, unit, error))
     size, entries = sum(map(len, lines)), 0
     for line in entry_lines(cluster, frames, unit):
@@ -301,12 +319,14 @@ def log_of(cluster, observer, frames):
 
 
 def left_lines(frames):
-    return [f"{count} {reason}" for reason, count in frames.left.items()] or ["nothing"]
+    """Lines of a page: what was left out, and which columns were read."""
+    left = [f"{count} {reason}" for reason, count in frames.left.items()] or ["nothing"]
+    return lines_of("Left out", *left) + (lines_of("Columns", frames.columns) if frames.columns else [])
 
 
 def write_log(cluster, path, words):
     """Writes the log of a capture: its observer, its frames, and how many entries it has."""
-    observer, frames = stated(cluster), read_frames(words.file, words.columns, words.time_unit)
+    observer, frames = stated(cluster), read_frames(cluster, words.file, words.columns, words.time_unit)
     text, entries = log_of(cluster, observer, frames)
     try:
         with open(path, "w", encoding="ascii", newline="") as file:

@@ -10,7 +10,8 @@ from .ending import PROGRAM, Stop
 
 LINK_FLEXRAY = 210
 MAGIC_NS = 0xA1B23C4D
-FRAME, SYMBOL = 1, 2
+# No capture has the third: frames of a BLF file that may be mere requests to transmit.
+FRAME, SYMBOL, UNSURE = 1, 2, 3
 FLAGS = {0x10: "frame CRC", 0x08: "header CRC", 0x04: "frame end sequence", 0x02: "coding", 0x01: "TSS violation"}
 
 

@@ -37,8 +37,9 @@ KEYS = {
     "observer": ("resolution_ns", "drift_ppm", "error_ns", "jitter_ns", "delay_from_ns", "delay_to_ns", "missed_none",
                  "in_sync_from_cycle"),
     "observer_delay": ("nodes", "channels", "from_ns", "to_ns"),
+    "asc": ("columns", "hexadecimal", "sums_are_exact"),
 }
-SINGLE = ("bench", "cluster", "limits", "run", "values", "observer")
+SINGLE = ("bench", "cluster", "limits", "run", "values", "observer", "asc")
 MANY = tuple(name for name in KEYS if name not in SINGLE)
 
 

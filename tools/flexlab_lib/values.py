@@ -104,6 +104,12 @@ class Table:
             self.refuse(key, f"{shown(value)} is not true or false")
         return value
 
+    def text(self, key, wanted, default=None):
+        value = self.take(key, wanted, default)
+        if not isinstance(value, str):
+            self.refuse(key, f"{shown(value)} is not a text of {wanted}")
+        return value
+
     def channels(self, key, default=None):
         value = self.take(key, '"A", "B" or "AB"', default)
         if value not in ("A", "B", "AB"):

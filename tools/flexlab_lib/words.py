@@ -136,7 +136,7 @@ def parser():
     study.add_argument("--flexray", metavar="PROGRAM", help=PROGRAM_HELP)
 
     capture = request("capture", "take a capture of a FlexRay network apart",
-                      "\nA pcap or pcapng file of link type FlexRay (210), read by tshark. It writes the files of "
+                      "\nA pcap or pcapng file of link type FlexRay (210), read by tshark, or a BLF file. It writes the files of "
                       "flexray\ncapture (A.bin, B.bin) and of flexray nm (vectors.csv), and prints which frames are "
                       "there, missing and\ndamaged. Whether a frame is whole is what flexray says of it.")
     capture.add_argument("file", metavar="FILE")
@@ -149,10 +149,12 @@ def parser():
 
     log = request("log", "write the log of flexray observe from a capture",
                   "\n[observer] of the TOML file states what is known of the analyzer. Captures are pcap and pcapng files of "
-                  "link type\nFlexRay (210), read by tshark, or CSV files, of which --columns names the columns.")
+                  "link type\nFlexRay (210), read by tshark; BLF files; ASC files, whose rows have to fit their header CRC, by columns "
+                  "that are\nfound or that [asc] states; or CSV files, of which --columns names the columns.")
     observe = request("observe", "tell what a capture says for certain of the cluster's clocks",
                       "\nIt writes the log as `log` does, asks flexray observe, and prints a page in microseconds and ppm: limits of "
-                      "the skew,\nof each node's rate and offset terms. It ends in status 1 where the skew is over the precision.")
+                      "the skew,\nof each node's rate and offset terms. It ends in status 1 where the skew is over the precision, or "
+                      "the verdict\nis no.")
     for one in (log, observe):
         one.add_argument("file", metavar="CAPTURE")
         one.add_argument("cluster", metavar="CLUSTER.toml")
@@ -325,7 +327,7 @@ def do_log(words):
     path = folder_of(words, ".log.csv")
     observer, frames, entries = write_log(read_cluster(words.cluster), path, words)
     print("\n".join(field("Log", f"{path}: {entries} frames of key slots") + field("Analyzer", analyzer_words(observer, frames))
-                    + field("Left out", *left_lines(frames))))
+                    + left_lines(frames)))
     return DONE
 
 

@@ -282,6 +282,12 @@ class Explain(Bench):
                 self.assertEqual(out.splitlines()[0], line)
                 self.assertIn(told, out)
 
+    def test_a_capture_in_place_of_a_log(self):
+        self.files()
+        self.write("bus.asc", "date Tue\n0.5 Fr RMSG\n")
+        out = self.one_line(self.flexlab("explain", "observe", "params.csv", "bus.asc", status=1)[0])
+        self.assertIn("bus.asc: this is a capture, and flexray reads logs: `flexlab log bus.asc CLUSTER.toml` writes one", out)
+
     def test_checks_and_gaps_of_an_answer(self):
         for old, new, told in (
                 ("pClusterDriftDamping,4", "pClusterDriftDamping,2", "C1 asks for 4 at least"),

@@ -4,12 +4,14 @@ import gzip
 import json
 import os
 import random
+import struct
 import subprocess
 import unittest
 from fractions import Fraction
 
-from bench import EXAMPLE, Bench, edited, needs
+from bench import EXAMPLE, REPOSITORY, Bench, edited, needs
 from flexlab_lib import observed, observer, packets, report
+from flexlab_lib.frames import frame_bytes
 
 CLUSTERS = int(os.environ.get("FLEXLAB_OBSERVE_CLUSTERS", "6"))
 SHORT = edited(("double_cycles = 200", "double_cycles = 10"))
@@ -23,8 +25,9 @@ delay_to_ns = 200
 
 
 class Cluster:
-    """What words of contradictions ask of a cluster."""
+    """What words of contradictions and of a verdict ask of a cluster."""
     microtick_ns = Fraction(25)
+    nodes = {}
 
 
 MICROTICK_NS, MACROS, MICROS, TURN = 25, 5000, 200000, 4900
@@ -208,9 +211,34 @@ class Logs(Bench):
                 ("channels", ("2", "1", "-", "-"), "the stamps of both channels place its clock nowhere"),
                 ("twice", ("A", "4", "3", "-"), "its frame on channel A is there twice"),
                 ("missing", ("B", "-", "-", "-"), "its frame on channel B is not there"),
+                ("stranger", ("B", "9", "3", "-"), "a frame is in its slot 3 on channel B, which it does not have"),
+                ("form", ("A", "9", "3", "-"), "the frame in its slot 3 on channel A has another payload length, or another"),
                 ("cycle", ("B", "9", "63", "-"), "its frame on channel B comes at another time than its cycle count 63")):
             self.assertIn(told, words.of((7, 2, kind, fields)))
             self.assertTrue(words.of((7, 2, kind, fields)).startswith("cycle 7, node 2: "))
+
+    def test_a_frame_of_another_form(self):
+        path = self.sent()
+        made = [(packet.ns, packet.channel, packet.frame) for packet in packets.read_capture(path)[1]]
+        self.assertEqual(self.observed(path)["numbers"], ["sure"])
+        # In the key slot of node 1, and no sync frame.
+        made[21:21] = [(made[20][0], "A", frame_bytes("A", 1, 9, bytes(16), True))]
+        packets.write_capture(self.path("more.pcap"), made)
+        page = self.one_line(self.flexlab("observe", "-o", "seen", "more.pcap", "net.toml", status=1)[0])
+        self.assertIn("Verdict NO: no run of this cluster that keeps to what is stated and whose frames come within half a cycle of "
+                      "the schedule, and in which no other sender takes the ID of a node, can have given this log", page)
+        self.assertRegex(page, r"CONTRADICTION cycle \d, node 1: the frame in its slot 1 on channel A has another payload length")
+        self.assertNotIn("Numbers", page)
+
+    def test_numbers_that_are_a_premise(self):
+        """Where limits are so wide that clocks in sync could come half a cycle off, that is said."""
+        with open(os.path.join(REPOSITORY, "examples", "observe", "printed.txt"), encoding="ascii") as file:
+            text = file.read()
+        for word, is_said in (("sure", False), ("premise", True)):
+            told = observed.read_observed(text.replace("numbers,sure", f"numbers,{word}"))
+            page = self.one_line("\n".join(observed.verdict_lines(Cluster, told)))
+            self.assertEqual("Numbers that each frame comes within half a cycle of the schedule is taken for granted" in page,
+                             is_said)
 
     def test_a_log_of_nobody(self):
         """Where another network is taken for this one, no frame says where a clock was."""
@@ -263,6 +291,22 @@ class Logs(Bench):
         stamps = [int(line.split(",")[1]) for line in self.read("log.csv").splitlines() if line.startswith("frame,")]
         self.assertEqual((stamps, stamps[0], len(stamps)), (sorted(stamps), 0, 160))
 
+    def test_frames_that_were_cut(self):
+        """Of a frame that the capture cut behind its header that counts; of one that was cut within it, nothing."""
+        with open(self.sent(), "rb") as file:
+            head = file.read(24)
+        made = packets.read_capture(self.path("sent", "sent.pcap"))[1]
+        for kept in (7, 6):
+            with open(self.path("cut.pcap"), "wb") as file:
+                file.write(head)
+                for at, packet in enumerate(made):
+                    data = packet.data[:kept] if at % 2 else packet.data
+                    file.write(struct.pack("<IIII", packet.ns // 10**9, packet.ns % 10**9, len(data), len(packet.data)) + data)
+            frames = observer.capture_frames(self.path("cut.pcap"))
+            self.assertEqual(sorted(data for _, _, data, _ in frames.found),
+                             sorted(packet.frame[:5 if at % 2 else None] for at, packet in enumerate(made) if kept == 7 or at % 2 == 0))
+            self.assertEqual((frames.left, frames.is_torn), ({}, False) if kept == 7 else ({observer.SHORT: 100}, True))
+
     def test_tables(self):
         made = packets.read_capture(self.sent())[1]
         for mark, unit, size, digits in ((",", "s", 10**9, 9), (";", "us", 1000, 3)):
@@ -285,7 +329,6 @@ class Logs(Bench):
             self.write("net.toml", SHORT + OBSERVER.replace(old, new))
             self.assertIn(told, self.flexlab("log", path, "net.toml", status=5)[1])
         self.write("net.toml", SHORT + OBSERVER)
-        self.assertIn("flexlab reads no ASC files", self.flexlab("log", "bus.asc", "net.toml", status=5)[1])
         columns = ("--columns", "time=Time,channel=Channel,bytes=Data")
         told = self.flexlab("log", "--columns", "time=x", "bus.csv", "net.toml", status=2)[1]
         self.assertIn("is not of the form", told)
