@@ -268,8 +268,9 @@ class ObservedNode:
 @dataclass(frozen=True)
 class LogCounts:
     """The entries of a log: how many say where a clock was (`judged`); how many are `damaged`; are of nodes that the
-    log names `arbitrary`; tell nothing of a clock (`other`); come at another time than their number has it (`stray`);
-    and come `behind` a silence of more than 30 cycles."""
+    log names `arbitrary`; tell nothing of a clock, or are irregular (`other`); come at another time than their number has
+    it, or are of a double cycle that is past or of no cycle (`stray`); and come `behind` a silence of more than 30
+    cycles."""
 
     judged: int
     damaged: int
@@ -307,8 +308,8 @@ class Observation:
     """What a log tells of the clocks. `precision` is that of the parameters, in ticks, as the skews of `cycles` are;
     `nodes` has each sender of each double cycle. `first` and `last` are the numbers of the first and the last of
     `cycles`, None where there are none, and `within`, `over` and `open` how many of them say so. `faults` are what
-    contradicts the rules, `senders` which frames are there; `covered`, `sync` and `verdict` have the fields of these
-    rows."""
+    contradicts the rules, `senders` which frames are there; `covered`, `numbers`, `sync` and `verdict` have the fields of
+    these rows."""
 
     text: str = field(repr=False)
     precision: int
@@ -323,6 +324,7 @@ class Observation:
     faults: tuple[ObservedFault, ...]
     senders: tuple[ObservedSender, ...] = field(repr=False)
     covered: tuple[str, ...]
+    numbers: tuple[str, ...]
     sync: tuple[str, ...]
     verdict: tuple[str, ...]
 

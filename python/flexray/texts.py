@@ -215,11 +215,11 @@ def observation(text: str) -> Observation:
     senders = tuple(ObservedSender(int(node), channel, int(frames), _known(begin), _known(end), int(missed))
                     for node, channel, frames, begin, end, missed in lines.every(OBSERVED_SENDER))
     log = LogCounts(*_numbers(lines.take(r"log,(\d+),(\d+),(\d+),(\d+),(\d+),(\d+),")))
-    covered, sync = _row(lines, "covered"), _row(lines, "sync")
+    covered, numbers, sync = _row(lines, "covered"), _row(lines, "numbers"), _row(lines, "sync")
     first, last, *told = lines.take(r"cycles,(-|\d+),(-|\d+),(\d+),(\d+),(\d+),,")
     within, over, neither = map(int, told)
     return Observation(text, precision, tuple(cycles), tuple(nodes), log, _known(first), _known(last), within, over,
-                       neither, tuple(faults), senders, covered, sync, _row(lines, "verdict"))
+                       neither, tuple(faults), senders, covered, numbers, sync, _row(lines, "verdict"))
 
 
 def _row(lines: _Lines, word: str) -> tuple[str, ...]:
