@@ -17,6 +17,8 @@ from flexlab_lib.frames import crc, frame_crc  # noqa: E402
 
 MILLION = 1_000_000
 KINDS = ("judged", "damaged", "arbitrary", "other", "stray", "behind")
+# A frame in the slot of a node that does not send it: on a channel that the node does not have, or of another form.
+IRREGULAR = ("stranger", "form")
 
 
 def up(number, by):
@@ -76,6 +78,18 @@ class Params:
                 (of_slot(self.action), front),
                 (of_slot(self.slot - self.action), front + self.macros * self.widest * MILLION)]
 
+    def frame_of(self, slot):
+        """Of a static slot its node, that node's channels, and the sync and startup indicators of its frames there; None
+        where the slot is of no node."""
+        if slot > self.static:
+            return None
+        for node, key, channels, coldstart in self.nodes:
+            if slot == key:
+                return node, channels, (1, int(coldstart))
+            if self.further.get(slot) == node:
+                return node, channels, (0, 0)
+        return None
+
     def key_nodes(self):
         """The nodes with a key slot: number, slot, channels."""
         return [(node, key, channels) for node, key, channels, _ in self.nodes if key is not None]
@@ -130,29 +144,40 @@ def header_of(kind, channel, data):
 
 
 def judgement(params, log, kind, channel, data):
-    """What an entry is: a word, and what is judged has its node, slot and cycle count."""
+    """What an entry is: a word, and what is judged, or irregular, has its node, slot and cycle count."""
     header = header_of(kind, channel, data)
     if header is None:
         return "damaged", None
-    sync, startup, slot, words, count = header
-    keys = {key: (node, channels, coldstart) for node, key, channels, coldstart in params.nodes if key is not None}
-    if slot > params.static or (slot not in keys and slot not in params.further):
+    *indicators, slot, words, count = header
+    owner = params.frame_of(slot)
+    if owner is None:
         return "other", None
-    node, channels, coldstart = keys.get(slot, (params.further.get(slot), "", False))
+    node, channels, wanted = owner
     if node in log.arbitrary:
         return "arbitrary", None
-    if channel not in channels or (words, sync, startup) != (params.words, 1, int(coldstart)):
-        return "other", None
-    return "judged", (node, slot, count)
+    if channel not in channels:
+        return "stranger", (node, slot, count)
+    if (words, *indicators) != (params.words, *wanted):
+        return "form", (node, slot, count)
+    return ("judged", (node, slot, count)) if wanted[0] else ("other", None)
 
 
 def sightings(params, log):
-    """The sightings (number, node, slot, channel, stamp), how many entries became what, and the frames that came at
-    another time than their cycle count says: (number of the sighting before, node, channel, stamp, count)."""
-    seen, tally, untimely, nominal = [], dict.fromkeys(KINDS, 0), [], params.micros * MILLION
+    """The sightings (number, node, slot, channel, stamp), how many entries became what, and of the others those that
+    contradict the log, each as (number of the sighting before, node, kind, channel, stamp, count or slot): frames that
+    came at another time than their cycle count says, and irregular ones."""
+    seen, tally, untimely, irregular = [], dict.fromkeys(KINDS, 0), [], []
+    nominal = params.micros * MILLION
     for kind, stamp, channel, data in log.entries:
         word, judged = judgement(params, log, kind, channel, data)
-        if judged:
+        if word in IRREGULAR:
+            node, slot, _ = judged
+            if seen and log.unit * (stamp - seen[-1][4]) > 30 * nominal:
+                word = "behind"
+            else:
+                irregular += [(seen[-1][0], node, word, channel, stamp, slot)] if seen else []
+                word = "other"
+        elif judged:
             node, slot, number = judged
             if seen:
                 last, _, last_slot, _, last_stamp = seen[-1]
@@ -165,13 +190,13 @@ def sightings(params, log):
                     word = "behind"
                 elif not is_timely:
                     word = "stray"
-                    untimely.append((last, node, channel, stamp, count))
+                    untimely.append((last, node, "cycle", channel, stamp, count))
                 elif not 0 <= number <= 199_999 or number // 2 < last // 2:
                     word = "stray"
             if word == "judged":
                 seen.append((number, node, slot, channel, stamp))
         tally[word] += 1
-    return seen, tally, untimely
+    return seen, tally, untimely, irregular
 
 
 # ---- courses
@@ -389,9 +414,9 @@ def step(clock, course, onward):
 class Double:
     """A double cycle of a log: what its own sightings tell, and those of the double cycles before and behind it."""
 
-    def __init__(self, params, log, clock, double, before, here, behind, late, ends):
+    def __init__(self, params, log, clock, double, before, here, behind, offending, ends):
         self.params, self.log, self.clock, self.double, self.ends = params, log, clock, double, ends
-        self.before, self.here, self.behind, self.late = before, here, behind, late
+        self.before, self.here, self.behind, self.offending = before, here, behind, offending
         self.keys = [(node, key, channels) for node, key, channels in params.key_nodes() if node not in log.arbitrary]
         # Each node that was seen with its course, and its course in the next double cycle.
         self.active = [(node, here.sender(node, key), behind.sender(node, key)) for node, key, _ in self.keys
@@ -406,7 +431,7 @@ class Double:
         return offset(self.clock, course, onward, self.here.span(node, 1, self.behind, 0)) if onward else None
 
     def own(self):
-        """What no run gives: (cycle, node, kind, A, B, C, D)."""
+        """What no run gives, and none that sends its own frames alone in its slots: (cycle, node, kind, A, B, C, D)."""
         found, even = [], 2 * self.double
         for node, _, _ in self.keys:
             boxes = [self.here.box(node, odd) for odd in (0, 1)]
@@ -426,8 +451,7 @@ class Double:
             first = self.here.stamps[node, channel, number % 2]
             if first != stamp:
                 found.append((number, node, "twice", channel, stamp, first))
-        return found + [(number, node, "cycle", channel, stamp, count)
-                        for number, node, channel, stamp, count in self.late]
+        return found + self.offending
 
     def is_in_sync(self):
         """Whether it is certainly in sync, where nothing contradicts it."""
@@ -509,6 +533,15 @@ def coverable(params, log):
     return None
 
 
+def are_numbers_sure(params, log):
+    """Whether each frame of a covered run in sync certainly comes within half a cycle of the schedule: 36 cycles' lengths,
+    16 offset terms, two roundings, the delay, the reading and the starts of two nodes are no further off together."""
+    off = (36 * params.micros * params.rate_bound + 16 * params.offset_out * params.longest + 2 * params.longest
+           + 31 * params.micros * log.drift + log.unit + log.error + params.starts)
+    return all(2 * (off + log.limits(node, channel)[1]) <= params.micros * MILLION
+               for node, _, channels in params.key_nodes() if node not in log.arbitrary for channel in channels)
+
+
 def sender_lines(params, log, seen):
     """Of each sender and channel how many frames are there, in which cycles, and in how many of the log none."""
     lines, span = [], range(seen[0][0], seen[-1][0] + 1) if seen else range(0)
@@ -552,23 +585,24 @@ class Progress:
 
 def observe(params, log):
     """The lines of the text, each a list of its fields, without the empty ones at its end."""
-    clock, (seen, tally, untimely) = Clock(params, log), sightings(params, log)
-    lines, doubles, late, progress = [["precision", params.precision]], {}, {}, Progress(params, log)
+    clock, (seen, tally, untimely, irregular) = Clock(params, log), sightings(params, log)
+    lines, doubles, offending, progress = [["precision", params.precision]], {}, {}, Progress(params, log)
     for one in seen:
         doubles.setdefault(one[0] // 2, []).append(one)
-    for one in untimely:
-        late.setdefault(one[0] // 2, []).append(one)
+    for one in untimely + irregular:
+        offending.setdefault(one[0] // 2, []).append(one)
     parts, span = {}, range(min(doubles), max(doubles) + 1) if seen else ()
     for double in [*(span[0] - 1 for _ in span[:1]), *span, *(last + 1 for last in span[-1:])]:
         parts[double] = Seen(params, log, clock, doubles.get(double, []))
     for double in span:
         lines += progress.pass_double(Double(params, log, clock, double, parts[double - 1], parts[double],
-                                             parts[double + 1], late.get(double, []), (seen[0][0], seen[-1][0])))
+                                             parts[double + 1], offending.get(double, []), (seen[0][0], seen[-1][0])))
     words = [line[5] for line in lines if line[0] == "cycle"]
     lines += sender_lines(params, log, seen)
     lines.append(["log", *(tally[kind] for kind in KINDS)])
     why = coverable(params, log)
     lines.append(["covered", *(["no", *why] if why else ["open"])])
+    lines.append(["numbers", "sure" if are_numbers_sure(params, log) else "premise"])
     lines.append(["sync", *(progress.sync or ("-", "open"))])
     ends = (2 * span[0], 2 * span[-1] + 1) if seen else ("-", "-")
     lines.append(["cycles", *ends, *(words.count(word) for word in ("within", "over", "open"))])

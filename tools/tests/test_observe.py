@@ -12,6 +12,7 @@ import re
 import unittest
 from fractions import Fraction
 
+import clocks_peer as clocks
 import observe_peer as peer
 from bench import REPOSITORY, Bench
 from flexlab_lib.frames import crc, frame_bytes
@@ -191,6 +192,41 @@ class Analyzer:
             made.append(("head", data[:4] + bytes([data[4] & 0xC0 | (data[4] + draw.randrange(1, 64)) & 0x3F])))
         kind, data = draw.choice(made)
         return stamp, kind, channel, data
+
+    def others(self, entries):
+        """Entries beside these that the cluster may send and that are no sync frames: in its further slots, in static slots
+        of which the parameters say nothing, and in the dynamic segment."""
+        draw, cluster, found = self.draw, self.cluster, []
+        words, static = cluster.values["gPayloadLengthStatic"], cluster.values["gNumberOfStaticSlots"]
+        channels = {node: has for node, _, has, _ in cluster.nodes}
+        for stamp, _, channel, data in entries:
+            made = [(slot, words, 0) for slot, node in cluster.further if channel in channels[node]]
+            made += [(slot, draw.randrange(128), draw.randrange(2)) for slot in [static + 1 + draw.randrange(1000), *cluster.free[:1]]]
+            found += [(stamp, "head", channel, header_bytes(slot, long, sync, 0, data[4])) for slot, long, sync in made
+                      if draw.random() < 0.2]
+        return found
+
+    def irregular(self, entry):
+        """An entry beside another one, in the slot of a node that does not send it so, and the fault that it is but for its
+        cycle: node, kind, channel, stamp, slot."""
+        draw, cluster, stamp = self.draw, self.cluster, entry[0]
+        words = cluster.values["gPayloadLengthStatic"]
+        channels = {node: has for node, _, has, _ in cluster.nodes}
+        slots = [(node, slot, 1, cold) for node, slot, _, cold in cluster.nodes]
+        node, slot, sync, cold = draw.choice(slots + [(node, slot, 0, 0) for slot, node in cluster.further])
+        channel, count = draw.choice("AB"), draw.randrange(64)
+        if channel not in channels[node] and draw.random() < 0.5:
+            form = words, sync, cold
+        elif sync:
+            form = draw.choice([(words + 1, 1, cold), (words, 0, 0), (words, 1, 1 - cold)])
+        else:
+            form = draw.choice([(words + 1, 0, 0), (words, 1, 0), (words, 1, 1)])
+        if draw.random() < 0.3:
+            data = frame_bytes(channel, slot, count, draw.randbytes(2 * form[0]), True, form[1] == 1, form[2] == 1)
+            made = stamp, "frame", channel, data
+        else:
+            made = stamp, "head", channel, header_bytes(slot, *form, count)
+        return made, (node, "form" if channel in channels[node] else "stranger", channel, stamp, slot)
 
     def see(self, is_long):
         """The entries of a log."""
@@ -386,13 +422,14 @@ class Observed(Bench):
 
     def test_lawful_runs_are_not_contradicted(self):
         """Whatever was lost on the bus or on the way to the observer, of what correct nodes sent."""
-        told = dict.fromkeys(("within", "open", "seen", "stated", "whole", "untimely", "covered"), 0)
+        told = dict.fromkeys(("within", "open", "seen", "stated", "whole", "untimely", "covered", "sure", "premise", "timely"), 0)
         for seed in range(RUNS):
             with self.subTest(seed=seed):
                 draw = random.Random(seed)
                 cluster = self.run_of(draw, seed % 5 == 0, seed % 4 > 0)
                 analyzer, lost = Analyzer(draw, cluster), draw.choice([0, 0, 0.1, 0.5])
                 entries = analyzer.entries(analyzer.rates[0], analyzer.zero, "AB", lost)
+                entries = sorted(entries + analyzer.others(entries), key=lambda entry: entry[0])
                 covered, synced = self.is_covered()
                 stated = ["whole,,,,\n"] if not lost else []
                 # The cycle of the run that has number 0 in the log.
@@ -404,12 +441,16 @@ class Observed(Bench):
                 # A small cluster that is not in sync can send when a log does not take it for timely.
                 told["untimely"] += any(row[3] == "cycle" for row in faults)
                 kinds = {row[3] for row in faults}
-                self.assertEqual(kinds & {"channels", "limit", "correction", "twice"}, set())
+                self.assertEqual(kinds & {"channels", "limit", "correction", "twice", *peer.IRREGULAR}, set())
                 if covered:
                     self.assertEqual(kinds - {"cycle"}, set())
                 if covered and synced == 0:
                     self.assertEqual(faults, [])
-                sync, verdict = rows_of(text, "sync", "verdict")
+                numbers, sync, verdict = rows_of(text, "numbers", "sync", "verdict")
+                told[numbers[1]] += 1
+                if covered and synced is not None and synced <= first // 2 and numbers[1] == "sure":
+                    self.assertEqual(faults, [])
+                    told["timely"] += 1
                 told[sync[2]] = told.get(sync[2], 0) + 1
                 told[verdict[1]] = told.get(verdict[1], 0) + 1
                 told["whole"] += not lost
@@ -418,7 +459,7 @@ class Observed(Bench):
                     self.in_sync(cluster, int(sync[1]))
         if RUNS != 40:
             print(f"{RUNS} lawful runs: {told}")
-        self.assertGreater(min(told[word] for word in ("within", "open", "seen", "stated")), 0, told)
+        self.assertGreater(min(told[word] for word in ("within", "open", "seen", "stated", "timely")), 0, told)
 
     def in_sync(self, cluster, double):
         """A double cycle that is told in sync is so in the run."""
@@ -483,8 +524,11 @@ class Observed(Bench):
                     faults = rows_of(self.told(self.exact_log(analyzer, change)), "fault")
                     self.assertEqual(faults[0][3], kind)
                     wanted = cycle + (kind in ("limit", "missing"))
-                    if kind != "cycle":
-                        self.assertEqual(faults[0][1:3], [str(wanted), str(node)])
+                    if kind == "cycle":
+                        # The first frame that has another count is of the first slot; it is told behind the last sighting.
+                        node = min(cluster.correct, key=lambda it: it[1])[0]
+                        self.assertEqual(faults[0][6], str((cycle + 8) % 64))
+                    self.assertEqual(faults[0][1:3], [str(wanted), str(node)])
                     tried[kind] += 1
         if RUNS != 40:
             print(f"planted faults told: {tried}")
@@ -510,6 +554,117 @@ class Observed(Bench):
                 cluster.rows[at + 1, node] = start + long * length, *cluster.rows[at + 1, node][1:]
         return None
 
+    def test_irregular_frames(self):
+        """What is in the slot of a node that does not send it so is told behind the first sighting, up to a silence, with the
+        number of the sighting before it; and no other rows change but those of entries, sync and verdict."""
+        told = dict.fromkeys(("stranger", "form", "further", "before", "behind", "arbitrary"), 0)
+        for seed in range(3000, 3000 + RUNS):
+            cluster, analyzer, entries = self.seen(seed, is_long=seed % 5 == 0)
+            lawful = rows_of(self.told(analyzer.log(entries)))
+            counts = next(row for row in lawful if row[0] == "log")
+            if any(row[0] == "fault" for row in lawful) or counts[1:] != [str(len(entries)), *"00000", ""]:
+                # A small cluster that is not in sync.
+                continue
+            with self.subTest(seed=seed):
+                silence = 30 * cluster.values["pMicroPerCycle"] * MILLION // analyzer.unit
+                ends = [(entries[0][0] - 1,), (entries[-1][0] + silence,), (entries[-1][0] + silence + 1,)]
+                made = [analyzer.irregular(analyzer.draw.choice(entries)) for _ in range(1 + len(entries) // 8)]
+                made += [analyzer.irregular(end) for end in ends]
+                both = sorted([(entry, None) for entry in entries] + made, key=lambda one: one[0][0])
+                wanted, number, tally = [], None, [len(entries), 0, 0, 0, 0, 0]
+                for (stamp, _, _, data), fault in both:
+                    if fault is None:
+                        count = data[4] & 63
+                        number = count if number is None else number + (count - number + 32) % 64 - 32
+                    elif fault[0] == cluster.arbitrary:
+                        tally[2] += 1
+                        told["arbitrary"] += 1
+                    elif stamp == ends[2][0]:
+                        tally[5] += 1
+                        told["behind"] += 1
+                    else:
+                        tally[3] += 1
+                        told["before"] += number is None
+                        told["further"] += fault[4] in dict(cluster.further)
+                        if number is not None:
+                            told[fault[1]] += 1
+                            wanted.append(["fault", *map(str, (number, *fault)), "-"])
+                text = rows_of(self.told(analyzer.log([entry for entry, _ in both])))
+                wanted.sort(key=lambda row: int(row[1]) // 2)
+                self.assertEqual([row for row in text if row[0] == "fault"], wanted)
+                self.assertEqual([row for row in text if row[0] == "log"], [["log", *map(str, tally), ""]])
+                words = ("fault", "log", "sync", "verdict")
+                self.assertEqual(*([row for row in rows if row[0] not in words] for rows in (text, lawful)))
+                sync = next(row for row in text if row[0] == "sync")
+                self.assertNotIn(sync[1], {str(int(row[1]) // 2) for row in wanted})
+                first = wanted[0][1:4] if wanted else None
+                self.assertEqual(text[-1][1:5], ["no", first[0], first[2], first[1]] if first else lawful[-1][1:5])
+        self.assertGreater(min(told.values()), 0, told)
+
+    def faults_of(self, network, draw, rows):
+        """Cycle, node and kind of what is told of a network where stamps are of 1 ns and delays known to 1 ns."""
+        found = rows_of(self.told(network.log(draw, rows, 40_000, 40_000)), "sync", "fault")
+        self.assertIn(["sync", "seen"], [[row[0], row[2]] for row in found])
+        return [(int(row[1]), row[2], row[3]) for row in found if row[0] == "fault"]
+
+    def traced(self, network, more=""):
+        """The rows that the program runs of it, with more rows of its drift file."""
+        for name, text in (("params.csv", network.params()), ("drift.csv", network.drift() + more), ("script.csv", "")):
+            self.write(name, text)
+        status, trace, line = self.flexray("trace", "params.csv", "drift.csv", "script.csv")
+        self.assertEqual((status, line), (0, ""))
+        fields, count = rows_of(trace, "cycle"), len(network.slots)
+        self.assertEqual({row[7] for row in fields}, {"active"})
+        found = [tuple(map(int, row[3:7])) for row in fields]
+        return [found[at:at + count] for at in range(0, len(found), count)]
+
+    def test_one_microtick_too_many(self):
+        """A node that corrects its offset by one microtick too many, in the network of docs/OBSERVE.md: it is told of this
+        node in each double cycle behind which its rate term falls, which is one in five, and in no other one."""
+        for seed in range(6):
+            with self.subTest(seed=seed):
+                draw = random.Random(seed)
+                network = clocks.near_oscillators(draw, 24)
+                lawful = network.rows()
+                self.assertEqual(self.traced(network), lawful)
+                self.assertEqual(self.faults_of(network, draw, lawful), [])
+                begin = draw.randrange(8, 13)
+                fall = next(double for double in range(begin, 24) if self.falls(lawful, double))
+                # From some double cycle on; and once, where it is told and where it is not.
+                for wrong in (range(begin, 23), [fall], [fall + 1]):
+                    rows = network.rows(lambda double, node, wrong=wrong: int(node == 0 and double in wrong))
+                    falls = [double for double in wrong if self.falls(rows, double)]
+                    self.assertEqual(self.faults_of(network, draw, rows), [(2 * double + 1, "1", "offset") for double in falls])
+                    self.assertEqual(falls[:1], [fall] if fall in wrong else [])
+                self.assertLess(fall, begin + 5)
+
+    def falls(self, rows, double):
+        """Whether the rate term of the first node falls behind a double cycle."""
+        return rows[2 * double][0][2] > rows[2 * double + 2][0][2]
+
+    def test_five_microticks_too_many_or_too_few(self):
+        """Of any node, and once: told of this node in its cycle."""
+        for seed in range(20):
+            with self.subTest(seed=seed):
+                draw = random.Random(seed)
+                network, begin = clocks.any_oscillators(draw, 16), draw.randrange(10, 14)
+                wrong, error = draw.choice(network.nodes), draw.choice([-5, 5])
+                self.write("params.csv", network.params())
+                rows = network.rows(lambda double, node: error if (double, node) == (begin, wrong) else 0)
+                self.assertEqual(self.faults_of(network, draw, rows), [(2 * begin + 1, str(wrong + 1), "offset")])
+
+    def test_an_oscillator_beyond_its_limit(self):
+        """From its last even cycle on it is 700 ppm slow, and 200 are allowed: no rate term makes cycles as long, which is told
+        of this node in this cycle."""
+        for seed in range(4):
+            with self.subTest(seed=seed):
+                draw = random.Random(seed)
+                begin = draw.randrange(8, 13)
+                network = clocks.any_oscillators(draw, begin + 1)
+                node = draw.choice(network.nodes)
+                rows = self.traced(network, f"length,{node + 1},{2 * begin},1000700,,\n")
+                self.assertEqual(self.faults_of(network, draw, rows), [(2 * begin, str(node + 1), "limit")])
+
     def test_sync_that_is_stated_wrongly(self):
         """Where clocks begin further apart than the precision, and the log states that they are in sync, that is told."""
         found = set()
@@ -532,6 +687,19 @@ class Observed(Bench):
         self.write("params.csv", re.sub("xDelayError,.*", "xDelayError,10000000,,", params))
         text = self.told(analyzer.log(entries))
         self.assertRegex(text, r"\ncovered,no,check,[1-5],[0-9]+,[0-9]+,,\n")
+
+    def test_numbers_that_are_sure(self):
+        """What a log states of its analyzer decides, too, and each statement that is wider makes it no surer."""
+        told = {"sure": 0, "premise": 0}
+        for seed in range(RUNS):
+            _, analyzer, entries = self.seen(seed)
+            words = []
+            for analyzer.error in (0, 300_000_000, 600_000_000, 1_000_000_000):
+                words.append(rows_of(self.told(analyzer.log(entries[:1])), "numbers")[0][1])
+            self.assertEqual(words, sorted(words, reverse=True))
+            for word in words:
+                told[word] += 1
+        self.assertGreater(min(told.values()), 0, told)
 
     def test_a_frame_that_is_there_twice(self):
         _, analyzer, entries = self.seen(4)

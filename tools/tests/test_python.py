@@ -102,6 +102,9 @@ class Calls(Bench):
         self.assertEqual((found.faults, found.covered, found.sync, found.verdict),
                          ((), ("open",), ("0", "seen"), ("within", "0", "2")))
         self.assertEqual(found.senders[1], flexray.ObservedSender(2, "A", 4, 0, 3, 0))
+        self.assertEqual(found.numbers, ("sure",))
+        odd = flexray.observe(params, re.sub("(head,5007000,)A(.*)", r"\1A\2\n\1B\2", log.read_text()))
+        self.assertEqual(odd.faults, (flexray.ObservedFault(1, 1, "stranger", ("B", "5007000", "1", "-")),))
         wrong = flexray.observe(*(Path(EXAMPLES, "observe-fault", f"{name}.csv") for name in ("params", "log")))
         self.assertEqual(wrong.verdict, ("no", "11", "offset", "3"))
         self.assertEqual(wrong.faults[0], flexray.ObservedFault(11, 3, "offset", ("29", "32", "-12", "15")))
@@ -320,6 +323,12 @@ class Alone(Bench):
                                check=True, env=env)
         self.assertIn("tools/library builds it", ended.stdout)
 
+    def test_irregular_frames_of_a_log(self):
+        lines = Path(EXAMPLES, "observe", "printed.txt").read_text().splitlines(keepends=True)
+        found = texts.observation("".join([*lines[:5], "fault,1,1,stranger,B,9,1,-\nfault,1,2,form,A,9,2,-\n", *lines[5:]]))
+        self.assertEqual(found.faults, (flexray.ObservedFault(1, 1, "stranger", ("B", "9", "1", "-")),
+                                        flexray.ObservedFault(1, 2, "form", ("A", "9", "2", "-"))))
+
     def test_what_an_observation_says(self):
         text = Path(EXAMPLES, "observe", "printed.txt").read_text()
         found = texts.observation(text)
@@ -340,8 +349,8 @@ class Alone(Bench):
         """Other numbers in each place: a row over the precision, a double cycle without a sender, each count."""
         found = texts.observation("precision,7,,,,,,\ncycle,4,2,8,9,over,,\ncycle,5,2,1,-,open,,\nnode,2,1,-3,5,-,-,\n"
                                   "node,2,64,4,6,-9,-8,\nfault,5,64,twice,B,9,8,-\nfault,5,-,skew,8,-,-,7\ncycle,6,0,0,-,open,,\ncycle,7,0,0,-,open,,\n"
-                                  "sender,64,B,3,4,5,2,\nsender,1,A,0,-,-,4,\nlog,1,2,3,4,5,6,\ncovered,no,count,1,1,,,\nsync,-,open,,,,,\n"
-                                  "cycles,4,7,0,1,3,,\nverdict,no,5,twice,64,,,\n")
+                                  "sender,64,B,3,4,5,2,\nsender,1,A,0,-,-,4,\nlog,1,2,3,4,5,6,\ncovered,no,count,1,1,,,\n"
+                                  "numbers,premise,,,,,,\nsync,-,open,,,,,\ncycles,4,7,0,1,3,,\nverdict,no,5,twice,64,,,\n")
         self.assertEqual([(row.cycle, row.senders, row.low, row.high, row.says) for row in found.cycles],
                          [(4, 2, 8, 9, "over"), (5, 2, 1, None, "open"), (6, 0, 0, None, "open"),
                           (7, 0, 0, None, "open")])
@@ -355,14 +364,14 @@ class Alone(Bench):
                                         flexray.ObservedFault(5, None, "skew", ("8", "-", "-", "7"))))
         self.assertEqual(found.senders, (flexray.ObservedSender(64, "B", 3, 4, 5, 2),
                                          flexray.ObservedSender(1, "A", 0, None, None, 4)))
-        self.assertEqual((found.covered, found.sync, found.verdict),
-                         (("no", "count", "1", "1"), ("-", "open"), ("no", "5", "twice", "64")))
+        self.assertEqual((found.covered, found.numbers, found.sync, found.verdict),
+                         (("no", "count", "1", "1"), ("premise",), ("-", "open"), ("no", "5", "twice", "64")))
 
     def test_what_is_not_understood_is_no_answer(self):
         self.assertRaises(ValueError, texts.report, "nodes 2 sync 2 arbitrary 0 doubles 2\nprecision many\n")
         self.assertRaises(ValueError, texts.trace, "run,1,,,,,,\nother,1\n")
         lines = Path(EXAMPLES, "observe", "printed.txt").read_text().splitlines(keepends=True)
-        for at in (0, len(lines) - 2, len(lines) - 1):
+        for at in (0, len(lines) - 4, len(lines) - 2, len(lines) - 1):
             self.assertRaises(ValueError, texts.observation, "".join(lines[:at] + lines[at + 1:]))
         self.assertRaises(ValueError, texts.observation, "".join(lines).replace("within", "beneath"))
 

@@ -1,0 +1,113 @@
+"""Clocks of correct nodes that hear each other, with a node whose offset correction may be wrong: plain Python and whole
+numbers, after docs/PROTOCOL.md. Without such a node the rows are those of `flexray trace`, which a test holds; with it they
+are those of a network that the program, whose nodes keep the rules, never runs. An analyzer sees them all.
+
+Every node is a coldstart node on both channels and hears all others without delay; no frame is lost.
+"""
+import os
+import sys
+
+sys.path.insert(0, os.path.dirname(os.path.dirname(os.path.realpath(__file__))))
+
+from flexlab_lib.frames import crc  # noqa: E402
+from observe_peer import midpoint  # noqa: E402
+
+MILLION = 1_000_000
+# A cluster with a cycle of 5 ms, a macrotick of 1 us and a microtick of 25 ns, whose oscillators lie within 200 ppm and do
+# not change, and the least damping that the checks take.
+VALUES = {
+    "gMacroPerCycle": 5000, "pMicroPerCycle": 200000, "gNumberOfStaticSlots": 160, "gdStaticSlot": 30,
+    "gdActionPointOffset": 7, "gdNIT": 200, "gPayloadLengthStatic": 0, "gOffsetCorrectionStart": 4900,
+    "gMaxWithoutClockCorrectionPassive": 2, "gMaxWithoutClockCorrectionFatal": 4, "pAllowHaltDueToClock": 1,
+    "pAllowPassiveToActive": 2, "pClusterDriftDamping": 3, "pOffsetCorrectionOut": 254, "pRateCorrectionOut": 81,
+    "pDelayCompensation": 0, "xRateBound": 200, "xChangeBound": 0, "xDelayError": 0,
+}
+
+
+class Network:
+    """A run of so many double cycles: of each node its key slot, the ticks of its microtick, and those of its first start."""
+
+    def __init__(self, slots, lengths, starts, doubles, values=None):
+        self.values, self.doubles = values or VALUES, doubles
+        self.slots, self.lengths, self.starts = slots, lengths, starts
+        self.nodes = range(len(slots))
+        self.macros, self.micros = self.values["gMacroPerCycle"], self.values["pMicroPerCycle"]
+        first = self.values["gdActionPointOffset"]
+        self.actions = [(slot - 1) * self.values["gdStaticSlot"] + first for slot in slots]
+
+    def params(self):
+        return ("".join(f"param,{name},{value},,\n" for name, value in self.values.items())
+                + "".join(f"node,{node + 1},{slot},AB,1\n" for node, slot in enumerate(self.slots)))
+
+    def drift(self):
+        return f"doubles,{self.doubles},,,,\n" + "".join(
+            f"length,{node + 1},0,{self.lengths[node]},,\nstart,{node + 1},{self.starts[node]},0,,\n" for node in self.nodes)
+
+    def position(self, macrotick, rate):
+        return macrotick * (self.micros + rate) // self.macros
+
+    def instant(self, node, row):
+        """When a node sends in a cycle."""
+        start, length, rate, _ = row
+        return start + self.position(self.actions[node], rate) * length
+
+    def deviations(self, rows):
+        """Of each node what it measures of the others, in a cycle."""
+        sent = [self.instant(node, row) for node, row in enumerate(rows)]
+        return [[(sent[other] - start) // length - self.position(self.actions[other], rate)
+                 for other in self.nodes if other != node] for node, (start, length, rate, _) in enumerate(rows)]
+
+    def rate_after(self, rate, values):
+        """The next rate term: the sum is taken toward 0 by the damping, and cut to its limit."""
+        total, damping, limit = rate + midpoint(values), self.values["pClusterDriftDamping"], self.values["pRateCorrectionOut"]
+        total = max(total - damping, 0) if total > 0 else min(total + damping, 0)
+        return max(-limit, min(limit, total))
+
+    def rows(self, wrong=lambda double, node: 0):
+        """Of each cycle the rows (start, tick length, rate term, offset term) of all nodes; the offset term of a node is
+        so many microticks too great in a double cycle as `wrong` says."""
+        found, starts, rates, limit = [], list(self.starts), [0] * len(self.slots), self.values["pOffsetCorrectionOut"]
+        for double in range(self.doubles):
+            even = [(starts[node], self.lengths[node], rates[node], 0) for node in self.nodes]
+            starts = [start + (self.micros + rate) * length for start, length, rate, _ in even]
+            before, behind = self.deviations(even), self.deviations(
+                [(starts[node], self.lengths[node], rates[node], 0) for node in self.nodes])
+            terms = [max(-limit, min(limit, midpoint([0] + behind[node]) + wrong(double, node))) for node in self.nodes]
+            found += [even, [(starts[node], self.lengths[node], rates[node], terms[node]) for node in self.nodes]]
+            starts = [start + (self.micros + rate + term) * length for start, length, rate, term in found[-1]]
+            rates = [self.rate_after(rates[node], [0] + [late - early for early, late in zip(before[node], behind[node])])
+                     for node in self.nodes]
+        return found
+
+    def head(self, node, cycle, kept={}):
+        """The header bytes of its sync frame, in hexadecimal digits."""
+        slot = self.slots[node]
+        if slot not in kept:
+            kept[slot] = 1 << 37 | (3 << 18 | slot << 7) << 17 | crc(11, 0x385, 0x01A, 3 << 18 | slot << 7, 20) << 6
+        return (kept[slot] | cycle % 64).to_bytes(5, "big").hex().upper()
+
+    def log(self, draw, rows, unit, width=0):
+        """The log of an analyzer with a true clock that misses nothing: delays are the same for all, but for so many ticks
+        that it states as their range, and a stamp is of the unit in which the frame came."""
+        low, zero = MILLION, draw.randrange(10**9, 10**10)
+        later = {(node, channel): low + draw.randint(0, width) for node in self.nodes for channel in "AB"}
+        seen = sorted((self.instant(node, row) + later[node, channel] + zero, node, channel, cycle)
+                      for cycle, of_cycle in enumerate(rows) for node, row in enumerate(of_cycle) for channel in "AB")
+        return (f"unit,{unit},,,\ndrift,0,,,\ndelay,,,{low},{low + width}\njitter,0,,,\nwhole,,,,\n"
+                + "".join(f"head,{at // unit},{channel},{self.head(node, cycle)},\n" for at, node, channel, cycle in seen))
+
+
+def near_oscillators(draw, doubles):
+    """A network in which an offset term of node 1 that is a microtick too great is told soon, seen to 1 ns: its oscillator is
+    16 ppm faster than that of node 2, and that one as much faster than that of node 3. Their cycles lie some 3.2 microticks
+    apart, which the damping of 3 takes for no difference mostly, so the rate term of node 1 is now 0, now 1. The action
+    points lie at fifths of the cycle: see docs/OBSERVE.md."""
+    middle = MILLION + draw.randrange(-150, 151)
+    return Network([34, 150, 84], [middle - 16, middle, middle + 16], [draw.randrange(3 * MILLION) for _ in range(3)], doubles)
+
+
+def any_oscillators(draw, doubles):
+    """A network of 3 to 8 nodes with oscillators and slots as they come."""
+    count = draw.randrange(3, 9)
+    return Network(draw.sample(range(1, 161), count), [MILLION + draw.randrange(-200, 201) for _ in range(count)],
+                   [draw.randrange(3 * MILLION) for _ in range(count)], doubles)
