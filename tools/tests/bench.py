@@ -9,14 +9,14 @@ import unittest
 TOOLS = os.path.dirname(os.path.dirname(os.path.realpath(__file__)))
 REPOSITORY = os.path.dirname(TOOLS)
 FLEXLAB = os.path.join(TOOLS, "flexlab")
-sys.path.insert(0, TOOLS)
+sys.path.insert(0, os.path.join(REPOSITORY, "python"))
 sys.dont_write_bytecode = True
 
-from flexlab_lib import program  # noqa: E402
+from flexlab.program import calls as program  # noqa: E402
 
 FLEXRAY = program.flexray()
 SERIES = program.series(FLEXRAY)
-with open(os.path.join(TOOLS, "flexlab_lib", "example.toml"), encoding="utf-8") as example:
+with open(os.path.join(REPOSITORY, "python", "flexlab", "toml", "example.toml"), encoding="utf-8") as example:
     EXAMPLE = example.read()
 
 

@@ -7,9 +7,9 @@ Every node is a coldstart node on both channels and hears all others without del
 import os
 import sys
 
-sys.path.insert(0, os.path.dirname(os.path.dirname(os.path.realpath(__file__))))
+sys.path.insert(0, os.path.join(os.path.dirname(os.path.dirname(os.path.dirname(os.path.realpath(__file__)))), "python"))
 
-from flexlab_lib.frames import crc  # noqa: E402
+from flexlab.captures.frames import crc  # noqa: E402
 from observe_peer import midpoint  # noqa: E402
 
 MILLION = 1_000_000

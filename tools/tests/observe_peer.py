@@ -11,9 +11,9 @@ import csv
 import os
 import sys
 
-sys.path.insert(0, os.path.dirname(os.path.dirname(os.path.realpath(__file__))))
+sys.path.insert(0, os.path.join(os.path.dirname(os.path.dirname(os.path.dirname(os.path.realpath(__file__)))), "python"))
 
-from flexlab_lib.frames import crc, frame_crc  # noqa: E402
+from flexlab.captures.frames import crc, frame_crc  # noqa: E402
 
 MILLION = 1_000_000
 KINDS = ("judged", "damaged", "arbitrary", "other", "stray", "behind")

@@ -4,9 +4,9 @@ import os
 import unittest
 
 from bench import Bench, edited, needs
-from flexlab_lib import asc, observer, packets
-from flexlab_lib.cluster import read_cluster
-from flexlab_lib.ending import REFUSED, Stop
+from flexlab.captures import asc, observer, packets
+from flexlab.toml.cluster import read_cluster
+from flexlab.base.ending import REFUSED, Stop
 
 SHORT = edited(("double_cycles = 200", "double_cycles = 10"))
 OBSERVER = """

@@ -7,7 +7,7 @@ import unittest
 import zlib
 
 from bench import Bench, edited, needs
-from flexlab_lib import blf, observer, packets
+from flexlab.captures import blf, observer, packets
 
 SHORT = edited(("double_cycles = 200", "double_cycles = 10"))
 OBSERVER = """

@@ -5,7 +5,7 @@ import subprocess
 import unittest
 
 from bench import EXAMPLE, Bench, edited, needs
-from flexlab_lib import frames, packets
+from flexlab.captures import frames, packets
 
 FRAME = {"A": "1801006F009AE525", "B": "1801006F00716B40"}
 FIELDS = ("ch", "fid", "pl", "cc", "sfi", "stfi", "ppi", "hcrc")

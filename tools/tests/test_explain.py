@@ -4,7 +4,7 @@ import re
 import unittest
 
 from bench import REPOSITORY, Bench
-from flexlab_lib import explain
+from flexlab.pages import explain
 
 OFFSET = os.path.join(REPOSITORY, "examples", "channels")
 

@@ -10,8 +10,9 @@ import unittest
 from fractions import Fraction
 
 from bench import EXAMPLE, REPOSITORY, Bench, edited, needs
-from flexlab_lib import observed, observer, packets, report
-from flexlab_lib.frames import frame_bytes
+from flexlab.captures import observed, observer, packets
+from flexlab.program import report
+from flexlab.captures.frames import frame_bytes
 
 CLUSTERS = int(os.environ.get("FLEXLAB_OBSERVE_CLUSTERS", "6"))
 SHORT = edited(("double_cycles = 200", "double_cycles = 10"))

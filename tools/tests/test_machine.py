@@ -6,7 +6,7 @@ import subprocess
 import unittest
 
 from bench import EXAMPLE, FLEXRAY, REPOSITORY, TOOLS, Bench, edited, needs
-from flexlab_lib import frames, packets
+from flexlab.captures import frames, packets
 
 with open(os.path.join(REPOSITORY, "VERSION"), encoding="ascii") as version:
     VERSION = version.read().strip()

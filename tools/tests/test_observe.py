@@ -15,7 +15,7 @@ from fractions import Fraction
 import clocks_peer as clocks
 import observe_peer as peer
 from bench import REPOSITORY, Bench
-from flexlab_lib.frames import crc, frame_bytes
+from flexlab.captures.frames import crc, frame_bytes
 
 RUNS = int(os.environ.get("FLEXRAY_OBSERVE_RUNS", "40"))
 MILLION = peer.MILLION

@@ -149,7 +149,7 @@ class Page(Bench):
 
     def test_toml_is_that_of_flexlab(self):
         """What the page makes of a TOML file is what flexlab makes of it."""
-        paths = [EXAMPLES / "bench" / "bench.toml", EXAMPLES / "sharp" / "sharp.toml", Path(TOOLS, "flexlab_lib", "example.toml")]
+        paths = [EXAMPLES / "bench" / "bench.toml", EXAMPLES / "sharp" / "sharp.toml", Path(TOOLS, "..", "python", "flexlab", "toml", "example.toml")]
         for path in paths:
             with self.subTest(path.name):
                 self.flexlab("build", "-o", self.path("made"), str(path))

@@ -4,7 +4,7 @@ import unittest
 from fractions import Fraction
 
 from bench import EXAMPLE, SERIES, Bench, edited, needs, needs_series
-from flexlab_lib.units import decimal
+from flexlab.base.units import decimal
 
 
 class Pictures(Bench):

@@ -177,7 +177,7 @@ class Settle(Bench):
 
 class Documents(unittest.TestCase):
     def test_every_table_is_told(self):
-        from flexlab_lib.source import KEYS
+        from flexlab.toml.source import KEYS
         with open(os.path.join(REPOSITORY, "docs", "FLEXLAB.md"), encoding="utf-8") as file:
             text = file.read()
         for name in KEYS:

@@ -19,7 +19,8 @@ sys.path.insert(0, PACKAGE)
 
 import flexray  # noqa: E402
 from flexray import library, texts  # noqa: E402
-from flexlab_lib import program, units  # noqa: E402
+from flexlab.program import calls as program  # noqa: E402
+from flexlab.base import units  # noqa: E402
 
 try:
     library.version()

@@ -7,7 +7,7 @@ import unittest
 from fractions import Fraction
 
 from bench import EXAMPLE, FLEXLAB, SERIES, Bench, edited, needs_series
-from flexlab_lib import sync
+from flexlab.runs import sync
 
 
 # Limits of the example that suffice for nodes that join.

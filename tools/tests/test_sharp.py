@@ -6,9 +6,11 @@ import re
 import unittest
 
 from bench import EXAMPLE, FLEXRAY, REPOSITORY, SERIES, Bench, edited, needs, needs_series
-from flexlab_lib import least, ranges, report, sharp
-from flexlab_lib.cluster import read_cluster
-from flexlab_lib.ending import Stop
+from flexlab.runs import least, sharp
+from flexlab.base import ranges
+from flexlab.program import report
+from flexlab.toml.cluster import read_cluster
+from flexlab.base.ending import Stop
 
 with open(os.path.join(REPOSITORY, "examples", "sharp", "sharp.toml"), encoding="utf-8") as file:
     PRODUCTION = file.read()

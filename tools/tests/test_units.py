@@ -3,7 +3,7 @@ import unittest
 from fractions import Fraction
 
 from bench import Bench
-from flexlab_lib import units
+from flexlab.base import units
 
 
 class Units(Bench):

@@ -4,7 +4,8 @@ import re
 import unittest
 
 from bench import EXAMPLE, Bench, edited
-from flexlab_lib import least, report
+from flexlab.runs import least
+from flexlab.program import report
 
 # Wide limits, a low damping: what one types first; and a node that joins, so that the older checks are those gone by.
 WIDE = (("pClusterDriftDamping = 5", "pClusterDriftDamping = 2"), ("delay_error_us = 0.0125", "delay_error_ns = 40"),

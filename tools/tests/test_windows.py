@@ -4,7 +4,7 @@ import unittest
 from fractions import Fraction
 
 from bench import EXAMPLE, Bench, edited, needs
-from flexlab_lib import windows
+from flexlab.runs import windows
 
 # 400 cycles: a transient of 8, then 2 us; node 3 changes from cycle 101 on (3 us), and 2.5 us behind it.
 SKEW = [40 - 4 * cycle if cycle < 8 else 2 if cycle < 101 else 3 if cycle < 184 else Fraction(5, 2) for cycle in range(400)]

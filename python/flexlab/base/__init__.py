@@ -1,0 +1,1 @@
+"""What all parts share: statuses, units, ranges, files."""

@@ -1,0 +1,1 @@
+"""Captures and logs of buses."""

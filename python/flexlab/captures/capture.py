@@ -1,0 +1,363 @@
+"""A capture of a FlexRay network taken apart: files for flexray, and a page of what is there."""
+import csv
+import os
+import re
+import tempfile
+from dataclasses import dataclass, field
+
+from ..program import calls as programs
+from .blf import MAGIC, read_blf
+from ..toml.cluster import read_cluster
+from ..base.ending import DONE, FILE, NO, PROGRAM, REFUSED, USAGE, Stop
+from .frames import frame_crc
+from .packets import FLAGS, FRAME, LINK_FLEXRAY, SYMBOL, read_capture
+from ..pages.machine import printed
+from ..pages.page import field as lines_of
+from .timing import draw_timing, timing, timing_lines, timing_objects, write_timing
+
+PIECE = 1 << 20
+LIMIT = 16777216
+CYCLES = 200000
+
+
+@dataclass
+class Taken:
+    """What became of the packets of a capture."""
+    packets: list
+    whole: dict = field(default_factory=dict)
+    headed: dict = field(default_factory=dict)
+    damaged: dict = field(default_factory=dict)
+    bare: list = field(default_factory=list)
+    symbols: list = field(default_factory=list)
+    other: list = field(default_factory=list)
+    cycles: dict = field(default_factory=dict)
+    ends: tuple | None = None
+
+    @property
+    def known(self):
+        """What is known of frames: of whole ones all, of those without a frame CRC what their header says."""
+        return {**self.headed, **self.whole}
+
+
+def load(path):
+    """The packets of a capture, a BLF file or whatever form tshark reads, by their numbers there."""
+    with open(path, "rb") as file:
+        first = file.read(4)
+    if not first:
+        raise Stop(NO, f"{path}: it has 0 bytes, so it is no capture: did the logger write?")
+    link, packets = (LINK_FLEXRAY, read_blf(path)[0]) if first == MAGIC else load_by_tshark(path)
+    if packets and link != LINK_FLEXRAY:
+        raise Stop(REFUSED, f"{path}: its link type is {link}, and FlexRay's is {LINK_FLEXRAY}")
+    if not packets:
+        raise Stop(NO, f"{path}: a capture without a packet: was the logger on the bus, and its filter open?")
+    return packets
+
+
+def load_by_tshark(path):
+    """The link type and the packets."""
+    tshark = programs.helper("tshark")
+    with tempfile.TemporaryDirectory() as room:
+        plain = os.path.join(room, "plain.pcap")
+        status, _, told = programs.call(tshark, ["-r", path, "-F", "nsecpcap", "-w", plain])
+        if status != 0 and not os.path.exists(plain):
+            raise Stop(REFUSED, f"{path}: tshark does not read it: {told}")
+        if status != 0:
+            print(f"{'WARNING':<16}tshark says: {told}")
+        return read_capture(plain)
+
+
+def stated(frame):
+    """How many bytes a frame has by its header."""
+    return 8 + 2 * (frame[2] >> 1) if len(frame) > 2 else None
+
+
+def sort_packets(packets):
+    """Sorts by what a packet is; frames that are as long as they say are still to be looked at."""
+    taken, todo = Taken(packets), {"A": [], "B": []}
+    for packet in packets:
+        if not packet.data or packet.kind not in (FRAME, SYMBOL):
+            taken.other.append(packet)
+        elif packet.kind == SYMBOL:
+            taken.symbols.append(packet)
+        elif packet.cut:
+            length = len(packet.data) + packet.cut
+            taken.damaged[packet.number] = f"the capture kept {len(packet.data)} of its {length} bytes"
+        elif stated(packet.frame) == len(packet.frame):
+            todo[packet.channel].append(packet)
+        elif stated(packet.frame) == len(packet.frame) + 3:
+            taken.bare.append(packet)
+        else:
+            taken.damaged[packet.number] = None
+    return taken, todo
+
+
+def ask(program, words, data, room):
+    path = os.path.join(room, "bytes")
+    with open(path, "wb") as file:
+        file.write(data)
+    return programs.call(program, [*words, path])
+
+
+def completed(packet):
+    """The bytes of a frame without its frame CRC, with one that is right: so flexray looks at its header."""
+    return packet.frame + frame_crc(packet.channel, packet.frame).to_bytes(3, "big")
+
+
+def check_channel(program, channel, packets, whole, taken, room, bytes_of=lambda packet: packet.frame):
+    """Asks flexray capture which packets are whole: piece by piece, behind a fault from the next packet on.
+
+    Where there are many faults pieces are short, since what stands behind a fault is read in vain.
+    """
+    at, limit = 0, PIECE
+    while at < len(packets):
+        piece, size = [], 0
+        while at + len(piece) < len(packets) and size < limit:
+            piece.append(packets[at + len(piece)])
+            size += len(piece[-1].frame)
+        status, text, told = ask(program, ["capture", channel], b"".join(bytes_of(packet) for packet in piece), room)
+        if status != 0:
+            raise Stop(PROGRAM, f"flexray capture {channel} ended with status {status}: {told}")
+        found = re.findall(r"^at \d+ id (\d+) words (\d+) cycle (\d+) crc (\w+)$", text, re.M)
+        for packet, (number, words, cycle, _) in zip(piece, found):
+            whole[packet.number] = int(number), int(words), int(cycle)
+        fault = re.search(r"^fault (\d+) (.*)$", text, re.M)
+        if fault:
+            taken.damaged[piece[len(found)].number] = fault[2]
+        elif len(found) != len(piece):
+            raise Stop(PROGRAM, f"flexray capture {channel} found {len(found)} of {len(piece)} frames and no fault")
+        at += len(found) + (1 if fault else 0)
+        limit = max(1, limit // 8) if fault else min(PIECE, limit * 4)
+
+
+def count_cycles(taken):
+    """Cycles from the first one's count on: from packet to packet the count goes on by less than 64."""
+    last, known = None, taken.known
+    for packet in taken.packets:
+        if packet.number in known:
+            count = known[packet.number][2]
+            if last is None:
+                last = count
+            step = (count - last) % 64
+            # A packet of the cycle before may stand behind one of this cycle.
+            taken.cycles[packet.number] = last + (step if step < 48 else step - 64)
+            last = max(last, taken.cycles[packet.number])
+    ends = [(cycle, known[number][0]) for number, cycle in taken.cycles.items()]
+    taken.ends = (min(ends), max(ends)) if ends else None
+
+
+def take_apart(path, program):
+    taken, todo = sort_packets(load(path))
+    with tempfile.TemporaryDirectory() as room:
+        for channel in "AB":
+            check_channel(program, channel, todo[channel], taken.whole, taken, room)
+            check_channel(program, channel, [packet for packet in taken.bare if packet.channel == channel], taken.headed,
+                          taken, room, completed)
+        for packet in taken.packets:
+            if packet.number in taken.damaged and taken.damaged[packet.number] is None:
+                told = ask(program, ["frame", packet.channel], packet.frame, room)[2]
+                taken.damaged[packet.number] = told.removeprefix("frame: ")
+    count_cycles(taken)
+    return taken
+
+
+def write_bytes(folder, channel, frames):
+    """The frames of a channel, in as many files as flexray's limit asks for."""
+    parts, size = [[]], 0
+    for frame in frames:
+        if size + len(frame) > LIMIT:
+            parts.append([])
+            size = 0
+        parts[-1].append(frame)
+        size += len(frame)
+    paths = []
+    for number, part in enumerate(parts, 1):
+        paths.append(os.path.join(folder, f"{channel}.bin" if number == 1 else f"{channel}-{number}.bin"))
+        with open(paths[-1], "wb") as file:
+            file.write(b"".join(part))
+    return paths
+
+
+def write_vectors(folder, taken):
+    """A recording for flexray nm: the whole frames with the payload preamble indicator, which alone can count."""
+    path, beyond = os.path.join(folder, "vectors.csv"), 0
+    with open(path, "w", encoding="ascii", newline="") as file:
+        for packet in taken.packets:
+            if packet.number in taken.whole and packet.frame[0] & 0x40:
+                cycle = taken.cycles[packet.number]
+                if not 0 <= cycle < CYCLES or file.tell() > LIMIT - 600:
+                    beyond += 1
+                    continue
+                file.write(f"{cycle},{packet.channel},{packet.frame.hex().upper()}\n")
+    return path, beyond
+
+
+def write_table(folder, taken):
+    path = os.path.join(folder, "frames.csv")
+    with open(path, "w", encoding="utf-8", newline="") as file:
+        writer = csv.writer(file, lineterminator="\n")
+        writer.writerow(("packet", "seconds", "channel", "id", "cycle_count", "cycle", "words", "flags", "checked", "fault"))
+        all_known = taken.known
+        for packet in taken.packets:
+            if packet.number in all_known or packet.number in taken.damaged:
+                known = all_known.get(packet.number, ("", "", ""))
+                checked = "frame" if packet.number in taken.whole else "header" if packet.number in taken.headed else ""
+                flags = " and ".join(name for bit, name in FLAGS.items() if packet.flags & bit)
+                seconds = f"{packet.ns // 10**9}.{packet.ns % 10**9:09}"
+                writer.writerow((packet.number, seconds, packet.channel, known[0], known[2],
+                                 taken.cycles.get(packet.number, ""), known[1], flags, checked,
+                                 taken.damaged.get(packet.number, "")))
+    return path
+
+
+def repetition(cycles):
+    """The greatest of 64, 32, .. 1 with which all these cycles have one rest."""
+    return next(every for every in (64, 32, 16, 8, 4, 2, 1) if len({cycle % every for cycle in cycles}) == 1)
+
+
+def spans(numbers):
+    """Numbers as text, runs of them joined, the first twelve."""
+    found, numbers = [], sorted(numbers)
+    while numbers:
+        last = 0
+        while last + 1 < len(numbers) and numbers[last + 1] == numbers[last] + 1:
+            last += 1
+        found.append(str(numbers[0]) if last == 0 else f"{numbers[0]}-{numbers[last]}")
+        numbers = numbers[last + 1:]
+    return ", ".join(found[:12]) + (", .." if len(found) > 12 else "")
+
+
+def span_of(taken, number):
+    """The cycles of the capture in which an ID may be expected: slots go by ID, so a capture that begins or
+    ends within a cycle has only a part of that cycle's."""
+    (first, first_id), (last, last_id) = taken.ends
+    return first + (number < first_id), last - (number > last_id)
+
+
+def missing_of(taken, number, cycles):
+    """In which cycles an ID is missing, by its repetition."""
+    every, have = repetition(cycles), set(cycles)
+    first, last = span_of(taken, number)
+    begin = first + (min(have) - first) % every
+    return every, [cycle for cycle in range(begin, last + 1, every) if cycle not in have]
+
+
+def seen_of(taken, channel):
+    """Of each ID of a channel the cycles of its whole frames, or of those with a right header."""
+    seen, known = {}, taken.known
+    for packet in taken.packets:
+        if packet.number in known and packet.channel == channel:
+            seen.setdefault(known[packet.number][0], []).append(taken.cycles[packet.number])
+    return seen
+
+
+def capture_object(path, taken, times):
+    """A capture as an object: names stand in docs/FLEXLAB.md, "For machines"."""
+    ids = []
+    for channel in "AB":
+        for number, cycles in sorted(seen_of(taken, channel).items()):
+            every, missing = missing_of(taken, number, cycles)
+            ids.append({"channel": channel, "id": number, "frames": len(cycles), "every": every, "first": min(cycles),
+                        "last": max(cycles), "missing": missing, "twice": len(cycles) - len(set(cycles))})
+    damaged = [{"packet": packet.number, "channel": packet.channel, "fault": taken.damaged[packet.number]}
+               for packet in taken.packets if packet.number in taken.damaged]
+    cycles = [min(taken.cycles.values()), max(taken.cycles.values())] if taken.cycles else None
+    return {"file": path, "packets": len(taken.packets), "whole": len(taken.whole), "damaged": damaged,
+            "without_trailer": len(taken.bare), "header_right": len(taken.headed), "symbols": len(taken.symbols),
+            "others": len(taken.other), "cycles": cycles, "ids": ids, "times": timing_objects(times)}
+
+
+def id_lines(taken, channel):
+    seen = seen_of(taken, channel)
+    if not seen:
+        return []
+    found = ["", f"Channel {channel}", f"{'id':>6}{'frames':>9}{'every':>7}{'first':>8}{'last':>8}  missing cycles"]
+    for number, cycles in sorted(seen.items()):
+        every, missing = missing_of(taken, number, cycles)
+        twice = len(cycles) - len(set(cycles))
+        found.append(f"{number:>6}{len(cycles):>9}{every:>7}{min(cycles):>8}{max(cycles):>8}  "
+                     + (f"{len(missing)}: {spans(missing)}" if missing else "none")
+                     + (f"; {twice} twice in a cycle" if twice else ""))
+    return found
+
+
+def damaged_lines(taken):
+    if not taken.damaged:
+        return []
+    found, listed = ["", "Damaged"], 0
+    for packet in taken.packets:
+        if packet.number not in taken.damaged:
+            continue
+        listed += 1
+        if listed > 40:
+            found.append(f"  .. and {len(taken.damaged) - 40} more, in frames.csv")
+            break
+        head = packet.frame
+        says = f"id {(head[0] & 7) << 8 | head[1]} cycle {head[4] & 63} by its bytes" if len(head) >= 5 else "no header"
+        found.append(f"  packet {packet.number}, channel {packet.channel}, {says}: {taken.damaged[packet.number]}")
+    return found
+
+
+def page_lines(path, taken, beyond, times):
+    flagged = [packet for packet in taken.packets if packet.data and packet.flags]
+    fine = sum(packet.number in taken.whole for packet in flagged)
+    found = lines_of("Capture", f"{path}: {len(taken.packets)} packets")
+    found += lines_of("Frames", f"{len(taken.whole)} whole, {len(taken.damaged)} damaged, {len(taken.headed)} without a "
+                                "trailer, the frame CRC"
+                                + (": of these the header is right, by its CRC, and the payload is not checked by anything"
+                                   if taken.headed else ""))
+    found += lines_of("Others", f"{len(taken.symbols)} symbols, {len(taken.other)} of another kind")
+    found += lines_of("Flagged", f"{len(flagged)} frames have an error flag of the logger, {fine} of them whole")
+    if taken.cycles:
+        found += lines_of("Cycles", f"{min(taken.cycles.values())} to {max(taken.cycles.values())}, counted on "
+                                    "from the first cycle count; a silence of 64 cycles or more is not seen")
+    if taken.bare and not taken.whole:
+        found += lines_of("WARNING", "no payload could be checked: have the logger keep the three bytes of the frame CRC")
+    listed = [line for channel in "AB" for line in id_lines(taken, channel)]
+    found += listed + damaged_lines(taken)
+    if taken.known:
+        found += timing_lines(times, lines_of)
+    if beyond:
+        found += lines_of("WARNING", f"{beyond} frames are not in vectors.csv: a cycle from {CYCLES} on, or a file "
+                                     "that is too long")
+    found.append("")
+    if listed:
+        found += lines_of("", "every: in one of so many cycles; missing: such cycles of the capture without a whole "
+                              "frame of the ID (or one with a right header, where there is no frame CRC).")
+    return found + lines_of("Origin", "Which frames are whole, which headers are right, and the faults of others, "
+                                      "flexray told; flexlab sorts and counts, and reckons with the time stamps.")
+
+
+def fold(program, width, vectors):
+    status, text, told = programs.call(program, ["nm", str(width), vectors])
+    if status != 0:
+        raise Stop(PROGRAM, f"flexray nm ended with status {status}: {told}")
+    return text
+
+
+def capture(words, folder):
+    if words.nm is not None and not 1 <= words.nm <= 12:
+        raise Stop(USAGE, f"--nm: {words.nm} is not from 1 to 12 bytes")
+    program = programs.flexray(words.flexray)
+    cluster = read_cluster(words.cluster) if words.cluster else None
+    taken = take_apart(words.file, program)
+    times = timing(taken, cluster)
+    try:
+        os.makedirs(folder, exist_ok=True)
+        files = [path for channel in "AB" for path in write_bytes(folder, channel, [
+            packet.frame for packet in taken.packets if packet.number in taken.whole and packet.channel == channel])]
+        vectors, beyond = write_vectors(folder, taken)
+        files += [vectors, write_table(folder, taken), *(write_timing(folder, times) if times else [])]
+    except OSError as fault:
+        raise Stop(FILE, f"{fault.filename}: {fault.strerror}")
+    folded = fold(program, words.nm, vectors) if words.nm else None
+    if words.json:
+        printed({**capture_object(words.file, taken, times), "vectors": folded and folded.splitlines(), "files": files})
+        return NO if taken.damaged else DONE
+    print("\n".join(page_lines(words.file, taken, beyond, times)))
+    print(f"{'Files':<16}{', '.join(files)}")
+    if words.pictures and times:
+        for path in draw_timing(folder, times, os.path.basename(words.file)):
+            print(f"{'Picture':<16}{path}")
+    if words.nm:
+        print(f"\nNetwork management vectors (flexray nm {words.nm} {vectors})\n{folded}", end="")
+    return NO if taken.damaged else DONE

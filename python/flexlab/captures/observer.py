@@ -1,0 +1,359 @@
+"""A log for `flexray observe`: the frames of a capture or of a table, and what the TOML file states of the analyzer.
+
+Units are converted and limits rounded outwards; which frame is whole, and what it tells, is for flexray to say.
+"""
+import csv
+import re
+import struct
+from dataclasses import dataclass, field
+from fractions import Fraction
+from functools import cached_property
+
+from ..base import ranges
+from .asc import UNPROVED, read_asc
+from .blf import MAGIC, read_blf
+from .capture import load, sort_packets
+from ..base.ending import FILE, NO, REFUSED, USAGE, Stop
+from .frames import crc, frame_crc
+from .packets import UNSURE
+from ..pages.page import field as lines_of
+from ..toml.source import Source
+from ..base.units import TICKS, decimal
+
+LAST_STAMP, MOST_TICKS, MOST_CYCLE = 9 * 10**17, 10**9, 199998
+WANTED = ("a table [observer] states what is known of the analyzer: resolution_ns, drift_ppm, delay_from_ns and "
+          "delay_to_ns; docs/FLEXLAB.md, \"Logs\", has more")
+SHORT, FLAWED = "frames that are not as long as they say", "frames without a trailer, with an error flag"
+REQUESTED = "frames that may be mere requests to transmit"
+UNITS = {"s": Fraction(10**9), "ms": Fraction(10**6), "us": Fraction(1000), "ns": Fraction(1)}
+
+
+@dataclass
+class Observer:
+    """What is stated of an analyzer, in ns and ppm; limits are the least and the greatest delay by node and channel;
+    whether it missed no frame; and the cycle of the log, even, from which on the cluster is in sync."""
+    resolution: Fraction
+    drift: int
+    error: Fraction
+    jitter: Fraction | None
+    limits: dict
+    is_whole: bool = False
+    since: int | None = None
+
+
+@dataclass
+class Frames:
+    """(ns, channel, bytes, whether these are all of the frame), of a file that keeps times in steps of so many ns; how
+    many were left out, by reason; and the columns that were read, where these are not stated by their names."""
+    path: str
+    step: Fraction
+    found: list
+    left: dict = field(default_factory=dict)
+    columns: str = ""
+
+    def leave(self, reason, count=1):
+        if count:
+            self.left[reason] = self.left.get(reason, 0) + count
+
+    @cached_property
+    def is_torn(self):
+        """Whether frames of key slots may have been left out, or are damaged."""
+        return any(reason in self.left for reason in (SHORT, FLAWED, UNPROVED, REQUESTED)) or any(
+            is_damaged(channel, data, is_all) for _, channel, data, is_all in self.found)
+
+
+def is_damaged(channel, data, is_all):
+    """Whether a CRC of a frame does not fit."""
+    number = int.from_bytes(data[:5], "big")
+    return crc(11, 0x385, 0x01A, number >> 17 & 0xFFFFF, 20) != number >> 6 & 0x7FF or (
+        is_all and frame_crc(channel, data[:-3]) != int.from_bytes(data[-3:], "big"))
+
+
+def up(value):
+    return -(-Fraction(value) // 1)
+
+
+# ---- the TOML file
+
+
+def read_observer(cluster):
+    """The observer that the file of a cluster states, or None where it states none."""
+    source, most = Source(cluster.path), MOST_TICKS * cluster.microtick_ns / TICKS
+    if "observer" not in source.entries:
+        return None
+    source.tell()
+    table = source.table("observer")
+    resolution = table.number("resolution_ns", Fraction(1, 1000), most, "ns")
+    drift = up(table.number("drift_ppm", 0, 1000, "ppm"))
+    error = table.number("error_ns", 0, most, "ns", (Fraction(0),))
+    jitter = table.number("jitter_ns", 0, most, "ns") if table.has("jitter_ns") else None
+    is_whole, since = table.flag("missed_none", (False,)), since_of(table)
+    all_limits = limits_of(table, "delay_from_ns", "delay_to_ns", most)
+    found = {(node.number, channel): all_limits for node in cluster.nodes.values() for channel in node.channels}
+    for table in source.tables("observer_delay"):
+        own = limits_of(table, "from_ns", "to_ns", most)
+        channels = table.channels("channels", ("AB",))
+        for node in table.nodes("nodes", cluster.nodes):
+            found.update({(node, channel): own for channel in cluster.nodes[node].channels if channel in channels})
+    return Observer(resolution, drift, error, jitter, found, is_whole, since)
+
+
+def since_of(table):
+    if not table.has("in_sync_from_cycle"):
+        return None
+    since = table.whole("in_sync_from_cycle", 0, MOST_CYCLE)
+    if since % 2:
+        table.refuse("in_sync_from_cycle", "it is odd: a double cycle begins with an even cycle")
+    return since
+
+
+def limits_of(table, low, high, most):
+    found = table.number(low, 0, most, "ns"), table.number(high, 0, most, "ns")
+    if found[0] > found[1]:
+        table.refuse(low, f"it is above `{high}`")
+    return found
+
+
+def stated(cluster):
+    """The observer, or the end of flexlab where the file states none."""
+    found = read_observer(cluster)
+    if found is None:
+        raise Stop(REFUSED, f"{cluster.path}: {WANTED}")
+    return found
+
+
+# ---- frames of a capture
+
+
+def step_of(path):
+    """In steps of how many ns a pcap, pcapng or BLF file keeps its times; None where it does not say it."""
+    with open(path, "rb") as file:
+        data = file.read(1 << 16)
+    if data[:4] == MAGIC:
+        return Fraction(read_blf(path)[1])
+    if data[:4] in (b"\xd4\xc3\xb2\xa1", b"\xa1\xb2\xc3\xd4"):
+        return Fraction(1000)
+    if data[:4] in (b"\x4d\x3c\xb2\xa1", b"\xa1\xb2\x3c\x4d"):
+        return Fraction(1)
+    if data[:4] != b"\x0a\x0d\x0d\x0a" or len(data) < 12:
+        return None
+    order, at, steps = "<" if data[8:12] == b"\x4d\x3c\x2b\x1a" else ">", 0, []
+    while at + 12 <= len(data):
+        kind, length = struct.unpack(order + "II", data[at:at + 8])
+        if kind == 1:
+            steps.append(interface_step(data[at + 16:at + length - 4], order))
+        if length < 12 or kind in (3, 6):
+            break
+        at += length
+    return max(steps, default=None)
+
+
+def interface_step(options, order):
+    """That of an interface of a pcapng file, by its options: a microsecond where none says so."""
+    at = 0
+    while at + 4 <= len(options):
+        code, length = struct.unpack(order + "HH", options[at:at + 4])
+        if code == 9 and length == 1:
+            exponent = options[at + 4]
+            return Fraction(10**9, 2 ** (exponent & 0x7F) if exponent & 0x80 else 10**exponent)
+        if code == 0:
+            break
+        at += 4 + (length + 3) // 4 * 4
+    return Fraction(1000)
+
+
+def capture_frames(path):
+    """The frames of a capture. Of one without its frame CRC, or that was cut, the header counts, where the logger saw no
+    error. Of a file that does not say its steps, as one that is packed, these are microseconds where its times are."""
+    taken, todo = sort_packets(load(path))
+    step = step_of(path)
+    if step is None:
+        step = Fraction(1000 if all(packet.ns % 1000 == 0 for packet in taken.packets) else 1)
+    frames = Frames(path, max(Fraction(1), step), [])
+    cut = [packet for packet in taken.packets if packet.number in taken.damaged and packet.cut and len(packet.frame) >= 5]
+    bare = taken.bare + cut
+    packets = [(packet, True) for channel in "AB" for packet in todo[channel]]
+    packets += [(packet, False) for packet in bare if not packet.flags]
+    frames.found = [(Fraction(packet.ns), packet.channel, packet.frame, is_all) for packet, is_all in packets]
+    requested = sum(bool(packet.data) and packet.kind == UNSURE for packet in taken.other)
+    frames.leave("symbols", len(taken.symbols))
+    frames.leave(REQUESTED, requested)
+    frames.leave("packets of another kind", len(taken.other) - requested)
+    frames.leave(SHORT, len(taken.damaged) - len(cut))
+    frames.leave(FLAWED, sum(packet.flags != 0 for packet in bare))
+    return frames
+
+
+# ---- frames of a table
+
+
+def columns_of(words):
+    """The names of the columns, as time=NAME,channel=NAME,bytes=NAME."""
+    found = dict(part.split("=", 1) for part in words.split(",") if "=" in part)
+    if set(found) != {"time", "channel", "bytes"}:
+        raise Stop(USAGE, f"--columns: {words!r} is not of the form time=NAME,channel=NAME,bytes=NAME")
+    return found
+
+
+def table_rows(path, columns):
+    """The rows of a CSV file (by commas, semicolons or tabs) with their line, as (time, channel, bytes)."""
+    with open(path, encoding="utf-8-sig", newline="") as file:
+        head = file.readline()
+        mark = max(",;\t", key=head.count)
+        names = [name.strip() for name in next(csv.reader([head], delimiter=mark), [])]
+        for column in columns.values():
+            if column not in names:
+                raise Stop(REFUSED, f"{path}:1: there is no column `{column}`; there are {', '.join(names)}")
+        places = [names.index(columns[name]) for name in ("time", "channel", "bytes")]
+        reader = csv.reader(file, delimiter=mark)
+        for row in reader:
+            if row and len(row) <= max(places):
+                raise Stop(REFUSED, f"{path}:{reader.line_num + 1}: it has {len(row)} columns")
+            if row:
+                yield reader.line_num + 1, *(row[place].strip() for place in places)
+
+
+def table_frames(path, columns, unit):
+    """The frames of a CSV file: bytes are those of a whole frame, of one without its frame CRC, or of a header."""
+    frames, most = Frames(path, Fraction(0), []), 0
+    for line, time, channel, text in table_rows(path, columns):
+        number = re.fullmatch(r"\d{1,18}(?:\.(\d{1,18}))?", time)
+        if not number:
+            raise Stop(REFUSED, f"{path}:{line}: the time {time!r} is not a number from 0 on")
+        most = max(most, len(number[1] or ""))
+        if channel.upper() not in ("A", "B"):
+            raise Stop(REFUSED, f"{path}:{line}: the channel {channel!r} is not A or B")
+        digits = re.sub(r"[\s:-]", "", text)
+        if not re.fullmatch(r"(?:[0-9A-Fa-f]{2})*", digits):
+            raise Stop(REFUSED, f"{path}:{line}: the bytes {text!r} are not hexadecimal digits, two a byte")
+        data = bytes.fromhex(digits)
+        length = 8 + 2 * (data[2] >> 1) if len(data) > 2 else 0
+        if len(data) not in (5, length - 3, length) or len(data) < 5:
+            frames.leave(SHORT)
+        else:
+            frames.found.append((Fraction(time) * UNITS[unit], channel.upper(), data, len(data) == length))
+    frames.step = UNITS[unit] / 10**most
+    return frames
+
+
+def asc_frames(path, cluster):
+    """The frames of an ASC file, by their headers."""
+    step, found, left, columns = read_asc(path, cluster)
+    frames = Frames(path, step, [(ns, channel, header, False) for ns, channel, header in found], columns=columns)
+    for reason, count in left.items():
+        frames.leave(reason, count)
+    return frames
+
+
+def read_frames(cluster, path, columns, unit):
+    if columns:
+        return table_frames(path, columns_of(columns), unit)
+    return asc_frames(path, cluster) if path.lower().endswith(".asc") else capture_frames(path)
+
+
+# ---- the log
+
+
+def step_ticks(observer, step, microtick_ns):
+    """The unit of the log in ticks, what a stamp is off beside it, and whether stamps are whole numbers of units."""
+    size = TICKS / Fraction(microtick_ns)
+    least, most = sorted((observer.resolution, step))
+    breadth = (most if most % least == 0 else most + least) * size
+    exact = step * size
+    is_whole = exact.denominator == 1 and 1 <= exact <= MOST_TICKS
+    unit = int(exact) if is_whole else max(1, min(MOST_TICKS, exact // 1))
+    return unit, up((breadth - unit if is_whole else breadth) + observer.error * size)
+
+
+def head_lines(cluster, observer, frames, unit, error):
+    size = TICKS / Fraction(cluster.microtick_ns)
+    yield from (f"unit,{unit},,,\n", f"drift,{observer.drift},,,\n", f"error,{error},,,\n")
+    if observer.jitter is not None:
+        yield f"jitter,{up(observer.jitter * size)},,,\n"
+    if observer.is_whole and not frames.is_torn:
+        yield "whole,,,,\n"
+    if observer.since is not None:
+        yield f"since,{observer.since},,,\n"
+    yield from (f"arbitrary,{node},,,\n" for node in cluster.arbitrary)
+    for (node, channel), (low, high) in sorted(observer.limits.items()):
+        if cluster.nodes[node].key_slot:
+            yield f"delay,{node},{channel},{low * size // 1},{up(high * size)}\n"
+
+
+def entry_lines(cluster, frames, unit):
+    """The entries in the order of their stamps, counted from the first frame; frames of other slots are left out."""
+    keys = {node.key_slot for node in cluster.nodes.values() if node.key_slot}
+    size = TICKS / Fraction(cluster.microtick_ns)
+    zero = min(ns for ns, _, _, _ in frames.found)
+    for ns, channel, data, is_all in sorted(frames.found, key=lambda frame: frame[0]):
+        number, stamp = (data[0] & 7) << 8 | data[1], (ns - zero) * size // unit
+        if number > cluster.parameters["gNumberOfStaticSlots"]:
+            frames.leave("frames of the dynamic segment")
+        elif number not in keys:
+            frames.leave("frames of static slots that are no key slots")
+        elif unit * stamp > LAST_STAMP:
+            frames.leave("frames later than a log may have")
+        else:
+            kind, kept = ("frame", data) if is_all else ("head", data[:5])
+            yield f"{kind},{stamp},{channel},{kept.hex().upper()},\n"
+
+
+def log_of(cluster, observer, frames):
+    """The text of the log, and how many entries it has."""
+    if not frames.found:
+        raise Stop(NO, f"{frames.path}: there is no frame that could be used")
+    unit, error = step_ticks(observer, frames.step, cluster.microtick_ns)
+    if error > MOST_TICKS:
+        raise Stop(REFUSED, f"{cluster.path}: by [observer] and the steps of {frames.path} a stamp is off by {error} "
+                            f"ticks, and a log takes at most {MOST_TICKS}")
+    lines = list(head_lines(cluster, observer, frames, unit, error))
+    size, entries = sum(map(len, lines)), 0
+    for line in entry_lines(cluster, frames, unit):
+        size += len(line)
+        if size > ranges.FILE_BYTES:
+            frames.leave("frames behind those that fit into a log")
+        else:
+            lines.append(line)
+            entries += 1
+    return "".join(lines), entries
+
+
+def left_lines(frames):
+    """Lines of a page: what was left out, and which columns were read."""
+    left = [f"{count} {reason}" for reason, count in frames.left.items()] or ["nothing"]
+    return lines_of("Left out", *left) + (lines_of("Columns", frames.columns) if frames.columns else [])
+
+
+def write_log(cluster, path, words):
+    """Writes the log of a capture: its observer, its frames, and how many entries it has."""
+    observer, frames = stated(cluster), read_frames(cluster, words.file, words.columns, words.time_unit)
+    text, entries = log_of(cluster, observer, frames)
+    try:
+        with open(path, "w", encoding="ascii", newline="") as file:
+            file.write(text)
+    except OSError as fault:
+        raise Stop(FILE, f"{fault.filename}: {fault.strerror}")
+    return observer, frames, entries
+
+
+def analyzer_words(observer, frames):
+    """What is stated of the analyzer, and what the file keeps of it."""
+    resolution = max(observer.resolution, frames.step)
+    found = f"stamps of {plain(resolution)} ns"
+    if resolution > observer.resolution:
+        found += f", since the file keeps no more of the {plain(observer.resolution)} ns"
+    if observer.error:
+        found += f", off by {plain(observer.error)} ns in all beside"
+    found += f", its clock within {observer.drift} ppm"
+    low, high = min(low for low, _ in observer.limits.values()), max(high for _, high in observer.limits.values())
+    found += f", delays from {plain(low)} to {plain(high)} ns"
+    if observer.jitter is not None:
+        found += f", those of a node within {plain(observer.jitter)} ns"
+    if observer.is_whole:
+        found += "; it missed no frame" + (", which is not taken where frames are damaged" if frames.is_torn else "")
+    return found if observer.since is None else found + f"; the cluster is in sync from cycle {observer.since} on"
+
+
+def plain(ns):
+    text = decimal(ns, 3)
+    return text.rstrip("0").rstrip(".")

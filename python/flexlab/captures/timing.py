@@ -1,0 +1,218 @@
+"""What the time stamps of a capture say: the cycle, the jitter of each slot, how far each slot lies off its place, and
+what lies between the channels. All are the logger's times: of what its clock is worth they say nothing."""
+import csv
+import os
+from dataclasses import dataclass
+from fractions import Fraction
+from math import isqrt
+
+from ..base.units import decimal
+
+SYNC = 0x10
+SHOWN = 8
+
+
+@dataclass
+class Slot:
+    """One ID on one channel; times in nanoseconds, of the cycle as the slot itself has it."""
+    channel: str
+    number: int
+    rows: list
+    cycle: Fraction | None
+    least: Fraction | None
+    greatest: Fraction | None
+    jitter: Fraction | None
+    deviation: Fraction | None
+    offset: Fraction | None = None
+
+
+def by_slot(taken):
+    """(cycle, ns) of each known frame by channel and ID, the first of a cycle alone."""
+    found, known = {}, taken.known
+    for packet in taken.packets:
+        if packet.number in known:
+            rows = found.setdefault((packet.channel, known[packet.number][0]), {})
+            rows.setdefault(taken.cycles[packet.number], packet.ns)
+    return {place: sorted(rows.items()) for place, rows in sorted(found.items())}
+
+
+def line_through(rows):
+    """(slope, value at 0) of the line nearest to points of whole numbers, exactly, or None of fewer than two."""
+    count = len(rows)
+    sum_x, sum_y = sum(x for x, _ in rows), sum(y for _, y in rows)
+    width = count * sum(x * x for x, _ in rows) - sum_x * sum_x
+    if not width:
+        return None
+    slope = Fraction(count * sum(x * y for x, y in rows) - sum_x * sum_y, width)
+    return slope, (sum_y - slope * sum_x) / count
+
+
+def root(value):
+    """The square root of a fraction, to a thousandth."""
+    return Fraction(isqrt(int(value * 10 ** 6)), 1000)
+
+
+def slot_of(channel, number, rows):
+    line = line_through(rows)
+    if line is None:
+        return Slot(channel, number, rows, None, None, None, None, None)
+    steps = [Fraction(ns - before_ns, cycle - before) for (before, before_ns), (cycle, ns) in zip(rows, rows[1:])]
+    rest = [ns - line[0] * cycle - line[1] for cycle, ns in rows]
+    return Slot(channel, number, rows, line[0], min(steps), max(steps), max(rest) - min(rest),
+                root(sum(one * one for one in rest) / len(rest)))
+
+
+def slots_of(taken):
+    return [slot_of(channel, number, rows) for (channel, number), rows in by_slot(taken).items()]
+
+
+def sync_ids(taken):
+    """The IDs that a sync frame had, by channel: these are static slots for certain."""
+    found, known = {}, taken.known
+    for packet in taken.packets:
+        if packet.number in known and packet.frame[0] & SYNC:
+            found.setdefault(packet.channel, set()).add(known[packet.number][0])
+    return found
+
+
+def place_slots(slots, syncs, share=None):
+    """Sets how far slots lie off their places, by channel, and hands back the length of a slot there.
+
+    A place is one of a grid: the cycle, and a slot for each ID. `share` is the length of a slot as a part of the cycle,
+    and the highest static ID; else both are those nearest to the sync slots, of which it takes three.
+    """
+    lengths = {}
+    for channel in "AB":
+        here = [slot for slot in slots if slot.channel == channel and slot.cycle is not None]
+        sure = [slot for slot in here if slot.number in syncs.get(channel, ())]
+        if not sure or share is None and len(sure) < 3:
+            continue
+        cycle = sum(slot.cycle for slot in sure) / len(sure)
+        # Where a slot lies in cycle 0, going by the cycle that all have in common.
+        begins = {slot.number: sum(ns - cycle * at for at, ns in slot.rows) / len(slot.rows) for slot in here}
+        if share is None:
+            length, first = line_through([(slot.number, begins[slot.number]) for slot in sure])
+        else:
+            length = cycle * share[0]
+            first = sum(begins[slot.number] - length * slot.number for slot in sure) / len(sure)
+        lengths[channel] = length
+        for slot in here:
+            off = begins[slot.number] - first - length * slot.number
+            if (slot.number <= share[1]) if share else abs(off) * 2 < length:
+                slot.offset = off
+    return lengths
+
+
+def between(slots):
+    """(ID, pairs, least, mean, greatest) of A less B in the cycles in which both channels have an ID."""
+    rows = {(slot.channel, slot.number): dict(slot.rows) for slot in slots}
+    found = []
+    for channel, number in sorted(rows):
+        if channel == "A" and ("B", number) in rows:
+            apart = [ns - rows["B", number][cycle] for cycle, ns in rows["A", number].items() if cycle in rows["B", number]]
+            if apart:
+                found.append((number, len(apart), min(apart), Fraction(sum(apart), len(apart)), max(apart)))
+    return found
+
+
+def us(value):
+    return "" if value is None else decimal(Fraction(value) / 1000, 3)
+
+
+def share_of(cluster):
+    """The length of a static slot as a part of the cycle, and the highest static ID."""
+    p = cluster.parameters
+    return Fraction(p["gdStaticSlot"], p["gMacroPerCycle"]), p["gNumberOfStaticSlots"]
+
+
+@dataclass
+class Timing:
+    slots: list
+    lengths: dict
+    pairs: list
+    coarse: bool
+
+
+def timing(taken, cluster=None):
+    """What the time stamps say, or None where fewer than two frames of an ID have different ones."""
+    slots = slots_of(taken)
+    if not any(slot.cycle for slot in slots):
+        return None
+    lengths = place_slots(slots, sync_ids(taken), share_of(cluster) if cluster else None)
+    coarse = all(packet.ns % 1000 == 0 for packet in taken.packets)
+    return Timing(slots, lengths, between(slots), coarse)
+
+
+def write_timing(folder, found):
+    paths = [os.path.join(folder, "timing.csv"), os.path.join(folder, "channels.csv")]
+    with open(paths[0], "w", encoding="ascii", newline="") as file:
+        writer = csv.writer(file, lineterminator="\n")
+        writer.writerow(("channel", "id", "frames", "first_cycle", "last_cycle", "cycle_us", "least_cycle_us",
+                         "greatest_cycle_us", "jitter_us", "deviation_us", "offset_us"))
+        for slot in found.slots:
+            writer.writerow((slot.channel, slot.number, len(slot.rows), slot.rows[0][0], slot.rows[-1][0],
+                             *map(us, (slot.cycle, slot.least, slot.greatest, slot.jitter, slot.deviation, slot.offset))))
+    with open(paths[1], "w", encoding="ascii", newline="") as file:
+        writer = csv.writer(file, lineterminator="\n")
+        writer.writerow(("id", "pairs", "least_us", "mean_us", "greatest_us"))
+        for number, count, *apart in found.pairs:
+            writer.writerow((number, count, *map(us, apart)))
+    return paths
+
+
+def timing_objects(found):
+    """The times of each ID on each channel, in us; null where nothing is told."""
+    def number(value):
+        return None if value is None else float(us(value))
+
+    return [{"channel": slot.channel, "id": slot.number, "cycle_us": number(slot.cycle), "least_cycle_us": number(slot.least),
+             "greatest_cycle_us": number(slot.greatest), "jitter_us": number(slot.jitter),
+             "deviation_us": number(slot.deviation), "offset_us": number(slot.offset)}
+            for slot in (found.slots if found else ())]
+
+
+def timing_lines(found, field):
+    """The page's part."""
+    if found is None:
+        return ["", *field("Times", "no ID has two frames with different time stamps, so of times nothing is told")]
+    lines = ["", *field("Times", "of the logger, in us" + ("; its time stamps are whole microseconds" if found.coarse else ""))]
+    lines.append(f"{'id':>6}{'':>3}{'cycle':>12}{'least':>11}{'greatest':>11}{'jitter':>9}{'deviation':>11}{'offset':>9}")
+    for slot in found.slots:
+        numbers = [us(value) or "-" for value in (slot.cycle, slot.least, slot.greatest, slot.jitter, slot.deviation,
+                                                  slot.offset)]
+        lines.append(f"{slot.number:>6}{slot.channel:>3}{numbers[0]:>12}{numbers[1]:>11}{numbers[2]:>11}{numbers[3]:>9}"
+                     f"{numbers[4]:>11}{numbers[5]:>9}")
+    if found.pairs:
+        lines += ["", f"{'id':>6}{'both':>8}  A less B: least, mean, greatest"]
+        lines += [f"{number:>6}{count:>8}  {us(least)}, {us(mean)}, {us(greatest)}"
+                  for number, count, least, mean, greatest in found.pairs]
+    told = ", ".join(f"{us(length)} on {channel}" for channel, length in sorted(found.lengths.items()))
+    return lines + ["", *field("", "cycle: from one frame of the ID to the next, by cycle; jitter: from the earliest to the "
+                                   "latest, off the line through all of them; deviation: the root of the mean square of that.",
+                               "offset: how far the slot lies behind its place in a grid of slots"
+                               + (f" ({told} us long)" if told else "; for that it takes three sync slots of a channel, or "
+                                                                  "--cluster with the TOML file of the network"))]
+
+
+def draw_timing(folder, found, name):
+    """The cycle over time, and each slot's place beside the line through it."""
+    from ..pages.pictures import COLOURS, draw, plain_axes, quoted, thinned
+    slots = [slot for slot in found.slots if slot.cycle is not None][:SHOWN]
+    data, upper, lower = "", [], []
+    for at, slot in enumerate(slots):
+        slope, first = line_through(slot.rows)
+        steps = [(cycle, Fraction(ns - before_ns, cycle - before) / 1000)
+                 for (before, before_ns), (cycle, ns) in zip(slot.rows, slot.rows[1:])]
+        rest = [(cycle, (ns - slope * cycle - first) / 1000) for cycle, ns in slot.rows]
+        for kind, rows in (("step", steps), ("rest", rest)):
+            data += f"${kind}{at} << end\n" + "".join(f"{x} {decimal(y, 6)}\n" for x, y in thinned(rows)) + "end\n"
+        style = f"linecolor '{COLOURS[at % len(COLOURS)]}'"
+        title = quoted(f"ID {slot.number} on {slot.channel}")
+        upper.append(f"$step{at} using 1:2 title {title} with lines {style}")
+        lower.append(f"$rest{at} using 1:2 title {title} with points pointtype 7 pointsize 0.4 {style}")
+    script = (data + plain_axes() + f"set multiplot layout 2,1 title {quoted('Times of ' + name)} font ',14'\n"
+              "set lmargin 12\nset rmargin 18\nset key outside right top Left reverse samplen 2\nset format y '%.3f'\n"
+              "set ylabel 'cycle, us'\nplot " + ", \\\n     ".join(upper)
+              + "\nset ylabel 'off its own line, us'\nset xlabel 'cycle'\nplot " + ", \\\n     ".join(lower)
+              + "\nunset multiplot\n")
+    return draw(folder, "timing", script, "1000,720")

@@ -1,0 +1,371 @@
+"""The words of flexlab: its requests, their options, and how each ends."""
+import argparse
+import os
+import shutil
+import signal
+import sys
+
+from ..base.ending import DONE, FILE, STATUSES, USAGE, Stop
+from ..base.version import version
+
+RAW = argparse.RawDescriptionHelpFormatter
+PROGRAM_HELP = "the program flexray (else: $FLEXRAY, the one built in this repository, or the one on the path)"
+
+
+def parser():
+    top = argparse.ArgumentParser(
+        prog="flexlab", formatter_class=RAW, epilog=STATUSES, allow_abbrev=False,
+        description="Tools around flexray, in the units of a bench. flexlab computes no answer of its own: what it "
+                    "shows are numbers\nthat flexray printed, converted, divided or compared. docs/FLEXLAB.md has "
+                    "more.")
+    top.add_argument("-V", "--version", action="version", version=f"flexlab {version()}")
+    requests = top.add_subparsers(dest="request", metavar="REQUEST", required=True)
+
+    def request(name, does, more=""):
+        found = requests.add_parser(name, help=does, formatter_class=RAW, epilog=STATUSES, allow_abbrev=False,
+                                    description=f"{does[0].upper()}{does[1:]}.{more}")
+        found.set_defaults(does=name)
+        return found
+
+    new = request("new", "write a commented example of a cluster")
+    new.add_argument("file", metavar="FILE.toml", help="a file that is not there yet, or - for standard output")
+
+    build = request("build", "write the three files of a cluster for flexray",
+                    "\nIt has flexray bound say whether the parameters keep their constraints.")
+    run = request("run", "run a cluster and print its page",
+                  "\nIt writes the three files, calls flexray bound, run and trace, and flexray-series where that is "
+                  "installed.")
+    pcap = request("pcap", "write what the nodes of a run send as a capture for Wireshark",
+                   "\nLink type FlexRay (210), one packet a frame, at the instants of the run's trace. What arbitrary\n"
+                   "nodes say is left out, since it is said to each receiver alone.")
+    for one in (build, run, pcap):
+        one.add_argument("file", metavar="FILE.toml")
+        one.add_argument("-o", "--out", metavar="FOLDER", help="where files go (FILE.lab beside the TOML file)")
+    for one in (build, run, pcap):
+        one.add_argument("--flexray", metavar="PROGRAM", help=PROGRAM_HELP)
+    run.add_argument("-p", "--pictures", action="store_true",
+                     help="draw skew and correction terms, by gnuplot, as SVG and PNG")
+
+    run.add_argument("--from", dest="begin", metavar="CYCLE", type=int,
+                     help="take the later skew from this cycle on (else from where it has settled)")
+    run.add_argument("--cycles", metavar="RANGES", default="",
+                     help="the skew of these cycles, as 20-99,100-200,201- (else of stretches between changes)")
+
+    precision = request("precision", "print the precisions of a cluster: the standard's formulas, proved, simulated",
+                        "\nIt runs the cluster as `run` does.")
+    precision.add_argument("file", metavar="FILE.toml")
+    precision.add_argument("-o", "--out", metavar="FOLDER", help="where files go (FILE.lab beside the TOML file)")
+    precision.add_argument("--from", dest="begin", metavar="CYCLE", type=int,
+                           help="take the later skew from this cycle on (else from where it has settled)")
+    precision.add_argument("--standard", metavar="MICROTICKS", type=int, default=38,
+                           help="the constant of the standard's worst case (38)")
+    precision.add_argument("--flutter-ns", metavar="NS",
+                           help="by how much a delay may differ between the two cycles of a double cycle (else as in the file)")
+    precision.add_argument("--flexray", metavar="PROGRAM", help=PROGRAM_HELP)
+
+    worst = request("worst", "look for the run of a cluster that comes closest to its precision",
+                    "\nIt searches oscillators, delays, starts and the words of arbitrary nodes, has flexray judge each "
+                    "candidate,\nand writes the worst as files to be run again: edge/ and kept/.")
+    worst.add_argument("file", metavar="FILE.toml")
+    worst.add_argument("-o", "--out", metavar="FOLDER", help="where files go (FILE.worst beside the TOML file)")
+    worst.add_argument("--runs", metavar="COUNT", type=int, default=600, help="at most so many runs of a seed (600)")
+    worst.add_argument("--seconds", metavar="COUNT", type=int, default=120, help="stop after so many seconds (120)")
+    worst.add_argument("--seed", metavar="SEED", type=int, default=1, help="of the search (1); the same finds the same")
+    worst.add_argument("--double-cycles", metavar="COUNT", type=int, default=16, help="of a candidate (16)")
+    worst.add_argument("--jobs", metavar="COUNT", type=int, default=1, help="seeds side by side, the best wins (1)")
+    worst.add_argument("--flexray", metavar="PROGRAM", help=PROGRAM_HELP)
+
+    for one in (run, pcap, precision):
+        one.add_argument("--seed", metavar="SEED", type=int, help="of numbers that are drawn (else `seed` of [run], else 1)")
+        one.add_argument("--draw", metavar="NUMBER", type=int, default=1, help="which draw of them (1)")
+    power = request("power", "tell who leads a startup, and when all are in sync, from power-on",
+                    "\nIt asks flexray cold who leads, has the leader run and the others join it, and prints a page in\n"
+                    "milliseconds from power-on. Who is switched on when is said by [[power]]; all at 0 else.")
+    settle = request("settle", "tell how soon clocks that begin apart are in sync at the latest",
+                     "\nBy flexray settle, for the nodes of the file as they begin there, or as far apart as is said.")
+    for one in (power, settle):
+        one.add_argument("file", metavar="FILE.toml")
+        one.add_argument("-o", "--out", metavar="FOLDER", help="where files go (FILE.lab beside the TOML file)")
+        one.add_argument("--flexray", metavar="PROGRAM", help=PROGRAM_HELP)
+    power.add_argument("-p", "--pictures", action="store_true", help="draw who does what when, by gnuplot")
+    settle.add_argument("--start-us", metavar="USEC", help="how far the first starts may lie apart")
+    settle.add_argument("--rate-ppm", metavar="PPM", help="how far the first lengths of cycles may lie apart")
+    for one in (run, power):
+        one.add_argument("--require", metavar="LIST",
+                         help="some of covered,in-sync,within=USEC (the skew in sync),sharply-covered: status 7 where one is not "
+                              "met")
+
+    explain = request("explain", "explain a refusal of flexray, a check that fails or a gap",
+                      "\nWORDS are those that flexray had: flexlab explain run params.csv drift.csv script.csv\n"
+                      "It calls flexray with them, unless the line is given.")
+    explain.add_argument("--line", metavar="LINE", help="the line that flexray wrote on standard error")
+    explain.add_argument("--flexray", metavar="PROGRAM", help=PROGRAM_HELP)
+    explain.add_argument("words", metavar="WORDS", nargs="+")
+
+    study = request("study", "run a cluster for each value of a list or a grid, each draw, or each seed of make",
+                    "\nSide by side by the library of flexray where that is there, else by GNU parallel, also on other hosts. The "
+                    "folder has\nstudy.csv and study.jsonl, a line a run, a picture, and a folder of each run that is kept. A "
+                    "study that was\nstopped goes on with the same words; runs that have a line are not run again. A failed run is a "
+                    "line with its status.")
+    study.add_argument("file", metavar="FILE.toml", nargs="?", help="the cluster; without it, seeds by --seeds")
+    study.add_argument("--vary", metavar="KEY", action="append",
+                       help="TABLE.KEY or TABLE[N].KEY, as values.drift or node[2].ppm; several, each with its --values, make "
+                            "a grid")
+    study.add_argument("--values", metavar="LIST", action="append", help="as 50,100,150 or FROM:TO:STEP, as 50:200:25")
+    study.add_argument("--draws", metavar="COUNT", type=int,
+                       help="so many draws of the numbers that the file has drawn, as ppm = { uniform = [-100, 100] }")
+    study.add_argument("--seed", metavar="SEED", type=int, help="of the draws (else `seed` of [run], else 1)")
+    study.add_argument("--seeds", metavar="LIST", help="seeds of flexray make, as 1:20:1 or 1,7,9")
+    study.add_argument("--doubles", metavar="COUNT", type=int, default=50, help="double cycles of make (50)")
+    study.add_argument("--from", dest="begin", metavar="CYCLE", type=int,
+                       help="take the later skew from this cycle on (else from where each run has settled)")
+    study.add_argument("--cycles", metavar="RANGES", default="",
+                       help="columns of the skew of these cycles too, as 20-99,100-200,201-")
+    study.add_argument("--keep", metavar="RUNS", default="worst:3",
+                       help="runs that keep their files: all, none or worst:COUNT (worst:3)")
+    study.add_argument("-o", "--out", metavar="FOLDER", help="where files go (FILE.study beside the TOML file)")
+    study.add_argument("--jobs", metavar="COUNT", help="runs side by side (one a processor)")
+    study.add_argument("--again", action="store_true", help="run failed runs of a stopped study again")
+    study.add_argument("--hosts", metavar="LIST",
+                       help="share the runs over hosts that have flexlab, as host1,8/host2,: where : is this machine; they "
+                            "need no folder in common")
+    study.add_argument("--host-flexlab", metavar="COMMAND", help="what flexlab is called there (the path that it has here)")
+    study.add_argument("--ssh", metavar="COMMAND", default="ssh", help="what reaches a host (ssh)")
+    study.add_argument("--parallel", metavar="OPTIONS", default="",
+                       help="further options of GNU parallel, as --parallel='--load 80%%'")
+    study.add_argument("--flexray", metavar="PROGRAM", help=PROGRAM_HELP)
+
+    capture = request("capture", "take a capture of a FlexRay network apart",
+                      "\nA pcap or pcapng file of link type FlexRay (210), read by tshark, or a BLF file. It writes the files of "
+                      "flexray\ncapture (A.bin, B.bin) and of flexray nm (vectors.csv), and prints which frames are "
+                      "there, missing and\ndamaged. Whether a frame is whole is what flexray says of it.")
+    capture.add_argument("file", metavar="FILE")
+    capture.add_argument("-o", "--out", metavar="FOLDER", help="where files go (FILE.lab beside the capture)")
+    capture.add_argument("--nm", metavar="WIDTH", type=int, help="fold network management vectors of 1 to 12 bytes too")
+    capture.add_argument("--cluster", metavar="FILE.toml", help="the network, for the places of its static slots")
+    capture.add_argument("-p", "--pictures", action="store_true",
+                         help="draw cycles and jitter over time, by gnuplot, as SVG and PNG")
+    capture.add_argument("--flexray", metavar="PROGRAM", help=PROGRAM_HELP)
+
+    log = request("log", "write the log of flexray observe from a capture",
+                  "\n[observer] of the TOML file states what is known of the analyzer. Captures are pcap and pcapng files of "
+                  "link type\nFlexRay (210), read by tshark; BLF files; ASC files, whose rows have to fit their header CRC, by columns "
+                  "that are\nfound or that [asc] states; or CSV files, of which --columns names the columns.")
+    observe = request("observe", "tell what a capture says for certain of the cluster's clocks",
+                      "\nIt writes the log as `log` does, asks flexray observe, and prints a page in microseconds and ppm: limits of "
+                      "the skew,\nof each node's rate and offset terms. It ends in status 1 where the skew is over the precision, or "
+                      "the verdict\nis no.")
+    for one in (log, observe):
+        one.add_argument("file", metavar="CAPTURE")
+        one.add_argument("cluster", metavar="CLUSTER.toml")
+        one.add_argument("--columns", metavar="LIST", help="of a CSV file: time=NAME,channel=NAME,bytes=NAME")
+        one.add_argument("--time-unit", metavar="UNIT", choices=("s", "ms", "us", "ns"), default="s",
+                         help="of its times: s, ms, us or ns (s)")
+    log.add_argument("-o", "--out", metavar="LOG", help="the file to be written (CAPTURE.log.csv beside the capture)")
+
+    observe.add_argument("-o", "--out", metavar="FOLDER", help="where files go (CAPTURE.lab beside the capture)")
+    observe.add_argument("-p", "--pictures", action="store_true", help="draw skew, rates and offset terms, by gnuplot")
+    observe.add_argument("--flexray", metavar="PROGRAM", help=PROGRAM_HELP)
+
+    for one in (run, power, explain, study, capture, observe):
+        one.add_argument("--json", action="store_true", help="print one JSON object in place of the page")
+
+    one = requests.add_parser("study-run", add_help=False)
+    one.set_defaults(does="study-run")
+    one.add_argument("plan")
+    one.add_argument("runs", nargs="+")
+    requests.metavar = "{new,build,run,power,settle,precision,worst,explain,study,capture,log,observe,pcap}"
+    return top
+
+
+def folder_of(words, ending=".lab"):
+    if words.out:
+        return words.out
+    stem = os.path.splitext(words.file)[0]
+    return stem + ending
+
+
+def cluster_of(words):
+    """The cluster of the file; numbers that are drawn are those of --seed and --draw."""
+    from ..toml.cluster import read_cluster
+    return read_cluster(words.file, None, (words.seed, words.draw))
+
+
+def called():
+    """What flexlab is called as here: by its name where that is on the path, else by its path."""
+    found = shutil.which("flexlab")
+    return "flexlab" if found and os.path.samefile(found, sys.argv[0]) else sys.argv[0]
+
+
+def do_new(words):
+    with open(os.path.join(os.path.dirname(os.path.dirname(__file__)), "toml", "example.toml"), encoding="utf-8") as file:
+        text = file.read()
+    if words.file == "-":
+        sys.stdout.write(text)
+        return DONE
+    with open(words.file, "x", encoding="utf-8") as file:
+        file.write(text.replace("THIS.toml", os.path.basename(words.file)))
+    print(f"{words.file}: written; next: {called()} run {words.file}")
+    return DONE
+
+
+def do_build(words):
+    from ..program import calls as programs
+    from ..toml.cluster import read_cluster
+    from ..base.files import write_files
+    from ..runs.runs import answer, bound_words
+    cluster = read_cluster(words.file)
+    paths = write_files(cluster, folder_of(words))
+    for path in paths:
+        print(path)
+    for line in cluster.notes:
+        print(f"flexlab: warning: {line}", file=sys.stderr)
+    try:
+        program = programs.flexray(words.flexray)
+    except Stop as stop:
+        if words.flexray:
+            raise
+        print(f"flexlab: warning: the constraints of the parameters are not checked: {stop.line}", file=sys.stderr)
+        return DONE
+    answer(program, bound_words(cluster, paths[0]), cluster=cluster)
+    return DONE
+
+
+def do_run(words):
+    from ..program import calls as program
+    from ..pages.page import page
+    from ..runs.runs import keep, run_cluster
+    from ..pages.machine import ended, printed, run_object, wanted
+    from ..runs.ways import weigh
+    from ..runs.windows import begin_of, ranges_of
+    asked = wanted(words.require)
+    cluster, folder = cluster_of(words), folder_of(words)
+    begin, spans = begin_of(words.begin, cluster), ranges_of(words.cycles, cluster)
+    run = run_cluster(cluster, folder, program.flexray(words.flexray), begin=begin)
+    run.asked, run.ways = spans, weigh(run, program.flexray(words.flexray), run_cluster)
+    text = page(run)
+    keep(folder, "page.txt", text)
+    drawn = []
+    if words.pictures:
+        from ..pages.pictures import draw_run
+        drawn = draw_run(run)
+    if words.json:
+        printed({**run_object(run), "pictures": drawn})
+        return ended(run, asked, complain)
+    sys.stdout.write(text)
+    print(f"{'Files':<16}{folder}/: params.csv, drift.csv, script.csv, bound.txt, report.txt, trace.csv, page.txt")
+    for path in drawn:
+        print(f"{'Picture':<16}{path}")
+    return ended(run, asked, complain)
+
+
+def complain(line):
+    print(f"flexlab: not met: {line}", file=sys.stderr)
+
+
+def do_power(words):
+    from ..runs.startup import power
+    return power(words, folder_of(words), complain)
+
+
+def do_settle(words):
+    from ..runs.settling import settle
+    return settle(words, folder_of(words))
+
+
+def do_precision(words):
+    from ..program import calls as program
+    from ..runs.runs import keep, run_cluster
+    from ..pages.standard import compared
+    from ..runs.windows import begin_of
+    cluster, folder = cluster_of(words), folder_of(words)
+    begin = begin_of(words.begin, cluster)
+    given = program.flexray(words.flexray)
+    text = compared(run_cluster(cluster, folder, given, begin=begin), given, words.standard, words.flutter_ns)
+    sys.stdout.write(text)
+    keep(folder, "precision.txt", text)
+    return DONE
+
+
+def do_worst(words):
+    from ..program import calls as program
+    from ..toml.cluster import read_cluster
+    from ..runs.worst import worst
+    return worst(read_cluster(words.file), folder_of(words, ".worst"), program.flexray(words.flexray), words)
+
+
+def do_pcap(words):
+    from ..program import calls as program
+    from ..runs.sending import write_run
+    return write_run(cluster_of(words), folder_of(words), program.flexray(words.flexray))
+
+
+def do_explain(words):
+    from ..pages.explain import explain
+    return explain(words.words, words.line, words.flexray, words.json)
+
+
+def do_study(words):
+    from ..runs.study import study
+    return study(words)
+
+
+def do_study_run(words):
+    from ..runs.study import run_several
+    return run_several(words.plan, words.runs)
+
+
+def do_capture(words):
+    from ..captures.capture import capture
+    return capture(words, folder_of(words))
+
+
+def do_log(words):
+    from ..toml.cluster import read_cluster
+    from ..captures.observer import analyzer_words, left_lines, write_log
+    from ..pages.page import field
+    path = folder_of(words, ".log.csv")
+    observer, frames, entries = write_log(read_cluster(words.cluster), path, words)
+    print("\n".join(field("Log", f"{path}: {entries} frames of key slots") + field("Analyzer", analyzer_words(observer, frames))
+                    + left_lines(frames)))
+    return DONE
+
+
+def do_observe(words):
+    from ..captures.observed import observe
+    return observe(words, folder_of(words))
+
+
+DO = {"new": do_new, "build": do_build, "run": do_run, "power": do_power, "settle": do_settle, "pcap": do_pcap,
+      "explain": do_explain, "study": do_study, "precision": do_precision, "worst": do_worst, "study-run": do_study_run,
+      "capture": do_capture, "log": do_log, "observe": do_observe}
+
+
+def joined(arguments):
+    """The words, with the value of an option that may begin with `-` joined to it."""
+    found, rest = [], list(arguments)
+    while rest:
+        word = rest.pop(0)
+        takes = word in ("--values", "--seeds", "--seed", "--parallel", "--line", "--ssh") and rest
+        found.append(f"{word}={rest.pop(0)}" if takes else word)
+    return found
+
+
+def main(arguments):
+    """Does what the words ask, and hands back the exit status."""
+    signal.signal(signal.SIGPIPE, signal.SIG_DFL)
+    try:
+        words = parser().parse_args(joined(arguments))
+    except SystemExit as ended:
+        return USAGE if ended.code else DONE
+    try:
+        return DO[words.does](words)
+    except Stop as stop:
+        print(f"flexlab: {stop.line}", file=sys.stderr)
+        return stop.status
+    except OSError as fault:
+        print(f"flexlab: {fault.filename}: {fault.strerror}", file=sys.stderr)
+        return FILE
+    except KeyboardInterrupt:
+        print("flexlab: stopped", file=sys.stderr)
+        return 130

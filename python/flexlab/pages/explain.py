@@ -1,0 +1,332 @@
+"""What a line of flexray on standard error says, with the files that it speaks of."""
+import os
+import re
+from fractions import Fraction
+from types import SimpleNamespace
+
+from .advice import (FORMULA, LETTERS, SHARP_FORMULA, SHARP_LETTERS, SHARP_WAY_FORMULA, SHARP_WAY_LETTERS, TURNS, WAY_FORMULA,
+                     advise)
+from ..toml.constraints import broken, explain_constraint
+from ..base.ending import USAGE as WORDS
+from ..base.ending import DONE, FILE, NO, Stop
+from ..program.forms import FORMS
+from .gaps import check_words, gap_words, sharp_check_words, sharp_way_words
+from ..program.known import Known, version_of
+from ..runs.least import Kind
+from ..base.ranges import FILE_BYTES, NAMES, table
+from ..program.reasons import EXPLAIN, MEANING, short
+from ..program.records import load
+from .machine import printed
+from ..runs.sharp import MOST
+from ..program import calls as programs
+
+ROLES = {
+    "frame": {"frame": 2}, "bound": {"params": 1}, "upgrade": {"params": 1},
+    "settle": {"params": 1}, "nm": {"vectors": 2},
+    "run": {"params": 1, "drift": 2, "script": 3}, "trace": {"params": 1, "drift": 2, "script": 3},
+    "capture": {"capture": 2}, "cold": {"params": 1, "power": 2}, "make": {}, "check": {"params": 1, "trace": 2},
+    "observe": {"params": 1, "log": 2},
+}
+USAGE = {
+    "frame": "frame A FILE or frame B FILE",
+    "bound": "bound PARAMS, bound PARAMS join, bound PARAMS sharp FLUTTER or bound PARAMS sharp FLUTTER join", "upgrade": "upgrade PARAMS",
+    "settle": "settle PARAMS START RATE or settle PARAMS START RATE sharp FLUTTER",
+    "nm": "nm WIDTH FILE", "run": "run PARAMS DRIFT SCRIPT", "trace": "trace PARAMS DRIFT SCRIPT",
+    "check": "check PARAMS TRACE", "make": "make SEED DOUBLES", "capture": "capture A FILE or capture B "
+                                                                           "FILE", "cold": "cold PARAMS POWER",
+    "observe": "observe PARAMS LOG",
+}
+# How names of files end that `flexlab log` turns into logs, beside CSV files.
+CAPTURES = (".asc", ".blf", ".pcap", ".pcapng")
+
+
+def file_of(role, words):
+    """The path that has this role in flexray's words, or None."""
+    if len(words) == 3 and words[0] not in ROLES:
+        place = {"params": 0, "drift": 1, "script": 2}.get(role)
+    else:
+        place = ROLES.get(words[0] if words else "", {}).get(role)
+    return words[place] if place is not None and place < len(words) else None
+
+
+def named(role, words):
+    """The path that has this role, or the end of flexlab where the words do not name it."""
+    path = file_of(role, words)
+    if path is None:
+        form = USAGE.get(words[0] if words else "", "")
+        raise Stop(WORDS, f"the words do not name the {role} file: they are those that flexray had, "
+                          + (f"flexray {form}" if form else "as in flexlab explain run PARAMS DRIFT SCRIPT"))
+    return path
+
+
+def known_of(words):
+    has_none = words and words[0] in ROLES and "params" not in ROLES[words[0]]
+    path = None if has_none else named("params", words)
+    try:
+        return Known(path)
+    except OSError as fault:
+        raise Stop(FILE, f"{path}: {fault.strerror}")
+
+
+def explain_line(line, words):
+    """Lines that explain a line of flexray's standard error; `words` are those that flexray had."""
+    if line.startswith("usage:"):
+        return explain_usage(words)
+    role, _, rest = line.partition(": ")
+    if rest == "read fault":
+        return explain_read(role, file_of(role, words))
+    if rest == "too long":
+        path = named(role, words)
+        return [f"{path}: it has {os.path.getsize(path)} bytes, and a file may have {FILE_BYTES}"]
+    if role == "frame":
+        return explain_frame(rest)
+    record = re.fullmatch(r"record (\d+): (\w+)", rest)
+    if record and role in FORMS and record[2] in EXPLAIN:
+        return explain_record(role, int(record[1]), record[2], words)
+    if role == "trace" and (rest.startswith("record ") or rest.startswith("not covered ")):
+        return explain_trace(rest, words)
+    if rest.startswith("missing "):
+        return explain_missing(role, rest.split()[1], words)
+    if re.fullmatch(r"constraint [1-8]", rest):
+        known, first = known_of(words), int(rest.split()[1])
+        found = [f"{named('params', words)}: {rest}:", *explain_constraint(first, known)]
+        for number in broken(known):
+            if number != first:
+                found += [f"constraint {number} does not hold either:", *("  " + line for line in explain_constraint(number, known))]
+        return found
+    if rest.startswith("incomplete"):
+        return [f"{file_of(role, words)}: after its {rest.split()[-1]} records the trace is not whole: in the last "
+                "cycle a correct node that takes part has no cycle row"]
+    if line in ("no memory", "write fault"):
+        return ["memory ran out" if line == "no memory" else "standard output could not be written: is the disk full, "
+                "or did the program that reads it end?"]
+    return [f"this line is none that flexlab knows: {line}"]
+
+
+# The words of a request that are no files, by their place: a name, and what they may be.
+WORD = {
+    ("settle", 2): ("START", 0, 1000000000000, "ticks by which the first starts may differ, 1000000 in a microtick"),
+    ("settle", 3): ("RATE", 0, 1000000000000, "ticks by which the first lengths of cycles may differ"),
+    ("settle", 5): ("FLUTTER", 0, MOST, "ticks by which a delay may differ between the two cycles of a double cycle"),
+    ("bound", 3): ("FLUTTER", 0, MOST, "ticks by which a delay may differ between the two cycles of a double cycle"),
+    ("make", 1): ("SEED", 0, 4294967295, ""), ("make", 2): ("DOUBLES", 1, 10000, "double cycles"),
+    ("nm", 1): ("WIDTH", 1, 12, "bytes"),
+}
+
+
+def wrong_word(request, word, place):
+    """What is wrong with one of the words behind a request, or None."""
+    if request in ("frame", "capture") and place == 1 and word not in ("A", "B"):
+        return f"{short(word)} is not A or B, the channel"
+    if (request, place) in WORD:
+        name, least, most, unit = WORD[request, place]
+        if not re.fullmatch(r"\d{1,18}", word, re.ASCII) or not least <= int(word) <= most:
+            return f"{short(word)} is not a whole number from {least} to {most}, for {name}" + (f": {unit}" if unit else "")
+    return None
+
+
+def explain_usage(words):
+    if words and words[0] in USAGE:
+        found = [f"the words have to be: flexray {USAGE[words[0]]}",
+                 f"and behind {words[0]} {len(words) - 1} were given: {short(' '.join(words[1:]))}"]
+        return found + [wrong for wrong in map(wrong_word, [words[0]] * len(words), words[1:], range(1, len(words))) if wrong]
+    return ["there are these requests:", *(f"  flexray {form}" for form in USAGE.values())]
+
+
+def explain_read(role, path):
+    if path is None:
+        return [f"the file that is the {role} could not be read"]
+    try:
+        with open(path, "rb") as file:
+            file.read(1)
+    except OSError as fault:
+        return [f"{path} ({role}): {fault.strerror}"]
+    return [f"{path} ({role}): it could not be read then; now it can"]
+
+
+def explain_missing(role, name, words):
+    path = named(role, words)
+    if name in NAMES:
+        least, most, unit, meaning = NAMES[name]
+        known = known_of(words)
+        missing = [other for other in table(version_of(known.records)) if other not in known.values]
+        return [f"{path}: there is no record `param,{name},VALUE,,`",
+                f"{name} is from {least} to {most} {unit}".rstrip() + f": {meaning}",
+                *([f"these are missing too: {', '.join(other for other in missing if other != name)}"]
+                  if len(missing) > 1 else [])]
+    form = {"doubles": "`doubles,COUNT,,,,` with how many double cycles the run has, 1 to 100000",
+            "cycles": "`cycles,COUNT,` with how many cycles the startup has, 1 to 1000",
+            "unit": "`unit,TICKS,,,` with how many ticks a unit of stamps is long, 1 to 1000000000",
+            "drift": "`drift,PPM,,,` with how far the clock of the analyzer may be off, 0 to 1000 parts per million",
+            "delay": "`delay,NODE,CHANNEL,LOW,HIGH` for some channel of a correct node with a key slot, and no record "
+                     "`delay,,,LOW,HIGH` for all others"}.get(name, f"`{name}`")
+    return [f"{path}: there is no record {form}"]
+
+
+def explain_frame(rest):
+    words = rest.split()
+    if rest.startswith("length"):
+        stated, given = int(words[2]), int(words[4])
+        found = [f"the header says {stated} bytes, and the file has {given}"]
+        if stated == given + 3:
+            found.append("it has 3 bytes less than the header says: a frame without its frame CRC (its trailer)")
+        return found
+    meaning = {"short": f"a frame has at least 8 bytes, and the file has {words[-1]}",
+               "header": "the header CRC in the bytes is not that of the header's fields: bits changed, or these "
+                         "are no bytes of a frame (a pcap file goes to `flexlab capture`)",
+               "frame": "the frame CRC is not that of the bytes before it on this channel: bits changed, or the frame "
+                        "is of the other channel",
+               "zero": "the frame ID is 0, and IDs begin with 1",
+               "startup": "the startup indicator is set and the sync indicator is not"}
+    return [meaning.get(words[0], rest)]
+
+
+def loaded(path):
+    try:
+        return load(path)
+    except OSError as fault:
+        raise Stop(FILE, f"{path}: {fault.strerror}")
+
+
+def beyond(path, number):
+    return f"{path}: it has no record {number}; is it another file than flexray read?"
+
+
+def explain_record(role, number, reason, words):
+    path, cluster = named(role, words), known_of(words)
+    if role == "log" and path.lower().endswith(CAPTURES):
+        return [f"{path}: this is a capture, and flexray reads logs: `flexlab log {path} CLUSTER.toml` writes one, and `flexlab observe` "
+                "asks flexray itself"]
+    found = loaded(path)
+    if number > len(found):
+        return [beyond(path, number)]
+    record = found[number - 1]
+    if path.endswith(".toml"):
+        return [f"{path}: this is a TOML file, and flexray reads its own three files: `flexlab run {path}` writes and runs them"]
+    causes = list(EXPLAIN[reason](role, record, cluster, found[:number - 1]))
+    return [f"{path}:{record.line}: {short(record.text)}", f"{reason}: {MEANING[reason]}",
+            *(causes or ["no field of it is found to be so; is it another file than flexray read?"])]
+
+
+LAWS = {
+    "start": "a cycle starts where the node's cycle before ended: start + (N + rate + offset) microticks, in ticks",
+    "rate": "the rate term stays within a double cycle, and is then that of the deviations recorded in it, in "
+            "microticks",
+    "state": "a node is active at first, and takes one step of operation control after each double cycle",
+    "offset": "the offset term is 0 in even cycles and in halt, else that of the deviations of the cycle, in "
+              "microticks",
+    "deviation": "a deviation is how far the sender's action point lies after the receiver's by their rows, as "
+                 "exactly as delays and whole microticks allow, in microticks",
+    "silent": "nothing is measured of a correct node that is not active, nor by one in halt",
+    "apart": "a node that joins takes part from its first row on, and is then in sync with the others; nothing is "
+             "measured of it before",
+}
+
+
+def explain_trace(rest, words):
+    """A trace that breaks a law, or has a gap."""
+    if rest.startswith("not covered "):
+        gap = rest.split()[2:]
+        if gap[0] == "link":
+            return [f"in double cycle {gap[3]} no common channel has `dev` rows of node {gap[2]} about node {gap[1]} "
+                    f"in both its cycles ({2 * int(gap[3])} and {2 * int(gap[3]) + 1})"]
+        return explain_gap(gap, words)
+    told = rest.split()
+    path, number = named("trace", words), int(told[1])
+    records = loaded(path)
+    if number > len(records):
+        return [beyond(path, number)]
+    record = records[number - 1]
+    found = [f"{path}:{record.line}: {short(record.text)}", LAWS.get(told[2], rest)]
+    if told[2] == "silent":
+        return found + [f"this record speaks of a node in state {told[3]}"]
+    if told[2] == "apart":
+        return found + [apart(record, int(told[3]))]
+    return found + [f"the record has {told[3]}, and the records before it ask for {' '.join(told[5:])}"]
+
+
+def apart(record, double):
+    cycles = f"double cycle {double} (cycles {2 * double} and {2 * double + 1})"
+    if record.fields[0] == "dev":
+        return f"the node of slot {record.fields[3]} has no row in cycle {record.fields[1]}, of {cycles}"
+    return (f"node {record.fields[2]} has its first row here, and in {cycles} the rows are not in sync: a start lies "
+            "further than pi from another, a length further than lambda, or a node is not active")
+
+
+def explain_check(number, left, right, words, way=False):
+    known = known_of(words)
+    parameters = {name: value for name, (value, _) in known.values.items()}
+    name = advise(number, right, parameters)[0]
+    formula = WAY_FORMULA.get(number, FORMULA[number]) if way else FORMULA[number]
+    return [f"C{number} fails: {left} against {right}", f"it asks: {formula}", f"with {LETTERS}",
+            *check_words(number, left, right, parameters, way)[1:], f"{name} stands on line {known.line(name)}"]
+
+
+def explain_sharp_check(name, number, left, right, words):
+    """A failing check of the sharper bounds, of a kind by its name, as `bound .. sharp FLUTTER`, also with `join`, and
+    `settle .. sharp FLUTTER` tell it."""
+    known, way = known_of(words), words[0] == "settle"
+    parameters = {name: value for name, (value, _) in known.values.items()}
+    kind = Kind(name == "beside", int(words[words.index("sharp", 2) + 1]), max(key for _, key, _ in known.keys()))
+    told = (sharp_way_words if way else sharp_check_words)(number, left, right, parameters, kind)
+    formula, letters = (SHARP_WAY_FORMULA, SHARP_WAY_LETTERS) if way else (SHARP_FORMULA, SHARP_LETTERS)
+    turned = TURNS[number]
+    return [f"it asks: {formula[number]}", f"with {letters}", *told[1:], f"{turned} stands on line {known.line(turned)}"]
+
+
+def explain_answer(text, words):
+    """What an accepted request's text says that needs explanation: failing checks, and the first gap."""
+    found = []
+    for line in text.splitlines():
+        sharp = re.fullmatch(r"(alone |beside |)(?:C([1-9]) fails|settles no check ([1-5])) (\d+) (\d+)", line)
+        if sharp and "sharp" in words[2:]:
+            numbers = int(sharp[2] or sharp[3]), int(sharp[4]), int(sharp[5])
+            told = explain_sharp_check(sharp[1].strip(), *numbers, words)
+            found += [line, *("  " + part for part in told)]
+            continue
+        check = re.fullmatch(r"(?:C([1-9]) fails|covered no check ([1-9])|settles no check ([1-5])) (\d+) (\d+)", line)
+        if check:
+            number = int(check[1] or check[2] or check[3])
+            told = explain_check(number, int(check[4]), int(check[5]), words, check[3] is not None)
+            found += [line, *("  " + part for part in told)]
+        elif line.startswith("covered no"):
+            found += [line, *("  " + told for told in explain_gap(line.split()[2:], words))]
+        elif line.startswith("fault ") and line != "fault none":
+            found += [line, "  behind this place no frame begins"]
+            path = file_of("capture", words)
+            if path and is_pcap(path):
+                found.append(f"  {path} is a pcap file, and flexray takes frames alone: `flexlab capture {path}`")
+    return found
+
+
+def is_pcap(path):
+    """Whether a file begins as pcap or pcapng files do."""
+    with open(path, "rb") as file:
+        return file.read(4) in (b"\xd4\xc3\xb2\xa1", b"\xa1\xb2\xc3\xd4", b"\x4d\x3c\xb2\xa1", b"\xa1\xb2\x3c\x4d",
+                                b"\x0a\x0d\x0d\x0a")
+
+
+def explain_gap(gap, words):
+    """A gap in words; files for flexray tell no nanoseconds, so a microtick of 25 ns is assumed, and said."""
+    parameters = {name: value for name, (value, _) in known_of(words).values.items()}
+    found = gap_words(gap, SimpleNamespace(parameters=parameters, microtick_ns=Fraction(25)))
+    return ["at a microtick of 25 ns:", *found] if gap[0] == "delay" else found
+
+
+def explain(words, line, given, as_json=False):
+    """Prints the explanation; runs flexray where no line is given."""
+    accepted, found = False, None
+    if line is None:
+        status, text, line = programs.call(programs.flexray(given), words)
+        accepted = status == 0
+        if accepted:
+            line, found = None, explain_answer(text, words)
+    if not accepted:
+        found = explain_line(line, words)
+    if as_json:
+        printed({"words": words, "accepted": accepted, "line": line, "told": found})
+    elif accepted:
+        print("\n".join(found or ["flexray accepted these files, and nothing in its answer needs explanation"]))
+    else:
+        print("\n".join([line, *found]))
+    return DONE if accepted else NO

@@ -1,0 +1,189 @@
+"""What machines read: a run as one JSON object, and what was required of it."""
+import json
+import re
+from fractions import Fraction
+
+from ..base.ending import DONE, UNMET, USAGE, Stop
+from .gaps import check_words, gap_words, sharp_check_words
+from .model import warnings
+from .page import ms_of_cycle
+from ..runs.sharp import ends_of, first_of, gap_of, is_within, kind_of, lost_of, skew_of
+from ..base.units import decimal, ppm_of, us_of_ticks
+from ..base.version import version
+from ..runs.ways import OlderChecks
+from ..runs.windows import exact, later, windows
+
+
+def printed(found):
+    """Prints an object, as all of them begin with the version."""
+    print(json.dumps({"version": version(), **found}, indent=1))
+
+
+def us(ticks, cluster):
+    return None if ticks is None else float(decimal(us_of_ticks(ticks, cluster.microtick_ns), 6))
+
+
+def ms(cycle, cluster):
+    return None if cycle is None else float(decimal(ms_of_cycle(cycle, cluster), 6))
+
+
+def skew_object(skew, cluster):
+    if not skew:
+        return None
+    ticks, cycle, macrotick = skew
+    return {"ticks": ticks, "us": us(ticks, cluster), "cycle": cycle, "macrotick": macrotick}
+
+
+def within(run):
+    """Whether the skew stayed within the precision since the first double cycle in sync; None where it is not known."""
+    return run.in_sync_skew[0] <= run.report.precision if run.in_sync_skew else None
+
+
+def checks_of(bounds, parameters):
+    return [{"check": f"C{number}", "holds": held, "left": left, "right": right,
+             **({} if held else {"told": check_words(number, left, right, parameters)})}
+            for number, held, left, right in bounds.checks]
+
+
+def sync_object(first, lost, cluster):
+    cycle = None if first is None else 2 * first
+    return {"double_cycle": first, "cycle": cycle, "ms": ms(cycle, cluster), "lost_in_double_cycle": lost}
+
+
+def sharp_object(run):
+    """The sharper side of a run."""
+    cluster, bounds, (known, gap) = run.cluster, run.sharp.bounds, gap_of(run)
+    kind, p = kind_of(cluster, run.sharp.flutter), cluster.parameters
+    is_check = gap is not None and gap[0] == "check"
+    return {"covered": gap is None if known else None, "gap": gap and " ".join(gap),
+            "gap_told": sharp_check_words(*map(int, gap[1:]), p, kind) if is_check else gap_words(gap, cluster) if gap else [],
+            "kind": bounds.kind,
+            "flutter": {"ticks": run.sharp.flutter, "us": us(run.sharp.flutter, cluster)},
+            "precision": {"ticks": bounds.precision, "us": us(bounds.precision, cluster)},
+            "in_sharp_sync": sync_object(first_of(run), lost_of(run), cluster),
+            "lasts_double_cycles": bounds.lasts, "proved_before_double_cycle": ends_of(run),
+            "skew": skew_object(skew_of(run), cluster), "within_precision": is_within(run),
+            "checks": [{"check": f"C{number}", "holds": held, "left": left, "right": right,
+                        **({} if held else {"told": sharp_check_words(number, left, right, p, kind)})}
+                       for number, held, left, right in bounds.checks]}
+
+
+def nodes_of(run):
+    found = []
+    for number, (state, after, rate, offset) in sorted(run.report.ends.items()):
+        first, last = run.cycles[run.first_row(number)][number].length, run.cycles[-1][number].length
+        found.append({"node": number, "state": state, "next_ticks": after, "rate": rate, "offset": offset,
+                      "microtick_ticks": last, "ppm_first": float(decimal(ppm_of(first), 3)),
+                      "ppm_last": float(decimal(ppm_of(last), 3))})
+    return found
+
+
+def window_object(one, cluster):
+    """The skew of a stretch of cycles."""
+    return {"first": one.first, "last": one.last, "what": one.what, "greatest_us": us(one.greatest, cluster),
+            "cycle": one.cycle, "within_99_percent_us": us(one.most, cluster), "mean_us": us(one.mean, cluster),
+            "settled": one.settled, "level_us": us(one.level, cluster)}
+
+
+def later_object(run):
+    found = later(run, run.begin)
+    return found and {**window_object(found, run.cluster), "of": "skew" if exact(run) else "starts"}
+
+
+def drawn_object(cluster):
+    return {name: float(decimal(value, 6)) for name, value in cluster.drawn.items()}
+
+
+def way_object(way, checks, cluster):
+    known, gap = checks.gap(way.run)
+    return {"first": way.first, "parameters": way.changed, "precision_us": us(way.bounds.precision, cluster),
+            "covered": gap is None if known else None, "skew_us": us(way.skew, cluster)}
+
+
+def ways_object(ways, cluster):
+    """The ways to checks that hold, the one with the least skew first, why there are none of others, and what the older bound
+    asks besides, where the sharper one is gone by."""
+    if not ways:
+        return None
+    return {"of": ways.checks.name.lower(), "from_cycle": ways.begin, "skew_now_us": us(ways.skew, cluster),
+            "ways": [{**way_object(way, ways.checks, cluster),
+                      **({"lasts_double_cycles": way.bounds.lasts} if hasattr(way.bounds, "lasts") else {})}
+                     for way in ways.held],
+            "refused": [why for why, _ in ways.refused],
+            "older": ways.older and way_object(ways.older, OlderChecks, cluster), "no_older": ways.no_older or None}
+
+
+def run_object(run):
+    """A run as an object: names and units stand in docs/FLEXLAB.md, "For machines"."""
+    cluster, report = run.cluster, run.report
+    return {
+        "file": cluster.path, "folder": run.folder,
+        "cluster": {"nodes": report.nodes, "sync_nodes": report.sync, "arbitrary": cluster.arbitrary,
+                    "double_cycles": report.doubles, "cycle_ms": ms(1, cluster),
+                    "microtick_ns": float(cluster.microtick_ns), "parameters": cluster.parameters},
+        "covered": report.gap is None, "gap": report.gap and " ".join(report.gap),
+        "gap_told": gap_words(report.gap, cluster) if report.gap else [],
+        "in_sync": {**sync_object(report.in_sync, run.lost, cluster), "at_end": run.at_end},
+        "precision": {"ticks": report.precision, "us": us(report.precision, cluster)},
+        "sharp": sharp_object(run),
+        "skew_in_sync": skew_object(run.in_sync_skew, cluster), "within_precision": within(run),
+        "greatest_skew": skew_object((report.skew, report.cycle, report.macrotick), cluster),
+        "checks": checks_of(run.bounds, cluster.parameters), "ways": ways_object(run.ways, cluster),
+        "later_skew": later_object(run),
+        "skew_of_cycles": [window_object(one, cluster) for one in windows(run, run.asked)], "drawn": drawn_object(cluster),
+        "sent": {channel: {"frames": count, "xor": total} for channel, (count, total) in sorted(report.sent.items())},
+        "heard": report.heard, "cut": report.cut, "nodes": nodes_of(run),
+        "joins": [{"node": node, "reference": reference, "double_cycle": double, "takes_part_from": run.first_row(node)}
+                  for node, (double, reference) in sorted(cluster.joins.items())],
+        "warnings": [*warnings(cluster), *cluster.notes],
+    }
+
+
+def wanted(text):
+    """What `--require` asks for: pairs of a name and, of `within`, microseconds."""
+    found = []
+    for part in filter(None, (text or "").split(",")):
+        span = re.fullmatch(r"within=(\d+(?:\.\d+)?)", part)
+        if part not in ("covered", "in-sync", "sharply-covered") and not span:
+            raise Stop(USAGE, f"--require {text}: {part} is none of covered, in-sync, within=USEC, sharply-covered")
+        found.append((part, Fraction(span[1]) if span else None))
+    return found
+
+
+def sharp_verdict(run):
+    """Why a run is not sharply covered, or is not proved to be to its end from the first double cycle in sharp sync on."""
+    known, gap = gap_of(run)
+    if not known or gap:
+        return "sharp covered no " + " ".join(gap) if known else "whether it is sharply covered is not known"
+    if first_of(run) is None:
+        return "never in sharp sync"
+    return None if ends_of(run) is None else f"what is proved ends before double cycle {ends_of(run)}"
+
+
+def verdicts(run, asked):
+    """Of each that is required whether it is met, and why not."""
+    report, cluster = run.report, run.cluster
+    found = {}
+    for name, limit in asked:
+        if name == "covered":
+            why = None if report.gap is None else "covered no " + " ".join(report.gap)
+        elif name == "sharply-covered":
+            why = sharp_verdict(run)
+        elif name == "in-sync":
+            why = None if run.at_end and run.lost is None and report.in_sync is not None else (
+                "never in sync" if report.in_sync is None else f"sync was lost in double cycle {run.lost}")
+        elif not run.in_sync_skew:
+            why = "the skew in sync is not known" if report.in_sync is not None else "never in sync"
+        else:
+            skew = us_of_ticks(run.in_sync_skew[0], cluster.microtick_ns)
+            why = None if skew <= limit else f"the skew in sync is {decimal(skew, 6)} us"
+        found[name] = why
+    return found
+
+
+def ended(run, asked, say):
+    """The status of a run of which something is required; what is not met is told by `say`."""
+    unmet = {name: why for name, why in verdicts(run, asked).items() if why}
+    for name, why in unmet.items():
+        say(f"{name}: {why}")
+    return UNMET if unmet else DONE

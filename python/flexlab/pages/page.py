@@ -1,0 +1,236 @@
+"""The page of a run: flexray's numbers in the units of a bench, and what they say."""
+from fractions import Fraction
+
+from .gaps import check_words, gap_words
+from .model import warnings
+from ..runs.sharp import ends_of, first_of, is_covered
+from .sharp_page import check_lines as sharp_check_lines
+from .sharp_page import sharp_lines
+from ..runs.sync import starts_apart
+from ..base.units import decimal, microseconds, percent, ppm_of, signed, us_of_ticks
+from ..runs.ways import older_lines, way_lines
+from ..runs.windows import MOST, exact, later, windows
+
+ORIGIN = ("Every number here is one that flexray printed, converted, divided or held against another. flexlab "
+          "computes no answer of its own.")
+
+
+def ms_of_cycle(cycle, cluster):
+    return Fraction(cycle) * cluster.parameters["pMicroPerCycle"] * cluster.microtick_ns / 1000000
+
+
+def field(name, *lines):
+    found, label = [], name
+    for line in lines:
+        room, words = 96 - 16, []
+        for word in line.split(" "):
+            if words and len(" ".join(words + [word])) > room:
+                found.append(f"{label:<16}" + " ".join(words))
+                label, words = "", []
+            words.append(word)
+        found.append(f"{label:<16}" + " ".join(words))
+        label = ""
+    return found
+
+
+def head_lines(run):
+    cluster, report = run.cluster, run.report
+    length = ms_of_cycle(1, cluster)
+    return field("Cluster", f"{report.nodes} nodes, {report.sync} sync nodes, {report.arbitrary} arbitrary; "
+                            f"{2 * report.doubles} cycles of {decimal(length, 3)} ms, "
+                            f"{decimal(ms_of_cycle(cluster.cycles, cluster), 3)} ms in all; a microtick is "
+                            f"{decimal(cluster.microtick_ns, 3).rstrip('0').rstrip('.')} ns"
+                 ) + drawn_lines(cluster)
+
+
+def drawn_lines(cluster):
+    """The numbers that were drawn, as the file would have them."""
+    if not cluster.drawn:
+        return []
+    told = ", ".join(f"{name} = {decimal(value, 6).rstrip('0').rstrip('.')}" for name, value in cluster.drawn.items())
+    return field("Drawn", told)
+
+
+def verdict_lines(run):
+    cluster, report = run.cluster, run.report
+    if report.in_sync is None:
+        found = field("In sync", "NEVER: no double cycle of the run is in sync")
+    else:
+        cycle = 2 * report.in_sync
+        begin = (f"from double cycle {report.in_sync} on (cycle {cycle}, "
+                 f"{decimal(ms_of_cycle(cycle, cluster), 3)} ms)")
+        if run.lost is None:
+            found = field("In sync", f"yes, {begin}, and still in sync at the end")
+        elif run.at_end:
+            found = field("In sync", f"NOT ALL THE WAY: first {begin}; lost in double cycle {run.lost} (cycle "
+                                     f"{2 * run.lost}), and in sync again at the end")
+        else:
+            found = field("In sync", f"NOT AT THE END: {begin} at first; lost in double cycle {run.lost} (cycle "
+                                     f"{2 * run.lost}, {decimal(ms_of_cycle(2 * run.lost, cluster), 3)} ms)")
+    if report.gap is None:
+        what = ("yes: while in sync no macroticks of correct nodes lie further apart than the precision; that is "
+                "proved of such runs" if report.in_sync is not None else
+                "yes; but what is proved begins with the first double cycle in sync, and there is none")
+        return found + field("Covered", what)
+    words = gap_words(report.gap, cluster) if report.gap[0] != "check" else [f"check C{report.gap[1]} fails, see below"]
+    if is_covered(run):
+        return found + field("Covered", "NO by the older bound; by the sharper one yes, as below", *words)
+    return found + field("Covered", "NO: nothing is promised of this run's precision", *words)
+
+
+def skew_lines(run):
+    cluster, report, unit = run.cluster, run.report, run.cluster.microtick_ns
+    microticks = decimal(Fraction(report.precision, 1000000), 3)
+    found = field("Precision", f"{microseconds(report.precision, unit)} ({microticks} microticks), computed from the "
+                               "parameters")
+    if run.in_sync_skew:
+        skew, cycle, macrotick = run.in_sync_skew
+        name, since = ("Skew in sync", "") if run.lost is None else ("Skew since", " since it was first in sync")
+        found += field(name, f"{microseconds(skew, unit)} at most{since}, {percent(skew, report.precision)} of the "
+                             f"precision (cycle {cycle}, macrotick {macrotick})")
+        found += within_lines(run, skew)
+    elif report.in_sync is not None:
+        apart = max(starts_apart(rows) for rows in run.cycles[2 * report.in_sync:])
+        found += field("Skew in sync", f"not known within cycles; starts of cycles lie {microseconds(apart, unit)} "
+                                       f"apart at most, {percent(apart, report.precision)} of the precision")
+    found += later_lines(run)
+    if run.cycles:
+        apart = max(starts_apart(rows) for rows in run.cycles[-2:])
+        precision, name = held_against(run, len(run.cycles) - 2)
+        found += field("At the end", f"starts of the last two cycles lie {microseconds(apart, unit)} apart at most, "
+                                     f"{percent(apart, precision)} of the {name}")
+    return found + field("Greatest skew", f"{microseconds(report.skew, unit)} over the whole run (cycle {report.cycle}, "
+                                          f"macrotick {report.macrotick}){early_words(run)}")
+
+
+def early_words(run):
+    """Against what the greatest skew of the run is not to be held, since it lies before."""
+    report = run.report
+    if report.in_sync is None:
+        return ": not in sync, so it is not to be held against the precision"
+    if report.cycle < 2 * report.in_sync:
+        return ": before sync, so it is not to be held against the precision"
+    if is_covered(run) and (first_of(run) is None or report.cycle < 2 * first_of(run)):
+        return ": before sharp sync, so it is not to be held against the sharp precision"
+    return ""
+
+
+def within_lines(run, skew):
+    """Whether the skew stayed within the precision since the first double cycle in sync."""
+    if skew <= run.report.precision:
+        return field("Within", "yes: since it was first in sync the skew was never above the precision")
+    place = ""
+    if run.series and run.series.within:
+        place = f", first in cycle {run.series.within[1]}, macrotick {run.series.within[2]}"
+    return field("Within", f"NO: since it was first in sync the skew was above the precision{place}")
+
+
+def held_against(run, cycle):
+    """What the skew of cycles from this one on is held against: the sharper precision where that is proved of them."""
+    if is_covered(run) and first_of(run) is not None and cycle >= 2 * first_of(run) and ends_of(run) is None:
+        return run.sharp.bounds.precision, "sharp precision"
+    return run.report.precision, "precision"
+
+
+def later_lines(run):
+    """The skew behind the transient: from where it has settled on, or from the cycle that was asked for."""
+    found, unit = later(run, run.begin), run.cluster.microtick_ns
+    if found is None:
+        return []
+    why = "where it has settled" if run.begin is None else "as asked"
+    precision, name = held_against(run, found.first)
+    return field("Later skew" if exact(run) else "Later starts",
+                 f"from cycle {found.first} on ({decimal(ms_of_cycle(found.first, run.cluster), 3)} ms), {why}: "
+                 f"{microseconds(found.greatest, unit)} at most (cycle {found.cycle}), "
+                 f"{percent(found.greatest, precision)} of the {name}; 99 % of cycles within "
+                 f"{microseconds(found.most, unit)}, the mean is {microseconds(found.mean, unit)}")
+
+
+def window_lines(run):
+    """The skew by stretches of cycles."""
+    found, unit = windows(run, run.asked), run.cluster.microtick_ns
+    if not found:
+        return []
+    lines = ["", f"{'skew of cycles' if exact(run) else 'starts of cycles':<18}{'greatest':>10}{'in cycle':>10}"
+                 f"{'99 %':>9}{'mean':>9}{'settled':>9}{'within':>9}"]
+    for one in found[:MOST]:
+        numbers = [decimal(us_of_ticks(value, unit), 3) for value in (one.greatest, one.most, one.mean, one.level)]
+        lines.append((f"{f'{one.first}-{one.last}':<18}{numbers[0]:>10}{one.cycle:>10}{numbers[1]:>9}{numbers[2]:>9}"
+                      f"{one.settled:>9}{numbers[3]:>9}  {one.what}").rstrip())
+    if len(found) > MOST:
+        lines.append(f".. and {len(found) - MOST} more")
+    return lines + ["", *field("", "in us. settled: the cycle from which on the skew stays within its later level, the "
+                                   "greatest of the second half of these cycles.")]
+
+
+def check_lines(run):
+    """The sharper checks, and the older ones, which the promise of a run that nodes join may rest on."""
+    if not run.cluster.joins:
+        return sharp_check_lines(run, field) + older_lines(run, field)
+    found = []
+    for number, _, left, right in run.bounds.failing:
+        words = check_words(number, left, right, run.cluster.parameters)
+        found += field("" if found else "Older checks", *words)
+    if not found:
+        count = len(run.bounds.checks)
+        tight = max(run.bounds.checks, key=lambda check: Fraction(check[3], check[2]) if check[2] else 0)
+        found = field("Older checks", f"C1 to C{count} hold; C{tight[0]} is the tightest, used to "
+                                      f"{percent(tight[3], tight[2])}")
+    return sharp_check_lines(run, field) + found
+
+
+def node_lines(run):
+    parameters = run.cluster.parameters
+    found = ["", f"{'node':>4} {'state':<8}{'ppm at first':>14}{'ppm at last':>13}{'microtick':>11}"
+                 f"{'rate':>7}{'offset':>8}"]
+    for node, (state, _, rate, offset) in sorted(run.report.ends.items()):
+        first, last = run.cycles[run.first_row(node)][node].length, run.cycles[-1][node].length
+        found.append(f"{node:>4} {state:<8}{signed(ppm_of(first), 2):>14}{signed(ppm_of(last), 2):>13}"
+                     f"{last:>11}{rate:>7}{offset:>8}")
+    for node in run.cluster.arbitrary:
+        found.append(f"{node:>4} arbitrary: it says what the script has it say, and has no clock")
+    for node, (double, reference) in sorted(run.cluster.joins.items()):
+        found.append(f"{node:>4} joins: it listens to node {reference} in double cycle {double}, and "
+                     + joined_words(run.first_row(node), run.cluster))
+    limits = f"limits {parameters['pRateCorrectionOut']} and {parameters['pOffsetCorrectionOut']}"
+    return found + ["", *field("", "ppm: of the frequency, read back from the trace; above 0 the oscillator is "
+                                   "fast and its microtick shorter than 1,000,000 ticks. A tick is about 1 ppm, and "
+                                   "flexray has whole ones.",
+                               f"rate, offset: the correction terms at the end, in microticks ({limits}); above 0 they "
+                               "lengthen the cycle.")]
+
+
+def joined_words(cycle, cluster):
+    if cycle is None:
+        return "takes no part in this run"
+    return f"takes part from cycle {cycle} on ({decimal(ms_of_cycle(cycle, cluster), 3)} ms)"
+
+
+def frame_lines(run):
+    report = run.report
+    bad = {name: count for name, count in report.heard.items() if name not in ("stored", "plain") and count}
+    sent = ", ".join(f"{count} sent on {channel}" for channel, (count, _) in sorted(report.sent.items()))
+    found = field("Frames", sent + f"; {report.heard['stored']} sync frames measured"
+                  + ("".join(f", {count} {name}" for name, count in bad.items()) or ", none refused"))
+    if report.cut:
+        found += field("Cut", f"correction terms outside their limit: {report.cut}")
+    return found
+
+
+def page(run):
+    found = head_lines(run) + verdict_lines(run) + sharp_lines(run, field, ms_of_cycle) + skew_lines(run) + check_lines(run)
+    if run.ways:
+        found += way_lines(run.ways, run.cluster, field)
+    found += frame_lines(run)
+    found += window_lines(run) + node_lines(run)
+    for line in [*warnings(run.cluster), *run.cluster.notes]:
+        found += field("WARNING", line)
+    if not run.series:
+        found += field("Not installed", "flexray-series, which prints the skew of each cycle (in the repository "
+                                        "`./flexray-series` builds it); without it the picture has how far the starts "
+                                        "of cycles lie apart")
+    begin = "nodes run from cycle 0 or join" if run.cluster.joins else "all nodes run from cycle 0"
+    found += field("Left out", f"the dynamic segment, the duration of frames, wakeup and startup: {begin}, with one "
+                               "set of parameters")
+    found += field("Origin", ORIGIN)
+    return "\n".join(found) + "\n"

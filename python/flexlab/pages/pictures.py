@@ -1,0 +1,217 @@
+"""Pictures of a run by gnuplot: the skew over time beside the precision, and each node's terms."""
+import os
+from fractions import Fraction
+
+from ..program import calls as programs
+from ..base.ending import FILE, PROGRAM, Stop
+from .page import ms_of_cycle
+from ..runs.sharp import ends_of, first_of, is_covered, skew_of
+from ..runs.sync import starts_apart
+from ..base.units import decimal, us_of_ticks
+from ..runs.windows import changes, later, named
+
+COLOURS = ("#0072b2", "#d55e00", "#009e73", "#cc79a7", "#e69f00", "#56b4e9", "#7f3f00", "#555555")
+POINTS = 1500
+KEY = "set bmargin 6\nset key at screen 0.5, 0.02 bottom center vertical maxrows 2 Left reverse samplen 2 width 2"
+UPPER = ("set tmargin 5\nset bmargin 6\nset key at screen 0.5, 0.475 bottom center vertical maxrows 2 Left reverse samplen 2 "
+         "width 2")
+
+
+def thinned(rows):
+    """At most so many rows of (cycle, value): of each stretch of cycles the greatest value is kept."""
+    width = -(-len(rows) // POINTS)
+    return [max(rows[at:at + width], key=lambda row: row[1]) for at in range(0, len(rows), width)]
+
+
+def quoted(text):
+    return '"' + text.replace("\\", "\\\\").replace('"', '\\"').replace("_", "\\\\_") + '"'
+
+
+def draw(folder, name, script, size="1000,560"):
+    """Runs gnuplot twice, for SVG and for PNG, on a script that is kept beside them."""
+    gnuplot, drawn = programs.helper("gnuplot"), []
+    path = os.path.join(folder, f"{name}.gnuplot")
+    width, height = size.split(",")
+    head = {"svg": f'set terminal svg size {size} dynamic background "white" font "DejaVu Sans,13"',
+            "png": f'set terminal pngcairo size {width},{height} background "white" font "DejaVu Sans,11"'}
+    try:
+        for kind, terminal in head.items():
+            drawn.append(os.path.join(folder, f"{name}.{kind}"))
+            with open(path, "w", encoding="utf-8") as file:
+                file.write(f"{terminal}\nset output {quoted_path(drawn[-1])}\n{script}")
+            status, _, told = programs.call(gnuplot, [path])
+            if status != 0 or not os.path.getsize(drawn[-1]):
+                raise Stop(PROGRAM, f"gnuplot {path} ended with status {status}: {told}")
+    except OSError as fault:
+        raise Stop(FILE, f"{fault.filename}: {fault.strerror}")
+    return drawn
+
+
+def quoted_path(path):
+    return "'" + path.replace("'", "''") + "'"
+
+
+def skew_rows(run):
+    """(cycle, microseconds) of each cycle, and what they are."""
+    unit = run.cluster.microtick_ns
+    if run.series and run.series.rows:
+        return ([(cycle, us_of_ticks(skew, unit)) for cycle, _, skew, _ in run.series.rows if skew is not None],
+                "greatest skew of the cycle")
+    return ([(cycle, us_of_ticks(starts_apart(rows), unit)) for cycle, rows in enumerate(run.cycles)],
+            "how far the starts of the cycle lie apart")
+
+
+def plain_axes():
+    return ("set border 3 linecolor '#555555'\nset tics nomirror textcolor '#333333'\n"
+            "set grid ytics linecolor '#e3e3e3' linetype 1\nset key textcolor '#333333'\n")
+
+
+def precisions(run):
+    """(name, microseconds, first and last cycle, colour) of the lines that the skew is held against: the older bound where that
+    is proved of the run or nothing is, and the sharper one where it is, from sharp sync on."""
+    unit, first, last = run.cluster.microtick_ns, sharp_cycle(run), len(run.cycles)
+    found = []
+    if first is not None:
+        end = last if ends_of(run) is None else 2 * ends_of(run)
+        found.append(("sharp precision", us_of_ticks(run.sharp.bounds.precision, unit), (first, end), "#009e73"))
+    if run.report.gap is None or first is None:
+        found.append(("precision", us_of_ticks(run.report.precision, unit), (0, last), "#b00020"))
+    return found
+
+
+def sharp_cycle(run):
+    """The first cycle in sharp sync of a run of which the sharper precision is proved, or None."""
+    first = first_of(run) if is_covered(run) else None
+    return None if first is None else 2 * first
+
+
+def marks(run):
+    """(first cycle, what is so from it on, the dot as (skew, cycle, macrotick), what it is in): sharp sync where the sharper
+    precision alone is drawn, else sync."""
+    if sharp_cycle(run) is not None and run.report.gap is not None:
+        return sharp_cycle(run), "in sharp sync", skew_of(run), "in sharp sync"
+    first = None if run.report.in_sync is None else 2 * run.report.in_sync
+    return first, "in sync", run.in_sync_skew, "in sync" if run.lost is None else "since sync"
+
+
+def skew_script(run):
+    """Two panels over the same cycles: the skew beside the precision, and in the scale of what it is later."""
+    report, unit = run.report, run.cluster.microtick_ns
+    rows, what = skew_rows(run)
+    bounds = precisions(run)
+    precision = max(value for _, value, _, _ in bounds)
+    most, last = max([row[1] for row in rows] + [us_of_ticks(report.skew, unit)]), len(run.cycles)
+    top = max(most, precision) * 115 / 100
+    wide = most > 20 * precision
+    lines = [f"$skew << end\n" + "".join(f"{cycle} {decimal(value, 6)}\n" for cycle, value in thinned(rows)) + "end",
+             plain_axes() + "set multiplot layout 2,1 title "
+             f"{quoted('Clock skew of ' + os.path.basename(run.cluster.path))} font ',14'",
+             "set xlabel 'cycle'", f"set ylabel 'microseconds{', a logarithmic scale' if wide else ''}'",
+             f"set xrange [0:{last}]\nset x2range [0:{decimal(ms_of_cycle(last, run.cluster), 3)}]",
+             "set x2tics nomirror\nset x2label 'milliseconds'\nset border 7\nset lmargin 9",
+             "set logscale y" if wide else f"set yrange [0:{decimal(top, 6)}]",
+             UPPER]
+    first, what_begins, dot, name = marks(run)
+    if first is not None:
+        lines += [f"set object 1 rectangle from graph 0, graph 0 to first {first}, graph 1 fillcolor '#f3e9d8' "
+                  "fillstyle solid noborder behind" if first else "",
+                  f"set arrow 1 from {first}, graph 0 to {first}, graph 1 nohead linecolor '#a67c2d' dashtype 3",
+                  f"set label 1 '{what_begins} from cycle {first}' at {first}, graph 0.93 offset 0.8,0 "
+                  "textcolor '#8a6420'"]
+    else:
+        lines.append("set label 1 'never in sync' at graph 0.02, graph 0.93 textcolor '#b00020'")
+    if run.lost is not None:
+        lost = 2 * run.lost
+        lines += [f"set arrow 2 from {lost}, graph 0 to {lost}, graph 1 nohead linecolor '#b00020' dashtype 3",
+                  f"set label 2 'sync lost in cycle {lost}' at {lost}, graph 0.86 offset 0.8,0 textcolor '#b00020'"]
+    lines += join_lines(run)
+    lines += [f"$bound{at} << end\n" + "".join(f"{cycle} {decimal(value, 6)}\n" for cycle in span) + "end"
+              for at, (_, value, span, _) in enumerate(bounds)]
+    plots = [*(f"$bound{at} using 1:2 title '{name}, {decimal(value, 3)} us' with lines linewidth 2 linecolor '{colour}'"
+               for at, (name, value, _, colour) in enumerate(bounds)),
+             f"$skew using 1:2 title '{what}' with lines linewidth 1.5 linecolor '#0072b2'"]
+    if dot:
+        skew, cycle, _ = dot
+        value = us_of_ticks(skew, unit)
+        lines.append(f"$point << end\n{cycle} {decimal(value, 6)}\nend")
+        plots.append(f"$point using 1:2 title 'greatest skew {name}, {decimal(value, 3)} us in cycle {cycle}' "
+                     "with points pointtype 7 pointsize 1.1 linecolor '#d55e00'")
+    return ("\n".join(lines) + "\nplot " + ", \\\n     ".join(plots) + "\n" + near_panel(run) + "unset multiplot\n")
+
+
+def near_panel(run):
+    """The panel in the scale of the later skew, with the stretches in which oscillators change."""
+    found, unit = later(run, run.begin), run.cluster.microtick_ns
+    if found is None:
+        return ""
+    top = max(us_of_ticks(found.greatest, unit), Fraction(1, 1000)) * 140 / 100
+    lines = ["unset logscale y", f"set yrange [0:{decimal(top, 6)}]", "unset x2label", "set tmargin 2", "set bmargin 5",
+             "set ylabel 'microseconds, magnified'", "unset label", "unset object 1"]
+    changing, _ = changes(run)
+    for at, (first, end, nodes) in enumerate(changing[:8]):
+        lines += [f"set object {20 + at} rectangle from {first}, graph 0 to {end + 1}, graph 1 fillcolor '#e3eef7' "
+                  "fillstyle solid noborder behind",
+                  f"set label {20 + at} '{named(nodes)} change{'s' if len(nodes) == 1 else ''}' at {first}, graph 0.93 "
+                  "offset 0.5,0 textcolor '#3b6ea5'"]
+    data = [(found.greatest, "greatest", "'#d55e00' dashtype 2"), (found.mean, "mean", "'#777777' dashtype 3")]
+    plots = ["$skew using 1:2 notitle with lines linewidth 1.5 linecolor '#0072b2'"]
+    plots += [f"[{found.first}:{found.last + 1}] {decimal(us_of_ticks(value, unit), 6)} title '{name} from cycle "
+              f"{found.first} on, {decimal(us_of_ticks(value, unit), 3)} us' with lines linewidth 1.2 linecolor {style}"
+              for value, name, style in data]
+    return "\n".join(lines) + "\nset key at screen 0.5, 0.01 bottom center maxrows 1\nplot " + ", \\\n     ".join(
+        plots) + "\n"
+
+
+def join_lines(run):
+    """Where nodes that join begin to take part: a node that listens or follows has no row."""
+    found = []
+    for at, (cycle, nodes) in enumerate(sorted(begun(run).items())):
+        named = ("node " if len(nodes) == 1 else "nodes ") + ", ".join(map(str, nodes))
+        height = f"graph {decimal(Fraction(84 - 6 * (at % 4), 100), 2)}"
+        found += [f"set arrow {10 + at} from {cycle}, graph 0 to {cycle}, graph 1 nohead linecolor '#009e73' "
+                  "dashtype 3",
+                  f"set label {10 + at} '{named} from cycle {cycle}' at {cycle}, {height} offset 0.8,0 "
+                  "textcolor '#00694d'"]
+    return found
+
+
+def begun(run):
+    """The nodes that joined, by the cycle from which on they have rows."""
+    found = {}
+    for node in sorted(run.cluster.joins):
+        cycle = run.first_row(node)
+        if cycle is not None:
+            found.setdefault(cycle, []).append(node)
+    return found
+
+
+def terms_script(run):
+    nodes = sorted(run.report.ends)
+    parameters, lines = run.cluster.parameters, []
+    step = 2 * -(-len(run.cycles) // (2 * POINTS))
+    for node in nodes:
+        told = [cycle for cycle in range(0, len(run.cycles) - 1, step) if node in run.cycles[cycle]]
+        data = "".join(f"{cycle} {run.cycles[cycle][node].rate} {run.cycles[cycle + 1][node].offset}\n"
+                       for cycle in told or [run.first_row(node)])
+        lines.append(f"$node{node} << end\n{data}end")
+    lines.append(plain_axes() + f"set multiplot layout 2,1 title "
+                 f"{quoted('Correction terms of ' + os.path.basename(run.cluster.path))} font ',14'")
+    lines.append(f"set xrange [0:{len(run.cycles)}]\nset lmargin 10\nset rmargin 14\n"
+                 "set key outside right top Left reverse samplen 2")
+    for column, name, limit in ((2, "rate term", "pRateCorrectionOut"), (3, "offset term", "pOffsetCorrectionOut")):
+        lines += [f"set ylabel '{name}, microticks'",
+                  "set xlabel 'cycle'" if column == 3 else "unset xlabel",
+                  f"set label 3 '{limit}: {parameters[limit]}' at graph 0.99, graph 0.94 right textcolor '#777777'",
+                  "plot " + ", \\\n     ".join(
+                      f"$node{node} using 1:{column} title 'node {node}' with steps linewidth 1.6 linecolor "
+                      f"'{COLOURS[at % len(COLOURS)]}' dashtype {1 + at // len(COLOURS)}"
+                      for at, node in enumerate(nodes))]
+    return "\n".join(lines) + "\nunset multiplot\n"
+
+
+def draw_run(run):
+    """Draws both pictures into the run's folder, and hands back their paths."""
+    if not run.cycles:
+        return []
+    return (draw(run.folder, "skew", skew_script(run), "1000,860")
+            + draw(run.folder, "terms", terms_script(run), "1000,720"))

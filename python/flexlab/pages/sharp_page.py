@@ -1,0 +1,107 @@
+"""The lines of a page that tell of the sharper bounds: how far the clocks of this run lie apart where delays flutter little."""
+from fractions import Fraction
+
+from .gaps import gap_words, sharp_check_words
+from ..runs.least import least_sharp_damping
+from ..runs.sharp import ends_of, first_of, gap_of, is_covered, is_within, kind_of, lost_of, skew_of
+from ..base.units import decimal, lasting, microseconds, percent
+
+KINDS = {"alone": "without arbitrary nodes", "beside": "beside arbitrary nodes"}
+
+
+def kind_words(sharp, unit):
+    return f"{KINDS[sharp.bounds.kind]}, for delays that flutter by {microseconds(sharp.bounds.flutter, unit)}"
+
+
+def covered_words(run):
+    """Sentences on whether the run is sharply covered."""
+    known, gap = gap_of(run)
+    if not known:
+        return ["not known: a check of the older bound fails, and what else is asked flexray-series tells, which is not "
+                "installed"]
+    if gap is None:
+        never = first_of(run) is None
+        return ["yes; but what is proved begins with the first double cycle in sharp sync, and there is none" if never else
+                "yes: in sharp sync no macroticks of correct nodes lie further apart than the sharp precision; that is proved "
+                "of such runs"]
+    words = gap_words(gap, run.cluster) if gap[0] != "check" else [f"check C{gap[1]} fails, see below"]
+    return ["NO: nothing is promised of this run's sharp precision", *words]
+
+
+def sync_words(run, ms_of_cycle):
+    first, lost, cluster = first_of(run), lost_of(run), run.cluster
+    if first is None:
+        return "NEVER: no double cycle of the run is in sharp sync"
+
+    def place(double):
+        return f"cycle {2 * double}, {decimal(ms_of_cycle(2 * double, cluster), 3)} ms"
+
+    if lost is None:
+        return f"yes, from double cycle {first} on ({place(first)}), and still so at the end"
+    # As long as the walk lasts, lengths may leave their range; nothing else of sharp sync is lost.
+    if is_covered(run) and lost < (run.report.doubles if ends_of(run) is None else ends_of(run)):
+        return (f"yes, from double cycle {first} on ({place(first)}), but for lengths that leave their range from double cycle "
+                f"{lost} on ({place(lost)})")
+    return f"NOT ALL THE WAY: from double cycle {first} on ({place(first)}) at first; lost in double cycle {lost} ({place(lost)})"
+
+
+def lasting_words(run, ms_of_cycle):
+    """For how long what is proved holds, where the first check fails; None where it is to the end of the run. Where nodes join it
+    is so as long as the rate limit suffices for first rates too."""
+    lasts, end = run.sharp.bounds.lasts, ends_of(run)
+    if lasts is None or not is_covered(run) or first_of(run) is None:
+        return None
+    if not lasts:
+        return "NOT PROVED: C1 fails, and the rate limit holds the walk of all rates for no double cycle"
+    told = (f"{lasts} double cycles from there ({lasting(ms_of_cycle(2 * lasts, run.cluster))}), since C1 fails and the "
+            "rates of all may walk together")
+    if end is None:
+        return f"proved of {told}: to the end of this run"
+    return f"PROVED IN PART, of {told}: not from cycle {2 * end} on"
+
+
+def skew_lines(run, field):
+    """How far clocks lay apart since they were first in sharp sync."""
+    skew, sharp, unit = skew_of(run), run.sharp, run.cluster.microtick_ns
+    if skew is None:
+        return [] if first_of(run) is None else field("Sharp skew", "not known: flexray-series tells it, which is not installed")
+    found = field("Sharp skew", f"{microseconds(skew[0], unit)} at most since it was first in sharp sync, "
+                                f"{percent(skew[0], sharp.bounds.precision)} of the sharp precision (cycle {skew[1]}, macrotick "
+                                f"{skew[2]})")
+    if is_within(run):
+        return found + field("Sharply within", "yes: since then the skew was never above the sharp precision")
+    place = ""
+    if sharp.told and sharp.told.within:
+        place = f", first in cycle {sharp.told.within[1]}, macrotick {sharp.told.within[2]}"
+    return found + field("Sharply within", f"NO: since then the skew was above the sharp precision{place}")
+
+
+def sharp_lines(run, field, ms_of_cycle):
+    """The lines of the page."""
+    found = field("Sharply covered", *covered_words(run))
+    bounds, unit = run.sharp.bounds, run.cluster.microtick_ns
+    proved = lasting_words(run, ms_of_cycle)
+    found += field("In sharp sync", sync_words(run, ms_of_cycle), *([proved] if proved else []))
+    found += field("Sharp precision", f"{microseconds(bounds.precision, unit)} ({decimal(Fraction(bounds.precision, 1000000), 3)} "
+                                      f"microticks), {kind_words(run.sharp, unit)}")
+    return found + skew_lines(run, field)
+
+
+def check_lines(run, field):
+    """The sharper checks: those that fail, or which is the tightest."""
+    bounds, p = run.sharp.bounds, run.cluster.parameters
+    kind, found = kind_of(run.cluster, run.sharp.flutter), []
+    for number, _, left, right in bounds.failing:
+        words = sharp_check_words(number, left, right, p, kind)
+        if number == 1:
+            words.append(f"without that the sharp precision is proved of {bounds.lasts or 'no'} double cycles from the first in "
+                         "sharp sync on")
+        found += field("" if found else "Checks", *words)
+    if found:
+        return found
+    tight = max(bounds.checks, key=lambda check: Fraction(check[3], check[2]) if check[2] else 0)
+    count = len(bounds.checks)
+    own, least = p["pClusterDriftDamping"], least_sharp_damping(p, kind)
+    less = f"; a damping of {least} would suffice" if least < own else ""
+    return field("Checks", f"C1 to C{count} hold, those of the sharp precision; C{tight[0]} is the tightest, used to "
+                           f"{percent(tight[3], tight[2])}{less}")

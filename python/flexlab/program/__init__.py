@@ -1,0 +1,1 @@
+"""Calling flexray, its files and what it prints."""

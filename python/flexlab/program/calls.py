@@ -1,0 +1,147 @@
+"""Finding and calling other programs: flexray, and those of Debian's packages. Where the Python package of flexray is there, a
+call of flexray is one of its library in this process."""
+import functools
+import importlib
+import os
+import shutil
+import subprocess
+import sys
+
+from ..base.ending import MISSING, PROGRAM, Stop
+from ..base.version import version
+
+PACKAGES = {"gnuplot": "gnuplot-nox", "parallel": "parallel", "tshark": "tshark"}
+HERE = os.path.dirname(os.path.realpath(__file__))
+
+
+def flexray(given=None):
+    """The program: as given, of the variable FLEXRAY, of this repository, or on the path."""
+    for path, whence in ((given, "--flexray"), (os.environ.get("FLEXRAY"), "the variable FLEXRAY")):
+        if path:
+            if not os.access(path, os.X_OK) or os.path.isdir(path):
+                raise Stop(MISSING, f"{path}, which {whence} names, is no program that can be run")
+            return os.path.abspath(path)
+    found = own_program()
+    if found:
+        return found
+    raise Stop(MISSING, "flexray: not built yet, and not on the path; at the top of the repository `./flexray bound "
+                        "examples/reference/params.csv` builds it, or name it by --flexray")
+
+
+def own_program():
+    """The program of this repository, or the one on the path."""
+    built = os.path.join(HERE, "..", "..", "..", "crates", "flexray_cli", "out", "flexray_cli")
+    return os.path.realpath(built) if os.access(built, os.X_OK) else shutil.which("flexray")
+
+
+def series(program):
+    """The second program, flexray-series, where it is installed beside the first or on the path.
+
+    The variable FLEXRAY_SERIES names another one; where it is empty none is taken.
+    """
+    beside, given = os.path.dirname(os.path.realpath(program)), os.environ.get("FLEXRAY_SERIES")
+    if given == "":
+        return None
+    if given and os.access(given, os.X_OK) and not os.path.isdir(given):
+        return os.path.realpath(given)
+    for path in (os.path.join(beside, "flexray-series"), shutil.which("flexray-series"),
+                 os.path.join(beside, "..", "..", "flexray_series_cli", "out", "flexray_series_cli")):
+        if path and os.access(path, os.X_OK) and not is_script(path):
+            return os.path.realpath(path)
+    return None
+
+
+def is_script(path):
+    """The launcher of a repository is one: it would build the program first, which takes long."""
+    with open(path, "rb") as file:
+        return file.read(2) == b"#!"
+
+
+def helper(name):
+    """A program of a Debian package, or the end of flexlab with the package's name."""
+    found = shutil.which(name)
+    if not found:
+        raise Stop(MISSING, f"{name} is missing: install the Debian package {PACKAGES[name]} "
+                            f"(apt-get install {PACKAGES[name]})")
+    return found
+
+
+# Which words of a request are files, by their places.
+FILES = {"frame": [2], "bound": [1], "upgrade": [1], "settle": [1], "nm": [2], "run": [1, 2, 3], "trace": [1, 2, 3],
+         "check": [1, 2], "observe": [1, 2], "cold": [1, 2], "capture": [2], "make": []}
+NAMES = ("first", "second", "third")
+
+
+@functools.lru_cache
+def package():
+    """The Python package of flexray, or None where it or its library is not there or is of another version. Where the variable
+    FLEXLAB_LIBRARY is `no` it is not taken."""
+    if os.environ.get("FLEXLAB_LIBRARY") == "no":
+        return None
+    place = os.path.realpath(os.path.join(HERE, "..", ".."))
+    if os.path.isdir(place) and place not in sys.path:
+        sys.path.append(place)
+    try:
+        found = importlib.import_module("flexray")
+        return found if found.version() == version() else None
+    except ImportError:
+        return None
+
+
+@functools.lru_cache
+def by_library(program):
+    """The function of the package that answers as this program does: where it is the one that flexlab finds by itself, or
+    flexray-series beside it, and is not newer than the library. None where a call has to be one of the program."""
+    own = own_program()
+    if not own or not package():
+        return None
+    if os.path.realpath(program) == os.path.realpath(own):
+        request = package().request
+    elif not os.environ.get("FLEXRAY_SERIES") and program == series(own):
+        request = package().series_request
+    else:
+        return None
+    library = package().library.path()
+    is_older = os.path.exists(library) and os.path.getmtime(library) < os.path.getmtime(program)
+    return None if is_older else request
+
+
+def answered(program, words):
+    """(status, text, line) of a call of the library in place of the program; None where only the program can answer."""
+    request = by_library(program)
+    if request is None:
+        return None
+    places = [0, 1, 2] if request == package().series_request else FILES.get(words[0] if words else "")
+    if places is None or len(words) <= max(places, default=0) or any("\n" in word for word in words):
+        return None
+    spelt, files = list(words), []
+    for name, place in zip(NAMES, places):
+        # A file that cannot be read, and one that is none, are the program's to tell.
+        if not os.path.isfile(words[place]):
+            return None
+        try:
+            with open(words[place], "rb") as file:
+                files.append(file.read(package().library.MOST + 1))
+        except OSError:
+            return None
+        spelt[place] = name
+    found = request(spelt, *files)
+    return found.status, found.text, found.line
+
+
+def call(program, words, out=None):
+    """Calls a program: its status, what it printed (or wrote to the file `out`), and its last line on err."""
+    found = answered(program, words)
+    if found is not None:
+        status, text, told = found
+        if out:
+            out.write(text.encode("utf-8"))
+        return status, "" if out else text, told
+    try:
+        ended = subprocess.run([program, *words], stdin=subprocess.DEVNULL, stderr=subprocess.PIPE,
+                               stdout=out or subprocess.PIPE, check=False)
+    except OSError as fault:
+        raise Stop(PROGRAM, f"{program}: {fault.strerror}")
+    text = "" if out else ended.stdout.decode("utf-8", "replace")
+    told = ended.stderr.decode("utf-8", "replace").strip().splitlines()
+    return ended.returncode, text, told[-1] if told else ""

@@ -1,0 +1,1 @@
+"""Runs of a cluster, and what is computed of them."""

@@ -1,0 +1,209 @@
+"""The least values of parameters with which all checks hold, found by the formulas of docs/PRECISION.md; that they
+hold is asked of flexray bound before anything is said of them."""
+from dataclasses import dataclass
+from fractions import Fraction
+
+from ..base import ranges
+from ..pages.advice import TURNS, latest_start, up
+
+TICKS = 1000000
+FITTED = ("xRateBound", "xChangeBound", "xDelayError", "pRateCorrectionOut", "pClusterDriftDamping", "pOffsetCorrectionOut",
+          "gdActionPointOffset", "gdStaticSlot")
+
+
+@dataclass(frozen=True)
+class Kind:
+    """Of which sharper bounds: beside arbitrary sync nodes or without, by how many ticks delays flutter at most, and the
+    last key slot."""
+    beside: bool
+    flutter: int
+    last: int
+
+    @property
+    def name(self):
+        return "beside" if self.beside else "alone"
+
+
+def common_of(p):
+    """What all bounds are made of: the longest and the shortest microtick, the error of an arrival, and by how much a cycle
+    changes."""
+    wait = compensation(p)
+    return (TICKS + p["xRateBound"], TICKS - p["xRateBound"], p["xDelayError"] + wait * p["xRateBound"],
+            (p["pMicroPerCycle"] + p["pRateCorrectionOut"]) * p["xChangeBound"])
+
+
+def compensation(p):
+    """The greater compensation of both channels."""
+    both = [p[name] for name in ("pDelayCompensation", "pDelayCompensationA", "pDelayCompensationB") if name in p]
+    return max(both)
+
+
+def slot_sides(p, first, apart):
+    """Both sides of a check of the offset limit, and of the two of slots behind it, for clocks so far apart."""
+    longest, shortest, error, _ = common_of(p)
+    macros, left = p["gMacroPerCycle"], p["pMicroPerCycle"] - p["pRateCorrectionOut"]
+    point, rest = p["gdActionPointOffset"], p["gdStaticSlot"] - p["gdActionPointOffset"]
+    return {first: (p["pOffsetCorrectionOut"] * shortest, apart + error + longest),
+            first + 1: ((point * left - macros) * shortest, macros * (apart + p["xDelayError"])),
+            first + 2: ((rest * left - macros) * shortest,
+                        macros * (apart + compensation(p) * TICKS + p["xDelayError"]))}
+
+
+def bounds_of(p, join=False):
+    """The bounds of a cluster and both sides of its checks, as `flexray bound` prints them."""
+    longest, shortest, error, change = common_of(p)
+    damping, most = p["pClusterDriftDamping"], p["pRateCorrectionOut"]
+    y1 = 2 * error + 2 * longest + 3 * change
+    lengths = 4 * y1 + 2 * longest + 4 * damping * longest + 8 * change
+    starts = 6 * lengths + 4 * error + 8 * longest
+    found = {"y1": y1, "lambda": lengths, "pi": starts, "precision": starts + 2 * lengths + 2 * longest}
+    drift = 2 * p["pMicroPerCycle"] * p["xRateBound"]
+    found[1] = damping * shortest, y1 + 2 * change
+    found[2] = most * shortest, drift
+    found.update(slot_sides(p, 3, found["precision"]))
+    if join:
+        follower = y1 + 4 * change
+        found["reach"] = starts + 8 * lengths + 4 * follower + 4 * error + 8 * longest
+        found[6] = most * shortest, drift + follower
+        found.update(slot_sides(p, 7, found["reach"]))
+    return found
+
+
+def sharp_bounds_of(p, kind):
+    """The sharper bounds of a cluster and both sides of their checks, as `flexray bound PARAMS sharp FLUTTER join` prints them;
+    with how far action points lie apart, and for how many double cycles the walk and first rates last (None: on and on)."""
+    longest, shortest, error, change = common_of(p)
+    micros, damping, most = p["pMicroPerCycle"], p["pClusterDriftDamping"], p["pRateCorrectionOut"]
+    wide = (micros + most + p["pOffsetCorrectionOut"] + 1) * p["xChangeBound"]
+    lengths = (2 if kind.beside else 1) * (2 * (kind.flutter + longest - 1 + wide) + (1 + 2 * damping) * longest + 2 * change)
+    odd = lengths + 2 * change
+    starts = 3 * lengths + 4 * change + 4 * error + 7 * longest if kind.beside else odd + 2 * error + 3 * longest
+    last = (kind.last - 1) * p["gdStaticSlot"] + p["gdActionPointOffset"]
+    near = starts + lengths + last * odd // p["gMacroPerCycle"] + longest
+    first = lengths + 2 * (kind.flutter + longest - 1 + wide) + damping * longest + 4 * change
+    begins = starts + 2 * lengths + 4 * change + 2 * error + kind.flutter + 4 * longest
+    reach = begins + first + last * (first + 2 * change) // p["gMacroPerCycle"] + longest
+    walk = kind.flutter + change + wide - 1 + (shortest - damping * shortest if damping else longest)
+    room = most * shortest - 2 * micros * p["xRateBound"]
+    counted = kind.flutter + change + longest
+    return {"lambda": lengths, "pi": starts, "precision": starts + lengths + odd + 2 * longest, "near": near,
+            "reach": reach, "lasts": 0 if room < 0 else None if walk <= 0 else room // walk,
+            "first rates": 0 if room < counted else None if walk <= 0 else min(room // walk, (room - counted) // walk + 1),
+            1: (damping * shortest + 1, shortest + kind.flutter + change + wide),
+            2: (most * shortest, 2 * micros * p["xRateBound"]), **slot_sides(p, 3, near),
+            6: (most * shortest, 2 * micros * p["xRateBound"] + counted), **slot_sides(p, 7, reach)}
+
+
+def holds(number, sides):
+    """Whether a check holds with these sides: of a late arrival the left one has to be greater."""
+    return sides[0] > sides[1] if number in (5, 9) else sides[0] >= sides[1]
+
+
+def beyond(name, value):
+    return f"{name} would have to be {value}, and is {ranges.PARAMETERS[name][1]} at most"
+
+
+def least_damping(p):
+    """The least damping with which C1 holds."""
+    _, right = bounds_of(p)[1]
+    return up(Fraction(right, TICKS - p["xRateBound"]))
+
+
+def least_rate(p, join):
+    shortest, change = TICKS - p["xRateBound"], 7 * p["xChangeBound"]
+    drift = 2 * p["pMicroPerCycle"] * p["xRateBound"]
+    found = up(Fraction(drift, shortest))
+    if join:
+        zero = dict(p, pRateCorrectionOut=0)
+        _, right = bounds_of(zero, True)[6]
+        found = max(found, up(Fraction(right, shortest - change)) if shortest > change else 10 ** 9)
+    return found
+
+
+def least_sharp_damping(p, kind):
+    """The least damping with which the first sharper check holds, so that lengths do not walk."""
+    _, right = sharp_bounds_of(p, kind)[1]
+    return up(Fraction(right - 1, TICKS - p["xRateBound"]))
+
+
+def sharp_advise(number, parameters, kind):
+    """The parameter that a failing sharper check asks for, the value it has, and the least that meets the check with all else
+    as it is; None where none of its range does."""
+    name = TURNS[number]
+    now, most = parameters[name], ranges.PARAMETERS[name][1]
+    return name, now, next((value for value in range(now, most + 1)
+                            if holds(number, sharp_bounds_of({**parameters, name: value}, kind)[number])), None)
+
+
+def least_sharp(parameters, kind, damping):
+    """These parameters with this damping, and the least changes by which all sharper checks behind the first hold, or why
+    there are none. Limits and slots stand in the right sides too, so they are fitted until nothing changes."""
+    p = {**parameters, "pClusterDriftDamping": damping,
+         "pRateCorrectionOut": max(parameters["pRateCorrectionOut"], least_rate(parameters, False))}
+    before, name = None, too_great(p)
+    if name:
+        return None, beyond(name, p[name])
+    while p != before:
+        before = dict(p)
+        fit_slots(p, sharp_bounds_of(p, kind), 3)
+        name = too_great(p)
+        if name:
+            return None, beyond(name, p[name])
+    return schedule(p)
+
+
+def too_great(p):
+    """The first parameter that is beyond its range, or None."""
+    return next((name for name in FITTED if p[name] > ranges.PARAMETERS[name][1]), None)
+
+
+def fit_slots(p, sides, first):
+    """Raises the offset limit and makes room in the slots, as these sides of checks ask; a value that suffices stays, only
+    the action point may move back, where the slot is long enough for both sides of it."""
+    shortest, macros = TICKS - p["xRateBound"], p["gMacroPerCycle"]
+    micros = p["pMicroPerCycle"] - p["pRateCorrectionOut"]
+    p["pOffsetCorrectionOut"] = max(p["pOffsetCorrectionOut"], up(Fraction(sides[first][1], shortest)))
+    before = up((Fraction(sides[first + 1][1], shortest) + macros) / micros)
+    behind = up((Fraction(sides[first + 2][1] + 1, shortest) + macros) / micros)
+    if p["gdStaticSlot"] < before + behind:
+        p["gdActionPointOffset"], p["gdStaticSlot"] = before, before + behind
+    else:
+        p["gdActionPointOffset"] = min(max(p["gdActionPointOffset"], before), p["gdStaticSlot"] - behind)
+
+
+def least_values(parameters, join, damping=None):
+    """These parameters with the least changes by which all checks and constraints hold, or why there are none.
+
+    The damping is the given one where it suffices.
+    """
+    p = dict(parameters)
+    p["pRateCorrectionOut"] = max(p["pRateCorrectionOut"], least_rate(p, join))
+    name = too_great(p)
+    if name:
+        return None, beyond(name, p[name])
+    p["pClusterDriftDamping"] = max(damping or 0, least_damping(p))
+    fit_slots(p, bounds_of(p, join), 7 if join else 3)
+    name = too_great(p)
+    if name:
+        return None, beyond(name, p[name])
+    return schedule(p)
+
+
+def schedule(p):
+    """The rest of the cycle behind the slots, with room for the offset correction, or why they do not fit."""
+    macros, slots, slot = p["gMacroPerCycle"], p["gNumberOfStaticSlots"], p["gdStaticSlot"]
+    start = latest_start(dict(p, gNumberOfStaticSlots=0))
+    if start is None:
+        return None, (f"an offset limit of {p['pOffsetCorrectionOut']} microticks leaves no macrotick at which the offset "
+                      "correction could start (constraint 4)")
+    if slots * slot >= start:
+        fit = max(0, (start - 1) // slot)
+        return None, (f"{slots} static slots of {slot} macroticks are {slots * slot}, and a cycle has {macros}, of which "
+                      f"the last {macros - start} are for the offset correction: "
+                      + (f"{fit} such slots fit" if fit else "not even one fits")
+                      + "; fewer slots, a longer cycle or lower limits help")
+    p["gdNIT"] = macros - slots * slot
+    p["gOffsetCorrectionStart"] = min(p["gOffsetCorrectionStart"], start)
+    if p["gOffsetCorrectionStart"] <= slots * slot:
+        p["gOffsetCorrectionStart"] = start
+    return p, None

@@ -1,0 +1,141 @@
+"""One run of a cluster: its files, what flexray says of them, and what of it a page shows."""
+import os
+import re
+from dataclasses import dataclass, field
+
+from ..program import calls as programs
+from ..toml.constraints import broken, explain_constraint
+from ..base.ending import FILE, NO, PROGRAM, Stop
+from ..base.files import write_files
+from ..program.known import KnownToml
+from ..program.report import Bounds, Report, Series, read_bounds, read_report, read_series, read_trace
+from .settled import skew_in_sync
+from .sharp import Sharp, flutter_of, sharp_of, sharp_words, unlike
+from .sync import fits, sync_of
+
+
+@dataclass
+class Run:
+    cluster: object
+    folder: str
+    bounds: Bounds
+    report: Report
+    cycles: list
+    synced: list
+    in_sync_skew: tuple | None = None
+    series: Series | None = None
+    sharp: Sharp | None = None
+    ways: object = None
+    files: list = field(default_factory=list)
+    begin: int | None = None
+    asked: list = field(default_factory=list)
+
+    @property
+    def lost(self):
+        """The first double cycle behind the first in sync that is not in sync."""
+        if self.report.in_sync is None:
+            return None
+        return next((at for at in range(self.report.in_sync, len(self.synced)) if not self.synced[at]), None)
+
+    def first_row(self, node):
+        """The first cycle in which a node has a row, or None."""
+        return next((cycle for cycle, rows in enumerate(self.cycles) if node in rows), None)
+
+    @property
+    def at_end(self):
+        return bool(self.synced) and self.synced[-1]
+
+
+def broken_constraints(told, cluster):
+    """What ends flexlab where flexray refuses the parameters of a TOML file: each constraint that is broken, by its lines."""
+    known, first = KnownToml(cluster), int(told.split()[-1])
+    found = [f"{cluster.path}: flexray refuses the parameters that come of it: {told}"]
+    for number in [first, *(other for other in broken(known) if other != first)]:
+        asks, *rest = explain_constraint(number, known)
+        found += [f"constraint {number} asks: {asks}", *("  " + line for line in rest)]
+    return Stop(NO, "\n".join(found))
+
+
+def answer(program, words, out=None, cluster=None):
+    """What flexray prints; a refusal ends flexlab, with the explanation of it, by the TOML file where it is of one."""
+    status, text, told = programs.call(program, words, out)
+    if status == 5 and cluster and re.fullmatch(r"params: constraint [1-8]", told):
+        raise broken_constraints(told, cluster)
+    if status == 5:
+        from ..pages.explain import explain_line
+        raise Stop(NO, f"flexray {' '.join(words)}\n{told}\n" + "\n".join(explain_line(told, words)))
+    if status != 0:
+        raise Stop(PROGRAM, f"flexray {' '.join(words)} ended with status {status}: {told}")
+    return text
+
+
+def keep(folder, name, text):
+    try:
+        with open(os.path.join(folder, name), "w", encoding="utf-8") as file:
+            file.write(text)
+    except OSError as fault:
+        raise Stop(FILE, f"{fault.filename}: {fault.strerror}")
+
+
+def bound_words(cluster, path):
+    """What `bound` is asked for: of a cluster that nodes join also the checks for that."""
+    return ["bound", path, "join"] if cluster.joins else ["bound", path]
+
+
+def run_cluster(cluster, folder, program, begin=None):
+    """Writes the files, calls bound, run, trace and flexray-series, and gathers what they say."""
+    paths = write_files(cluster, folder)
+    told = answer(program, bound_words(cluster, paths[0]), cluster=cluster)
+    keep(folder, "bound.txt", told)
+    bounds = read_bounds(told)
+    told = answer(program, ["run", *paths])
+    keep(folder, "report.txt", told)
+    report = read_report(told)
+    trace = os.path.join(folder, "trace.csv")
+    with open(trace, "wb") as out:
+        answer(program, ["trace", *paths], out)
+    cycles = read_trace(trace)
+    synced = sync_of(cycles, bounds, cluster.parameters)
+    if not fits(synced, report.in_sync, cluster.joins) and cycles and cluster.correct:
+        first = next((at for at, good in enumerate(synced) if good), None)
+        raise Stop(PROGRAM, f"flexray says in sync {report.in_sync}, and its trace says {first}")
+    run = Run(cluster, folder, bounds, report, cycles, synced, files=paths, begin=begin)
+    run.sharp = call_sharp(run, program)
+    run.series = call_series(program, paths, folder)
+    if run.series and synced != [row[1] for row in run.series.rows[::2]] and cycles:
+        raise Stop(PROGRAM, "flexray-series says of a double cycle that it is in sync, and the trace does not, or back")
+    run.in_sync_skew = find_skew(run, program)
+    if run.series:
+        why = unlike(run.sharp, run.series.sharp, bool(cycles))
+        if why:
+            raise Stop(PROGRAM, why)
+        run.sharp.told = run.series.sharp
+    return run
+
+
+def call_sharp(run, program):
+    flutter = flutter_of(run.cluster)
+    text = answer(program, sharp_words(run.files[0], flutter, bool(run.cluster.joins)))
+    keep(run.folder, "sharp.txt", text)
+    return sharp_of(run.cluster, flutter, text, run.cycles)
+
+
+def call_series(program, paths, folder):
+    second = programs.series(program)
+    if not second:
+        return None
+    text = answer(second, [*paths, "sharp"])
+    keep(folder, "series.csv", text)
+    return read_series(text)
+
+
+def find_skew(run, program):
+    """(skew, cycle, macrotick) of the greatest skew from the first double cycle in sync on."""
+    report = run.report
+    if report.in_sync is None:
+        return None
+    if run.series and run.series.greatest:
+        return run.series.greatest
+    if report.cycle >= 2 * report.in_sync:
+        return report.skew, report.cycle, report.macrotick
+    return skew_in_sync(run.cluster, run.cycles, report.in_sync, program, run.folder)

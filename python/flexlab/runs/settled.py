@@ -1,0 +1,63 @@
+"""The greatest skew in sync where the report's lies before: flexray runs the cluster once more, begun as it
+stood in its first double cycle in sync. That counts only where the trace of that run is, row for row, the
+rest of the first one's."""
+import copy
+import os
+
+from ..program import calls as programs
+from ..base.files import write_files
+from ..program.report import read_report, read_trace
+
+
+def moved(steps, cycle):
+    """Rows that hold from a cycle on, counted from another cycle."""
+    before = [at for at in steps if at <= cycle]
+    found = {0: steps[max(before)]} if before else {}
+    found.update({at - cycle: ticks for at, ticks in steps.items() if at > cycle})
+    return found
+
+
+def begun_at(cluster, cycles, double):
+    """The cluster as it stood at a double cycle, and the tick that is its 0."""
+    cycle = 2 * double
+    later = copy.deepcopy(cluster)
+    later.doubles -= double
+    zero = min(row.start for row in cycles[cycle].values())
+    for number, row in cycles[cycle].items():
+        later.nodes[number].start, later.nodes[number].rate = row.start - zero, row.rate
+    later.joins = {node: (at - double, reference) for node, (at, reference) in cluster.joins.items()
+                   if node not in cycles[cycle]}
+    later.lengths = {node: moved(steps, cycle) for node, steps in cluster.lengths.items()}
+    later.delays = {link: moved(steps, cycle) for link, steps in cluster.delays.items()}
+    later.script = {(at - cycle, *link): row for (at, *link), row in cluster.script.items() if at >= cycle}
+    return later, zero
+
+
+def same(cycles, rest, cycle, zero):
+    if len(cycles) != cycle + len(rest):
+        return False
+    for number, rows in enumerate(rest):
+        for node, row in rows.items():
+            row.start += zero
+            if cycles[cycle + number].get(node) != row:
+                return False
+    return True
+
+
+def skew_in_sync(cluster, cycles, double, program, folder):
+    """(skew, cycle, macrotick) from that double cycle on, or None where the second run is not the rest."""
+    if any(at < double and node not in cycles[2 * double] for node, (at, _) in cluster.joins.items()):
+        return None
+    later, zero = begun_at(cluster, cycles, double)
+    paths = write_files(later, os.path.join(folder, "in-sync"))
+    status, text, _ = programs.call(program, ["run", *paths])
+    if status != 0:
+        return None
+    trace = os.path.join(folder, "in-sync", "trace.csv")
+    with open(trace, "wb") as out:
+        if programs.call(program, ["trace", *paths], out)[0] != 0:
+            return None
+    report = read_report(text)
+    if not same(cycles, read_trace(trace), 2 * double, zero):
+        return None
+    return report.skew, report.cycle + 2 * double, report.macrotick

@@ -1,0 +1,131 @@
+"""How soon clocks that begin apart are in sync at the latest: flexray settle, asked and answered in the units of a bench."""
+import re
+from fractions import Fraction
+
+from ..base.ending import DONE, NO, PROGRAM, USAGE, REFUSED, Stop
+from ..base.files import write_files
+from ..pages.gaps import check_words, sharp_way_words
+from ..pages.page import ORIGIN, field, ms_of_cycle
+from ..program.calls import flexray
+from ..program.report import read_bounds, read_sharp_bounds
+from .runs import answer, bound_words
+from .sharp import flutter_of, kind_of, sharp_words
+from ..pages.sharp_page import KINDS
+from .sync import spread
+from ..base.units import decimal, microseconds, percent, rounded, ticks_of_ns
+
+MOST = 1000000000000
+
+
+def length_at(steps, cycle):
+    return steps[max(at for at in steps if at <= cycle)]
+
+
+def lengths(cluster, cycle):
+    """How long the correct nodes' cycles are at first, in ticks."""
+    micros = cluster.parameters["pMicroPerCycle"]
+    return [(micros + cluster.nodes[node].rate) * length_at(cluster.lengths[node], cycle) for node in cluster.correct]
+
+
+def given(text, option, size):
+    """Ticks of a number of an option."""
+    if not re.fullmatch(r"\d+(\.\d+)?", text):
+        raise Stop(USAGE, f"{option} {text}: a number from 0 on is wanted")
+    ticks = rounded(Fraction(text) * size)
+    if ticks > MOST:
+        raise Stop(USAGE, f"{option} {text}: it is more than {MOST} ticks, the most that flexray settle takes")
+    return ticks
+
+
+def asked(cluster, words):
+    """START and RATE in ticks: as they are said, or those of the file."""
+    micros = cluster.parameters["pMicroPerCycle"]
+    start = (given(words.start_us, "--start-us", ticks_of_ns(1000, cluster.microtick_ns)) if words.start_us
+             else spread(cluster.nodes[node].start for node in cluster.correct))
+    rate = (given(words.rate_ppm, "--rate-ppm", micros) if words.rate_ppm
+            else max(spread(lengths(cluster, cycle)) for cycle in (0, 1)))
+    return start, rate
+
+
+def beyond(cluster):
+    """The nodes whose first cycles are longer or shorter than their limit allows for at rate 0: the premise asks for that."""
+    micros, most = cluster.parameters["pMicroPerCycle"], cluster.parameters["xRateBound"]
+    return [node for cycle in (0, 1) for node, length in zip(cluster.correct, lengths(cluster, cycle))
+            if not micros * (1000000 - most) <= length <= micros * (1000000 + most)]
+
+
+def settle(words, folder):
+    """The request `settle`."""
+    from ..toml.cluster import read_cluster
+    cluster = read_cluster(words.file)
+    if cluster.joins:
+        raise Stop(REFUSED, f"{cluster.path}: nodes join it ([[join]]), and how soon clocks settle is proved of runs that no "
+                            "node joins; `flexlab run` and `flexlab power` tell of others")
+    program = flexray(words.flexray)
+    paths = write_files(cluster, folder)
+    answer(program, bound_words(cluster, paths[0]), cluster=cluster)
+    start, rate = asked(cluster, words)
+    found = field("Begin", f"first starts lie at most {microseconds(start, cluster.microtick_ns)} apart, the lengths of the first two "
+                           f"cycles {microseconds(rate, cluster.microtick_ns)} "
+                           f"({decimal(Fraction(rate, cluster.parameters['pMicroPerCycle']), 2)} ppm)"
+                           + ("" if words.start_us and words.rate_ppm else ", as the file has them"))
+    sharply, first = sharp_lines(program, cluster, paths[0], start, rate if words.rate_ppm else spread(lengths(cluster, 0)))
+    older, second = older_lines(program, cluster, paths[0], start, rate, sharply)
+    found += first + second
+    outside = beyond(cluster)
+    if outside and not words.rate_ppm:
+        found += field("WARNING", f"the first cycles of nodes {', '.join(map(str, sorted(set(outside))))} are longer or shorter "
+                                  "than their oscillators alone make them: the premise does not hold of this file")
+    found += field("Left out", "the startup before: these clocks run already. `flexlab power` tells when the nodes that "
+                               "join a leader are in sync; the two times do not add up, since nodes that join are in sync "
+                               "when they take part")
+    print("\n".join(found + field("Origin", ORIGIN)))
+    return DONE if sharply or older else NO
+
+
+def told_of(program, words, prefix=""):
+    """(peak, double cycle or None, the failing check as three numbers or None) of what `settle` printed."""
+    text = answer(program, words)
+    peak = re.search(rf"^{prefix}peak (\d+)$", text, re.M)
+    ends = re.search(rf"^{prefix}settles (?:(\d+)|no check (\d) (\d+) (\d+))$", text, re.M)
+    if not peak or not ends:
+        raise Stop(PROGRAM, f"flexray settle printed what is not understood: {text}")
+    return int(peak[1]), ends[1] and int(ends[1]), None if ends[1] else tuple(map(int, ends.groups()[1:]))
+
+
+def way_lines(cluster, double, peak, precision, name):
+    """How far clocks lie apart on the way, where that is proved."""
+    furthest = f"{microseconds(peak, cluster.microtick_ns)}, {percent(peak, precision)} of the {name}"
+    if double is None:
+        return field("Peak", f"{furthest}: how far they may lie apart on the way")
+    return field("On the way", f"no two macroticks lie further apart than {furthest}")
+
+
+def latest(cluster, double):
+    return (f"in double cycle {double} at the latest (cycle {2 * double}, "
+            f"{decimal(2 * double * ms_of_cycle(1, cluster), 3)} ms): ")
+
+
+def sharp_lines(program, cluster, path, start, rate):
+    """(whether it is proved, lines) of when clocks are in sharp sync, of the kind and the flutter of the file."""
+    flutter = flutter_of(cluster)
+    kind = kind_of(cluster, flutter)
+    bounds = read_sharp_bounds(answer(program, sharp_words(path, flutter)))[kind.name]
+    peak, double, check = told_of(program, ["settle", path, str(start), str(rate), *sharp_words(path, flutter)[2:]],
+                                  f"{kind.name} ")
+    what = f"{KINDS[kind.name]}, for delays that flutter by {microseconds(flutter, cluster.microtick_ns)}"
+    found = (field("In sharp sync", "NOT PROVED: a check for the way there fails",
+                   *sharp_way_words(*check, cluster.parameters, kind)) if check else
+             field("In sharp sync", latest(cluster, double) + f"proved of sharply covered runs that begin so, {what}"))
+    return not check, found + way_lines(cluster, double, peak, bounds.precision, "sharp precision")
+
+
+def older_lines(program, cluster, path, start, rate, sharply):
+    """(whether it is proved, lines) of when clocks are in sync by the older bound; what to turn for it is told where nothing is
+    proved by the sharper one."""
+    bounds = read_bounds(answer(program, ["bound", path]))
+    peak, double, check = told_of(program, ["settle", path, str(start), str(rate)])
+    found = (field("In sync", "NOT PROVED: a check of the older bound for the way there fails",
+                   *check_words(*check, cluster.parameters, True)[:1 if sharply else None]) if check else
+             field("In sync", latest(cluster, double) + "proved of covered runs that begin so, with all correct nodes active"))
+    return not check, found + way_lines(cluster, double, peak, bounds.precision, "precision")

@@ -1,0 +1,526 @@
+"""Studies: one run for each point of a grid of values, each draw, or each seed of make, side by side in processes that call
+the library of flexray, or by GNU parallel."""
+import base64
+import contextlib
+import csv
+import hashlib
+import io
+import itertools
+import json
+import multiprocessing
+import os
+import re
+import shlex
+import socket
+import subprocess
+import sys
+import tempfile
+import time
+import zlib
+from decimal import Decimal, InvalidOperation
+from fractions import Fraction
+
+from ..program import calls as programs
+from . import sharp
+from ..toml.draws import SEED
+from ..base.ending import DONE, FILE, MISSING, NO, PROGRAM, USAGE, Stop
+from ..pages.machine import printed
+from ..base.units import decimal, percent, us_of_ticks
+
+COLUMNS = ("status", "covered", "in_sync_double", "in_sync_at_end", "precision_us", "skew_in_sync_us",
+           "percent_of_precision", "later_from_cycle", "later_skew_us", "later_99_us", "later_mean_us",
+           "greatest_skew_us", "greatest_cycle", "greatest_macrotick", "cut", "gap", "sharply_covered", "sharp_gap",
+           "sharp_precision_us", "in_sharp_sync_double", "sharp_skew_us", "seconds", "told")
+# By which column runs are the worst: the first that a run has.
+WORST = ("later_skew_us", "skew_in_sync_us", "greatest_skew_us")
+MOST = 10000000
+LONGEST_PLAN = 90000
+SHOWN = 200
+MAKE_NS = Fraction(25)
+
+
+def listed(text, option):
+    """The exact numbers of a list, 1,2.5,4 or FROM:TO:STEP."""
+    try:
+        if ":" in text:
+            first, last, step = (Fraction(Decimal(part)) for part in text.split(":"))
+            if step <= 0 or last < first or (last - first) / step >= MOST:
+                raise ValueError
+            return [first + step * at for at in range(int((last - first) / step) + 1)]
+        return [Fraction(Decimal(part.strip())) for part in text.split(",")]
+    except (ValueError, InvalidOperation, OverflowError):
+        raise Stop(USAGE, f"{option} {text}: a list of numbers is wanted, as 50,100,150 or FROM:TO:STEP with STEP "
+                          f"above 0, of at most {MOST}")
+
+
+def written(value):
+    return decimal(value, 6).rstrip("0").rstrip(".")
+
+
+def keep_of(text):
+    """How many of the worst runs keep a folder; None for all."""
+    found = re.fullmatch(r"worst:(\d{1,7})", text)
+    if not found and text not in ("all", "none"):
+        raise Stop(USAGE, f"--keep {text}: it has to be all, none or worst:COUNT, as worst:10")
+    return int(found[1]) if found else None if text == "all" else 0
+
+
+def plan_of(words):
+    """What a study is: kept in its folder, so that another one is not mixed into it."""
+    vary, lists = words.vary or [], words.values or []
+    drawn = words.draws is not None
+    if words.seeds and (words.file or vary or drawn) or not words.seeds and (
+            not words.file or not (vary or drawn) or len(vary) != len(lists)):
+        raise Stop(USAGE, "study: it wants FILE.toml with --vary KEY --values LIST, once or several times for a grid, or "
+                          "with --draws COUNT, or --seeds LIST alone")
+    keep_of(words.keep)
+    if words.seeds:
+        values = listed(words.seeds, "--seeds")
+        for value in values:
+            if value.denominator != 1 or not 0 <= value <= 4294967295:
+                raise Stop(USAGE, f"--seeds: {written(value)} is not a whole number from 0 to 4294967295")
+        if not 1 <= words.doubles <= 10000:
+            raise Stop(USAGE, f"--doubles: {words.doubles} is not from 1 to 10000")
+        return {"make": words.doubles, "keys": ["seed"], "values": [[written(value) for value in values]], "draws": 1}
+    if len(set(vary)) != len(vary):
+        raise Stop(USAGE, "--vary: a key is there twice")
+    if drawn and not 1 <= words.draws <= MOST:
+        raise Stop(USAGE, f"--draws: {words.draws} is not from 1 to {MOST}")
+    if words.seed is not None and not SEED[0] <= words.seed <= SEED[1]:
+        raise Stop(USAGE, f"--seed: {words.seed} is not from {SEED[0]} to {SEED[1]}")
+    from ..toml.source import Source
+    values = [[written(value) for value in listed(text, "--values")] for text in lists]
+    source = Source(words.file, {key: Fraction(Decimal(some[0])) for key, some in zip(vary, values)}, (words.seed, 1))
+    if drawn and not source.drawn:
+        raise Stop(USAGE, f"--draws: {words.file} has no number that is drawn, as ppm = {{ uniform = [-100, 100] }}")
+    return {"file": os.path.abspath(words.file), "text": source.text, "keys": vary, "values": values,
+            "draws": words.draws or 1, "drawn": sorted(source.drawn), "seed": words.seed, "from": words.begin,
+            "cycles": words.cycles}
+
+
+def count_of(plan):
+    found = plan["draws"]
+    for some in plan["values"]:
+        found *= len(some)
+    return found
+
+
+def points(plan):
+    """(number from 1, values by key, number of the draw) of each run; draws go fastest."""
+    for number, (*values, draw) in enumerate(itertools.product(*plan["values"], range(1, plan["draws"] + 1)), 1):
+        yield number, values, draw
+
+
+def folder_for(words):
+    return words.out or (os.path.splitext(words.file)[0] + ".study" if words.file else "make.study")
+
+
+def begin(folder, plan):
+    """Writes the plan, or finds that the folder has the same one."""
+    path = os.path.join(folder, "study.json")
+    kept_plan = {**plan, "text": hashlib.sha256(plan.get("text", "").encode()).hexdigest()}
+    if os.path.exists(path):
+        with open(path, encoding="utf-8") as file:
+            if json.load(file) != kept_plan:
+                raise Stop(USAGE, f"{folder} has another study (of other values, or the TOML file was changed since); name "
+                                  "another folder by --out, or remove this one")
+    os.makedirs(folder, exist_ok=True)
+    with open(path, "w", encoding="utf-8") as file:
+        json.dump(kept_plan, file, indent=1)
+
+
+def results_path(folder):
+    return os.path.join(folder, "study.jsonl")
+
+
+def kept_lines(folder):
+    """The results by run; a line that was cut where the study was stopped is none."""
+    found = {}
+    if os.path.exists(results_path(folder)):
+        with open(results_path(folder), encoding="utf-8") as file:
+            for text in file:
+                try:
+                    line = json.loads(text)
+                    found[line["run"]] = line
+                except ValueError:
+                    continue
+    return found
+
+
+def range_order(name):
+    """Columns of ranges of cycles go by the first cycle."""
+    return int(re.search(r"\d+", name)[0]), name
+
+
+def write_results(folder, plan, lines):
+    """study.jsonl in the order of the runs, and the same as study.csv."""
+    ranges = sorted({name for line in lines.values() for name in line if name.startswith("cycles_")}, key=range_order)
+    names = ["run", *plan["keys"], *(["draw"] if plan.get("drawn") else []), *plan.get("drawn", []), *COLUMNS, *ranges]
+    path = os.path.join(folder, "study.csv")
+    with open(results_path(folder) + ".part", "w", encoding="utf-8") as results, \
+            open(path, "w", encoding="utf-8", newline="") as table:
+        writer = csv.writer(table, lineterminator="\n")
+        writer.writerow(names)
+        for number in sorted(lines):
+            results.write(json.dumps(lines[number]) + "\n")
+            writer.writerow(lines[number].get(name, "") for name in names)
+    os.replace(results_path(folder) + ".part", results_path(folder))
+    return path
+
+
+def told_line(line):
+    if line["status"] != DONE:
+        return f"failed with status {line['status']}: {line['told']}"
+    sync = "never in sync" if line["in_sync_double"] == "never" else f"in sync from {line['in_sync_double']}"
+    if line["in_sync_at_end"] == "no":
+        sync += ", not at the end"
+    skew = (f"skew in sync {line['skew_in_sync_us']} us ({line['percent_of_precision']} % of the precision)"
+            if line["skew_in_sync_us"] else f"greatest skew {line['greatest_skew_us']} us, before sync")
+    later = f", later {line['later_skew_us']} us" if line.get("later_skew_us") else ""
+    gap = f" ({line['gap']})" if line["gap"] else ""
+    sharply = f", sharply covered {line['sharply_covered']}" if line.get("sharply_covered") else ""
+    return f"{sync}, covered {line['covered']}{gap}, {skew}{later}{sharply}"
+
+
+def named(plan, line):
+    return ", ".join(f"{key} {line[key]}" for key in [*plan["keys"], *(["draw"] if plan.get("drawn") else [])])
+
+
+def measured(run_report, unit, in_sync_skew, at_end, later=None):
+    report = run_report
+    skew = in_sync_skew[0] if in_sync_skew else None
+    return {
+        "covered": "yes" if report.gap is None else "no",
+        "in_sync_double": "never" if report.in_sync is None else report.in_sync,
+        "in_sync_at_end": "" if at_end is None else "yes" if at_end else "no",
+        "precision_us": decimal(us_of_ticks(report.precision, unit), 6),
+        "skew_in_sync_us": "" if skew is None else decimal(us_of_ticks(skew, unit), 6),
+        "percent_of_precision": "" if skew is None else percent(skew, report.precision).split()[0],
+        **({"later_from_cycle": later.first, "later_skew_us": decimal(us_of_ticks(later.greatest, unit), 6),
+            "later_99_us": decimal(us_of_ticks(later.most, unit), 6),
+            "later_mean_us": decimal(us_of_ticks(later.mean, unit), 6)} if later else {}),
+        "greatest_skew_us": decimal(us_of_ticks(report.skew, unit), 6),
+        "greatest_cycle": report.cycle, "greatest_macrotick": report.macrotick, "cut": report.cut,
+        "gap": " ".join(report.gap or []),
+    }
+
+
+def sharply(run, unit):
+    """The columns of the sharper bounds."""
+    known, gap = sharp.gap_of(run)
+    found = {"sharply_covered": ("yes" if gap is None else "no") if known else "", "sharp_gap": " ".join(gap or [])}
+    first, skew = sharp.first_of(run), sharp.skew_of(run)
+    return {**found, "sharp_precision_us": decimal(us_of_ticks(run.sharp.bounds.precision, unit), 6),
+            "in_sharp_sync_double": "never" if first is None else first,
+            "sharp_skew_us": "" if skew is None else decimal(us_of_ticks(skew[0], unit), 6)}
+
+
+def has_text(path, plan):
+    """Whether this machine has the TOML file as it was when the study began."""
+    try:
+        with open(path, encoding="utf-8-sig", newline="") as file:
+            return plan["machine"] == socket.gethostname() and file.read() == plan["text"]
+    except (OSError, UnicodeDecodeError):
+        return False
+
+
+def measure(plan, values, number, folder):
+    """(columns, what was drawn) of a run, whose files go into the folder."""
+    from ..toml.cluster import read_cluster
+    from ..program.report import read_report
+    from .runs import answer, run_cluster
+    from .windows import begin_of, later, ranges_of, windows
+    if "make" in plan:
+        report = read_report(answer(plan["flexray"], ["make", values[0], str(plan["make"])]))
+        known = report.in_sync is not None and report.cycle >= 2 * report.in_sync
+        # A covered run that came into sync stays so: that is proved.
+        at_end = True if report.in_sync is not None and report.gap is None else None
+        return measured(report, MAKE_NS, (report.skew,) if known else None, at_end), {}
+    os.makedirs(folder, exist_ok=True)
+    path = plan["file"]
+    if not has_text(path, plan):
+        path = os.path.join(folder, os.path.basename(path))
+        with open(path, "w", encoding="utf-8") as file:
+            file.write(plan["text"])
+    changes = {key: Fraction(Decimal(value)) for key, value in zip(plan["keys"], values)}
+    cluster = read_cluster(path, changes, (plan["seed"], number))
+    spans = ranges_of(plan.get("cycles") or "", cluster)
+    run = run_cluster(cluster, folder, plan["flexray"], begin=begin_of(plan.get("from"), cluster))
+    for name in ("trace.csv", os.path.join("in-sync", "trace.csv")):
+        if os.path.exists(os.path.join(folder, name)):
+            os.remove(os.path.join(folder, name))
+    unit, more = cluster.microtick_ns, {name: written(value) for name, value in cluster.drawn.items()}
+    for one in windows(run, spans) if spans else ():
+        for name, ticks in (("greatest", one.greatest), ("99", one.most), ("mean", one.mean)):
+            more[f"cycles_{one.first}-{one.last}_{name}_us"] = decimal(us_of_ticks(ticks, unit), 6)
+    found = measured(run.report, unit, run.in_sync_skew, run.at_end, later(run, run.begin))
+    return {**found, **sharply(run, unit)}, more
+
+
+def run_folder(folder, number):
+    return os.path.join(folder, "runs", f"{number:05}")
+
+
+def run_one(plan, number, values, draw, folder=None):
+    """The results of one run, as a line has them."""
+    begun, line = time.monotonic(), {"run": number, **dict(zip(plan["keys"], values))}
+    if plan.get("drawn"):
+        line["draw"] = draw
+    line.update(dict.fromkeys(COLUMNS, ""), status=DONE)
+    with tempfile.TemporaryDirectory(prefix="flexlab-study-") as room:
+        try:
+            columns, drawn = measure(plan, values, draw, folder or os.path.join(room, "run"))
+            line.update(columns)
+            line.update(drawn)
+        except Stop as stop:
+            line.update(status=stop.status, told=stop.line.replace("\n", "; "))
+    line["seconds"] = f"{time.monotonic() - begun:.2f}"
+    return line
+
+
+def packed(plan):
+    """The plan without its lists, as one word of a command: so another machine needs no file of it."""
+    text = json.dumps({name: value for name, value in plan.items() if name != "values"})
+    found = base64.urlsafe_b64encode(zlib.compress(text.encode(), 9)).decode()
+    if len(found) > LONGEST_PLAN:
+        raise Stop(USAGE, f"{plan['file']} is too long for a study: {len(found)} bytes as a word, and {LONGEST_PLAN} can "
+                          "be handed on")
+    return found
+
+
+def run_several(packed_plan, jobs):
+    """What GNU parallel calls: some runs, each NUMBER:VALUE,..:DRAW, and a line of results of each on standard output."""
+    plan = json.loads(zlib.decompress(base64.urlsafe_b64decode(packed_plan)))
+    if not os.access(plan["flexray"], os.X_OK):
+        plan["flexray"] = programs.flexray()
+    here = plan["machine"] == socket.gethostname() and plan["keep"] == "all" and "make" not in plan
+    for job in jobs:
+        number, values, draw = job.split(":")
+        folder = run_folder(plan["folder"], int(number)) if here else None
+        print(json.dumps(run_one(plan, int(number), values.split(",") if values else [], int(draw), folder)), flush=True)
+    return DONE
+
+
+class Results:
+    """The results as they come: kept at once, and told, of a large study now and then."""
+
+    def __init__(self, folder, plan, lines):
+        self.plan, self.lines, self.total = plan, lines, count_of(plan)
+        self.every = 1 if self.total <= SHOWN else self.total // 100
+        self.path = results_path(folder)
+        # What a stopped study left of a line is none, and no line begins behind it.
+        cut = os.path.exists(self.path) and open(self.path, "rb").read()[-1:] not in (b"", b"\n")
+        self.file = open(self.path, "a", encoding="utf-8")
+        if cut:
+            self.file.write("\n")
+
+    def take(self, line):
+        self.file.write(json.dumps(line) + "\n")
+        self.file.flush()
+        self.lines[line["run"]] = line
+        if self.every == 1:
+            print(f"run {line['run']} of {self.total}: {named(self.plan, line)}: {told_line(line)}", flush=True)
+        elif len(self.lines) % self.every == 0:
+            print(f"{len(self.lines)} of {self.total} runs", flush=True)
+
+
+HOST = re.compile(r"(?:[1-9][0-9]*/)?(?P<address>[^/]+)")
+
+
+def living_hosts(words, flexlab):
+    """The hosts that answer and have flexlab; of each other one it is told what it is."""
+    found = []
+    for host in filter(None, (host.strip() for host in (words.hosts or "").split(","))):
+        match = HOST.fullmatch(host)
+        if match is None:
+            raise Stop(USAGE, f"--hosts: {host} is neither HOST nor COUNT/HOST, as in host1,8/host2,: where : is this machine")
+        address = match["address"]
+        if address == ":":
+            found.append(host)
+            continue
+        ssh = shlex.split(words.ssh)
+        if os.path.basename(ssh[0]) == "ssh":
+            ssh += ["-o", "BatchMode=yes", "-o", "ConnectTimeout=15"]
+        ended = subprocess.run([*ssh, address, f"command -v {shlex.quote(flexlab)}"], stdin=subprocess.DEVNULL,
+                               capture_output=True, text=True, check=False)
+        if ended.returncode == 0:
+            found.append(host)
+        elif ended.returncode == 255:
+            why = (ended.stderr.strip().splitlines() or ["it tells no cause"])[-1]
+            print(f"flexlab: host {host} is left out: {words.ssh.split()[0]} does not reach it ({why})", file=sys.stderr)
+        else:
+            print(f"flexlab: host {host} is left out: it has no {flexlab}; install the package there, or name flexlab as it "
+                  "is called there by --host-flexlab", file=sys.stderr)
+    return found
+
+
+def jobs_of(plan, todo):
+    for number, values, draw in points(plan):
+        if number in todo:
+            yield f"{number}:{','.join(values)}:{draw}\n"
+
+
+def beside_of(words):
+    """How many runs go side by side."""
+    return max(1, int(words.jobs) if (words.jobs or "").isdigit() else os.cpu_count() or 1)
+
+
+def kept_folder(folder, plan, number):
+    return run_folder(folder, number) if plan["keep"] == "all" and "make" not in plan else None
+
+
+class Forked:
+    """A run in a copy of this process, where it is some calls of the library and starts no program."""
+
+    plan, folder = {}, ""
+
+    @staticmethod
+    def run(job):
+        number, values, draw = job
+        return run_one(Forked.plan, number, values, draw, kept_folder(Forked.folder, Forked.plan, number))
+
+
+def run_forked(folder, plan, todo, words, results):
+    """Runs what is to be done in copies of this process, as many as go side by side."""
+    Forked.plan, Forked.folder = plan, folder
+    count = min(beside_of(words), len(todo))
+    jobs = (point for point in points(plan) if point[0] in todo)
+    with multiprocessing.get_context("fork").Pool(count) as pool:
+        for line in pool.imap_unordered(Forked.run, jobs, max(1, min(50, len(todo) // (8 * count)))):
+            results.take(line)
+
+
+def run_all(folder, plan, todo, words, results):
+    """Runs what is to be done: by the library, by GNU parallel, or one after the other where both are missing."""
+    if not words.hosts and not words.parallel and (words.jobs or "1").isdigit() and programs.by_library(plan["flexray"]):
+        run_forked(folder, plan, todo, words, results)
+        return
+    flexlab = os.path.realpath(sys.argv[0])
+    hosts = living_hosts(words, words.host_flexlab or flexlab)
+    if words.hosts and not hosts:
+        raise Stop(MISSING, "no host is left: see above; `:` is this machine")
+    try:
+        parallel = programs.helper("parallel")
+    except Stop as stop:
+        print(f"flexlab: {stop.line}; runs go one after the other", file=sys.stderr)
+        for number, values, draw in points(plan):
+            if number in todo:
+                results.take(run_one(plan, number, values, draw, kept_folder(folder, plan, number)))
+        return
+    # A shell reads the command, of this machine or of another one.
+    called = [words.host_flexlab or flexlab] if hosts else [sys.executable, flexlab]
+    # A program that is started takes a few runs, so that in a large study starting it does not weigh.
+    several = max(1, min(50, len(todo) // (8 * beside_of(words) * max(1, len(hosts)))))
+    wanted = [parallel, "--will-cite", "--line-buffer", *(["--jobs", words.jobs] if words.jobs else []),
+              *(["--ssh", words.ssh, "--sshlogin", ",".join(hosts), "--retries", "3"] if hosts else []),
+              *shlex.split(words.parallel), "--max-args", str(several),
+              f"{shlex.join([*called, 'study-run', packed(plan)])} {{}}"]
+    with tempfile.TemporaryFile("w+") as jobs:
+        jobs.writelines(jobs_of(plan, todo))
+        jobs.seek(0)
+        with subprocess.Popen(wanted, stdin=jobs, stdout=subprocess.PIPE, text=True) as ended:
+            for text in ended.stdout:
+                try:
+                    line = json.loads(text)
+                except ValueError:
+                    print(text.rstrip(), file=sys.stderr)
+                    continue
+                results.take(line)
+    if ended.returncode > 101:
+        raise Stop(PROGRAM, f"GNU parallel ended with status {ended.returncode}")
+
+
+def worth(line):
+    """The number by which a run is the worst."""
+    return next((Fraction(line[name]) for name in WORST if line.get(name)), Fraction(-1))
+
+
+def worst_first(lines):
+    good = [line for line in lines.values() if line["status"] == DONE]
+    return sorted(good, key=lambda line: (-worth(line), line["run"]))
+
+
+def keep_worst(folder, plan, lines):
+    """Runs the worst runs again, for their files; the same words give the same run."""
+    most = keep_of(plan["keep"])
+    if "make" in plan:
+        return
+    chosen = {line["run"] for line in worst_first(lines)[:most]}
+    for number, values, draw in points(plan):
+        if number in chosen and not os.path.exists(run_folder(folder, number)):
+            run_one(plan, number, values, draw, run_folder(folder, number))
+
+
+def summary(folder, plan, lines):
+    """What the page says of all runs."""
+    order = worst_first(lines)
+    if not order:
+        return
+    covered, sharply_covered = (sum(line.get(name) == "yes" for line in order) for name in ("covered", "sharply_covered"))
+    both = f"{covered} of them covered"
+    both += f", {sharply_covered} sharply" if any(line.get("sharply_covered") for line in order) else ""
+    name = next(name for name in WORST if order[0].get(name))
+    values = sorted(worth(line) for line in order)
+    most = values[-(-99 * len(values) // 100) - 1]
+    what = {"later_skew_us": "later skew", "skew_in_sync_us": "skew in sync", "greatest_skew_us": "greatest skew"}[name]
+    print(f"{'Runs':<16}{len(order)} of {count_of(plan)}, {both}; {what} {decimal(values[-1], 3)} us at "
+          f"most, 99 % of runs within {decimal(most, 3)} us, the mean is {decimal(sum(values) / len(values), 3)} us")
+    worst = order[0]
+    kept = run_folder(folder, worst["run"])
+    print(f"{'Worst run':<16}{worst['run']}: {named(plan, worst)}: {what} {decimal(values[-1], 3)} us"
+          + (f"; files in {kept}/" if os.path.isdir(kept) else ""))
+
+
+def study(words):
+    """A study; as JSON its lines go to standard output, and what is told meanwhile to standard error."""
+    if not words.json:
+        return run_study(words)[0]
+    with contextlib.redirect_stdout(sys.stderr):
+        status, folder, plan, lines = run_study(words)
+    printed({"folder": folder, "keys": plan["keys"], "runs": [lines[number] for number in sorted(lines)],
+             "failed": sum(line["status"] != DONE for line in lines.values()), "missing": count_of(plan) - len(lines),
+             "worst": [line["run"] for line in worst_first(lines)[:1]]})
+    return status
+
+
+def run_study(words):
+    """The status, the folder, the plan and the lines by their numbers."""
+    program = programs.flexray(words.flexray)
+    plan, folder = plan_of(words), folder_for(words)
+    begin(folder, plan)
+    plan.update(flexray=program, folder=os.path.abspath(folder), machine=socket.gethostname(), keep=words.keep)
+    lines, total = kept_lines(folder), count_of(plan)
+    kept = {number for number, line in lines.items() if line["status"] == DONE or not words.again}
+    todo = set(range(1, total + 1)) - kept
+    if kept:
+        print(f"{len(kept)} of {total} runs are there already")
+    results = Results(folder, plan, lines)
+    try:
+        if todo:
+            run_all(folder, plan, todo, words, results)
+    except KeyboardInterrupt:
+        write_results(folder, plan, lines)
+        print(f"flexlab: stopped after {len(lines)} of {total} runs; the same words go on", file=sys.stderr)
+        return 130, folder, plan, lines
+    except OSError as fault:
+        raise Stop(FILE, f"{fault.filename or folder}: {fault.strerror}")
+    finally:
+        results.file.close()
+    keep_worst(folder, plan, lines)
+    print(f"{'Table':<16}{write_results(folder, plan, lines)}, and as JSON lines {results_path(folder)}")
+    summary(folder, plan, lines)
+    from ..pages.study_picture import picture
+    try:
+        for path in picture(folder, plan, lines):
+            print(f"{'Picture':<16}{path}")
+    except Stop as stop:
+        print(f"{'Picture':<16}none: {stop.line}")
+    failed = [line for line in lines.values() if line["status"] != DONE]
+    missing = total - len(lines)
+    if failed:
+        print(f"{'Failed':<16}{len(failed)} of {total} runs, which are lines with their status, as run {failed[0]['run']}: "
+              f"{failed[0]['told']}")
+    if missing:
+        print(f"{'Missing':<16}{missing} of {total} runs, which were not answered, since a host or GNU parallel ended; the "
+              "same words go on")
+    return (NO if failed or missing else DONE), folder, plan, lines

@@ -1,0 +1,376 @@
+"""Ways to a covered run: limits as low as the run needs, and the parameters that the checks then ask for. Each is run
+before it is told of, since what makes the proof hold may leave the clocks further apart in fact."""
+import os
+import shutil
+from copy import deepcopy
+from dataclasses import dataclass, field
+from fractions import Fraction
+
+from ..program import calls as programs
+from ..base.files import write_files
+from .least import TICKS, least_damping, least_sharp, least_sharp_damping, least_values
+from ..program.report import read_bounds, read_sharp_bounds
+from .sharp import first_of, gap_of, kind_of
+from ..base.units import decimal, lasting, microseconds, percent, rounded, us_of_ticks
+from .windows import exact, later, skews, window
+
+# A way is run for as many double cycles at most, and held against as many of the run.
+LONGEST = 1000
+LIMITS = ("xRateBound", "xChangeBound", "xDelayError")
+
+
+@dataclass
+class Way:
+    changed: dict
+    first: list
+    bounds: object = None
+    run: object = None
+    skew: int = 0
+
+
+@dataclass
+class Ways:
+    """The ways to checks that hold, why there are none of others, what the older bound asks besides, and the skew now."""
+    checks: object
+    wanted: bool = False
+    held: list = field(default_factory=list)
+    refused: list = field(default_factory=list)
+    older: Way | None = None
+    no_older: str = ""
+    begin: int = 0
+    skew: int = 0
+    span: str = ""
+
+
+class OlderChecks:
+    """The checks of flexray bound, those for nodes that join too where some do. Delays count much in them, so that the
+    compensation amid the delays is tried at once."""
+    name, amid = "Precision", (True,)
+
+    def __init__(self, run):
+        self.words = ["join"] if run.cluster.joins else []
+        self.failing = {check[0] for check in run.bounds.failing}
+
+    def least(self, parameters):
+        own = parameters["pClusterDriftDamping"]
+        for damping in dict.fromkeys((own, min(own, least_damping(parameters)))):
+            yield least_values(parameters, bool(self.words), damping)
+
+    def read(self, text):
+        """The bounds, where all checks hold."""
+        bounds = read_bounds(text)
+        return None if bounds.failing else bounds
+
+    @staticmethod
+    def gap(run):
+        return True, run.report.gap
+
+    @staticmethod
+    def first(run):
+        return run.report.in_sync
+
+
+class SharpChecks:
+    """The checks of the sharper bounds of the kind that the script has, for the flutter of the run. Another compensation is
+    tried where there is no way without."""
+    name, amid = "Sharp precision", (False, True)
+
+    def __init__(self, run):
+        self.kind = kind_of(run.cluster, run.sharp.flutter)
+        self.words = ["sharp", str(self.kind.flutter)]
+        self.failing = {check[0] for check in run.sharp.bounds.failing}
+
+    def least(self, parameters):
+        """With the damping as it is, and with the least by which the walk does not end; where nothing else fails the damping
+        has to suffice."""
+        own, least = parameters["pClusterDriftDamping"], least_sharp_damping(parameters, self.kind)
+        for damping in (max(own, least),) if self.failing == {1} else dict.fromkeys((own, least)):
+            yield least_sharp(parameters, self.kind, damping)
+
+    def read(self, text):
+        """The bounds, where all checks behind the first hold."""
+        bounds = read_sharp_bounds(text)[self.kind.name]
+        return None if bounds.gap else bounds
+
+    @staticmethod
+    def gap(run):
+        return gap_of(run)
+
+    @staticmethod
+    def first(run):
+        return first_of(run)
+
+
+def shortened(cluster, doubles):
+    """The cluster over its first double cycles alone."""
+    found, cycles = deepcopy(cluster), 2 * doubles
+    found.doubles = doubles
+    found.lengths, found.delays = ({key: {cycle: ticks for cycle, ticks in steps.items() if cycle < cycles}
+                                    for key, steps in rows.items()} for rows in (found.lengths, found.delays))
+    found.script = {place: row for place, row in found.script.items() if place[0] < cycles}
+    return found
+
+
+def delays_of(cluster):
+    """The delays that the run has from correct sync nodes to correct nodes, of links whose delay is said."""
+    found = []
+    for sender in cluster.correct:
+        for receiver in cluster.correct:
+            if sender != receiver and cluster.nodes[sender].key_slot is not None:
+                for channel in cluster.common(sender, receiver):
+                    found += cluster.delays.get((sender, receiver, channel), {}).values()
+    return found
+
+
+def greatest_change(cluster):
+    """(ticks, node, cycle) of the greatest change of a microtick from one cycle to the next, (0, None, None) of none."""
+    changes = ((abs(ticks - before), node, cycle) for node, steps in cluster.lengths.items()
+               for (_, before), (cycle, ticks) in zip(sorted(steps.items()), sorted(steps.items())[1:]))
+    return max(changes, key=lambda change: change[0], default=(0, None, None))
+
+
+def needs(cluster):
+    """The limits that this run needs, the delay error for the compensation as it is."""
+    rate = max((abs(ticks - TICKS) for steps in cluster.lengths.values() for ticks in steps.values()), default=0)
+    change = greatest_change(cluster)[0]
+    wait = cluster.parameters["pDelayCompensation"] * TICKS
+    error = max((abs(ticks - wait) for ticks in delays_of(cluster)), default=0)
+    return {"xRateBound": rate, "xChangeBound": change, "xDelayError": error}
+
+
+def amid(cluster):
+    """The compensation amid the delays of the run, and the delay error that then suffices; None where no delay is said."""
+    delays = delays_of(cluster)
+    if not delays:
+        return None
+    wait = min(200, max(0, rounded(Fraction(min(delays) + max(delays), 2 * TICKS))))
+    return wait, max(max(delays) - wait * TICKS, wait * TICKS - min(delays))
+
+
+def passed(cluster, need):
+    """A sentence for each stated limit that this run goes beyond."""
+    p, unit, found = cluster.parameters, cluster.microtick_ns, []
+    if need["xRateBound"] > p["xRateBound"]:
+        found.append(f"an oscillator of this run is {need['xRateBound']} ticks off, beyond xRateBound, {p['xRateBound']}")
+    if need["xChangeBound"] > p["xChangeBound"]:
+        ticks, node, cycle = greatest_change(cluster)
+        found.append(f"the microtick of node {node} changes by {ticks} ticks in cycle {cycle} of this run, beyond "
+                     f"xChangeBound, {p['xChangeBound']}")
+    if need["xDelayError"] > p["xDelayError"]:
+        off, stated = (decimal(us_of_ticks(ticks, unit) * 1000, 1) for ticks in (need["xDelayError"], p["xDelayError"]))
+        found.append(f"a delay of this run is {off} ns off the compensation, beyond xDelayError, {stated} ns")
+    return found
+
+
+def starting_points(cluster, failing, with_amid=True):
+    """(limits, sentences) to begin from: as they are stated, or as far as this run goes beyond them, and lower, as far
+    as this run allows for it. How far oscillators are off matters where the rate limit is too small alone."""
+    p, need, unit = cluster.parameters, needs(cluster), cluster.microtick_ns
+    stated = {name: max(p[name], need[name]) for name in LIMITS}
+    beyond = passed(cluster, need)
+    found = [(stated, beyond)]
+    middle = amid(cluster) if with_amid else None
+    delay = None
+    if middle and middle[1] < stated["xDelayError"]:
+        delays = delays_of(cluster)
+        low, high = (decimal(us_of_ticks(ticks, unit) * 1000, 1) for ticks in (min(delays), max(delays)))
+        delay = {**stated, "pDelayCompensation": middle[0], "xDelayError": middle[1]}
+        if middle[1] <= p["xDelayError"] < need["xDelayError"]:
+            beyond = beyond[:-1]
+        found.append((delay, [*beyond, f"your delays span {decimal(us_of_ticks(max(delays) - min(delays), unit) * 1000, 1)} ns "
+                              f"({low} to {high} ns): put the compensation amid them"]))
+    lower = {**(delay or stated)}
+    told = list(found[-1][1])
+    for name, words in (("xChangeBound", "no oscillator of this run changes by more than {} ppm a cycle"),
+                        ("xRateBound", "none of this run is further off than {} ppm")):
+        if need[name] < lower[name] and (name != "xRateBound" or failing & {2, 6}):
+            lower[name] = need[name]
+            told.append(words.format(need[name]))
+    if lower != found[-1][0]:
+        found.append((lower, told))
+    return found
+
+
+def candidates(cluster, checks, with_amid, seen):
+    """(parameters or None, why none, sentences), each set of parameters once, and none as they are."""
+    for limits, told in starting_points(cluster, checks.failing, with_amid):
+        for found, why in checks.least(dict(cluster.parameters, **limits)):
+            if (found or why) not in seen:
+                seen.append(found or why)
+                yield found, why, told
+
+
+def weigh(run, program, run_cluster):
+    """The ways to a covered run, each run, the one with the least skew first, by the sharper checks where no node joins; and
+    what the older ones would ask besides. None where neither is wanted."""
+    cluster = run.cluster
+    checks = OlderChecks(run) if cluster.joins else SharpChecks(run)
+    wanted = bool(checks.failing or passed(cluster, needs(cluster)))
+    if not wanted and not run.bounds.failing:
+        return None
+    mine = later(run, run.begin)
+    begin = mine.first if mine else 0
+    doubles = min(cluster.doubles, max(LONGEST, begin + 1))
+    mine, whole = window(skews(run), begin, 2 * doubles - 1, ""), doubles == cluster.doubles
+    found = Ways(checks, wanted, begin=begin, skew=mine.greatest if mine else 0,
+                 span=f"from cycle {begin} " + ("on" if whole else f"to {2 * doubles - 1}"))
+    shutil.rmtree(os.path.join(run.folder, "advised"), ignore_errors=True)
+    tries = Tries(run, program, run_cluster, begin, doubles)
+    seen = [cluster.parameters]
+    for with_amid in checks.amid if wanted else ():
+        for parameters, why, told in () if found.held else candidates(cluster, checks, with_amid, seen):
+            way, why = tries.tried(checks, parameters, why, told, str(len(found.held) + 1))
+            if way:
+                found.held.append(way)
+            else:
+                found.refused.append((why, told))
+    # A run that is never in sync has no later skew to go by.
+    found.held.sort(key=lambda way: (checks.gap(way.run)[1] is not None, checks.first(way.run) is None, way.skew))
+    if isinstance(checks, SharpChecks) and run.bounds.failing:
+        ask_older(found, run, tries)
+    return found
+
+
+def ask_older(found, run, tries):
+    """What the older bound asks besides the best way, or besides the parameters as they are where no way is wanted."""
+    older = OlderChecks(run)
+    base = dict(run.cluster.parameters, **(found.held[0].changed if found.held else {}))
+    limits = starting_points(tries.with_values(base), older.failing)[0][0]
+    parameters, why = next(older.least(dict(base, **limits)))
+    found.older, found.no_older = tries.tried(older, parameters, why, [], "older", base)
+
+
+@dataclass
+class Tries:
+    """Runs of the cluster with other values, over its first double cycles."""
+    run: object
+    program: str
+    run_cluster: object
+    begin: int
+    doubles: int
+
+    def with_values(self, parameters):
+        other = shortened(self.run.cluster, self.doubles)
+        other.parameters = parameters
+        return other
+
+    def tried(self, checks, parameters, why, told, name, base=None):
+        """(the way, None) where its checks hold, else (None, why not)."""
+        if parameters is None:
+            return None, why
+        before = base or self.run.cluster.parameters
+        folder = os.path.join(self.run.folder, "advised", name)
+        path = write_files(self.with_values(parameters), folder)[0]
+        status, text, line = programs.call(self.program, ["bound", path, *checks.words])
+        bounds = checks.read(text) if status == 0 else None
+        if bounds is None:
+            return None, f"flexray bound {path}: {line or 'checks fail'}"
+        changed = {key: value for key, value in parameters.items() if value != before[key]}
+        way = Way(changed, told, bounds, self.run_cluster(self.with_values(parameters), folder, self.program,
+                                                          begin=self.run.begin))
+        figures = later(way.run, self.begin)
+        way.skew = figures.greatest if figures else 0
+        return way, None
+
+
+def value_words(name, value, cluster):
+    """A value as the TOML file has it."""
+    unit = cluster.microtick_ns
+    if name == "xDelayError":
+        return f"limits.delay_error_ns = {decimal(us_of_ticks(value, unit) * 1000, 3).rstrip('0').rstrip('.')}"
+    if name in ("xRateBound", "xChangeBound"):
+        return f"limits.{name} = {value} (ticks, about ppm)"
+    return f"{name} = {value}"
+
+
+def values_words(changed, cluster):
+    """Values as the TOML file has them, limits first."""
+    order = ["pDelayCompensation", *LIMITS]
+    return ", ".join(value_words(name, changed[name], cluster)
+                     for name in [*(name for name in order if name in changed), *(name for name in changed if name not in order)])
+
+
+def skew_words(way, ways, unit):
+    """The skew that a way leaves, beside what it is now."""
+    what = "simulated skew" if exact(way.run) else "simulated starts"
+    text = f"{what} {microseconds(way.skew, unit)} at most {ways.span}"
+    share = percent(way.skew, ways.skew)
+    if share == "100.0 %":
+        return text + ", as it is now"
+    if ways.skew and way.skew > ways.skew:
+        return text + f", {decimal(Fraction(way.skew, ways.skew), 2)} times what it is now"
+    return text + (f", {share} of what it is now" if ways.skew else "")
+
+
+def lasting_words(way, cluster):
+    """Of sharper bounds for how long they hold, where that ends."""
+    lasts = getattr(way.bounds, "lasts", None)
+    if lasts is None:
+        return ""
+    return f" for {lasts} double cycles ({lasting(2 * lasts * cycle_ms(cluster))}), since C1 fails"
+
+
+def cycle_ms(cluster):
+    return Fraction(cluster.parameters["pMicroPerCycle"]) * cluster.microtick_ns / 1000000
+
+
+def way_words(way, ways, cluster):
+    unit, (known, gap) = cluster.microtick_ns, ways.checks.gap(way.run)
+    text = "; ".join(way.first) + ": " if way.first else ""
+    text += "all checks hold" if not getattr(way.bounds, "failing", None) else "all checks but C1 hold"
+    text += f" with {values_words(way.changed, cluster)}. {ways.checks.name} {microseconds(way.bounds.precision, unit)}"
+    text += lasting_words(way, cluster)
+    if known:
+        text += "; covered yes" if gap is None else f"; covered no ({' '.join(gap)})"
+    text += f"; {skew_words(way, ways, unit)}" + ("" if ways.checks.first(way.run) is not None else "; never in sync")
+    ends = way.run.report.ends
+    still = sum(end[2] == 0 for end in ends.values())
+    if still and way.changed.get("pClusterDriftDamping", 0) > cluster.parameters["pClusterDriftDamping"]:
+        text += f"; the damping leaves {still} of {len(ends)} rate terms 0 at the end"
+    if "gdNIT" in way.changed and way.changed["gdNIT"] < cluster.parameters["gdNIT"]:
+        text += "; a shorter gdNIT leaves less for dynamic segment and symbol window"
+    return text
+
+
+def way_lines(ways, cluster, field_):
+    """Lines of the page: what may be turned, each way run, the least skew first."""
+    unit = cluster.microtick_ns
+    if not ways.wanted:
+        return []
+    if not ways.held:
+        found = field_("Ways", "no values of these parameters are found with which all checks hold, with limits that this "
+                               "run keeps:")
+        for why, told in ways.refused:
+            found += field_("", f"- {'; '.join(told) + ': ' if told else ''}{why}")
+        return found
+    found = field_("Ways", f"to checks that hold, each tried by flexray bound and run (files in advised/), the least "
+                           f"simulated skew first; now it is {microseconds(ways.skew, unit)} {ways.span}. "
+                           "A lower limit is a promise that your oscillators and cables have to keep")
+    for number, way in enumerate(ways.held, 1):
+        found += field_("", f"{number}. {way_words(way, ways, cluster)}")
+    for why, told in ways.refused:
+        found += field_("", f"none {'where ' + '; '.join(told) if told else 'with the limits as stated'}: {why}")
+    return found
+
+
+def named_checks(numbers):
+    names = [f"C{number}" for number in numbers]
+    return names[0] if len(names) == 1 else ", ".join(names[:-1]) + " and " + names[-1]
+
+
+def older_lines(run, field_):
+    """The line of the older checks: whether they hold, or what they ask besides, and what that does to the clocks."""
+    failing, ways, unit = [check[0] for check in run.bounds.failing], run.ways, run.cluster.microtick_ns
+    if not failing:
+        return field_("Older checks", "those of the older bound, above called Precision, hold too")
+    text = (f"{named_checks(failing)} of the older bound, above called Precision, {'fails' if len(failing) == 1 else 'fail'}; "
+            "the sharp precision does not rest on them")
+    if ways is None or ways.older is None:
+        return field_("Older checks", text + (f". No values are found with which they hold: {ways.no_older}" if ways else ""))
+    way, besides = ways.older, " besides the first way" if ways.held else " besides"
+    asks = f"They ask for {values_words(way.changed, run.cluster)}{besides}" if way.changed else "They hold with the first way too"
+    text += f". {asks}; the older bound is then {microseconds(way.bounds.precision, unit)}, and {skew_words(way, ways, unit)}"
+    damped = way.changed.get("pClusterDriftDamping", 0) > run.cluster.parameters["pClusterDriftDamping"]
+    if damped and way.skew > ways.skew:
+        text += ": that makes the clocks worse, since damping is taken off each rate term (docs/PRECISION.md)"
+    return field_("Older checks", text)

@@ -1,0 +1,145 @@
+"""The skew by stretches of cycles: before, while and after an oscillator changes or a node joins, and from when on
+it stays within its later level. The numbers are those of flexray-series, the greatest skew of each cycle, or where
+that is not installed how far the starts of a cycle lie apart in the trace, which is less."""
+import re
+from dataclasses import dataclass
+from fractions import Fraction
+
+from ..base.ending import USAGE, Stop
+from .sync import starts_apart
+
+# Changes that lie no further apart are one; what an oscillator did is corrected two double cycles later.
+TOGETHER, CORRECTED = 20, 4
+MOST = 12
+
+
+@dataclass
+class Window:
+    first: int
+    last: int
+    what: str
+    greatest: int
+    cycle: int
+    most: int
+    mean: Fraction
+    settled: int
+    level: int
+
+
+def skews(run):
+    """(cycle, ticks) of each cycle that has running nodes."""
+    if run.series and run.series.rows:
+        return [(cycle, skew) for cycle, _, skew, _ in run.series.rows if skew is not None]
+    return [(cycle, starts_apart(rows)) for cycle, rows in enumerate(run.cycles)]
+
+
+def exact(run):
+    return bool(run.series and run.series.rows)
+
+
+def settled(rows):
+    """The first of these cycles from which on the skew stays within its level, and that: the greatest of the
+    second half of the rows."""
+    level = max(skew for _, skew in rows[len(rows) // 2:])
+    first = rows[0][0]
+    for cycle, skew in rows:
+        if skew > level:
+            first = cycle + 1
+    return first, level
+
+
+def window(rows, first, last, what):
+    """The figures of the cycles from first to last, or None where none of them has a skew."""
+    rows = [row for row in rows if first <= row[0] <= last]
+    if not rows:
+        return None
+    cycle, greatest = max(rows, key=lambda row: (row[1], -row[0]))
+    ordered = sorted(skew for _, skew in rows)
+    # The least skew that no more than one of a hundred cycles is above.
+    most = ordered[-(-99 * len(ordered) // 100) - 1]
+    return Window(rows[0][0], rows[-1][0], what, greatest, cycle, most, Fraction(sum(ordered), len(ordered)),
+                  *settled(rows))
+
+
+def changes(run):
+    """(first cycle, last cycle, nodes) of stretches in which oscillators change, and (cycle, nodes) that begin."""
+    marks = sorted((cycle, node) for node, steps in run.cluster.lengths.items() for cycle in steps if cycle)
+    found = []
+    for cycle, node in marks:
+        if found and cycle - found[-1][1] <= TOGETHER:
+            found[-1] = found[-1][0], cycle, found[-1][2] | {node}
+        else:
+            found.append((cycle, cycle, {node}))
+    joined = {}
+    for node in run.cluster.joins:
+        cycle = run.first_row(node)
+        if cycle:
+            joined.setdefault(cycle, set()).add(node)
+    return found, sorted(joined.items())
+
+
+def named(nodes):
+    return ("node " if len(nodes) == 1 else "nodes ") + ", ".join(map(str, sorted(nodes)))
+
+
+def stretches(run):
+    """(first, last, what) of the cycles of a run from its first double cycle in sync on."""
+    changing, joining = changes(run)
+    last = len(run.cycles) - 1
+    marks = [(first, min(end + CORRECTED - 1, last), f"{named(nodes)} change{'s' if len(nodes) == 1 else ''}")
+             for first, end, nodes in changing]
+    at = 2 * run.report.in_sync if run.report.in_sync is not None else 0
+    found, what = [], "from sync on" if run.report.in_sync is not None else "from the beginning"
+    points = sorted(marks + [(cycle, None, f"with {named(nodes)}") for cycle, nodes in joining],
+                    key=lambda mark: mark[0])
+    for first, end, name in points:
+        if first > at:
+            found.append((at, first - 1, what))
+        at = max(at, first)
+        if end is None:
+            what = f"{name}"
+        elif end >= at:
+            found.append((at, end, name))
+            at, what = end + 1, "after it"
+    if at <= last:
+        found.append((at, last, what))
+    return found
+
+
+def windows(run, asked=()):
+    """The windows of a run: those that were asked for, or else its stretches."""
+    rows = skews(run)
+    spans = [(first, last, "") for first, last in asked] or stretches(run)
+    return [found for found in (window(rows, *span) for span in spans) if found]
+
+
+def later(run, first=None):
+    """The figures from a cycle on: from the given one, or else from where the first stretch has settled."""
+    rows = skews(run)
+    if not rows:
+        return None
+    if first is None:
+        spans = stretches(run)
+        begun = window(rows, *spans[0]) if spans else None
+        first = begun.settled if begun else rows[0][0]
+    return window(rows, first, rows[-1][0], "")
+
+
+def begin_of(cycle, cluster):
+    if cycle is not None and not 0 <= cycle < cluster.cycles:
+        raise Stop(USAGE, f"--from {cycle}: the run has the cycles 0 to {cluster.cycles - 1}")
+    return cycle
+
+
+def ranges_of(text, cluster):
+    """(first, last) of each range of --cycles."""
+    found = []
+    for part in filter(None, (part.strip() for part in text.split(","))):
+        span = re.fullmatch(r"(\d{1,6})(-(\d{1,6})?)?", part)
+        first = int(span[1]) if span else -1
+        last = -1 if not span else first if not span[2] else int(span[3] or cluster.cycles - 1)
+        if not 0 <= first <= last < cluster.cycles:
+            raise Stop(USAGE, f"--cycles {text}: {part} is no range of the cycles 0 to {cluster.cycles - 1}, as 20-99, 20 "
+                              "or 20-")
+        found.append((first, last))
+    return found

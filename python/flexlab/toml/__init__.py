@@ -1,0 +1,1 @@
+"""A cluster in the units of a bench, read from TOML."""

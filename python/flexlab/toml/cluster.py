@@ -1,0 +1,214 @@
+"""A cluster as a TOML file describes it, in the numbers of flexray's files."""
+from dataclasses import dataclass, field
+from fractions import Fraction
+
+from ..base import ranges
+
+from ..base import units
+from .source import AMOUNTS, Source
+from .values import near
+
+
+@dataclass
+class Node:
+    number: int
+    key_slot: int | None
+    channels: str
+    coldstart: bool
+    arbitrary: bool
+    ppm: Fraction
+    start: int
+    rate: int
+    place: int = 0
+
+
+@dataclass
+class Cluster:
+    path: str
+    microtick_ns: Fraction
+    bit_rate: Fraction
+    start_bits: int
+    parameters: dict
+    doubles: int
+    nodes: dict
+    slots: list
+    lengths: dict = field(default_factory=dict)
+    delays: dict = field(default_factory=dict)
+    script: dict = field(default_factory=dict)
+    joins: dict = field(default_factory=dict)
+    drawn: dict = field(default_factory=dict)
+    power: dict = field(default_factory=dict)
+    text: str = ""
+    notes: list = field(default_factory=list)
+
+    @property
+    def cycles(self):
+        return 2 * self.doubles
+
+    @property
+    def arbitrary(self):
+        return [node.number for node in self.nodes.values() if node.arbitrary]
+
+    @property
+    def correct(self):
+        return [node.number for node in self.nodes.values() if not node.arbitrary]
+
+    @property
+    def macrotick_ns(self):
+        """How long a macrotick lasts by nominal microticks."""
+        return self.parameters["pMicroPerCycle"] * self.microtick_ns / self.parameters["gMacroPerCycle"]
+
+    def common(self, sender, receiver):
+        return [channel for channel in "AB"
+                if channel in self.nodes[sender].channels and channel in self.nodes[receiver].channels]
+
+
+AMID = ("; if the delays of the cluster spread further, put cluster.pDelayCompensation amid them, and the error is half of "
+        "what they spread over")
+# The greatest, in hundredths of a ppm, with which the microtick of a slow oscillator is at most 1500 ticks too long.
+MOST_PPM = Fraction(149825, 100)
+
+
+def amount(table, prefix, microtick_ns, least, most, default=None, more=""):
+    """Ticks of a time that is given as PREFIXus, PREFIXns, PREFIXmicroticks or PREFIXticks."""
+    given = [unit for unit in AMOUNTS if table.has(prefix + unit)]
+    keys = ", ".join(f"`{prefix}{unit}`" for unit in AMOUNTS)
+    if not given and default is not None:
+        return default
+    if len(given) != 1:
+        for other in [] if given else table.unknown():
+            if near(other, [prefix + unit for unit in AMOUNTS]):
+                table.refuse_unknown(other)
+        table.refuse(prefix + given[1] if given else None, f"it wants one of {keys}, and not {len(given)}")
+    unit = given[0]
+    size = {"us": Fraction(1000) / microtick_ns, "ns": 1 / microtick_ns, "microticks": Fraction(1),
+            "ticks": Fraction(1, units.TICKS)}[unit]
+    least_here, most_here = (Fraction(bound, units.TICKS) / size for bound in (least, most))
+    value = table.number(prefix + unit, least_here, most_here, unit, more=more)
+    if unit in ("us", "ns"):
+        return units.ticks_of_ns(value * (1000 if unit == "us" else 1), microtick_ns)
+    return units.ticks_of_microticks(value) if unit == "microticks" else units.rounded(value)
+
+
+def one_of(table, key, other):
+    """Whether the first of two keys is given, of which one has to be."""
+    if table.has(key) == table.has(other):
+        for misspelt in [] if table.has(key) else table.unknown():
+            if near(misspelt, (key, other)):
+                table.refuse_unknown(misspelt)
+        table.refuse(None, f"it wants `{key}` or `{other}` (ticks), one of both")
+    return table.has(key)
+
+
+def read_limits(source, microtick_ns):
+    table = source.table("limits")
+    found = {"xRateBound": 1500, "xChangeBound": 1500, "xDelayError": 10000000}
+    with source.part():
+        if one_of(table, "oscillator_ppm", "xRateBound"):
+            ppm = table.number("oscillator_ppm", 0, MOST_PPM, "ppm", more="; a slower oscillator has a microtick of more "
+                               "than 1500 ticks beside the nominal one. For the standard's 1500 ppm (cClockDeviationMax) "
+                               "take xRateBound = 1500 in place of it")
+            found["xRateBound"] = max(abs(units.length_of(sign * ppm) - units.TICKS) for sign in (1, -1))
+        else:
+            found["xRateBound"] = table.whole("xRateBound", 0, 1500, "ticks")
+    with source.part():
+        if one_of(table, "change_ppm_per_cycle", "xChangeBound"):
+            ppm = table.number("change_ppm_per_cycle", 0, 1499, "ppm")
+            # A step is between two whole lengths, so a part of a tick counts as a whole one.
+            found["xChangeBound"] = -(-ppm.numerator // ppm.denominator)
+        else:
+            found["xChangeBound"] = table.whole("xChangeBound", 0, 1500, "ticks")
+    with source.part():
+        if table.has("xDelayError"):
+            found["xDelayError"] = table.whole("xDelayError", 0, 10000000, "ticks")
+        else:
+            found["xDelayError"] = amount(table, "delay_error_", microtick_ns, 0, 10000000, more=AMID)
+    return found
+
+
+def read_node(table, nodes, microtick_ns, rate_limit):
+    number = table.whole("id", 1, 64)
+    if number in nodes:
+        table.refuse("id", f"node {number} is there already")
+    key_slot = table.whole("key_slot", 1, 1023) if table.has("key_slot") else None
+    node = Node(number, key_slot, table.channels("channels"), table.flag("coldstart", (False,)),
+                table.flag("arbitrary", (False,)), table.number("ppm", -333333, 1000000, "ppm", (Fraction(0),)),
+                amount(table, "start_", microtick_ns, *ranges.START, default=0),
+                table.whole("rate", -rate_limit, rate_limit, "microticks", (0,)), table.index)
+    if node.coldstart and key_slot is None:
+        table.refuse("coldstart", "a coldstart node needs a `key_slot`")
+    if node.arbitrary and key_slot is None:
+        table.refuse("arbitrary", "an arbitrary node needs a `key_slot`")
+    nodes[number] = node
+
+
+def read_nodes(source, microtick_ns, rate_limit):
+    nodes = {}
+    for table in source.tables("node"):
+        with source.part():
+            read_node(table, nodes, microtick_ns, rate_limit)
+    if not source.tables("node"):
+        with source.part():
+            source.table("node").refuse(None, "the file has no [[node]]")
+    return dict(sorted(nodes.items()))
+
+
+def read_slots(source, nodes):
+    slots = []
+    for table in source.tables("slot"):
+        with source.part():
+            slot = table.whole("slot", 1, 1023)
+            sender = table.nodes("node", nodes)
+            if len(sender) != 1:
+                table.refuse("node", "a further slot has one node")
+            base = table.whole("base", 0, 63, default=(0,))
+            repetition = table.whole("repetition", 1, 64, "cycles", (1,))
+            if repetition not in ranges.REPETITIONS:
+                table.refuse("repetition", f"{repetition} is not 1, 2, 4, 8, 16, 32 or 64 cycles")
+            if base >= repetition:
+                table.refuse("base", f"{base} is not below the repetition, {repetition}")
+            if any(slot == known[0] for known in slots):
+                table.refuse("slot", f"slot {slot} is there already")
+            slots.append((slot, sender[0], base, repetition))
+    return slots
+
+
+def read_parameters(source, microtick_ns):
+    """The parameters; one that is refused has its greatest value, with which the rest is read."""
+    table, found = None, {}
+    with source.part():
+        table = source.table("cluster")
+    for name, (least, most, unit, _) in ranges.PARAMETERS.items():
+        if not name.startswith("x"):
+            found[name] = most
+            with source.part():
+                if table:
+                    found[name] = table.whole(name, least, most, unit)
+    with source.part():
+        found.update(read_limits(source, microtick_ns))
+    return found
+
+
+def read_cluster(path, changes=None, drawing=(None, 1)):
+    """Reads a cluster, with its clocks and its script; numbers that are drawn are of this seed and draw. All faults that
+    can be seen at once are told at once."""
+    from .rows import read_delays, read_joins, read_lengths, read_power, read_script
+    source = Source(path, changes, drawing)
+    microtick_ns, bit_rate, start_bits, doubles = Fraction(1000), Fraction(10), 15, 1
+    with source.part():
+        bench = source.table("bench")
+        bit_rate = bench.number("bit_rate_mbit", Fraction(1), Fraction(10), "Mbit/s", (Fraction(10),))
+        start_bits = bench.whole("start_bits", 1, 15, "bits", (15,))
+        microtick_ns = bench.number("microtick_ns", Fraction(1), Fraction(1000), "ns")
+    parameters = read_parameters(source, microtick_ns)
+    with source.part():
+        doubles = source.table("run").whole("double_cycles", *ranges.DOUBLES)
+    nodes = read_nodes(source, microtick_ns, parameters["pRateCorrectionOut"])
+    if len(nodes) < len(source.tables("node")) or not nodes:
+        source.tell()
+    cluster = Cluster(path, microtick_ns, bit_rate, start_bits, parameters, doubles, nodes,
+                      read_slots(source, nodes), drawn=source.drawn, text=source.text)
+    for read in (read_script, read_joins, read_lengths, read_delays, read_power):
+        read(source, cluster)
+    source.tell()
+    return cluster

@@ -1,0 +1,264 @@
+"""Rows for many nodes and cycles: oscillators, delays, two-faced nodes and what is done to frames."""
+from fractions import Fraction
+
+from ..base import ranges
+
+from ..base import units
+from .cluster import amount
+from .source import TIMES
+
+
+def length(table, key, ppm):
+    ticks = units.length_of(ppm)
+    if not ranges.LENGTH[0] <= ticks <= ranges.LENGTH[1]:
+        table.refuse(key, f"a microtick would last {ticks} ticks, which is not from 500000 to 1500000")
+    return ticks
+
+
+def ppm_number(table, key, default=None):
+    return table.number(key, Fraction(-333333), Fraction(1000000), "ppm", default)
+
+
+def reach(table, cluster, default=None):
+    """The cycles of a table, first and last; one that lies wholly behind the end of the run is noted."""
+    first, last = table.cycles("cycles", cluster.cycles, default)
+    behind(table, cluster, "cycles", first)
+    return first, last
+
+
+def behind(table, cluster, key, first):
+    if first >= cluster.cycles:
+        note(table, cluster, key, f"it lies behind the end of the run, whose last cycle is {cluster.cycles - 1}, and has "
+                                  "no effect")
+
+
+def note(table, cluster, key, why):
+    """A line that warns: the table is taken, and does not do what it may be there for."""
+    cluster.notes.append(f"{cluster.path}:{table.line(key)}: {table.key(key)}: {why}")
+
+
+def read_lengths(source, cluster):
+    """For each node which length holds from which cycle on: the node's own, then [[oscillator]] by order."""
+    plans = {node.number: [(0, cluster.cycles - 1, node.ppm, node.ppm)] for node in cluster.nodes.values()}
+    for table in source.tables("node"):
+        with source.part():
+            length(table, "ppm", cluster.nodes[table.whole("id", 1, 64)].ppm)
+    for table in source.tables("oscillator"):
+        with source.part():
+            nodes, row = read_oscillator(table, cluster)
+            for node in nodes:
+                plans[node].append(row)
+    for node, plan in plans.items():
+        if not cluster.nodes[node].arbitrary:
+            cluster.lengths[node] = steps(plan, cluster.cycles)
+
+
+def read_oscillator(table, cluster):
+    nodes = table.nodes("nodes", cluster.nodes)
+    first, last = reach(table, cluster, ("all",))
+    if table.has("ppm"):
+        begin = end = ppm_number(table, "ppm")
+        if table.has("ppm_from") or table.has("ppm_to"):
+            table.refuse("ppm", "it wants `ppm`, or `ppm_from` and `ppm_to`, and not both")
+    else:
+        begin, end = ppm_number(table, "ppm_from"), ppm_number(table, "ppm_to")
+    length(table, "ppm" if table.has("ppm") else "ppm_from", begin)
+    length(table, "ppm" if table.has("ppm") else "ppm_to", end)
+    if table.entries["nodes"] != "all":
+        without_clock(table, "nodes", nodes, cluster)
+    return nodes, (first, last, begin, end)
+
+
+def without_clock(table, key, nodes, cluster):
+    """Notes which of these nodes are arbitrary, and hands back the others."""
+    for node in nodes:
+        if node in cluster.arbitrary:
+            note(table, cluster, key, f"node {node} is arbitrary, so it has no clock and its frames come when they are "
+                                      "said to: for it this table has no effect")
+    return [node for node in nodes if node not in cluster.arbitrary]
+
+
+def steps(plan, cycles):
+    """The cycles at which a length changes, each with its length; a ramp is linear in ppm."""
+    found, before = {}, None
+    marks = sorted({0} | {first for first, _, _, _ in plan} | {last + 1 for _, last, _, _ in plan})
+    for mark, end_mark in zip(marks, marks[1:] + [cycles]):
+        if mark >= cycles:
+            break
+        first, last, begin, end = [row for row in plan if row[0] <= mark <= row[1]][-1]
+        for cycle in range(mark, min(end_mark, cycles)) if begin != end else [mark]:
+            ppm = begin if last == first else begin + (end - begin) * Fraction(cycle - first, last - first)
+            ticks = units.length_of(ppm)
+            if ticks != before:
+                found[cycle] = before = ticks
+    return found
+
+
+def links(table, cluster, senders, receivers, channels, named):
+    """Pairs of different nodes with a common channel; a single pair that has none is refused."""
+    found = [(sender, receiver, channel) for sender in senders for receiver in receivers if sender != receiver
+             for channel in cluster.common(sender, receiver) if channel in channels]
+    if not found:
+        table.refuse(named, f"no two of these nodes have a common channel of {channels}")
+    return found
+
+
+def correct_only(table, key, cluster, why):
+    if table.entries.get(key, "all") == "all":
+        return cluster.correct
+    nodes = table.nodes(key, cluster.nodes)
+    for node in nodes:
+        if node in cluster.arbitrary:
+            table.refuse(key, f"node {node} is arbitrary, and {why}")
+    return nodes
+
+
+def read_delays(source, cluster):
+    for table in source.tables("delay"):
+        with source.part():
+            senders, receivers = delay_ends(table, cluster, "from"), delay_ends(table, cluster, "to")
+            channels = table.channels("channels", ("AB",))
+            first = table.whole("from_cycle", *ranges.CYCLES, default=(0,))
+            behind(table, cluster, "from_cycle", first)
+            ticks = amount(table, "", cluster.microtick_ns, *ranges.DELAY)
+            if senders and receivers:
+                for link in links(table, cluster, senders, receivers, channels, "channels"):
+                    cluster.delays.setdefault(link, {})[first] = ticks
+
+
+def delay_ends(table, cluster, key):
+    """The correct nodes at one end of delays; those that are named and arbitrary are noted."""
+    if table.entries.get(key, "all") == "all":
+        return cluster.correct
+    return without_clock(table, key, table.nodes(key, cluster.nodes), cluster)
+
+
+def read_script(source, cluster):
+    frame_bits = 8 * (8 + 2 * cluster.parameters["gPayloadLengthStatic"])
+    said = []
+    for name in ("two_faced", "say"):
+        for table in source.tables(name):
+            with source.part():
+                nodes = table.nodes("node", cluster.nodes)
+                if len(nodes) != 1:
+                    table.refuse("node", "one node is wanted")
+                if cluster.nodes[nodes[0]].key_slot is None:
+                    table.refuse("node", f"node {nodes[0]} has no key slot, and an arbitrary node needs one")
+                cluster.nodes[nodes[0]].arbitrary = True
+                said.append((name, table, nodes[0]))
+    for name, table, node in said:
+        with source.part():
+            (read_two_faced if name == "two_faced" else read_say)(table, cluster, node)
+    for name in ("lose", "flip"):
+        for table in source.tables(name):
+            with source.part():
+                senders = correct_only(table, "from", cluster, "says only what [[say]] says")
+                receivers = correct_only(table, "to", cluster, "hears nothing")
+                first, last = reach(table, cluster)
+                channels = table.channels("channels", ("AB",))
+                bit = table.whole("bit", 0, frame_bits - 1) if name == "flip" else ""
+                for link in links(table, cluster, senders, receivers, channels, "channels"):
+                    put(table, cluster, link, first, last, (name, bit, ""))
+
+
+def read_joins(source, cluster):
+    """For each node that joins the double cycle in which it listens, and its reference."""
+    for table in source.tables("join"):
+        with source.part():
+            read_join(table, cluster)
+    for table in source.tables("join"):
+        with source.part():
+            reference = one_correct(table, "reference", cluster)
+            if reference in cluster.joins:
+                table.refuse("reference", f"node {reference} joins itself, and a reference is there from cycle 0 on")
+
+
+def read_join(table, cluster):
+    double = table.whole("double_cycle", *ranges.DOUBLE)
+    node, reference = one_correct(table, "node", cluster), one_correct(table, "reference", cluster)
+    if node in cluster.joins:
+        table.refuse("node", f"node {node} joins already")
+    if cluster.nodes[node].start or cluster.nodes[node].rate:
+        table.refuse("node", f"node {node} has a start or a rate, and both come of what it hears as it joins")
+    if node == reference:
+        table.refuse("reference", f"node {node} cannot be its own reference")
+    if cluster.nodes[reference].key_slot is None:
+        table.refuse("reference", f"node {reference} has no key slot, and a reference needs one")
+    if not cluster.common(reference, node):
+        table.refuse("reference", f"nodes {node} and {reference} have no channel in common")
+    behind(table, cluster, "double_cycle", 2 * double)
+    cluster.joins[node] = (double, reference)
+
+
+def one_correct(table, key, cluster):
+    nodes = table.nodes(key, cluster.nodes)
+    if len(nodes) != 1:
+        table.refuse(key, "one node is wanted")
+    if nodes[0] in cluster.arbitrary:
+        table.refuse(key, f"node {nodes[0]} is arbitrary, and only correct nodes join")
+    return nodes[0]
+
+
+def put(table, cluster, link, first, last, row):
+    """A row for each of these cycles that the run has."""
+    for cycle in range(first, min(last, cluster.cycles - 1) + 1):
+        if (cycle, *link) in cluster.script:
+            table.refuse(None, "cycle {}, node {} to node {}, channel {}: another table says something of "
+                               "these frames already".format(cycle, *link))
+        cluster.script[(cycle, *link)] = row
+
+
+def read_two_faced(table, cluster, node):
+    first, last = reach(table, cluster, ("all",))
+    channels = table.channels("channels", ("AB",))
+    ticks = amount(table, "", cluster.microtick_ns, 0, ranges.SHIFT[1])
+    groups = {}
+    for key, shift in (("early", -ticks), ("late", ticks), ("on_time", 0)):
+        for receiver in table.nodes(key, cluster.nodes, ([],)):
+            if receiver in cluster.arbitrary:
+                table.refuse(key, f"node {receiver} is arbitrary, and hears nothing")
+            if receiver in groups:
+                table.refuse(key, f"node {receiver} is in two of `early`, `late` and `on_time`")
+            groups[receiver] = shift
+    if not groups:
+        table.refuse(None, "it wants receivers: `early`, `late` or `on_time`")
+    for receiver, shift in groups.items():
+        for link in links(table, cluster, [node], [receiver], channels, "channels"):
+            put(table, cluster, link, first, last, ("say", shift, ""))
+
+
+def read_say(table, cluster, node):
+    first, last = reach(table, cluster)
+    channels = table.channels("channels", ("AB",))
+    receivers = correct_only(table, "to", cluster, "hears nothing")
+    ticks = amount(table, "", cluster.microtick_ns, *ranges.SHIFT, default=0)
+    frame = table.hexadecimal("frame", 524)
+    for link in links(table, cluster, [node], receivers, channels, "channels"):
+        put(table, cluster, link, first, last, ("say", ticks, frame))
+
+
+def read_power(source, cluster):
+    """For each node when it is switched on and off, in macroticks; off may be None. Later tables of a node follow it."""
+    for table in source.tables("power"):
+        with source.part():
+            nodes = table.nodes("nodes", cluster.nodes, ("all",))
+            on = macroticks(table, "on", cluster, 0)
+            off = macroticks(table, "off", cluster, None)
+            if off is not None and off <= on:
+                table.refuse(None, f"it is off {off} macroticks after the begin, and on {on}: off has to be later")
+            for node in nodes:
+                before = cluster.power.setdefault(node, [])
+                if before and (before[-1][1] is None or on <= before[-1][1]):
+                    table.refuse("nodes", f"node {node} is on already by an earlier table, and tables of a node ascend")
+                before.append((on, off))
+
+
+def macroticks(table, switch, cluster, default):
+    """The macrotick of a switch that is given as SWITCH_ms, _us or _macroticks."""
+    given = [unit for unit in TIMES if table.has(f"{switch}_{unit}")]
+    if not given:
+        return default
+    if len(given) > 1:
+        table.refuse(f"{switch}_{given[1]}", "it wants one of " + ", ".join(f"`{switch}_{unit}`" for unit in TIMES))
+    size = {"ms": 1000000 / cluster.macrotick_ns, "us": 1000 / cluster.macrotick_ns, "macroticks": Fraction(1)}[given[0]]
+    return units.rounded(size * table.number(f"{switch}_{given[0]}", *(bound / size for bound in ranges.POWER), given[0]))

@@ -1,0 +1,151 @@
+"""A TOML file: its text, its tables, and the numbers that [values] names."""
+import contextlib
+import re
+import tomllib
+from decimal import Decimal, InvalidOperation
+from fractions import Fraction
+
+from .draws import draw
+from ..base.ending import FILE, REFUSED, Refused, Stop
+from .places import line_of
+from ..base.ranges import PARAMETERS
+from .values import Table, near, shown
+
+AMOUNTS = ("us", "ns", "microticks", "ticks")
+# Of the times of a startup, which are whole macroticks.
+TIMES = ("ms", "us", "macroticks")
+SCRIPT = ("cycles", "channels", *AMOUNTS)
+# The keys that a table may have; of [values] any.
+KEYS = {
+    "values": (),
+    "bench": ("microtick_ns", "bit_rate_mbit", "start_bits"),
+    "cluster": tuple(name for name in PARAMETERS if not name.startswith("x")),
+    "limits": ("oscillator_ppm", "xRateBound", "change_ppm_per_cycle", "xChangeBound", "xDelayError",
+               *(f"delay_error_{unit}" for unit in AMOUNTS)),
+    "run": ("double_cycles", "seed"),
+    "node": ("id", "channels", "key_slot", "coldstart", "arbitrary", "ppm", "rate",
+             *(f"start_{unit}" for unit in AMOUNTS)),
+    "slot": ("slot", "node", "base", "repetition"),
+    "oscillator": ("nodes", "cycles", "ppm", "ppm_from", "ppm_to"),
+    "delay": ("from", "to", "channels", "from_cycle", *AMOUNTS),
+    "two_faced": ("node", "early", "late", "on_time", *SCRIPT),
+    "say": ("node", "to", "frame", *SCRIPT),
+    "lose": ("from", "to", "cycles", "channels"),
+    "flip": ("from", "to", "cycles", "channels", "bit"),
+    "join": ("node", "reference", "double_cycle"),
+    "power": ("nodes", *(f"{switch}_{unit}" for switch in ("on", "off") for unit in TIMES)),
+    "observer": ("resolution_ns", "drift_ppm", "error_ns", "jitter_ns", "delay_from_ns", "delay_to_ns", "missed_none",
+                 "in_sync_from_cycle"),
+    "observer_delay": ("nodes", "channels", "from_ns", "to_ns"),
+    "asc": ("columns", "hexadecimal", "sums_are_exact"),
+}
+SINGLE = ("bench", "cluster", "limits", "run", "values", "observer", "asc")
+MANY = tuple(name for name in KEYS if name not in SINGLE)
+
+
+class Source:
+    def __init__(self, path, changes=None, drawing=(None, 1)):
+        """Reads the file; `changes` are pairs of a key's path and a number that takes its value's place, `drawing` is the
+        seed, or None for that of the file, and the number of the draw."""
+        self.path, self.values, self.faults = path, {}, []
+        try:
+            with open(path, "rb") as file:
+                # A byte order mark is none of the text.
+                self.text = file.read().decode("utf-8-sig")
+        except OSError as fault:
+            raise Stop(FILE, f"{path}: {fault.strerror}")
+        except UnicodeDecodeError as fault:
+            raise Stop(REFUSED, f"{path}: byte {fault.start} is no UTF-8: have the editor keep the file as UTF-8")
+        try:
+            self.entries = tomllib.loads(self.text, parse_float=Decimal)
+        except (tomllib.TOMLDecodeError, InvalidOperation) as fault:
+            raise self.no_toml(str(fault))
+        self.check_names()
+        for key, number in (changes or {}).items():
+            self.change(key, number)
+        self.drawn = draw(path, self.text, self.entries, *drawing)
+        self.named()
+
+    def no_toml(self, fault):
+        """What ends flexlab where the file is no TOML: the line and its text, and what it may be."""
+        place = re.search(r"at line (\d+)", fault)
+        if not place:
+            return Stop(REFUSED, f"{self.path}: this is not TOML: {fault}")
+        text = self.text.splitlines()[int(place[1]) - 1].strip() if int(place[1]) <= len(self.text.splitlines()) else ""
+        hint = "; a number has a point, no comma" if re.search(r"=\s*[+-]?\d+,\d", text) else (
+            "; a text has quotes" if re.search(r"=\s*[A-Za-z]", text) and not re.search(r"=\s*(true|false)\b", text) else "")
+        return Refused(self.path, int(place[1]), f"this is not TOML: {fault}: {text}{hint}")
+
+    @contextlib.contextmanager
+    def part(self):
+        """Reads a part of the file: where it is refused the fault is kept, and reading goes on behind it."""
+        try:
+            yield
+        except Refused as fault:
+            if fault.line not in (known.line for known in self.faults):
+                self.faults.append(fault)
+
+    def tell(self):
+        """Ends flexlab where the file has faults, with all of them by line."""
+        if self.faults:
+            found = sorted(self.faults, key=lambda fault: fault.place or 0)
+            raise Stop(REFUSED, "\nflexlab: ".join(fault.line for fault in found))
+
+    def check_names(self):
+        for name, entries in self.entries.items():
+            with self.part():
+                if name not in KEYS:
+                    self.refuse_table(name)
+            listed = isinstance(entries, list) and all(isinstance(entry, dict) for entry in entries)
+            if name in KEYS and not (listed if name in MANY else isinstance(entries, dict)):
+                kind = f"[[{name}]] tables" if name in MANY else f"one table [{name}]"
+                raise Refused(self.path, line_of(self.text, name, 0, None), f"`{name}` has to be {kind}")
+        for name in KEYS:
+            for table in self.tables(name) if name in MANY else [self.plain_table(name)]:
+                for key in table.unknown():
+                    with self.part():
+                        table.refuse_unknown(key)
+
+    @staticmethod
+    def home(key):
+        """The single table that has a key which stands in another one, or None."""
+        return next((f"[{name}]" for name in SINGLE if key in KEYS[name]), None)
+
+    def refuse_table(self, name):
+        like = near(name, KEYS)
+        hint = f"; did you mean `{like}`?" if like else f"; there are {', '.join(SINGLE + MANY)}"
+        raise Refused(self.path, line_of(self.text, name, 0, None), f"there is no table `{name}`{hint}")
+
+    def change(self, key, number):
+        """Sets `table.key` or `table[N].key`, N from 1, which has to be there."""
+        table, _, entry = key.rpartition(".")
+        name, _, place = table.partition("[")
+        holder = self.entries.get(name)
+        if place:
+            rest = place.rstrip("]")
+            index = int(rest) if rest.isdigit() else 0
+            holder = holder[index - 1] if isinstance(holder, list) and 1 <= index <= len(holder) else None
+        if not isinstance(holder, dict) or entry not in holder:
+            raise Stop(REFUSED, f"{self.path}: there is no value `{key}` to be varied; write TABLE.KEY, or "
+                                "TABLE[N].KEY for the Nth table of that name")
+        holder[entry] = number
+
+    def named(self):
+        for name, value in self.entries.get("values", {}).items():
+            with self.part():
+                if isinstance(value, bool) or not isinstance(value, (int, Decimal, Fraction)) or (
+                        isinstance(value, Decimal) and not value.is_finite()):
+                    Table(self, "values", None, {}).refuse(name, f"{shown(value)} is not a number")
+                self.values[name] = Fraction(value)
+
+    def plain_table(self, name):
+        return Table(self, name, None, self.entries.get(name, {}), KEYS[name])
+
+    def table(self, name):
+        for other in self.entries:
+            if name not in self.entries and other not in KEYS and near(other, KEYS) == name:
+                self.refuse_table(other)
+        return self.plain_table(name)
+
+    def tables(self, name):
+        return [Table(self, name, index, entries, KEYS[name]) for index, entries in enumerate(self.entries.get(name, []))]

@@ -1,0 +1,165 @@
+"""One value of a TOML file at a time: what it may be, and the refusal with line, key and range."""
+import difflib
+import re
+from decimal import Decimal
+from fractions import Fraction
+
+from ..base.ending import Refused
+from .places import line_of
+from ..base.ranges import CYCLES
+from ..base.units import decimal
+
+
+def shown(value):
+    if isinstance(value, Fraction):
+        return str(value.numerator) if value.denominator == 1 else decimal(value, 6).rstrip("0")
+    if isinstance(value, Decimal):
+        return format(value, "f") if value.is_finite() else str(value)
+    if isinstance(value, str):
+        return f'"{value}"'
+    if isinstance(value, bool):
+        return "true" if value else "false"
+    return str(value)
+
+
+def near(word, known):
+    """The known name that is spelt most like a word, whatever the case of letters, or None."""
+    folded = {name.lower(): name for name in sorted(known)}
+    found = difflib.get_close_matches(word.lower(), folded, 1, 0.6)
+    return folded[found[0]] if found else None
+
+
+class Table:
+    """One table of the file: hands out its values and refuses what does not fit."""
+
+    def __init__(self, source, name, index, entries, keys=()):
+        self.source, self.name, self.index, self.entries, self.keys = source, name, index, entries, keys
+
+    def key(self, key=None):
+        table = self.name if self.index is None else f"{self.name}[{self.index + 1}]"
+        return table if key is None else f"{table}.{key}"
+
+    def line(self, key=None):
+        return line_of(self.source.text, self.name, self.index, key)
+
+    def refuse(self, key, why):
+        raise Refused(self.source.path, self.line(key), f"{self.key(key)}: {why}")
+
+    def has(self, key):
+        return key in self.entries
+
+    def take(self, key, wanted, default):
+        if key in self.entries:
+            return self.entries[key]
+        for other in self.unknown():
+            if near(other, self.keys) == key:
+                self.refuse_unknown(other)
+        if default is not None:
+            return default[0]
+        self.refuse(None, f"the key `{key}` is missing: {wanted}")
+
+    def unknown(self):
+        return [key for key in self.entries if key not in self.keys] if self.keys else []
+
+    def refuse_unknown(self, key):
+        like, other = near(key, self.keys), self.source.home(key)
+        self.refuse(key, "there is no such key" + (f": it belongs into {other}" if other
+                                                   else f"; did you mean `{like}`?" if like
+                                                   else f"; it may have {', '.join(sorted(self.keys))}"))
+
+    def number(self, key, least, most, unit="", default=None, more=""):
+        """A number as an exact fraction, or the name of one of [values], a `-` before it allowed."""
+        span = f"a number from {shown(least)} to {shown(most)}{' ' + unit if unit else ''}"
+        value = self.take(key, span, default)
+        value = self.plain(key, value, span)
+        if not least <= value <= most:
+            self.refuse(key, f"{shown(value)} is not {span}{more}")
+        return value
+
+    def plain(self, key, value, span):
+        if isinstance(value, str):
+            named = re.fullmatch(r"([+-]?)\s*([A-Za-z_]\w*)", value)
+            if not named or named.group(2) not in self.source.values:
+                known = ", ".join(sorted(self.source.values)) or "none"
+                plain = "; write it without quotes" if re.fullmatch(r"[+-]?\d+([.,]\d+)?", value) else ""
+                self.refuse(key, f"{shown(value)} is neither {span} nor a name of [values] (there: {known}){plain}")
+            number = self.source.values[named.group(2)]
+            return -number if named.group(1) == "-" else number
+        if isinstance(value, bool) or not isinstance(value, (int, Decimal, Fraction)):
+            self.refuse(key, f"{shown(value)} is not {span}")
+        if isinstance(value, Decimal) and not value.is_finite():
+            self.refuse(key, f"{shown(value)} is not {span}")
+        return Fraction(value)
+
+    def whole(self, key, least, most, unit="", default=None):
+        span = f"a whole number from {least} to {most}{' ' + unit if unit else ''}"
+        value = self.plain(key, self.take(key, span, default), span)
+        if value.denominator != 1 or not least <= value <= most:
+            self.refuse(key, f"{shown(value)} is not {span}")
+        return int(value)
+
+    def flag(self, key, default=None):
+        value = self.take(key, "true or false", default)
+        if not isinstance(value, bool):
+            self.refuse(key, f"{shown(value)} is not true or false")
+        return value
+
+    def text(self, key, wanted, default=None):
+        value = self.take(key, wanted, default)
+        if not isinstance(value, str):
+            self.refuse(key, f"{shown(value)} is not a text of {wanted}")
+        return value
+
+    def channels(self, key, default=None):
+        value = self.take(key, '"A", "B" or "AB"', default)
+        if value not in ("A", "B", "AB"):
+            self.refuse(key, f'{shown(value)} is not "A", "B" or "AB"')
+        return value
+
+    def hexadecimal(self, key, most):
+        value = self.take(key, "hexadecimal digits", ("",))
+        if not isinstance(value, str) or not re.fullmatch(r"(?:[0-9A-Fa-f]{2})*", value):
+            self.refuse(key, f"{shown(value)} is not text of hexadecimal digits, two a byte")
+        if len(value) > most:
+            self.refuse(key, f"{len(value)} digits are more than {most}")
+        return value
+
+    def nodes(self, key, known, default=None):
+        """Node numbers: one, a list, "all", or a text such as "1-4,6"; in ascending order."""
+        wanted = 'a node number, a list of them, "all", or a text such as "1-4,6"'
+        value = self.take(key, wanted, default)
+        found = set()
+        if value == "all":
+            return sorted(known)
+        parts = value if isinstance(value, list) else [value]
+        if isinstance(value, str):
+            parts = [part.strip() for part in value.split(",")]
+        for part in parts:
+            span = re.fullmatch(r"(\d{1,3})(?:\s*-\s*(\d{1,3}))?", str(part))
+            if isinstance(part, bool) or not span:
+                self.refuse(key, f"{shown(part)} is not {wanted}")
+            first, last = int(span.group(1)), int(span.group(2) or span.group(1))
+            if first > last:
+                self.refuse(key, f"{shown(part)} runs backward")
+            found.update(range(first, last + 1))
+        for node in sorted(found):
+            if node not in known:
+                self.refuse(key, f"there is no node {node}; nodes are {', '.join(map(str, sorted(known)))}")
+        return sorted(found)
+
+    def cycles(self, key, cycles, default=None):
+        """First and last cycle: one number, "all", "FROM-TO" or "FROM-". They may lie behind the end of the run."""
+        wanted = f'a cycle from 0 to {CYCLES[1]}, "all", "FROM-TO" or "FROM-"'
+        value = self.take(key, wanted, default)
+        if value == "all":
+            return 0, cycles - 1
+        span = re.fullmatch(r"(\d{1,6})(\s*-\s*(\d{1,6})?)?", str(value))
+        if isinstance(value, bool) or not span:
+            self.refuse(key, f"{shown(value)} is not {wanted}")
+        first = int(span.group(1))
+        last = first if not span.group(2) else int(span.group(3) or max(first, cycles - 1))
+        if last < first:
+            self.refuse(key, f"{shown(value)} runs backward")
+        if last > CYCLES[1]:
+            self.refuse(key, f"{shown(value)} is not {wanted}")
+        return first, last
