@@ -9,8 +9,8 @@ import os
 from typing import Union
 
 from . import texts
-from .errors import BY_STATUS, FlexrayError, NoFrame, ReadFault
-from .library import DONE, MOST, NO, Answer, request, series_request
+from .errors import BY_STATUS, FlexrayError, NoFrame, ReadFault, Usage
+from .library import DONE, MOST, NO, Answer, given_bytes, request, series_request, shown, whole
 from .results import (Bound, Capture, Frame, Observation, Report, Series, Settled, SharpBound, SharpSeries,
                       SharpSettled, Startup, Trace, Upgraded, Vectors, Verdict)
 
@@ -23,6 +23,12 @@ Input = Union[bytes, bytearray, memoryview, str, "os.PathLike[str]"]
 Raw = Union[bytes, bytearray, memoryview, "os.PathLike[str]"]
 
 
+#: What the program writes where words are no request.
+_USAGE = "usage: flexray COMMAND WORDS"
+# The ranges of the numbers among the words (docs/FORMATS.md).
+_TICKS, _FLUTTER, _WIDTH, _SEED, _DOUBLES = (0, 1_000_000_000_000), (0, 20_000_000), (1, 12), (0, 4_294_967_295), (1, 10_000)
+
+
 def _content(role: str, given: Input, raw: bool = False) -> bytes:
     if isinstance(given, os.PathLike):
         try:
@@ -31,14 +37,19 @@ def _content(role: str, given: Input, raw: bool = False) -> bytes:
                 return file.read(MOST + 1)
         except OSError as fault:
             raise ReadFault(f"{role}: read fault") from fault
+        except ValueError as fault:
+            raise ValueError(f"{role}: {fault} in the path {shown(os.fspath(given))}") from fault
     if isinstance(given, str):
         if raw:
             raise TypeError(f"{role} is raw bytes: give them as bytes (bytes.fromhex makes them of digits), or a path as "
                             "pathlib.Path(...)")
         if given and "," not in given and "\n" not in given:
-            raise ValueError(f"{role}: {given!r} is no text of records; a path is given as pathlib.Path({given!r})")
-        return given.encode()
-    return bytes(given)
+            raise ValueError(f"{role}: {shown(given)} is no text of records; a path is given as pathlib.Path({shown(given)})")
+        try:
+            return given.encode()
+        except UnicodeEncodeError as fault:
+            raise ValueError(f"{role}: the text has a half of a pair of surrogates at {fault.start}; give the bytes") from fault
+    return given_bytes(role, given, f"give its bytes, {'' if raw else 'its text, '}or its path as pathlib.Path(...)")
 
 
 def _text(answer: Answer) -> str:
@@ -55,22 +66,37 @@ def _answered(words: tuple[object, ...], files: dict[str, Input]) -> Answer:
     return request([str(word) for word in words], *(_content(role, given) for role, given in files.items()))
 
 
-def _whole(value: int) -> int:
+def _whole(name: str, value: int, least_most: tuple[int, int]) -> int:
     """A number among the words: True, 1.5 and "7 sharp 0" are none."""
-    if isinstance(value, bool) or not isinstance(value, int):
-        raise TypeError(f"{value!r} is no whole number")
-    return value
+    found, (least, most) = whole(name, value), least_most
+    if not least <= found <= most:
+        raise Usage(_USAGE, f"{name}: {shown(found)} is not from {least} to {most}")
+    return found
+
+
+def _channel(channel: str) -> str:
+    if not isinstance(channel, str):
+        raise TypeError(f'channel: {shown(channel)} is neither "A" nor "B"')
+    if channel not in ("A", "B"):
+        raise Usage(_USAGE, f"channel: {shown(channel)} is neither A nor B")
+    return channel
+
+
+def _join(join: bool) -> list[str]:
+    if not isinstance(join, bool):
+        raise TypeError(f"join: {shown(join)} is neither True nor False")
+    return ["join"] if join else []
 
 
 def bound(params: Input, *, join: bool = False) -> Bound:
     """The bounds and checks of a cluster's parameters; with `join` the reach and the checks of one that nodes join too."""
-    return texts.bound(_asked("bound", "first", *(["join"] if join else []), params=params))
+    return texts.bound(_asked("bound", "first", *_join(join), params=params))
 
 
 def sharp_bound(params: Input, flutter: int = 0, *, join: bool = False) -> SharpBound:
     """The sharper bounds where delays flutter by at most so many ticks, 0 to 20,000,000; with `join` the reach and the checks
     of a cluster that nodes join too."""
-    return texts.sharp_bound(_asked("bound", "first", "sharp", _whole(flutter), *(["join"] if join else []), params=params), join)
+    return texts.sharp_bound(_asked("bound", "first", "sharp", _whole("flutter", flutter, _FLUTTER), *_join(join), params=params), join)
 
 
 def upgrade(params: Input) -> Upgraded:
@@ -113,14 +139,19 @@ def observe(params: Input, log: Input) -> Observation:
     return texts.observation(_asked("observe", "first", "second", params=params, log=log))
 
 
+def _spread(start: int, rate: int) -> tuple[int, int]:
+    return _whole("start", start, _TICKS), _whole("rate", rate, _TICKS)
+
+
 def settle(params: Input, start: int, rate: int) -> Settled:
     """How soon clocks are in sync whose first starts, and first lengths of cycles, lie at most so many ticks apart."""
-    return texts.settled(_asked("settle", "first", _whole(start), _whole(rate), params=params))
+    return texts.settled(_asked("settle", "first", *_spread(start, rate), params=params))
 
 
 def sharp_settle(params: Input, start: int, rate: int, flutter: int = 0) -> SharpSettled:
     """How soon they are in sharp sync, where delays flutter by at most so many ticks."""
-    return texts.sharp_settled(_asked("settle", "first", _whole(start), _whole(rate), "sharp", _whole(flutter), params=params))
+    return texts.sharp_settled(_asked("settle", "first", *_spread(start, rate), "sharp", _whole("flutter", flutter, _FLUTTER),
+                                      params=params))
 
 
 def cold(params: Input, power: Input) -> Startup:
@@ -130,7 +161,7 @@ def cold(params: Input, power: Input) -> Startup:
 
 def frame(channel: str, data: Raw) -> Frame:
     """The frame that these bytes are on channel A or B; raises NoFrame where they are none."""
-    answer = request(["frame", channel, "first"], _content("frame", data, raw=True))
+    answer = request(["frame", _channel(channel), "first"], _content("frame", data, raw=True))
     if answer.status == NO:
         raise NoFrame(answer.line)
     return texts.frame(_text(answer))
@@ -138,14 +169,14 @@ def frame(channel: str, data: Raw) -> Frame:
 
 def capture(channel: str, data: Raw) -> Capture:
     """The frames one behind the other in a recording of channel A or B, up to the first fault."""
-    return texts.capture(_text(request(["capture", channel, "first"], _content("capture", data, raw=True))))
+    return texts.capture(_text(request(["capture", _channel(channel), "first"], _content("capture", data, raw=True))))
 
 
 def nm(width: int, vectors: Input) -> Vectors:
     """The network management vectors of a recording, of 1 to 12 bytes."""
-    return texts.vectors(_asked("nm", _whole(width), "first", vectors=vectors))
+    return texts.vectors(_asked("nm", _whole("width", width, _WIDTH), "first", vectors=vectors))
 
 
 def make(seed: int, doubles: int) -> Report:
     """The report of the cluster of eight nodes that a seed makes, over so many double cycles."""
-    return texts.report(_asked("make", _whole(seed), _whole(doubles)))
+    return texts.report(_asked("make", _whole("seed", seed, _SEED), _whole("doubles", doubles, _DOUBLES)))

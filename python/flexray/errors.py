@@ -28,9 +28,15 @@ class NoFrame(FlexrayError):
 
 
 class Usage(FlexrayError):
-    """The words are no request: a number among them is outside its range, as a channel that is neither A nor B."""
+    """The words are no request: a number among them is outside its range, or a channel is neither A nor B. The message names the
+    argument and its range; `line` is the program's."""
 
     status = 2
+
+    def __init__(self, line: str, told: str = "") -> None:
+        super().__init__(line)
+        if told:
+            self.args = (told,)
 
 
 class ReadFault(FlexrayError):

@@ -3,15 +3,20 @@ from __future__ import annotations
 
 import ctypes
 import ctypes.util
+import operator
 import os
+import sys
 import threading
 from dataclasses import dataclass
-from typing import Any, Sequence
+from typing import Any, Sequence, Union
 
 from .errors import LibraryMissing
 
-__all__ = ["DONE", "NO", "USAGE", "READ_FAULT", "WRITE_FAULT", "REFUSED", "NO_MEMORY", "TOO_LONG", "MOST", "Answer", "request",
-           "series_request", "version", "path"]
+__all__ = ["DONE", "NO", "USAGE", "READ_FAULT", "WRITE_FAULT", "REFUSED", "NO_MEMORY", "TOO_LONG", "MOST", "Answer", "Bytes",
+           "request", "series_request", "version", "path"]
+
+#: Bytes of a file.
+Bytes = Union[bytes, bytearray, memoryview]
 
 #: The exit statuses of the program.
 DONE, NO, USAGE, READ_FAULT, WRITE_FAULT, REFUSED, NO_MEMORY, TOO_LONG = range(8)
@@ -98,18 +103,69 @@ def version() -> str:
     return f"{number // 10000}.{number // 100 % 100}.{number % 100}"
 
 
-def _call(name: str, words: Sequence[str], files: Sequence[bytes], room: int | None, line_room: int) -> Answer:
-    function: Any = getattr(_library(), name)
-    if len(files) > 3:
-        raise TypeError(f"a request has at most three files, and {len(files)} were given")
+def shown(value: object) -> str:
+    """A value in a message, which holds no long text whole."""
+    if isinstance(value, int) and abs(value) >= 10 ** 30:
+        return f"a whole number of {value.bit_length()} bits"
+    try:
+        text = repr(value[:60] if isinstance(value, (str, bytes, bytearray, list, tuple)) else value)
+    except ValueError:
+        # Of so many digits that Python refuses to write them.
+        text = f"a {type(value).__name__}"
+    return text if len(text) <= 60 else f"{text[:57]}..."
+
+
+def whole(name: str, value: object) -> int:
+    """A number that is whole, numpy's too; True, 1.5 and "7" are none."""
+    if not isinstance(value, bool):
+        try:
+            return operator.index(value)  # type: ignore[arg-type]
+        except TypeError:
+            pass
+    raise TypeError(f"{name}: {shown(value)} is no whole number")
+
+
+def given_bytes(name: str, data: object, wanted: str = "bytes are wanted") -> bytes:
+    """The bytes of a file that is given as such: of what has the interface of buffers, and of nothing else, so that 5 is not
+    five zero bytes."""
+    if isinstance(data, bytes):
+        return data
+    try:
+        return memoryview(data).tobytes()  # type: ignore[arg-type]
+    except TypeError:
+        pass
+    hint = ", as its read() answers them" if hasattr(data, "read") else ""
+    raise TypeError(f"{name}: {shown(data)} is no content of a file: {wanted}{hint}")
+
+
+def _room(name: str, room: object) -> int:
+    """How many bytes a place has. ctypes would take -1 for the greatest length there is, and the library then writes past the
+    place."""
+    found = whole(name, room)
+    if not 0 <= found <= sys.maxsize:
+        raise ValueError(f"{name}: {shown(found)} is no length of a place, which is from 0 to {sys.maxsize} bytes")
+    return found
+
+
+def _spelt(words: Sequence[str]) -> bytes:
+    if isinstance(words, (str, bytes)) or not all(isinstance(word, str) for word in words):
+        raise TypeError(f'words: {shown(words)} is no list of texts, as ["bound", "first"]')
     if any("\n" in word for word in words):
-        raise ValueError("a word has a line feed, and words are handed over one to a line")
-    spelt = "\n".join(words).encode("utf-8", "surrogateescape")
+        raise ValueError("words: a word has a line feed, and words are handed over one to a line")
+    return "\n".join(words).encode("utf-8", "surrogateescape")
+
+
+def _call(name: str, words: Sequence[str], files: Sequence[Bytes], room: int | None, line_room: int) -> Answer:
+    # What is handed over is looked at before the library is, which trusts lengths.
+    spelt = _spelt(words)
     lent: list[Any] = []
-    for data in [*files, *[b""] * (3 - len(files))]:
+    for role, given in zip(("first", "second", "third"), files):
+        data = given_bytes(role, given)
         lent += [data, len(data)]
+    line_room = _room("line_room", line_room)
     kind = (name, words[0] if words else "")
-    out_room = _rooms.get(kind, _ROOM) if room is None else room
+    out_room = _rooms.get(kind, _ROOM) if room is None else _room("room", room)
+    function: Any = getattr(_library(), name)
     while True:
         out, line, told = ctypes.create_string_buffer(max(out_room, 1)), ctypes.create_string_buffer(max(line_room, 1)), _Texts()
         status = function(spelt, len(spelt), *lent, out, out_room, line, line_room, ctypes.byref(told))
@@ -122,18 +178,18 @@ def _call(name: str, words: Sequence[str], files: Sequence[bytes], room: int | N
                   ctypes.string_at(line, told.line).decode("ascii").rstrip("\n"))
 
 
-def request(words: Sequence[str], first: bytes = b"", second: bytes = b"", third: bytes = b"", *, room: int | None = None,
+def request(words: Sequence[str], first: Bytes = b"", second: Bytes = b"", third: Bytes = b"", *, room: int | None = None,
             line_room: int = _LINE) -> Answer:
     """What `flexray WORDS` answers where `first`, `second` and `third` among the words name files of these bytes.
 
-    `room` is how long the first place for the text is; it grows as it has to, so no caller needs it. The call gives up the
-    interpreter's lock, and may be made by several threads at once: each has places of its own. It needs half a megabyte of
-    stack.
+    `room` and `line_room` are how many bytes the first places for the text and the line have, from 0; they grow as they have
+    to, so no caller needs them. A ValueError comes of one below 0. The call gives up the interpreter's lock, and may be made by
+    several threads at once: each has places of its own. It needs half a megabyte of stack.
     """
     return _call("flexray_request", words, [first, second, third], room, line_room)
 
 
-def series_request(words: Sequence[str], first: bytes = b"", second: bytes = b"", third: bytes = b"", *,
+def series_request(words: Sequence[str], first: Bytes = b"", second: Bytes = b"", third: Bytes = b"", *,
                    room: int | None = None, line_room: int = _LINE) -> Answer:
     """The same of `flexray-series WORDS`."""
     return _call("flexray_series_request", words, [first, second, third], room, line_room)

@@ -1,6 +1,8 @@
 """The Python package: every example against its stored text, what is raised, small places, threads, and that units are those of
 flexlab."""
+import io
 import os
+import pickle
 import random
 import re
 import subprocess
@@ -47,6 +49,107 @@ def examples():
             text, told, status = ((folder / name).read_text() if (folder / name).exists() else ""
                                   for name in ("printed.txt", "told.txt", "status"))
             yield folder.name, (folder / "program").exists(), spelt, files, int(status or 0), text, told.strip()
+
+
+class Index:
+    """A whole number of another type, as numpy has them."""
+
+    def __init__(self, number: int) -> None:
+        self.number = number
+
+    def __index__(self) -> int:
+        return self.number
+
+
+class Arguments(Bench):
+    """What is wrong with a call is told before the library is asked, so these need none."""
+
+    def told(self, kind, wanted, call, *given, **named):
+        with self.assertRaises(kind) as raised:
+            call(*given, **named)
+        self.assertEqual(type(raised.exception), kind)
+        self.assertRegex(str(raised.exception), wanted)
+        self.assertLess(len(str(raised.exception)), 250)
+        return raised.exception
+
+    def test_a_place_of_less_than_nothing_is_refused(self):
+        """The library writes as far as it is told that a place goes, and ctypes makes 2 ** 64 - 1 of -1."""
+        for call in (flexray.request, flexray.series_request):
+            for name in ("room", "line_room"):
+                for room in (-1, -2 ** 63, 2 ** 63, 2 ** 64):
+                    self.told(ValueError, f"^{name}: {room} is no length of a place", call, ["bound", "first"], b"", **{name: room})
+                for room in (1.5, True, "7"):
+                    self.told(TypeError, f"^{name}: .* is no whole number", call, ["bound", "first"], b"", **{name: room})
+
+    def test_what_is_no_file_is_told(self):
+        """5 is not five zero bytes."""
+        for given in (5, True, 10 ** 10, -1, [1, 2], 1.5, None, ["params\n"]):
+            self.told(TypeError, "^params: .* is no content of a file: give its bytes, its text, or its path", flexray.run, given, b"", b"")
+            self.told(TypeError, "^second: .* is no content of a file", flexray.request, ["run", "first", "second", "third"], b"", given)
+            self.told(TypeError, "^frame: .* is no content of a file", flexray.frame, "A", given)
+        with open(OFFSET[0], "rb") as file:
+            self.told(TypeError, r"^drift: .* its read\(\) answers", flexray.run, b"", file, b"")
+        self.told(TypeError, r"^script: .* its read\(\) answers", flexray.run, b"", b"", io.BytesIO(b"x"))
+        self.told(TypeError, "^first: 'text' is no content", flexray.request, ["bound", "first"], "text")
+        self.told(ValueError, "^params: .* is no text of records", flexray.bound, "a" * 100000)
+        self.told(ValueError, "^params: the text has a half of a pair of surrogates at 2", flexray.bound, "a,\udcff\n")
+        self.told(ValueError, "^params: embedded null byte", flexray.bound, Path("a\0b"))
+
+    def test_words_that_are_no_list_of_texts_are_told(self):
+        for words in ("bound", b"bound", [1, 2], [b"bound"]):
+            self.told(TypeError, "^words: .* is no list of texts", flexray.request, words)
+        self.told(ValueError, "^words: a word has a line feed", flexray.request, ["bound", "first\njoin"])
+        self.told(TypeError, "^join: 'no' is neither True nor False", flexray.bound, b"", join="no")
+
+    def test_numbers_and_channels_are_told_with_their_range(self):
+        params = OFFSET[0]
+        for name, wanted, call, given in (
+                ("start", "-1 is not from 0 to 1000000000000", flexray.settle, (params, -1, 0)),
+                ("rate", "1000000000001 is not from 0 to 1000000000000", flexray.settle, (params, 0, 10 ** 12 + 1)),
+                ("flutter", "20000001 is not from 0 to 20000000", flexray.sharp_bound, (params, 20000001)),
+                ("flutter", "-1 is not from", flexray.sharp_settle, (params, 0, 0, -1)),
+                ("width", "13 is not from 1 to 12", flexray.nm, (13, b"")),
+                ("seed", "4294967296 is not from 0 to 4294967295", flexray.make, (2 ** 32, 1)),
+                ("seed", "a whole number of 16610 bits is not", flexray.make, (10 ** 5000, 1)),
+                ("doubles", "0 is not from 1 to 10000", flexray.make, (7, 0)),
+                ("channel", "'C' is neither A nor B", flexray.frame, ("C", b"")),
+                ("channel", "'A\\\\nB' is neither A nor B", flexray.capture, ("A\nB", b""))):
+            raised = self.told(flexray.Usage, f"^{name}: {wanted}", call, *given)
+            self.assertEqual((raised.status, raised.line), (2, "usage: flexray COMMAND WORDS"))
+            copied = pickle.loads(pickle.dumps(raised))
+            self.assertEqual((str(copied), copied.line), (str(raised), raised.line))
+        for value in (1.5, True, "7", None):
+            self.told(TypeError, "^seed: .* is no whole number", flexray.make, value, 2)
+        self.told(TypeError, "^channel: None is neither", flexray.frame, None, b"")
+
+    def test_ranges_are_those_of_the_program(self):
+        params = self.path("params.csv")
+        Path(params).write_bytes(OFFSET[0].read_bytes())
+        self.write("vectors.csv", "")
+        for words, least, most in ((["settle", params, "N", "0"], 0, 10 ** 12), (["settle", params, "0", "N"], 0, 10 ** 12),
+                                   (["bound", params, "sharp", "N"], 0, 20000000), (["nm", "N", "vectors.csv"], 1, 12),
+                                   (["make", "N", "1"], 0, 2 ** 32 - 1), (["make", "7", "N"], 1, 10000)):
+            for number, is_usage in ((least - 1, True), (least, False), (most, False), (most + 1, True)):
+                if (words[0], number) != ("make", 10000):
+                    status = self.flexray(*(str(number) if word == "N" else word for word in words))[0]
+                    self.assertEqual(status == 2, is_usage, (words, number))
+
+    def test_whole_numbers_of_other_types_are_taken(self):
+        self.assertEqual(library.whole("start", Index(7)), 7)
+        self.told(flexray.Usage, "^doubles: 0 is not", flexray.make, Index(7), Index(0))
+        self.assertEqual(flexray.to_us(Index(40_000_000), 25), 1.0)
+
+    def test_units_of_no_length_are_told(self):
+        for microtick in (0, -25, "0", Fraction(-1, 2)):
+            for call in (flexray.to_us, flexray.to_ns, flexray.from_us, flexray.from_ns):
+                self.told(ValueError, "^microtick_ns: .* is not above 0", call, 5, microtick)
+        for value in ("x", "", float("nan"), float("inf"), "1e999999999", "1e-999999999", "9" * 5000 + "e1"):
+            self.told(ValueError, "^microtick_ns: .* is no number", flexray.to_us, 5, value)
+            self.told(ValueError, "^ticks: .* is no number", flexray.to_us, value, 25)
+            self.told(ValueError, "^ppm: .* is no number", flexray.length_of, value)
+        self.told(TypeError, "^ticks: None is no number", flexray.to_microticks, None)
+        self.told(ValueError, "^ppm: -1000000 is not above -1000000", flexray.length_of, -1000000)
+        self.told(ValueError, "^length: 0 is not above 0", flexray.ppm_of, 0)
 
 
 @unittest.skipIf(MISSING, f"the library is not built: {MISSING}")
