@@ -138,9 +138,23 @@ function recordsOf(text) {
 
 const MOST_ROWS = 60000;
 
+// Why a text is no name of a node, or null; others are the names of the other nodes. A name is of flexlab's file alone.
+function nameFault(name, others) {
+  if (typeof name !== "string" || !name || [...name].length > 128 || /[\p{C}\p{Z}]/u.test(name.replaceAll(" ", "")) || name !== name.trim()) {
+    return "a text of 1 to 128 printable characters is wanted, without blanks at its ends";
+  }
+  if (/^\p{Nd}+$/u.test(name)) return "it is a number, and a node's number is its id";
+  return others.includes(name) ? "another node has this name" : null;
+}
+
+// The names of the nodes that the form has, by their number.
+function namesOf(cluster) {
+  return cluster && cluster.nodes ? Object.fromEntries(cluster.nodes.filter((node) => node.name).map((node) => [node.id.trim(), node.name])) : {};
+}
+
 // The cluster of three files, or a text that says why the form cannot show it. What the form has is then exactly what the
-// files say, but for the order of records.
-function readCluster(files, microtick) {
+// files say, but for the order of records, and the names of nodes, which are in no file of the program.
+function readCluster(files, microtick, names = {}) {
   const found = { microtick, version: 1, parameters: {}, nodes: [], slots: [], doubles: "", lengths: [], delays: [], faults: [] };
   const whole = (text) => /^-?\d{1,18}$/.test(text);
   const nodes = new Map();
@@ -151,7 +165,7 @@ function readCluster(files, microtick) {
     if (kind === "version" && Number(one) === 2) found.version = 2;
     else if (kind === "param" && NAMES.includes(one) && !(one in found.parameters)) found.parameters[one] = two;
     else if (kind === "node" && whole(one) && !nodes.has(Number(one)) && ["A", "B", "AB"].includes(three)) {
-      nodes.set(Number(one), { id: one, key: two, channels: three, cold: four === "1", arbitrary: false, ppm: "0", start: "0",
+      nodes.set(Number(one), { id: one, name: names[Number(one)] ?? "", key: two, channels: three, cold: four === "1", arbitrary: false, ppm: "0", start: "0",
         rate: "0", double: "", reference: "" });
     } else if (kind === "slot") found.slots.push({ slot: one, node: two, base: three, repetition: four });
     else return no("params", record);
@@ -344,6 +358,8 @@ function writeCluster(cluster) {
   }
   for (const node of cluster.nodes) {
     parameters.push(`node,${node.id.trim()},${node.key.trim()},${node.channels},${node.cold ? 1 : 0}`);
+    const fault = node.name && nameFault(node.name, cluster.nodes.filter((other) => other !== node).map((other) => other.name));
+    if (fault) bad(node, "name", fault);
   }
   for (const slot of cluster.slots) {
     parameters.push(`slot,${slot.slot.trim()},${slot.node.trim()},${slot.base.trim()},${slot.repetition.trim()}`);

@@ -303,10 +303,10 @@ const RESULTS = {
     return plainTable(["", ""], list);
   },
   Nodes() {
-    const { run, known, files } = page.found, arbitrary = recordsOf(files.script).filter((record) => record.fields[0] === "arbitrary").map((record) => record.fields[1]);
-    const rows = run.ends.map((one) => [one.node, one.state, one.rate, one.offset]);
-    rows.push(...arbitrary.map((node) => [node, "arbitrary: it has no clock", "", ""]));
-    return element("div", {}, plainTable([" node", "at the end", " rate term", " offset term"], rows),
+    const { run, known, files } = page.found, names = namesOf(page.cluster), arbitrary = recordsOf(files.script).filter((record) => record.fields[0] === "arbitrary").map((record) => record.fields[1]);
+    const rows = run.ends.map((one) => [one.node, names[one.node] ?? "", one.state, one.rate, one.offset]);
+    rows.push(...arbitrary.map((node) => [node, names[node] ?? "", "arbitrary: it has no clock", "", ""]));
+    return element("div", {}, plainTable([" node", "name", "at the end", " rate term", " offset term"], rows),
       element("p", { class: "note" }, `Terms are in microticks; above 0 they lengthen the cycle. Limits: ${known.pRateCorrectionOut} and ${known.pOffsetCorrectionOut}.`));
   },
   Checks() {
@@ -451,7 +451,7 @@ const EDITOR = {
       event.target.setAttribute("aria-invalid", !value || value[0] <= 0n);
       if (!value || value[0] <= 0n) return;
       page.microtick = event.target.value.trim().replace(",", ".");
-      page.cluster = readCluster(page.files, page.microtick);
+      page.cluster = readCluster(page.files, page.microtick, namesOf(page.cluster));
       later();
     }, onchange: () => showEditor() });
     const doubles = input(page.cluster, "doubles", "Double cycles of the run", { title: "1 to 100000" });
@@ -466,7 +466,7 @@ const EDITOR = {
     const next = (rows, key) => String(Math.max(0, ...rows.map((row) => Number(row[key]) || 0)) + 1);
     return element("div", {}, editTable("Nodes", "A node with a key slot sends sync frames. An arbitrary one has no clock, and says what Faults have it say. One that joins listens to another in that double cycle, and takes part six cycles behind its begin.",
       page.cluster.nodes, [
-        { key: "id", head: "node", width: 2 }, { key: "key", head: "key slot", width: 3, title: "empty: it sends no sync frames" },
+        { key: "id", head: "node", width: 2 }, { key: "name", head: "name", width: 8, title: "of the TOML file alone; it may be empty" }, { key: "key", head: "key slot", width: 3, title: "empty: it sends no sync frames" },
         { key: "channels", head: "channels", ...CHANNELS }, { key: "cold", head: "cold-start", type: "check" },
         { key: "arbitrary", head: "arbitrary", type: "check" },
         { key: "ppm", head: "ppm", width: 6, title: "of its oscillator; above 0 it is fast" },
@@ -474,7 +474,7 @@ const EDITOR = {
         { key: "rate", head: "first rate", width: 2, title: "microticks" },
         { key: "double", head: "joins in", width: 2, title: "the double cycle in which it listens; empty: it is there from the beginning" },
         { key: "reference", head: "listens to", width: 2, title: "the node that it listens to as it joins" },
-      ], () => ({ id: next(page.cluster.nodes, "id"), key: next(page.cluster.nodes, "key"), channels: "AB", cold: false, arbitrary: false, ppm: "0", start: "0", rate: "0", double: "", reference: "" }), "node"),
+      ], () => ({ id: next(page.cluster.nodes, "id"), name: "", key: next(page.cluster.nodes, "key"), channels: "AB", cold: false, arbitrary: false, ppm: "0", start: "0", rate: "0", double: "", reference: "" }), "node"),
     editTable("Further slots", "", page.cluster.slots, [{ key: "slot", head: "slot", width: 4 }, { key: "node", head: "node", width: 3 }, { key: "base", head: "base", width: 3 }, { key: "repetition", head: "repetition", width: 4 }],
       () => ({ slot: next(page.cluster.slots.concat(page.cluster.nodes.map((node) => ({ slot: node.key }))), "slot"), node: page.cluster.nodes[0]?.id || "1", base: "0", repetition: "1" }), "slot"));
   },
@@ -500,7 +500,7 @@ const EDITOR = {
   Files() {
     const area = (name) => element("div", {}, element("h3", {}, element("label", { for: `file-${name}` }, `${name}.csv`)), element("textarea", { id: `file-${name}`, spellcheck: "false", autocomplete: "off", oninput: (event) => {
       page.files = { ...page.files, [name]: event.target.value };
-      page.cluster = readCluster(page.files, page.microtick);
+      page.cluster = readCluster(page.files, page.microtick, namesOf(page.cluster));
       page.wrong = [];
       later();
     } }));
@@ -512,7 +512,7 @@ const EDITOR = {
 
 // The file of flexlab: what the form has, and back.
 EDITOR.TOML = () => {
-  const told = tomlOf(page.cluster), fault = element("p", { class: "bad-text", role: "alert", id: "toml-fault" });
+  const fault = element("p", { class: "bad-text", role: "alert", id: "toml-fault" });
   const area = element("textarea", { id: "file-toml", class: "tall", spellcheck: "false", autocomplete: "off", "aria-label": "The TOML file of flexlab", oninput: () => {
     try {
       takeToml(area.value);
@@ -525,17 +525,17 @@ EDITOR.TOML = () => {
     area.setAttribute("aria-invalid", "false");
     later();
   } });
-  area.value = told.text || "";
-  return element("div", {}, element("p", { class: "note" }, told.no ? `No such file of this cluster: ${told.no}.` : "The same cluster as flexlab reads it: edit it here, or paste one. Numbers that are drawn, and [[power]], are for flexlab alone."),
-    told.no ? null : area, fault);
+  area.value = tomlOf(page.cluster);
+  return element("div", {}, element("p", { class: "note" }, "The same cluster as flexlab reads it: edit it here, or paste one. Numbers that are drawn, and [[power]], are for flexlab alone."),
+    area, fault);
 };
 
 function takeToml(text) {
-  const { files, microtick } = filesOfToml(text);
+  const { files, microtick, names } = filesOfToml(text);
   page.files = files;
   page.microtick = microtick;
   page.wrong = [];
-  page.cluster = readCluster(files, microtick);
+  page.cluster = readCluster(files, microtick, names);
 }
 
 function showEditor() {
@@ -621,9 +621,8 @@ async function begin() {
     for (const [name, text] of Object.entries(page.files)) download(`${name}.csv`, text);
   };
   $("save-toml").onclick = () => {
-    const told = page.cluster && typeof page.cluster !== "string" ? tomlOf(page.cluster) : { no: "the form cannot show these files" };
-    if (told.no) state("ready", told.no);
-    else download(`${page.name}.toml`, told.text);
+    if (!page.cluster || typeof page.cluster === "string") state("ready", "the form cannot show these files");
+    else download(`${page.name}.toml`, tomlOf(page.cluster));
   };
   $("stop").onclick = () => {
     clearTimeout(page.timer);

@@ -1,8 +1,18 @@
 "use strict";
 // The TOML file of flexlab: its tables as the three files, and the form as such a file. Numbers that are drawn, and [[power]], are
-// flexlab's alone.
+// flexlab's alone. Names of nodes are of this file, and of none of the three.
 
 class NoToml extends Error {}
+
+// The text of a TOML string between double quotes, or null.
+function unescaped(told) {
+  const plain = told.replace(/\\(?:U([0-9A-Fa-f]{8})|.)/g, (all, code) => (code ? JSON.stringify(String.fromCodePoint(Math.min(parseInt(code, 16), 0x10ffff))).slice(1, -1) : all));
+  try {
+    return JSON.parse(plain);
+  } catch {
+    return null;
+  }
+}
 
 // The tables of a text: {name: {..}} and, of [[name]], {name: [{..}, ..]}. Numbers are kept as their text.
 function tablesOf(text) {
@@ -11,11 +21,12 @@ function tablesOf(text) {
   const lines = text.replace(/^\ufeff/, "").split(/\r?\n/);
   const no = (why) => { throw new NoToml(`line ${at}: ${why}`); };
   const plain = (line) => {
-    const cut = /^(?:[^#"']|"[^"]*"|'[^']*')*/.exec(line)[0];
+    const cut = /^(?:[^#"']|"(?:[^"\\]|\\.)*"|'[^']*')*/.exec(line)[0];
     return cut.trim();
   };
   const value = (told) => {
-    if (/^"[^"\\]*"$|^'[^']*'$/.test(told)) return told.slice(1, -1);
+    if (/^'[^']*'$/.test(told)) return told.slice(1, -1);
+    if (/^"(?:[^"\\]|\\.)*"$/.test(told)) return unescaped(told) ?? no(`${told} has an escape that this page does not read`);
     if (told === "true" || told === "false") return told === "true";
     if (/^[+-]?\d[\d_]*(\.\d[\d_]*)?$/.test(told)) return { number: told.replace(/_/g, "") };
     if (told.startsWith("[") && told.endsWith("]")) return told.slice(1, -1).split(",").map((part) => part.trim()).filter(Boolean).map(value);
@@ -41,7 +52,8 @@ function tablesOf(text) {
   return found;
 }
 
-// The three files that flexlab makes of a TOML text, and the length of its microtick: {files, microtick}; else NoToml is thrown.
+// The three files that flexlab makes of a TOML text, the length of its microtick, and the names of its nodes:
+// {files, microtick, names}; else NoToml is thrown.
 function filesOfToml(text) {
   const source = tablesOf(text), values = source.values || {};
   const no = (where, why) => { throw new NoToml(`${where}: ${why}`); };
@@ -64,7 +76,10 @@ function filesOfToml(text) {
     const told = number(table, key), unit = key.slice(before.length), [over, under] = decimal(told);
     return unit === "us" || unit === "ns" ? ticksOf(told, unit, microtick) : nearest(over * (unit === "ticks" ? 1n : TICKS), under);
   };
-  const cluster = { nodes: [] }, params = [], drift = [], script = [];
+  const cluster = { nodes: [] }, params = [], drift = [], script = [], names = {};
+  const ofChannels = ["pDelayCompensationA", "pDelayCompensationB"].filter((name) => name in (source.cluster || {}));
+  if (ofChannels.length && "pDelayCompensation" in source.cluster) no(ofChannels[0], "pDelayCompensation stands beside it, which is for both channels");
+  if (ofChannels.length) params.push("version,2,,,");
   const doubles = Number(whole(source.run || {}, "double_cycles")), cycles = 2 * doubles;
   const limits = source.limits || {};
   for (const name of NAMES) {
@@ -79,7 +94,9 @@ function filesOfToml(text) {
   }
   const said = [...(source.two_faced || []), ...(source.say || [])].map((table) => whole(table, "node"));
   for (const table of source.node || []) {
-    const id = whole(table, "id");
+    const id = whole(table, "id"), fault = "name" in table ? nameFault(table.name, Object.values(names)) : null;
+    if (fault) no("name", `node ${id}: ${fault}`);
+    if ("name" in table) names[id] = table.name;
     cluster.nodes.push({ id, table, channels: table.channels || no("node", "channels are missing"), key: "key_slot" in table ? whole(table, "key_slot") : "",
       arbitrary: table.arbitrary === true || said.includes(id) });
   }
@@ -156,14 +173,14 @@ function filesOfToml(text) {
   }
   script.push(...[...frames.keys()].sort((one, other) => parseInt(one, 10) - parseInt(other, 10)).map((key) => frames.get(key)));
   const joined = (lines) => lines.map((line) => `${line}\n`).join("");
-  return { files: { params: joined(params), drift: joined(drift), script: joined(script) }, microtick };
+  return { files: { params: joined(params), drift: joined(drift), script: joined(script) }, microtick, names };
 }
 
-// The form as a TOML file of flexlab; a text that says why not, as {no}, where flexlab has no such thing.
+// The form as a TOML file of flexlab.
 function tomlOf(cluster) {
-  if (cluster.version === 2) return { no: "flexlab has one delay compensation for both channels" };
   const lines = ["# Of the page of flexray. flexlab run FILE.toml prints its page; docs/FLEXLAB.md has the file."];
-  const quoted = (text) => (/^\d+$/.test(text.trim()) ? text.trim() : `"${text.trim()}"`);
+  // flexlab has no steps in lists of nodes, as the form has them.
+  const quoted = (text) => (/^\d+$/.test(text.trim()) ? text.trim() : `"${text.includes("/") ? listOf(text, 1, 64).join(",") : text.trim()}"`);
   const table = (name, pairs) => lines.push("", name, ...pairs.filter(([, told]) => told !== null).map(([key, told]) => `${key} = ${told}`));
   const clean = (text) => { const told = decimal(text); return told ? digits(told[0], told[1], 24) : text; };
   table("[bench]", [["microtick_ns", clean(cluster.microtick)]]);
@@ -172,7 +189,7 @@ function tomlOf(cluster) {
   table("[limits]", parameters.filter(([name]) => name.startsWith("x")));
   table("[run]", [["double_cycles", cluster.doubles.trim()]]);
   for (const node of cluster.nodes) {
-    table("[[node]]", [["id", node.id], ["key_slot", node.key.trim() || null], ["channels", `"${node.channels}"`], ["coldstart", node.cold || null],
+    table("[[node]]", [["id", node.id], ["name", node.name ? JSON.stringify(node.name) : null], ["key_slot", node.key.trim() || null], ["channels", `"${node.channels}"`], ["coldstart", node.cold || null],
       ["arbitrary", node.arbitrary || null], ["ppm", node.arbitrary ? null : clean(node.ppm)],
       ["start_us", node.arbitrary || node.double.trim() ? null : clean(node.start)], ["rate", node.arbitrary || node.double.trim() || node.rate.trim() === "0" ? null : node.rate.trim()]]);
   }
@@ -206,5 +223,5 @@ function tomlOf(cluster) {
       } else table(`[[${row.kind}]]`, [["from", quoted(row.from)], ...of, ["bit", row.kind === "flip" ? row.value.trim() : null]]);
     }
   }
-  return { text: `${lines.join("\n")}\n` };
+  return `${lines.join("\n")}\n`;
 }

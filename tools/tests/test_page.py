@@ -6,10 +6,11 @@ import json
 import os
 import re
 import subprocess
+import tomllib
 import unittest
 from pathlib import Path
 
-from bench import FLEXRAY, REPOSITORY, SERIES, TOOLS, Bench
+from bench import FLEXRAY, REPOSITORY, SERIES, TOOLS, Bench, edited
 from browser import Browser, chromium
 from test_python import examples
 
@@ -158,13 +159,39 @@ class Page(Bench):
     def test_the_form_as_toml(self):
         """flexlab makes of the TOML file of each example what its files are; and so does the page."""
         for folder in sorted(EXAMPLES.iterdir()):
-            if (folder / "drift.csv").exists() and folder.name != "compensations":
+            if (folder / "drift.csv").exists():
                 with self.subTest(folder.name):
                     files = {name: (folder / f"{name}.csv").read_text() for name in FILES}
-                    text = self.run_in(f"tomlOf(readCluster({json.dumps(files)}, '25')).text")
+                    text = self.run_in(f"tomlOf(readCluster({json.dumps(files)}, '25'))")
                     self.flexlab("build", "-o", self.path("made"), self.write("form.toml", text))
                     self.same_files(files, "made")
                     self.same_files(self.files_of(text), "made")
+
+    def test_names_and_both_compensations_go_through_the_form(self):
+        """Names are of any printable characters, and stand in the TOML file alone."""
+        name = "Gate'way \\ <b>\"ä\" # $(x)"
+        text = edited(("pDelayCompensation = 0", "pDelayCompensationA = 0\npDelayCompensationB = 1"),
+                      ("id = 1\n", f"id = 1\nname = {json.dumps(name)}\n"), ("id = 6\n", "id = 6\nname = 'Lügner'\n"))
+        self.flexlab("build", "-o", self.path("made"), self.write("named.toml", text))
+        self.same_files(self.files_of(text), "made")
+        self.run_in('selectTab("editor", "TOML")')
+        self.put("#file-toml", text)
+        self.settle()
+        self.run_in('selectTab("editor", "Nodes")')
+        self.assertEqual(self.run_in("document.querySelector('[aria-label=\"name, node 1\"]').value"), name)
+        self.put('[aria-label="name, node 2"]', "Bremse")
+        self.settle()
+        self.run_in('selectTab("answers", "Nodes")')
+        self.assertIn(name, self.run_in('$("answers-panel").innerText'))
+        written = self.run_in("tomlOf(page.cluster)")
+        found = {node["id"]: node.get("name") for node in tomllib.loads(written)["node"]}
+        self.assertEqual({node: told for node, told in found.items() if told}, {1: name, 2: "Bremse", 6: "Lügner"})
+        self.flexlab("build", "-o", self.path("again"), self.write("again.toml", written))
+        for file in FILES:
+            self.assertEqual(significant(self.read("again", f"{file}.csv")), significant(self.read("made", f"{file}.csv")), file)
+        self.run_in('selectTab("editor", "Nodes")')
+        self.put('[aria-label="name, node 2"]', "Lügner")
+        self.assertEqual(self.run_in('$("state").textContent'), "1 field is not understood")
 
     def test_toml_that_cannot_be_read(self):
         bench = (EXAMPLES / "bench" / "bench.toml").read_text()
@@ -173,6 +200,9 @@ class Page(Bench):
         for old, new, wanted in (("ppm = 150", "ppm = { uniform = [0, 1] }", "line 39: numbers that are drawn are for flexlab alone"),
                                  ("ppm = 150", "ppm = fast", "line 39: fast is no value that this page reads"),
                                  ("double_cycles = 200", "", "double_cycles: it is missing"),
+                                 ("id = 1\n", "id = 1\nname = '2'\n", "name: node 1: it is a number, and a node's number is its id"),
+                                 ("pDelayCompensation = 0", "pDelayCompensation = 0\npDelayCompensationB = 0",
+                                  "pDelayCompensationB: pDelayCompensation stands beside it, which is for both channels"),
                                  ("late = [2, 4]", "late = [2, 9]", "say: no two of these nodes")):
             self.assertIn(old, bench)
             self.put("#file-toml", bench.replace(old, new, 1))

@@ -1,9 +1,11 @@
 """TOML files: wrong values are refused with line, key and range; right ones are in the files as they should be."""
+import html
+import json
 import os
 import re
 import unittest
 
-from bench import EXAMPLE, REPOSITORY, Bench, edited
+from bench import EXAMPLE, REPOSITORY, Bench, edited, needs
 
 
 def line_with(text, part):
@@ -63,6 +65,23 @@ REFUSED = (
                                          "line 61, column 13): start_us = 1,5; a number has a point, no comma"),
     ('channels = "A"', "channels = A", "channels = A; a text has quotes"),
     ("drift = 150", 'drift = "x"', 'values.drift: "x" is not a number'),
+    ("pDelayCompensation = 0", "pDelayCompensation = 0\npDelayCompensationB = 1", "a.toml:37: cluster.pDelayCompensationB: "
+     "`pDelayCompensation` stands beside it, which is for both channels"),
+    ("pDelayCompensation = 0", "pDelayCompensationA = 1", "cluster: the key `pDelayCompensationB` is missing: a whole number from 0 "
+                                                          "to 200 microticks"),
+    ("pDelayCompensation = 0", "pDelayCompensationA = 201\npDelayCompensationB = 0", "cluster.pDelayCompensationA: 201 is not"),
+    ("pDelayCompensation = 0", "pDelayCompensationA = 0\npDelayCompensationC = 0", "pDelayCompensationC: there is no such key"),
+    ("delay_error_us = 0.0125", "delay_error_us = 0.3", "Ten microticks are the range of flexray's xDelayError, and none of the "
+                                                        "standard: a greater spread wants a longer microtick"),
+    ("id = 4", 'id = 4\nname = ""', 'node[4].name: "" is not a text of 1 to 128 printable characters, without blanks at its ends'),
+    ("id = 4", 'id = 4\nname = " a"', 'node[4].name: " a" is not a text of'),
+    ("id = 4", 'id = 4\nname = "a\\nb"', 'node[4].name: "a\\nb" is not a text of'),
+    ("id = 4", 'id = 4\nname = "a\\u202eb"', 'node[4].name: "a\\u202eb" is not a text of'),
+    ("id = 4", f'id = 4\nname = "{"x" * 129}"', f'node[4].name: "{"x" * 32}.." is not a text of'),
+    ("id = 4", "id = 4\nname = 7", "node[4].name: 7 is not a text of"),
+    ("id = 4", 'id = 4\nname = "7"', 'node[4].name: "7" is a number, and a node\'s number is its id'),
+    ("[[slot]]", '[[node]]\nid = 7\nname = "a"\nchannels = "A"\n[[node]]\nid = 8\nname = "a"\nchannels = "A"\n[[slot]]',
+     'node[8].name: node 7 has the name "a" already'),
 )
 
 MORE = (
@@ -249,6 +268,42 @@ class Toml(Bench):
         for row in [f"lose,{cycle},1,{node},A,," for cycle in (5, 6) for node in (2, 3, 4, 5)] + [
                 "flip,9,3,2,A,191,", "flip,9,3,2,B,191,"]:
             self.assertIn(f"{row}\n", script)
+
+    def test_a_compensation_for_each_channel(self):
+        text = edited(("pDelayCompensation = 0", "pDelayCompensationA = 0\npDelayCompensationB = 9"),
+                      ('channels = "B"\nns = 12', 'channels = "B"\nns = 225'))
+        self.write("a.toml", text)
+        self.flexlab("build", "a.toml")
+        params = self.read("a.lab", "params.csv")
+        self.assertTrue(params.startswith("version,2,,,\nparam,gMacroPerCycle,5000,,\n"))
+        self.assertIn("param,pRateCorrectionOut,81,,\nparam,pDelayCompensationA,0,,\nparam,pDelayCompensationB,9,,\nparam,xRate", params)
+        self.assertNotIn("pDelayCompensation,", params)
+        # The program takes them, and the page tells which of both a delay is off from.
+        page = self.one_line(self.flexlab("run", "a.toml")[0])
+        self.assertIn("travel 0.008 us to node 2 on channel B; the compensation is 0.225 us, and xDelayError allows for 0.013 us", page)
+        self.assertIn("turn limits.delay_error_us, or pDelayCompensationB", page)
+
+    def test_names_of_nodes(self):
+        name = "Gate'way `touch pwned` $(x) _^{a}"
+        text = edited(("id = 1\n", f"id = 1\nname = \"{name}\"\n"), ("id = 3\n", 'id = 3\nname = "Brems_Öl"\n'),
+                      ("id = 6\n", "id = 6\nname = 'L\"ügner'\n"))
+        self.write("a.toml", text)
+        page = self.flexlab("run", "a.toml")[0]
+        self.assertRegex(page, r"(?m)^   3 active .*  Brems_Öl$")
+        self.assertIn('   6 (L"ügner) arbitrary: it says', page)
+        found = json.loads(self.flexlab("run", "--json", "a.toml")[0])
+        self.assertEqual(found["cluster"]["names"], {"1": name, "3": "Brems_Öl", "6": 'L"ügner'})
+        self.assertEqual(self.read("a.lab", "params.csv").count("node,"), 6)
+
+    @needs("gnuplot")
+    def test_names_in_pictures_are_data(self):
+        name = "x' `touch pwned` $(x)"
+        self.write("a.toml", edited(("id = 1\n", f"id = 1\nname = \"{name}\"\n"), ("id = 3\n", 'id = 3\nname = "Brems_{Öl}"\n')))
+        self.flexlab("run", "-p", "a.toml")
+        self.assertFalse(os.path.exists(self.path("pwned")))
+        drawn = html.unescape(self.read("a.lab", "terms.svg"))
+        self.assertIn(f"node 1 {name[:18]}..", drawn)
+        self.assertIn("node 3 Brems_{Öl}", drawn)
 
     def test_rows_of_nodes_that_join(self):
         self.write("a.toml", EXAMPLE + "[[join]]\nnode = 5\nreference = 2\ndouble_cycle = 20\n"

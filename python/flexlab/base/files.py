@@ -6,6 +6,8 @@ from .ending import FILE, REFUSED, Stop
 
 
 def parameter_lines(cluster):
+    if ranges.version_of(cluster.parameters) == 2:
+        yield "version,2,,,\n"
     yield from (f"param,{name},{value},,\n" for name, value in cluster.parameters.items())
     for node in cluster.nodes.values():
         yield f"node,{node.number},{node.key_slot or ''},{node.channels},{int(node.coldstart)}\n"

@@ -1,4 +1,5 @@
 """The parameters of a cluster: range, unit and meaning of each, as docs/FORMATS.md has them."""
+from collections.abc import Mapping
 
 PARAMETERS = {
     "gMacroPerCycle": (10, 16000, "macroticks", "a cycle"),
@@ -36,6 +37,21 @@ def table(version):
         return PARAMETERS
     names = [other for name in PARAMETERS for other in (OF_CHANNELS if name == "pDelayCompensation" else (name,))]
     return {name: NAMES[name] for name in names}
+
+
+def version_of(parameters: Mapping[str, int]) -> int:
+    """The version of the file that has these parameters."""
+    return 1 if "pDelayCompensation" in parameters else 2
+
+
+def compensation_name(parameters: Mapping[str, int], channel: str) -> str:
+    """The name of the parameter that is the compensation of a channel."""
+    return "pDelayCompensation" if version_of(parameters) == 1 else "pDelayCompensation" + channel
+
+
+def compensation(parameters: Mapping[str, int], channel: str | None = None) -> int:
+    """The delay compensation of a channel in microticks; without one the greater of both."""
+    return max(parameters[compensation_name(parameters, one)] for one in channel or "AB")
 
 
 DOUBLES = (1, 100000)

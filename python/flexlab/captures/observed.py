@@ -11,7 +11,7 @@ from ..pages.machine import printed
 from .observer import analyzer_words, left_lines, plain, write_log
 from ..pages.page import field as lines_of
 from ..pages.page import ms_of_cycle
-from ..pages.pictures import COLOURS, POINTS, draw, plain_axes, quoted
+from ..pages.pictures import COLOURS, POINTS, draw, node_label, plain_axes, quoted
 from ..runs.runs import answer, keep
 from ..base.units import TICKS, decimal, us_of_ticks
 
@@ -99,7 +99,7 @@ class Words:
     """Contradictions in words, with numbers in microseconds and microticks."""
 
     def __init__(self, cluster):
-        self.unit = cluster.microtick_ns
+        self.cluster, self.unit = cluster, cluster.microtick_ns
 
     def us(self, low, high):
         """A pair of numbers of ticks; the upper one may not be known."""
@@ -112,7 +112,7 @@ class Words:
 
     def of(self, fault):
         cycle, node, kind, fields = fault
-        return f"cycle {cycle}" + ("" if node is None else f", node {node}") + f": {self.told(kind, fields)}"
+        return f"cycle {cycle}" + ("" if node is None else f", node {self.cluster.called(node)}") + f": {self.told(kind, fields)}"
 
     def told(self, kind, fields):
         one, two, three, four = fields
@@ -166,7 +166,7 @@ def verdict_lines(cluster, told):
         found += lines_of("Numbers", "that each frame comes within half a cycle of the schedule is taken for granted: the limits that "
                                      "are stated do not suffice to be sure of it of clocks in sync")
     if sync[0] == "-":
-        unseen = [str(node.number) for node in cluster.nodes.values() if not node.key_slot and not node.arbitrary]
+        unseen = [cluster.called(node.number) for node in cluster.nodes.values() if not node.key_slot and not node.arbitrary]
         text = "of no double cycle it is certain"
         text += (f": no frame shows the clock of node {', '.join(unseen)}" if unseen else "") + (
             "; in_sync_from_cycle of [observer] can state it")
@@ -216,16 +216,17 @@ def node_lines(cluster, told):
         low, high = lower(min(row[1] for row in ppm)), upper(max(row[2] for row in ppm))
         terms = [row for row in rows if row[3] is not None]
         term = (min(row[3] for row in terms), max(row[4] for row in terms)) if terms else ("-", "-")
-        found.append(f"{node:>4}  {len(rows):>13}  {low:>10} {high:>10}  {term[0]:>16} {term[1]:>6}")
+        found.append(f"{node:>4}  {len(rows):>13}  {low:>10} {high:>10}  {term[0]:>16} {term[1]:>6}"
+                     + (f"  {cluster.names[node]}" if node in cluster.names else ""))
     return found + [""] + lines_of(
         "", "ppm: how much faster its cycles were than nominal ones, rate correction included, by the analyzer's "
             "clock, in all its double cycles. Offset terms are microticks.")
 
 
-def missed_lines(told):
+def missed_lines(cluster, told):
     """Which senders have cycles of the log without a frame."""
     return lines_of("Not seen", *(
-        f"node {node} on channel {channel} in {missed} cycles" + ("" if frames else ", in none at all")
+        f"node {cluster.called(node)} on channel {channel} in {missed} cycles" + ("" if frames else ", in none at all")
         for node, channel, frames, _, _, missed in told.senders if missed)) if any(row[5] for row in told.senders) else []
 
 
@@ -242,7 +243,7 @@ def page_lines(cluster, told, observer, frames, entries, name):
         within, over, neither = told.said
         found += lines_of("Cycles", f"{told.cycles[0][0]} to {told.cycles[-1][0]}, by the cycle counts: {within} within the "
                                     f"precision, {over} over it, {neither} open")
-    found += missed_lines(told)
+    found += missed_lines(cluster, told)
     found += lines_of("Precision", f"{decimal(us_of_ticks(told.precision, cluster.microtick_ns), 3)} us")
     return (found + skew_lines(cluster, told) + verdict_lines(cluster, told) + fault_lines(cluster, told)
             + node_lines(cluster, told) + lines_of("Origin", ORIGIN))
@@ -253,7 +254,7 @@ def observed_object(cluster, told, frames, entries):
     def us(ticks, rounded):
         return None if ticks is None else float(rounded(us_of_ticks(ticks, cluster.microtick_ns), 6))
     return {
-        "entries": entries, "left_out": frames.left, "precision": {"ticks": told.precision},
+        "names": cluster.names, "entries": entries, "left_out": frames.left, "precision": {"ticks": told.precision},
         "log": dict(zip(("judged", "damaged", "arbitrary", "other", "stray", "behind"), told.log)),
         "said": dict(zip(("within", "over", "open"), told.said)), "verdict": told.ends["verdict"],
         "sync": told.ends["sync"], "covered": told.ends["covered"], "numbers": told.ends["numbers"],
@@ -308,7 +309,7 @@ def nodes_script(cluster, told, name):
     found += plain_axes() + f"set multiplot layout 2,1 title {quoted('Rates and offset terms in ' + name)} font ',14'\n"
     found += "set xlabel 'double cycle'\nset key outside right top\n"
     for what, unit in panels:
-        plots = [f"${what}{node} using 1:(($2+$3)/2):2:3 title 'node {node}' with yerrorlines pointtype 7 "
+        plots = [f"${what}{node} using 1:(($2+$3)/2):2:3 title {node_label(cluster, node)} noenhanced with yerrorlines pointtype 7 "
                  f"pointsize 0.3 linecolor '{COLOURS[at % len(COLOURS)]}'"
                  for at, (node, rows) in enumerate(parts[what].items()) if rows]
         if plots:

@@ -1,5 +1,6 @@
 """The first gap in coverage that a report names, in words, and what closes it."""
 from .advice import OR, SHARP_OR, SHARP_WAY_WHY, SHARP_WHY, WAY_OR, WAY_WHY, WHY, advise, also
+from ..base import ranges
 from ..runs.least import sharp_advise
 from ..base.units import microseconds, ppm_of, signed
 
@@ -41,6 +42,9 @@ def gap_words(gap, cluster):
     kind, numbers = gap[0], [int(word) for word in gap[1:] if word not in ("A", "B")]
     channel = next((word for word in gap[1:] if word in ("A", "B")), "")
     parameters, unit = cluster.parameters, cluster.microtick_ns
+    def name_of(place: int) -> str:
+        return cluster.called(numbers[place])
+
     if kind == "check":
         return check_words(*numbers, parameters)
     if kind == "flutter":
@@ -50,23 +54,22 @@ def gap_words(gap, cluster):
         return [f"{numbers[0]} correct sync nodes do not outweigh {numbers[1]} arbitrary ones: none needs 1, "
                 "one needs 3, two need 6 (nodes that join do not count)"]
     if kind == "length":
-        return [f"in cycle {numbers[1]} the oscillator of node {numbers[0]} is off by "
+        return [f"in cycle {numbers[1]} the oscillator of node {name_of(0)} is off by "
                 f"{signed(ppm_of(numbers[2]), 2)} ppm (its microtick lasts {numbers[2]} ticks), which is further than "
                 f"xRateBound, {parameters['xRateBound']} ticks",
                 "turn limits.oscillator_ppm (or take a better oscillator)"]
     if kind == "change":
-        return [f"in cycle {numbers[1]} the microtick of node {numbers[0]} changes by {numbers[2]} ticks (about ppm), "
+        return [f"in cycle {numbers[1]} the microtick of node {name_of(0)} changes by {numbers[2]} ticks (about ppm), "
                 f"which is more than xChangeBound, {parameters['xChangeBound']}",
                 "turn limits.change_ppm_per_cycle, or let the oscillator change more slowly"]
     if kind == "delay":
-        own = "pDelayCompensation" + channel
-        name = own if own in parameters else "pDelayCompensation"
+        name = ranges.compensation_name(parameters, channel)
         expected = parameters[name] * 1000000
-        return [f"in cycle {numbers[2]} frames of node {numbers[0]} travel {microseconds(numbers[3], unit)} to node "
-                f"{numbers[1]} on channel {channel}; the compensation is {microseconds(expected, unit)}, and "
+        return [f"in cycle {numbers[2]} frames of node {name_of(0)} travel {microseconds(numbers[3], unit)} to node "
+                f"{name_of(1)} on channel {channel}; the compensation is {microseconds(expected, unit)}, and "
                 f"xDelayError allows for {microseconds(parameters['xDelayError'], unit)} beside it",
                 f"turn limits.delay_error_us, or {name}"]
-    return [f"in double cycle {numbers[2]} no channel carries the frames of node {numbers[0]} to node {numbers[1]} in "
+    return [f"in double cycle {numbers[2]} no channel carries the frames of node {name_of(0)} to node {name_of(1)} in "
             f"both its cycles (cycles {2 * numbers[2]} and {2 * numbers[2] + 1})",
             "let one channel be free of `lose` and `flip` there, or give both nodes channels AB"]
 

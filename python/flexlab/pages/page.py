@@ -179,19 +179,28 @@ def check_lines(run):
     return sharp_check_lines(run, field) + found
 
 
+def bracketed(name: str) -> str:
+    """A name as it stands behind a node's number in a sentence."""
+    return f"({name}) " if name else ""
+
+
 def node_lines(run):
     parameters = run.cluster.parameters
+
+    def name_of(node: int) -> str:
+        return run.cluster.nodes[node].name
+
     found = ["", f"{'node':>4} {'state':<8}{'ppm at first':>14}{'ppm at last':>13}{'microtick':>11}"
                  f"{'rate':>7}{'offset':>8}"]
     for node, (state, _, rate, offset) in sorted(run.report.ends.items()):
         first, last = run.cycles[run.first_row(node)][node].length, run.cycles[-1][node].length
         found.append(f"{node:>4} {state:<8}{signed(ppm_of(first), 2):>14}{signed(ppm_of(last), 2):>13}"
-                     f"{last:>11}{rate:>7}{offset:>8}")
+                     f"{last:>11}{rate:>7}{offset:>8}  {name_of(node)}".rstrip())
     for node in run.cluster.arbitrary:
-        found.append(f"{node:>4} arbitrary: it says what the script has it say, and has no clock")
+        found.append(f"{node:>4} {bracketed(name_of(node))}arbitrary: it says what the script has it say, and has no clock")
     for node, (double, reference) in sorted(run.cluster.joins.items()):
-        found.append(f"{node:>4} joins: it listens to node {reference} in double cycle {double}, and "
-                     + joined_words(run.first_row(node), run.cluster))
+        found.append(f"{node:>4} {bracketed(name_of(node))}joins: it listens to node {run.cluster.called(reference)} in double cycle "
+                     f"{double}, and " + joined_words(run.first_row(node), run.cluster))
     limits = f"limits {parameters['pRateCorrectionOut']} and {parameters['pOffsetCorrectionOut']}"
     return found + ["", *field("", "ppm: of the frequency, read back from the trace; above 0 the oscillator is "
                                    "fast and its microtick shorter than 1,000,000 ticks. A tick is about 1 ppm, and "

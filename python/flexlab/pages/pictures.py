@@ -8,10 +8,12 @@ from .page import ms_of_cycle
 from ..runs.sharp import ends_of, first_of, is_covered, skew_of
 from ..runs.sync import starts_apart
 from ..base.units import decimal, us_of_ticks
-from ..runs.windows import changes, later, named
+from ..runs.windows import changes, later
+from ..toml.cluster import Cluster
 
 COLOURS = ("#0072b2", "#d55e00", "#009e73", "#cc79a7", "#e69f00", "#56b4e9", "#7f3f00", "#555555")
 POINTS = 1500
+NAME_ROOM = 20
 KEY = "set bmargin 6\nset key at screen 0.5, 0.02 bottom center vertical maxrows 2 Left reverse samplen 2 width 2"
 UPPER = ("set tmargin 5\nset bmargin 6\nset key at screen 0.5, 0.475 bottom center vertical maxrows 2 Left reverse samplen 2 "
          "width 2")
@@ -38,7 +40,7 @@ def draw(folder, name, script, size="1000,560"):
         for kind, terminal in head.items():
             drawn.append(os.path.join(folder, f"{name}.{kind}"))
             with open(path, "w", encoding="utf-8") as file:
-                file.write(f"{terminal}\nset output {quoted_path(drawn[-1])}\n{script}")
+                file.write(f"{terminal}\nset output {single(drawn[-1])}\n{script}")
             status, _, told = programs.call(gnuplot, [path])
             if status != 0 or not os.path.getsize(drawn[-1]):
                 raise Stop(PROGRAM, f"gnuplot {path} ended with status {status}: {told}")
@@ -47,8 +49,20 @@ def draw(folder, name, script, size="1000,560"):
     return drawn
 
 
-def quoted_path(path):
-    return "'" + path.replace("'", "''") + "'"
+def single(text: str) -> str:
+    """A text between single quotes, in which gnuplot takes nothing for a word of its own."""
+    return "'" + text.replace("'", "''") + "'"
+
+
+def node_label(cluster: Cluster, *nodes: int, more: str = "") -> str:
+    """The label of nodes in a picture, with their names; to be written with `noenhanced`, since names are of any characters."""
+    found = [f"{node} {shortened(cluster.nodes[node].name)}".rstrip() for node in nodes]
+    return single(("node " if len(nodes) == 1 else "nodes ") + ", ".join(found) + more)
+
+
+def shortened(name: str) -> str:
+    """A name as there is room for it in a picture."""
+    return name if len(name) <= NAME_ROOM else name[:NAME_ROOM - 2] + ".."
 
 
 def skew_rows(run):
@@ -149,9 +163,10 @@ def near_panel(run):
              "set ylabel 'microseconds, magnified'", "unset label", "unset object 1"]
     changing, _ = changes(run)
     for at, (first, end, nodes) in enumerate(changing[:8]):
+        label = node_label(run.cluster, *sorted(nodes), more=" changes" if len(nodes) == 1 else " change")
         lines += [f"set object {20 + at} rectangle from {first}, graph 0 to {end + 1}, graph 1 fillcolor '#e3eef7' "
                   "fillstyle solid noborder behind",
-                  f"set label {20 + at} '{named(nodes)} change{'s' if len(nodes) == 1 else ''}' at {first}, graph 0.93 "
+                  f"set label {20 + at} {label} noenhanced at {first}, graph 0.93 "
                   "offset 0.5,0 textcolor '#3b6ea5'"]
     data = [(found.greatest, "greatest", "'#d55e00' dashtype 2"), (found.mean, "mean", "'#777777' dashtype 3")]
     plots = ["$skew using 1:2 notitle with lines linewidth 1.5 linecolor '#0072b2'"]
@@ -166,11 +181,11 @@ def join_lines(run):
     """Where nodes that join begin to take part: a node that listens or follows has no row."""
     found = []
     for at, (cycle, nodes) in enumerate(sorted(begun(run).items())):
-        named = ("node " if len(nodes) == 1 else "nodes ") + ", ".join(map(str, nodes))
+        label = node_label(run.cluster, *nodes, more=f" from cycle {cycle}")
         height = f"graph {decimal(Fraction(84 - 6 * (at % 4), 100), 2)}"
         found += [f"set arrow {10 + at} from {cycle}, graph 0 to {cycle}, graph 1 nohead linecolor '#009e73' "
                   "dashtype 3",
-                  f"set label {10 + at} '{named} from cycle {cycle}' at {cycle}, {height} offset 0.8,0 "
+                  f"set label {10 + at} {label} noenhanced at {cycle}, {height} offset 0.8,0 "
                   "textcolor '#00694d'"]
     return found
 
@@ -203,7 +218,7 @@ def terms_script(run):
                   "set xlabel 'cycle'" if column == 3 else "unset xlabel",
                   f"set label 3 '{limit}: {parameters[limit]}' at graph 0.99, graph 0.94 right textcolor '#777777'",
                   "plot " + ", \\\n     ".join(
-                      f"$node{node} using 1:{column} title 'node {node}' with steps linewidth 1.6 linecolor "
+                      f"$node{node} using 1:{column} title {node_label(run.cluster, node)} noenhanced with steps linewidth 1.6 linecolor "
                       f"'{COLOURS[at % len(COLOURS)]}' dashtype {1 + at // len(COLOURS)}"
                       for at, node in enumerate(nodes))]
     return "\n".join(lines) + "\nunset multiplot\n"

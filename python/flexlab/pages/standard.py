@@ -4,6 +4,7 @@ from dataclasses import dataclass
 from fractions import Fraction
 
 from ..runs import sharp
+from ..base import ranges
 from ..base.ending import USAGE, Stop
 from .page import field, ms_of_cycle
 from ..program.report import read_sharp_bounds
@@ -31,7 +32,7 @@ class Row:
 
 def greatest_delay(parameters):
     """The longest that a frame may travel by the parameters, in ticks."""
-    return parameters["pDelayCompensation"] * TICKS + parameters["xDelayError"]
+    return ranges.compensation(parameters) * TICKS + parameters["xDelayError"]
 
 
 def by_formula(parameters, microticks, damping, delays):

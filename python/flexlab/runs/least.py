@@ -27,15 +27,9 @@ class Kind:
 def common_of(p):
     """What all bounds are made of: the longest and the shortest microtick, the error of an arrival, and by how much a cycle
     changes."""
-    wait = compensation(p)
+    wait = ranges.compensation(p)
     return (TICKS + p["xRateBound"], TICKS - p["xRateBound"], p["xDelayError"] + wait * p["xRateBound"],
             (p["pMicroPerCycle"] + p["pRateCorrectionOut"]) * p["xChangeBound"])
-
-
-def compensation(p):
-    """The greater compensation of both channels."""
-    both = [p[name] for name in ("pDelayCompensation", "pDelayCompensationA", "pDelayCompensationB") if name in p]
-    return max(both)
 
 
 def slot_sides(p, first, apart):
@@ -46,7 +40,7 @@ def slot_sides(p, first, apart):
     return {first: (p["pOffsetCorrectionOut"] * shortest, apart + error + longest),
             first + 1: ((point * left - macros) * shortest, macros * (apart + p["xDelayError"])),
             first + 2: ((rest * left - macros) * shortest,
-                        macros * (apart + compensation(p) * TICKS + p["xDelayError"]))}
+                        macros * (apart + ranges.compensation(p) * TICKS + p["xDelayError"]))}
 
 
 def bounds_of(p, join=False):

@@ -2,6 +2,7 @@
 and what flexray-series says of them where that is installed."""
 from dataclasses import dataclass, field
 
+from ..base import ranges
 from .least import TICKS, Kind
 from ..program.report import SharpBounds, SharpSeries, read_sharp_bounds
 from .sync import is_in_sharp_sync, sync_of
@@ -29,8 +30,9 @@ def delay_at(steps, cycle, wait):
 def flutter_of(cluster):
     """By how many ticks a delay of the run differs at most between the two cycles of a double cycle, from a correct sync node
     to another correct node."""
-    wait, found = cluster.parameters["pDelayCompensation"] * TICKS, 0
-    for (sender, _, _), steps in cluster.delays.items():
+    found = 0
+    for (sender, _, channel), steps in cluster.delays.items():
+        wait = ranges.compensation(cluster.parameters, channel) * TICKS
         if cluster.nodes[sender].key_slot is not None:
             for cycle in steps:
                 if cycle % 2 == 1 and cycle < cluster.cycles:

@@ -205,17 +205,18 @@ def table(startup):
 def table_lines(startup):
     found = ["", f"{'node':>4}  {'part':<12}{'on':>10}{'listens':>12}{'follows':>12}{'takes part':>12}   ms"]
     for number, part, *times in table(startup):
-        found.append(f"{number:>4}  {part:<12}{shown(times[0]):>10}" + "".join(f"{shown(time):>12}" for time in times[1:]))
+        found.append((f"{number:>4}  {part:<12}{shown(times[0]):>10}" + "".join(f"{shown(time):>12}" for time in times[1:])
+                      + "        " + startup.cluster.nodes[number].name).rstrip())
     found.append("")
     for number, why in sorted(startup.out.items()):
-        found += lines_of("", f"node {number} is not in the run: {why}")
+        found += lines_of("", f"node {startup.cluster.called(number)} is not in the run: {why}")
     for number in startup.cluster.arbitrary:
-        found += lines_of("", f"node {number} is arbitrary: it is left off until one leads, since nothing is promised of a "
+        found += lines_of("", f"node {startup.cluster.called(number)} is arbitrary: it is left off until one leads, since nothing is promised of a "
                               "faulty coldstart node, and then says what the file has it say")
     for number, times in sorted(startup.power.items()):
         off = [time for _, time in times if time is not None and time > startup.lead_at]
         if off and number in startup.run.cluster.nodes:
-            found += lines_of("", f"node {number} is switched off at {shown(startup.ms(off[0]))} ms: the run does not have "
+            found += lines_of("", f"node {startup.cluster.called(number)} is switched off at {shown(startup.ms(off[0]))} ms: the run does not have "
                                   "that, in it nobody leaves")
     return found
 
@@ -235,7 +236,7 @@ def head_lines(startup):
     for node, time in cold.leads:
         last = max(at for other, at in cold.leads if other == node)
         later = "" if node in cold.leading and time == last else ", and is switched off later"
-        found += lines_of("Leads", f"node {node} from {shown(startup.ms(time))} ms on (macrotick {time}){later}")
+        found += lines_of("Leads", f"node {startup.cluster.called(node)} from {shown(startup.ms(time))} ms on (macrotick {time}){later}")
     return found
 
 
@@ -312,7 +313,7 @@ def startup_object(startup):
         return None if value is None else float(decimal(value, 6))
 
     found = {
-        "file": startup.cluster.path, "coldstart_nodes": coldstart(startup.cluster),
+        "file": startup.cluster.path, "names": startup.cluster.names, "coldstart_nodes": coldstart(startup.cluster),
         "no_common_channel": startup.cold.apart, "leads": [{"node": node, "macrotick": time, "ms": number(startup.ms(time))}
                                                        for node, time in startup.cold.leads],
         "leader": startup.leader, "why_none": why_none(startup) if startup.leader is None else [],
@@ -344,7 +345,7 @@ def spans(startup, end):
 
 
 def draw_startup(startup, folder):
-    from ..pages.pictures import draw, plain_axes, quoted
+    from ..pages.pictures import draw, node_label, plain_axes, quoted
     rows, synced = table(startup), startup.synced
     last = max([time for _, _, *times in rows for time in times if time is not None])
     ready = startup.of_cycle(2 * synced) if synced is not None else None
@@ -358,7 +359,7 @@ def draw_startup(startup, folder):
     lines += [plain_axes() + f"set title {quoted('Startup of ' + os.path.basename(startup.cluster.path))} font ',14'",
               "set xlabel 'milliseconds from power-on'", "set bmargin 6\nset key at screen 0.5, 0.02 bottom center horizontal",
               f"set xrange [0:{decimal(end, 3)}]\nset yrange [{len(rows)}:-1] noreverse\nunset grid",
-              "set ytics (" + ", ".join(f"'node {row[0]}' {at}" for at, row in enumerate(rows)) + ")",
+              "set ytics (" + ", ".join(f"{node_label(startup.cluster, row[0])} {at}" for at, row in enumerate(rows)) + ") noenhanced",
               "set style fill solid noborder"]
     led = decimal(startup.ms(startup.lead_at), 6)
     lines += [f"set arrow 1 from {led}, graph 0 to {led}, graph 1 nohead linecolor '#555555' dashtype 3",

@@ -8,9 +8,11 @@ from fractions import Fraction
 
 from ..program import calls as programs
 from ..base.files import write_files
+from ..base.ranges import OF_CHANNELS, compensation_name, version_of
 from .least import TICKS, least_damping, least_sharp, least_sharp_damping, least_values
 from ..program.report import read_bounds, read_sharp_bounds
 from .sharp import first_of, gap_of, kind_of
+from ..toml.cluster import Cluster
 from ..base.units import decimal, lasting, microseconds, percent, rounded, us_of_ticks
 from .windows import exact, later, skews, window
 
@@ -111,14 +113,16 @@ def shortened(cluster, doubles):
     return found
 
 
-def delays_of(cluster):
-    """The delays that the run has from correct sync nodes to correct nodes, of links whose delay is said."""
+def delays_of(cluster: Cluster) -> list[tuple[str, int]]:
+    """The delays, each behind the name of its compensation, that the run has from correct sync nodes to correct nodes, of links
+    whose delay is said."""
     found = []
     for sender in cluster.correct:
         for receiver in cluster.correct:
             if sender != receiver and cluster.nodes[sender].key_slot is not None:
                 for channel in cluster.common(sender, receiver):
-                    found += cluster.delays.get((sender, receiver, channel), {}).values()
+                    name = compensation_name(cluster.parameters, channel)
+                    found += [(name, ticks) for ticks in cluster.delays.get((sender, receiver, channel), {}).values()]
     return found
 
 
@@ -133,18 +137,19 @@ def needs(cluster):
     """The limits that this run needs, the delay error for the compensation as it is."""
     rate = max((abs(ticks - TICKS) for steps in cluster.lengths.values() for ticks in steps.values()), default=0)
     change = greatest_change(cluster)[0]
-    wait = cluster.parameters["pDelayCompensation"] * TICKS
-    error = max((abs(ticks - wait) for ticks in delays_of(cluster)), default=0)
+    error = max((abs(ticks - cluster.parameters[name] * TICKS) for name, ticks in delays_of(cluster)), default=0)
     return {"xRateBound": rate, "xChangeBound": change, "xDelayError": error}
 
 
-def amid(cluster):
-    """The compensation amid the delays of the run, and the delay error that then suffices; None where no delay is said."""
-    delays = delays_of(cluster)
+def amid(cluster: Cluster) -> tuple[dict[str, int], int] | None:
+    """The compensations amid the delays of the run, and the delay error that then suffices; None where no delay is said."""
+    delays: dict[str, list[int]] = {}
+    for name, ticks in delays_of(cluster):
+        delays.setdefault(name, []).append(ticks)
     if not delays:
         return None
-    wait = min(200, max(0, rounded(Fraction(min(delays) + max(delays), 2 * TICKS))))
-    return wait, max(max(delays) - wait * TICKS, wait * TICKS - min(delays))
+    waits = {name: min(200, max(0, rounded(Fraction(min(some) + max(some), 2 * TICKS)))) for name, some in delays.items()}
+    return waits, max(max(max(some) - waits[name] * TICKS, waits[name] * TICKS - min(some)) for name, some in delays.items())
 
 
 def passed(cluster, need):
@@ -154,7 +159,7 @@ def passed(cluster, need):
         found.append(f"an oscillator of this run is {need['xRateBound']} ticks off, beyond xRateBound, {p['xRateBound']}")
     if need["xChangeBound"] > p["xChangeBound"]:
         ticks, node, cycle = greatest_change(cluster)
-        found.append(f"the microtick of node {node} changes by {ticks} ticks in cycle {cycle} of this run, beyond "
+        found.append(f"the microtick of node {cluster.called(node)} changes by {ticks} ticks in cycle {cycle} of this run, beyond "
                      f"xChangeBound, {p['xChangeBound']}")
     if need["xDelayError"] > p["xDelayError"]:
         off, stated = (decimal(us_of_ticks(ticks, unit) * 1000, 1) for ticks in (need["xDelayError"], p["xDelayError"]))
@@ -172,13 +177,14 @@ def starting_points(cluster, failing, with_amid=True):
     middle = amid(cluster) if with_amid else None
     delay = None
     if middle and middle[1] < stated["xDelayError"]:
-        delays = delays_of(cluster)
+        delays = [ticks for _, ticks in delays_of(cluster)]
         low, high = (decimal(us_of_ticks(ticks, unit) * 1000, 1) for ticks in (min(delays), max(delays)))
-        delay = {**stated, "pDelayCompensation": middle[0], "xDelayError": middle[1]}
+        delay = {**stated, **middle[0], "xDelayError": middle[1]}
         if middle[1] <= p["xDelayError"] < need["xDelayError"]:
             beyond = beyond[:-1]
         found.append((delay, [*beyond, f"your delays span {decimal(us_of_ticks(max(delays) - min(delays), unit) * 1000, 1)} ns "
-                              f"({low} to {high} ns): put the compensation amid them"]))
+                              f"({low} to {high} ns): put the compensation amid "
+                              + ("them" if version_of(p) == 1 else "those of each channel")]))
     lower = {**(delay or stated)}
     told = list(found[-1][1])
     for name, words in (("xChangeBound", "no oscillator of this run changes by more than {} ppm a cycle"),
@@ -285,7 +291,7 @@ def value_words(name, value, cluster):
 
 def values_words(changed, cluster):
     """Values as the TOML file has them, limits first."""
-    order = ["pDelayCompensation", *LIMITS]
+    order = ["pDelayCompensation", *OF_CHANNELS, *LIMITS]
     return ", ".join(value_words(name, changed[name], cluster)
                      for name in [*(name for name in order if name in changed), *(name for name in changed if name not in order)])
 

@@ -2,10 +2,12 @@
 it stays within its later level. The numbers are those of flexray-series, the greatest skew of each cycle, or where
 that is not installed how far the starts of a cycle lie apart in the trace, which is less."""
 import re
+from collections.abc import Iterable
 from dataclasses import dataclass
 from fractions import Fraction
 
 from ..base.ending import USAGE, Stop
+from ..toml.cluster import Cluster
 from .sync import starts_apart
 
 # Changes that lie no further apart are one; what an oscillator did is corrected two double cycles later.
@@ -78,19 +80,21 @@ def changes(run):
     return found, sorted(joined.items())
 
 
-def named(nodes):
-    return ("node " if len(nodes) == 1 else "nodes ") + ", ".join(map(str, sorted(nodes)))
+def named(nodes: Iterable[int], cluster: Cluster) -> str:
+    """These nodes in words, with the names of those that have one."""
+    found = [cluster.called(node) for node in sorted(nodes)]
+    return ("node " if len(found) == 1 else "nodes ") + ", ".join(found)
 
 
 def stretches(run):
     """(first, last, what) of the cycles of a run from its first double cycle in sync on."""
     changing, joining = changes(run)
     last = len(run.cycles) - 1
-    marks = [(first, min(end + CORRECTED - 1, last), f"{named(nodes)} change{'s' if len(nodes) == 1 else ''}")
+    marks = [(first, min(end + CORRECTED - 1, last), f"{named(nodes, run.cluster)} change{'s' if len(nodes) == 1 else ''}")
              for first, end, nodes in changing]
     at = 2 * run.report.in_sync if run.report.in_sync is not None else 0
     found, what = [], "from sync on" if run.report.in_sync is not None else "from the beginning"
-    points = sorted(marks + [(cycle, None, f"with {named(nodes)}") for cycle, nodes in joining],
+    points = sorted(marks + [(cycle, None, f"with {named(nodes, run.cluster)}") for cycle, nodes in joining],
                     key=lambda mark: mark[0])
     for first, end, name in points:
         if first > at:

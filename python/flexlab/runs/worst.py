@@ -10,6 +10,7 @@ from concurrent.futures import ThreadPoolExecutor
 from dataclasses import dataclass, field
 
 from ..program import calls as programs
+from ..base import ranges
 from ..base.ending import DONE, FILE, NO, USAGE, Stop
 from ..base.files import parameter_lines
 from ..pages.gaps import gap_words
@@ -48,7 +49,6 @@ class Bench:
             self.put(path, self.parameters)
             self.bounds = read_bounds(answer(program, ["bound", path]))
         self.p, self.cycles = cluster.parameters, 2 * doubles
-        self.wait = self.p["pDelayCompensation"] * TICKS
         self.shift = self.reachable()
 
     @staticmethod
@@ -63,7 +63,7 @@ class Bench:
         """How early or late an arbitrary node may be so that its frame falls into its slot at every clock in sync."""
         p, left = self.p, self.p["pMicroPerCycle"] - self.p["pRateCorrectionOut"]
         point, slot, macros = p["gdActionPointOffset"], p["gdStaticSlot"], p["gMacroPerCycle"]
-        room = min(point * left // macros - 2, (slot - point) * left // macros - 2 - p["pDelayCompensation"])
+        room = min(point * left // macros - 2, (slot - point) * left // macros - 2 - ranges.compensation(p))
         return max(0, min(self.bounds.precision + 4 * TICKS, room * (TICKS - p["xRateBound"])))
 
     def length(self, trial, node, cycle):
@@ -109,7 +109,8 @@ class Bench:
             before = None
             for cycle in range(self.cycles):
                 late = self.heard(trial, receiver, (sender, receiver, channel), cycle % 2)
-                ticks = max(0, self.wait + late * self.p["xDelayError"])
+                wait = ranges.compensation(self.p, channel) * TICKS
+                ticks = max(0, wait + late * self.p["xDelayError"])
                 if ticks != before:
                     yield f"delay,{sender},{receiver},{channel},{cycle},{ticks}\n"
                 before = ticks
@@ -237,7 +238,7 @@ def who(bench, trial):
     unit = bench.cluster.microtick_ns
     for node in bench.cluster.correct:
         first, last = (bench.length(trial, node, cycle) for cycle in (0, bench.cycles - 1))
-        yield (f"node {node}: {CAMPS[trial.camps[node]]}; its oscillator is off by {signed(ppm_of(first), 2)} ppm at first "
+        yield (f"node {bench.cluster.called(node)}: {CAMPS[trial.camps[node]]}; its oscillator is off by {signed(ppm_of(first), 2)} ppm at first "
                f"and {signed(ppm_of(last), 2)} ppm in the last cycle; it starts "
                f"{microseconds(trial.starts.get(node, 0), unit)} late\n")
         for parity, name in ((0, "even"), (1, "odd")):

@@ -1,4 +1,5 @@
 """A cluster as a TOML file describes it, in the numbers of flexray's files."""
+import json
 from dataclasses import dataclass, field
 from fractions import Fraction
 
@@ -6,7 +7,7 @@ from ..base import ranges
 
 from ..base import units
 from .source import AMOUNTS, Source
-from .values import near
+from .values import Table, near
 
 
 @dataclass
@@ -20,6 +21,7 @@ class Node:
     start: int
     rate: int
     place: int = 0
+    name: str = ""
 
 
 @dataclass
@@ -58,13 +60,26 @@ class Cluster:
         """How long a macrotick lasts by nominal microticks."""
         return self.parameters["pMicroPerCycle"] * self.microtick_ns / self.parameters["gMacroPerCycle"]
 
+    @property
+    def names(self) -> dict[int, str]:
+        """The names of the nodes that have one."""
+        return {node.number: node.name for node in self.nodes.values() if node.name}
+
+    def called(self, number: int) -> str:
+        """A node's number, with its name where it has one."""
+        name = self.nodes[number].name if number in self.nodes else ""
+        return f"{number} ({name})" if name else str(number)
+
     def common(self, sender, receiver):
         return [channel for channel in "AB"
                 if channel in self.nodes[sender].channels and channel in self.nodes[receiver].channels]
 
 
-AMID = ("; if the delays of the cluster spread further, put cluster.pDelayCompensation amid them, and the error is half of "
-        "what they spread over")
+AMID = ("; if the delays of the cluster spread further, put cluster.pDelayCompensation amid them, or pDelayCompensationA and B amid "
+        "those of each channel, and the error is half of what they spread over. Ten microticks are the range of flexray's xDelayError, "
+        "and none of the standard: a greater spread wants a longer microtick, or delays that lie nearer together")
+# Of a node's name: what fits on a page beside its number.
+NAME_LENGTH = 128
 # The greatest, in hundredths of a ppm, with which the microtick of a slow oscillator is at most 1500 ticks too long.
 MOST_PPM = Fraction(149825, 100)
 
@@ -126,15 +141,37 @@ def read_limits(source, microtick_ns):
     return found
 
 
+def read_name(table: Table, nodes: dict[int, Node]) -> str:
+    """The name of a node, or nothing where it has none."""
+    if not table.has("name"):
+        return ""
+    wanted = f"a text of 1 to {NAME_LENGTH} printable characters, without blanks at its ends"
+    name = table.text("name", wanted)
+    if not 1 <= len(name) <= NAME_LENGTH or not name.isprintable() or name != name.strip():
+        table.refuse("name", f"{shown_name(name)} is not {wanted}")
+    if name.isdecimal():
+        table.refuse("name", f"{shown_name(name)} is a number, and a node's number is its id")
+    for node in nodes.values():
+        if node.name == name:
+            table.refuse("name", f"node {node.number} has the name {shown_name(name)} already")
+    return name
+
+
+def shown_name(name: str) -> str:
+    """A name as a message has it: cut, and what is not printable escaped."""
+    return json.dumps(name if len(name) <= NAME_LENGTH else name[:32] + "..")
+
+
 def read_node(table, nodes, microtick_ns, rate_limit):
     number = table.whole("id", 1, 64)
     if number in nodes:
         table.refuse("id", f"node {number} is there already")
+    name = read_name(table, nodes)
     key_slot = table.whole("key_slot", 1, 1023) if table.has("key_slot") else None
     node = Node(number, key_slot, table.channels("channels"), table.flag("coldstart", (False,)),
                 table.flag("arbitrary", (False,)), table.number("ppm", -333333, 1000000, "ppm", (Fraction(0),)),
                 amount(table, "start_", microtick_ns, *ranges.START, default=0),
-                table.whole("rate", -rate_limit, rate_limit, "microticks", (0,)), table.index)
+                table.whole("rate", -rate_limit, rate_limit, "microticks", (0,)), table.index, name)
     if node.coldstart and key_slot is None:
         table.refuse("coldstart", "a coldstart node needs a `key_slot`")
     if node.arbitrary and key_slot is None:
@@ -173,12 +210,22 @@ def read_slots(source, nodes):
     return slots
 
 
+def version_asked(source: Source, table: Table | None) -> int:
+    """The version of the files: 2 where each channel has a compensation of its own."""
+    of_channels = [name for name in ranges.OF_CHANNELS if table and table.has(name)]
+    if table and of_channels and table.has("pDelayCompensation"):
+        with source.part():
+            table.refuse(of_channels[0], "`pDelayCompensation` stands beside it, which is for both channels: give that one, or "
+                                         "`pDelayCompensationA` and `pDelayCompensationB`")
+    return 2 if of_channels else 1
+
+
 def read_parameters(source, microtick_ns):
     """The parameters; one that is refused has its greatest value, with which the rest is read."""
     table, found = None, {}
     with source.part():
         table = source.table("cluster")
-    for name, (least, most, unit, _) in ranges.PARAMETERS.items():
+    for name, (least, most, unit, _) in ranges.table(version_asked(source, table)).items():
         if not name.startswith("x"):
             found[name] = most
             with source.part():

@@ -8,7 +8,7 @@ from fractions import Fraction
 from .draws import draw
 from ..base.ending import FILE, REFUSED, Refused, Stop
 from .places import line_of
-from ..base.ranges import PARAMETERS
+from ..base.ranges import NAMES
 from .values import Table, near, shown
 
 AMOUNTS = ("us", "ns", "microticks", "ticks")
@@ -19,11 +19,11 @@ SCRIPT = ("cycles", "channels", *AMOUNTS)
 KEYS = {
     "values": (),
     "bench": ("microtick_ns", "bit_rate_mbit", "start_bits"),
-    "cluster": tuple(name for name in PARAMETERS if not name.startswith("x")),
+    "cluster": tuple(name for name in NAMES if not name.startswith("x")),
     "limits": ("oscillator_ppm", "xRateBound", "change_ppm_per_cycle", "xChangeBound", "xDelayError",
                *(f"delay_error_{unit}" for unit in AMOUNTS)),
     "run": ("double_cycles", "seed"),
-    "node": ("id", "channels", "key_slot", "coldstart", "arbitrary", "ppm", "rate",
+    "node": ("id", "name", "channels", "key_slot", "coldstart", "arbitrary", "ppm", "rate",
              *(f"start_{unit}" for unit in AMOUNTS)),
     "slot": ("slot", "node", "base", "repetition"),
     "oscillator": ("nodes", "cycles", "ppm", "ppm_from", "ppm_to"),
