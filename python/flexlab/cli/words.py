@@ -63,6 +63,28 @@ def parser():
                            help="by how much a delay may differ between the two cycles of a double cycle (else as in the file)")
     precision.add_argument("--flexray", metavar="PROGRAM", help=PROGRAM_HELP)
 
+    design = request("design", "find the parameters of a topology with the least precision that is proved",
+                     "\nOf a topology (lines, stars, oscillators, payloads), or around the cluster of a TOML file. It tells what binds "
+                     "each\nparameter, what other hardware would buy, and the second best; flexray bound confirms each design, and "
+                     "refuses\neach of its parameters at one less.")
+    design.add_argument("file", metavar="FILE.toml", help="a topology, or a cluster that is there")
+    design.add_argument("--for", dest="purpose", choices=("precision", "slot", "slots", "free"), default="precision",
+                        help="what is best: the least precision, the shortest slot, the most slots in the cycle, or the most time behind "
+                             "the slots (precision)")
+    design.add_argument("--keep", metavar="NAME=VALUE", action="append",
+                        help="a parameter that is as it is, as gMacroPerCycle=3636; several times for several")
+    design.add_argument("--free", action="store_true",
+                        help="leave out the two formulas of the standard, of the slot length and of pdMaxDrift")
+    design.add_argument("--margin-ns", metavar="NS", help="so much is to be left in the checks of offset limit and slots (0)")
+    design.add_argument("--flutter-ns", metavar="NS",
+                        help="by how much a delay may differ between the two cycles of a double cycle (else as in the file)")
+    design.add_argument("--whole-macroticks", action="store_true", help="only macroticks of a whole number of microticks")
+    design.add_argument("--top", metavar="COUNT", type=int, default=2, help="so many designs, the best ones (2)")
+    design.add_argument("--certificate", metavar="FOLDER",
+                        help="write the parameter files of the chain there, each of which flexray bound refuses as is said")
+    design.add_argument("-o", "--out", metavar="OUT.toml", help="write the design of a topology as a cluster, for `flexlab run`")
+    design.add_argument("--flexray", metavar="PROGRAM", help=PROGRAM_HELP)
+
     worst = request("worst", "look for the run of a cluster that comes closest to its precision",
                     "\nIt searches oscillators, delays, starts and the words of arbitrary nodes, has flexray judge each "
                     "candidate,\nand writes the worst as files to be run again: edge/ and kept/.")
@@ -167,14 +189,14 @@ def parser():
     observe.add_argument("-p", "--pictures", action="store_true", help="draw skew, rates and offset terms, by gnuplot")
     observe.add_argument("--flexray", metavar="PROGRAM", help=PROGRAM_HELP)
 
-    for one in (run, power, explain, study, capture, observe):
+    for one in (run, power, design, explain, study, capture, observe):
         one.add_argument("--json", action="store_true", help="print one JSON object in place of the page")
 
     one = requests.add_parser("study-run", add_help=False)
     one.set_defaults(does="study-run")
     one.add_argument("plan")
     one.add_argument("runs", nargs="+")
-    requests.metavar = "{new,build,run,power,settle,precision,worst,explain,study,capture,log,observe,pcap}"
+    requests.metavar = "{new,build,run,power,settle,precision,design,worst,explain,study,capture,log,observe,pcap}"
     return top
 
 
@@ -287,6 +309,11 @@ def do_precision(words):
     return DONE
 
 
+def do_design(words):
+    from ..design.request import design
+    return design(words)
+
+
 def do_worst(words):
     from ..program import calls as program
     from ..toml.cluster import read_cluster
@@ -337,7 +364,7 @@ def do_observe(words):
 
 
 DO = {"new": do_new, "build": do_build, "run": do_run, "power": do_power, "settle": do_settle, "pcap": do_pcap,
-      "explain": do_explain, "study": do_study, "precision": do_precision, "worst": do_worst, "study-run": do_study_run,
+      "explain": do_explain, "study": do_study, "precision": do_precision, "design": do_design, "worst": do_worst, "study-run": do_study_run,
       "capture": do_capture, "log": do_log, "observe": do_observe}
 
 
