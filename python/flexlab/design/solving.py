@@ -136,7 +136,10 @@ class Design:
 
     def order(self, purpose: str) -> tuple[Fraction | int, ...]:
         """By what designs are put in order, the best first; at last by the longest macrotick."""
-        precision, slot, room, macros = self.precision_ns, self.slot_ns, -self.free * self.macrotick_ns, self.parameters["gMacroPerCycle"]
+        macros, unit, cycle = self.parameters["gMacroPerCycle"], self.task.microtick_ns, self.task.micros
+        precision = Fraction(self.bounds["precision"] * unit.numerator, unit.denominator * TICKS)
+        slot, room = (Fraction(count * cycle * unit.numerator, macros * unit.denominator)
+                      for count in (self.parameters["gdStaticSlot"], -self.free))
         if purpose == "slot":
             return slot, precision, room, macros
         if purpose == "slots":

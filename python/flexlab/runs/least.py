@@ -24,23 +24,25 @@ class Kind:
         return "beside" if self.beside else "alone"
 
 
-def common_of(p):
+def common_of(p, wait=None):
     """What all bounds are made of: the longest and the shortest microtick, the error of an arrival, and by how much a cycle
     changes."""
-    wait = ranges.compensation(p)
+    wait = ranges.compensation(p) if wait is None else wait
     return (TICKS + p["xRateBound"], TICKS - p["xRateBound"], p["xDelayError"] + wait * p["xRateBound"],
             (p["pMicroPerCycle"] + p["pRateCorrectionOut"]) * p["xChangeBound"])
 
 
-def slot_sides(p, first, apart):
-    """Both sides of a check of the offset limit, and of the two of slots behind it, for clocks so far apart."""
-    longest, shortest, error, _ = common_of(p)
+def slot_sides(p, first, apart, wait=None):
+    """Both sides of a check of the offset limit, and of the two of slots behind it, for clocks so far apart; `wait` is the greater
+    compensation where that is known."""
+    wait, rate = ranges.compensation(p) if wait is None else wait, p["xRateBound"]
+    longest, shortest, error = TICKS + rate, TICKS - rate, p["xDelayError"] + wait * rate
     macros, left = p["gMacroPerCycle"], p["pMicroPerCycle"] - p["pRateCorrectionOut"]
     point, rest = p["gdActionPointOffset"], p["gdStaticSlot"] - p["gdActionPointOffset"]
     return {first: (p["pOffsetCorrectionOut"] * shortest, apart + error + longest),
             first + 1: ((point * left - macros) * shortest, macros * (apart + p["xDelayError"])),
             first + 2: ((rest * left - macros) * shortest,
-                        macros * (apart + ranges.compensation(p) * TICKS + p["xDelayError"]))}
+                        macros * (apart + wait * TICKS + p["xDelayError"]))}
 
 
 def bounds_of(p, join=False):
@@ -66,7 +68,8 @@ def bounds_of(p, join=False):
 def sharp_bounds_of(p, kind):
     """The sharper bounds of a cluster and both sides of their checks, as `flexray bound PARAMS sharp FLUTTER join` prints them;
     with how far action points lie apart, and for how many double cycles the walk and first rates last (None: on and on)."""
-    longest, shortest, error, change = common_of(p)
+    wait = ranges.compensation(p)
+    longest, shortest, error, change = common_of(p, wait)
     micros, damping, most = p["pMicroPerCycle"], p["pClusterDriftDamping"], p["pRateCorrectionOut"]
     wide = (micros + most + p["pOffsetCorrectionOut"] + 1) * p["xChangeBound"]
     lengths = (2 if kind.beside else 1) * (2 * (kind.flutter + longest - 1 + wide) + (1 + 2 * damping) * longest + 2 * change)
@@ -84,8 +87,8 @@ def sharp_bounds_of(p, kind):
             "reach": reach, "lasts": 0 if room < 0 else None if walk <= 0 else room // walk,
             "first rates": 0 if room < counted else None if walk <= 0 else min(room // walk, (room - counted) // walk + 1),
             1: (damping * shortest + 1, shortest + kind.flutter + change + wide),
-            2: (most * shortest, 2 * micros * p["xRateBound"]), **slot_sides(p, 3, near),
-            6: (most * shortest, 2 * micros * p["xRateBound"] + counted), **slot_sides(p, 7, reach)}
+            2: (most * shortest, 2 * micros * p["xRateBound"]), **slot_sides(p, 3, near, wait),
+            6: (most * shortest, 2 * micros * p["xRateBound"] + counted), **slot_sides(p, 7, reach, wait)}
 
 
 def holds(number, sides):
