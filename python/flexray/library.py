@@ -6,6 +6,7 @@ import ctypes.util
 import operator
 import os
 import sys
+import struct
 import threading
 from dataclasses import dataclass
 from typing import Any, Sequence, Union
@@ -51,13 +52,16 @@ class _Texts(ctypes.Structure):
 
 
 def _places() -> list[str]:
-    """Where the library may be: as the variable says; beside this module, in a wheel; where the repository builds it; where
-    the system has it."""
+    """Where the library may be: as the variable says; beside this module, in a wheel; where the repository builds it, or a release
+    is unpacked; where the system has it."""
     given = os.environ.get("FLEXRAY_LIBRARY")
     if given:
         return [given]
     here = os.path.dirname(os.path.realpath(__file__))
     found = [os.path.join(here, NAME), os.path.join(here, "..", "..", "out", "library", "lib", NAME)]
+    # Where a release is unpacked: the module is in share/flexray/python, the library in lib.
+    if here.endswith(os.path.join("share", "flexray", "python", "flexray")):
+        found.append(os.path.join(here, "..", "..", "..", "..", "lib", NAME))
     return [os.path.realpath(place) for place in found if os.path.exists(place)] + [NAME]
 
 
@@ -70,7 +74,7 @@ def _library() -> ctypes.CDLL:
                 try:
                     library = ctypes.CDLL(place)
                     _declare(library)
-                    _loaded, _path = library, place
+                    _loaded, _path = library, place if os.sep in place else _taken(library, place)
                     break
                 except (OSError, AttributeError) as fault:
                     told = str(fault)
@@ -91,10 +95,63 @@ def _declare(library: ctypes.CDLL) -> None:
     library.flexray_version.argtypes = []
 
 
+class _Symbol(ctypes.Structure):
+    """What the loader tells of an address, first the file that it took."""
+
+    _fields_ = [("file", ctypes.c_char_p), ("base", ctypes.c_void_p), ("name", ctypes.c_char_p), ("address", ctypes.c_void_p)]
+
+
+def _taken(library: ctypes.CDLL, place: str) -> str:
+    """The file that the loader took for a bare name; the name itself where it does not tell."""
+    found = _Symbol()
+    try:
+        loader = ctypes.CDLL(None)
+        told = loader.dladdr(ctypes.cast(library.flexray_version, ctypes.c_void_p), ctypes.byref(found))
+    except (OSError, AttributeError):
+        return place
+    return os.path.realpath(os.fsdecode(found.file)) if told and found.file else place
+
+
 def path() -> str:
     """Where the library was found."""
     _library()
     return _path
+
+
+def build() -> str:
+    """The build ID of the library in hexadecimal digits, which is a digest of the sources that it was compiled from; empty where
+    it has none."""
+    return build_of(path())
+
+
+def build_of(place: str) -> str:
+    """The same of a library that is not loaded, by its path."""
+    try:
+        with open(place, "rb") as file:
+            data = file.read()
+        return _build_id(data)
+    except (OSError, struct.error):
+        return ""
+
+
+def _build_id(data: bytes) -> str:
+    """The build ID that an ELF file of 64 bits states in its notes."""
+    if data[:6] != b"\x7fELF\x02\x01":
+        return ""
+    start, = struct.unpack_from("<Q", data, 32)
+    size, count = struct.unpack_from("<HH", data, 54)
+    for at in range(start, start + size * count, size):
+        kind, place, length = struct.unpack_from("<L4xQ16xQ", data, at)
+        if kind != 4:
+            continue
+        note, end = place, min(place + length, len(data))
+        while note < end:
+            name, text, number = struct.unpack_from("<LLL", data, note)
+            body = note + 12 + (name + 3) // 4 * 4
+            if number == 3 and data[note + 12:note + 16] == b"GNU\0":
+                return data[body:body + text].hex()
+            note = body + (text + 3) // 4 * 4
+    return ""
 
 
 def version() -> str:

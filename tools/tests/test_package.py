@@ -1,29 +1,70 @@
-"""The Debian package: installed under another root it runs, its pages are shown, its library is called from C and Python, and
-bash completes words."""
+"""The Debian package: installed under another root it runs, also where there is nothing but libc, its pages are shown, its library
+is called from C and Python, and nothing is left where its making is killed; a release of all; and bash completes words."""
 import glob
 import os
 import re
 import shutil
+import signal
 import subprocess
 import sys
+import tempfile
+import time
 import unittest
 
-from bench import EXAMPLE, FLEXRAY, REPOSITORY, TOOLS, Bench, needs
+from bench import EXAMPLE, FLEXRAY, REPOSITORY, SERIES, TOOLS, Bench, needs
 
+with open(FLEXRAY, "rb") as program:
+    FLEXRAY_BYTES = program.read()
 LIBRARY = os.environ.get("FLEXRAY_LIBRARY_FOLDER") or os.path.join(REPOSITORY, "out", "library")
 PAGE = os.environ.get("FLEXRAY_PAGE") or os.path.join(REPOSITORY, "out", "page", "flexray.html")
 
 
 class Package(Bench):
+    """Most tests look at one package, which is made once."""
+
+    @classmethod
+    def setUpClass(cls):
+        cls.kept = tempfile.mkdtemp(prefix="flexlab-test-")
+        cls.addClassCleanup(shutil.rmtree, cls.kept, ignore_errors=True)
+
+    def package(self):
+        """The package that is made once."""
+        found = glob.glob(os.path.join(self.kept, "*.deb"))
+        if not found:
+            found = [shutil.move(self.build(), self.kept)]
+        return found[0]
+
     def build(self, env=None):
         ended = subprocess.run([os.path.join(TOOLS, "package"), self.room], capture_output=True, text=True, check=False,
-                               env={**os.environ, "FLEXRAY": FLEXRAY, **(env or {})})
+                               env={**os.environ, "FLEXRAY": FLEXRAY, "FLEXRAY_SERIES": SERIES or "", **(env or {})})
         self.assertEqual(ended.returncode, 0, ended.stderr)
         return ended.stdout.strip()
 
+    def field(self, package, name):
+        return subprocess.run(["dpkg-deb", "-f", package, name], capture_output=True, text=True, check=True).stdout
+
+    def bare(self):
+        """A root that has the package, a shell and the libraries of both, and nothing else."""
+        root = self.path("bare")
+        subprocess.run(["dpkg-deb", "-x", self.package(), root], check=True)
+        wanted = {"/bin/sh": os.path.realpath("/bin/sh")}
+        programs = [os.path.join(root, "usr/lib/flexray", name) for name in os.listdir(os.path.join(root, "usr/lib/flexray"))]
+        for program in (wanted["/bin/sh"], *programs):
+            told = subprocess.run(["ldd", program], capture_output=True, text=True, check=True).stdout
+            wanted.update((path, path) for path in re.findall(r"(/\S+) \(0x", told))
+        for path, whence in wanted.items():
+            os.makedirs(root + os.path.dirname(path), exist_ok=True)
+            shutil.copy2(os.path.realpath(whence), root + path)
+        return root
+
+    def in_root(self, root, *words, limits="", env=None):
+        ended = subprocess.run(["sh", "-c", f'{limits} exec chroot "$@"', "sh", root, *words], capture_output=True, text=True, check=False,
+                               env={"PATH": "/usr/bin:/bin:/usr/sbin:/sbin", **(env or {})})
+        return ended.returncode, ended.stdout, ended.stderr
+
     def install(self):
         """Installs by dpkg where this is root, else unpacks."""
-        root, package = self.path("root"), self.build()
+        root, package = self.path("root"), self.package()
         os.makedirs(os.path.join(root, "var/lib/dpkg/info"))
         os.makedirs(os.path.join(root, "var/lib/dpkg/updates"))
         open(os.path.join(root, "var/lib/dpkg/status"), "w", encoding="ascii").close()
@@ -83,6 +124,118 @@ class Package(Bench):
             self.assertEqual(packed.read(), built.read())
 
     @needs("dpkg-deb")
+    @needs("chroot")
+    @unittest.skipUnless(os.getuid() == 0, "another root is for root alone")
+    @unittest.skipIf(b"__asan_init" in FLEXRAY_BYTES, "a program with a sanitizer needs /proc")
+    def test_it_runs_where_there_is_neither_python_nor_the_toolchain(self):
+        root = self.bare()
+        examples = "/usr/share/doc/flexray/examples"
+        offset = [f"{examples}/offset/{name}.csv" for name in ("params", "drift", "script")]
+        with open(os.path.join(REPOSITORY, "examples/offset/printed.txt"), encoding="ascii") as file:
+            printed = file.read()
+        self.assertEqual(self.in_root(root, "/usr/bin/flexray", "run", *offset), (0, printed, ""))
+        self.assertEqual(self.in_root(root, "flexray", "run", *offset), (0, printed, ""))
+        self.assertEqual(self.in_root(root, "/usr/bin/flexray", "run", offset[0], "/none", "/none"), (3, "", "drift: read fault\n"))
+        self.assertEqual(self.in_root(root, "/usr/bin/flexray", "walk"), (2, "", "usage: flexray COMMAND WORDS\n"))
+        version = self.in_root(root, "/usr/bin/flexray", "--version")
+        with open(os.path.join(REPOSITORY, "VERSION"), encoding="ascii") as file:
+            self.assertEqual(version, (0, f"flexray {file.read()}", ""))
+        if SERIES:
+            status, text, _ = self.in_root(root, "/usr/bin/flexray-series", *offset)
+            self.assertEqual((status, text.splitlines()[0]), (0, "cycle,in_sync,skew,macrotick"))
+        status, text, told = self.in_root(root, "/usr/bin/flexlab", "new", "/mine.toml")
+        self.assertEqual((status, text), (4, ""))
+        self.assertIn("there is no /usr/bin/python3: the Debian package is python3", told)
+
+    @needs("dpkg-deb")
+    @needs("chroot")
+    @unittest.skipUnless(os.getuid() == 0, "another root is for root alone")
+    @unittest.skipIf(b"__asan_init" in FLEXRAY_BYTES, "a program with a sanitizer needs more")
+    def test_little_stack_is_told(self):
+        """Where the stack may not grow as far as a command needs it to, or little may be had at all, that is told by a status."""
+        root = self.bare()
+        words = ["/usr/bin/flexray", "make", "7", "1"]
+        fine = self.in_root(root, *words)
+        self.assertEqual(fine[0], 0)
+        told = (6, "", "no memory\n")
+        for kib in (64, 128, 200, 256, 300, 400, 511):
+            self.assertEqual(self.in_root(root, *words, limits=f"ulimit -s {kib};"), told, kib)
+        for limits in ("ulimit -s 512;", "ulimit -S -s 128;", "ulimit -s unlimited;"):
+            self.assertEqual(self.in_root(root, *words, limits=limits), fine, limits)
+        self.assertEqual(self.in_root(root, *words, limits="ulimit -v 4000;"), told)
+        seen = {self.in_root(root, *words, limits=f"ulimit -v {kib};")[0] for kib in range(4096, 6144, 128)}
+        self.assertLessEqual(seen, {0, 6})
+
+    @needs("dpkg-deb")
+    def test_help_lists_every_command(self):
+        root = self.path("root")
+        subprocess.run(["dpkg-deb", "-x", self.package(), root], check=True)
+        told = self.installed(root, os.path.join(root, "usr/bin/flexray"), "--help")
+        with open(os.path.join(REPOSITORY, "docs", "flexray.1"), encoding="utf-8") as file:
+            commands = set(re.findall(r"^\.B flexray (\w+)$", file.read(), re.M))
+        self.assertLessEqual(commands, set(re.findall(r"^  flexray (\w+)", told, re.M)))
+        self.assertNotIn("tools/", told)
+        self.assertNotIn("build", told)
+
+    @needs("dpkg-deb")
+    def test_it_says_what_is_in_it(self):
+        """Without library and page it has neither in its description, no module that could not be called, and tells so."""
+        none = {"FLEXRAY_LIBRARY_FOLDER": self.path("none"), "FLEXRAY_PAGE": self.path("none")}
+        package = self.build(none)
+        told = self.field(package, "Description")
+        self.assertNotIn("libflexray", told)
+        self.assertNotIn("page of one file", told)
+        self.assertNotIn("python3", self.field(package, "Depends"))
+        self.assertIn("python3 (>= 3.11)", self.field(package, "Recommends"))
+        listed = subprocess.run(["dpkg-deb", "-c", package], capture_output=True, text=True, check=True).stdout
+        self.assertNotIn("dist-packages", listed)
+        self.assertNotIn("libflexray", listed)
+        ended = subprocess.run([os.path.join(TOOLS, "package"), self.room], capture_output=True, text=True, check=False,
+                               env={**os.environ, "FLEXRAY": FLEXRAY, **none})
+        self.assertIn("left out: the C library and the Python module, which tools/library builds", ended.stderr)
+        self.assertIn("left out: the page, which tools/page builds", ended.stderr)
+
+    @needs("dpkg-deb")
+    @needs("cc")
+    def test_a_library_of_other_sources_is_refused(self):
+        lib = self.path("library", "lib")
+        os.makedirs(lib)
+        self.write("a.c", "int flexray_version(void) { return 0; }\n")
+        subprocess.run(["cc", "-shared", "-fPIC", "-Wl,--build-id=0x" + "5a" * 20, self.path("a.c"), "-o", f"{lib}/libflexray.so.0"], check=True)
+        self.write("library/lib/libflexray.a", "")
+        ended = subprocess.run([os.path.join(TOOLS, "package"), self.room], capture_output=True, text=True, check=False,
+                               env={**os.environ, "FLEXRAY": FLEXRAY, "FLEXRAY_LIBRARY_FOLDER": self.path("library")})
+        self.assertEqual((ended.returncode, ended.stdout), (4, ""))
+        self.assertIn("is not of these sources", ended.stderr)
+
+    @needs("dpkg-deb")
+    def test_nothing_is_left_where_it_is_killed(self):
+        """Killed at any moment there is a whole package or none, and no folder."""
+        os.makedirs(self.path("tmp"))
+        os.makedirs(self.path("to"))
+        env = {**os.environ, "FLEXRAY": "/bin/true", "FLEXRAY_SERIES": "", "FLEXRAY_LIBRARY_FOLDER": self.path("none"),
+               "FLEXRAY_PAGE": self.path("none"), "TMPDIR": self.path("tmp")}
+        words = [os.path.join(TOOLS, "package"), self.path("to")]
+        begun = time.monotonic()
+        ended = subprocess.run(words, capture_output=True, text=True, check=True, env=env)
+        whole, path = time.monotonic() - begun, ended.stdout.strip()
+        with open(path, "rb") as file:
+            kept = file.read()
+        for part in range(6):
+            if os.path.exists(path):
+                os.remove(path)
+            process = subprocess.Popen(words, stdout=subprocess.DEVNULL, stderr=subprocess.DEVNULL, env=env, start_new_session=True)
+            time.sleep(whole * (0.3 + 0.14 * part))
+            os.killpg(process.pid, signal.SIGKILL)
+            process.wait()
+            found = os.listdir(self.path("to"))
+            self.assertIn(found, ([], [os.path.basename(path)]))
+            if found:
+                with open(path, "rb") as file:
+                    self.assertEqual(file.read(), kept)
+            self.assertEqual(os.listdir(self.path("tmp")), [])
+
+    @needs("dpkg-deb")
     def test_it_depends_on_what_its_libraries_are_of(self):
         """Another package has libraries of the same name, as libc6-i386 has, and is told first where only the name is asked."""
         os.makedirs(self.path("bin"))
@@ -111,11 +264,8 @@ exec {shutil.which("dpkg")} "$@"
 
     @needs("dpkg-deb")
     def test_a_package_is_the_same_twice(self):
-        first = self.build()
-        with open(first, "rb") as file:
-            kept = file.read()
-        with open(self.build(), "rb") as file:
-            self.assertEqual(file.read(), kept)
+        with open(self.package(), "rb") as first, open(self.build(), "rb") as second:
+            self.assertEqual(first.read(), second.read())
 
     def test_wrong_words(self):
         package = os.path.join(TOOLS, "package")

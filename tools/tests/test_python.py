@@ -14,7 +14,7 @@ from concurrent.futures import ThreadPoolExecutor
 from fractions import Fraction
 from pathlib import Path
 
-from bench import FLEXRAY, REPOSITORY, SERIES, Bench
+from bench import FLEXRAY, REPOSITORY, SERIES, Bench, needs
 
 PACKAGE = os.path.join(REPOSITORY, "python")
 sys.path.insert(0, PACKAGE)
@@ -22,7 +22,9 @@ sys.path.insert(0, PACKAGE)
 import flexray  # noqa: E402
 from flexray import library, texts  # noqa: E402
 from flexlab.program import calls as program  # noqa: E402
+from flexlab.program import stamp  # noqa: E402
 from flexlab.base import units  # noqa: E402
+from flexlab.base.version import version  # noqa: E402
 
 try:
     library.version()
@@ -364,7 +366,7 @@ class Flexlab(Bench):
         super().setUp()
         self.found = [program.by_library(FLEXRAY), SERIES and program.by_library(SERIES)]
         if not self.found[0]:
-            self.skipTest("the program that is tested is not the one that flexlab finds, or newer than the library")
+            self.skipTest("the program that is tested is not the one that flexlab finds, or the library is of other sources")
 
     def test_each_call_is_that_of_the_program(self):
         os.makedirs(self.path("folder.csv"))
@@ -405,6 +407,63 @@ class Flexlab(Bench):
             seconds = table[0].index("seconds")
             pages.append((page, [row[:seconds] + row[seconds + 1:] for row in table], study.count("\n")))
         self.assertEqual(pages[0], pages[1])
+
+
+class Stamped(Bench):
+    """Which library flexlab takes: one that was compiled from the sources that it stands beside, and no other of the same version."""
+
+    def stand_in(self, build):
+        """A shared object of the present version with this build ID."""
+        major, minor, patch = (int(part) for part in version().split("."))
+        self.write("stand_in.c", f"""#include <stdint.h>
+uint32_t flexray_version(void) {{ return {major * 10000 + minor * 100 + patch}; }}
+uint32_t flexray_request(void) {{ return 2; }}
+uint32_t flexray_series_request(void) {{ return 2; }}
+""")
+        path = self.path("libflexray.so.0")
+        subprocess.run(["cc", "-shared", "-fPIC", f"-Wl,--build-id={build}", self.path("stand_in.c"), "-o", path], check=True)
+        return path
+
+    def taken(self, path):
+        """The library that flexlab takes where this one is found first."""
+        ended = subprocess.run([sys.executable, "-B", "-c", "from flexlab.program import calls\nfound = calls.package()\n"
+                                "print(found and found.library.path())"], capture_output=True, text=True, check=True,
+                               env={**os.environ, "PYTHONPATH": PACKAGE, "FLEXRAY_LIBRARY": path, "FLEXLAB_LIBRARY": "yes"})
+        return ended.stdout.strip()
+
+    @needs("cc")
+    def test_it_is_of_these_sources(self):
+        own = stamp.stamp(REPOSITORY)
+        path = self.stand_in(f"0x{own}")
+        self.assertEqual(self.taken(path), path)
+        self.assertEqual(self.taken(self.stand_in("0x" + "5a" * 20)), "None")
+        self.assertEqual(self.taken(self.stand_in("none")), "None")
+        self.write("libflexray.so.0", "no library")
+        self.assertEqual(self.taken(path), "None")
+
+    def test_a_stamp_is_that_of_the_code(self):
+        """It changes with a source that the library stands on, and with no proof, test or name of another crate."""
+        top = self.path("top")
+        for name, text in (("crates.txt", "low:\nflexray_c staticlib: low csv\nother: low\n"), ("crates/low/src/lib.rt", "a"),
+                           ("crates/low/src/deep/part.rt", "b"), ("crates/low/proofs/A.antt", "c"), ("crates/other/src/lib.rt", "d"),
+                           ("crates/flexray_c/src/lib.rt", "e")):
+            os.makedirs(os.path.dirname(os.path.join(top, name)), exist_ok=True)
+            self.write(os.path.join("top", name), text)
+        first = stamp.stamp(top)
+        self.assertRegex(first, "^[0-9a-f]{40}$")
+        self.write("top/crates/low/proofs/A.antt", "other")
+        self.write("top/crates/other/src/lib.rt", "other")
+        self.write("top/crates.txt", "low: # lowest\nflexray_c staticlib: low csv\nother: low csv\n")
+        self.assertEqual(stamp.stamp(top), first)
+        seen = {first}
+        for name, text in (("crates/low/src/deep/part.rt", "bb"), ("crates/low/src/lib.rt", "aa"), ("crates/flexray_c/src/more.rt", ""),
+                           ("crates.txt", "low: hex\nflexray_c staticlib: low csv\n")):
+            self.write(os.path.join("top", name), text)
+            seen.add(stamp.stamp(top))
+        self.assertEqual(len(seen), 5)
+        self.write("top/stamp", "as the package says\n")
+        self.assertEqual(stamp.stamp(top), "as the package says")
+        self.assertIsNone(stamp.stamp(self.room))
 
 
 class Alone(Bench):

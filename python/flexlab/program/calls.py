@@ -8,7 +8,7 @@ import subprocess
 import sys
 
 from ..base.ending import MISSING, PROGRAM, Stop
-from ..base.version import version
+from .stamp import stamp
 
 PACKAGES = {"gnuplot": "gnuplot-nox", "parallel": "parallel", "tshark": "tshark"}
 HERE = os.path.dirname(os.path.realpath(__file__))
@@ -29,9 +29,16 @@ def flexray(given=None):
 
 
 def own_program():
-    """The program of this repository, or the one on the path."""
+    """The program of this repository, of the package that this flexlab is part of, or the one on the path."""
     built = os.path.join(HERE, "..", "..", "..", "crates", "flexray_cli", "out", "flexray_cli")
-    return os.path.realpath(built) if os.access(built, os.X_OK) else shutil.which("flexray")
+    # Of a package the program itself, and not the script bin/flexray that calls it.
+    share = os.path.join(HERE, "..", "..", "..")
+    packed = os.path.join(share, "..", "..", "lib", "flexray", "flexray")
+    if os.access(built, os.X_OK):
+        return os.path.realpath(built)
+    if os.path.exists(os.path.join(share, "stamp")) and os.access(packed, os.X_OK):
+        return os.path.realpath(packed)
+    return shutil.which("flexray")
 
 
 def series(program):
@@ -44,7 +51,8 @@ def series(program):
         return None
     if given and os.access(given, os.X_OK) and not os.path.isdir(given):
         return os.path.realpath(given)
-    for path in (os.path.join(beside, "flexray-series"), shutil.which("flexray-series"),
+    for path in (os.path.join(beside, "flexray-series"), os.path.join(beside, "..", "lib", "flexray", "flexray-series"),
+                 shutil.which("flexray-series"),
                  os.path.join(beside, "..", "..", "flexray_series_cli", "out", "flexray_series_cli")):
         if path and os.access(path, os.X_OK) and not is_script(path):
             return os.path.realpath(path)
@@ -74,36 +82,32 @@ NAMES = ("first", "second", "third")
 
 @functools.lru_cache
 def package():
-    """The Python package of flexray, or None where it or its library is not there or is of another version. Where the variable
-    FLEXLAB_LIBRARY is `no` it is not taken."""
+    """The Python package of flexray, or None where it or its library is not there or is of other sources than these. Where the
+    variable FLEXLAB_LIBRARY is `no` it is not taken."""
     if os.environ.get("FLEXLAB_LIBRARY") == "no":
         return None
     place = os.path.realpath(os.path.join(HERE, "..", ".."))
-    if os.path.isdir(place) and place not in sys.path:
-        sys.path.append(place)
+    if os.path.isdir(os.path.join(place, "flexray")) and sys.path[:1] != [place]:
+        sys.path.insert(0, place)
     try:
         found = importlib.import_module("flexray")
-        return found if found.version() == version() else None
-    except ImportError:
+        return found if found.library.build() == stamp() else None
+    except (ImportError, AttributeError):
         return None
 
 
 @functools.lru_cache
 def by_library(program):
     """The function of the package that answers as this program does: where it is the one that flexlab finds by itself, or
-    flexray-series beside it, and is not newer than the library. None where a call has to be one of the program."""
+    flexray-series beside it. None where a call has to be one of the program."""
     own = own_program()
     if not own or not package():
         return None
     if os.path.realpath(program) == os.path.realpath(own):
-        request = package().request
-    elif not os.environ.get("FLEXRAY_SERIES") and program == series(own):
-        request = package().series_request
-    else:
-        return None
-    library = package().library.path()
-    is_older = os.path.exists(library) and os.path.getmtime(library) < os.path.getmtime(program)
-    return None if is_older else request
+        return package().request
+    if not os.environ.get("FLEXRAY_SERIES") and program == series(own):
+        return package().series_request
+    return None
 
 
 def answered(program, words):
