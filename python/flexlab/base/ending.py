@@ -11,8 +11,8 @@ STATUSES = """exit statuses:
   2  the words are wrong
   3  a file could not be read or written
   4  a program that is needed is missing; the line names the Debian package
-  5  a value of the TOML file is refused; the line has the file's line, the key and the range. Or a file is no
-     capture of a FlexRay network
+  5  a value of the TOML file, or of a file that is imported, is refused; the line has the file's line, the key
+     and the range. Or a file is no capture of a FlexRay network
   6  `flexray` failed where it should not have, or its answer does not fit what was asked
   7  what is required of a run is not met; standard error has what and why
 """

@@ -30,6 +30,24 @@ def parser():
     new = request("new", "write a commented example of a cluster")
     new.add_argument("file", metavar="FILE.toml", help="a file that is not there yet, or - for standard output")
 
+    read_in = request("import", "make a cluster of FIBEX or ARXML files",
+                      "\nEach number of the TOML file that is written has its line there. Oscillators and delays are in no such file, and\n"
+                      "are asked. All files of one system are given together.")
+    read_in.add_argument("files", metavar="FILE", nargs="+", help="FIBEX 2 to 4, or ARXML 3 and 4")
+    read_in.add_argument("-o", "--out", metavar="OUT.toml", help="the file to be written, which is not there yet (FILE.toml beside the first "
+                         "file), or - for standard output")
+    read_in.add_argument("--cluster", metavar="NAME", help="which FlexRay cluster, where there are several")
+    read_in.add_argument("--take", metavar="ECU", help="where controllers differ, the values of this ECU's for all")
+    read_in.add_argument("--leave-out", metavar="ECU", action="append", help="an ECU that is no node; several times")
+    read_in.add_argument("--oscillator-ppm", metavar="PPM", help="no oscillator is ever further off")
+    read_in.add_argument("--change-ppm", metavar="PPM", help="none changes by more from one cycle to the next")
+    read_in.add_argument("--delay-ns", metavar="FROM-TO", help="how long frames are under way at least and at most, as 50-300")
+    for channel in "ab":
+        read_in.add_argument(f"--delay-{channel}-ns", metavar="FROM-TO", help=f"the same, of channel {channel.upper()} alone")
+    read_in.add_argument("--set", metavar="NAME=NUMBER", action="append", help="a parameter that the file has not")
+    read_in.add_argument("--map", metavar="RENAMED.toml", help="other names of elements: [fibex] and [arxml] with keys of the table of names")
+    read_in.add_argument("--list", action="store_true", help="print the FlexRay clusters and their nodes, and write nothing")
+
     build = request("build", "write the three files of a cluster for flexray",
                     "\nIt has flexray bound say whether the parameters keep their constraints.")
     run = request("run", "run a cluster and print its page",
@@ -189,14 +207,14 @@ def parser():
     observe.add_argument("-p", "--pictures", action="store_true", help="draw skew, rates and offset terms, by gnuplot")
     observe.add_argument("--flexray", metavar="PROGRAM", help=PROGRAM_HELP)
 
-    for one in (run, power, design, explain, study, capture, observe):
+    for one in (read_in, run, power, design, explain, study, capture, observe):
         one.add_argument("--json", action="store_true", help="print one JSON object in place of the page")
 
     one = requests.add_parser("study-run", add_help=False)
     one.set_defaults(does="study-run")
     one.add_argument("plan")
     one.add_argument("runs", nargs="+")
-    requests.metavar = "{new,build,run,power,settle,precision,design,worst,explain,study,capture,log,observe,pcap}"
+    requests.metavar = "{new,import,build,run,power,settle,precision,design,worst,explain,study,capture,log,observe,pcap}"
     return top
 
 
@@ -229,6 +247,11 @@ def do_new(words):
         file.write(text.replace("THIS.toml", os.path.basename(words.file)))
     print(f"{words.file}: written; next: {called()} run {words.file}")
     return DONE
+
+
+def do_import(words: argparse.Namespace) -> int:
+    from ..imports.importing import import_files
+    return import_files(words, called())
 
 
 def do_build(words):
@@ -363,7 +386,7 @@ def do_observe(words):
     return observe(words, folder_of(words))
 
 
-DO = {"new": do_new, "build": do_build, "run": do_run, "power": do_power, "settle": do_settle, "pcap": do_pcap,
+DO = {"new": do_new, "import": do_import, "build": do_build, "run": do_run, "power": do_power, "settle": do_settle, "pcap": do_pcap,
       "explain": do_explain, "study": do_study, "precision": do_precision, "design": do_design, "worst": do_worst, "study-run": do_study_run,
       "capture": do_capture, "log": do_log, "observe": do_observe}
 
