@@ -11,7 +11,8 @@ class Made:
     """A cluster: its numbers, nodes in the order of the file as (name, key slot, sync, coldstart, channels), and further slots as
     slot to (node's place, cycles by base and repetition)."""
 
-    def __init__(self, seed):
+    def __init__(self, seed, is_plain=False):
+        self.is_plain = is_plain
         self.random = rng = random.Random(seed)
         self.microtick = rng.choice((Fraction(25, 2), Fraction(25), Fraction(50)))
         ticks = rng.randint(40, 100)
@@ -90,6 +91,7 @@ class Made:
     def number(self, text):
         """A number as tools write it: with blanks, a comment, a section or a reference in it."""
         text, kind = str(text), self.random.randrange(12)
+        kind = kind if kind == 0 or not self.is_plain else 12
         if kind == 0:
             return f"  {text}\n"
         if kind == 1 and len(text) > 1:

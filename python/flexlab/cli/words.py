@@ -48,6 +48,18 @@ def parser():
     read_in.add_argument("--map", metavar="RENAMED.toml", help="other names of elements: [fibex] and [arxml] with keys of the table of names")
     read_in.add_argument("--list", action="store_true", help="print the FlexRay clusters and their nodes, and write nothing")
 
+    write_back = request("export", "put changed parameters of a cluster back into the FIBEX or ARXML file that it came from",
+                         "\nOnly changed numbers are other bytes in the new file, and those that follow from them. A file that was changed\n"
+                         "since it was imported is refused, and so are other nodes, key slots and frames.")
+    write_back.add_argument("file", metavar="FILE", help="the file that was imported; it is not written over")
+    write_back.add_argument("--from", dest="source", metavar="CLUSTER.toml", required=True, help="the cluster as it is wanted")
+    write_back.add_argument("-o", "--out", metavar="NEW", help="the file to be written, which is not there yet (FILE with .new before its "
+                            "ending)")
+    write_back.add_argument("--cluster", metavar="NAME", help="which FlexRay cluster, where there are several")
+    write_back.add_argument("--leave-out", metavar="ECU", action="append", help="an ECU that is no node, as import had it")
+    write_back.add_argument("--map", metavar="RENAMED.toml", help="other names of elements, as import had them")
+    write_back.add_argument("--anyway", action="store_true", help="take a file that changed since; leave what follows in a way that is not known")
+
     build = request("build", "write the three files of a cluster for flexray",
                     "\nIt has flexray bound say whether the parameters keep their constraints.")
     run = request("run", "run a cluster and print its page",
@@ -207,14 +219,14 @@ def parser():
     observe.add_argument("-p", "--pictures", action="store_true", help="draw skew, rates and offset terms, by gnuplot")
     observe.add_argument("--flexray", metavar="PROGRAM", help=PROGRAM_HELP)
 
-    for one in (read_in, run, power, design, explain, study, capture, observe):
+    for one in (read_in, write_back, run, power, design, explain, study, capture, observe):
         one.add_argument("--json", action="store_true", help="print one JSON object in place of the page")
 
     one = requests.add_parser("study-run", add_help=False)
     one.set_defaults(does="study-run")
     one.add_argument("plan")
     one.add_argument("runs", nargs="+")
-    requests.metavar = "{new,import,build,run,power,settle,precision,design,worst,explain,study,capture,log,observe,pcap}"
+    requests.metavar = "{new,import,export,build,run,power,settle,precision,design,worst,explain,study,capture,log,observe,pcap}"
     return top
 
 
@@ -252,6 +264,11 @@ def do_new(words):
 def do_import(words: argparse.Namespace) -> int:
     from ..imports.importing import import_files
     return import_files(words, called())
+
+
+def do_export(words: argparse.Namespace) -> int:
+    from ..imports.export import export_file
+    return export_file(words)
 
 
 def do_build(words):
@@ -386,7 +403,7 @@ def do_observe(words):
     return observe(words, folder_of(words))
 
 
-DO = {"new": do_new, "import": do_import, "build": do_build, "run": do_run, "power": do_power, "settle": do_settle, "pcap": do_pcap,
+DO = {"new": do_new, "import": do_import, "export": do_export, "build": do_build, "run": do_run, "power": do_power, "settle": do_settle, "pcap": do_pcap,
       "explain": do_explain, "study": do_study, "precision": do_precision, "design": do_design, "worst": do_worst, "study-run": do_study_run,
       "capture": do_capture, "log": do_log, "observe": do_observe}
 

@@ -1,4 +1,5 @@
 """A cluster of flexlab out of a network: its numbers with their places, its nodes and slots, and what was derived, left out and asked."""
+import re
 from collections.abc import Iterable
 from dataclasses import dataclass, field
 from fractions import Fraction
@@ -332,8 +333,12 @@ class Importing:
     # ---- frames in slots
 
     def timings(self, sending: Sending) -> Iterable[tuple[int, set[int]]]:
+        return self.timings_of(self.network, sending)
+
+    @staticmethod
+    def timings_of(network: Network, sending: Sending) -> Iterable[tuple[int, set[int]]]:
         """(slot, cycles) of a frame's timings."""
-        names = TIMING[self.network.form]
+        names = TIMING[network.form]
         for timing in sending.element.all(names["timing"]):
             slot = timing.find(names["slot"])
             if slot is None:
@@ -342,17 +347,8 @@ class Importing:
             if counter is not None:
                 yield whole(slot, 1, 2047), {whole(counter, 0, 63)}
             elif base is not None and repetition is not None:
-                step = self.repetition(repetition)
+                step = repetition_of(network, repetition)
                 yield whole(slot, 1, 2047), set(range(whole(base, 0, 63), 64, step))
-
-    def repetition(self, element: Element) -> int:
-        """The repetition: a number, or CYCLE-REPETITION-n of AUTOSAR."""
-        text = element.text.strip()
-        last = text.rpartition("-")[2]
-        if self.network.form == "ARXML" and text.startswith("CYCLE-REPETITION-") and last.isascii() and last.isdecimal() and \
-                1 <= int(last[:4]) <= 64 and len(last) <= 2:
-            return int(last)
-        return whole(element, 1, 64, "cycles")
 
     def slots(self, count: int) -> list[Slot]:
         keys = {key_of(node): node for node in self.nodes if key_of(node) is not None}
@@ -388,6 +384,14 @@ class Importing:
             self.network.note(element, f"the frames of slot {slot} come in {len(cycles)} of 64 cycles, which is no base and repetition: base "
                                        f"{first % step}, repetition {step} covers them and more")
         return Slot(slot, node, first % step, step, element)
+
+
+def repetition_of(network: Network, element: Element) -> int:
+    """The repetition: a number, or CYCLE-REPETITION-n of AUTOSAR."""
+    last = element.text.strip().removeprefix("CYCLE-REPETITION-")
+    if network.form == "ARXML" and re.fullmatch(r"\d{1,2}", last, re.ASCII) and 1 <= int(last) <= 64:
+        return int(last)
+    return whole(element, 1, 64, "cycles")
 
 
 def plain(value: Fraction) -> str:
