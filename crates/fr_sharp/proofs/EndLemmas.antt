@@ -28,6 +28,8 @@ use Rattle.fr_precision.proofs.InstantLaws.{early_on_line, odd_start_is}
 use Rattle.fr_precision.proofs.OffsetLaws.{micro_lasts, offset_terms_are_uncut}
 use Rattle.fr_precision.proofs.Senders.{heard_all, All-along}
 use Rattle.fr_sharp.specs.Ends.{CorrectedEndIsNear, EndsComeNear, SendApart, TakesOffsets}
+use Rattle.fr_sharp.specs.Among.{EndsComeAmong}
+use Rattle.fr_sharp.proofs.AmongReceivers.{two_among}
 use Rattle.fr_sharp.proofs.Tails.{tail_near_end, tails_near}
 
 -- ---- one receiver
@@ -330,3 +332,57 @@ corrected_end_is_near p senders starts evens odds reach row values term sane som
     (λ (reference : Sender). IsWithin (starts +ℤ evens +ℤ odds +ℤ pos (arrival_error p + 2 * longest_micro p)) (corrected_end_of p row -ℤ end_of p reference.odd)) senders
     (λ reference all. end_near p senders starts evens odds reach row values term sane some send takes reference all)
     (endings p senders starts evens odds reach row values term sane some send takes)
+
+-- ---- two receivers, whichever senders each of them has heard
+
+-- the values of any two, of two receivers with senders of their own
+across_value : (p : Values) (senders other_senders : List Sender) (starts evens odds : ℤ) (row other_row : NodeRow) (values other_values : List ℤ) (term other_term : Term) (one other : Sender) (v u : ℤ)
+    → IsSane p → IsOffsetRound p senders row values term → IsOffsetRound p other_senders other_row other_values other_term
+    → IsWithin odds (cycle_length_of p row -ℤ cycle_length_of p other_row) → Senders p starts evens odds row other_row one other
+    → IsDeviation p true one.action row one.odd v → IsDeviation p true other.action other_row other.odd u
+    → IsWithin (((starts +ℤ evens) +ℤ odds) +ℤ pos (2 * arrival_error p + 3 * longest_micro p)) (lies_after (ends_at p row values) (ends_at p other_row other_values) v u)
+across_value p senders other_senders starts evens odds row other_row values other_values term other_term one other v u sane round other_round near both dev other_dev =
+    let grid = is_grid_lem p sane in
+    cross_sum starts evens odds (end_of p row) (end_of p other_row) (instant_of (grid_for p) row true one.action) (instant_of (grid_for p) other_row true other.action)
+    (instant_of (grid_for p) one.odd true one.action) (instant_of (grid_for p) other.odd true other.action)
+    (v *ℤ row.length) (u *ℤ other_row.length) row.length other_row.length (arrival_error p) (longest_micro p)
+    (
+    tails_near row.start (cycle_length_of p row) row.length one.odd.start (cycle_length_of p one.odd) one.odd.length one.action (instant_of (grid_for p) row true one.action) (instant_of (grid_for p) one.odd true one.action)
+    other_row.start (cycle_length_of p other_row) other_row.length other.odd.start (cycle_length_of p other.odd) other.odd.length other.action (instant_of (grid_for p) other_row true other.action) (instant_of (grid_for p) other.odd true other.action)
+    p.macros (pos (longest_micro p)) (starts +ℤ evens) odds
+    (line_of p senders row values term one sane round both.sends) (early_on_line p one.odd one.action sane both.sends.lasts both.sends.acts_to)
+    (line_of p other_senders other_row other_values other_term other sane other_round both.other_sends) (early_on_line p other.odd other.action sane both.other_sends.lasts both.other_sends.acts_to)
+    (some_macros p.correction p.macros grid.correction_from grid.correction_to) (no_less (longest_micro p))
+    both.sends.acts_from (in_cycle one.action p.correction p.macros both.sends.acts_to grid.correction_to)
+    both.other_sends.acts_from (in_cycle other.action p.correction p.macros both.other_sends.acts_to grid.correction_to)
+    both.start near both.to_other both.from_row both.odd
+    )
+    dev.low dev.high other_dev.low other_dev.high round.micro.most other_round.micro.most
+
+among_ends : (bound x x' y y' : ℤ) → x ≡ x' → y ≡ y' → IsWithin bound (x' -ℤ y') → IsWithin bound (x -ℤ y)
+among_ends bound x x' y y' a b within = record { low = omega (arith, ints, within.low); high = omega (arith, ints, within.high) }
+
+pub ends_come_among_lem : EndsComeAmong
+ends_come_among_lem p senders other_senders starts evens odds reach other_reach row other_row values other_values term other_term sane some other_some sends other_sends by_start by_even by_odd takes also from to near =
+    let bound = ((starts +ℤ evens) +ℤ odds) +ℤ pos (2 * arrival_error p + 3 * longest_micro p) in
+    let one = corrected p senders reach odds row values term sane some takes in
+    let other = corrected p other_senders other_reach odds other_row other_values other_term sane other_some also in
+    let pairs : All (λ (x : Sender). All (Senders p starts evens odds row other_row x) other_senders) senders =
+    λ i d short j e below.
+    pair_of p starts evens odds row other_row _ _ (sends i d short) (other_sends j e below) (by_start i d short j e below) (by_even i d short j e below) (by_odd i d short j e below) (from j e below) (to i d short) in
+    among_ends bound (corrected_end_of p row) (place_at (ends_at p row values) one.mid) (corrected_end_of p other_row) (place_at (ends_at p other_row other_values) other.mid) one.is other.is
+    (
+    two_among takes.round.hears.said also.round.hears.said bound (ends_at p row values) (ends_at p other_row other_values) one.mid other.mid
+    (keeps_said p senders row values term sane takes.round) (keeps_said p other_senders other_row other_values other_term sane also.round)
+    (
+    zip_said (λ (x : Sender). All (Senders p starts evens odds row other_row x) other_senders) (λ (sender : Sender) value. IsDeviation p true sender.action row sender.odd value)
+    (λ v. All (λ u. IsWithin bound (lies_after (ends_at p row values) (ends_at p other_row other_values) v u)) also.round.hears.said) senders takes.round.hears.said
+    (λ x v all dev.
+    zip_said (Senders p starts evens odds row other_row x) (λ (sender : Sender) value. IsDeviation p true sender.action other_row sender.odd value)
+    (λ u. IsWithin bound (lies_after (ends_at p row values) (ends_at p other_row other_values) v u)) other_senders also.round.hears.said
+    (λ y u both other_dev. across_value p senders other_senders starts evens odds row other_row values other_values term other_term x y v u sane takes.round also.round near both dev other_dev)
+    all also.round.hears.each)
+    pairs takes.round.hears.each
+    )
+    one.middle other.middle
+    )

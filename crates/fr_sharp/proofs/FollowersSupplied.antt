@@ -51,6 +51,7 @@ use Rattle.fr_sharp.specs.SharpBounds.{last_action}
 use Rattle.fr_sharp.specs.SharpRound.{IsSteadilySupplied}
 use Rattle.fr_sharp.specs.SharpFollowing.{AreFollowersInReach, FollowersHearSteadily}
 use Rattle.fr_sharp.proofs.BoundLemmas.{key_slots_act_early}
+use Rattle.fr_sharp.specs.SteadyRuns.{IsWhole}
 use Rattle.fr_sharp.proofs.RowsSupplied.{lawful_rows, proper_in, steady_in, LawfulRows}
 
 -- a node with a row, and one that follows
@@ -315,35 +316,39 @@ module _ (x : Setting) (flutter : ℕ) (h : Cycles) (even odd : Cycle) (double :
     other = other_node node sender index slot among other;
   }
 
-  rows_hear : (node : NodeSpec) → Contains (following_nodes x h) node → IsHeardAt (round_at x h even odd) (follower_hearer x even odd node.id)
-  rows_hear node among = record {
-    itself = λ index own. absurd (cc);
-    placed = λ index slot sender is_odd channel value other is.
-        placed_by is_odd sender node slot channel value (link_to node index slot sender among other)
-        (sym (looked_up node.id index slot is_odd channel other.slot_is) ∙ is);
-    heard = λ index slot sender other.
-        let own = link_to node index slot sender among other in
-        let carried : IsCarried x sender node double = s.covered.links sender node slot double (linked_by sender node slot own) s.within in (
-          carried.channel,
-          ap is_some (looked_up node.id index slot false carried.channel other.slot_is) ∙ frames_stored false sender node slot carried.channel own carried.share carried.even,
-          ap is_some (looked_up node.id index slot true carried.channel other.slot_is) ∙ frames_stored true sender node slot carried.channel own carried.share carried.odd,
-        );
-    only = λ index is_odd channel value is. only node index is_odd channel value among is;
-  }
-
   pairs_steady : (node : NodeSpec) → Contains (following_nodes x h) node → AreSteadyPairs (round_at x h even odd) flutter (follower_hearer x even odd node.id)
   pairs_steady node among index slot sender channel early late other is late_is =
       pair_steady sender node slot channel early late (link_to node index slot sender among other)
       (sym (looked_up node.id index slot false channel other.slot_is) ∙ is) (sym (looked_up node.id index slot true channel other.slot_is) ∙ late_is)
 
-  pub supplied_at : (node : NodeSpec) → Contains (following_nodes x h) node → IsSteadilySupplied (round_at x h even odd) flutter (follower_hearer x even odd node.id)
-  supplied_at node among = record {
-    regular = follower_regular x flutter h even odd double s r.rates node among;
-    applied = follower_applied x h even odd node s.two (odd_length (length h) double s.counted) among;
-    hears = rows_hear node among;
-    steady = pairs_steady node among;
-  }
+  -- ---- where all is heard
+
+  module _ (links : IsWhole x double) where
+    rows_hear : (node : NodeSpec) → Contains (following_nodes x h) node → IsHeardAt (round_at x h even odd) (follower_hearer x even odd node.id)
+    rows_hear node among = record {
+      itself = λ index own. absurd (cc);
+      placed = λ index slot sender is_odd channel value other is.
+          placed_by is_odd sender node slot channel value (link_to node index slot sender among other)
+          (sym (looked_up node.id index slot is_odd channel other.slot_is) ∙ is);
+      heard = λ index slot sender other.
+          let own = link_to node index slot sender among other in
+          let carried : IsCarried x sender node double = links sender node slot (linked_by sender node slot own) in (
+            carried.channel,
+            ap is_some (looked_up node.id index slot false carried.channel other.slot_is) ∙ frames_stored false sender node slot carried.channel own carried.share carried.even,
+            ap is_some (looked_up node.id index slot true carried.channel other.slot_is) ∙ frames_stored true sender node slot carried.channel own carried.share carried.odd,
+          );
+      only = λ index is_odd channel value is. only node index is_odd channel value among is;
+    }
+
+    pub supplied_at : (node : NodeSpec) → Contains (following_nodes x h) node → IsSteadilySupplied (round_at x h even odd) flutter (follower_hearer x even odd node.id)
+    supplied_at node among = record {
+      regular = follower_regular x flutter h even odd double s r.rates node among;
+      applied = follower_applied x h even odd node s.two (odd_length (length h) double s.counted) among;
+      hears = rows_hear node among;
+      steady = pairs_steady node among;
+    }
 
 pub followers_hear_steadily : FollowersHearSteadily
 followers_hear_steadily x flutter h earlier even odd double reach node w d r among =
-    supplied_at x flutter earlier even odd double reach (lawful_rows x flutter h w double earlier even odd d) r node among
+    let s = lawful_rows x flutter h w double earlier even odd d in
+    supplied_at x flutter earlier even odd double reach s r (w.covered.links double s.within) node among

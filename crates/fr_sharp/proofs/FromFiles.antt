@@ -116,14 +116,16 @@ files_are_steady p d s flutter sane none le =
     let w : HaveNoGapOfRun p d s = record { sane = sane; none = none } in
     let within = nodes_keep_within p d s w in
     record {
-      sane = sane;
-      few = few_nodes p d s w;
-      least = within.least;
-      most = within.most;
-      changes = within.changes;
-      delays = within.delays;
-      links = within.links;
-      flutters = flutter_within p d s flutter le;
+      timed = record {
+        sane = sane;
+        few = few_nodes p d s w;
+        least = within.least;
+        most = within.most;
+        changes = within.changes;
+        delays = within.delays;
+        flutters = flutter_within p d s flutter le;
+      };
+      links = λ double in_run sender receiver slot linked. within.links sender receiver slot double linked in_run;
     }
 
 none_counted : {X : Type 0} (test : X → Bool) (xs : List X) → list_any test xs ≡ false → count_by test xs ≡ 0

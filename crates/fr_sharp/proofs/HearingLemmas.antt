@@ -17,7 +17,7 @@ use Rattle.fr_sharp.specs.Hearing.{AreSteadyPairs, HearersKeepSenders, HearsAllS
 use Rattle.fr_sharp.specs.Steady.{ActsRegularly, PlacesEven}
 use Rattle.fr_sharp.proofs.SteadyLemmas.{half_places_even, own_value_places_even, steady_values_place_lem}
 
-no_less : (n : ℕ) → pos 0 ≤ℤ pos n
+pub no_less : (n : ℕ) → pos 0 ≤ℤ pos n
 no_less n = omega (arith, ints)
 
 -- ---- rate values
@@ -42,7 +42,7 @@ change_placed r flutter reach n index slot node channel v is hears steady other 
     )
 
 -- a sender of the round acts regularly
-acts_regularly : (r : Round) (index : ℕ) (sender : Sender) → IsRound r → IsFrom r index sender → ActsRegularly r.params sender
+pub acts_regularly : (r : Round) (index : ℕ) (sender : Sender) → IsRound r → IsFrom r index sender → ActsRegularly r.params sender
 acts_regularly r index sender is from =
     let At : Sender → Type 0 = λ s. ActsRegularly r.params s in
     let made : ActsRegularly r.params (sender_with r from.slot from.node.id) = record {

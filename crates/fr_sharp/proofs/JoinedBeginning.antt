@@ -104,7 +104,7 @@ joined_listeners_begin beside x flutter h double earlier even odd beyond node jo
     let slot : ℕ = ref.slot in
     let l = reference_listened x flutter beyond earlier even odd double node join s g.rows w.referenced there ref in
     let key = reference_key x node join s.covered.sane ref in
-    let carried : IsCarried x reference node double = s.covered.links reference node slot double l.linked s.within in
+    let carried : IsCarried x reference node double = w.covered.links double s.within reference node slot l.linked in
     let channel : Channel = carried.channel in
     let even_regular : x.event (length earlier) reference.id node.id channel ≡ Regular = ap (λ (n : ℕ). x.event n reference.id node.id channel) counted ∙ carried.even in
     let odd_regular : x.event (suc (length earlier)) reference.id node.id channel ≡ Regular = ap (λ (n : ℕ). x.event (suc n) reference.id node.id channel) counted ∙ carried.odd in

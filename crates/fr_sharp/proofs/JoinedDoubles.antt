@@ -31,7 +31,7 @@ use Rattle.fr_sharp.specs.SharpJoining.{sharp_first_apart, sharp_first_lengths, 
 use Rattle.fr_sharp.specs.SharpJoined.{IsJoinedDouble, IsSteadyJoined, JoinedDoublesAreKept, JoinedIsInSharpSync, UnfollowedIsJoined}
 use Rattle.fr_sharp.specs.SharpRound.{as_member, IsSteadilySupplied}
 use Rattle.fr_sharp.specs.SharpStep.{AreSharp}
-use Rattle.fr_sharp.specs.SteadyRuns.{row_members, AreRowsInReach, IsSteadyPart, MayHaveArbitrary}
+use Rattle.fr_sharp.specs.SteadyRuns.{row_members, AreRowsInReach, IsSteadyPart, IsWhole, MayHaveArbitrary}
 use Rattle.fr_sharp.proofs.FollowersSupplied.{follower_regular, supplied_at as follower_supplied}
 use Rattle.fr_sharp.proofs.JoinBounds.{followers_come_nearer_lem, sharp_join_checks_suffice_lem}
 use Rattle.fr_sharp.proofs.RowsSupplied.{lawful_rows, members_regular, rates_in_limit, round_in_reach, row_regular, supplied_at as row_supplied, LawfulRows}
@@ -137,42 +137,43 @@ module _
       acts = follower_reached;
     }
 
-    -- ---- so all are supplied
+    -- ---- so all are supplied, where all is heard
 
-    supplied : (n : Hearer) → IsOneOf (hearers_of x h even odd double) n → IsSteadilySupplied (round_at x h even odd) flutter n
-    supplied n (inl (inl here)) =
-        let from = map_contains (λ (m : NodeSpec). row_hearer x even odd m.id) (row_nodes x h) n here in
-        subst (IsSteadilySupplied (round_at x h even odd) flutter) from.2 (row_supplied x flutter h even odd double reach s rows_in from.0 from.1)
-    supplied n (inl (inr here)) =
-        let from = map_contains (λ (m : NodeSpec). follower_hearer x even odd m.id) (followers_since x h 2 double) n here in
-        subst (IsSteadilySupplied (round_at x h even odd) flutter) from.2 (follower_supplied x flutter h even odd double reach s followers_in from.0 (is_since x h 2 double from.0 from.1))
-    supplied n (inr here) =
-        let from = map_contains (λ (m : NodeSpec). follower_hearer x even odd m.id) (followers_since x h 1 double) n here in
-        subst (IsSteadilySupplied (round_at x h even odd) flutter) from.2 (follower_supplied x flutter h even odd double reach s followers_in from.0 (is_since x h 1 double from.0 from.1))
+    module _ (links : IsWhole x double) where
+      supplied : (n : Hearer) → IsOneOf (hearers_of x h even odd double) n → IsSteadilySupplied (round_at x h even odd) flutter n
+      supplied n (inl (inl here)) =
+          let from = map_contains (λ (m : NodeSpec). row_hearer x even odd m.id) (row_nodes x h) n here in
+          subst (IsSteadilySupplied (round_at x h even odd) flutter) from.2 (row_supplied x flutter h even odd double reach s rows_in links from.0 from.1)
+      supplied n (inl (inr here)) =
+          let from = map_contains (λ (m : NodeSpec). follower_hearer x even odd m.id) (followers_since x h 2 double) n here in
+          subst (IsSteadilySupplied (round_at x h even odd) flutter) from.2 (follower_supplied x flutter h even odd double reach s followers_in links from.0 (is_since x h 2 double from.0 from.1))
+      supplied n (inr here) =
+          let from = map_contains (λ (m : NodeSpec). follower_hearer x even odd m.id) (followers_since x h 1 double) n here in
+          subst (IsSteadilySupplied (round_at x h even odd) flutter) from.2 (follower_supplied x flutter h even odd double reach s followers_in links from.0 (is_since x h 1 double from.0 from.1))
 
-    pub round_followed : (walk : ℤ) → CanWalk x.params flutter beyond walk → IsSharpRoundFollowed beside (round_at x h even odd) flutter beyond walk (hearers_of x h even odd double) reach
-    round_followed walk walks =
-        let r = round_in_reach x flutter h even odd double reach s rows_in beside may in
-        record {
-          round = r.round;
-          arbitrary = r.arbitrary;
-          walks = walks;
-          takes = record { limit = limit; fits = near_takes; fits_followers = λ node follows. takes };
-          placed = g.placed;
-          supplied = supplied;
-          among = r.among;
-        }
+      pub round_followed : (walk : ℤ) → CanWalk x.params flutter beyond walk → IsSharpRoundFollowed beside (round_at x h even odd) flutter beyond walk (hearers_of x h even odd double) reach
+      round_followed walk walks =
+          let r = round_in_reach x flutter h even odd double reach s rows_in links beside may in
+          record {
+            round = r.round;
+            arbitrary = r.arbitrary;
+            walks = walks;
+            takes = record { limit = limit; fits = near_takes; fits_followers = λ node follows. takes };
+            placed = g.placed;
+            supplied = supplied;
+            among = r.among;
+          }
 
 pub joined_doubles_are_kept : JoinedDoublesAreKept
 joined_doubles_are_kept beside x flutter h double earlier even odd beyond walk next w d n g =
     let p = x.params in
     let reach = sharp_reach beside p flutter in
-    let suffice = sharp_join_checks_suffice_lem beside p flutter w.covered.sane w.checks in
+    let suffice = sharp_join_checks_suffice_lem beside p flutter w.covered.timed.sane w.checks in
     let s = lawful_rows x flutter h (joined_part beside x flutter h w) double earlier even odd d in
     sharp_groups_are_kept beside p flutter beyond walk next _ (group_of p (hearers_of x earlier even odd double)) (pos reach)
     (
     sharp_rounds_are_followed beside (round_at x earlier even odd) flutter beyond walk (hearers_of x earlier even odd double) (pos reach)
-    (round_followed beside x flutter earlier even odd double beyond s w.arbitrary g (pos reach) suffice.0 suffice.1 (no_less reach) walk n.walks)
+    (round_followed beside x flutter earlier even odd double beyond s w.arbitrary g (pos reach) suffice.0 suffice.1 (no_less reach) (w.covered.links double s.within) walk n.walks)
     )
     n.from n.to
 

@@ -80,7 +80,7 @@ are_referenced p d s flutter sane fits steady = record {
       λ sender receiver slot channel cycle sends hears key other by_sender by_receiver less.
       let on = λ (node : NodeSpec) (is : Contains (correct_nodes (setting_of p d s)) node).
       on_channel (setting_of p d s) node channel (node_there p node sane (correct_node (setting_of p d s) node is).there) in
-      steady.delays sender receiver slot channel cycle (record { sends = sends; hears = hears; key = key; other = other })
+      steady.timed.delays sender receiver slot channel cycle (record { sends = sends; hears = hears; key = key; other = other })
       (record { by_sender = sym (on sender sends) ∙ by_sender; by_receiver = sym (on receiver hears) ∙ by_receiver }) less;
 }
 
@@ -108,7 +108,7 @@ reference_starts p d s flutter h sane fits w node join there at earlier even odd
     let counted : length earlier ≡ 2 * join.double = part.counted in
     let whole = w.whole in
     let within = double_within h join.double x.doubles earlier even odd part (omega (arith, whole)) in
-    let all = steady_starts_are_natural x flutter earlier even w.covered (rates_begin p d s sane fits) (starts_begin p d s fits) runs.1 (omega (arith, counted, within)) in
+    let all = steady_starts_are_natural x flutter earlier even w.covered.timed (rates_begin p d s sane fits) (starts_begin p d s fits) runs.1 (omega (arith, counted, within)) in
     let has : has_row x earlier r.reference.id ≡ true = ap (has_row_by x earlier r.reference.id) r.stays in
     let among = kept_filtered (λ (n : NodeSpec). has_row x earlier n.id) (correct_nodes x) r.reference r.correct has in
     let Natural : ℕ → Type 0 = λ id. pos 0 ≤ℤ (row_for even.told.rows id).start in

@@ -107,13 +107,13 @@ first_rates_last_on beside p flutter reach passed sane first checks =
 
 module _ (beside : Bool) (x : Setting) (flutter : ℕ) (h : Cycles) (w : IsSteadyJoined beside x flutter h) where
   second : holds_of 2 x.params ≡ true
-  second = (sharp_join_checks_suffice_lem beside x.params flutter w.covered.sane w.checks).3 2 (omega arith) (omega arith)
+  second = (sharp_join_checks_suffice_lem beside x.params flutter w.covered.timed.sane w.checks).3 2 (omega arith) (omega arith)
 
   -- the numbers of a double cycle while first rates last
   pub numbers : (passed : ℕ) → FirstRatesLast x.params flutter passed
       → WalksJoined beside x flutter (walked_after x.params flutter passed) (rate_walk x.params flutter) (walked_after x.params flutter (suc passed))
   numbers passed last =
-      let held = walk_is_held x.params flutter passed w.covered.sane second last.0 in
+      let held = walk_is_held x.params flutter passed w.covered.timed.sane second last.0 in
       record { walks = held.0; joins = last.1; from = held.1; to = held.2 }
 
   -- ---- from the first on
@@ -165,7 +165,7 @@ module _ (beside : Bool) (x : Setting) (flutter : ℕ) (h : Cycles) (w : IsStead
         subst At (sym next)
         (
         joined_doubles_go_on beside x flutter h m earlier e o even odd (walked_after x.params flutter n) (rate_walk x.params flutter) (walked_after x.params flutter (suc n)) w there (numbers n last)
-        (next_suffices x.params flutter n w.covered.sane second last.0) before
+        (next_suffices x.params flutter n w.covered.timed.sane second last.0) before
         )
 
   -- ---- what one of them comes to

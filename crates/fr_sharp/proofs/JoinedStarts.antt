@@ -41,10 +41,10 @@ use Rattle.fr_runs.proofs.Courses.{is_correct_follower, is_correct_row}
 use Rattle.fr_runs.proofs.Going.{followers_ascend, rows_ascend}
 use Rattle.fr_runs.proofs.Rates.{begun_suffices, rates_stay_within}
 use Rattle.fr_runs.specs.Supplied.{StartsBegin}
-use Rattle.fr_sharp.specs.SteadyRuns.{IsSteadySetting}
+use Rattle.fr_sharp.specs.SteadyRuns.{IsTimedSetting}
 use Rattle.fr_sharp.proofs.RowsSupplied.{proper_in}
 
-proper_of : (x : Setting) (flutter : ℕ) (node : NodeSpec) (cycle : ℕ) (row : NodeRow) → IsSteadySetting x flutter → Contains (correct_nodes x) node → cycle < 2 * x.doubles → row.length ≡ x.microtick node.id cycle
+proper_of : (x : Setting) (flutter : ℕ) (node : NodeSpec) (cycle : ℕ) (row : NodeRow) → IsTimedSetting x flutter → Contains (correct_nodes x) node → cycle < 2 * x.doubles → row.length ≡ x.microtick node.id cycle
     → HasProperMicro x.params row
 proper_of x flutter node cycle row covered there less is =
     let micro = proper_in x flutter node cycle row.length covered there less is in
@@ -133,7 +133,7 @@ begun_natural x h node (Some join) = by_caught (begins_with x h node join) refl
 abbrev BothGo : Setting → Cycle → Type 0
 BothGo x c = All (Goes x.params) c.told.rows × All (Goes x.params) c.followers
 
-rows_go : (x : Setting) (flutter : ℕ) (h : Cycles) (c : Cycle) → IsSteadySetting x flutter → RatesBegin x → AllClocksRun x (c ∷ h) → length h < 2 * x.doubles
+rows_go : (x : Setting) (flutter : ℕ) (h : Cycles) (c : Cycle) → IsTimedSetting x flutter → RatesBegin x → AllClocksRun x (c ∷ h) → length h < 2 * x.doubles
     → ((node : NodeSpec) → Contains (correct_nodes x) node → pos 0 ≤ℤ start_of_next x h node.id) → BothGo x c
 rows_go x flutter h c covered rates run less behind =
     let p = x.params in
@@ -176,7 +176,7 @@ after_natural x h c node (Some row) follower sane go is follows_is = ends_later 
 after_natural x h c node None (Some row) sane go is follows_is = ends_later x.params row sane (found_goes x.params c.followers node row go.1 follows_is)
 after_natural x h c node None None sane go is follows_is = begun_natural x (c ∷ h) node (x.join node)
 
-behind_natural : (x : Setting) (flutter : ℕ) (h : Cycles) (node : NodeSpec) → IsSteadySetting x flutter → RatesBegin x → StartsBegin x → AllClocksRun x h → length h ≤ 2 * x.doubles
+behind_natural : (x : Setting) (flutter : ℕ) (h : Cycles) (node : NodeSpec) → IsTimedSetting x flutter → RatesBegin x → StartsBegin x → AllClocksRun x h → length h ≤ 2 * x.doubles
     → Contains (correct_nodes x) node → pos 0 ≤ℤ start_of_next x h node.id
 behind_natural x flutter [] node covered rates starts run most correct = starts node correct
 behind_natural x flutter (c ∷ h) node covered rates starts run most correct =
@@ -186,7 +186,7 @@ behind_natural x flutter (c ∷ h) node covered rates starts run most correct =
 natural_start : (p : Values) (row : NodeRow) → Goes p row → pos 0 ≤ℤ row.start
 natural_start p row goes = goes.start
 
-pub steady_starts_are_natural : (x : Setting) (flutter : ℕ) (h : Cycles) (c : Cycle) → IsSteadySetting x flutter → RatesBegin x → StartsBegin x → AllClocksRun x (c ∷ h) → length h < 2 * x.doubles
+pub steady_starts_are_natural : (x : Setting) (flutter : ℕ) (h : Cycles) (c : Cycle) → IsTimedSetting x flutter → RatesBegin x → StartsBegin x → AllClocksRun x (c ∷ h) → length h < 2 * x.doubles
     → All (λ row. pos 0 ≤ℤ row.start) c.told.rows
 steady_starts_are_natural x flutter h c covered rates starts run less =
     let p = x.params in

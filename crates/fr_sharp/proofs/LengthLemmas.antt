@@ -28,6 +28,8 @@ use Rattle.fr_precision.proofs.Senders.{heard_all, All-along}
 use Rattle.fr_sharp.specs.SharpBounds.{steady_error, wide_change}
 use Rattle.fr_sharp.specs.Steady.{between_actions, placed_length, PlacesEven}
 use Rattle.fr_sharp.specs.Lengths.{next_length_error, NextLengthIsNear, CanWalk, EvensAreAbout, EvensWithin, IsAboutCycle, IsNextEven, IsSteadyRound, LengthsComeNear, RangeWalks}
+use Rattle.fr_sharp.specs.Among.{LengthsComeAmong}
+use Rattle.fr_sharp.proofs.AmongReceivers.{two_among}
 use Rattle.fr_sharp.proofs.Signed.{room_of, signed_of}
 use Rattle.fr_sharp.proofs.Walks.{changed, damped_away, moved_on, walked, HasRoom, Walked}
 
@@ -299,6 +301,51 @@ next_length_is_near p flutter senders spread beyond walk row values term even sa
     near_sum spread (p.damping *ℤ pos (longest_micro p)) e (amount p name.pClusterDriftDamping * longest_micro p) (cycle_change p) (place_at (rates_at p row values) round.mid) (cycle_length_of p even) long (damping_is p sane) among
     (next_near p row values term (beyond +ℤ walk) even sane is.micro round next))
     within
+  where
+    itself : (a : ℤ) → a ≤ℤ a
+    itself a = omega (arith, ints)
+
+-- ---- two receivers, whichever senders each of them has heard
+
+among_sum : (spread : ℤ) (e cqp j : ℕ) (c u v w x : ℤ) → pos cqp ≡ c → IsWithin (spread +ℤ pos (2 * e)) (u -ℤ w) → IsWithin (c +ℤ pos j) (u -ℤ v) → IsWithin (c +ℤ pos j) (w -ℤ x)
+    → IsWithin (spread +ℤ pos (2 * e + 2 * cqp + 2 * j)) (v -ℤ x)
+among_sum spread e cqp j c u v w x is apart a b = record {
+  low = omega (arith, ints, apart.low, a.high, b.low);
+  high = omega (arith, ints, apart.high, a.low, b.high);
+}
+
+across_near : (p : Values) (flutter : ℕ) (senders other_senders : List Sender) (spread : ℤ) (row other_row : NodeRow) (values other_values : List ℤ)
+    → HasProperMicro p row → HasProperMicro p other_row
+    → (hears : Hears Sender (λ sender value. PlacesEven p flutter sender row value) senders values)
+    → (also : Hears Sender (λ sender value. PlacesEven p flutter sender other_row value) other_senders other_values)
+    → All (λ (one : Sender). All (λ (other : Sender). IsWithin spread (cycle_length_of p one.even -ℤ cycle_length_of p other.even)) other_senders) senders
+    → AllLieNear (rates_at p row values) (rates_at p other_row other_values) (spread +ℤ pos (2 * steady_error p flutter)) hears.said also.said
+across_near p flutter senders other_senders spread row other_row values other_values micro other_micro hears also near =
+    zip_said (λ (one : Sender). All (λ (other : Sender). IsWithin spread (cycle_length_of p one.even -ℤ cycle_length_of p other.even)) other_senders)
+    (λ (sender : Sender) value. PlacesEven p flutter sender row value)
+    (λ v. All (λ u. IsWithin (spread +ℤ pos (2 * steady_error p flutter)) (lies_after (rates_at p row values) (rates_at p other_row other_values) v u)) also.said) senders hears.said
+    (λ one v all places.
+    zip_said (λ (other : Sender). IsWithin spread (cycle_length_of p one.even -ℤ cycle_length_of p other.even))
+    (λ (sender : Sender) value. PlacesEven p flutter sender other_row value)
+    (λ u. IsWithin (spread +ℤ pos (2 * steady_error p flutter)) (lies_after (rates_at p row values) (rates_at p other_row other_values) v u)) other_senders also.said
+    (λ other u apart also_places.
+    cross_sum spread (far_of p flutter row) (far_of p flutter other_row) (steady_error p flutter) (placed_length p row v) (placed_length p other_row u) (cycle_length_of p one.even) (cycle_length_of p other.even)
+    (far_to flutter (wide_change p) (amount p name.xRateBound) row.length micro.most) (far_to flutter (wide_change p) (amount p name.xRateBound) other_row.length other_micro.most) apart places.length also_places.length)
+    all also.each)
+    near hears.each
+
+pub lengths_come_among_lem : LengthsComeAmong
+lengths_come_among_lem p flutter senders other_senders spread beyond walk row other_row values other_values term other_term even other_even sane can some other_some about other_about near is also next other_next =
+    let round = round_of p flutter senders beyond walk (beyond +ℤ walk) row values term sane can (itself (beyond +ℤ walk)) some about is in
+    let other_round = round_of p flutter other_senders beyond walk (beyond +ℤ walk) other_row other_values other_term sane can (itself (beyond +ℤ walk)) other_some other_about also in
+    let apart =
+    two_among is.hears.said also.hears.said (spread +ℤ pos (2 * steady_error p flutter)) (rates_at p row values) (rates_at p other_row other_values) round.mid other_round.mid
+    (keeps_said p flutter senders row values sane is.micro is.hears) (keeps_said p flutter other_senders other_row other_values sane also.micro also.hears)
+    (across_near p flutter senders other_senders spread row other_row values other_values is.micro also.micro is.hears also.hears near)
+    round.middle other_round.middle in
+    among_sum spread (steady_error p flutter) (amount p name.pClusterDriftDamping * longest_micro p) (cycle_change p) (p.damping *ℤ pos (longest_micro p))
+    (place_at (rates_at p row values) round.mid) (cycle_length_of p even) (place_at (rates_at p other_row other_values) other_round.mid) (cycle_length_of p other_even) (damping_is p sane) apart
+    (next_near p row values term (beyond +ℤ walk) even sane is.micro round next) (next_near p other_row other_values other_term (beyond +ℤ walk) other_even sane also.micro other_round other_next)
   where
     itself : (a : ℤ) → a ≤ℤ a
     itself a = omega (arith, ints)

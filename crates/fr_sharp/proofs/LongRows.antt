@@ -129,19 +129,21 @@ flutters sender receiver slot channel double linked share within =
 
 pub covered : IsSteadySetting long_run 10_000_000
 covered = record {
-  sane = is_sane;
-  few = inl (refl, lit≤ tt);
-  least = λ some cycle there within. record { le = tt };
-  most = λ some cycle there within. record { le = tt };
-  changes = λ some cycle there within. record { low = record { le = tt }; high = record { le = tt } };
-  delays = λ sender receiver slot channel cycle linked share within. stated_delay channel (cycle % 2 == 0);
-  links = λ sender receiver slot double linked within. record {
+  timed = record {
+    sane = is_sane;
+    few = inl (refl, lit≤ tt);
+    least = λ some cycle there within. record { le = tt };
+    most = λ some cycle there within. record { le = tt };
+    changes = λ some cycle there within. record { low = record { le = tt }; high = record { le = tt } };
+    delays = λ sender receiver slot channel cycle linked share within. stated_delay channel (cycle % 2 == 0);
+    flutters = flutters;
+  };
+  links = λ double within sender receiver slot linked. record {
     channel = A;
     share = record { by_sender = on_channel sender linked.sends; by_receiver = on_channel receiver linked.hears };
     even = refl;
     odd = refl;
   };
-  flutters = flutters;
 }
 
 pub setting : IsSetting long_run

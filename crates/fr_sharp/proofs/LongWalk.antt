@@ -219,7 +219,7 @@ module _ (double : ℕ) (start : ℤ) (earlier : Cycles) (even odd : Cycle) (s :
 
   odd_offset : (node : NodeSpec) → Contains (row_nodes long_run earlier) node → (row_for odd.told.rows node.id).offset ≡ pos 5
   odd_offset node among =
-      (supplied_at long_run 10_000_000 earlier even odd double near s (reach double start earlier even odd s a most) node among).applied
+      (supplied_at long_run 10_000_000 earlier even odd double near s (reach double start earlier even odd s a most) (covered.links double s.within) node among).applied
       ∙ ap (λ (t : Term). t.value) (offset_term_is node among)
 
   abbrev next_start : ℤ

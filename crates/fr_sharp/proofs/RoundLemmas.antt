@@ -6,6 +6,8 @@ use Rattle.std.proofs.lemmas.Int.{ints}
 use Rattle.std.proofs.lemmas.List.Elements.{All-cons, All-contains_itself, All-nil}
 use Rattle.fr_base.specs.declared.node_row.NodeRow.{NodeRow}
 use Rattle.fr_base.specs.Within.{IsBetween, IsWithin}
+use Rattle.fr_cluster.specs.Sane.{IsSane}
+use Rattle.fr_cluster.specs.declared.nodes.NodeSpec.{NodeSpec}
 use Rattle.fr_cluster.proofs.KeyNodes.{key_among, Contains-cons_cases}
 use Rattle.fr_cluster.proofs.Elements.{Contains-here, Contains-none, Contains-there}
 use Rattle.fr_time.specs.Slots.{action_point_of}
@@ -13,7 +15,7 @@ use Rattle.fr_correct.proofs.There.{offset_term_is_there, rate_term_is_there}
 use Rattle.fr_precision.specs.Rows.{Sender}
 use Rattle.fr_precision.specs.Instants.{gap_of}
 use Rattle.fr_precision.specs.Placement.{IsRegular}
-use Rattle.fr_precision.specs.Round.{offsets_of, rates_of, sender_at, sender_with, senders_of, Hearer, IsHearer, Round}
+use Rattle.fr_precision.specs.Round.{offsets_of, rates_of, sender_at, sender_with, senders_of, Hearer, IsHearer, IsSender, Round}
 use Rattle.fr_precision.specs.Step.{IsAmong, Member}
 use Rattle.fr_precision.proofs.RoundSenders.{sender_is, IsFrom}
 use Rattle.fr_precision.proofs.Senders.{All-along}
@@ -27,14 +29,14 @@ use Rattle.fr_sharp.proofs.StepLemmas.{nodes_near, reached_by, Double}
 
 -- ---- mapped lists
 
-map_contains : {X Y : Type 0} (f : X → Y) (xs : List X) (y : Y) → Contains (map f xs) y → (x : X) × Contains xs x × (f x ≡ y)
+pub map_contains : {X Y : Type 0} (f : X → Y) (xs : List X) (y : Y) → Contains (map f xs) y → (x : X) × Contains xs x × (f x ≡ y)
 map_contains f [] y among = absurd (Contains-none y among)
 map_contains f (x ∷ xs) y among = elim (Contains-cons_cases (f x) (map f xs) y among) [
   | inl same ↦ (x, Contains-here x xs, same)
   | inr more ↦ let rest = map_contains f xs y more in (rest.0, Contains-there x xs rest.0 rest.1, rest.2)
 ]
 
-contains_map : {X Y : Type 0} (f : X → Y) (xs : List X) (x : X) → Contains xs x → Contains (map f xs) (f x)
+pub contains_map : {X Y : Type 0} (f : X → Y) (xs : List X) (x : X) → Contains xs x → Contains (map f xs) (f x)
 contains_map f [] x among = absurd (Contains-none x among)
 contains_map {Y = Y} f (y ∷ xs) x among = elim (Contains-cons_cases y xs x among) [
   | inl same ↦ let Has : Y → Type 0 = λ z. Contains (f y ∷ map f xs) z in subst Has (ap f same) (Contains-here (f y) (map f xs))
@@ -52,7 +54,7 @@ given : {X : Type 0} (who : ℕ → Option X) (P : X → Type 0) (i : ℕ) (xs :
 given who P i xs None is each rest = rest
 given who P i xs (Some x) is each rest = All-cons P x xs (each x is) rest
 
-all_given : {X : Type 0} (who : ℕ → Option X) (P : X → Type 0) (is : List ℕ) → ((i : ℕ) (x : X) → who i ≡ Some x → P x) → All P (filter_map who is)
+pub all_given : {X : Type 0} (who : ℕ → Option X) (P : X → Type 0) (is : List ℕ) → ((i : ℕ) (x : X) → who i ≡ Some x → P x) → All P (filter_map who is)
 all_given who P [] each = All-nil P
 all_given who P (i ∷ is) each = given who P i (filter_map who is) (who i) refl (each i) (all_given who P is each)
 
@@ -65,30 +67,36 @@ no_less n = omega (arith, ints)
 no_more : (a b : ℕ) → a ≤ b → pos a ≤ℤ pos b
 no_more a b le = omega (arith, ints, le)
 
+-- a sender acts up to the last action point
+pub acts_early : (r : Round) → IsSane r.params → (index : ℕ) (sender : Sender) → IsFrom r index sender → IsBetween (pos 0) (pos (last_action r.params)) sender.action
+acts_early r sane index sender from =
+    let p = r.params in
+    let Acts : Sender → Type 0 = λ sender. IsBetween (pos 0) (pos (last_action p)) sender.action in
+    let among = key_among p.nodes from.node from.slot from.from.there from.from.key in
+    let is : Acts (sender_with r from.slot from.node.id) = record {
+      low = no_less (action_point_of p from.slot);
+      high = no_more (action_point_of p from.slot) (last_action p) ((key_slots_act_early p sane).0 from.slot among);
+    } in
+    subst Acts from.is is
+
+-- and is one of the nodes of the step, where the receivers have the rows of the senders
+pub sender_among : (r : Round) (rows : List Hearer)
+    → ((node : NodeSpec) (slot : ℕ) → IsSender r node slot → (n : Hearer) × Contains rows n × (n.even ≡ r.even node.id) × (n.odd ≡ r.odd node.id))
+    → (index : ℕ) (sender : Sender) → IsFrom r index sender → IsAmong (map (as_member r.params) rows) sender
+sender_among r rows have index sender from =
+    let nodes = map (as_member r.params) rows in
+    let row = have from.node from.slot from.from in
+    let is : IsAmong nodes (sender_with r from.slot from.node.id) = (as_member r.params row.0, contains_map (as_member r.params) rows row.0 row.1, row.2, row.3) in
+    subst (IsAmong nodes) from.is is
+
 -- ---- a round
 
 module _ (beside : Bool) (r : Round) (flutter : ℕ) (reach : ℤ) (rows : List Hearer) (s : IsRoundInReach beside r flutter reach rows) where
   acts : All (λ (sender : Sender). IsBetween (pos 0) (pos (last_action r.params)) sender.action) (senders_of r)
-  acts =
-      let p = r.params in
-      let Acts : Sender → Type 0 = λ sender. IsBetween (pos 0) (pos (last_action p)) sender.action in
-      all_senders r Acts
-      (λ index sender from.
-      let among = key_among p.nodes from.node from.slot from.from.there from.from.key in
-      let is : Acts (sender_with r from.slot from.node.id) = record {
-        low = no_less (action_point_of p from.slot);
-        high = no_more (action_point_of p from.slot) (last_action p) ((key_slots_act_early p s.round.sane).0 from.slot among);
-      } in
-      subst Acts from.is is)
+  acts = all_senders r (λ (sender : Sender). IsBetween (pos 0) (pos (last_action r.params)) sender.action) (acts_early r s.round.sane)
 
   among : All (IsAmong (map (as_member r.params) rows)) (senders_of r)
-  among =
-      let nodes = map (as_member r.params) rows in
-      all_senders r (IsAmong nodes)
-      (λ index sender from.
-      let row = s.among from.node from.slot from.from in
-      let is : IsAmong nodes (sender_with r from.slot from.node.id) = (as_member r.params row.0, contains_map (as_member r.params) rows row.0 row.1, row.2, row.3) in
-      subst (IsAmong nodes) from.is is)
+  among = all_senders r (IsAmong (map (as_member r.params) rows)) (sender_among r rows s.among)
 
   hearer : (n : Hearer) → Contains rows n → IsHearer r reach n
   hearer n here =

@@ -60,14 +60,14 @@ use Rattle.fr_runs.proofs.RowsHeard.{RowLink, before_in, cycle_of}
 use Rattle.fr_runs.proofs.Standing.{has_stays, is_none as none_there, told_has}
 use Rattle.fr_runs.proofs.Succeeding.{followers_stay, rows_stay}
 use Rattle.fr_runs.proofs.Whole.{double_runs}
-use Rattle.fr_sharp.specs.Hearing.{AllowsArbitrary, AreSteadyPairs}
+use Rattle.fr_sharp.specs.Hearing.{AllowsArbitrary, AreSteadyPairs, IsHeardInPart}
 use Rattle.fr_sharp.specs.Lengths.{IsAboutCycle}
 use Rattle.fr_sharp.specs.SharpBounds.{last_action}
 use Rattle.fr_sharp.specs.SharpChecks.{RateSuffices}
 use Rattle.fr_sharp.specs.SharpRound.{as_member, IsRoundInReach, IsSteadilySupplied}
 use Rattle.fr_sharp.specs.SharpStep.{IsSharpDouble}
 use Rattle.fr_sharp.specs.Steady.{IsSteadyPair}
-use Rattle.fr_sharp.specs.SteadyRuns.{row_hearers, row_members, AreRowsInReach, CoveredRunsAreSteady, IsSteadyPart, IsSteadySetting, MayHaveArbitrary, RowsAreSharpDoubles, RowsHearSteadily}
+use Rattle.fr_sharp.specs.SteadyRuns.{row_hearers, row_members, AreRowsInReach, CoveredRunsAreSteady, IsSteadyPart, IsTimedPart, IsTimedSetting, IsWhole, MayHaveArbitrary, RowsAreSharpDoubles, RowsHearSteadily}
 use Rattle.fr_sharp.proofs.Arriving.{frames_are_steady}
 use Rattle.fr_sharp.proofs.BoundLemmas.{key_slots_act_early}
 use Rattle.fr_sharp.proofs.FramesCounted.{link_in, recorded_is_counted, IsCounted}
@@ -76,7 +76,7 @@ use Rattle.fr_sharp.proofs.RoundLemmas.{rounds_in_reach_are_sharp}
 
 -- a double cycle of a run in which the clocks run by their laws
 pub record LawfulRows (x : Setting) (flutter : ℕ) (h : Cycles) (even odd : Cycle) (double : ℕ) : Type 0 where
-  pub covered : IsSteadySetting x flutter
+  pub covered : IsTimedSetting x flutter
   pub counted : length h ≡ 2 * double
   pub within : double < x.doubles
   pub even_obeys : Obeys x h even
@@ -93,9 +93,9 @@ double_within h double doubles earlier even odd d within =
     let whole : length (d.later ++ odd ∷ even ∷ earlier) ≤ 2 * doubles = subst Short d.parted within in
     omega (arith, counted, long, whole)
 
-pub lawful_rows : (x : Setting) (flutter : ℕ) (h : Cycles) → IsSteadyPart x flutter h → (double : ℕ) (earlier : Cycles) (even odd : Cycle) → IsDoubleOf h double earlier even odd
+pub timed_rows : (x : Setting) (flutter : ℕ) (h : Cycles) → IsTimedPart x flutter h → (double : ℕ) (earlier : Cycles) (even odd : Cycle) → IsDoubleOf h double earlier even odd
     → LawfulRows x flutter earlier even odd double
-lawful_rows x flutter h w double earlier even odd d =
+timed_rows x flutter h w double earlier even odd d =
     let lawful = lawful_part x d.later (odd ∷ even ∷ earlier) (subst (IsLawful x) d.parted w.lawful) in
     let runs = double_runs x h double earlier even odd d (lawful_cycles_run x h w.lawful) in
     record {
@@ -109,30 +109,36 @@ lawful_rows x flutter h w double earlier even odd d =
       two = run_two x earlier even odd runs.1.0 runs.0 (rows_stay x earlier even double d.counted runs.1.0) (followers_stay x earlier even double d.counted runs.1.0);
     }
 
+pub lawful_rows : (x : Setting) (flutter : ℕ) (h : Cycles) → IsSteadyPart x flutter h → (double : ℕ) (earlier : Cycles) (even odd : Cycle) → IsDoubleOf h double earlier even odd
+    → LawfulRows x flutter earlier even odd double
+lawful_rows x flutter h w double earlier even odd d = timed_rows x flutter h (record { covered = w.covered.timed; lawful = w.lawful; within = w.within }) double earlier even odd d
+
 -- ---- a run that is covered in the older sense
 
 pub covered_runs_are_steady : CoveredRunsAreSteady
 covered_runs_are_steady x flutter w flutters = record {
-  sane = w.sane;
-  few = w.few;
-  least = w.least;
-  most = w.most;
-  changes = w.changes;
-  delays = λ sender receiver slot channel cycle linked share within.
-      delayed x sender receiver slot cycle channel (coverage_suffices x w) linked.sends linked.hears linked.key linked.other within share;
-  links = w.links;
-  flutters = flutters;
+  timed = record {
+    sane = w.sane;
+    few = w.few;
+    least = w.least;
+    most = w.most;
+    changes = w.changes;
+    delays = λ sender receiver slot channel cycle linked share within.
+        delayed x sender receiver slot cycle channel (coverage_suffices x w) linked.sends linked.hears linked.key linked.other within share;
+    flutters = flutters;
+  };
+  links = λ double within sender receiver slot linked. w.links sender receiver slot double linked within;
 }
 
 -- ---- the microticks of a node
 
-pub proper_in : (x : Setting) (flutter : ℕ) (node : NodeSpec) (cycle : ℕ) (micro : ℤ) → IsSteadySetting x flutter → Contains (correct_nodes x) node → cycle < 2 * x.doubles → micro ≡ x.microtick node.id cycle
+pub proper_in : (x : Setting) (flutter : ℕ) (node : NodeSpec) (cycle : ℕ) (micro : ℤ) → IsTimedSetting x flutter → Contains (correct_nodes x) node → cycle < 2 * x.doubles → micro ≡ x.microtick node.id cycle
     → (pos (shortest_micro x.params) ≤ℤ micro) × (micro ≤ℤ pos (longest_micro x.params))
 proper_in x flutter node cycle micro covered among less is =
     let Proper : ℤ → Type 0 = λ z. (pos (shortest_micro x.params) ≤ℤ z) × (z ≤ℤ pos (longest_micro x.params)) in
     subst Proper (sym is) (covered.least node cycle among less, covered.most node cycle among less)
 
-pub steady_in : (x : Setting) (flutter : ℕ) (node : NodeSpec) (cycle : ℕ) (micro next : ℤ) → IsSteadySetting x flutter → Contains (correct_nodes x) node → suc cycle < 2 * x.doubles
+pub steady_in : (x : Setting) (flutter : ℕ) (node : NodeSpec) (cycle : ℕ) (micro next : ℤ) → IsTimedSetting x flutter → Contains (correct_nodes x) node → suc cycle < 2 * x.doubles
     → micro ≡ x.microtick node.id cycle → next ≡ x.microtick node.id (suc cycle) → IsWithin (pos (amount x.params name.xChangeBound)) (next -ℤ micro)
 steady_in x flutter node cycle micro next covered among less is next_is =
     let Change : ℤ → ℤ → Type 0 = λ a b. IsWithin (pos (amount x.params name.xChangeBound)) (b -ℤ a) in
@@ -149,7 +155,7 @@ stays_has x h node (Some join) at stays = absurd (cc)
 all_three : (key correct has : Bool) → key ≡ true → correct ≡ true → has ≡ true → (key && (correct && has)) ≡ true
 all_three key correct has a b c = rw (a, b, c) refl
 
-few_in : (x : Setting) (flutter : ℕ) (h : Cycles) → IsSteadySetting x flutter
+pub few_in : (x : Setting) (flutter : ℕ) (h : Cycles) → IsTimedSetting x flutter
     → AreFew (sync_count x.params (λ node. is_correct x node && has_row x h node)) (sync_count x.params x.is_arbitrary)
 few_in x flutter h covered =
     let stay : ℕ → Bool = λ node. is_correct x node && stays_on x node in
@@ -434,74 +440,89 @@ module _ (x : Setting) (flutter : ℕ) (h : Cycles) (even odd : Cycle) (double :
     other = row_other x h even odd node sender index slot sane other;
   }
 
-  rows_hear : (node : NodeSpec) → Contains (row_nodes x h) node → IsHeardAt (round_at x h even odd) (row_hearer x even odd node.id)
-  rows_hear node among = record {
+  pub rows_heard_in_part : (node : NodeSpec) → Contains (row_nodes x h) node → IsHeardInPart (round_at x h even odd) (row_hearer x even odd node.id)
+  rows_heard_in_part node among = record {
     itself = λ index own. row_itself x h even odd node index sane among own;
     placed = λ index slot sender is_odd channel value other is.
         placed_by is_odd sender node slot channel value (link_to node index slot sender among other)
         (sym (looked_up node.id index slot is_odd channel other.slot_is) ∙ is);
-    heard = λ index slot sender other.
-        let own = link_to node index slot sender among other in
-        let carried : IsCarried x sender node double = s.covered.links sender node slot double (linked_by sender node slot own) s.within in (
-          carried.channel,
-          ap is_some (looked_up node.id index slot false carried.channel other.slot_is) ∙ frames_stored false sender node slot carried.channel own carried.share carried.even,
-          ap is_some (looked_up node.id index slot true carried.channel other.slot_is) ∙ frames_stored true sender node slot carried.channel own carried.share carried.odd,
-        );
     only = λ index is_odd channel value is. only node index is_odd channel value among is;
   }
 
-  pairs_steady : (node : NodeSpec) → Contains (row_nodes x h) node → AreSteadyPairs (round_at x h even odd) flutter (row_hearer x even odd node.id)
+  pub pairs_steady : (node : NodeSpec) → Contains (row_nodes x h) node → AreSteadyPairs (round_at x h even odd) flutter (row_hearer x even odd node.id)
   pairs_steady node among index slot sender channel early late other is late_is =
       pair_steady sender node slot channel early late (link_to node index slot sender among other)
       (sym (looked_up node.id index slot false channel other.slot_is) ∙ is) (sym (looked_up node.id index slot true channel other.slot_is) ∙ late_is)
 
-  odd_active : (node : NodeSpec) → Contains (row_nodes x h) node → (row_for odd.told.rows node.id).state ≡ Active
+  pub odd_active : (node : NodeSpec) → Contains (row_nodes x h) node → (row_for odd.told.rows node.id).state ≡ Active
   odd_active node among = each_row (row_nodes x h) odd.told.rows (λ row. row.state ≡ Active) node s.two.odd_rows.nodes among r.active_odd
-
-  pub supplied_at : (node : NodeSpec) → Contains (row_nodes x h) node → IsSteadilySupplied (round_at x h even odd) flutter (row_hearer x even odd node.id)
-  supplied_at node among = record {
-    regular = row_regular x flutter h even odd double s r.rates node among;
-    applied = row_applied x h even odd node s.two (odd_length (length h) double s.counted) among (odd_active node among);
-    hears = rows_hear node among;
-    steady = pairs_steady node among;
-  }
-
-  -- ---- their round
 
   allows : (beside : Bool) → MayHaveArbitrary beside x → AllowsArbitrary beside (round_at x h even odd)
   allows false none = none
   allows true any = any
 
-  pub round_in_reach : (beside : Bool) → MayHaveArbitrary beside x → IsRoundInReach beside (round_at x h even odd) flutter reach (row_hearers x h even odd)
-  round_in_reach beside may =
-      let at : NodeSpec → Hearer = λ n. row_hearer x even odd n.id in
-      record {
-        round = record {
-          sane = sane;
-          few = few_in x flutter h s.covered;
-          regular = λ node there has. row_regular x flutter h even odd double s r.rates node (is_row_node x h node there has);
-        };
-        arbitrary = allows beside may;
-        suffices = r.limit;
-        acts = r.acts;
-        supplied = λ n here.
-            let found = map_contains at (row_nodes x h) n here in
-            subst (IsSteadilySupplied (round_at x h even odd) flutter) found.2 (supplied_at found.0 found.1);
-        among = λ node slot sender.
-            (at node, contains_map at (row_nodes x h) node (is_row_node x h node sender.there sender.rows), refl, refl);
-      }
+  -- ---- where all is heard
 
-  pub double_is_sharp : (beside : Bool) → MayHaveArbitrary beside x
-      → IsSharpDouble beside x.params flutter (senders_of (round_at x h even odd)) (row_members x h even odd) (pos (last_action x.params))
-  double_is_sharp beside may = rounds_in_reach_are_sharp beside (round_at x h even odd) flutter reach (row_hearers x h even odd) (round_in_reach beside may)
+  module _ (links : IsWhole x double) where
+    -- where one channel carries the frames of both cycles each has those of every other sender
+    rows_hear : (node : NodeSpec) → Contains (row_nodes x h) node → IsHeardAt (round_at x h even odd) (row_hearer x even odd node.id)
+    rows_hear node among =
+        let part = rows_heard_in_part node among in
+        record {
+          itself = part.itself;
+          placed = part.placed;
+          heard = λ index slot sender other.
+              let own = link_to node index slot sender among other in
+              let carried : IsCarried x sender node double = links sender node slot (linked_by sender node slot own) in (
+                carried.channel,
+                ap is_some (looked_up node.id index slot false carried.channel other.slot_is) ∙ frames_stored false sender node slot carried.channel own carried.share carried.even,
+                ap is_some (looked_up node.id index slot true carried.channel other.slot_is) ∙ frames_stored true sender node slot carried.channel own carried.share carried.odd,
+              );
+          only = part.only;
+        }
+
+    pub supplied_at : (node : NodeSpec) → Contains (row_nodes x h) node → IsSteadilySupplied (round_at x h even odd) flutter (row_hearer x even odd node.id)
+    supplied_at node among = record {
+      regular = row_regular x flutter h even odd double s r.rates node among;
+      applied = row_applied x h even odd node s.two (odd_length (length h) double s.counted) among (odd_active node among);
+      hears = rows_hear node among;
+      steady = pairs_steady node among;
+    }
+
+    -- ---- their round
+
+    pub round_in_reach : (beside : Bool) → MayHaveArbitrary beside x → IsRoundInReach beside (round_at x h even odd) flutter reach (row_hearers x h even odd)
+    round_in_reach beside may =
+        let at : NodeSpec → Hearer = λ n. row_hearer x even odd n.id in
+        record {
+          round = record {
+            sane = sane;
+            few = few_in x flutter h s.covered;
+            regular = λ node there has. row_regular x flutter h even odd double s r.rates node (is_row_node x h node there has);
+          };
+          arbitrary = allows beside may;
+          suffices = r.limit;
+          acts = r.acts;
+          supplied = λ n here.
+              let found = map_contains at (row_nodes x h) n here in
+              subst (IsSteadilySupplied (round_at x h even odd) flutter) found.2 (supplied_at found.0 found.1);
+          among = λ node slot sender.
+              (at node, contains_map at (row_nodes x h) node (is_row_node x h node sender.there sender.rows), refl, refl);
+        }
+
+    pub double_is_sharp : (beside : Bool) → MayHaveArbitrary beside x
+        → IsSharpDouble beside x.params flutter (senders_of (round_at x h even odd)) (row_members x h even odd) (pos (last_action x.params))
+    double_is_sharp beside may = rounds_in_reach_are_sharp beside (round_at x h even odd) flutter reach (row_hearers x h even odd) (round_in_reach beside may)
 
 -- ---- the laws
 
 pub rows_hear_steadily : RowsHearSteadily
 rows_hear_steadily x flutter h earlier even odd double reach node w d r among =
-    supplied_at x flutter earlier even odd double reach (lawful_rows x flutter h w double earlier even odd d) r node among
+    let s = lawful_rows x flutter h w double earlier even odd d in
+    supplied_at x flutter earlier even odd double reach s r (w.covered.links double s.within) node among
 
 pub rows_are_sharp_doubles : RowsAreSharpDoubles
 rows_are_sharp_doubles beside x flutter h earlier even odd double reach may w d r =
     let s = lawful_rows x flutter h w double earlier even odd d in
-    (round_in_reach x flutter earlier even odd double reach s r beside may, double_is_sharp x flutter earlier even odd double reach s r beside may)
+    let links = w.covered.links double s.within in
+    (round_in_reach x flutter earlier even odd double reach s r links beside may, double_is_sharp x flutter earlier even odd double reach s r links beside may)

@@ -76,7 +76,7 @@ module _ (x : Setting) (h : Cycles) (whole : length h ≡ 2 * x.doubles) (double
 module _ (beside : Bool) (x : Setting) (flutter : ℕ) (h : Cycles) (double : ℕ) (w : IsSteadyRun beside x flutter h)
     (checks : (k : ℕ) → 1 ≤ k → k ≤ 5 → sharp_holds_of k flutter (sharp_near beside x.params flutter) x.params ≡ true) (sync : IsInSharpSyncAt beside x.params flutter (pos 0) h double) where
   still : rate_walk x.params flutter ≤ℤ pos 0
-  still = (first_check_stops_walk x.params flutter (sharp_near beside x.params flutter) w.covered.sane).0 (checks 1 (lit≤ tt) (lit≤ tt))
+  still = (first_check_stops_walk x.params flutter (sharp_near beside x.params flutter) w.covered.timed.sane).0 (checks 1 (lit≤ tt) (lit≤ tt))
 
   lasts : (passed : ℕ) → WalkLastsAfter x.params flutter passed
   lasts passed = lasts_on x.params flutter passed (does_not_walk x.params flutter still)

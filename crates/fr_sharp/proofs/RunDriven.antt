@@ -190,22 +190,24 @@ itself a = record { low = omega (arith, ints); high = omega (arith, ints) }
 
 covered : IsSteadySetting driven_run 1_000_000
 covered = record {
-  sane = is_sane;
-  few = inl (refl, lit≤ tt);
-  least = λ some cycle there within. (micro_within (some.id == 1) (some.id == 2) (some.id == 3)).low;
-  most = λ some cycle there within. (micro_within (some.id == 1) (some.id == 2) (some.id == 3)).high;
-  changes = λ some cycle there within. itself (driven_micro (some.id == 1) (some.id == 2) (some.id == 3));
-  delays = λ sender receiver slot channel cycle linked share within.
-      stated_delay channel (driven_delay sender.id receiver.id (cycle % 2 == 0)) (delays_proper sender.id receiver.id (cycle % 2 == 0));
-  links = λ sender receiver slot double linked within. record {
+  timed = record {
+    sane = is_sane;
+    few = inl (refl, lit≤ tt);
+    least = λ some cycle there within. (micro_within (some.id == 1) (some.id == 2) (some.id == 3)).low;
+    most = λ some cycle there within. (micro_within (some.id == 1) (some.id == 2) (some.id == 3)).high;
+    changes = λ some cycle there within. itself (driven_micro (some.id == 1) (some.id == 2) (some.id == 3));
+    delays = λ sender receiver slot channel cycle linked share within.
+        stated_delay channel (driven_delay sender.id receiver.id (cycle % 2 == 0)) (delays_proper sender.id receiver.id (cycle % 2 == 0));
+    flutters = λ sender receiver slot channel double linked share within.
+        flutters_little (driven_delay sender.id receiver.id (suc (2 * double) % 2 == 0)) (driven_delay sender.id receiver.id (2 * double % 2 == 0))
+        (delays_proper sender.id receiver.id (suc (2 * double) % 2 == 0)) (delays_proper sender.id receiver.id (2 * double % 2 == 0));
+  };
+  links = λ double within sender receiver slot linked. record {
     channel = A;
     share = record { by_sender = on_channel sender linked.sends; by_receiver = on_channel receiver linked.hears };
     even = refl;
     odd = refl;
   };
-  flutters = λ sender receiver slot channel double linked share within.
-      flutters_little (driven_delay sender.id receiver.id (suc (2 * double) % 2 == 0)) (driven_delay sender.id receiver.id (2 * double % 2 == 0))
-      (delays_proper sender.id receiver.id (suc (2 * double) % 2 == 0)) (delays_proper sender.id receiver.id (2 * double % 2 == 0));
 }
 
 setting : IsSetting driven_run

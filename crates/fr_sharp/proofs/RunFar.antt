@@ -93,13 +93,16 @@ module _ (f : Far) (starts lengths : ℕ) (is : IsFar f starts lengths) where
 
   pub covered : IsSteadySetting (far_apart_run f) 0
   covered = record {
-    sane = is.sane;
-    few = is.few;
-    least = λ some cycle there within. no_less (pos (shortest_micro f.params)) f.short f.long (some.id == f.first) is.least is.order;
-    most = λ some cycle there within. no_more (pos (longest_micro f.params)) f.short f.long (some.id == f.first) is.most is.order;
-    changes = λ some cycle there within. itself (amount f.params name.xChangeBound) (if some.id == f.first then f.short else f.long);
-    delays = λ sender receiver slot channel cycle linked share within. itself (amount f.params name.xDelayError) (compensation_of f.params channel *ℤ pos nominal);
-    links = λ sender receiver slot double linked within.
+    timed = record {
+      sane = is.sane;
+      few = is.few;
+      least = λ some cycle there within. no_less (pos (shortest_micro f.params)) f.short f.long (some.id == f.first) is.least is.order;
+      most = λ some cycle there within. no_more (pos (longest_micro f.params)) f.short f.long (some.id == f.first) is.most is.order;
+      changes = λ some cycle there within. itself (amount f.params name.xChangeBound) (if some.id == f.first then f.short else f.long);
+      delays = λ sender receiver slot channel cycle linked share within. itself (amount f.params name.xDelayError) (compensation_of f.params channel *ℤ pos nominal);
+      flutters = λ sender receiver slot channel double linked share within. itself 0 (compensation_of f.params channel *ℤ pos nominal);
+    };
+    links = λ double within sender receiver slot linked.
         let shared = is.shares sender receiver slot linked in
         record {
           channel = shared.0;
@@ -107,7 +110,6 @@ module _ (f : Far) (starts lengths : ℕ) (is : IsFar f starts lengths) where
           even = regular sender (2 * double) receiver.id shared.0 linked.sends;
           odd = regular sender (suc (2 * double)) receiver.id shared.0 linked.sends;
         };
-    flutters = λ sender receiver slot channel double linked share within. itself 0 (compensation_of f.params channel *ℤ pos nominal);
   }
 
   pub setting : IsSetting (far_apart_run f)

@@ -60,16 +60,16 @@ module _ (f : Far) (is : IsFar f (pi_of f.params) (lambda_of f.params)) where
           sane = is.sane;
           checks = checks;
           join_checks = λ joins. absurd (none joins);
-          few = steady.few;
-          least = steady.least;
-          most = steady.most;
-          changes = steady.changes;
+          few = steady.timed.few;
+          least = steady.timed.least;
+          most = steady.timed.most;
+          changes = steady.timed.changes;
           referenced = record {
             references = λ node join among at. absurd (cc);
             delays = λ sender receiver slot channel cycle sends hears key other by_sender by_receiver less.
                 itself (amount f.params name.xDelayError) (compensation_of f.params channel *ℤ pos nominal);
           };
-          links = steady.links;
+          links = λ sender receiver slot double linked within. steady.links double within sender receiver slot linked;
         };
         rates = λ node among. let s = signed_of f.params is.sane in let from = s.ro_from in record { low = omega (arith, ints, from); high = omega (arith, ints, from) };
         starts = λ joins. absurd (none joins);

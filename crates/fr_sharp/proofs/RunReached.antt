@@ -46,19 +46,21 @@ most_micro true false = record { le = tt }
 
 covered : (said : Said) (beside : Bool) → IsSteadySetting (reaching_run said beside) 0
 covered said beside = record {
-  sane = is_sane;
-  few = few said beside;
-  least = λ some cycle there within. least_micro beside (some.id == 1);
-  most = λ some cycle there within. most_micro beside (some.id == 1);
-  changes = λ some cycle there within. itself (far_micro beside (some.id == 1));
-  delays = λ sender receiver slot channel cycle linked share within. nominal_delay channel;
-  links = λ sender receiver slot double linked within. record {
+  timed = record {
+    sane = is_sane;
+    few = few said beside;
+    least = λ some cycle there within. least_micro beside (some.id == 1);
+    most = λ some cycle there within. most_micro beside (some.id == 1);
+    changes = λ some cycle there within. itself (far_micro beside (some.id == 1));
+    delays = λ sender receiver slot channel cycle linked share within. nominal_delay channel;
+    flutters = λ sender receiver slot channel double linked share within. itself (pos 7_000_000);
+  };
+  links = λ double within sender receiver slot linked. record {
     channel = A;
     share = record { by_sender = on_a said beside sender linked.sends; by_receiver = on_a said beside receiver linked.hears };
     even = regular said beside sender (2 * double) receiver.id linked.sends;
     odd = regular said beside sender (suc (2 * double)) receiver.id linked.sends;
   };
-  flutters = λ sender receiver slot channel double linked share within. itself (pos 7_000_000);
 }
 
 may : (said : Said) (beside : Bool) → MayHaveArbitrary beside (reaching_run said beside)

@@ -112,7 +112,7 @@ module _ (beside : Bool) (x : Setting) (flutter : ℕ) (h : Cycles) (w : IsStead
 
 module _ (beside : Bool) (x : Setting) (flutter start rate reach : ℕ) (h : Cycles) (double : ℕ) (b : BeginsSharply beside x flutter start rate reach h double) where
   sane : IsSane x.params
-  sane = b.run.covered.sane
+  sane = b.run.covered.timed.sane
 
   second : holds_of 2 x.params ≡ true
   second = b.checks 2 (lit≤ tt) (lit≤ tt)

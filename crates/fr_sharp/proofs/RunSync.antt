@@ -37,7 +37,7 @@ use Rattle.fr_runs.proofs.Whole.{prior_of}
 use Rattle.fr_sharp.specs.Lengths.{walked_after, CanWalk, IsAboutCycle}
 use Rattle.fr_sharp.specs.SharpBounds.{last_action, near_by, rate_walk, sharp_lambda, sharp_near, sharp_pi, sharp_precision}
 use Rattle.fr_sharp.specs.SharpChecks.{RateSuffices, SharpChecksHold}
-use Rattle.fr_sharp.specs.SharpHistories.{members_at, senders_at, BeginsActive, HistoriesAreSharpDoubles, HistoriesHaveMembers, HistoriesKeepSharpSync, HistoriesStepSharply, IsInSharpSyncAt, IsSteadyRun, KeepsApart, StaysInSharpSyncAt}
+use Rattle.fr_sharp.specs.SharpHistories.{members_at, senders_at, BeginsActive, HistoriesAreSharpDoubles, HistoriesHaveMembers, HistoriesKeepSharpSync, HistoriesStepSharply, IsInSharpSyncAt, IsSteadyRun, IsTimedRun, KeepsApart, StaysInSharpSyncAt}
 use Rattle.fr_sharp.specs.SharpRun.{AllUncut, AreSharpDoubles, BeginSharp, IsNextDouble, StaysInSharpSync, WalkLastsAfter}
 use Rattle.fr_sharp.specs.SharpStep.{ActInReach, AreSharp, ComeSharply, IsInSharpSync, IsSharpDouble, StaySharp}
 use Rattle.fr_sharp.specs.SteadyRuns.{row_members, AreRowsInReach, IsSteadyPart}
@@ -45,6 +45,7 @@ use Rattle.fr_sharp.proofs.BoundLemmas.{key_slots_act_early, sharp_checks_suffic
 use Rattle.fr_sharp.proofs.LastingLemmas.{near_fits, sharp_sync_lasts_lem, up_to}
 use Rattle.fr_sharp.proofs.RateRange.{walked_suffices}
 use Rattle.fr_sharp.proofs.RowsSupplied.{double_is_sharp, lawful_rows, members_regular, rates_in_limit, LawfulRows}
+use Rattle.fr_sharp.proofs.TimedRuns.{acting_of, acting_with, active_in_sync, active_of, evens_of, follows_of, found_of, heard_of, keeps_apart_of, members_in_sync, next_of, odds_of, rates_of_double, regular_of, rows_of, sync_in_of}
 use Rattle.fr_sharp.proofs.RunDoubles.{ends_well, evens_are, members_found, next_double, odds_are, rows_lie, senders_found}
 use Rattle.fr_sharp.proofs.StepLemmas.{next_is_in_sharp_sync, nodes_near, reached_by, sharp_sync_is_kept_lem}
 
@@ -59,132 +60,49 @@ none_cuts p starts lengths next nodes come =
     (λ node here. let both = come node node here here in (both.uncut, both.range.uncut)) (All-contains_itself nodes)
 
 module _ (beside : Bool) (x : Setting) (flutter : ℕ) (h : Cycles) (w : IsSteadyRun beside x flutter h) where
-  part : IsSteadyPart x flutter h
-  part = record { covered = w.covered; lawful = w.lawful; within = (let whole = w.whole in omega (arith, whole)) }
+  timed : IsTimedRun x flutter h
+  timed = record { covered = w.covered.timed; none_joins = w.none_joins; lawful = w.lawful; whole = w.whole }
 
   -- a double cycle of the run, and its rows
   pub found_at : (double : ℕ) → double < x.doubles → DoubleAt h double
-  found_at double within = let whole = w.whole in double_at h double (omega (arith, whole, within))
+  found_at = found_of x flutter h timed
 
   pub rows_at : (double : ℕ) (earlier : Cycles) (even odd : Cycle) → IsDoubleOf h double earlier even odd → LawfulRows x flutter earlier even odd double
-  rows_at double earlier even odd d = lawful_rows x flutter h part double earlier even odd d
+  rows_at = rows_of x flutter h timed
 
   pub evens_at : (double : ℕ) (earlier : Cycles) (even odd : Cycle) → IsDoubleOf h double earlier even odd → map (λ (node : Member). node.even) (members_at x h double) ≡ even.told.rows
-  evens_at double earlier even odd d =
-      ap (map (λ (node : Member). node.even)) (members_found x h double earlier even odd d) ∙ evens_are x flutter earlier even odd double (rows_at double earlier even odd d)
+  evens_at = evens_of x flutter h timed
 
   pub odds_at : (double : ℕ) (earlier : Cycles) (even odd : Cycle) → IsDoubleOf h double earlier even odd → map (λ (node : Member). node.odd) (members_at x h double) ≡ odd.told.rows
-  odds_at double earlier even odd d =
-      ap (map (λ (node : Member). node.odd)) (members_found x h double earlier even odd d) ∙ odds_are x flutter earlier even odd double (rows_at double earlier even odd d)
+  odds_at = odds_of x flutter h timed
 
   -- lengths lie no further beyond their range than so
   abbrev About : ℤ → List NodeRow → Type 0
   About beyond rows = All (λ row. IsAboutCycle x.params beyond (cycle_length_of x.params row)) rows
 
-  -- where the rate limit suffices for that, rates are within it, and so rows are regular
-  rates_at : (double : ℕ) (beyond : ℤ) → RateSuffices x.params beyond → About beyond (map (λ (node : Member). node.even) (members_at x h double)) → (earlier : Cycles) (even odd : Cycle)
-      → IsDoubleOf h double earlier even odd → All (λ row. IsWithin x.params.rate_limit row.rate) even.told.rows
-  rates_at double beyond suffices about earlier even odd d =
-      rates_in_limit x flutter earlier even odd double (rows_at double earlier even odd d) beyond suffices (subst (About beyond) (evens_at double earlier even odd d) about)
-
-  regular_with : (double : ℕ) (beyond : ℤ) → double < x.doubles → RateSuffices x.params beyond → About beyond (map (λ (node : Member). node.even) (members_at x h double)) → (node : Member)
-      → Contains (members_at x h double) node → IsRegular x.params node.even node.odd
-  regular_with double beyond within suffices about node here =
-      let d = found_at double within in
-      let Has : List Member → Type 0 = λ nodes. Contains nodes node in
-      members_regular x flutter d.earlier d.even d.odd double (rows_at double d.earlier d.even d.odd d.is) (rates_at double beyond suffices about d.earlier d.even d.odd d.is) node
-      (subst Has (members_found x h double d.earlier d.even d.odd d.is) here)
-
-  -- as it does while the walk lasts
+  -- rows are regular while the walk lasts
   pub regular_at : (double passed : ℕ) → double < x.doubles → holds_of 2 x.params ≡ true → WalkLastsAfter x.params flutter passed
       → All (λ row. IsAboutCycle x.params (walked_after x.params flutter passed) (cycle_length_of x.params row)) (map (λ (node : Member). node.even) (members_at x h double))
       → (node : Member) → Contains (members_at x h double) node → IsRegular x.params node.even node.odd
-  regular_at double passed within second before about node here =
-      regular_with double (walked_after x.params flutter passed) within (walked_suffices x.params flutter passed w.covered.sane second before) about node here
+  regular_at = regular_of x flutter h timed
 
-  -- ---- what a double cycle comes to in the history
-
-  spread_in : (double apart : ℕ) (earlier : Cycles) (even odd : Cycle) → IsDoubleOf h double earlier even odd
-      → ((one other : Member) (macrotick : ℤ) (is_odd : Bool) → Contains (members_at x h double) one → Contains (members_at x h double) other → pos 0 ≤ℤ macrotick → macrotick ≤ℤ x.params.macros
-      → IsWithin (pos apart) (gap_of x.params is_odd macrotick (row_in is_odd one.even one.odd) (row_in is_odd other.even other.odd)))
-      → (macrotick : ℕ) (is_odd : Bool) → macrotick < amount x.params name.gMacroPerCycle → skew_at x.params (told_of h) (cycle_in is_odd double) macrotick ≤ℤ pos apart
-  spread_in double apart earlier even odd d near macrotick is_odd less =
-      let p : Values = x.params in
-      let sane : IsSane p = w.covered.sane in
-      let s = rows_at double earlier even odd d in
-      let Has : Member → List Member → Type 0 = λ node nodes. Contains nodes node in
-      let same = sym (members_found x h double earlier even odd d) in
-      let lie =
-      rows_lie x flutter earlier even odd double s (pos apart) macrotick
-      (λ is_odd one other here there. near one other (pos macrotick) is_odd (subst (Has one) same here) (subst (Has other) same there) (no_less macrotick) (macrotick_within p macrotick sane less)) in
-      by is_odd lie.0 lie.1
-    where
-      Most : ℕ → Option Record → Type 0
-      Most cycle o = option_map_or (λ r. spread_at (grid_for x.params) cycle r.rows macrotick) o (pos 0) ≤ℤ pos apart
-
-      by : (is_odd : Bool) → All (λ one. All (λ other. IsWithin (pos apart) (gap_of x.params false (pos macrotick) one other)) even.told.rows) even.told.rows
-          → All (λ one. All (λ other. IsWithin (pos apart) (gap_of x.params true (pos macrotick) one other)) odd.told.rows) odd.told.rows
-          → skew_at x.params (told_of h) (cycle_in is_odd double) macrotick ≤ℤ pos apart
-      by false early late =
-          let told : record_at (told_of h) (2 * double) ≡ Some even.told = told_at h (2 * double) ∙ ap (option_map (λ (c : Cycle). c.told)) (even_is h double earlier even odd d) in
-          subst (Most (2 * double)) (sym told) (spread_within x.params (2 * double) (pos apart) even.told.rows macrotick false (even_length (2 * double) double refl) (no_less apart) early)
-      by true early late =
-          let told : record_at (told_of h) (suc (2 * double)) ≡ Some odd.told = told_at h (suc (2 * double)) ∙ ap (option_map (λ (c : Cycle). c.told)) (odd_is h double earlier even odd d) in
-          subst (Most (suc (2 * double))) (sym told) (spread_within x.params (suc (2 * double)) (pos apart) odd.told.rows macrotick true (odd_length (2 * double) double refl) (no_less apart) late)
-
+  -- what a double cycle comes to in the history
   pub keeps_apart : (double apart : ℕ) → double < x.doubles → BeginsActive h double → AllUncut (members_at x h double)
       → ((one other : Member) (macrotick : ℤ) (is_odd : Bool) → Contains (members_at x h double) one → Contains (members_at x h double) other → pos 0 ≤ℤ macrotick → macrotick ≤ℤ x.params.macros
       → IsWithin (pos apart) (gap_of x.params is_odd macrotick (row_in is_odd one.even one.odd) (row_in is_odd other.even other.odd)))
       → KeepsApart x h double apart
-  keeps_apart double apart within active uncut near =
-      let f = found_at double within in
-      record {
-        skew = spread_in double apart f.earlier f.even f.odd f.is near;
-        ends = λ earlier even odd d.
-            let both = active earlier even odd d in
-            ends_well x flutter earlier even odd double (rows_at double earlier even odd d) both.0 both.1
-            (subst AllUncut (members_found x h double earlier even odd d) uncut) w.none_joins;
-      }
+  keeps_apart = keeps_apart_of x flutter h timed
 
   -- ---- one of them, and the next
 
   heard_with : (double : ℕ) (beyond reach : ℤ) → double < x.doubles → LimitSuffices x.params reach → LeavesRoom x.params reach → RateSuffices x.params beyond → BeginsActive h double
       → About beyond (map (λ (node : Member). node.even) (members_at x h double)) → ActInReach x.params reach (pos (last_action x.params)) (members_at x h double)
       → IsSharpDouble beside x.params flutter (senders_at x h double) (members_at x h double) (pos (last_action x.params))
-  heard_with double beyond reach short limit room suffices active about acts =
-      let p : Values = x.params in
-      let last = pos (last_action p) in
-      let f = found_at double short in
-      let both = active f.earlier f.even f.odd f.is in
-      let same = members_found x h double f.earlier f.even f.odd f.is in
-      let Acts : List Member → Type 0 = λ some. ActInReach p reach last some in
-      let r : AreRowsInReach x f.earlier f.even f.odd reach = record {
-        active_even = both.0;
-        active_odd = both.1;
-        rates = rates_at double beyond suffices about f.earlier f.even f.odd f.is;
-        limit = limit;
-        room = room;
-        acts = subst Acts same acts;
-      } in
-      let own = double_is_sharp x flutter f.earlier f.even f.odd double reach (rows_at double f.earlier f.even f.odd f.is) r beside w.arbitrary in
-      let Nodes : List Member → Type 0 = λ some. IsSharpDouble beside p flutter (senders_at x h double) some last in
-      let Senders : List Sender → Type 0 = λ some. IsSharpDouble beside p flutter some (row_members x f.earlier f.even f.odd) last in
-      subst Nodes (sym same) (subst Senders (sym (senders_found x h double f.earlier f.even f.odd f.is)) own)
+  heard_with double beyond reach short = heard_of x flutter h timed beside double beyond reach w.arbitrary short (w.covered.links double short)
 
   next_at : (double : ℕ) → BeginsActive h double → AllUncut (members_at x h double) → (earlier : Cycles) (even odd : Cycle) → IsDoubleOf h (suc double) earlier even odd
       → IsNextDouble x.params (members_at x h double) (members_at x h (suc double))
-  next_at double active uncut [] even odd d = let counted : 0 ≡ 2 * suc double = d.counted in absurd (omega (arith, counted))
-  next_at double active uncut (o ∷ []) even odd d = let counted : 1 ≡ 2 * suc double = d.counted in absurd (omega (arith, counted))
-  next_at double active uncut (o ∷ e ∷ earlier) even odd d =
-      let before = prior_of h double earlier e o even odd d in
-      let both = active earlier e o before in
-      let same = members_found x h double earlier e o before in
-      let next = members_found x h (suc double) (o ∷ e ∷ earlier) even odd d in
-      let t = rows_at (suc double) (o ∷ e ∷ earlier) even odd d in
-      let own = next_double x flutter earlier e o double (rows_at double earlier e o before) even odd t w.none_joins both.0 both.1 (subst AllUncut same uncut) (evens_are x flutter (o ∷ e ∷ earlier) even odd (suc double) t) (odds_are x flutter (o ∷ e ∷ earlier) even odd (suc double) t) in
-      let First : List Member → Type 0 = λ some. IsNextDouble x.params some (members_at x h (suc double)) in
-      let Second : List Member → Type 0 = λ some. IsNextDouble x.params (row_members x earlier e o) some in
-      subst First (sym same) (subst Second (sym next) own)
+  next_at = next_of x flutter h timed
 
   -- ---- they are as the law of many double cycles asks for
 
@@ -200,60 +118,29 @@ module _ (beside : Bool) (x : Setting) (flutter : ℕ) (h : Cycles) (w : IsStead
 
     -- those of a later one are active as it begins
     pub active_by : (k : ℕ) → BeginSharp x.params flutter starts lengths nodes k → BeginsActive h (double + k)
-    active_by zero begin earlier even odd d =
-        let At : ℕ → Type 0 = λ m. IsDoubleOf h m earlier even odd in
-        let same : double + 0 ≡ double = omega arith in
-        active earlier even odd (subst At same d)
-    active_by (suc k) begin earlier even odd d =
-        let Are : List NodeRow → Type 0 = λ rows. All (λ (row : NodeRow). row.state ≡ Active) rows in
-        (subst Are (evens_at (double + suc k) earlier even odd d) begin.active.0, subst Are (odds_at (double + suc k) earlier even odd d) begin.active.1)
+    active_by = active_of x flutter h timed double starts lengths active
 
     module _ (acting : (k : ℕ) → double + k < x.doubles → WalkLastsAfter x.params flutter k → BeginSharp x.params flutter starts lengths nodes k → ActInReach x.params reach (pos (last_action x.params)) (nodes k)) where
       heard_at : (k : ℕ) → double + k < x.doubles → WalkLastsAfter x.params flutter k → BeginSharp x.params flutter starts lengths nodes k
           → IsSharpDouble beside x.params flutter (senders k) (nodes k) (pos (last_action x.params))
       heard_at k short before begin =
-          heard_with (double + k) (walked_after x.params flutter k) reach short limit room (walked_suffices x.params flutter k w.covered.sane second before) (active_by k begin) begin.sharp.about
+          heard_with (double + k) (walked_after x.params flutter k) reach short limit room (walked_suffices x.params flutter k w.covered.timed.sane second before) (active_by k begin) begin.sharp.about
           (acting k short before begin)
 
       pub are_doubles : AreSharpDoubles beside x.params flutter (x.doubles - double) starts lengths senders nodes (pos (last_action x.params))
       are_doubles = record {
-        sane = w.covered.sane;
+        sane = w.covered.timed.sane;
         second = second;
         heard = λ k short before begin. heard_at k (shorter k short) before begin;
-        follows = λ k short before begin uncut.
-            let one : suc (double + k) ≡ double + suc k = omega arith in
-            let later : suc (double + k) < x.doubles = omega (arith, short) in
-            let f = found_at (suc (double + k)) later in
-            let At : ℕ → Type 0 = λ m. IsNextDouble x.params (nodes k) (members_at x h m) in
-            subst At one (next_at (double + k) (active_by k begin) uncut f.earlier f.even f.odd f.is);
+        follows = λ k short before begin uncut. follows_of x flutter h timed double starts lengths active k short begin uncut;
       }
 
   -- ---- where a reach takes in the numbers
 
-  acting_with : (double starts lengths : ℕ) (beyond : ℤ) (reach : ℕ) → double < x.doubles → CanWalk x.params flutter beyond (rate_walk x.params flutter) → RateSuffices x.params beyond
-      → LimitSuffices x.params (pos reach) → near_by x.params starts lengths ≤ reach → AreSharp x.params starts lengths beyond (map (λ (node : Member). node.even) (members_at x h double))
-      → ActInReach x.params (pos reach) (pos (last_action x.params)) (members_at x h double)
-  acting_with double starts lengths beyond reach short walks suffices limit fits sharp is_odd one other action here there from to =
-      let p : Values = x.params in
-      let sane : IsSane p = w.covered.sane in
-      let regular = regular_with double beyond short suffices sharp.about in
-      reached_by p flutter starts lengths beyond (rate_walk p flutter) (pos reach) (pos (last_action p)) action is_odd one.even one.odd other.even other.odd
-      (record {
-        sane = sane;
-        walks = walks;
-        suffices = limit;
-        early = (key_slots_act_early p sane).1;
-        fits = near_fits p starts lengths reach sane fits;
-      })
-      (regular one here) (regular other there) (nodes_near p starts lengths beyond (members_at x h double) (record { sane = sane; sharp = sharp; regular = regular }) one other here there) from to
-
   pub acting_by : (double : ℕ) (starts lengths : ℕ → ℕ) (reach k : ℕ) → holds_of 2 x.params ≡ true → LimitSuffices x.params (pos reach) → near_by x.params (starts k) (lengths k) ≤ reach → double + k < x.doubles
       → WalkLastsAfter x.params flutter k → BeginSharp x.params flutter starts lengths (λ k. members_at x h (double + k)) k
       → ActInReach x.params (pos reach) (pos (last_action x.params)) (members_at x h (double + k))
-  acting_by double starts lengths reach k second limit fits short before begin =
-      let sane : IsSane x.params = w.covered.sane in
-      acting_with (double + k) (starts k) (lengths k) (walked_after x.params flutter k) reach short (walk_is_held x.params flutter k sane second before).0
-      (walked_suffices x.params flutter k sane second before) limit fits begin.sharp
+  acting_by = acting_of x flutter h timed
 
   pub doubles_in_reach : (double : ℕ) (starts lengths : ℕ → ℕ) (reach : ℕ) → holds_of 2 x.params ≡ true → LimitSuffices x.params (pos reach) → LeavesRoom x.params (pos reach)
       → ((k : ℕ) → double + k < x.doubles → near_by x.params (starts k) (lengths k) ≤ reach) → BeginsActive h double
@@ -266,15 +153,7 @@ module _ (beside : Bool) (x : Setting) (flutter : ℕ) (h : Cycles) (w : IsStead
   -- the cycles of a double cycle are those that are found
   pub sync_in : (double : ℕ) (beyond : ℤ) → IsInSharpSyncAt beside x.params flutter beyond h double → (earlier : Cycles) (even odd : Cycle) → IsDoubleOf h double earlier even odd
       → IsInSharpSync beside x.params flutter beyond even.told.rows odd.told.rows
-  sync_in double beyond s earlier even odd d =
-      let late : odd_cycle double ≡ suc (2 * double) = omega arith in
-      let first : Some s.even ≡ Some even = sym s.has_even ∙ even_is h double earlier even odd d in
-      let second : Some s.odd ≡ Some odd = sym s.has_odd ∙ ap (cycle_at h) late ∙ odd_is h double earlier even odd d in
-      let same_even : s.even ≡ even = cc in
-      let same_odd : s.odd ≡ odd = cc in
-      let Even : Cycle → Type 0 = λ c. IsInSharpSync beside x.params flutter beyond c.told.rows odd.told.rows in
-      let Odd : Cycle → Type 0 = λ c. IsInSharpSync beside x.params flutter beyond s.even.told.rows c.told.rows in
-      subst Even same_even (subst Odd same_odd s.in_sync)
+  sync_in = sync_in_of x flutter h timed beside
 
   pub sync_at : (double : ℕ) (beyond : ℤ) → double < x.doubles
       → IsInSharpSync beside x.params flutter beyond (map (λ (node : Member). node.even) (members_at x h double)) (map (λ (node : Member). node.odd) (members_at x h double))
@@ -294,17 +173,11 @@ module _ (beside : Bool) (x : Setting) (flutter : ℕ) (h : Cycles) (w : IsStead
 
   sync_of_members : (double : ℕ) (beyond : ℤ) → double < x.doubles → IsInSharpSyncAt beside x.params flutter beyond h double
       → IsInSharpSync beside x.params flutter beyond (map (λ (node : Member). node.even) (members_at x h double)) (map (λ (node : Member). node.odd) (members_at x h double))
-  sync_of_members double beyond within s =
-      let f = found_at double within in
-      let Even : List NodeRow → Type 0 = λ rows. IsInSharpSync beside x.params flutter beyond rows (map (λ (node : Member). node.odd) (members_at x h double)) in
-      let Odd : List NodeRow → Type 0 = λ rows. IsInSharpSync beside x.params flutter beyond f.even.told.rows rows in
-      subst Even (sym (evens_at double f.earlier f.even f.odd f.is)) (subst Odd (sym (odds_at double f.earlier f.even f.odd f.is)) (sync_in double beyond s f.earlier f.even f.odd f.is))
+  sync_of_members = members_in_sync x flutter h timed beside
 
   sync_active : (double : ℕ) (beyond : ℤ)
       → IsInSharpSync beside x.params flutter beyond (map (λ (node : Member). node.even) (members_at x h double)) (map (λ (node : Member). node.odd) (members_at x h double)) → BeginsActive h double
-  sync_active double beyond sync earlier even odd d =
-      let Are : List NodeRow → Type 0 = λ rows. All (λ (row : NodeRow). row.state ≡ Active) rows in
-      (subst Are (evens_at double earlier even odd d) sync.active_even, subst Are (odds_at double earlier even odd d) sync.active_odd)
+  sync_active = active_in_sync x flutter h timed beside
 
   -- what the law of many double cycles says of one, in the history
   pub stays_at : (double passed : ℕ) → double + passed < x.doubles → StaysInSharpSync beside x.params flutter (λ k. members_at x h (double + k)) passed
@@ -325,7 +198,7 @@ module _ (beside : Bool) (x : Setting) (flutter : ℕ) (h : Cycles) (w : IsStead
       → StaysInSharpSyncAt beside x flutter h double passed
   keeps_sync double checks sync passed within =
       let p : Values = x.params in
-      let sane : IsSane p = w.covered.sane in
+      let sane : IsSane p = w.covered.timed.sane in
       let near = sharp_near beside p flutter in
       let starts : ℕ → ℕ = λ k. sharp_pi beside p flutter in
       let lengths : ℕ → ℕ = λ k. sharp_lambda beside p flutter in
@@ -360,7 +233,7 @@ module _ (beside : Bool) (x : Setting) (flutter : ℕ) (h : Cycles) (w : IsStead
       omega (arith, below, whole)
 
   can_walk : CanWalk x.params flutter beyond (rate_walk x.params flutter)
-  can_walk = record { bounds = walk_is_bounded x.params flutter w.covered.sane; suffices = walks }
+  can_walk = record { bounds = walk_is_bounded x.params flutter w.covered.timed.sane; suffices = walks }
 
   own_sync : IsInSharpSync beside x.params flutter beyond (map (λ (node : Member). node.even) (members_at x h double)) (map (λ (node : Member). node.odd) (members_at x h double))
   own_sync = sync_of_members beside x flutter h w double beyond within sync
@@ -370,16 +243,16 @@ module _ (beside : Bool) (x : Setting) (flutter : ℕ) (h : Cycles) (w : IsStead
 
   heard : IsSharpDouble beside x.params flutter (senders_at x h double) (members_at x h double) (pos (last_action x.params))
   heard =
-      let suffice = sharp_checks_suffice_lem x.params flutter near w.covered.sane checks in
+      let suffice = sharp_checks_suffice_lem x.params flutter near w.covered.timed.sane checks in
       heard_with beside x flutter h w double beyond (pos near) within suffice.0 suffice.1 suffices active own_sync.rows.about
-      (acting_with beside x flutter h w double (sharp_pi beside x.params flutter) (sharp_lambda beside x.params flutter) beyond near within can_walk suffices suffice.0 (le_itself near) own_sync.rows)
+      (acting_with x flutter h (timed beside x flutter h w) double (sharp_pi beside x.params flutter) (sharp_lambda beside x.params flutter) beyond near within can_walk suffices suffice.0 (le_itself near) own_sync.rows)
     where
       le_itself : (n : ℕ) → n ≤ n
       le_itself n = omega arith
 
   stay : (one other : Member) → Contains (members_at x h double) one → Contains (members_at x h double) other → StaySharp beside x.params flutter next one other
   stay =
-      sharp_sync_is_kept_lem beside x.params flutter (senders_at x h double) (members_at x h double) beyond (rate_walk x.params flutter) next w.covered.sane checks can_walk from takes own_sync heard
+      sharp_sync_is_kept_lem beside x.params flutter (senders_at x h double) (members_at x h double) beyond (rate_walk x.params flutter) next w.covered.timed.sane checks can_walk from takes own_sync heard
 
   uncut : AllUncut (members_at x h double)
   uncut =
@@ -395,7 +268,7 @@ module _ (beside : Bool) (x : Setting) (flutter : ℕ) (h : Cycles) (w : IsStead
       let f = found_at beside x flutter h w (suc double) later in
       let goes = next_at beside x flutter h w double active uncut f.earlier f.even f.odd f.is in
       let is =
-      next_is_in_sharp_sync beside x.params flutter (senders_at x h double) (members_at x h double) beyond (rate_walk x.params flutter) next goes.next_even goes.next_odd w.covered.sane checks can_walk from takes
+      next_is_in_sharp_sync beside x.params flutter (senders_at x h double) (members_at x h double) beyond (rate_walk x.params flutter) next goes.next_even goes.next_odd w.covered.timed.sane checks can_walk from takes
       own_sync heard goes.followed in
       let Even : List NodeRow → Type 0 = λ rows. IsInSharpSync beside x.params flutter next rows (map goes.next_odd (members_at x h double)) in
       let Odd : List NodeRow → Type 0 = λ rows. IsInSharpSync beside x.params flutter next (map (λ (node : Member). node.even) (members_at x h (suc double))) rows in

@@ -79,19 +79,21 @@ regular said beside sender cycle receiver there = let correct = (correct_node (s
 
 covered : (said : Said) (beside : Bool) → IsSteadySetting (steady_run said beside) 0
 covered said beside = record {
-  sane = is_sane;
-  few = few said beside;
-  least = λ some cycle there within. least_micro (some.id == 1) (some.id == 2);
-  most = λ some cycle there within. most_micro (some.id == 1) (some.id == 2);
-  changes = λ some cycle there within. itself (micro_by (some.id == 1) (some.id == 2));
-  delays = λ sender receiver slot channel cycle linked share within. stated_delay channel (cycle / 2 % 2 == 0);
-  links = λ sender receiver slot double linked within. record {
+  timed = record {
+    sane = is_sane;
+    few = few said beside;
+    least = λ some cycle there within. least_micro (some.id == 1) (some.id == 2);
+    most = λ some cycle there within. most_micro (some.id == 1) (some.id == 2);
+    changes = λ some cycle there within. itself (micro_by (some.id == 1) (some.id == 2));
+    delays = λ sender receiver slot channel cycle linked share within. stated_delay channel (cycle / 2 % 2 == 0);
+    flutters = flutters said beside;
+  };
+  links = λ double within sender receiver slot linked. record {
     channel = A;
     share = record { by_sender = on_a said beside sender linked.sends; by_receiver = on_a said beside receiver linked.hears };
     even = regular said beside sender (2 * double) receiver.id linked.sends;
     odd = regular said beside sender (suc (2 * double)) receiver.id linked.sends;
   };
-  flutters = flutters said beside;
 }
 
 may : (said : Said) (beside : Bool) → MayHaveArbitrary beside (steady_run said beside)
@@ -217,19 +219,21 @@ walking_on_a some there =
 
 walking_covered : IsSteadySetting walking_run 10_000_000
 walking_covered = record {
-  sane = is_sane;
-  few = inl (refl, lit≤ tt);
-  least = λ some cycle there within. least_micro (some.id == 1) (some.id == 2);
-  most = λ some cycle there within. most_micro (some.id == 1) (some.id == 2);
-  changes = λ some cycle there within. itself (micro_by (some.id == 1) (some.id == 2));
-  delays = λ sender receiver slot channel cycle linked share within. stated_delay channel (cycle % 2 == 0);
-  links = λ sender receiver slot double linked within. record {
+  timed = record {
+    sane = is_sane;
+    few = inl (refl, lit≤ tt);
+    least = λ some cycle there within. least_micro (some.id == 1) (some.id == 2);
+    most = λ some cycle there within. most_micro (some.id == 1) (some.id == 2);
+    changes = λ some cycle there within. itself (micro_by (some.id == 1) (some.id == 2));
+    delays = λ sender receiver slot channel cycle linked share within. stated_delay channel (cycle % 2 == 0);
+    flutters = walking_flutters;
+  };
+  links = λ double within sender receiver slot linked. record {
     channel = A;
     share = record { by_sender = walking_on_a sender linked.sends; by_receiver = walking_on_a receiver linked.hears };
     even = refl;
     odd = refl;
   };
-  flutters = walking_flutters;
 }
 
 walking_setting : IsSetting walking_run

@@ -110,20 +110,20 @@ nodes_near p starts lengths beyond nodes double one other here there =
       by_odd = odd_lengths_follow p lengths one.even one.odd other.even other.odd double.sane (double.regular one here) (double.regular other there) evens;
     }
 
-node_about : (p : Values) (starts lengths : ℕ) (beyond : ℤ) (nodes : List Member) → Double p starts lengths beyond nodes → (node : Member) → Contains nodes node
+pub node_about : (p : Values) (starts lengths : ℕ) (beyond : ℤ) (nodes : List Member) → Double p starts lengths beyond nodes → (node : Member) → Contains nodes node
     → IsAboutCycle p beyond (cycle_length_of p node.even)
 node_about p starts lengths beyond nodes double node here =
     All-contains (λ (node : Member). IsAboutCycle p beyond (cycle_length_of p node.even)) nodes node
     (unmapped (λ row. IsAboutCycle p beyond (cycle_length_of p row)) (λ (node : Member). node.even) nodes double.sharp.about) here
 
 -- the rows of a sender and of a node, and of two senders
-sender_near : (p : Values) (starts lengths : ℕ) (beyond : ℤ) (nodes : List Member) → Double p starts lengths beyond nodes → (sender : Sender) (node : Member) → IsAmong nodes sender → Contains nodes node
+pub sender_near : (p : Values) (starts lengths : ℕ) (beyond : ℤ) (nodes : List Member) → Double p starts lengths beyond nodes → (sender : Sender) (node : Member) → IsAmong nodes sender → Contains nodes node
     → LieNear p (pos starts) (pos lengths) (pos (odd_spread p lengths)) sender.even sender.odd node.even node.odd
 sender_near p starts lengths beyond nodes double sender node among there =
     among_rows (λ even odd. LieNear p (pos starts) (pos lengths) (pos (odd_spread p lengths)) even odd node.even node.odd) nodes sender among
     (λ one here. nodes_near p starts lengths beyond nodes double one node here there)
 
-senders_near : (p : Values) (starts lengths : ℕ) (beyond : ℤ) (nodes : List Member) → Double p starts lengths beyond nodes → (one other : Sender) → IsAmong nodes one → IsAmong nodes other
+pub senders_near : (p : Values) (starts lengths : ℕ) (beyond : ℤ) (nodes : List Member) → Double p starts lengths beyond nodes → (one other : Sender) → IsAmong nodes one → IsAmong nodes other
     → LieNear p (pos starts) (pos lengths) (pos (odd_spread p lengths)) one.even one.odd other.even other.odd
 senders_near p starts lengths beyond nodes double one other among also =
     among_rows (λ even odd. LieNear p (pos starts) (pos lengths) (pos (odd_spread p lengths)) one.even one.odd even odd) nodes other also
@@ -158,7 +158,7 @@ actions_lie_in_reach p flutter starts lengths beyond walk reach last action is_o
 
 -- ---- senders and receivers of a list
 
-acts_in_cycle : (last early action : ℤ) → last ≤ℤ early → IsBetween (pos 0) last action → (pos 0 ≤ℤ action) × (action ≤ℤ early)
+pub acts_in_cycle : (last early action : ℤ) → last ≤ℤ early → IsBetween (pos 0) last action → (pos 0 ≤ℤ action) × (action ≤ℤ early)
 acts_in_cycle last early action le between = (between.low, omega (arith, ints, between.high))
 
 pub send_apart : (beside : Bool) (p : Values) (flutter : ℕ) (senders : List Sender) (nodes : List Member) (starts lengths : ℕ) (beyond walk reach last : ℤ) → IsSharpLimit p flutter beyond walk reach last

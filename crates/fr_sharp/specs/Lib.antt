@@ -1,6 +1,7 @@
 -- what the public contract cites
 pub mod DrivenRun
 pub mod Ends
+pub mod Among
 pub mod FarRun
 pub mod Flutter
 pub mod HaltingRun
@@ -8,6 +9,7 @@ pub mod Hearing
 pub mod JoinedFiles
 pub mod JoinedHistories
 pub mod Lengths
+pub mod Losses
 pub mod LongRun
 pub mod Nearness
 pub mod ReachedRun

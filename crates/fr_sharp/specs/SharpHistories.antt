@@ -28,10 +28,16 @@ use Rattle.fr_sharp.specs.SharpBounds.{last_action, near_by, rate_walk, sharp_ne
 use Rattle.fr_sharp.specs.SharpChecks.{sharp_holds_of, RateSuffices, SharpChecksHold}
 use Rattle.fr_sharp.specs.SharpRun.{AreSharpDoubles, WalkLastsAfter, WalkLastsUpTo}
 use Rattle.fr_sharp.specs.SharpStep.{IsInSharpSync}
-use Rattle.fr_sharp.specs.SteadyRuns.{row_members, IsSteadySetting, MayHaveArbitrary}
+use Rattle.fr_sharp.specs.SteadyRuns.{row_members, IsSteadySetting, IsTimedSetting, MayHaveArbitrary}
 
--- a whole lawful history of a run that no node joins, with or without arbitrary sync nodes, and what is stated of the run besides
--- its checks
+-- a whole lawful history of a run that no node joins, in which frames may be lost, and what is stated of the run besides its checks
+pub record IsTimedRun (x : Setting) (flutter : ℕ) (h : Cycles) : Type 0 where
+  pub covered : IsTimedSetting x flutter
+  pub none_joins : some_joins x ≡ false
+  pub lawful : IsLawful x h
+  pub whole : length h ≡ 2 * x.doubles
+
+-- one in which all is heard, with or without arbitrary sync nodes
 pub record IsSteadyRun (beside : Bool) (x : Setting) (flutter : ℕ) (h : Cycles) : Type 0 where
   pub covered : IsSteadySetting x flutter
   pub arbitrary : MayHaveArbitrary beside x

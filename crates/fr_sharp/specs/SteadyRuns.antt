@@ -26,10 +26,9 @@ use Rattle.fr_sharp.specs.SharpBounds.{last_action}
 use Rattle.fr_sharp.specs.SharpRound.{as_member, IsRoundInReach, IsSteadilySupplied}
 use Rattle.fr_sharp.specs.SharpStep.{ActInReach, IsSharpDouble}
 
--- what is stated of a run besides its checks: the correct sync nodes that do not join outweigh the arbitrary ones; oscillators,
--- their changes and delays keep within bounds; of any two nodes one channel carries the frames of both cycles of each double
--- cycle; and delays flutter by no more than this
-pub record IsSteadySetting (x : Setting) (flutter : ℕ) : Type 0 where
+-- what is stated of a run besides its checks, whatever frames are lost in it: the correct sync nodes that do not join outweigh
+-- the arbitrary ones; oscillators, their changes and delays keep within bounds; and delays flutter by no more than this
+pub record IsTimedSetting (x : Setting) (flutter : ℕ) : Type 0 where
   pub sane : IsSane x.params
   pub few :
       AreFew (sync_count x.params (λ node. is_correct x node && stays_on x node))
@@ -44,17 +43,29 @@ pub record IsSteadySetting (x : Setting) (flutter : ℕ) : Type 0 where
       (node : NodeSpec) (cycle : ℕ) → Contains (correct_nodes x) node → suc cycle < 2 * x.doubles
       → IsWithin (pos (amount x.params name.xChangeBound)) (x.microtick node.id (suc cycle) -ℤ x.microtick node.id cycle)
   pub delays : DelaysAreStated x
-  pub links :
-      (sender receiver : NodeSpec) (slot double : ℕ)
-      → IsLinked x sender receiver slot → double < x.doubles → IsCarried x sender receiver double
   pub flutters : FluttersWithin x flutter
+
+-- of any two nodes one channel carries the frames of both cycles of a double cycle
+abbrev pub IsWhole : Setting → ℕ → Type 0
+IsWhole x double = (sender receiver : NodeSpec) (slot : ℕ) → IsLinked x sender receiver slot → IsCarried x sender receiver double
+
+-- and where that is so in each double cycle
+pub record IsSteadySetting (x : Setting) (flutter : ℕ) : Type 0 where
+  pub timed : IsTimedSetting x flutter
+  pub links : (double : ℕ) → double < x.doubles → IsWhole x double
 
 -- a run that is covered in the older sense is such a one, if its delays flutter no more
 abbrev pub CoveredRunsAreSteady : Type 0
 CoveredRunsAreSteady =
     (x : Setting) (flutter : ℕ) → IsCoveredByFiles x → FluttersWithin x flutter → IsSteadySetting x flutter
 
--- lawful cycles of such a run: all that it has, or those up to one of them
+-- lawful cycles of a run in which frames may be lost: all that it has, or those up to one of them
+pub record IsTimedPart (x : Setting) (flutter : ℕ) (h : Cycles) : Type 0 where
+  pub covered : IsTimedSetting x flutter
+  pub lawful : IsLawful x h
+  pub within : length h ≤ 2 * x.doubles
+
+-- and of a steady one
 pub record IsSteadyPart (x : Setting) (flutter : ℕ) (h : Cycles) : Type 0 where
   pub covered : IsSteadySetting x flutter
   pub lawful : IsLawful x h

@@ -6,6 +6,7 @@
 //! form too, and runs that lose it where a check fails.
 #![tactic(auto)]
 
+mod among;
 mod arbitrary;
 mod bounding;
 mod bounds;
@@ -28,6 +29,7 @@ mod lasting;
 mod lengths;
 mod listening;
 mod long_run;
+mod losing;
 mod nearness;
 mod reached_run;
 mod runs_flutter;
@@ -40,6 +42,7 @@ mod traces;
 mod way;
 mod worked_run;
 
+pub use among::{losses_cost, losses_last, lost_numbers, nodes_come_among};
 pub use arbitrary::has_arbitrary;
 pub use bounding::{SharpValues, sharp_bounds, sharp_lasts};
 pub use bounds::{sharp_bounds_are_below, sharp_checks_suffice, walks_are_bounded};
@@ -65,6 +68,7 @@ pub use lasting::sharp_sync_lasts;
 pub use lengths::{lengths_come_near, ranges_walk};
 pub use listening::listeners_come_near;
 pub use long_run::a_long_walk;
+pub use losing::{histories_keep_through_losses, what_is_heard_suffices};
 pub use nearness::nodes_lie_near;
 pub use reached_run::the_sharper_precision_is_reached;
 pub use runs_flutter::stated_delays_flutter;

@@ -1,0 +1,8 @@
+use Rattle.fr_sharp.proofs.LostHistories.{histories_keep_through_losses_lem, sharp_after_two_whole}
+use Rattle.fr_sharp.proofs.losing.histories_keep_through_losses.Goals as goal
+
+pub returns-clause-keep : goal.returns-clause-keep
+returns-clause-keep c = histories_keep_through_losses_lem
+
+pub returns-clause-again : goal.returns-clause-again
+returns-clause-again c = sharp_after_two_whole

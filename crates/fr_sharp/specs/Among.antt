@@ -1,0 +1,194 @@
+-- What two receivers make of the values of senders of whom each has heard its own: whatever was lost on the way.
+use Rattle.std.specs.Prelude.{◌≡◌, ◌⊎◌, ◌+◌, ◌*◌, ◌≤◌, ◌<◌, ℕ, zero, suc, Bool, ℤ, pos, ◌+ℤ◌, ◌-ℤ◌, ◌*ℤ◌, ◌≤ℤ◌, true, false, List, length, map, All, Contains}
+use Rattle.fr_base.specs.declared.node_row.NodeRow.{NodeRow}
+use Rattle.fr_base.specs.Within.{IsBetween, IsWithin}
+use Rattle.fr_cluster.specs.Values.{Values, amount}
+use Rattle.fr_cluster.specs.Sane.{IsSane}
+use Rattle.fr_cluster.specs.declared.names.ParamName.TheVariants as name
+use Rattle.fr_correct.specs.declared.term.Term.{Term}
+use Rattle.fr_bound.specs.Bounds.{arrival_error, cycle_change, longest_micro}
+use Rattle.fr_bound.specs.Sync.{cycle_length_of}
+use Rattle.fr_precision.specs.Rows.{corrected_end_of, Sender}
+use Rattle.fr_time.specs.Position.{floor_of}
+use Rattle.fr_bound.specs.Checks.{holds_of}
+use Rattle.fr_precision.specs.Instants.{gap_of, row_in}
+use Rattle.fr_precision.specs.Offsets.{IsOffsetRound, IsSending, LimitSuffices, NearAll}
+use Rattle.fr_precision.specs.Placement.{IsRegular}
+use Rattle.fr_precision.specs.Step.{IsAmong, Member}
+use Rattle.fr_sharp.specs.SharpBounds.{odd_spread, precision_by, sharp_lambda, sharp_pi, sharp_precision, steady_error}
+use Rattle.fr_bound.specs.declared.settling.Spread.{Spread}
+use Rattle.fr_sharp.specs.SharpSettling.{next_sharp_spread, IsSharplySettled}
+use Rattle.fr_sharp.specs.Lengths.{CanWalk, EvensAreAbout, IsNextEven, IsSteadyRound}
+use Rattle.fr_sharp.specs.Ends.{TakesOffsets}
+use Rattle.fr_sharp.specs.SharpRun.{AllUncut, BeginSharp, IsNextDouble, KeepsSharp, WalkLastsAfter}
+use Rattle.fr_sharp.specs.SharpStep.{ActInReach, AreSharp, ComeSharply, DrawsTo, IsSharpDouble, IsSharpLimit}
+
+-- some number of each of some senders lies at most so far from that of each of others
+abbrev pub LieAcross : (Sender → ℤ) → ℤ → List Sender → List Sender → Type 0
+LieAcross number bound senders other_senders = All (λ one. All (λ other. IsWithin bound (number one -ℤ number other)) other_senders) senders
+
+-- two receivers of whom each has values of some senders: their next even lengths lie no further apart than those of the senders, and
+-- twice the error, the damping and the change
+abbrev pub LengthsComeAmong : Type 0
+LengthsComeAmong =
+    (p : Values) (flutter : ℕ) (senders other_senders : List Sender) (spread beyond walk : ℤ) (row other_row : NodeRow)
+    (values other_values : List ℤ) (term other_term : Term) (even other_even : NodeRow)
+    → IsSane p → CanWalk p flutter beyond walk → 1 ≤ length senders → 1 ≤ length other_senders
+    → EvensAreAbout p beyond senders → EvensAreAbout p beyond other_senders
+    → LieAcross (λ sender. cycle_length_of p sender.even) spread senders other_senders
+    → IsSteadyRound p flutter senders row values term → IsSteadyRound p flutter other_senders other_row other_values other_term
+    → IsNextEven p row term even → IsNextEven p other_row other_term other_even
+    → IsWithin
+    (spread +ℤ pos (2 * steady_error p flutter + 2 * (amount p name.pClusterDriftDamping * longest_micro p) + 2 * cycle_change p))
+    (cycle_length_of p even -ℤ cycle_length_of p other_even)
+
+-- and their corrected ends no further than the starts of the senders and the lengths of both cycles, and some
+abbrev pub EndsComeAmong : Type 0
+EndsComeAmong =
+    (p : Values) (senders other_senders : List Sender) (starts evens odds reach other_reach : ℤ) (row other_row : NodeRow)
+    (values other_values : List ℤ) (term other_term : Term)
+    → IsSane p → 1 ≤ length senders → 1 ≤ length other_senders
+    → All (IsSending p) senders → All (IsSending p) other_senders
+    → LieAcross (λ sender. sender.even.start) starts senders other_senders
+    → LieAcross (λ sender. cycle_length_of p sender.even) evens senders other_senders
+    → LieAcross (λ sender. cycle_length_of p sender.odd) odds senders other_senders
+    → TakesOffsets p senders reach odds row values term → TakesOffsets p other_senders other_reach odds other_row other_values other_term
+    → NearAll p odds other_senders row → NearAll p odds senders other_row
+    → IsWithin odds (cycle_length_of p row -ℤ cycle_length_of p other_row)
+    → IsWithin
+    (starts +ℤ evens +ℤ odds +ℤ pos (2 * arrival_error p + 3 * longest_micro p))
+    (corrected_end_of p row -ℤ corrected_end_of p other_row)
+
+-- ---- a double cycle in which anything may be lost
+
+-- how far starts and even lengths may lie apart behind it
+abbrev pub lost_starts : Values → ℕ → ℕ → ℕ
+lost_starts p starts lengths = starts + lengths + odd_spread p lengths + 2 * arrival_error p + 3 * longest_micro p
+
+abbrev pub lost_lengths : Values → ℕ → ℕ → ℕ
+lost_lengths p flutter lengths =
+    lengths + (2 * steady_error p flutter + 2 * (amount p name.pClusterDriftDamping * longest_micro p) + 2 * cycle_change p)
+
+-- a node with regular rows has values of some of the nodes that send, offsets of some and rates of some, and of nobody else more than it
+-- discards; it computes its terms from them
+pub record ComputesOwn (p : Values) (flutter : ℕ) (nodes : List Member) (last : ℤ) (node : Member) : Type 0 where
+  pub regular : IsRegular p node.even node.odd
+  pub offset_senders : List Sender
+  pub rate_senders : List Sender
+  pub some_offsets : 1 ≤ length offset_senders
+  pub some_rates : 1 ≤ length rate_senders
+  pub offsets_among : All (IsAmong nodes) offset_senders
+  pub rates_among : All (IsAmong nodes) rate_senders
+  pub acts : All (λ sender. IsBetween (pos 0) last sender.action) offset_senders
+  pub by_offset : IsOffsetRound p offset_senders node.odd node.offsets node.offset_term
+  pub by_rate : IsSteadyRound p flutter rate_senders node.odd node.rates node.rate_term
+
+-- any two nodes come so near, whatever each of them has heard
+abbrev pub LostSpreadsGrow : Type 0
+LostSpreadsGrow =
+    (p : Values) (flutter : ℕ) (nodes : List Member) (starts lengths next_starts next_lengths : ℕ) (beyond walk next reach last : ℤ) (one other : Member)
+    → IsSharpLimit p flutter beyond walk reach last → ActInReach p reach last nodes → pos 0 ≤ℤ next → (beyond +ℤ walk) ≤ℤ next
+    → lost_starts p starts lengths ≤ next_starts → lost_lengths p flutter lengths ≤ next_lengths
+    → AreSharp p starts lengths beyond (map (λ node. node.even) nodes)
+    → ((node : Member) → Contains nodes node → ComputesOwn p flutter nodes last node)
+    → Contains nodes one → Contains nodes other → ComeSharply p next_starts next_lengths next one other
+
+-- what one such double cycle costs from sharp sync without arbitrary nodes: behind it macroticks lie no further apart than the sharper
+-- precision and four lambda, two errors of an arrival, two changes and a microtick; one double cycle later, where all is heard again,
+-- than it and lambda but for a microtick; and two later than the sharper precision
+abbrev pub OneLossCosts : Type 0
+OneLossCosts =
+    (p : Values) (flutter : ℕ)
+    → (precision_by p (lost_starts p (sharp_pi false p flutter) (sharp_lambda false p flutter)) (lost_lengths p flutter (sharp_lambda false p flutter))
+       ≡ sharp_precision false p flutter + 4 * sharp_lambda false p flutter + 2 * arrival_error p + 2 * cycle_change p + longest_micro p)
+    × (precision_by p (odd_spread p (lost_lengths p flutter (sharp_lambda false p flutter)) + 2 * arrival_error p + 3 * longest_micro p) (sharp_lambda false p flutter) + longest_micro p
+       ≡ sharp_precision false p flutter + sharp_lambda false p flutter)
+
+-- ---- many double cycles, in each of which all is heard or anything may be lost
+
+-- what is heard in one: all of all, without arbitrary nodes; or what there is
+abbrev pub HeardSo : Bool → Values → ℕ → List Sender → List Member → ℤ → Type 0
+HeardSo true p flutter senders nodes last = IsSharpDouble false p flutter senders nodes last
+HeardSo false p flutter senders nodes last = (node : Member) → Contains nodes node → ComputesOwn p flutter nodes last node
+
+-- how the numbers go on
+abbrev pub GoesTo : Bool → Values → ℕ → ℕ → ℕ → ℕ → ℕ → Type 0
+GoesTo true p flutter starts lengths next_starts next_lengths = DrawsTo false p flutter starts lengths next_starts next_lengths
+GoesTo false p flutter starts lengths next_starts next_lengths =
+    (lost_starts p starts lengths ≤ next_starts) × (lost_lengths p flutter lengths ≤ next_lengths)
+
+-- so many double cycles of some nodes, of each of which is said whether all is heard in it
+pub record AreLossyDoubles (p : Values) (flutter doubles : ℕ) (whole : ℕ → Bool) (starts lengths : ℕ → ℕ) (senders : ℕ → List Sender) (nodes : ℕ → List Member) (last : ℤ) : Type 0 where
+  pub sane : IsSane p
+  pub second : holds_of 2 p ≡ true
+  pub heard :
+      (k : ℕ) → k < doubles → WalkLastsAfter p flutter k → BeginSharp p flutter starts lengths nodes k
+      → HeardSo (whole k) p flutter (senders k) (nodes k) last
+  pub follows :
+      (k : ℕ) → suc k < doubles → WalkLastsAfter p flutter k → BeginSharp p flutter starts lengths nodes k → AllUncut (nodes k)
+      → IsNextDouble p (nodes k) (nodes (suc k))
+
+-- the numbers of them, and a reach that takes them in
+pub record GoInReach (p : Values) (flutter doubles : ℕ) (whole : ℕ → Bool) (starts lengths : ℕ → ℕ) (reach last : ℤ) : Type 0 where
+  pub goes : (k : ℕ) → GoesTo (whole k) p flutter (starts k) (lengths k) (starts (suc k)) (lengths (suc k))
+  pub suffices : LimitSuffices p reach
+  pub early : last ≤ℤ p.correction
+  pub fits :
+      (k : ℕ) → k < doubles
+      → (pos (starts k) +ℤ pos (lengths k) +ℤ floor_of (last *ℤ pos (odd_spread p (lengths k))) p.macros +ℤ pos (longest_micro p)) ≤ℤ reach
+
+-- nodes that begin so near keep to these numbers, whatever is lost where
+abbrev pub LossyDoublesKeep : Type 0
+LossyDoublesKeep =
+    (p : Values) (flutter doubles : ℕ) (whole : ℕ → Bool) (starts lengths : ℕ → ℕ) (senders : ℕ → List Sender) (nodes : ℕ → List Member)
+    (reach last : ℤ)
+    → AreLossyDoubles p flutter doubles whole starts lengths senders nodes last → GoInReach p flutter doubles whole starts lengths reach last
+    → AreSharp p (starts 0) (lengths 0) (pos 0) (map (λ node. node.even) (nodes 0))
+    → (k : ℕ) → k < doubles → KeepsSharp p flutter starts lengths nodes k
+
+-- and no macroticks lie further apart than the numbers of both ends say
+abbrev pub LossyDoublesStayApart : Type 0
+LossyDoublesStayApart =
+    (p : Values) (flutter doubles : ℕ) (whole : ℕ → Bool) (starts lengths : ℕ → ℕ) (senders : ℕ → List Sender) (nodes : ℕ → List Member)
+    (reach last : ℤ)
+    → AreLossyDoubles p flutter doubles whole starts lengths senders nodes last → GoInReach p flutter doubles whole starts lengths reach last
+    → AreSharp p (starts 0) (lengths 0) (pos 0) (map (λ node. node.even) (nodes 0))
+    → (k apart : ℕ) (one other : Member) (macrotick : ℤ) (is_odd : Bool) → k < doubles → WalkLastsAfter p flutter k
+    → precision_by p (starts k) (lengths k) ≤ apart → starts (suc k) + longest_micro p ≤ apart
+    → Contains (nodes k) one → Contains (nodes k) other → pos 0 ≤ℤ macrotick → macrotick ≤ℤ p.macros
+    → IsWithin (pos apart) (gap_of p is_odd macrotick (row_in is_odd one.even one.odd) (row_in is_odd other.even other.odd))
+
+-- ---- the numbers by what is heard, from sharp sync without arbitrary nodes on
+
+abbrev pub next_lost_spread : Bool → Values → ℕ → Spread → Spread
+next_lost_spread true p flutter s = next_sharp_spread false p flutter s
+next_lost_spread false p flutter s = record { starts = lost_starts p s.starts s.lengths; lengths = lost_lengths p flutter s.lengths }
+
+unfoldable pub lost_spread : Values → ℕ → (ℕ → Bool) → ℕ → Spread
+lost_spread p flutter whole zero = record { starts = sharp_pi false p flutter; lengths = sharp_lambda false p flutter }
+lost_spread p flutter whole (suc k) = next_lost_spread (whole k) p flutter (lost_spread p flutter whole k)
+
+-- they go on as the laws above ask for
+abbrev pub LostSpreadGoes : Type 0
+LostSpreadGoes =
+    (p : Values) (flutter : ℕ) (whole : ℕ → Bool) (k : ℕ)
+    → GoesTo (whole k) p flutter (lost_spread p flutter whole k).starts (lost_spread p flutter whole k).lengths
+    (lost_spread p flutter whole (suc k)).starts (lost_spread p flutter whole (suc k)).lengths
+
+-- after two double cycles in which all is heard they are those of sharp sync again, whatever came before
+abbrev pub HeardAgain : Type 0
+HeardAgain =
+    (p : Values) (flutter : ℕ) (whole : ℕ → Bool) (k : ℕ)
+    → whole k ≡ true → whole (suc k) ≡ true → IsSharplySettled false p flutter (lost_spread p flutter whole (suc (suc k)))
+
+-- where of any two adjacent ones all is heard in one, macroticks never lie further apart than this
+abbrev pub every_second : Values → ℕ → ℕ
+every_second p flutter = sharp_precision false p flutter + 5 * sharp_lambda false p flutter + 2 * arrival_error p + 2 * cycle_change p
+
+abbrev pub EverySecondCosts : Type 0
+EverySecondCosts =
+    (p : Values) (flutter : ℕ) (whole : ℕ → Bool)
+    → ((k : ℕ) → (whole k ≡ true) ⊎ (whole (suc k) ≡ true))
+    → (k : ℕ)
+    → (precision_by p (lost_spread p flutter whole k).starts (lost_spread p flutter whole k).lengths ≤ every_second p flutter)
+    × ((lost_spread p flutter whole (suc k)).starts + longest_micro p ≤ every_second p flutter)
