@@ -132,19 +132,29 @@ module _ (p : Values) (d : DriftView) (s : ScriptView) where
           let from = some_passes (λ (a : NodeSpec). is_link s a node && is_carried s a node double) p.nodes any in
           let both = and_parts (is_link s from.0 node) (is_carried s from.0 node double) from.2 in
           let link = linked from.0 node from.1 (correct_node (setting_of p d s) node among).there both.0 in
-          inr (from.0, link.0, link.1, carried p d s from.0 node double both.1)
+          inr (from.0, (link.0, link.1, carried p d s from.0 node double both.1))
 
       by_hearing : (is_arbitrary s node.id ≡ true) ⊎ ((is_sync node || list_any (λ (a : NodeSpec). is_link s a node && is_carried s a node double) p.nodes) ≡ true) → HearsSome (setting_of p d s) node double
-      by_hearing (inl arbitrary) = let e = sym (ap not arbitrary) ∙ (correct_node (setting_of p d s) node among).correct in absurd (cc)
+      by_hearing (inl arbitrary) = let e : true ≡ false = sym arbitrary ∙ (correct_node (setting_of p d s) node among).correct in absurd (cc)
       by_hearing (inr hears) = by_sender (or_cases (is_sync node) (list_any (λ (a : NodeSpec). is_link s a node && is_carried s a node double) p.nodes) hears)
 
 -- what is stated of oscillators and delays does not speak of what is lost
 same_times : (p : Values) (d : DriftView) (s : ScriptView) (flutter : ℕ) → IsTimedSetting (setting_of p d (without_losses s)) flutter → IsTimedSetting (setting_of p d s) flutter
 unfolding is_arbitrary join_of
-same_times p d s flutter t = record { sane = t.sane; few = t.few; least = t.least; most = t.most; changes = t.changes; delays = t.delays; flutters = t.flutters }
+same_times p d s flutter t = record {
+  sane = t.sane;
+  few = t.few;
+  least = t.least;
+  most = t.most;
+  changes = t.changes;
+  delays = λ sender receiver slot ch cycle link share within.
+      t.delays sender receiver slot ch cycle (record { sends = link.sends; hears = link.hears; key = link.key; other = link.other }) share within;
+  flutters = λ sender receiver slot ch double link share within.
+      t.flutters sender receiver slot ch double (record { sends = link.sends; hears = link.hears; key = link.key; other = link.other }) share within;
+}
 
 same_flutter : (p : Values) (d : DriftView) (s : ScriptView) → flutter_of p d (without_losses s) ≡ flutter_of p d s
-unfolding is_arbitrary
+unfolding is_arbitrary flutter_of
 same_flutter p d s = refl
 
 pub lossy_files_give_runs : LossyFilesGiveRuns

@@ -61,6 +61,7 @@ pub mod TraceCycles
 pub mod TraceSettles
 pub mod TraceWorked
 pub mod JoinBounds
+pub mod FromLossyFiles
 pub mod JoinWorked
 pub mod SharpListened
 pub mod SharpGrouped

@@ -10,6 +10,7 @@ pub mod JoinedFiles
 pub mod JoinedHistories
 pub mod Lengths
 pub mod Losses
+pub mod LossStatement
 pub mod LongRun
 pub mod Nearness
 pub mod ReachedRun
