@@ -128,9 +128,10 @@ holds p flutter whole one (suc k) = by (holds p flutter whole one k)
     by (inr (stirred, is)) = inl (calm_by is (stirred_long p flutter (lost_spread p flutter whole k) stirred))
 
 calm_apart : (p : Values) (flutter : ℕ) (s : Spread) → IsCalm p flutter s → (precision_by p s.starts s.lengths ≤ every_second p flutter) × (s.starts + longest_micro p ≤ every_second p flutter)
-calm_apart p flutter s calm =
-    (step s.starts s.lengths (sharp_pi false p flutter) (sharp_lambda false p flutter) (longest_micro p) (cycle_change p) (arrival_error p) calm.start calm.long,
-     also s.starts (sharp_pi false p flutter) (sharp_lambda false p flutter) (longest_micro p) (cycle_change p) (arrival_error p) calm.start)
+calm_apart p flutter s calm = (
+  step s.starts s.lengths (sharp_pi false p flutter) (sharp_lambda false p flutter) (longest_micro p) (cycle_change p) (arrival_error p) calm.start calm.long,
+  also s.starts (sharp_pi false p flutter) (sharp_lambda false p flutter) (longest_micro p) (cycle_change p) (arrival_error p) calm.start,
+)
   where
     step : (s l pi lam q j e : ℕ) → s + q ≤ pi + lam → l ≡ lam → s + l + (l + 2 * j) + 2 * q ≤ (pi + lam + (lam + 2 * j) + 2 * q) + 5 * lam + 2 * e + 2 * j
     step s l pi lam q j e a b = omega (arith, a, b)
@@ -139,9 +140,10 @@ calm_apart p flutter s calm =
     also s pi lam q j e a = omega (arith, a)
 
 stirred_apart : (p : Values) (flutter : ℕ) (s : Spread) → IsStirred p flutter s → (precision_by p s.starts s.lengths ≤ every_second p flutter) × (s.starts + longest_micro p ≤ every_second p flutter)
-stirred_apart p flutter s stirred =
-    (step s.starts s.lengths (sharp_pi false p flutter) (sharp_lambda false p flutter) (longest_micro p) (cycle_change p) (arrival_error p) stirred.start stirred.long,
-     also s.starts (sharp_pi false p flutter) (sharp_lambda false p flutter) (steady_error p flutter) (longest_micro p) (amount p name.pClusterDriftDamping * longest_micro p) (cycle_change p) (arrival_error p) stirred.start (lambda_is p flutter))
+stirred_apart p flutter s stirred = (
+  step s.starts s.lengths (sharp_pi false p flutter) (sharp_lambda false p flutter) (longest_micro p) (cycle_change p) (arrival_error p) stirred.start stirred.long,
+  also s.starts (sharp_pi false p flutter) (sharp_lambda false p flutter) (steady_error p flutter) (longest_micro p) (amount p name.pClusterDriftDamping * longest_micro p) (cycle_change p) (arrival_error p) stirred.start (lambda_is p flutter),
+)
   where
     step : (s l pi lam q j e : ℕ) → s + q ≤ pi + 3 * lam + 2 * j + 2 * e + 3 * q → l + q ≡ 2 * lam → s + l + (l + 2 * j) + 2 * q ≤ (pi + lam + (lam + 2 * j) + 2 * q) + 5 * lam + 2 * e + 2 * j
     step s l pi lam q j e a b = omega (arith, a, b)

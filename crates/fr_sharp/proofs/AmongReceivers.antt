@@ -1,6 +1,6 @@
 -- Two receivers that have values of some senders each: their midpoints lie no further apart than any two of these values do.
-use Rattle.std.proofs.Common.{◌≡◌, ℕ, ◌≤◌, ◌<◌, ℤ, List, length, get_or, All, arith}
-use Rattle.std.specs.Prelude.{◌+ℤ◌, ◌-ℤ◌, ◌≤ℤ◌}
+use Rattle.std.proofs.Common.{ℤ, List, get_or, arith}
+use Rattle.std.specs.Prelude.{◌+ℤ◌, ◌-ℤ◌}
 use Rattle.std.proofs.lemmas.Int.{ints}
 use Rattle.fr_base.specs.Within.{IsBetween, IsWithin}
 use Rattle.fr_midpoint.specs.Midpoint.{IsMidpoint}

@@ -1,8 +1,7 @@
 -- The step of a double cycle in which anything may be lost.
-use Rattle.std.proofs.Common.{◌≡◌, ℕ, ◌+◌, ◌*◌, ◌≤◌, ℤ, pos, true, false, List, length, map, All, refl, arith}
-use Rattle.std.specs.Prelude.{◌+ℤ◌, ◌-ℤ◌, ◌≤ℤ◌, Contains}
+use Rattle.std.proofs.Common.{◌≡◌, ℕ, ◌+◌, ◌*◌, ◌≤◌, ℤ, pos, true, false, List, All, refl, arith}
+use Rattle.std.specs.Prelude.{◌+ℤ◌, ◌-ℤ◌, Contains}
 use Rattle.std.proofs.lemmas.Int.{ints}
-use Rattle.fr_base.specs.declared.node_row.NodeRow.{NodeRow}
 use Rattle.fr_base.specs.Within.{IsBetween, IsWithin}
 use Rattle.fr_cluster.specs.Values.{Values, amount}
 use Rattle.fr_cluster.specs.declared.names.ParamName.TheVariants as name
@@ -18,7 +17,7 @@ use Rattle.fr_precision.proofs.Senders.{All-along}
 use Rattle.fr_sharp.specs.SharpBounds.{odd_spread, sharp_lambda, steady_error}
 use Rattle.fr_sharp.specs.Ends.{TakesOffsets}
 use Rattle.fr_sharp.specs.SharpStep.{ActInReach, IsSharpLimit}
-use Rattle.fr_sharp.specs.Among.{lost_lengths, lost_starts, ComputesOwn, LieAcross, LostSpreadsGrow, OneLossCosts}
+use Rattle.fr_sharp.specs.Among.{ComputesOwn, LieAcross, LostSpreadsGrow, OneLossCosts}
 use Rattle.fr_sharp.proofs.EndLemmas.{ends_come_among_lem}
 use Rattle.fr_sharp.proofs.LengthLemmas.{lengths_come_among_lem, range_walks}
 use Rattle.fr_sharp.proofs.StepLemmas.{acts_in_cycle, among_rows, nodes_near, sender_near, senders_about, senders_near, turned, Double}
@@ -116,16 +115,17 @@ lost_spreads_grow p flutter nodes starts lengths next_starts next_lengths beyond
     }
 
 pub one_loss_costs : OneLossCosts
-one_loss_costs p flutter =
-    (peak (sharp_lambda false p flutter) (steady_error p flutter) (longest_micro p) (amount p name.pClusterDriftDamping * longest_micro p) (cycle_change p) (arrival_error p) refl,
-     later (sharp_lambda false p flutter) (steady_error p flutter) (longest_micro p) (amount p name.pClusterDriftDamping * longest_micro p) (cycle_change p) (arrival_error p) refl)
+one_loss_costs p flutter = (
+  peak (sharp_lambda false p flutter) (steady_error p flutter) (longest_micro p) (amount p name.pClusterDriftDamping * longest_micro p) (cycle_change p) (arrival_error p) refl,
+  later (sharp_lambda false p flutter) (steady_error p flutter) (longest_micro p) (amount p name.pClusterDriftDamping * longest_micro p) (cycle_change p) (arrival_error p) refl,
+)
   where
     peak : (l e q c j a : ℕ) → l ≡ 2 * e + q + 2 * c + 2 * j
         → ((((l + 2 * j) + 2 * a + 3 * q) + l + (l + 2 * j) + 2 * a + 3 * q) + (l + (2 * e + 2 * c + 2 * j)) + ((l + (2 * e + 2 * c + 2 * j)) + 2 * j) + 2 * q)
-          ≡ ((((l + 2 * j) + 2 * a + 3 * q) + l + (l + 2 * j) + 2 * q) + 4 * l + 2 * a + 2 * j + q)
+        ≡ ((((l + 2 * j) + 2 * a + 3 * q) + l + (l + 2 * j) + 2 * q) + 4 * l + 2 * a + 2 * j + q)
     peak l e q c j a is = omega (arith, is)
 
     later : (l e q c j a : ℕ) → l ≡ 2 * e + q + 2 * c + 2 * j
         → ((((l + (2 * e + 2 * c + 2 * j)) + 2 * j) + 2 * a + 3 * q) + l + (l + 2 * j) + 2 * q) + q
-          ≡ (((l + 2 * j) + 2 * a + 3 * q) + l + (l + 2 * j) + 2 * q) + l
+        ≡ (((l + 2 * j) + 2 * a + 3 * q) + l + (l + 2 * j) + 2 * q) + l
     later l e q c j a is = omega (arith, is)

@@ -148,7 +148,7 @@ takes_lengths : (beside : Bool) → 4_000_000 ≤ sharp_lambda beside steady_clu
 takes_lengths false = lit≤ tt
 takes_lengths true = lit≤ tt
 
-stated_near : (beside : Bool) → AreStatedNear (worked beside) (sharp_pi beside steady_cluster 250) (sharp_lambda beside steady_cluster 250)
+pub stated_near : (beside : Bool) → AreStatedNear (worked beside) (sharp_pi beside steady_cluster 250) (sharp_lambda beside steady_cluster 250)
 stated_near beside = record {
   starts = λ one other here there. wider_than 18_000_000 (sharp_pi beside steady_cluster 250) (start_in one -ℤ start_in other) (takes_starts beside) (pairs_pass start_in (pos 18_000_000) starts_near beside one other here there);
   lengths = λ one other here there. wider_than 4_000_000 (sharp_lambda beside steady_cluster 250) (length_in one -ℤ length_in other) (takes_lengths beside) (pairs_pass length_in (pos 4_000_000) lengths_near beside one other here there);

@@ -1,6 +1,6 @@
 -- The run that files decide where frames are lost: it is as the law of losses asks for, so it keeps to the numbers by what is heard.
-use Rattle.std.proofs.Common.{◌≡◌, ◌⊎◌, ℕ, zero, suc, ◌+◌, ◌*◌, ◌<◌, ◌≤◌, ◌==◌, Bool, true, false, not, ◌&&◌, ◌||◌, ℤ, pos, Option, Some, None, List, [], ◌∷◌, refl, ap, sym, ◌∙◌, subst, inl, inr, arith, add-one}
-use Rattle.std.specs.Prelude.{Contains, IsSome, is_some}
+use Rattle.std.proofs.Common.{◌≡◌, ◌⊎◌, ℕ, zero, suc, ◌+◌, ◌*◌, ◌<◌, ◌≤◌, ◌==◌, Bool, true, false, not, ◌&&◌, ◌||◌, Option, Some, None, List, [], ◌∷◌, refl, ap, sym, ◌∙◌, subst, inl, inr, arith, add-one}
+use Rattle.std.specs.Prelude.{Contains, is_some}
 use Rattle.std.specs.List.{list_all, list_any}
 use Rattle.std.proofs.lemmas.Bool.{and_parts, eq-eqb, ne_eqb, not-true, or_cases}
 use Rattle.fr_base.specs.Event.{Event}
@@ -11,8 +11,7 @@ use Rattle.fr_cluster.proofs.Elements.{kept_filtered, Contains-none}
 use Rattle.fr_cluster.proofs.KeyNodes.{Contains-cons_cases}
 use Rattle.fr_cluster.proofs.Elements.{Contains-here, Contains-there}
 use Rattle.fr_cluster.specs.Questions.{has_channel}
-use Rattle.fr_cluster.specs.Sane.{IsSane}
-use Rattle.fr_cluster.specs.Setting.{correct_nodes, is_correct}
+use Rattle.fr_cluster.specs.Setting.{is_correct}
 use Rattle.fr_cluster.specs.Values.{Values, amount}
 use Rattle.fr_cluster.specs.declared.names.ParamName.TheVariants as name
 use Rattle.fr_cluster.specs.declared.nodes.NodeSpec.{NodeSpec}
@@ -25,16 +24,13 @@ use Rattle.fr_script.specs.View.{ScriptView, is_arbitrary, join_of}
 use Rattle.fr_coverage.specs.Decided.{setting_of}
 use Rattle.fr_coverage.specs.Flutter.{flutter_of}
 use Rattle.fr_coverage.specs.Links.{is_carried, is_carried_on, is_free, is_link, is_regular, is_sync, shares}
-use Rattle.fr_history.specs.Cycles.{Cycles}
 use Rattle.fr_runs.specs.Links.{IsCarried, IsLinked}
 use Rattle.fr_runs.proofs.Nodes.{correct_node}
-use Rattle.fr_promise.specs.Statement.{IsRunOf}
-use Rattle.fr_sharp.specs.Among.{lost_lengths, lost_spread, lost_starts, next_lost_spread}
-use Rattle.fr_sharp.specs.Losses.{HearsSome, IsLossyRun, NoneIsDeaf}
-use Rattle.fr_sharp.specs.LossStatement.{hears_in, whole_in, without_losses, FilesKeepThroughLosses, IsCoveredThroughLosses, LaterIsNoFurther, LossyFilesGiveRuns}
-use Rattle.fr_sharp.specs.SharpBounds.{near_by, odd_spread, sharp_lambda, sharp_pi, steady_error}
+use Rattle.fr_sharp.specs.Among.{lost_spread, next_lost_spread}
+use Rattle.fr_sharp.specs.Losses.{HearsSome, NoneIsDeaf}
+use Rattle.fr_sharp.specs.LossStatement.{hears_in, whole_in, without_losses, CoveredFilesKeepThroughLosses, FilesKeepThroughLosses, LaterIsNoFurther, LossyFilesGiveRuns}
+use Rattle.fr_sharp.specs.SharpBounds.{sharp_lambda, sharp_pi, steady_error}
 use Rattle.fr_sharp.specs.SharpSettling.{sharply_near_in}
-use Rattle.fr_sharp.specs.SharpStatement.{has_arbitrary}
 use Rattle.fr_sharp.specs.SteadyRuns.{IsTimedSetting, IsWhole, MayHaveArbitrary}
 use Rattle.fr_sharp.proofs.FromFiles.{arbitrary_is_told, files_are_steady}
 use Rattle.fr_sharp.proofs.JoinBounds.{near_grows}
@@ -251,8 +247,8 @@ later_is_no_further p flutter whole double k = let below = later_below p flutter
 
 -- ---- the promise
 
-pub files_keep_through_losses_lem : FilesKeepThroughLosses
-files_keep_through_losses_lem p d s drift script flutter reach h double sane drift_file script_file covered run sync passed within before =
+pub covered_files_keep_through_losses : CoveredFilesKeepThroughLosses
+covered_files_keep_through_losses p d s flutter reach h double sane covered run sync passed within before =
     histories_keep_through_losses_lem (setting_of p d s) flutter (whole_in p s) h double reach (lossy_files_give_runs p d s flutter reach h sane covered run) covered.checks near sync passed within
     before
   where
@@ -264,3 +260,7 @@ files_keep_through_losses_lem p d s drift script flutter reach h double sane dri
         let grows = near_grows p now.starts now.lengths all.starts all.lengths sane below.start below.long in
         let le = covered.near (double + k) short in
         omega (arith, grows, le)
+
+pub files_keep_through_losses_lem : FilesKeepThroughLosses
+files_keep_through_losses_lem p d s drift script flutter reach h double sane drift_file script_file covered run sync passed within before =
+    covered_files_keep_through_losses p d s flutter reach h double sane covered run sync passed within before

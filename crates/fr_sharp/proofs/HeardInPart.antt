@@ -1,8 +1,8 @@
 -- What a receiver makes of the frames that came, whatever was lost: each value is that of a sender.
-use Rattle.std.proofs.Common.{◌≡◌, ◌⊎◌, ℕ, ◌+◌, ◌≤◌, ◌<◌, Bool, true, false, ◌&&◌, cond, ℤ, pos, Option, Some, None, List, [], ◌∷◌, ◌++◌, All, map, length, refl, ap, sym, ◌∙◌, subst, inl, inr, arith, if◌then◌else◌}
-use Rattle.std.specs.Prelude.{◌-ℤ◌, Contains, IsSome, is_some, int_lt, count_by}
+use Rattle.std.proofs.Common.{◌≡◌, ◌⊎◌, ℕ, ◌≤◌, Bool, true, false, ◌&&◌, cond, ℤ, pos, Option, Some, None, List, [], ◌∷◌, ◌++◌, All, map, length, refl, ap, sym, ◌∙◌, subst, inl, inr, arith, if◌then◌else◌}
+use Rattle.std.specs.Prelude.{◌-ℤ◌, Contains, is_some, int_lt, count_by}
 use Rattle.std.specs.Int.{int_min}
-use Rattle.std.specs.List.{cons_option, filter_map, range_with_len}
+use Rattle.std.specs.List.{range_with_len}
 use Rattle.std.proofs.lemmas.List.{length-append}
 use Rattle.std.proofs.lemmas.List.Sorted.{length_permutation}
 use Rattle.std.proofs.lemmas.Slice.Zip.{AllZip-long}
@@ -11,20 +11,18 @@ use Rattle.fr_base.specs.declared.channel.Channel.TheVariants.{A, B}
 use Rattle.fr_base.specs.declared.node_row.NodeRow.{NodeRow}
 use Rattle.fr_base.specs.Within.{IsBetween}
 use Rattle.fr_cluster.specs.Questions.{key_slot_of}
-use Rattle.fr_cluster.specs.Sane.{IsSane}
 use Rattle.fr_cluster.specs.declared.nodes.NodeSpec.{NodeSpec}
 use Rattle.fr_cluster.proofs.Elements.{Contains-none}
 use Rattle.fr_cluster.proofs.KeyNodes.{Contains-cons_cases}
 use Rattle.fr_time.specs.Senders.{key_node_of}
 use Rattle.fr_time.specs.Slots.{action_point_of}
 use Rattle.fr_time.proofs.Keys.{key_node_has, key_node_is}
-use Rattle.fr_midpoint.specs.Midpoint.{discarded, half_of_sum}
+use Rattle.fr_midpoint.specs.Midpoint.{half_of_sum}
 use Rattle.fr_midpoint.specs.Receivers.{Hears}
-use Rattle.fr_measure.specs.Values.{change_at, change_of, is_own, least_of, mean_of, offset_at, own_value_or, rate_at, values_of}
+use Rattle.fr_measure.specs.Values.{change_at, is_own, least_of, mean_of, offset_at, rate_at, values_of}
 use Rattle.fr_correct.proofs.There.{offset_term_is_there, rate_term_is_there}
 use Rattle.fr_precision.specs.Offsets.{IsDeviation}
-use Rattle.fr_precision.specs.Placement.{IsRegular}
-use Rattle.fr_precision.specs.Round.{offsets_of, rates_of, sender_at, sender_with, sync_count, Hearer, IsItself, IsOther, IsRound, IsSender, Round}
+use Rattle.fr_precision.specs.Round.{offsets_of, rates_of, sender_at, sender_with, sync_count, Hearer, IsRound, IsSender, Round}
 use Rattle.fr_precision.specs.Rows.{Sender}
 use Rattle.fr_precision.specs.Step.{IsAmong, Member}
 use Rattle.fr_precision.proofs.Counting.{count_cons, count_yes}
@@ -33,11 +31,11 @@ use Rattle.fr_precision.proofs.Parting.{parted, AreTold, IsParted}
 use Rattle.fr_precision.proofs.RoundSenders.{sender_found, sender_is, IsFrom}
 use Rattle.fr_precision.proofs.Values.{acts_before, change_from, other_of, other_value, own_value}
 use Rattle.fr_sharp.specs.Among.{ComputesOwn}
-use Rattle.fr_sharp.specs.Hearing.{AreSteadyPairs, IsHeardInPart}
-use Rattle.fr_sharp.specs.Losses.{heard_at, heard_of, IsRoundInPart, IsSuppliedInPart, RoundsInPartComputeOwn}
+use Rattle.fr_sharp.specs.Hearing.{IsHeardInPart}
+use Rattle.fr_sharp.specs.Losses.{heard_at, heard_of, IsSuppliedInPart, RoundsInPartComputeOwn}
 use Rattle.fr_sharp.specs.SharpBounds.{last_action}
 use Rattle.fr_sharp.specs.SharpRound.{as_member}
-use Rattle.fr_sharp.specs.Steady.{ActsRegularly, PlacesEven}
+use Rattle.fr_sharp.specs.Steady.{PlacesEven}
 use Rattle.fr_sharp.proofs.HearingLemmas.{acts_regularly, no_less}
 use Rattle.fr_sharp.proofs.RoundLemmas.{acts_early, all_given, map_contains, sender_among}
 use Rattle.fr_sharp.proofs.SteadyLemmas.{half_places_even, own_value_places_even, steady_values_place_lem}

@@ -1,5 +1,5 @@
 -- The files of the worked run whose delays flutter are sharply covered to join, where node 4 joins.
-use Rattle.std.proofs.Common.{◌≡◌, ℕ, zero, suc, ◌≤◌, Bool, true, false, None, refl, sym, subst, arith}
+use Rattle.std.proofs.Common.{◌≡◌, zero, suc, Bool, true, false, None, refl, sym, subst, arith}
 use Rattle.fr_coverage.specs.Coverage.{gap_of_run, some_join}
 use Rattle.fr_coverage.specs.First.{first_below, first_in}
 use Rattle.fr_coverage.specs.Flutter.{flutter_of, greatest_below, greatest_in}

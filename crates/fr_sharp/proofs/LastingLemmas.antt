@@ -26,7 +26,7 @@ use Rattle.fr_sharp.specs.Lengths.{walked_after}
 use Rattle.fr_sharp.specs.SharpSettling.{sharp_spread_after, sharply_apart_in, IsSharplySettled}
 use Rattle.fr_sharp.specs.SharpStep.{ActInReach, AreSharp, ComeSharply, ComputesSharply, DrawsTo, IsInSharpSync, IsSharpDouble, IsSharpReach, StaySharp}
 use Rattle.fr_sharp.specs.SharpRun.{lengths_from, starts_from, AllUncut, AreSharpDoubles, BeginSharp, BeginWithin, DrawInReach, IsNextDouble, KeepsSharp, KeepsToSpreads, SharpDoublesDraw, SharpSpreadsKeep, SharpSyncIsReached, SharpSyncLasts, StaysInSharpSync, WalkLastsAfter, WalkLastsUpTo}
-use Rattle.fr_sharp.specs.Among.{AreLossyDoubles, ComputesOwn, GoesTo, GoInReach, HeardSo, LossyDoublesKeep, LossyDoublesStayApart}
+use Rattle.fr_sharp.specs.Among.{AreLossyDoubles, GoesTo, GoInReach, HeardSo, LossyDoublesKeep, LossyDoublesStayApart}
 use Rattle.fr_sharp.proofs.AmongSteps.{lost_spreads_grow}
 use Rattle.fr_sharp.proofs.BoundLemmas.{floor_is, key_slots_act_early, sharp_checks_suffice_lem, walk_is_held, walked_none}
 use Rattle.fr_sharp.proofs.SettlingLemmas.{next_spread_draws, next_starts_fit, settled_stays}

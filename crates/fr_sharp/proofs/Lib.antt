@@ -62,6 +62,7 @@ pub mod TraceSettles
 pub mod TraceWorked
 pub mod JoinBounds
 pub mod FromLossyFiles
+pub mod LossesWorked
 pub mod JoinWorked
 pub mod SharpListened
 pub mod SharpGrouped

@@ -1,30 +1,26 @@
 -- A lawful history in which frames are lost keeps to the numbers by what was heard.
-use Rattle.std.proofs.Common.{◌≡◌, ℕ, zero, suc, ◌+◌, ◌-◌, ◌*◌, ◌<◌, ◌≤◌, Bool, true, false, ℤ, pos, List, All, map, refl, ap, sym, ◌∙◌, subst, lit≤, arith}
+use Rattle.std.proofs.Common.{◌≡◌, ℕ, suc, ◌+◌, ◌-◌, ◌*◌, ◌<◌, ◌≤◌, Bool, true, false, ℤ, pos, List, map, refl, sym, subst, lit≤, arith}
 use Rattle.std.specs.Prelude.{Contains, max}
-use Rattle.fr_base.specs.declared.node_row.NodeRow.{NodeRow}
 use Rattle.fr_cluster.specs.Sane.{IsSane}
 use Rattle.fr_cluster.specs.Setting.{Setting}
-use Rattle.fr_cluster.specs.Values.{Values, amount}
-use Rattle.fr_cluster.specs.declared.names.ParamName.TheVariants as name
-use Rattle.fr_bound.specs.Bounds.{arrival_error, cycle_change, longest_micro}
+use Rattle.fr_cluster.specs.Values.{Values}
+use Rattle.fr_bound.specs.Bounds.{longest_micro}
 use Rattle.fr_bound.specs.Checks.{holds_of}
-use Rattle.fr_bound.specs.declared.settling.Spread.{Spread}
 use Rattle.fr_precision.specs.Offsets.{LimitSuffices}
 use Rattle.fr_precision.specs.Reception.{LeavesRoom}
 use Rattle.fr_precision.specs.Rows.{Sender}
 use Rattle.fr_precision.specs.Step.{Member}
-use Rattle.fr_history.specs.Cycles.{Cycle, Cycles}
-use Rattle.fr_runs.specs.Rounds.{IsDoubleOf}
+use Rattle.fr_history.specs.Cycles.{Cycles}
 use Rattle.fr_sharp.specs.Among.{lost_spread, AreLossyDoubles, ComputesOwn, GoInReach, HeardSo}
 use Rattle.fr_sharp.specs.Lengths.{walked_after}
 use Rattle.fr_sharp.specs.Losses.{lost_apart, HistoriesKeepThroughLosses, IsLossyRun, SharpAfterTwoWhole}
-use Rattle.fr_sharp.specs.SharpBounds.{last_action, near_by, odd_spread, precision_by, sharp_lambda, sharp_pi, sharp_precision}
+use Rattle.fr_sharp.specs.SharpBounds.{last_action, odd_spread, precision_by, sharp_lambda, sharp_pi, sharp_precision}
 use Rattle.fr_sharp.specs.SharpChecks.{SharpChecksHold}
-use Rattle.fr_sharp.specs.SharpHistories.{members_at, senders_at, BeginsActive, IsInSharpSyncAt, IsTimedRun, KeepsApart}
-use Rattle.fr_sharp.specs.SharpRun.{AllUncut, BeginSharp, KeepsSharp, WalkLastsAfter}
+use Rattle.fr_sharp.specs.SharpHistories.{members_at, senders_at, BeginsActive, IsInSharpSyncAt, KeepsApart}
+use Rattle.fr_sharp.specs.SharpRun.{BeginSharp, WalkLastsAfter}
 use Rattle.fr_sharp.specs.SharpSettling.{sharply_near_in}
-use Rattle.fr_sharp.specs.SharpStep.{ActInReach, AreSharp, IsInSharpSync, IsSharpDouble}
-use Rattle.fr_sharp.specs.SteadyRuns.{row_members, AreRowsInReach, IsTimedPart}
+use Rattle.fr_sharp.specs.SharpStep.{ActInReach, AreSharp, IsInSharpSync}
+use Rattle.fr_sharp.specs.SteadyRuns.{AreRowsInReach}
 use Rattle.fr_sharp.proofs.AmongNumbers.{heard_again, lost_spread_goes}
 use Rattle.fr_sharp.proofs.BoundLemmas.{key_slots_act_early, sharp_checks_suffice_lem}
 use Rattle.fr_sharp.proofs.LastingLemmas.{lossy_doubles_keep, lossy_doubles_stay_apart, near_fits, up_to}
@@ -32,7 +28,7 @@ use Rattle.fr_sharp.proofs.RateRange.{walked_suffices}
 use Rattle.fr_sharp.proofs.RowsInPart.{rows_compute_own}
 use Rattle.fr_sharp.proofs.RunDoubles.{members_found}
 use Rattle.fr_sharp.proofs.RunSync.{none_cuts}
-use Rattle.fr_sharp.proofs.TimedRuns.{acting_of, active_in_sync, active_of, follows_of, found_of, heard_of, keeps_apart_of, members_in_sync, part, rates_of_double, rows_of}
+use Rattle.fr_sharp.proofs.TimedRuns.{acting_of, active_in_sync, active_of, follows_of, found_of, heard_of, keeps_apart_of, members_in_sync, part, rates_of_double}
 
 module _ (x : Setting) (flutter : ℕ) (whole : ℕ → Bool) (h : Cycles) (double reach : ℕ) (w : IsLossyRun x flutter whole h) (checks : SharpChecksHold flutter reach x.params)
     (fits : (k : ℕ) → double + k < x.doubles → sharply_near_in x.params (lost_spread x.params flutter (λ m. whole (double + m)) k) ≤ reach)

@@ -34,7 +34,7 @@ use Rattle.fr_sharp.proofs.RunCycles.{stated_runs_are_steady}
 use Rattle.fr_sharp.proofs.RunFar.{covered, itself, none_by, reaches, setting, stated_near}
 use Rattle.fr_sharp.proofs.RunSettles.{histories_begin_active}
 use Rattle.fr_sharp.proofs.RunStated.{first_sharp, pairs_lie}
-use Rattle.fr_sharp.proofs.RunSync.{found_at, rows_at}
+use Rattle.fr_sharp.proofs.RunSync.{found_at, rows_at, timed}
 use Rattle.fr_sharp.proofs.Signed.{signed_of}
 
 -- a length in a range that is widened by nothing is proper
@@ -83,7 +83,7 @@ module _ (f : Far) (is : IsFar f (pi_of f.params) (lambda_of f.params)) where
         let nodes = row_nodes x [] in
         let s = rows_at true x 0 h w 0 [] even odd d in
         let near = stated_near f (pi_of p) (lambda_of p) is in
-        let first = first_sharp true x 0 h w (pi_of p) (lambda_of p) near even (even_is h 0 [] even odd d) in
+        let first = first_sharp x 0 h (timed true x 0 h w) (pi_of p) (lambda_of p) near even (even_is h 0 [] even odd d) in
         let active = histories_begin_active true x 0 h w [] even odd d in
         let ascend = rows_ascend x [] is.sane in
         let are = s.two.odd_rows.nodes in

@@ -31,7 +31,7 @@ use Rattle.fr_runs.proofs.Parts.{even_is, odd_is}
 use Rattle.fr_sharp.specs.Lengths.{walked_after}
 use Rattle.fr_sharp.specs.SettlingHistories.{BeginsSharply, HistoriesBeginActive, HistoriesKeepToSpreads, HistoriesReachSharpSync, IsOlderRun, KeepsToSpreadsAt, OlderHistoriesSettle, SettlesFromSync}
 use Rattle.fr_sharp.specs.SharpBounds.{last_action}
-use Rattle.fr_sharp.specs.SharpHistories.{members_at, senders_at, BeginsActive, IsSteadyRun, KeepsApart}
+use Rattle.fr_sharp.specs.SharpHistories.{members_at, senders_at, BeginsActive, IsSteadyRun, IsTimedRun, KeepsApart}
 use Rattle.fr_sharp.specs.SharpRun.{lengths_from, starts_from, BeginInSync, BeginSharp, BeginWithin, KeepsFromSync, KeepsToSpreads, WalkLastsAfter}
 use Rattle.fr_sharp.specs.SharpSettling.{sharp_spread_after, sharply_apart_in}
 use Rattle.fr_sharp.specs.SharpStep.{ActInReach, AreSharp}
@@ -39,7 +39,8 @@ use Rattle.fr_sharp.proofs.BoundLemmas.{key_slots_act_early, sharp_checks_suffic
 use Rattle.fr_sharp.proofs.LastingLemmas.{sharp_spreads_keep, stays_at_rest, up_to, AllActive}
 use Rattle.fr_sharp.proofs.OlderLemmas.{lasts_on, older_sync_settles}
 use Rattle.fr_sharp.proofs.RowsSupplied.{covered_runs_are_steady}
-use Rattle.fr_sharp.proofs.RunSync.{acting_by, active_by, are_doubles, doubles_in_reach, evens_at, found_at, keeps_apart, none_cuts, odds_at, regular_at, rows_at, stays_at}
+use Rattle.fr_sharp.proofs.RunSync.{acting_by, active_by, are_doubles, doubles_in_reach, evens_at, found_at, keeps_apart, none_cuts, odds_at, regular_at, stays_at, timed}
+use Rattle.fr_sharp.proofs.TimedRuns.{rows_of}
 use Rattle.fr_sharp.proofs.SettlingLemmas.{older_way_fits}
 use Rattle.fr_sharp.proofs.StepLemmas.{runs_of}
 
@@ -52,16 +53,19 @@ no_outcomes x node = refl
 first_active : (x : Setting) (node : ℕ) → (status_in x.params (told_of []) node).state ≡ Active
 first_active x node = begun_active x [] node (no_outcomes x node)
 
-pub histories_begin_active : HistoriesBeginActive
-histories_begin_active beside x flutter h w [] even odd d =
-    let s = rows_at beside x flutter h w 0 [] even odd d in (
+pub timed_begin_active : (x : Setting) (flutter : ℕ) (h : Cycles) → IsTimedRun x flutter h → BeginsActive h 0
+timed_begin_active x flutter h w [] even odd d =
+    let s = rows_of x flutter h w 0 [] even odd d in (
       All-along (λ row. row.state ≡ (row_laws x []).state row.node) (λ row. row.state ≡ Active) even.told.rows (λ row is. is ∙ first_active x row.node) s.two.even_rows.states,
       All-along (λ row. row.state ≡ (row_laws x (even ∷ [])).state row.node) (λ row. row.state ≡ Active) odd.told.rows
           (λ row is. is ∙ status_even x (told_of []) even.told row.node (even_length 0 0 refl) ∙ first_active x row.node) s.two.odd_rows.states,
     )
-histories_begin_active beside x flutter h w (c ∷ earlier) even odd d =
+timed_begin_active x flutter h w (c ∷ earlier) even odd d =
     let counted : suc (length earlier) ≡ 2 * 0 = d.counted in
     absurd (omega (arith, counted))
+
+pub histories_begin_active : HistoriesBeginActive
+histories_begin_active beside x flutter h w = timed_begin_active x flutter h (timed beside x flutter h w)
 
 -- ---- what is said of the nodes of the step, in the history
 

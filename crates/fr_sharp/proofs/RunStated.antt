@@ -1,5 +1,5 @@
 -- What is stated of cycle 0 is so of its rows.
-use Rattle.std.proofs.Common.{◌≡◌, ℕ, suc, ◌*◌, Bool, ℤ, pos, Some, List, All, [], ◌∷◌, length, map, ap, sym, ◌∙◌, subst, arith}
+use Rattle.std.proofs.Common.{◌≡◌, ℕ, suc, ◌*◌, ℤ, pos, Some, List, All, [], ◌∷◌, length, map, ap, sym, ◌∙◌, subst, arith}
 use Rattle.std.specs.Prelude.{◌+ℤ◌, ◌-ℤ◌, ◌*ℤ◌, ◌≤ℤ◌, Contains}
 use Rattle.std.proofs.lemmas.List.Elements.{All-map}
 use Rattle.fr_base.specs.Within.{IsWithin, LieWithin}
@@ -19,12 +19,13 @@ use Rattle.fr_runs.proofs.Going.{rows_ascend}
 use Rattle.fr_runs.proofs.Parts.{cycle_within, even_is, odd_is}
 use Rattle.fr_runs.proofs.Rows.{Ascend, all_rows, row_runs_by}
 use Rattle.fr_sharp.specs.Lengths.{IsAboutCycle}
-use Rattle.fr_sharp.specs.SettlingHistories.{first_length, AreStatedNear, StatedRunsBeginInSharpSync, StatedStartsAreSharp}
+use Rattle.fr_sharp.specs.SettlingHistories.{first_length, AreStatedNear, StatedRunsBeginInSharpSync, StatedStartsAreSharp, TimedRunsBeginInSharpSync}
 use Rattle.fr_sharp.specs.SharpBounds.{sharp_lambda, sharp_pi}
-use Rattle.fr_sharp.specs.SharpHistories.{IsSteadyRun}
+use Rattle.fr_sharp.specs.SharpHistories.{IsTimedRun}
 use Rattle.fr_sharp.specs.SharpStep.{AreSharp}
-use Rattle.fr_sharp.proofs.RunSettles.{histories_begin_active}
-use Rattle.fr_sharp.proofs.RunSync.{found_at, rows_at}
+use Rattle.fr_sharp.proofs.RunSettles.{timed_begin_active}
+use Rattle.fr_sharp.proofs.RunSync.{timed}
+use Rattle.fr_sharp.proofs.TimedRuns.{found_of, rows_of}
 
 -- rows lie as near as any two of the nodes that have them
 pub pairs_lie : (nodes : List NodeSpec) (f : NodeRow → ℤ) (bound : ℤ) (rows : List NodeRow) → Ascend nodes → AreRowsOf nodes rows
@@ -39,13 +40,13 @@ pairs_lie nodes f bound rows ascend are near =
     All-map (λ b. (first -ℤ b) ≤ℤ bound) f rows (all_rows nodes rows (λ other. (first -ℤ f other) ≤ℤ bound) ascend are (λ other there. (near one other here there).high)))
     )
 
-module _ (beside : Bool) (x : Setting) (flutter : ℕ) (h : Cycles) (w : IsSteadyRun beside x flutter h) (start rate : ℕ) (near : AreStatedNear x start rate) where
+module _ (x : Setting) (flutter : ℕ) (h : Cycles) (w : IsTimedRun x flutter h) (start rate : ℕ) (near : AreStatedNear x start rate) where
   first_rows : (earlier : Cycles) (even odd : Cycle) → IsDoubleOf h 0 earlier even odd → AreSharp x.params start rate (pos 0) even.told.rows
   first_rows [] even odd d =
       let p : Values = x.params in
       let nodes = row_nodes x [] in
       let rows : List NodeRow = even.told.rows in
-      let s = rows_at beside x flutter h w 0 [] even odd d in
+      let s = rows_of x flutter h w 0 [] even odd d in
       let ascend = rows_ascend x [] s.covered.sane in
       let are = s.two.even_rows.nodes in
       let runs = λ (node : NodeSpec) (among : Contains nodes node). row_runs_by (row_laws x []) (offset_after p (told_of []) even.told) nodes rows node s.two.even_rows among in
@@ -82,19 +83,19 @@ module _ (beside : Bool) (x : Setting) (flutter : ℕ) (h : Cycles) (w : IsStead
   first_sharp even is =
       let whole : length h ≡ 2 * x.doubles = w.whole in
       let below = cycle_within h 0 even is in
-      let f = found_at beside x flutter h w 0 (omega (arith, whole, below)) in
+      let f = found_of x flutter h w 0 (omega (arith, whole, below)) in
       let found : Some f.even ≡ Some even = sym (even_is h 0 f.earlier f.even f.odd f.is) ∙ is in
       let same : f.even ≡ even = cc in
       let At : Cycle → Type 0 = λ c. AreSharp x.params start rate (pos 0) c.told.rows in
       subst At same (first_rows f.earlier f.even f.odd f.is)
 
 pub stated_starts_are_sharp : StatedStartsAreSharp
-stated_starts_are_sharp beside x flutter start rate h even w near is = first_sharp beside x flutter h w start rate near even is
+stated_starts_are_sharp beside x flutter start rate h even w near is = first_sharp x flutter h (timed beside x flutter h w) start rate near even is
 
-pub stated_runs_begin_in_sharp_sync : StatedRunsBeginInSharpSync
-stated_runs_begin_in_sharp_sync beside x flutter h w near some =
-    let f = found_at beside x flutter h w 0 some in
-    let active = histories_begin_active beside x flutter h w f.earlier f.even f.odd f.is in
+pub timed_runs_begin_in_sharp_sync : TimedRunsBeginInSharpSync
+timed_runs_begin_in_sharp_sync beside x flutter h w near some =
+    let f = found_of x flutter h w 0 some in
+    let active = timed_begin_active x flutter h w f.earlier f.even f.odd f.is in
     record {
       even = f.even;
       odd = f.odd;
@@ -103,6 +104,9 @@ stated_runs_begin_in_sharp_sync beside x flutter h w near some =
       in_sync = record {
         active_even = active.0;
         active_odd = active.1;
-        rows = first_rows beside x flutter h w (sharp_pi beside x.params flutter) (sharp_lambda beside x.params flutter) near f.earlier f.even f.odd f.is;
+        rows = first_rows x flutter h w (sharp_pi beside x.params flutter) (sharp_lambda beside x.params flutter) near f.earlier f.even f.odd f.is;
       };
     }
+
+pub stated_runs_begin_in_sharp_sync : StatedRunsBeginInSharpSync
+stated_runs_begin_in_sharp_sync beside x flutter h w near some = timed_runs_begin_in_sharp_sync beside x flutter h (timed beside x flutter h w) near some

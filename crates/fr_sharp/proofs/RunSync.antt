@@ -1,8 +1,7 @@
 -- The double cycles of a lawful history that no node joins are as the law of many double cycles asks for, so a history in sharp
 -- sync stays so.
-use Rattle.std.proofs.Common.{◌≡◌, ℕ, zero, suc, ◌+◌, ◌-◌, ◌*◌, ◌<◌, ◌≤◌, Bool, true, false, ℤ, pos, Option, Some, List, All, [], ◌∷◌, length, map, refl, ap, sym, ◌∙◌, subst, lit≤, arith}
+use Rattle.std.proofs.Common.{◌≡◌, ℕ, suc, ◌+◌, ◌-◌, ◌*◌, ◌<◌, ◌≤◌, Bool, true, ℤ, pos, List, All, length, map, ap, sym, ◌∙◌, subst, lit≤, arith}
 use Rattle.std.specs.Prelude.{◌+ℤ◌, ◌≤ℤ◌, Contains}
-use Rattle.std.specs.Option.{option_map, option_map_or}
 use Rattle.std.proofs.lemmas.List.Elements.{All-contains_itself}
 use Rattle.fr_base.specs.Within.{IsWithin}
 use Rattle.fr_base.specs.declared.node_row.NodeRow.{NodeRow}
@@ -10,10 +9,8 @@ use Rattle.fr_base.specs.declared.state.Outcome.TheVariants.{Within}
 use Rattle.fr_base.specs.declared.state.State.TheVariants.{Active}
 use Rattle.fr_cluster.specs.Sane.{IsSane}
 use Rattle.fr_cluster.specs.Setting.{Setting}
-use Rattle.fr_cluster.specs.Values.{Values, amount}
-use Rattle.fr_cluster.specs.declared.names.ParamName.TheVariants as name
+use Rattle.fr_cluster.specs.Values.{Values}
 use Rattle.fr_time.specs.Cycles.{odd_cycle}
-use Rattle.fr_time.specs.Position.{grid_for}
 use Rattle.fr_bound.specs.Checks.{holds_of}
 use Rattle.fr_bound.specs.Sync.{cycle_length_of}
 use Rattle.fr_precision.specs.Instants.{gap_of, row_in}
@@ -23,31 +20,22 @@ use Rattle.fr_precision.specs.Reception.{LeavesRoom}
 use Rattle.fr_precision.specs.Rows.{Sender}
 use Rattle.fr_precision.specs.Step.{Member}
 use Rattle.fr_precision.proofs.Senders.{All-along}
-use Rattle.fr_skew.specs.Spreads.{spread_at}
-use Rattle.fr_history.specs.Cycles.{Cycle, Cycles, cycle_at, told_of}
-use Rattle.fr_history.specs.History.{Record, record_at}
-use Rattle.fr_history.specs.Skew.{skew_at}
-use Rattle.fr_runs.specs.Links.{cycle_in}
+use Rattle.fr_history.specs.Cycles.{Cycle, Cycles, cycle_at}
 use Rattle.fr_runs.specs.Rounds.{IsDoubleOf}
-use Rattle.fr_runs.proofs.Doubles.{even_length, odd_length}
-use Rattle.fr_runs.proofs.Parts.{cycle_within, double_at, even_is, odd_is, told_at, DoubleAt}
-use Rattle.fr_runs.proofs.Receivers.{no_less}
-use Rattle.fr_runs.proofs.Spread.{macrotick_within, spread_within}
-use Rattle.fr_runs.proofs.Whole.{prior_of}
+use Rattle.fr_runs.proofs.Parts.{cycle_within, even_is, odd_is, DoubleAt}
 use Rattle.fr_sharp.specs.Lengths.{walked_after, CanWalk, IsAboutCycle}
 use Rattle.fr_sharp.specs.SharpBounds.{last_action, near_by, rate_walk, sharp_lambda, sharp_near, sharp_pi, sharp_precision}
 use Rattle.fr_sharp.specs.SharpChecks.{RateSuffices, SharpChecksHold}
 use Rattle.fr_sharp.specs.SharpHistories.{members_at, senders_at, BeginsActive, HistoriesAreSharpDoubles, HistoriesHaveMembers, HistoriesKeepSharpSync, HistoriesStepSharply, IsInSharpSyncAt, IsSteadyRun, IsTimedRun, KeepsApart, StaysInSharpSyncAt}
 use Rattle.fr_sharp.specs.SharpRun.{AllUncut, AreSharpDoubles, BeginSharp, IsNextDouble, StaysInSharpSync, WalkLastsAfter}
-use Rattle.fr_sharp.specs.SharpStep.{ActInReach, AreSharp, ComeSharply, IsInSharpSync, IsSharpDouble, StaySharp}
-use Rattle.fr_sharp.specs.SteadyRuns.{row_members, AreRowsInReach, IsSteadyPart}
-use Rattle.fr_sharp.proofs.BoundLemmas.{key_slots_act_early, sharp_checks_suffice_lem, walk_is_bounded, walk_is_held}
-use Rattle.fr_sharp.proofs.LastingLemmas.{near_fits, sharp_sync_lasts_lem, up_to}
+use Rattle.fr_sharp.specs.SharpStep.{ActInReach, ComeSharply, IsInSharpSync, IsSharpDouble, StaySharp}
+use Rattle.fr_sharp.proofs.BoundLemmas.{sharp_checks_suffice_lem, walk_is_bounded}
+use Rattle.fr_sharp.proofs.LastingLemmas.{sharp_sync_lasts_lem, up_to}
 use Rattle.fr_sharp.proofs.RateRange.{walked_suffices}
-use Rattle.fr_sharp.proofs.RowsSupplied.{double_is_sharp, lawful_rows, members_regular, rates_in_limit, LawfulRows}
-use Rattle.fr_sharp.proofs.TimedRuns.{acting_of, acting_with, active_in_sync, active_of, evens_of, follows_of, found_of, heard_of, keeps_apart_of, members_in_sync, next_of, odds_of, rates_of_double, regular_of, rows_of, sync_in_of}
-use Rattle.fr_sharp.proofs.RunDoubles.{ends_well, evens_are, members_found, next_double, odds_are, rows_lie, senders_found}
-use Rattle.fr_sharp.proofs.StepLemmas.{next_is_in_sharp_sync, nodes_near, reached_by, sharp_sync_is_kept_lem}
+use Rattle.fr_sharp.proofs.RowsSupplied.{LawfulRows}
+use Rattle.fr_sharp.proofs.TimedRuns.{acting_of, acting_with, active_in_sync, active_of, evens_of, follows_of, found_of, heard_of, keeps_apart_of, members_in_sync, next_of, odds_of, regular_of, rows_of, sync_in_of}
+use Rattle.fr_sharp.proofs.RunDoubles.{senders_found}
+use Rattle.fr_sharp.proofs.StepLemmas.{next_is_in_sharp_sync, sharp_sync_is_kept_lem}
 
 Active_in : List NodeRow → Type 0
 Active_in rows = All (λ (row : NodeRow). row.state ≡ Active) rows
@@ -60,7 +48,7 @@ none_cuts p starts lengths next nodes come =
     (λ node here. let both = come node node here here in (both.uncut, both.range.uncut)) (All-contains_itself nodes)
 
 module _ (beside : Bool) (x : Setting) (flutter : ℕ) (h : Cycles) (w : IsSteadyRun beside x flutter h) where
-  timed : IsTimedRun x flutter h
+  pub timed : IsTimedRun x flutter h
   timed = record { covered = w.covered.timed; none_joins = w.none_joins; lawful = w.lawful; whole = w.whole }
 
   -- a double cycle of the run, and its rows

@@ -1,12 +1,10 @@
 -- The double cycles of a lawful history that no node joins, whatever frames are lost in it: their rows, what follows them, and that
 -- action points lie within a reach that takes in the numbers.
-use Rattle.std.proofs.Common.{◌≡◌, ℕ, zero, suc, ◌+◌, ◌-◌, ◌*◌, ◌<◌, ◌≤◌, Bool, true, false, ℤ, pos, Option, Some, List, All, [], ◌∷◌, length, map, refl, ap, sym, ◌∙◌, subst, lit≤, arith}
-use Rattle.std.specs.Prelude.{◌+ℤ◌, ◌≤ℤ◌, Contains}
+use Rattle.std.proofs.Common.{◌≡◌, ℕ, zero, suc, ◌+◌, ◌-◌, ◌*◌, ◌<◌, ◌≤◌, Bool, true, false, ℤ, pos, Option, Some, List, All, [], ◌∷◌, map, refl, ap, sym, ◌∙◌, subst, arith}
+use Rattle.std.specs.Prelude.{◌≤ℤ◌, Contains}
 use Rattle.std.specs.Option.{option_map, option_map_or}
-use Rattle.std.proofs.lemmas.List.Elements.{All-contains_itself}
 use Rattle.fr_base.specs.Within.{IsWithin}
 use Rattle.fr_base.specs.declared.node_row.NodeRow.{NodeRow}
-use Rattle.fr_base.specs.declared.state.Outcome.TheVariants.{Within}
 use Rattle.fr_base.specs.declared.state.State.TheVariants.{Active}
 use Rattle.fr_cluster.specs.Sane.{IsSane}
 use Rattle.fr_cluster.specs.Setting.{Setting}
@@ -22,7 +20,6 @@ use Rattle.fr_precision.specs.Placement.{IsRegular}
 use Rattle.fr_precision.specs.Reception.{LeavesRoom}
 use Rattle.fr_precision.specs.Rows.{Sender}
 use Rattle.fr_precision.specs.Step.{Member}
-use Rattle.fr_precision.proofs.Senders.{All-along}
 use Rattle.fr_skew.specs.Spreads.{spread_at}
 use Rattle.fr_history.specs.Cycles.{Cycle, Cycles, cycle_at, told_of}
 use Rattle.fr_history.specs.History.{Record, record_at}
@@ -30,23 +27,23 @@ use Rattle.fr_history.specs.Skew.{skew_at}
 use Rattle.fr_runs.specs.Links.{cycle_in}
 use Rattle.fr_runs.specs.Rounds.{IsDoubleOf}
 use Rattle.fr_runs.proofs.Doubles.{even_length, odd_length}
-use Rattle.fr_runs.proofs.Parts.{cycle_within, double_at, even_is, odd_is, told_at, DoubleAt}
+use Rattle.fr_runs.proofs.Parts.{double_at, even_is, odd_is, told_at, DoubleAt}
 use Rattle.fr_runs.proofs.Receivers.{no_less}
 use Rattle.fr_runs.proofs.Spread.{macrotick_within, spread_within}
 use Rattle.fr_runs.proofs.Whole.{prior_of}
 use Rattle.fr_sharp.specs.Lengths.{walked_after, CanWalk, IsAboutCycle}
-use Rattle.fr_sharp.specs.SharpBounds.{last_action, near_by, rate_walk, sharp_lambda, sharp_near, sharp_pi, sharp_precision}
-use Rattle.fr_sharp.specs.SharpChecks.{RateSuffices, SharpChecksHold}
-use Rattle.fr_sharp.specs.SharpHistories.{members_at, senders_at, BeginsActive, HistoriesAreSharpDoubles, HistoriesHaveMembers, HistoriesKeepSharpSync, HistoriesStepSharply, IsInSharpSyncAt, IsTimedRun, KeepsApart, StaysInSharpSyncAt}
-use Rattle.fr_sharp.specs.SharpRun.{AllUncut, AreSharpDoubles, BeginSharp, IsNextDouble, StaysInSharpSync, WalkLastsAfter}
-use Rattle.fr_sharp.specs.SharpStep.{ActInReach, AreSharp, ComeSharply, IsInSharpSync, IsSharpDouble, StaySharp}
+use Rattle.fr_sharp.specs.SharpBounds.{last_action, near_by, rate_walk}
+use Rattle.fr_sharp.specs.SharpChecks.{RateSuffices}
+use Rattle.fr_sharp.specs.SharpHistories.{members_at, senders_at, BeginsActive, IsInSharpSyncAt, IsTimedRun, KeepsApart}
+use Rattle.fr_sharp.specs.SharpRun.{AllUncut, BeginSharp, IsNextDouble, WalkLastsAfter}
+use Rattle.fr_sharp.specs.SharpStep.{ActInReach, AreSharp, IsInSharpSync, IsSharpDouble}
 use Rattle.fr_sharp.specs.SteadyRuns.{row_members, AreRowsInReach, IsTimedPart, IsWhole, MayHaveArbitrary}
-use Rattle.fr_sharp.proofs.BoundLemmas.{key_slots_act_early, sharp_checks_suffice_lem, walk_is_bounded, walk_is_held}
-use Rattle.fr_sharp.proofs.LastingLemmas.{near_fits, sharp_sync_lasts_lem, up_to}
+use Rattle.fr_sharp.proofs.BoundLemmas.{key_slots_act_early, walk_is_held}
+use Rattle.fr_sharp.proofs.LastingLemmas.{near_fits}
 use Rattle.fr_sharp.proofs.RateRange.{walked_suffices}
 use Rattle.fr_sharp.proofs.RowsSupplied.{double_is_sharp, timed_rows, members_regular, rates_in_limit, LawfulRows}
 use Rattle.fr_sharp.proofs.RunDoubles.{ends_well, evens_are, members_found, next_double, odds_are, rows_lie, senders_found}
-use Rattle.fr_sharp.proofs.StepLemmas.{next_is_in_sharp_sync, nodes_near, reached_by, sharp_sync_is_kept_lem}
+use Rattle.fr_sharp.proofs.StepLemmas.{nodes_near, reached_by}
 
 module _ (x : Setting) (flutter : ℕ) (h : Cycles) (w : IsTimedRun x flutter h) where
   pub part : IsTimedPart x flutter h

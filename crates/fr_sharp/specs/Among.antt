@@ -100,9 +100,9 @@ abbrev pub OneLossCosts : Type 0
 OneLossCosts =
     (p : Values) (flutter : ℕ)
     → (precision_by p (lost_starts p (sharp_pi false p flutter) (sharp_lambda false p flutter)) (lost_lengths p flutter (sharp_lambda false p flutter))
-       ≡ sharp_precision false p flutter + 4 * sharp_lambda false p flutter + 2 * arrival_error p + 2 * cycle_change p + longest_micro p)
+    ≡ sharp_precision false p flutter + 4 * sharp_lambda false p flutter + 2 * arrival_error p + 2 * cycle_change p + longest_micro p)
     × (precision_by p (odd_spread p (lost_lengths p flutter (sharp_lambda false p flutter)) + 2 * arrival_error p + 3 * longest_micro p) (sharp_lambda false p flutter) + longest_micro p
-       ≡ sharp_precision false p flutter + sharp_lambda false p flutter)
+    ≡ sharp_precision false p flutter + sharp_lambda false p flutter)
 
 -- ---- many double cycles, in each of which all is heard or anything may be lost
 

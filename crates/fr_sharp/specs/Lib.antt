@@ -36,5 +36,6 @@ pub mod Steady
 pub mod SteadyRuns
 pub mod WayHistories
 pub mod WorkedFiles
+pub mod WorkedLosses
 pub mod WorkedRun
 pub mod WorkedTrace

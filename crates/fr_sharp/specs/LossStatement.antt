@@ -64,6 +64,15 @@ LaterIsNoFurther =
     → ((lost_spread p flutter (λ m. whole (double + m)) k).starts ≤ (lost_spread p flutter whole (double + k)).starts)
     × ((lost_spread p flutter (λ m. whole (double + m)) k).lengths ≤ (lost_spread p flutter whole (double + k)).lengths)
 
+-- from each double cycle in sharp sync on the run of such parameters, drift and script keeps to the numbers, as long as the walk lasts
+abbrev pub CoveredFilesKeepThroughLosses : Type 0
+CoveredFilesKeepThroughLosses =
+    (p : Values) (d : DriftView) (s : ScriptView) (flutter reach : ℕ) (h : Cycles) (double : ℕ)
+    → IsSane p → IsCoveredThroughLosses p d s flutter reach
+    → IsRunOf (setting_of p d s) h → IsInSharpSyncAt false p flutter (pos 0) h double
+    → (passed : ℕ) → double + passed < doubles_of d → WalkLastsAfter p flutter passed
+    → KeepsApart (setting_of p d s) h (double + passed) (lost_apart p flutter (λ m. whole_in p s (double + m)) passed)
+
 -- the promise: of three accepted files that are covered through losses, from each double cycle in sharp sync on and as long as the walk
 -- lasts, whatever frames are lost wherever and however many: no corresponding macroticks lie further apart than so by what was heard
 -- since, no term is cut or missing, and every correct node is active

@@ -1,6 +1,6 @@
 -- A run in which frames are lost: what a node still makes of those that come, and how far its clocks then lie apart. Nothing is asked
 -- of links but that no node is left without any value; no sync node is arbitrary.
-use Rattle.std.specs.Prelude.{◌≡◌, ◌⊎◌, ◌+◌, ◌<◌, ◌≤◌, ◌*◌, ℕ, suc, ℤ, pos, max, Bool, true, false, if◌then◌else◌, List, length, map, All, Contains, Option, None, IsSome, is_some}
+use Rattle.std.specs.Prelude.{◌≡◌, ◌⊎◌, ◌+◌, ◌<◌, ◌≤◌, ℕ, suc, ℤ, pos, max, Bool, true, false, if◌then◌else◌, List, length, map, Contains, Option, None, IsSome, is_some}
 use Rattle.std.specs.List.{filter_map, range_with_len}
 use Rattle.fr_cluster.specs.Setting.{Setting, correct_nodes}
 use Rattle.fr_cluster.specs.Values.{Values}
@@ -22,7 +22,7 @@ use Rattle.fr_sharp.specs.SharpHistories.{IsInSharpSyncAt, IsTimedRun, KeepsApar
 use Rattle.fr_sharp.specs.SharpRound.{as_member}
 use Rattle.fr_sharp.specs.SharpRun.{WalkLastsAfter}
 use Rattle.fr_sharp.specs.SharpSettling.{sharply_near_in}
-use Rattle.fr_sharp.specs.SteadyRuns.{row_members, AreRowsInReach, IsTimedPart, IsTimedSetting, IsWhole, MayHaveArbitrary}
+use Rattle.fr_sharp.specs.SteadyRuns.{row_members, AreRowsInReach, IsTimedPart, IsWhole, MayHaveArbitrary}
 
 -- ---- a round
 

@@ -1,4 +1,4 @@
-ghost use Rattle.fr_sharp.specs.SettlingHistories.{HistoriesBeginActive, HistoriesKeepToSpreads, HistoriesReachSharpSync, OlderHistoriesSettle, StatedRunsBeginInSharpSync, StatedStartsAreSharp};
+ghost use Rattle.fr_sharp.specs.SettlingHistories.{HistoriesBeginActive, HistoriesKeepToSpreads, HistoriesReachSharpSync, OlderHistoriesSettle, StatedRunsBeginInSharpSync, StatedStartsAreSharp, TimedRunsBeginInSharpSync};
 ghost use Rattle.fr_sharp.specs.WayHistories.{HistoriesSettleSharply, StatedRunsSettleSharply};
 ghost use Rattle.fr_sharp.specs.SharpHistories.{HistoriesAreSharpDoubles, HistoriesHaveMembers, HistoriesKeepSharpPrecision, HistoriesKeepSharpSync, HistoriesStepSharply, StatedRunsAreSteady};
 
@@ -21,11 +21,12 @@ pub fn histories_keep_sharp_sync()
 
 /// A law: the cycles that a run has by what is stated of it are such a history, where no node joins. Its cycle 0 lies
 /// within what is stated of starts and lengths, in ticks; so, with pi and lambda for these numbers, it is in sharp sync in
-/// the first double cycle.
+/// the first double cycle, also where frames may be lost.
 pub fn stated_runs_are_steady()
     ensures steady { StatedRunsAreSteady }
     ensures starts { StatedStartsAreSharp }
     ensures synced { StatedRunsBeginInSharpSync }
+    ensures timed { TimedRunsBeginInSharpSync }
 {
     one_lawful_run();
 }

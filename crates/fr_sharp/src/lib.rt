@@ -70,7 +70,7 @@ pub use lengths::{lengths_come_near, ranges_walk};
 pub use listening::listeners_come_near;
 pub use long_run::a_long_walk;
 pub use losing::{histories_keep_through_losses, what_is_heard_suffices};
-pub use lossy_files::{files_keep_through_losses, lossy_files_give_runs};
+pub use lossy_files::{files_keep_through_losses, files_that_lose_frames, lossy_files_give_runs};
 pub use nearness::nodes_lie_near;
 pub use reached_run::the_sharper_precision_is_reached;
 pub use runs_flutter::stated_delays_flutter;

@@ -1,4 +1,5 @@
-ghost use Rattle.fr_sharp.specs.LossStatement.{FilesKeepThroughLosses, LaterIsNoFurther, LossyFilesGiveRuns};
+ghost use Rattle.fr_sharp.specs.WorkedLosses.{LosingFilesAreCovered, LosingFilesKeep};
+ghost use Rattle.fr_sharp.specs.LossStatement.{CoveredFilesKeepThroughLosses, FilesKeepThroughLosses, LaterIsNoFurther, LossyFilesGiveRuns};
 
 /// The promise where frames are lost: the run that three accepted files decide, where they are covered through losses,
 /// keeps from each double cycle in sharp sync on to the numbers by what was heard since, in ticks, whatever frames are
@@ -7,9 +8,18 @@ pub fn files_keep_through_losses()
     ensures { FilesKeepThroughLosses }
 {}
 
-/// A law: such files give a run as the law of losses asks for; and the numbers from a later double cycle on are no
+/// A law: so it is of any sane parameters, drift and script; they give a run as the law of losses asks for; and the numbers from a later double cycle on are no
 /// greater than those from the first one on, in ticks.
 pub fn lossy_files_give_runs()
+    ensures keep { CoveredFilesKeepThroughLosses }
     ensures runs { LossyFilesGiveRuns }
     ensures later { LaterIsNoFurther }
+{}
+
+/// A law: a script by which every frame of a cycle is lost, with a drift whose delays flutter by 250 ticks, is covered
+/// through losses; the run is in sharp sync from the start on and keeps to the numbers, in ticks, in the double cycle that
+/// loses the frames and in the one behind it.
+pub fn files_that_lose_frames()
+    ensures covered { LosingFilesAreCovered }
+    ensures keeps { LosingFilesKeep }
 {}

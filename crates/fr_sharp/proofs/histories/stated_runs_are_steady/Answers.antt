@@ -1,5 +1,5 @@
 use Rattle.fr_sharp.proofs.RunCycles.{stated_runs_are_steady}
-use Rattle.fr_sharp.proofs.RunStated.{stated_runs_begin_in_sharp_sync, stated_starts_are_sharp}
+use Rattle.fr_sharp.proofs.RunStated.{stated_runs_begin_in_sharp_sync, stated_starts_are_sharp, timed_runs_begin_in_sharp_sync}
 use Rattle.fr_sharp.proofs.histories.stated_runs_are_steady.Goals as goal
 
 pub returns-clause-steady : goal.returns-clause-steady
@@ -10,3 +10,6 @@ returns-clause-starts c = stated_starts_are_sharp
 
 pub returns-clause-synced : goal.returns-clause-synced
 returns-clause-synced c = stated_runs_begin_in_sharp_sync
+
+pub returns-clause-timed : goal.returns-clause-timed
+returns-clause-timed c = timed_runs_begin_in_sharp_sync

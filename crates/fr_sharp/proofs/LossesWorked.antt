@@ -1,0 +1,151 @@
+-- The files of the worked run that loses every frame of one cycle are covered through losses.
+use Rattle.std.proofs.Common.{◌≡◌, ℕ, zero, suc, ◌+◌, ◌<◌, ◌≤◌, true, false, pos, None, refl, subst, lit≤, lit<, arith}
+use Rattle.std.specs.List.{list_all}
+use Rattle.fr_cluster.specs.Setting.{Setting}
+use Rattle.fr_coverage.specs.Coverage.{gap_of_run, some_join}
+use Rattle.fr_coverage.specs.Decided.{setting_of}
+use Rattle.fr_coverage.specs.First.{first_below, first_in}
+use Rattle.fr_coverage.specs.Flutter.{flutter_of, greatest_below, greatest_in}
+use Rattle.fr_coverage.proofs.GapParts.{found-of-run}
+use Rattle.fr_drift.specs.Held.{held}
+use Rattle.fr_drift.specs.Questions.{delay_of, doubles_of, length_of}
+use Rattle.fr_script.specs.Deeds.{deed_in}
+use Rattle.fr_script.specs.Events.{event_of}
+use Rattle.fr_script.specs.View.{deed_of, is_arbitrary, join_of}
+use Rattle.fr_sharp.specs.Among.{lost_spread}
+use Rattle.fr_sharp.specs.Losses.{lost_apart}
+use Rattle.fr_sharp.specs.LossStatement.{hears_in, whole_in, without_losses, IsCoveredThroughLosses}
+use Rattle.fr_sharp.specs.SettlingHistories.{AreStatedNear}
+use Rattle.fr_sharp.specs.SharpBounds.{last_of, sharp_lambda, sharp_pi}
+use Rattle.fr_sharp.specs.SharpChecks.{SharpChecksHold}
+use Rattle.fr_sharp.specs.SharpHistories.{IsInSharpSyncAt, KeepsApart}
+use Rattle.fr_sharp.specs.SharpRun.{WalkLastsAfter}
+use Rattle.fr_sharp.specs.SharpSettling.{sharply_near_in}
+use Rattle.fr_sharp.specs.SharpStatement.{has_arbitrary}
+use Rattle.fr_sharp.specs.WorkedFiles.{fluttering_drift}
+use Rattle.fr_sharp.specs.WorkedLosses.{losing_script, LosingFilesAreCovered, LosingFilesKeep}
+use Rattle.fr_sharp.specs.WorkedRun.{steady_cluster}
+use Rattle.fr_sharp.proofs.FilesWorked.{stated_near}
+use Rattle.fr_sharp.proofs.FromLossyFiles.{covered_files_keep_through_losses, lossy_files_give_runs}
+use Rattle.fr_sharp.proofs.RunStated.{timed_runs_begin_in_sharp_sync}
+use Rattle.fr_sharp.proofs.SharpWorked.{is_sane}
+
+-- ---- what is heard
+
+whole_0 : whole_in steady_cluster losing_script 0 ≡ true
+unfolding is_arbitrary deed_of deed_in event_of
+whole_0 = refl
+
+whole_1 : whole_in steady_cluster losing_script 1 ≡ false
+unfolding is_arbitrary deed_of deed_in event_of
+whole_1 = refl
+
+whole_2 : whole_in steady_cluster losing_script 2 ≡ true
+unfolding is_arbitrary deed_of deed_in event_of
+whole_2 = refl
+
+-- ---- they are covered
+
+no_gap : gap_of_run steady_cluster fluttering_drift (without_losses losing_script) ≡ None
+unfolding first_below first_in doubles_of length_of delay_of held is_arbitrary join_of deed_of deed_in event_of
+no_gap = refl
+
+flutter_is : flutter_of steady_cluster fluttering_drift losing_script ≡ 250
+unfolding flutter_of greatest_below greatest_in doubles_of delay_of held is_arbitrary
+flutter_is = refl
+
+none_arbitrary : has_arbitrary steady_cluster losing_script ≡ false
+unfolding is_arbitrary
+none_arbitrary = refl
+
+none_joins : some_join steady_cluster losing_script ≡ false
+unfolding is_arbitrary join_of
+none_joins = refl
+
+checks_hold : SharpChecksHold 250 61_281_165 steady_cluster
+unfolding last_of
+checks_hold zero from to = absurd (omega (arith, from))
+checks_hold (suc zero) from to = absurd (omega (arith, from))
+checks_hold (suc (suc zero)) from to = refl
+checks_hold (suc (suc (suc zero))) from to = refl
+checks_hold (suc (suc (suc (suc zero)))) from to = refl
+checks_hold (suc (suc (suc (suc (suc zero))))) from to = refl
+checks_hold (suc (suc (suc (suc (suc (suc k)))))) from to = absurd (omega (arith, to))
+
+-- the numbers of each double cycle
+near_0 : sharply_near_in steady_cluster (lost_spread steady_cluster 250 (whole_in steady_cluster losing_script) 0) ≤ 61_281_165
+unfolding lost_spread last_of
+near_0 = lit≤ tt
+
+near_1 : sharply_near_in steady_cluster (lost_spread steady_cluster 250 (whole_in steady_cluster losing_script) 1) ≤ 61_281_165
+unfolding lost_spread last_of is_arbitrary deed_of deed_in event_of
+near_1 = lit≤ tt
+
+near_2 : sharply_near_in steady_cluster (lost_spread steady_cluster 250 (whole_in steady_cluster losing_script) 2) ≤ 61_281_165
+unfolding lost_spread last_of is_arbitrary deed_of deed_in event_of
+near_2 = lit≤ tt
+
+near_in : (double : ℕ) → double < doubles_of fluttering_drift → sharply_near_in steady_cluster (lost_spread steady_cluster 250 (whole_in steady_cluster losing_script) double) ≤ 61_281_165
+unfolding doubles_of
+near_in zero less = near_0
+near_in (suc zero) less = near_1
+near_in (suc (suc zero)) less = near_2
+near_in (suc (suc (suc k))) less = absurd (omega (arith, less))
+
+all_hear : (double : ℕ) → list_all (hears_in steady_cluster losing_script double) steady_cluster.nodes ≡ true
+unfolding is_arbitrary
+all_hear double = refl
+
+covered : IsCoveredThroughLosses steady_cluster fluttering_drift losing_script 250 61_281_165
+covered = record {
+  checks = checks_hold;
+  near = near_in;
+  none_arbitrary = none_arbitrary;
+  none_joins = none_joins;
+  none = (found-of-run steady_cluster fluttering_drift (without_losses losing_script) is_sane).0 no_gap;
+  flutters = omega (arith, flutter_is);
+  hears = λ double within. all_hear double;
+}
+
+pub losing_files_are_covered : LosingFilesAreCovered
+losing_files_are_covered = (whole_0, whole_1, whole_2, covered)
+
+-- ---- what comes of it
+
+abbrev losing : Setting
+losing = setting_of steady_cluster fluttering_drift losing_script
+
+-- what is stated of cycle 0 does not speak of what is lost
+near : AreStatedNear losing (sharp_pi false steady_cluster 250) (sharp_lambda false steady_cluster 250)
+unfolding is_arbitrary join_of
+near = let n = stated_near false in record { starts = n.starts; lengths = n.lengths; about = n.about }
+
+lasts : (passed : ℕ) → WalkLastsAfter steady_cluster 250 passed
+lasts passed = tt
+
+apart_0 : lost_apart steady_cluster 250 (λ m. whole_in steady_cluster losing_script (0 + m)) 0 ≡ 36_005_494
+unfolding lost_spread is_arbitrary deed_of deed_in event_of
+apart_0 = refl
+
+apart_1 : lost_apart steady_cluster 250 (λ m. whole_in steady_cluster losing_script (0 + m)) 1 ≡ 48_007_094
+unfolding lost_spread is_arbitrary deed_of deed_in event_of
+apart_1 = refl
+
+apart_2 : lost_apart steady_cluster 250 (λ m. whole_in steady_cluster losing_script (0 + m)) 2 ≡ 75_011_786
+unfolding lost_spread is_arbitrary deed_of deed_in event_of
+apart_2 = refl
+
+three : doubles_of fluttering_drift ≡ 3
+unfolding doubles_of
+three = refl
+
+pub losing_files_keep : LosingFilesKeep
+losing_files_keep h run =
+    let w = lossy_files_give_runs steady_cluster fluttering_drift losing_script 250 61_281_165 h is_sane covered run in
+    let some : 1 ≤ losing.doubles = let e = three in omega (arith, e) in
+    let sync : IsInSharpSyncAt false steady_cluster 250 (pos 0) h 0 = timed_runs_begin_in_sharp_sync false losing 250 h w.run near some in
+    let keeps = λ (passed : ℕ) (less : 0 + passed < doubles_of fluttering_drift).
+    covered_files_keep_through_losses steady_cluster fluttering_drift losing_script 250 61_281_165 h 0 is_sane covered run sync passed less (lasts passed) in
+    let Keeps : ℕ → ℕ → Type 0 = λ double apart. KeepsApart losing h double apart in
+    let less = λ (n : ℕ) (is : n < 3). (let e = three in let below : n < doubles_of fluttering_drift = omega (arith, e, is) in below) in
+    (sync, subst (Keeps 0) apart_0 (keeps 0 (less 0 (lit< tt))), subst (Keeps 1) apart_1 (keeps 1 (less 1 (lit< tt))), subst (Keeps 2) apart_2 (keeps 2 (less 2 (lit< tt))))
