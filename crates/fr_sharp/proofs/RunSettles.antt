@@ -31,7 +31,7 @@ use Rattle.fr_runs.proofs.Parts.{even_is, odd_is}
 use Rattle.fr_sharp.specs.Lengths.{walked_after}
 use Rattle.fr_sharp.specs.SettlingHistories.{BeginsSharply, HistoriesBeginActive, HistoriesKeepToSpreads, HistoriesReachSharpSync, IsOlderRun, KeepsToSpreadsAt, OlderHistoriesSettle, SettlesFromSync}
 use Rattle.fr_sharp.specs.SharpBounds.{last_action}
-use Rattle.fr_sharp.specs.SharpHistories.{members_at, senders_at, BeginsActive, IsSteadyRun, IsTimedRun, KeepsApart}
+use Rattle.fr_sharp.specs.SharpHistories.{members_at, senders_at, BeginsActive, IsSteadyRun, IsStatedRun, KeepsApart}
 use Rattle.fr_sharp.specs.SharpRun.{lengths_from, starts_from, BeginInSync, BeginSharp, BeginWithin, KeepsFromSync, KeepsToSpreads, WalkLastsAfter}
 use Rattle.fr_sharp.specs.SharpSettling.{sharp_spread_after, sharply_apart_in}
 use Rattle.fr_sharp.specs.SharpStep.{ActInReach, AreSharp}
@@ -53,7 +53,7 @@ no_outcomes x node = refl
 first_active : (x : Setting) (node : ℕ) → (status_in x.params (told_of []) node).state ≡ Active
 first_active x node = begun_active x [] node (no_outcomes x node)
 
-pub timed_begin_active : (x : Setting) (flutter : ℕ) (h : Cycles) → IsTimedRun x flutter h → BeginsActive h 0
+pub timed_begin_active : (x : Setting) (flutter : ℕ) (h : Cycles) → IsStatedRun x flutter h → BeginsActive h 0
 timed_begin_active x flutter h w [] even odd d =
     let s = rows_of x flutter h w 0 [] even odd d in (
       All-along (λ row. row.state ≡ (row_laws x []).state row.node) (λ row. row.state ≡ Active) even.told.rows (λ row is. is ∙ first_active x row.node) s.two.even_rows.states,

@@ -21,7 +21,7 @@ use Rattle.fr_runs.proofs.Rows.{Ascend, all_rows, row_runs_by}
 use Rattle.fr_sharp.specs.Lengths.{IsAboutCycle}
 use Rattle.fr_sharp.specs.SettlingHistories.{first_length, AreStatedNear, StatedRunsBeginInSharpSync, StatedStartsAreSharp, TimedRunsBeginInSharpSync}
 use Rattle.fr_sharp.specs.SharpBounds.{sharp_lambda, sharp_pi}
-use Rattle.fr_sharp.specs.SharpHistories.{IsTimedRun}
+use Rattle.fr_sharp.specs.SharpHistories.{IsStatedRun}
 use Rattle.fr_sharp.specs.SharpStep.{AreSharp}
 use Rattle.fr_sharp.proofs.RunSettles.{timed_begin_active}
 use Rattle.fr_sharp.proofs.RunSync.{timed}
@@ -40,7 +40,7 @@ pairs_lie nodes f bound rows ascend are near =
     All-map (λ b. (first -ℤ b) ≤ℤ bound) f rows (all_rows nodes rows (λ other. (first -ℤ f other) ≤ℤ bound) ascend are (λ other there. (near one other here there).high)))
     )
 
-module _ (x : Setting) (flutter : ℕ) (h : Cycles) (w : IsTimedRun x flutter h) (start rate : ℕ) (near : AreStatedNear x start rate) where
+module _ (x : Setting) (flutter : ℕ) (h : Cycles) (w : IsStatedRun x flutter h) (start rate : ℕ) (near : AreStatedNear x start rate) where
   first_rows : (earlier : Cycles) (even odd : Cycle) → IsDoubleOf h 0 earlier even odd → AreSharp x.params start rate (pos 0) even.told.rows
   first_rows [] even odd d =
       let p : Values = x.params in

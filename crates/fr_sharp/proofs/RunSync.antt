@@ -26,7 +26,7 @@ use Rattle.fr_runs.proofs.Parts.{cycle_within, even_is, odd_is, DoubleAt}
 use Rattle.fr_sharp.specs.Lengths.{walked_after, CanWalk, IsAboutCycle}
 use Rattle.fr_sharp.specs.SharpBounds.{last_action, near_by, rate_walk, sharp_lambda, sharp_near, sharp_pi, sharp_precision}
 use Rattle.fr_sharp.specs.SharpChecks.{RateSuffices, SharpChecksHold}
-use Rattle.fr_sharp.specs.SharpHistories.{members_at, senders_at, BeginsActive, HistoriesAreSharpDoubles, HistoriesHaveMembers, HistoriesKeepSharpSync, HistoriesStepSharply, IsInSharpSyncAt, IsSteadyRun, IsTimedRun, KeepsApart, StaysInSharpSyncAt}
+use Rattle.fr_sharp.specs.SharpHistories.{members_at, senders_at, BeginsActive, HistoriesAreSharpDoubles, HistoriesHaveMembers, HistoriesKeepSharpSync, HistoriesStepSharply, IsInSharpSyncAt, IsSteadyRun, IsStatedRun, KeepsApart, StaysInSharpSyncAt}
 use Rattle.fr_sharp.specs.SharpRun.{AllUncut, AreSharpDoubles, BeginSharp, IsNextDouble, StaysInSharpSync, WalkLastsAfter}
 use Rattle.fr_sharp.specs.SharpStep.{ActInReach, ComeSharply, IsInSharpSync, IsSharpDouble, StaySharp}
 use Rattle.fr_sharp.proofs.BoundLemmas.{sharp_checks_suffice_lem, walk_is_bounded}
@@ -48,7 +48,7 @@ none_cuts p starts lengths next nodes come =
     (λ node here. let both = come node node here here in (both.uncut, both.range.uncut)) (All-contains_itself nodes)
 
 module _ (beside : Bool) (x : Setting) (flutter : ℕ) (h : Cycles) (w : IsSteadyRun beside x flutter h) where
-  pub timed : IsTimedRun x flutter h
+  pub timed : IsStatedRun x flutter h
   timed = record { covered = w.covered.timed; none_joins = w.none_joins; lawful = w.lawful; whole = w.whole }
 
   -- a double cycle of the run, and its rows

@@ -34,7 +34,7 @@ use Rattle.fr_runs.proofs.Whole.{prior_of}
 use Rattle.fr_sharp.specs.Lengths.{walked_after, CanWalk, IsAboutCycle}
 use Rattle.fr_sharp.specs.SharpBounds.{last_action, near_by, rate_walk}
 use Rattle.fr_sharp.specs.SharpChecks.{RateSuffices}
-use Rattle.fr_sharp.specs.SharpHistories.{members_at, senders_at, BeginsActive, IsInSharpSyncAt, IsTimedRun, KeepsApart}
+use Rattle.fr_sharp.specs.SharpHistories.{members_at, senders_at, BeginsActive, IsInSharpSyncAt, IsStatedRun, KeepsApart}
 use Rattle.fr_sharp.specs.SharpRun.{AllUncut, BeginSharp, IsNextDouble, WalkLastsAfter}
 use Rattle.fr_sharp.specs.SharpStep.{ActInReach, AreSharp, IsInSharpSync, IsSharpDouble}
 use Rattle.fr_sharp.specs.SteadyRuns.{row_members, AreRowsInReach, IsTimedPart, IsWhole, MayHaveArbitrary}
@@ -45,7 +45,7 @@ use Rattle.fr_sharp.proofs.RowsSupplied.{double_is_sharp, timed_rows, members_re
 use Rattle.fr_sharp.proofs.RunDoubles.{ends_well, evens_are, members_found, next_double, odds_are, rows_lie, senders_found}
 use Rattle.fr_sharp.proofs.StepLemmas.{nodes_near, reached_by}
 
-module _ (x : Setting) (flutter : ℕ) (h : Cycles) (w : IsTimedRun x flutter h) where
+module _ (x : Setting) (flutter : ℕ) (h : Cycles) (w : IsStatedRun x flutter h) where
   pub part : IsTimedPart x flutter h
   part = record { covered = w.covered; lawful = w.lawful; within = (let whole = w.whole in omega (arith, whole)) }
 

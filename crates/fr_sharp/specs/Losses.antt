@@ -18,7 +18,7 @@ use Rattle.fr_sharp.specs.Among.{lost_spread, ComputesOwn}
 use Rattle.fr_sharp.specs.Hearing.{AllowsArbitrary, AreSteadyPairs, IsHeardInPart}
 use Rattle.fr_sharp.specs.SharpBounds.{last_action, precision_by, sharp_precision}
 use Rattle.fr_sharp.specs.SharpChecks.{SharpChecksHold}
-use Rattle.fr_sharp.specs.SharpHistories.{IsInSharpSyncAt, IsTimedRun, KeepsApart}
+use Rattle.fr_sharp.specs.SharpHistories.{IsInSharpSyncAt, IsStatedRun, KeepsApart}
 use Rattle.fr_sharp.specs.SharpRound.{as_member}
 use Rattle.fr_sharp.specs.SharpRun.{WalkLastsAfter}
 use Rattle.fr_sharp.specs.SharpSettling.{sharply_near_in}
@@ -81,7 +81,7 @@ RowsComputeOwn =
 -- a whole lawful history of such a run without arbitrary sync nodes; it is said of each double cycle whether all is heard in it, and in
 -- none is a node deaf
 pub record IsLossyRun (x : Setting) (flutter : ℕ) (whole : ℕ → Bool) (h : Cycles) : Type 0 where
-  pub run : IsTimedRun x flutter h
+  pub run : IsStatedRun x flutter h
   pub none_arbitrary : MayHaveArbitrary false x
   pub wholes : (double : ℕ) → double < x.doubles → whole double ≡ true → IsWhole x double
   pub hears : (double : ℕ) → double < x.doubles → NoneIsDeaf x double

@@ -12,7 +12,7 @@ use Rattle.fr_sharp.specs.Flutter.{FluttersWithin}
 use Rattle.fr_sharp.specs.Lengths.{walked_after, IsAboutCycle}
 use Rattle.fr_sharp.specs.SharpBounds.{sharp_lambda, sharp_pi, walk_lasts}
 use Rattle.fr_sharp.specs.SharpChecks.{SharpChecksHold}
-use Rattle.fr_sharp.specs.SharpHistories.{BeginsActive, IsInSharpSyncAt, IsSteadyRun, IsTimedRun, KeepsApart, StaysInSharpSyncAt}
+use Rattle.fr_sharp.specs.SharpHistories.{BeginsActive, IsInSharpSyncAt, IsSteadyRun, IsStatedRun, KeepsApart, StaysInSharpSyncAt}
 use Rattle.fr_sharp.specs.SharpRun.{lengths_from, starts_from, WalkLastsAfter, WalkLastsUpTo}
 use Rattle.fr_sharp.specs.SharpSettling.{sharp_spread_after, sharply_apart_in, sharply_near_in, IsSharplySettled}
 use Rattle.fr_sharp.specs.SharpStep.{AreSharp}
@@ -92,7 +92,7 @@ StatedRunsBeginInSharpSync =
 abbrev pub TimedRunsBeginInSharpSync : Type 0
 TimedRunsBeginInSharpSync =
     (beside : Bool) (x : Setting) (flutter : ℕ) (h : Cycles)
-    → IsTimedRun x flutter h → AreStatedNear x (sharp_pi beside x.params flutter) (sharp_lambda beside x.params flutter)
+    → IsStatedRun x flutter h → AreStatedNear x (sharp_pi beside x.params flutter) (sharp_lambda beside x.params flutter)
     → 1 ≤ x.doubles → IsInSharpSyncAt beside x.params flutter (pos 0) h 0
 
 -- ---- from sync in the older sense

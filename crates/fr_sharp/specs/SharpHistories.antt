@@ -31,7 +31,7 @@ use Rattle.fr_sharp.specs.SharpStep.{IsInSharpSync}
 use Rattle.fr_sharp.specs.SteadyRuns.{row_members, IsSteadySetting, IsTimedSetting, MayHaveArbitrary}
 
 -- a whole lawful history of a run that no node joins, in which frames may be lost, and what is stated of the run besides its checks
-pub record IsTimedRun (x : Setting) (flutter : ℕ) (h : Cycles) : Type 0 where
+pub record IsStatedRun (x : Setting) (flutter : ℕ) (h : Cycles) : Type 0 where
   pub covered : IsTimedSetting x flutter
   pub none_joins : some_joins x ≡ false
   pub lawful : IsLawful x h
