@@ -15,18 +15,20 @@ use Rattle.fr_text.specs.Kind.{HasOneAnswer, HasSomeAnswer}
 use Rattle.fr_text.proofs.Defining.{one_status, some_status}
 use Rattle.fr_report.specs.RunText.{IsRunText}
 use Rattle.fr_sharp.specs.JoinedFiles.{CoveredFilesKeepSharplyJoined}
+use Rattle.fr_sharp.specs.LossStatement.{CoveredFilesKeepThroughLosses}
 use Rattle.fr_sharp.specs.SharpFiles.{CoveredFilesKeepSharply}
 use Rattle.fr_answer.specs.RunAnswer.{IsKeptRunText}
 use Rattle.fr_report.proofs.RunStatus.{IsDefinedText}
 
--- the report with the sharper promise
-pub kept_defined : CoveredFilesKeepSharply → CoveredFilesKeepSharplyJoined → (shown : Values → DriftView → ScriptView → List ℕ) → IsDefinedText IsRunText shown → IsDefinedText IsKeptRunText shown
-kept_defined keep joined shown defined p d s sane fits script proper =
+-- the report with the sharper promise, and that of losses
+pub kept_defined : CoveredFilesKeepSharply → CoveredFilesKeepSharplyJoined → CoveredFilesKeepThroughLosses → (shown : Values → DriftView → ScriptView → List ℕ) → IsDefinedText IsRunText shown → IsDefinedText IsKeptRunText shown
+kept_defined keep joined lost shown defined p d s sane fits script proper =
     let report = defined p d s sane fits script proper in
     record {
       report = report;
       sharply = λ flutter double covered synced. keep p d s flutter report.cycles double sane covered report.run synced;
       joined = λ flutter double covered synced. joined p d s flutter report.cycles double sane fits script covered report.run synced;
+      through_losses = λ flutter reach double covered synced. lost p d s flutter reach report.cycles double sane covered report.run synced;
     }
 
 -- ---- a startup

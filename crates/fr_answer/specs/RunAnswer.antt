@@ -9,13 +9,15 @@ use Rattle.fr_report.specs.Names.{RunNames}
 use Rattle.fr_report.specs.RunText.{IsRunText}
 use Rattle.fr_script.specs.View.{ScriptView}
 use Rattle.fr_sharp.specs.JoinedFiles.{IsSharplyCoveredToJoin, KeepsSharplyJoined}
+use Rattle.fr_sharp.specs.LossStatement.{IsCoveredThroughLosses, KeepsThroughLosses}
 use Rattle.fr_sharp.specs.SharpHistories.{IsInSharpSyncAt}
 use Rattle.fr_sharp.specs.SharpStatement.{has_arbitrary, IsSharplyCovered, KeepsSharply}
 use Rattle.fr_sharp.specs.SharpTested.{IsUnfollowedSharpSyncAt}
 
 -- a text is the report of the run that the files decide, with the promise of it; and where they are sharply covered, with any
 -- flutter in ticks, the same run keeps the sharper precision from each double cycle in sharp sync on; so it does where they are
--- sharply covered to join, whoever joins, from each one in which no node follows
+-- sharply covered to join, whoever joins, from each one in which no node follows; and where they are covered through losses, with any
+-- reach in ticks, it keeps to the numbers by what is heard, whatever frames are lost
 pub record IsKeptRunText (params : Values) (drift : DriftView) (script : ScriptView) (text : List ℕ) : Type 0 where
   pub report : IsRunText params drift script text
   pub sharply :
@@ -26,6 +28,10 @@ pub record IsKeptRunText (params : Values) (drift : DriftView) (script : ScriptV
       (flutter double : ℕ) → IsSharplyCoveredToJoin params drift script flutter
       → IsUnfollowedSharpSyncAt (has_arbitrary params script) params flutter report.cycles double
       → KeepsSharplyJoined (has_arbitrary params script) (setting_of params drift script) flutter report.cycles double
+  pub through_losses :
+      (flutter reach double : ℕ) → IsCoveredThroughLosses params drift script flutter reach
+      → IsInSharpSyncAt false params flutter (pos 0) report.cycles double
+      → KeepsThroughLosses params drift script flutter report.cycles double
 
 abbrev pub kept_run_command : RunNames → Command
 kept_run_command names = run_command IsKeptRunText names

@@ -8,7 +8,9 @@ ghost use Rattle.fr_answer.specs.RunAnswer.{kept_run_command};
 use fr_base::{Shelf, Sink};
 use fr_program::Failure;
 use fr_report::{RunFiles, answer_run};
-use fr_sharp::{covered_files_keep_sharply, covered_files_keep_sharply_joined};
+use fr_sharp::{
+    covered_files_keep_sharply, covered_files_keep_sharply_joined, lossy_files_give_runs,
+};
 use std::alloc::Global;
 
 /// The report of a run, as `fr_report` answers it; of the same run it says what the sharper promise says, where the files
@@ -27,5 +29,6 @@ pub fn answer_kept_run<S: Shelf, O: Sink>(
 {
     covered_files_keep_sharply();
     covered_files_keep_sharply_joined();
+    lossy_files_give_runs();
     answer_run(alloc, files, shelf, out)
 }

@@ -20,7 +20,9 @@ use fr_cold::a_startup_has_one_leader;
 use fr_frame::{a_fault_is_no_frame, what_is_read_is_there};
 use fr_params::{accepted_are_sane, files_are_upgraded};
 use fr_report::{a_made_run_has_one_status, a_run_is_lawful, a_trace_has_one_status};
-use fr_sharp::{covered_files_keep_sharply, covered_files_keep_sharply_joined};
+use fr_sharp::{
+    covered_files_keep_sharply, covered_files_keep_sharply_joined, lossy_files_give_runs,
+};
 use fr_verdict::a_passing_trace_keeps_its_precision;
 
 /// A law: the bytes of the file of a request for bounds define one status, also with the lines of a cluster that nodes
@@ -95,6 +97,7 @@ pub fn a_run_has_one_status()
     a_run_is_lawful();
     covered_files_keep_sharply();
     covered_files_keep_sharply_joined();
+    lossy_files_give_runs();
 }
 
 /// A law: the bytes of the two files of a startup define one status.

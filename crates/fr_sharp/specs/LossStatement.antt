@@ -64,22 +64,23 @@ LaterIsNoFurther =
     → ((lost_spread p flutter (λ m. whole (double + m)) k).starts ≤ (lost_spread p flutter whole (double + k)).starts)
     × ((lost_spread p flutter (λ m. whole (double + m)) k).lengths ≤ (lost_spread p flutter whole (double + k)).lengths)
 
--- from each double cycle in sharp sync on the run of such parameters, drift and script keeps to the numbers, as long as the walk lasts
+-- what is kept from a double cycle on, as long as the walk lasts, whatever frames are lost wherever and however many: no corresponding
+-- macroticks lie further apart than so by what was heard since, in ticks, no term is cut or missing, and every correct node is active
+abbrev pub KeepsThroughLosses : Values → DriftView → ScriptView → ℕ → Cycles → ℕ → Type 0
+KeepsThroughLosses p d s flutter h double =
+    (passed : ℕ) → double + passed < doubles_of d → WalkLastsAfter p flutter passed
+    → KeepsApart (setting_of p d s) h (double + passed) (lost_apart p flutter (λ m. whole_in p s (double + m)) passed)
+
+-- so it is of sane parameters, a drift and a script that are covered through losses, from each double cycle in sharp sync on
 abbrev pub CoveredFilesKeepThroughLosses : Type 0
 CoveredFilesKeepThroughLosses =
     (p : Values) (d : DriftView) (s : ScriptView) (flutter reach : ℕ) (h : Cycles) (double : ℕ)
-    → IsSane p → IsCoveredThroughLosses p d s flutter reach
-    → IsRunOf (setting_of p d s) h → IsInSharpSyncAt false p flutter (pos 0) h double
-    → (passed : ℕ) → double + passed < doubles_of d → WalkLastsAfter p flutter passed
-    → KeepsApart (setting_of p d s) h (double + passed) (lost_apart p flutter (λ m. whole_in p s (double + m)) passed)
+    → IsSane p → IsCoveredThroughLosses p d s flutter reach → IsRunOf (setting_of p d s) h
+    → IsInSharpSyncAt false p flutter (pos 0) h double → KeepsThroughLosses p d s flutter h double
 
--- the promise: of three accepted files that are covered through losses, from each double cycle in sharp sync on and as long as the walk
--- lasts, whatever frames are lost wherever and however many: no corresponding macroticks lie further apart than so by what was heard
--- since, no term is cut or missing, and every correct node is active
+-- the promise: and of three accepted files
 abbrev pub FilesKeepThroughLosses : Type 0
 FilesKeepThroughLosses =
     (p : Values) (d : DriftView) (s : ScriptView) (drift script : List ℕ) (flutter reach : ℕ) (h : Cycles) (double : ℕ)
     → IsSane p → IsDriftFile p d drift → IsScriptFile p s script → IsCoveredThroughLosses p d s flutter reach
-    → IsRunOf (setting_of p d s) h → IsInSharpSyncAt false p flutter (pos 0) h double
-    → (passed : ℕ) → double + passed < doubles_of d → WalkLastsAfter p flutter passed
-    → KeepsApart (setting_of p d s) h (double + passed) (lost_apart p flutter (λ m. whole_in p s (double + m)) passed)
+    → IsRunOf (setting_of p d s) h → IsInSharpSyncAt false p flutter (pos 0) h double → KeepsThroughLosses p d s flutter h double
