@@ -1,5 +1,5 @@
 -- What a request for the report of a run reads, and writes: what is kept of the run, in the older sense and in the sharper one.
-use Rattle.std.specs.Prelude.{ℕ, pos, List}
+use Rattle.std.specs.Prelude.{ℕ, pos, false, List}
 use Rattle.fr_cluster.specs.Values.{Values}
 use Rattle.fr_coverage.specs.Decided.{setting_of}
 use Rattle.fr_drift.specs.View.{DriftView}
