@@ -28,13 +28,14 @@ use Rattle.fr_sharp.specs.Flutter.{FluttersWithin}
 use Rattle.fr_sharp.specs.Lengths.{walked_after}
 use Rattle.fr_sharp.specs.SharpBounds.{rate_room, rate_walk, sharp_near, sharp_precision, walk_lasts}
 use Rattle.fr_sharp.specs.SharpChecks.{sharp_holds_of, SharpChecksHold}
-use Rattle.fr_sharp.specs.SharpFiles.{ArbitraryIsTold, CoveredFilesKeepSharply, FilesAreSteady, FilesFlutter, FilesGiveSteadyRuns, FirstCheckLastsOn}
+use Rattle.fr_sharp.specs.SharpFiles.{ArbitraryIsTold, CoveredFilesKeepSharply, FilesAreSteady, FilesFlutter, FilesGiveSteadyRuns, FilesSettleSharply, FirstCheckLastsOn}
 use Rattle.fr_sharp.specs.SharpHistories.{IsInSharpSyncAt, IsSteadyRun, KeepsApart, StaysInSharpSyncAt}
 use Rattle.fr_sharp.specs.SharpStatement.{has_arbitrary, FilesKeepSharpPrecision, KeepsSharply}
 use Rattle.fr_sharp.specs.SteadyRuns.{MayHaveArbitrary}
 use Rattle.fr_sharp.proofs.BoundLemmas.{first_check_stops_walk}
 use Rattle.fr_sharp.proofs.OlderLemmas.{does_not_walk}
 use Rattle.fr_sharp.proofs.RunCycles.{histories_keep_sharp_precision}
+use Rattle.fr_sharp.proofs.RunWay.{stated_runs_settle_sharply}
 use Rattle.fr_sharp.proofs.RunSync.{histories_keep_sharp_sync_lem}
 
 -- ---- flutter
@@ -199,3 +200,7 @@ covered_files_keep_sharply p d s flutter h double sane covered run sync =
 pub files_keep_sharp_precision : FilesKeepSharpPrecision
 files_keep_sharp_precision p d s drift script flutter h double sane drift_file script_file covered run sync =
     covered_files_keep_sharply p d s flutter h double sane covered run sync
+
+pub files_settle_sharply_lem : FilesSettleSharply
+files_settle_sharply_lem p d s flutter start rate way h sane none le alone run is holds near double within =
+    stated_runs_settle_sharply (has_arbitrary p s) (setting_of p d s) flutter start rate way h is holds (files_give_steady_runs p d s flutter h sane none le alone run) near double within

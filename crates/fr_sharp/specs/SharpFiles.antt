@@ -1,7 +1,8 @@
 -- What the sharper promise rests on, whatever the bytes of the files are: a run that is sharply covered is a steady one.
-use Rattle.std.specs.Prelude.{◌≡◌, ◌↔◌, ◌≤◌, ℕ, pos, true, false, None}
+use Rattle.std.specs.Prelude.{◌≡◌, ◌↔◌, ◌<◌, ◌≤◌, ℕ, pos, true, false, None}
 use Rattle.fr_cluster.specs.Values.{Values}
 use Rattle.fr_cluster.specs.Sane.{IsSane}
+use Rattle.fr_drift.specs.Questions.{doubles_of}
 use Rattle.fr_drift.specs.View.{DriftView}
 use Rattle.fr_script.specs.View.{ScriptView}
 use Rattle.fr_coverage.specs.Decided.{setting_of}
@@ -12,6 +13,10 @@ use Rattle.fr_promise.specs.Statement.{IsRunOf}
 use Rattle.fr_sharp.specs.Flutter.{FluttersWithin}
 use Rattle.fr_sharp.specs.SharpBounds.{walk_lasts}
 use Rattle.fr_sharp.specs.SharpChecks.{sharp_holds_of}
+use Rattle.fr_sharp.specs.SettlingHistories.{AreStatedNear}
+use Rattle.fr_sharp.specs.SharpWay.{IsSharpWay}
+use Rattle.fr_sharp.specs.WayHistories.{ComesByTheWay}
+use Rattle.fr_sharp.specs.declared.way.SharpWay.{SharpWay}
 use Rattle.fr_sharp.specs.SharpHistories.{IsInSharpSyncAt, IsSteadyRun}
 use Rattle.fr_sharp.specs.SharpStatement.{has_arbitrary, IsSharplyCovered, KeepsSharply}
 use Rattle.fr_sharp.specs.SteadyRuns.{IsSteadySetting, MayHaveArbitrary}
@@ -49,3 +54,12 @@ CoveredFilesKeepSharply =
 abbrev pub FirstCheckLastsOn : Type 0
 FirstCheckLastsOn =
     (p : Values) (flutter reach : ℕ) → IsSane p → (sharp_holds_of 1 flutter reach p ≡ true) ↔ (walk_lasts p flutter ≡ None)
+
+-- the run of sane parameters, a drift and a script without a gap but of the checks, that no node joins, comes into sharp sync as is
+-- told of its way by numbers within which its starts and first lengths lie, in ticks, where no check for the way fails
+abbrev pub FilesSettleSharply : Type 0
+FilesSettleSharply =
+    (p : Values) (d : DriftView) (s : ScriptView) (flutter start rate : ℕ) (way : SharpWay) (h : Cycles)
+    → IsSane p → HasNoGapOfRun p d s → flutter_of p d s ≤ flutter → some_joins (setting_of p d s) ≡ false → IsRunOf (setting_of p d s) h
+    → IsSharpWay (has_arbitrary p s) p flutter start rate way → way.failed ≡ None → AreStatedNear (setting_of p d s) start rate
+    → (double : ℕ) → double < doubles_of d → ComesByTheWay (has_arbitrary p s) (setting_of p d s) flutter way h 0 double

@@ -1,4 +1,4 @@
-ghost use Rattle.fr_sharp.specs.SharpFiles.{ArbitraryIsTold, CoveredFilesKeepSharply, FilesAreSteady, FilesFlutter, FilesGiveSteadyRuns, FirstCheckLastsOn};
+ghost use Rattle.fr_sharp.specs.SharpFiles.{ArbitraryIsTold, CoveredFilesKeepSharply, FilesAreSteady, FilesFlutter, FilesGiveSteadyRuns, FilesSettleSharply, FirstCheckLastsOn};
 ghost use Rattle.fr_sharp.specs.SharpStatement.{FilesKeepSharpPrecision};
 
 /// The promise: the run that three accepted files decide, where they are sharply covered, keeps the sharper precision from
@@ -23,4 +23,12 @@ pub fn files_are_steady()
     ensures setting { FilesAreSteady }
     ensures arbitrary { ArbitraryIsTold }
     ensures run { FilesGiveSteadyRuns }
+{}
+
+/// A law of files: where no check for the way fails that is computed from numbers within which the starts and first lengths
+/// of a run lie, in ticks, the run that sane parameters, a drift and a script decide, without a gap but of the checks and
+/// joined by no node, comes into sharp sync in the double cycle that the way names, and no macroticks before lie further
+/// apart than its peak.
+pub fn files_settle_sharply()
+    ensures { FilesSettleSharply }
 {}

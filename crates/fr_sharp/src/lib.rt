@@ -51,7 +51,9 @@ pub use checking::{sharp_checks, sharp_side};
 pub use driven_run::a_driven_run;
 pub use ends::ends_come_near;
 pub use far_run::{each_cluster_has_a_far_run, far_runs_reach};
-pub use files::{covered_files_keep_sharply, files_are_steady, files_keep_sharp_precision};
+pub use files::{
+    covered_files_keep_sharply, files_are_steady, files_keep_sharp_precision, files_settle_sharply,
+};
 pub use following::followers_hear_steadily;
 pub use grouping::sharp_groups_are_kept;
 pub use halting_run::the_first_sharp_check_is_needed;
