@@ -32,6 +32,12 @@ const NAMES = ["gMacroPerCycle", "pMicroPerCycle", "gNumberOfStaticSlots", "gdSt
   "pAllowHaltDueToClock", "pAllowPassiveToActive", "pClusterDriftDamping", "pOffsetCorrectionOut", "pRateCorrectionOut",
   "pDelayCompensation", "pDelayCompensationA", "pDelayCompensationB", "xRateBound", "xChangeBound", "xDelayError"];
 
+// No file of flexray has more bytes, and the shortest record of a file for frames or clocks has 15: more are none.
+const MOST_BYTES = 16777216, MOST_RECORDS = 1118481;
+
+// A text in a message, which never holds a long one whole.
+const cut = (text, most = 60) => (text.length <= most ? text : `${text.slice(0, most - 3)}...`);
+
 // ---- exact numbers
 
 // A decimal number as [numerator, denominator], or null.
@@ -72,6 +78,11 @@ function lengthOf(text) {
   return below > 0n ? nearest(TICKS * TICKS * value[1], below) : null;
 }
 
+// The same of an exact ppm, [numerator, denominator], above -1000000.
+function lengthAt([over, under]) {
+  return nearest(TICKS * TICKS * under, TICKS * under + over);
+}
+
 // The shortest decimal that stands for these ticks.
 function shortest(back, numerator, denominator, ticks) {
   for (let count = 0; count < 18; count += 1) {
@@ -93,13 +104,17 @@ function ppmText(length) {
 
 // ---- lists of nodes and cycles, as 1-4,6 and 0-399/2 (each second one)
 
+// The numbers of a list in ascending order, or null where it is none, or names more than a million.
 function listOf(text, least, most) {
   const found = new Set();
+  let count = 0;
   for (const part of text.split(",")) {
     const range = /^\s*(\d{1,9})\s*(?:-\s*(\d{1,9})\s*(?:\/\s*(\d{1,9}))?)?\s*$/.exec(part);
     if (!range) return null;
     const first = Number(range[1]), last = Number(range[2] ?? range[1]), step = Number(range[3] ?? 1);
     if (first < least || last > most || last < first || step < 1) return null;
+    count += Math.floor((last - first) / step) + 1;
+    if (count > 1000000) return null;
     for (let at = first; at <= last; at += step) found.add(at);
   }
   return [...found].sort((one, other) => one - other);
@@ -140,39 +155,41 @@ const MOST_ROWS = 60000;
 
 // Why a text is no name of a node, or null; others are the names of the other nodes. A name is of flexlab's file alone.
 function nameFault(name, others) {
-  if (typeof name !== "string" || !name || [...name].length > 128 || /[\p{C}\p{Z}]/u.test(name.replaceAll(" ", "")) || name !== name.trim()) {
+  if (typeof name !== "string" || !name || [...name.slice(0, 999)].length > 128 || /[\p{C}\p{Z}]/u.test(name.replaceAll(" ", "")) || name !== name.trim()) {
     return "a text of 1 to 128 printable characters is wanted, without blanks at its ends";
   }
   if (/^\p{Nd}+$/u.test(name)) return "it is a number, and a node's number is its id";
   return others.includes(name) ? "another node has this name" : null;
 }
 
-// The names of the nodes that the form has, by their number.
+// The names of the nodes that the form has, a Map by their number as a text.
 function namesOf(cluster) {
-  return cluster && cluster.nodes ? Object.fromEntries(cluster.nodes.filter((node) => node.name).map((node) => [node.id.trim(), node.name])) : {};
+  return new Map(cluster && cluster.nodes ? cluster.nodes.filter((node) => node.name).map((node) => [node.id.trim(), node.name]) : []);
 }
 
 // The cluster of three files, or a text that says why the form cannot show it. What the form has is then exactly what the
 // files say, but for the order of records, and the names of nodes, which are in no file of the program.
-function readCluster(files, microtick, names = {}) {
-  const found = { microtick, version: 1, parameters: {}, nodes: [], slots: [], doubles: "", lengths: [], delays: [], faults: [] };
+function readCluster(files, microtick, names = new Map()) {
+  const found = { microtick, version: 1, parameters: Object.create(null), nodes: [], slots: [], doubles: "", lengths: [], delays: [], faults: [] };
   const whole = (text) => /^-?\d{1,18}$/.test(text);
   const nodes = new Map();
-  const no = (name, record) => `${name}.csv, record ${record.number}: ${record.text}`;
-  for (const record of recordsOf(files.params)) {
+  const no = (name, record) => `${name}.csv, record ${record.number}: ${cut(record.text, 200)}`;
+  const long = Object.entries(files).find(([, text]) => text.length > MOST_BYTES);
+  if (long) return `${long[0]}.csv has more than ${MOST_BYTES} bytes`;
+  const parameters = recordsOf(files.params), drift = recordsOf(files.drift), script = recordsOf(files.script);
+  if (parameters.length > MOST_ROWS || drift.length + script.length > MOST_ROWS) return `the files have more records than the form can show well, ${MOST_ROWS}`;
+  for (const record of parameters) {
     const [kind, one, two, three, four] = record.fields;
     if (record.fields.length !== 5) return no("params", record);
     if (kind === "version" && Number(one) === 2) found.version = 2;
     else if (kind === "param" && NAMES.includes(one) && !(one in found.parameters)) found.parameters[one] = two;
-    else if (kind === "node" && whole(one) && !nodes.has(Number(one)) && ["A", "B", "AB"].includes(three)) {
-      nodes.set(Number(one), { id: one, name: names[Number(one)] ?? "", key: two, channels: three, cold: four === "1", arbitrary: false, ppm: "0", start: "0",
+    else if (kind === "node" && whole(one) && !nodes.has(Number(one)) && nodes.size < 64 && ["A", "B", "AB"].includes(three)) {
+      nodes.set(Number(one), { id: one, name: names.get(String(Number(one))) ?? "", key: two, channels: three, cold: four === "1", arbitrary: false, ppm: "0", start: "0",
         rate: "0", double: "", reference: "" });
     } else if (kind === "slot") found.slots.push({ slot: one, node: two, base: three, repetition: four });
     else return no("params", record);
   }
   found.nodes = [...nodes.values()];
-  const drift = recordsOf(files.drift), script = recordsOf(files.script);
-  if (drift.length + script.length > MOST_ROWS) return "the files have more records than the form can show well";
   const delays = new Map(), lengths = new Map(), frames = new Map();
   const node = (text) => (whole(text) ? nodes.get(Number(text)) : undefined);
   for (const record of drift) {
@@ -233,35 +250,66 @@ function stepsShown(id, steps, before) {
         if (begin < 1 || end <= begin) continue;
         const row = { node: String(id), first: String(begin), last: String(end), from: ppmText(before),
           to: ppmText(steps.get(last)) };
-        const made = ramp(row, before);
-        if (made && made.size === steps.size && [...made].every(([cycle, ticks]) => steps.get(cycle) === ticks)) return [row];
+        if (rampIs(row, before, steps)) return [row];
       }
     }
   }
   return cycles.map((cycle) => ({ node: String(id), first: String(cycle), last: "", from: ppmText(steps.get(cycle)), to: "" }));
 }
 
-// The cycles at which the length changes in a row of the form, each with its ticks, or null; a ramp is linear in ppm.
-function ramp(row, before) {
-  const found = new Map(), first = Number(row.first);
-  if (!/^\d{1,6}$/.test(row.first) || first > 199999) return null;
-  if (row.last === "" && row.to === "") {
-    const ticks = lengthOf(row.from);
-    return ticks === null ? null : found.set(first, ticks);
-  }
-  const begin = decimal(row.from), end = decimal(row.to), last = Number(row.last);
-  if (!begin || !end || !/^\d{1,6}$/.test(row.last) || last <= first || last > 199999) return null;
-  const span = BigInt(last - first), below = begin[1] * end[1] * span;
-  for (let cycle = first; cycle <= last; cycle += 1) {
-    const at = BigInt(cycle - first);
-    const ppm = begin[0] * end[1] * (span - at) + end[0] * begin[1] * at;
-    const whole = TICKS * below + ppm;
-    if (whole <= 0n) return null;
-    const ticks = nearest(TICKS * TICKS * below, whole);
-    if (ticks !== before) found.set(cycle, ticks);
+// A row of the form as {first, last, begin, end}, with ppm as exact fractions, or null; a ramp is linear in ppm.
+function rampOf(row) {
+  const first = Number(row.first), begin = lengthOf(row.from) !== null && decimal(row.from), is_step = row.last === "" && row.to === "";
+  if (!/^\d{1,6}$/.test(row.first) || first > 199999 || !begin) return null;
+  if (is_step) return { first, last: first, begin, end: begin };
+  const end = lengthOf(row.to) !== null && decimal(row.to), last = Number(row.last);
+  return end && /^\d{1,6}$/.test(row.last) && last > first && last <= 199999 ? { first, last, begin, end } : null;
+}
+
+// [cycle, ticks] at which the length changes, from one cycle until before another, where it was so before. Lengths of a ramp go
+// one way, so the next change is looked for in steps that double.
+function* rampChanges({ first, last, begin, end }, from, until, before) {
+  const span = BigInt(Math.max(last - first, 1)), under = begin[1] * end[1] * span, is_one = begin[0] * end[1] === end[0] * begin[1];
+  const at = (cycle) => {
+    const done = BigInt(cycle - first);
+    return lengthAt([begin[0] * end[1] * (span - done) + end[0] * begin[1] * done, under]);
+  };
+  for (let cycle = from; cycle < until;) {
+    const ticks = at(cycle);
+    if (ticks !== before) yield [cycle, ticks];
     before = ticks;
+    if (is_one || first === last) return;
+    let low = cycle, high = cycle;
+    for (let step = 1; high === low; step *= 2) {
+      const probe = Math.min(low + step, until - 1);
+      if (probe === low) return;
+      if (at(probe) === ticks) low = high = probe;
+      else high = probe;
+    }
+    while (high - low > 1) {
+      const amid = low + Math.floor((high - low) / 2);
+      if (at(amid) === ticks) low = amid;
+      else high = amid;
+    }
+    cycle = high;
   }
-  return found;
+}
+
+// The cycles at which the length changes in a row of the form, each with its ticks, or null.
+function ramp(row, before) {
+  const plan = rampOf(row);
+  return plan && new Map(rampChanges(plan, plan.first, plan.last + 1, before));
+}
+
+// Whether a row of the form says exactly these changes.
+function rampIs(row, before, steps) {
+  const plan = rampOf(row);
+  let count = 0;
+  for (const [cycle, ticks] of plan ? rampChanges(plan, plan.first, plan.last + 1, before) : []) {
+    if (steps.get(cycle) !== ticks) return false;
+    count += 1;
+  }
+  return plan !== null && count === steps.size;
 }
 
 const common = (one, other) => [...one.channels].filter((channel) => other.channels.includes(channel));
@@ -348,76 +396,89 @@ function factored(list, cluster) {
   });
 }
 
-// The three files of a cluster, and the cells that cannot be written: {files, wrong: [[row, field, why]]}.
+// The three files of a cluster, and the fields that cannot be written: {files, wrong: [[part, number, field, why]]}, where the
+// part is that of the cluster, as nodes, and the number that of its row, or null.
 function writeCluster(cluster) {
   const wrong = [], parameters = [], drift = [], script = [];
-  const bad = (row, field, why) => wrong.push([row, field, why]);
+  let count = 0;
+  const bad = (part, at, field, why) => wrong.push([part, at, field, why]);
+  // Whether so many records more have room.
+  const room = (part, at, field, more) => {
+    count += more;
+    if (count > MOST_RECORDS) bad(part, at, field, `this makes ${count} records, and a file of flexray may have ${MOST_BYTES} bytes, so ${MOST_RECORDS} at most`);
+    return count <= MOST_RECORDS;
+  };
+  const size = decimal(cluster.microtick);
+  if (!size || size[0] < size[1] || size[0] > 1000n * size[1]) bad("run", null, "microtick", "a number of nanoseconds from 1 to 1000 is wanted");
   if (cluster.version === 2) parameters.push("version,2,,,");
   for (const name of NAMES) {
     if (name in cluster.parameters) parameters.push(`param,${name},${cluster.parameters[name].trim()},,`);
   }
-  for (const node of cluster.nodes) {
+  cluster.nodes.forEach((node, at) => {
     parameters.push(`node,${node.id.trim()},${node.key.trim()},${node.channels},${node.cold ? 1 : 0}`);
     const fault = node.name && nameFault(node.name, cluster.nodes.filter((other) => other !== node).map((other) => other.name));
-    if (fault) bad(node, "name", fault);
-  }
+    if (fault) bad("nodes", at, "name", fault);
+  });
   for (const slot of cluster.slots) {
     parameters.push(`slot,${slot.slot.trim()},${slot.node.trim()},${slot.base.trim()},${slot.repetition.trim()}`);
   }
   drift.push(`doubles,${cluster.doubles.trim()},,,,`);
-  for (const node of cluster.nodes) {
+  cluster.nodes.forEach((node, at) => {
     const ticks = ticksOf(node.start, "us", cluster.microtick);
-    if (ticks === null) bad(node, "start", "a number of microseconds is wanted");
+    if (ticks === null) bad("nodes", at, "start", "a number of microseconds is wanted");
     else if (!node.arbitrary && (ticks !== 0n || node.rate.trim() !== "0")) drift.push(`start,${node.id},${ticks},${node.rate.trim()},,`);
-  }
-  for (const node of cluster.nodes) {
-    const before = lengthOf(node.ppm);
-    if (before === null) bad(node, "ppm", "a number of ppm is wanted");
-    const steps = new Map(before === null ? [] : [[0, before]]);
-    for (const row of cluster.lengths.filter((one) => one.node.trim() === node.id.trim())) {
-      const made = ramp(row, row.last === "" ? null : lengthOf(row.from));
-      if (made === null) bad(row, "from", "a cycle and ppm are wanted; of a ramp two cycles and two numbers of ppm");
+  });
+  cluster.nodes.forEach((node, number) => {
+    const before = lengthOf(node.ppm), steps = new Map(before === null ? [] : [[0, before]]);
+    if (before === null) bad("nodes", number, "ppm", "a number of ppm is wanted");
+    cluster.lengths.forEach((row, at) => {
+      if (row.node.trim() !== node.id.trim()) return;
+      const begin = row.last === "" ? null : lengthOf(row.from), made = ramp(row, begin);
+      if (made === null) bad("lengths", at, "from", "a cycle and ppm are wanted; of a ramp two cycles and two numbers of ppm");
+      else if (!room("lengths", at, "last", made.size)) return;
       for (const [cycle, ticks] of made || []) steps.set(cycle, ticks);
-      if (made && row.last !== "" && lengthOf(row.from) !== before) steps.set(Number(row.first), lengthOf(row.from));
-    }
+      if (made && row.last !== "" && begin !== before) steps.set(Number(row.first), begin);
+    });
     for (const cycle of [...steps.keys()].sort((one, other) => one - other)) {
       if (!node.arbitrary && !(cycle === 0 && steps.get(0) === TICKS)) drift.push(`length,${node.id},${cycle},${steps.get(cycle)},,`);
     }
-  }
-  for (const row of cluster.lengths) {
-    if (!cluster.nodes.some((node) => node.id.trim() === row.node.trim())) bad(row, "node", "there is no such node");
-  }
+  });
+  cluster.lengths.forEach((row, at) => {
+    if (!cluster.nodes.some((node) => node.id.trim() === row.node.trim())) bad("lengths", at, "node", "there is no such node");
+  });
   const delays = new Map();
-  for (const row of cluster.delays) {
+  cluster.delays.forEach((row, at) => {
     const ticks = ticksOf(row.ns, "ns", cluster.microtick), links = linksOf(row, cluster);
     const cycles = listOf(row.cycles, 0, 199999);
-    if (ticks === null) bad(row, "ns", "a number of nanoseconds is wanted");
-    if (!links || !links.length) bad(row, "to", "nodes are wanted that have a common channel of these, as 1-4,6 or all");
-    if (!cycles) bad(row, "cycles", "cycles are wanted, as 0 or 10-20,30");
-    if (ticks === null || !links || !cycles) continue;
-    for (const cycle of cycles) for (const link of links) delays.set([...link, cycle].join(), ticks);
-  }
+    if (ticks === null) bad("delays", at, "ns", "a number of nanoseconds is wanted");
+    if (!links || !links.length) bad("delays", at, "to", "nodes are wanted that have a common channel of these, as 1-4,6 or all");
+    if (!cycles) bad("delays", at, "cycles", "cycles are wanted, as 0 or 10-20,30");
+    if (ticks === null || !links || !cycles || !room("delays", at, "cycles", cycles.length * links.length)) return;
+    for (const link of links.map((one) => one.join())) for (const cycle of cycles) delays.set(`${link},${cycle}`, ticks);
+  });
   for (const [link, ticks] of delays) drift.push(`delay,${link},${ticks}`);
   for (const node of cluster.nodes) if (node.arbitrary) script.push(`arbitrary,${node.id},,,,,`);
   for (const node of cluster.nodes) {
     if (node.double.trim() !== "") script.push(`join,${node.double.trim()},${node.id},${node.reference.trim()},,,`);
   }
   const frames = new Map();
-  const least = Math.min(400000, 2 * Number(cluster.doubles) || 2);
-  for (const row of cluster.faults) {
+  const least = Math.min(200000, 2 * Number(cluster.doubles) || 2);
+  cluster.faults.forEach((row, at) => {
     const links = linksOf(row, cluster);
     const cycles = listOf(row.cycles.trim() === "all" ? `0-${least - 1}` : row.cycles, 0, 199999);
     const value = row.kind === "say" ? ticksOf(row.value, "us", cluster.microtick) : row.kind === "flip" ? row.value.trim() : "";
-    if (value === null) bad(row, "value", "a number of microseconds is wanted, above 0 late");
-    if (!links || !links.length) bad(row, "to", "nodes are wanted that have a common channel of these, as 1-4,6 or all");
-    if (!cycles) bad(row, "cycles", "cycles are wanted, as 0-399, 10-20,30 or all");
-    if (value === null || !links || !cycles) continue;
+    if (value === null) bad("faults", at, "value", "a number of microseconds is wanted, above 0 late");
+    if (!links || !links.length) bad("faults", at, "to", "nodes are wanted that have a common channel of these, as 1-4,6 or all");
+    if (!cycles) bad("faults", at, "cycles", "cycles are wanted, as 0-399, 10-20,30 or all");
+    if (value === null || !links || !cycles || !room("faults", at, "cycles", cycles.length * links.length)) return;
+    const spelt = links.map((link) => link.join()), end = `${value},${row.kind === "say" ? row.bytes.trim() : ""}`;
     for (const cycle of cycles) {
-      for (const link of links) frames.set([cycle, ...link].join(), `${row.kind},${[cycle, ...link].join()},${value},${row.kind === "say" ? row.bytes.trim() : ""}`);
+      if (!frames.has(cycle)) frames.set(cycle, new Map());
+      const known = frames.get(cycle);
+      for (const link of spelt) known.set(link, `${row.kind},${cycle},${link},${end}`);
     }
-  }
-  const order = (one, other) => parseInt(one, 10) - parseInt(other, 10);
-  for (const frame of [...frames.keys()].sort(order)) script.push(frames.get(frame));
+  });
+  for (const cycle of [...frames.keys()].sort((one, other) => one - other)) script.push(...frames.get(cycle).values());
   const text = (lines) => lines.map((line) => line + "\n").join("");
   return { files: { params: text(parameters), drift: text(drift), script: text(script) }, wrong };
 }

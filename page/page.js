@@ -21,39 +21,61 @@ async function unpacked(id) {
   return new Response(new Blob([bytes]).stream().pipeThrough(new DecompressionStream("gzip"))).text();
 }
 
-// ---- the program
+// ---- what works beside the page, so that it answers meanwhile and Stop can end it
 
-const program = {
-  worker: null, number: 0, waiting: new Map(),
-  start() {
-    this.worker = new Worker(URL.createObjectURL(new Blob([$("worker").textContent], { type: "text/javascript" })));
-    this.worker.onmessage = ({ data }) => {
-      this.waiting.get(data.number)?.(data);
-      this.waiting.delete(data.number);
-    };
-    this.worker.postMessage({ packed: $("module").textContent.trim() });
-  },
-  // What runs is given up, and its answers never come.
-  stop() {
-    this.worker.terminate();
-    this.waiting.clear();
-    this.start();
-  },
-  // The answer {status, text, line, ms} of the words of `flexray`, or of `flexray-series`; files are bytes or texts.
-  request(words, files, series = false) {
-    const number = this.number += 1;
-    const bytes = files.map((file) => (typeof file === "string" ? new TextEncoder().encode(file) : file));
-    return new Promise((done) => {
-      this.waiting.set(number, done);
-      this.worker.postMessage({ number, words, files: bytes, name: series ? "flexray_series_request" : "flexray_request" });
-    });
-  },
-};
+// Asks a worker of this script; `first` is what it is told at its begin.
+function asker(script, first) {
+  return {
+    worker: null, number: 0, waiting: new Map(),
+    start() {
+      const place = URL.createObjectURL(new Blob([script()], { type: "text/javascript" }));
+      this.worker = new Worker(place);
+      this.worker.onmessage = ({ data }) => {
+        this.waiting.get(data.number)?.(data);
+        this.waiting.delete(data.number);
+      };
+      // What ends a worker, as want of memory, is an answer to all that wait.
+      this.worker.onerror = (event) => {
+        const waiting = [...this.waiting.values()], fault = String(event.message || "the browser ended it");
+        this.stop();
+        for (const done of waiting) done({ status: -1, text: "", line: fault, fault });
+      };
+      if (first) this.worker.postMessage(first());
+      setTimeout(() => URL.revokeObjectURL(place), 10000);
+    },
+    // What works is given up, and its answers never come.
+    stop() {
+      this.worker.terminate();
+      this.waiting.clear();
+      this.start();
+    },
+    ask(given) {
+      const number = this.number += 1;
+      return new Promise((done) => {
+        this.waiting.set(number, done);
+        this.worker.postMessage({ ...given, number });
+      });
+    },
+  };
+}
+
+const program = asker(() => $("worker").textContent, () => ({ packed: $("module").textContent.trim() }));
+// The answer {status, text, line, ms} of the words of `flexray`, or of `flexray-series`; files are bytes or texts.
+program.request = (words, files, series = false) => program.ask({ words, name: series ? "flexray_series_request" : "flexray_request",
+  files: files.map((file) => (typeof file === "string" ? new TextEncoder().encode(file) : file)) });
+// Reads and writes files.
+const reader = asker(() => `${$("shared").textContent}\n${$("reader").textContent}`);
 
 // ---- what is shown
 
 const page = { files: { params: "", drift: "", script: "" }, cluster: null, microtick: "25", editor: "Cluster", answers: "Summary",
-  printed: "report", found: null, wrong: [], timer: 0, turn: 0, name: "cluster", stopped: false };
+  printed: "report", found: null, timer: 0, turn: 0, name: "cluster",
+  // What was edited last and is not taken in yet: "form", "files" or "toml"; the text of the latter; a microtick that was typed.
+  edited: null, toml: "", retick: null, wrong: [],
+  // Whether the verdict is not that of what is shown, and whether the editor waits for what is taken in.
+  stale: false, waits: false,
+  // Where the cluster comes from: {kind, name, kept, left}, and whether it was edited since.
+  source: null, touched: false };
 
 const us = (ticks, count = 3) => {
   const size = decimal(page.microtick) || [25n, 1n];
@@ -70,7 +92,7 @@ const msOfCycle = (cycle, known) => ((cycle * known.pMicroPerCycle * Number(page
 const percent = (part, whole) => (whole > 0 ? `${((100 * Number(part)) / Number(whole)).toFixed(1)} %` : "");
 
 function readReport(text) {
-  const found = { ends: [] };
+  const found = Object.assign(Object.create(null), { ends: [] });
   for (const line of text.split("\n")) {
     const words = line.split(" ");
     if (words[0] === "nodes") found.counts = { nodes: +words[1], sync: +words[3], arbitrary: +words[5], doubles: +words[7] };
@@ -87,7 +109,7 @@ function readReport(text) {
 }
 
 function readSeries(text) {
-  const found = { skew: [], last: {} };
+  const found = { skew: [], last: Object.create(null) };
   for (const line of text.split("\n")) {
     const fields = line.split(",");
     if (/^\d/.test(line)) found.skew.push(Number(fields[2]));
@@ -97,7 +119,7 @@ function readSeries(text) {
 }
 
 function readBounds(text) {
-  const found = { checks: [] };
+  const found = Object.assign(Object.create(null), { checks: [] });
   for (const line of text.split("\n")) {
     const check = /^(?:(alone|beside) )?C(\d) (holds|fails) (\d+) (\d+)$/.exec(line), words = line.split(" ");
     if (check) found.checks.push({ side: check[1] || "", number: +check[2], holds: check[3] === "holds", left: check[4], right: check[5] });
@@ -120,22 +142,110 @@ function state(name, text) {
   document.documentElement.dataset.state = name;
   $("state").textContent = text;
   $("stop").hidden = name !== "busy";
-  for (const id of ["verdict", "results"]) $(id).classList.toggle("stale", name === "busy");
+  for (const id of ["verdict", "results"]) $(id).classList.toggle("stale", name === "busy" || page.stale);
+}
+
+// Says what stands against the verdict, or nothing. It stays in sight wherever the page is scrolled to, and so does the field
+// that is typed in.
+function notice(...cards) {
+  const focused = document.activeElement;
+  $("notice").replaceChildren(...cards);
+  document.documentElement.style.scrollPaddingTop = cards.length ? `${$("notice").offsetHeight + 8}px` : "";
+  if (cards.length && focused && focused !== document.body && !$("notice").contains(focused)) focused.scrollIntoView({ block: "nearest" });
+}
+
+// Tells that the verdict is not that of what is shown, and why.
+function stale(short, title, lines, ...buttons) {
+  page.stale = true;
+  state("stale", short);
+  notice(element("div", { class: "card bad refused", id: "stale", role: "alert" }, element("h2", {}, page.found && page.found.series && !page.found.fault ? "What stands below is of the cluster before" : "Nothing is computed yet"),
+    element("div", { class: "big" }, title), ...lines.map((line) => element("p", {}, line)),
+    buttons.length ? element("p", {}, ...buttons.map(([name, onclick]) => element("button", { type: "button", onclick }, name))) : null));
 }
 
 function later(pause = 250) {
   clearTimeout(page.timer);
+  // What is under way is of the cluster before, and its answers are not waited for.
+  page.turn += 1;
   state("busy", "computing");
   page.timer = setTimeout(compute, pause);
+}
+
+// Takes in what was edited last: the form into the files, or the files or the TOML text into the form. Answers whether it could.
+async function understood(turn) {
+  const { edited } = page, names = namesOf(page.cluster);
+  let wrong = [];
+  if (edited) {
+    const told = await reader.ask(edited === "form" ? { job: "write", cluster: page.cluster }
+      : edited === "toml" ? { job: "toml", text: page.toml } : { job: "read", files: page.files, microtick: page.microtick, names });
+    if (turn !== page.turn) return false;
+    if (told.fault || told.no) {
+      if ($("toml-fault")) $("toml-fault").textContent = told.no || told.fault;
+      $("file-toml")?.setAttribute("aria-invalid", "true");
+      stale("not understood", edited === "toml" ? "The TOML file is not understood" : "This page cannot read it", [told.no || told.fault]);
+      return false;
+    }
+    wrong = told.wrong || [];
+    if (!wrong.length) {
+      if (told.files) page.files = told.files;
+      if (told.cluster !== undefined) page.cluster = told.cluster;
+      if (told.microtick) page.microtick = told.microtick;
+      page.edited = null;
+      if (edited === "toml") page.retick = null;
+      if ($("toml-fault")) $("toml-fault").textContent = "";
+      $("file-toml")?.setAttribute("aria-invalid", "false");
+    }
+  }
+  if (page.retick !== null) {
+    const size = decimal(page.retick);
+    if (!size || size[0] < size[1] || size[0] > 1000n * size[1]) wrong = [...wrong, ["run", null, "microtick", "a number of nanoseconds from 1 to 1000 is wanted"]];
+    else if (!wrong.length) {
+      page.microtick = digits(...size, 24);
+      page.retick = null;
+      const told = await reader.ask({ job: "read", files: page.files, microtick: page.microtick, names: namesOf(page.cluster) });
+      if (turn !== page.turn) return false;
+      page.cluster = told.cluster ?? told.fault;
+    }
+  }
+  page.wrong = wrong;
+  markWrong();
+  if (!wrong.length) return true;
+  const short = `${wrong.length} ${wrong.length === 1 ? "field is" : "fields are"} not understood`;
+  stale(short, short, [...wrong.slice(0, 4).map((one) => `${wordsOf(one)}: ${one[3]}.`), ...(wrong.length > 4 ? [`And ${wrong.length - 4} more.`] : [])],
+    ["Show the field", () => showField(wrong[0])]);
+  return false;
+}
+
+const PARTS = new Map([["run", ["Cluster", ""]], ["nodes", ["Nodes", "node"]], ["slots", ["Nodes", "slot"]], ["lengths", ["Clocks and delays", "change"]],
+  ["delays", ["Clocks and delays", "delay"]], ["faults", ["Faults", "fault"]]]);
+const rowOf = ([part, at]) => (at === null ? page.cluster : page.cluster[part][at]);
+// Where a field is that is not understood, and what stands there.
+function wordsOf([part, at, field]) {
+  const [tab, name] = PARTS.get(part), text = field === "microtick" ? page.retick ?? page.microtick : rowOf([part, at])[field];
+  return `${tab}, ${name ? `${name} ${at + 1}, ` : ""}${field === "last" && name === "change" ? "to cycle" : field} “${cut(String(text))}”`;
+}
+
+function showField([part, at, field]) {
+  selectTab("editor", PARTS.get(part)[0]);
+  const found = field === "microtick" ? $("microtick") : [...document.querySelectorAll("#editor-panel [data-field]")].find((one) => one.row === rowOf([part, at]) && one.dataset.field === field);
+  found?.focus();
+  found?.scrollIntoView({ block: "nearest" });
 }
 
 async function compute() {
   clearTimeout(page.timer);
   page.turn += 1;
-  const turn = page.turn, files = { ...page.files }, given = [files.params, files.drift, files.script];
-  if (program.waiting.size) program.stop();
+  const turn = page.turn;
+  for (const one of [program, reader]) if (one.waiting.size) one.stop();
   state("busy", "computing");
-  const begun = performance.now();
+  const begun = performance.now(), is_understood = await understood(turn);
+  if (turn !== page.turn) return;
+  // A reader that was stopped owes the TOML file.
+  const owed = page.editor === "TOML" && page.edited !== "toml" && $("file-toml") && !$("file-toml").value;
+  if (page.waits || owed) showEditor();
+  showSource();
+  if (!is_understood) return;
+  const files = { ...page.files }, given = [files.params, files.drift, files.script];
   const report = await program.request(["run", "first", "second", "third"], given);
   if (turn !== page.turn) return;
   const found = { files, report, texts: { report: report.text } };
@@ -153,10 +263,10 @@ async function compute() {
       flutter, joins, known: parametersOf(files.params) });
   }
   page.found = found;
+  page.stale = false;
   const failed = report.status !== 0 ? report : found.fault;
-  const took = `${Math.round(performance.now() - begun)} ms`;
   if (failed) state("failed", STATUSES[failed.status] || "stopped");
-  else state("ready", page.wrong.length ? `${page.wrong.length} fields are not understood` : took);
+  else state("ready", `${Math.round(performance.now() - begun)} ms`);
   showVerdict();
   showResults();
 }
@@ -174,14 +284,15 @@ function showVerdict() {
   if (failed) {
     const told = explain(failed.line, found.files), fields = told.record ? told.record.fields : [];
     if (fields[0] === "param" && $(`parameter-${fields[1]}`)) $(`parameter-${fields[1]}`).setAttribute("aria-invalid", "true");
-    cards.push(element("div", { class: "card bad refused", id: "refusal" }, element("h2", {}, `flexray: ${failed.line}`),
+    notice(element("div", { class: "card bad refused", id: "refusal", role: "alert" }, element("h2", {}, `flexray: ${cut(failed.line, 300)}`),
       element("div", { class: "big" }, told.title), ...told.lines.map((line) => element("p", {}, line)),
-      told.record && element("p", {}, element("code", {}, told.record.text)),
+      told.record && element("p", {}, element("code", {}, cut(told.record.text, 300))),
       told.role && element("p", {}, element("button", { type: "button", onclick: () => showRecord(told) },
         told.record ? "Show the record" : `Show ${told.role}.csv`))));
-    $("verdict").replaceChildren(...cards);
+    $("verdict").replaceChildren();
     return;
   }
+  notice();
   const { run, series, bound, sharp, joins, known } = found, { last } = series;
   const kind = last.sharp[1], first = last["sharp synced"][0], lasts = last["sharp synced"][1];
   const covered = last["sharp covered"][0] === "yes", cycle = Number(first) * 2;
@@ -207,7 +318,9 @@ function showVerdict() {
 
 function showRecord({ role, record }) {
   selectTab("editor", "Files");
-  const area = $(`file-${role}`), value = area.value;
+  const area = $(`file-${role}`);
+  if (!area) return;
+  const { value } = area;
   const skipped = value.startsWith("\ufeff") ? 1 : 0;
   area.focus();
   // A text area has one line feed for each end of a line.
@@ -237,6 +350,7 @@ function selectTab(which, name) {
     const is_it = button.id === `tab-${which}-${name}`;
     button.setAttribute("aria-selected", is_it);
     button.tabIndex = is_it ? 0 : -1;
+    if (is_it) $(button.getAttribute("aria-controls")).setAttribute("aria-labelledby", button.id);
   }
   if (which === "editor") showEditor();
   else showResults();
@@ -279,7 +393,18 @@ function showChart() {
     charts.push(element("p", { class: "note" }, `The same from cycle ${from + 4} on, in its own scale:`),
       chart(points, levels, { most: high, since: null, sharp: null, first: from + 4, width, height: 190, label: "The later skew in its own scale" }));
   }
-  $("chart").replaceChildren(...charts);
+  $("chart").replaceChildren(...charts, curveTable(points));
+}
+
+// The curve in numbers, of some twenty parts of the run.
+function curveTable(points) {
+  const step = Math.max(1, Math.ceil(points.length / 20)), rows = [];
+  for (let from = 0; from < points.length; from += step) {
+    const part = points.slice(from, from + step), most = part.reduce((one, other) => Math.max(one, other)), least = part.reduce((one, other) => Math.min(one, other));
+    rows.push([part.length > 1 ? `${from} to ${from + part.length - 1}` : String(from), least.toFixed(3), most.toFixed(3), String(from + part.indexOf(most))]);
+  }
+  return element("details", { id: "curve" }, element("summary", {}, "The curve in numbers"),
+    plainTable(["cycles", " least skew, us", " greatest skew, us", " in cycle"], rows));
 }
 
 addEventListener("resize", () => {
@@ -303,9 +428,9 @@ const RESULTS = {
     return plainTable(["", ""], list);
   },
   Nodes() {
-    const { run, known, files } = page.found, names = namesOf(page.cluster), arbitrary = recordsOf(files.script).filter((record) => record.fields[0] === "arbitrary").map((record) => record.fields[1]);
-    const rows = run.ends.map((one) => [one.node, names[one.node] ?? "", one.state, one.rate, one.offset]);
-    rows.push(...arbitrary.map((node) => [node, names[node] ?? "", "arbitrary: it has no clock", "", ""]));
+    const { run, known, files } = page.found, names = namesOf(page.cluster), called = (node) => names.get(node) ?? "", arbitrary = recordsOf(files.script).filter((record) => record.fields[0] === "arbitrary").map((record) => record.fields[1]);
+    const rows = run.ends.map((one) => [one.node, called(one.node), one.state, one.rate, one.offset]);
+    rows.push(...arbitrary.map((node) => [node, called(node), "arbitrary: it has no clock", "", ""]));
     return element("div", {}, plainTable([" node", "name", "at the end", " rate term", " offset term"], rows),
       element("p", { class: "note" }, `Terms are in microticks; above 0 they lengthen the cycle. Limits: ${known.pRateCorrectionOut} and ${known.pOffsetCorrectionOut}.`));
   },
@@ -354,10 +479,13 @@ function showResults() {
   const found = page.found;
   if (!found || found.report.status !== 0 || found.fault) {
     $("chart").replaceChildren(element("p", { class: "note" }, found ? "No run: see above." : ""));
+    // So that the next run is drawn, whatever its turn.
+    delete $("chart").dataset.turn;
     $("results-panel").replaceChildren();
     return;
   }
-  if ($("chart").dataset.turn !== String(page.turn)) {
+  if (page.drawn !== found || !$("chart").dataset.turn) {
+    page.drawn = found;
     $("chart").dataset.turn = page.turn;
     showChart();
   }
@@ -366,23 +494,18 @@ function showResults() {
 
 // ---- the editor
 
-function edited() {
-  const { files, wrong } = writeCluster(page.cluster);
-  page.wrong = wrong;
-  markWrong();
-  if (wrong.length) {
-    state("ready", `${wrong.length} ${wrong.length === 1 ? "field is" : "fields are"} not understood`);
-    return;
-  }
-  page.files = files;
+function edited(what = "form") {
+  page.edited = what;
+  page.touched = true;
   later();
 }
 
 function markWrong() {
+  const found = new Map(page.cluster && page.cluster.nodes ? page.wrong.map((one) => [one, rowOf(one)]) : []);
   for (const input of document.querySelectorAll("#editor-panel [data-field]")) {
-    const found = page.wrong.find(([row, field]) => row === input.row && field === input.dataset.field);
-    input.setAttribute("aria-invalid", Boolean(found));
-    input.title = found ? found[2] : input.dataset.title || "";
+    const wrong = page.wrong.find((one) => found.get(one) === input.row && one[2] === input.dataset.field);
+    input.setAttribute("aria-invalid", Boolean(wrong));
+    input.title = wrong ? wrong[3] : input.dataset.title || "";
   }
 }
 
@@ -400,7 +523,7 @@ function input(row, key, label, { type = "text", options, width, title } = {}) {
   } else {
     found = element("input", { value: row[key], "aria-label": label, autocomplete: "off", spellcheck: "false", size: width || 6, oninput: (event) => change(event.target.value) });
   }
-  if (width && found.size) found.style.width = `${width + 1.7}ch`;
+  if (width && found.size) found.style.width = `${width + 1.3}ch`;
   found.row = row;
   found.dataset.field = key;
   if (title) found.dataset.title = found.title = title;
@@ -409,23 +532,32 @@ function input(row, key, label, { type = "text", options, width, title } = {}) {
 
 const CHANNELS = { options: [["A", "A"], ["B", "B"], ["AB", "AB"]] };
 
+// More rows than these are not shown: a browser would take long for them.
+const MOST_SHOWN = 400;
+
 function editTable(title, note, rows, columns, fresh, name) {
-  const shown = columns.filter((column) => !column.when || rows.some(column.when));
-  const add = element("button", { type: "button", onclick: () => {
+  const list = rows.slice(0, MOST_SHOWN), shown = columns.filter((column) => !column.when || list.some(column.when));
+  const add = element("button", { type: "button", class: "add", onclick: () => {
     rows.push(fresh());
     showEditor();
+    document.querySelector(`[aria-label="${columns[0].head}, ${name} ${rows.length}"]`)?.focus();
     edited();
   } }, `Add ${name}`);
-  const head = element("tr", {}, ...shown.map((column) => element("th", { scope: "col", title: column.title }, column.head)), element("th", {}));
-  const body = rows.map((row, at) => element("tr", {}, ...shown.map((column) => element("td", { class: column.type === "check" ? "check" : null },
-    !column.when || column.when(row) ? input(row, column.key, `${column.head}, ${name} ${at + 1}`, column) : "")),
-  element("td", {}, element("button", { type: "button", class: "remove", "aria-label": `Remove ${name} ${at + 1}`, title: "Remove", onclick: () => {
+  const removed = (at) => {
     rows.splice(at, 1);
     showEditor();
+    // The one behind it, else the one before, else the button that adds one.
+    const next = [at + 1, at].map((number) => document.querySelector(`[aria-label="Remove ${name} ${number}"]`)).find(Boolean);
+    (next || [...document.querySelectorAll("#editor-panel .add")].find((button) => button.textContent === `Add ${name}`))?.focus();
     edited();
-  } }, "×"))));
+  };
+  const head = element("tr", {}, ...shown.map((column) => element("th", { scope: "col", title: column.title }, column.head)), element("th", {}));
+  const body = list.map((row, at) => element("tr", {}, ...shown.map((column) => element("td", { class: column.type === "check" ? "check" : null },
+    !column.when || column.when(row) ? input(row, column.key, `${column.head}, ${name} ${at + 1}`, column) : "")),
+  element("td", {}, element("button", { type: "button", class: "remove", "aria-label": `Remove ${name} ${at + 1}`, title: "Remove", onclick: () => removed(at) }, "×"))));
   return element("fieldset", {}, element("legend", {}, title), note && element("p", { class: "note" }, note),
-    rows.length ? element("div", { class: "scroll" }, element("table", {}, element("thead", {}, head), element("tbody", {}, ...body))) : null, add);
+    rows.length ? element("div", { class: "scroll" }, element("table", {}, element("thead", {}, head), element("tbody", {}, ...body))) : null,
+    rows.length > MOST_SHOWN ? element("p", { class: "note" }, `And ${rows.length - MOST_SHOWN} more, which hold as they are; Files has all.`) : null, add);
 }
 
 function parameterField([name, least, most, unit, label]) {
@@ -444,16 +576,24 @@ function parameterField([name, least, most, unit, label]) {
 
 const GROUPS = [["The cycle", 0, 8], ["Corrections", 8, 14], ["Limits of oscillators and delays", 14, 17], ["When a node gives up", 17, 21]];
 
+// A text that is longer than this is not put into a field: a browser would take long for it.
+const MOST_EDITED = 2000000;
+
 const EDITOR = {
   Cluster() {
-    const microtick = element("input", { id: "microtick", value: page.microtick, size: 6, "aria-label": "A microtick lasts, in nanoseconds", oninput: (event) => {
-      const value = decimal(event.target.value);
-      event.target.setAttribute("aria-invalid", !value || value[0] <= 0n);
-      if (!value || value[0] <= 0n) return;
-      page.microtick = event.target.value.trim().replace(",", ".");
-      page.cluster = readCluster(page.files, page.microtick, namesOf(page.cluster));
-      later();
-    }, onchange: () => showEditor() });
+    const microtick = element("input", { id: "microtick", "data-field": "microtick", value: page.retick ?? page.microtick, size: 6, "aria-label": "A microtick lasts, in nanoseconds", autocomplete: "off",
+      oninput: (event) => {
+        page.retick = event.target.value;
+        page.touched = true;
+        later();
+      },
+      // Times of the form are of the new microtick as soon as it is taken in.
+      onchange: () => {
+        if (page.retick === null) showEditor();
+        else page.waits = true;
+      } });
+    microtick.row = page.cluster;
+    microtick.dataset.title = microtick.title = "1 to 1000 ns";
     const doubles = input(page.cluster, "doubles", "Double cycles of the run", { title: "1 to 100000" });
     doubles.id = "doubles";
     return element("div", {}, element("fieldset", {}, element("legend", {}, "The run"), element("div", { class: "fields" },
@@ -466,11 +606,11 @@ const EDITOR = {
     const next = (rows, key) => String(Math.max(0, ...rows.map((row) => Number(row[key]) || 0)) + 1);
     return element("div", {}, editTable("Nodes", "A node with a key slot sends sync frames. An arbitrary one has no clock, and says what Faults have it say. One that joins listens to another in that double cycle, and takes part six cycles behind its begin.",
       page.cluster.nodes, [
-        { key: "id", head: "node", width: 2 }, { key: "name", head: "name", width: 8, title: "of the TOML file alone; it may be empty" }, { key: "key", head: "key slot", width: 3, title: "empty: it sends no sync frames" },
+        { key: "id", head: "node", width: 2 }, { key: "name", head: "name", width: 7, title: "of the TOML file alone; it may be empty" }, { key: "key", head: "key slot", width: 3, title: "empty: it sends no sync frames" },
         { key: "channels", head: "channels", ...CHANNELS }, { key: "cold", head: "cold-start", type: "check" },
         { key: "arbitrary", head: "arbitrary", type: "check" },
         { key: "ppm", head: "ppm", width: 6, title: "of its oscillator; above 0 it is fast" },
-        { key: "start", head: "start, us", width: 6, title: "when its first cycle starts" },
+        { key: "start", head: "start, us", width: 5, title: "when its first cycle starts" },
         { key: "rate", head: "first rate", width: 2, title: "microticks" },
         { key: "double", head: "joins in", width: 2, title: "the double cycle in which it listens; empty: it is there from the beginning" },
         { key: "reference", head: "listens to", width: 2, title: "the node that it listens to as it joins" },
@@ -498,14 +638,18 @@ const EDITOR = {
       }, "fault"));
   },
   Files() {
-    const area = (name) => element("div", {}, element("h3", {}, element("label", { for: `file-${name}` }, `${name}.csv`)), element("textarea", { id: `file-${name}`, spellcheck: "false", autocomplete: "off", oninput: (event) => {
-      page.files = { ...page.files, [name]: event.target.value };
-      page.cluster = readCluster(page.files, page.microtick, namesOf(page.cluster));
-      page.wrong = [];
-      later();
-    } }));
+    const area = (name) => element("div", {}, element("h3", {}, element("label", { for: `file-${name}` }, `${name}.csv`)),
+      page.files[name].length > MOST_EDITED ? element("p", { class: "note" }, `It has ${page.files[name].length} letters, which is too much to be edited here. Open another file in its place.`)
+        : element("textarea", { id: `file-${name}`, spellcheck: "false", autocomplete: "off", oninput: (event) => {
+          page.files = { ...page.files, [name]: event.target.value };
+          page.wrong = [];
+          edited("files");
+        } }));
     const found = element("div", {}, element("p", { class: "note" }, "These are what the program reads, in its own units: ticks, a millionth of a microtick. The other tabs write them."), area("params"), area("drift"), area("script"));
-    for (const name of ["params", "drift", "script"]) found.querySelector(`#file-${name}`).value = page.files[name];
+    for (const name of ["params", "drift", "script"]) {
+      const place = found.querySelector(`#file-${name}`);
+      if (place) place.value = page.files[name];
+    }
     return found;
   },
 };
@@ -514,42 +658,76 @@ const EDITOR = {
 EDITOR.TOML = () => {
   const fault = element("p", { class: "bad-text", role: "alert", id: "toml-fault" });
   const area = element("textarea", { id: "file-toml", class: "tall", spellcheck: "false", autocomplete: "off", "aria-label": "The TOML file of flexlab", oninput: () => {
-    try {
-      takeToml(area.value);
-      fault.textContent = "";
-    } catch (why) {
-      fault.textContent = why instanceof NoToml ? why.message : `this page cannot read it: ${why.message}`;
-      area.setAttribute("aria-invalid", "true");
-      return;
-    }
-    area.setAttribute("aria-invalid", "false");
-    later();
+    page.toml = area.value;
+    page.wrong = [];
+    edited("toml");
   } });
-  area.value = tomlOf(page.cluster);
+  if (page.edited === "toml") area.value = page.toml;
+  else {
+    reader.ask({ job: "written", cluster: page.cluster }).then((told) => {
+      // What was typed meanwhile stays.
+      if (!area.isConnected || area.value) return;
+      if (told.no || told.fault) fault.textContent = `There is no such file of this cluster: ${told.no || told.fault}.`;
+      else if (told.text.length > MOST_EDITED) fault.textContent = "The file is too long to be edited here: Save TOML writes it.";
+      else area.value = told.text;
+    });
+  }
   return element("div", {}, element("p", { class: "note" }, "The same cluster as flexlab reads it: edit it here, or paste one. Numbers that are drawn, and [[power]], are for flexlab alone."),
     area, fault);
 };
 
-function takeToml(text) {
-  const { files, microtick, names } = filesOfToml(text);
-  page.files = files;
-  page.microtick = microtick;
-  page.wrong = [];
-  page.cluster = readCluster(files, microtick, names);
-}
+// Which of the form, the files and the TOML text a tab shows.
+const shownIn = (tab) => ({ Files: "files", TOML: "toml" }[tab] || "form");
 
 function showEditor() {
-  const panel = $("editor-panel");
-  if (page.editor !== "Files" && (page.cluster === null || typeof page.cluster === "string")) {
+  const panel = $("editor-panel"), kind = shownIn(page.editor);
+  // What is shown in another tab than where it was typed is taken in first.
+  if (page.edited && page.edited !== kind && document.documentElement.dataset.state !== "stale") {
+    if (!page.waits) {
+      page.waits = true;
+      panel.replaceChildren(element("p", { class: "note" }, "The last edit is taken in."));
+      compute();
+    }
+    return;
+  }
+  page.waits = false;
+  if (kind === "form" && (page.cluster === null || typeof page.cluster === "string")) {
     panel.replaceChildren(element("p", { class: "note" }, `The form cannot show these files: ${page.cluster || ""}`),
       element("button", { type: "button", onclick: () => selectTab("editor", "Files") }, "Edit the files"));
     return;
   }
-  panel.replaceChildren(EDITOR[page.editor]());
+  if (kind === "toml" && page.edited !== "toml" && typeof page.cluster === "string") {
+    panel.replaceChildren(element("p", { class: "note" }, `There is no TOML file of these files: ${page.cluster}`));
+    return;
+  }
+  const before = page.edited && page.edited !== kind;
+  panel.replaceChildren(...[before && element("p", { class: "note bad-text" }, "The last edit, in another tab, is not taken in: this is the cluster before it."), EDITOR[page.editor]()].filter(Boolean));
   markWrong();
 }
 
+// Where the cluster comes from, and how long its microtick is, of which CSV files say nothing.
+function showSource() {
+  const { source } = page;
+  if (!source) return;
+  const lasts = `a microtick lasts ${page.microtick} ns`;
+  const texts = { example: `Example ${source.name}: ${lasts}.`, toml: `${source.name}: ${lasts}.`,
+    files: `${source.name}: ${lasts}, as the field under Cluster says, since such files have ticks alone.` };
+  const more = [source.kept && `${source.kept} as before.`, source.left && `Left out: ${source.left}.`, page.touched && "Edited since."].filter(Boolean);
+  $("source").textContent = [texts[source.kind], ...more].join(" ");
+}
+
 // ---- files
+
+// Whether the files are those of what is shown: what was typed last is taken in first.
+async function saved() {
+  if (!page.edited && page.retick === null) return true;
+  clearTimeout(page.timer);
+  page.turn += 1;
+  const turn = page.turn, is_understood = await understood(turn);
+  if (turn !== page.turn) return false;
+  if (is_understood) compute();
+  return is_understood;
+}
 
 function download(name, text) {
   const link = element("a", { href: URL.createObjectURL(new Blob([text], { type: "text/plain" })), download: name });
@@ -559,42 +737,75 @@ function download(name, text) {
   setTimeout(() => URL.revokeObjectURL(link.href), 10000);
 }
 
-function load(files, name) {
-  page.name = name;
-  page.files = files;
-  page.wrong = [];
-  page.cluster = readCluster(files, page.microtick);
+// Takes a cluster: {files, cluster, microtick, source}.
+function take({ files, cluster, microtick, source }) {
+  Object.assign(page, { files, cluster, microtick, source, touched: false, wrong: [], edited: null, retick: null, stale: false,
+    name: source.name.replace(/\.toml$/i, "").replace(/, .*/, "") });
+  $("example").value = source.kind === "example" ? source.name : "";
   showEditor();
+  showSource();
   later(0);
 }
 
+// Reads with the reader; what comes of a turn that is past never comes.
+async function taken(given, source) {
+  clearTimeout(page.timer);
+  page.turn += 1;
+  const turn = page.turn;
+  for (const one of [program, reader]) if (one.waiting.size) one.stop();
+  state("busy", "reading");
+  const told = await reader.ask(given);
+  if (turn !== page.turn) return;
+  if (told.no || told.fault) unopened(source.name, told.no || told.fault);
+  else take({ files: given.files, microtick: given.microtick, ...told, source });
+}
+
+// Tells that a file is not taken: what is shown is not what was asked for.
+function unopened(name, why) {
+  clearTimeout(page.timer);
+  page.turn += 1;
+  $("example").value = page.source && page.source.kind === "example" ? page.source.name : "";
+  stale("not opened", `${cut(name)} is not opened`, [why], ...(page.source ? [[`Go on with ${cut(page.source.name)}`, () => compute()]] : []));
+}
+
+async function textOf(file) {
+  if (file.size > MOST_BYTES) throw new NoToml(`It has ${file.size} bytes, and a file may have ${MOST_BYTES}.`);
+  const bytes = await file.arrayBuffer();
+  try {
+    return new TextDecoder("utf-8", { fatal: true, ignoreBOM: true }).decode(bytes);
+  } catch {
+    throw new NoToml("It is no UTF-8: have the editor keep the file as UTF-8.");
+  }
+}
+
 async function opened(list) {
-  const files = { ...page.files };
-  let taken = 0;
-  for (const file of list) {
-    if (/\.toml$/i.test(file.name)) {
-      try {
-        takeToml(await file.text());
-      } catch (why) {
-        state("ready", `${file.name}: ${why.message}`);
-        return;
-      }
-      $("example").value = "";
-      load(page.files, file.name.replace(/\.toml$/i, ""));
+  const chosen = [...list], toml = chosen.find((file) => /\.toml$/i.test(file.name)), roles = new Map();
+  if (!chosen.length) return;
+  const roleOf = (file) => ["params", "drift", "script"].find((name) => file.name.toLowerCase().includes(name));
+  let name = chosen[0].name;
+  try {
+    if (toml) {
+      ({ name } = toml);
+      const left = chosen.filter((file) => file !== toml).map((file) => cut(file.name)).join(", ");
+      await taken({ job: "toml", text: await textOf(toml) }, { kind: "toml", name, left: cut(left, 200) });
       return;
     }
-    const role = ["params", "drift", "script"].find((name) => file.name.toLowerCase().includes(name));
-    if (role) {
-      files[role] = await file.text();
-      taken += 1;
+    for (const file of chosen) {
+      const role = roleOf(file);
+      ({ name } = file);
+      if (role && roles.has(role)) throw new NoToml(`${cut(roles.get(role).name)} has ${role} in its name too: one file of each is wanted.`);
+      if (role) roles.set(role, { name, text: await textOf(file) });
     }
-  }
-  if (!taken) {
-    state("ready", "a .toml file, or names that hold params, drift or script");
+    ({ name } = chosen[0]);
+    if (!roles.size) throw new NoToml("A .toml file is wanted, or files whose names hold params, drift or script.");
+  } catch (why) {
+    unopened(name, why instanceof NoToml ? why.message : `The browser cannot read it: ${why.message}`);
     return;
   }
-  $("example").value = "";
-  load(files, "cluster");
+  const files = { ...page.files };
+  for (const [role, { text }] of roles) files[role] = text;
+  await taken({ job: "read", files, microtick: page.microtick, names: namesOf(page.cluster) }, { kind: "files", name: [...roles.values()].map((one) => cut(one.name)).join(", "),
+    kept: ["params", "drift", "script"].filter((role) => !roles.has(role)).join(" and "), left: cut(chosen.filter((file) => !roleOf(file)).map((file) => file.name).join(", "), 200) });
 }
 
 async function begin() {
@@ -607,28 +818,47 @@ async function begin() {
     return;
   }
   program.start();
+  reader.start();
   const examples = JSON.parse(await unpacked("examples"));
   const choice = $("example");
   choice.append(element("option", { value: "", disabled: true }, "own files"), ...Object.entries(examples).map(([name, [told]]) => element("option", { value: name }, `${name}: ${told}`)));
-  const take = (name) => {
+  // An example brings the microtick that its times are meant in.
+  const show_example = (name) => {
     const [, params, drift, script] = examples[name];
-    load({ params, drift, script }, name);
+    return taken({ job: "read", files: { params, drift, script }, microtick: "25", names: new Map() }, { kind: "example", name });
   };
-  choice.onchange = () => take(choice.value);
+  choice.onchange = () => show_example(choice.value);
   $("open").onclick = () => $("files").click();
-  $("files").onchange = (event) => opened(event.target.files);
-  $("save").onclick = () => {
-    for (const [name, text] of Object.entries(page.files)) download(`${name}.csv`, text);
+  $("files").onchange = (event) => {
+    const chosen = [...event.target.files];
+    // So that the same file, changed meanwhile, is an event again.
+    event.target.value = "";
+    return opened(chosen);
   };
-  $("save-toml").onclick = () => {
-    if (!page.cluster || typeof page.cluster === "string") state("ready", "the form cannot show these files");
-    else download(`${page.name}.toml`, tomlOf(page.cluster));
+  for (const kind of ["dragover", "dragleave", "drop"]) {
+    document.addEventListener(kind, (event) => {
+      if (![...event.dataTransfer?.types || []].includes("Files")) return;
+      event.preventDefault();
+      document.documentElement.classList.toggle("dropping", kind === "dragover");
+      if (kind === "drop") opened(event.dataTransfer.files);
+    });
+  }
+  $("save").onclick = async () => {
+    if (await saved()) for (const [name, text] of Object.entries(page.files)) download(`${name}.csv`, text);
+  };
+  $("save-toml").onclick = async () => {
+    if (!await saved()) return;
+    const told = !page.cluster || typeof page.cluster === "string" ? { no: "the form cannot show these files" } : await reader.ask({ job: "written", cluster: page.cluster });
+    if (told.no || told.fault) state(document.documentElement.dataset.state, `no TOML file: ${told.no || told.fault}`);
+    else download(`${page.name}.toml`, told.text);
   };
   $("stop").onclick = () => {
     clearTimeout(page.timer);
     page.turn += 1;
     program.stop();
-    state("ready", "stopped");
+    reader.stop();
+    stale("stopped", "Stopped before it was computed", [], ["Compute", () => compute()]);
+    if (page.waits) showEditor();
   };
   document.addEventListener("keydown", (event) => {
     if (event.key === "Enter" && (event.ctrlKey || event.metaKey)) compute();
@@ -636,7 +866,7 @@ async function begin() {
   selectTab("editor", "Cluster");
   selectTab("answers", "Summary");
   choice.value = Object.keys(examples)[0];
-  take(choice.value);
+  show_example(choice.value);
 }
 
 begin();

@@ -1,190 +1,696 @@
 "use strict";
-// The TOML file of flexlab: its tables as the three files, and the form as such a file. Numbers that are drawn, and [[power]], are
-// flexlab's alone. Names of nodes are of this file, and of none of the three.
+// The TOML file of flexlab: its tables as the three files, and the form as such a file. What is refused here is what flexlab
+// refuses, and besides what is for flexlab alone: numbers that are drawn, dotted names, texts of several lines. Names of nodes are
+// of this file, and of none of the three.
 
 class NoToml extends Error {}
 
-// The text of a TOML string between double quotes, or null.
-function unescaped(told) {
-  const plain = told.replace(/\\(?:U([0-9A-Fa-f]{8})|.)/g, (all, code) => (code ? JSON.stringify(String.fromCodePoint(Math.min(parseInt(code, 16), 0x10ffff))).slice(1, -1) : all));
-  try {
-    return JSON.parse(plain);
-  } catch {
-    return null;
+// The tables of flexlab with their keys; of [values] any.
+const AMOUNTS = ["us", "ns", "microticks", "ticks"], DURING = ["cycles", "channels", ...AMOUNTS];
+const TABLES = new Map([
+  ["values", []],
+  ["bench", ["microtick_ns", "bit_rate_mbit", "start_bits"]],
+  ["cluster", PARAMETERS.map(([name]) => name).filter((name) => !name.startsWith("x"))],
+  ["limits", ["oscillator_ppm", "xRateBound", "change_ppm_per_cycle", "xChangeBound", "xDelayError", ...AMOUNTS.map((unit) => `delay_error_${unit}`)]],
+  ["run", ["double_cycles", "seed"]],
+  ["node", ["id", "name", "channels", "key_slot", "coldstart", "arbitrary", "ppm", "rate", ...AMOUNTS.map((unit) => `start_${unit}`)]],
+  ["slot", ["slot", "node", "base", "repetition"]],
+  ["oscillator", ["nodes", "cycles", "ppm", "ppm_from", "ppm_to"]],
+  ["delay", ["from", "to", "channels", "from_cycle", ...AMOUNTS]],
+  ["two_faced", ["node", "early", "late", "on_time", ...DURING]],
+  ["say", ["node", "to", "frame", ...DURING]],
+  ["lose", ["from", "to", "cycles", "channels"]],
+  ["flip", ["from", "to", "cycles", "channels", "bit"]],
+  ["join", ["node", "reference", "double_cycle"]],
+  ["power", ["nodes", ...["on", "off"].flatMap((one) => ["ms", "us", "macroticks"].map((unit) => `${one}_${unit}`))]],
+  ["observer", ["resolution_ns", "drift_ppm", "error_ns", "jitter_ns", "delay_from_ns", "delay_to_ns", "missed_none", "in_sync_from_cycle"]],
+  ["observer_delay", ["nodes", "channels", "from_ns", "to_ns"]],
+  ["asc", ["columns", "hexadecimal", "sums_are_exact"]],
+]);
+const SINGLE = ["bench", "cluster", "limits", "run", "values", "observer", "asc"];
+const LISTED = [...TABLES.keys()].filter((name) => !SINGLE.includes(name));
+// What a number may have, and how deep values may lie in each other: more is no cluster, and takes long.
+const MOST_DIGITS = 60, MOST_POWER = 60, MOST_DEPTH = 8;
+// How much work a file may ask for, in links and cycles.
+const MOST_WORK = 5000000;
+
+// ---- the text as tables
+
+// How alike two words are, from 0 to 1, as Python's difflib has it.
+function alike(one, other) {
+  const shared = (from, to, first, last) => {
+    let best = 0, at = from, there = first;
+    for (let i = from; i < to; i += 1) {
+      for (let j = first; j < last; j += 1) {
+        let length = 0;
+        while (i + length < to && j + length < last && one[i + length] === other[j + length]) length += 1;
+        if (length > best) [best, at, there] = [length, i, j];
+      }
+    }
+    return best && best + shared(from, at, first, there) + shared(at + best, to, there + best, last);
+  };
+  return one.length + other.length ? (2 * shared(0, one.length, 0, other.length)) / (one.length + other.length) : 1;
+}
+
+// The known name that is spelt most like a word, whatever the case of letters, or null.
+function near(word, known) {
+  if (word.length > 60) return null;
+  const scored = known.map((name) => [alike(name.toLowerCase(), word.toLowerCase()), name]).filter(([score]) => score >= 0.6);
+  return scored.sort((one, other) => other[0] - one[0] || (one[1].toLowerCase() < other[1].toLowerCase() ? 1 : -1))[0]?.[1] ?? null;
+}
+
+// A number of a TOML text as an exact [numerator, denominator], with what was written; null for what is none.
+function numberOf(told) {
+  const based = /^0(?:x[\dA-Fa-f]+(?:_[\dA-Fa-f]+)*|o[0-7]+(?:_[0-7]+)*|b[01]+(?:_[01]+)*)$/.test(told);
+  const found = /^([+-]?)(0|[1-9]\d*(?:_\d+)*)(?:\.(\d+(?:_\d+)*))?(?:[eE]([+-]?)(\d+(?:_\d+)*))?$/.exec(told);
+  if (!based && !found) return null;
+  const plain = (text) => (text || "").replace(/_/g, "");
+  const digits_ = based ? plain(told) : plain(found[2]) + plain(found[3]), power = found ? plain(found[5]).replace(/^0+(?=\d)/, "") : "";
+  if (digits_.length > MOST_DIGITS) throw new NoToml(`a number of ${digits_.length} digits is none of a cluster: ${MOST_DIGITS} are the most`);
+  if (power.length > 3 || Number(power) > MOST_POWER) throw new NoToml(`${cut(told)} is none of a cluster: its power of ten is from -${MOST_POWER} to ${MOST_POWER}`);
+  if (based) return { number: [BigInt(digits_), 1n], whole: true, text: String(BigInt(digits_)) };
+  const behind = plain(found[3]).length, shift = 10n ** BigInt(power || 0);
+  const sign = found[1] === "-" ? -1n : 1n, is_whole = found[3] === undefined && found[5] === undefined;
+  const over = sign * BigInt(digits_) * (found[4] === "-" ? 1n : shift), under = 10n ** BigInt(behind) * (found[4] === "-" ? shift : 1n);
+  return { number: [over, under], whole: is_whole, text: is_whole ? String(over) : told };
+}
+
+// The tables of a text: a Map of names to {many, line, tables}, each table a Map of keys to {line, value}. A value is a text,
+// true or false, a list, a number as above, or {drawn}. It goes through the text once.
+function tablesOf(text) {
+  const plain = text.replace(/^\ufeff/, "").replace(/\r\n/g, "\n"), found = new Map();
+  let at = 0, line = 1, table = null;
+  const no = (why) => { throw new NoToml(`line ${line}: ${why}`); };
+  const taken = (pattern) => {
+    pattern.lastIndex = at;
+    const match = pattern.exec(plain);
+    if (match) at = pattern.lastIndex;
+    return match;
+  };
+  const blanks = () => taken(/[ \t]*/y);
+  const control = () => {
+    if (at < plain.length && /[\0-\x08\x0b-\x1f\x7f]/.test(plain[at])) no("a control character stands where TOML has none");
+  };
+  // Blanks, comments and ends of lines.
+  const gaps = () => {
+    for (;;) {
+      blanks();
+      if (plain[at] === "#") {
+        taken(/#[^\0-\x08\x0a-\x1f\x7f]*/y);
+        if (at < plain.length && plain[at] !== "\n") control();
+      }
+      if (plain[at] !== "\n") return;
+      at += 1;
+      line += 1;
+    }
+  };
+  const ended = (what) => {
+    blanks();
+    if (plain[at] === "#") taken(/#[^\0-\x08\x0a-\x1f\x7f]*/y);
+    control();
+    if (at >= plain.length || plain[at] === "\n") return;
+    const rest = taken(/[^\n]*/y)[0];
+    no(`${cut(rest)} stands behind ${cut(what)}${/^,\d/.test(rest) ? "; a number has a point, no comma" : ""}`);
+  };
+  const ESCAPES = new Map([["b", "\b"], ["t", "\t"], ["n", "\n"], ["f", "\f"], ["r", "\r"], ['"', '"'], ["\\", "\\"]]);
+  const quoted = () => {
+    if (plain.startsWith('"""', at) || plain.startsWith("'''", at)) no("texts of several lines are for flexlab alone");
+    const literal = taken(/'([^'\0-\x08\x0a-\x1f\x7f]*)'/y);
+    if (literal) return literal[1];
+    const spelt = taken(/"((?:[^"\\\0-\x08\x0a-\x1f\x7f]|\\[^\n])*)"/y);
+    if (!spelt) no("a text has no quote at its end");
+    return spelt[1].replace(/\\(?:u([\dA-Fa-f]{4})|U([\dA-Fa-f]{8})|(.))/gsu, (whole, short, long, letter) => {
+      const code = parseInt(short || long || "", 16);
+      if (letter !== undefined) return ESCAPES.get(letter) ?? no(`${cut(whole)} is no escape of TOML`);
+      return code > 0x10ffff || (code >= 0xd800 && code <= 0xdfff) ? no(`${whole} is no letter`) : String.fromCodePoint(code);
+    });
+  };
+  const name = () => {
+    blanks();
+    const bare = taken(/[A-Za-z0-9_-]+/y);
+    const told = bare ? bare[0] : plain[at] === '"' || plain[at] === "'" ? quoted() : no(`a name is wanted, and not ${cut(taken(/[^\n]*/y)[0]) || "the end of the line"}`);
+    blanks();
+    if (plain[at] === ".") no("names with a point between are for flexlab alone");
+    return told;
+  };
+  const pair = (into) => {
+    const here = line, key = name();
+    if (plain[at] !== "=") no(`${cut(key)} has no = behind it`);
+    if (into.has(key)) no(`the key \`${cut(key)}\` is there already`);
+    at += 1;
+    blanks();
+    into.set(key, { line: here, value: value(0) });
+    return key;
+  };
+  const list = (depth) => {
+    const values = [];
+    at += 1;
+    for (;;) {
+      gaps();
+      control();
+      if (at >= plain.length) no("a list has no ] at its end");
+      if (plain[at] === "]") break;
+      values.push(value(depth + 1));
+      gaps();
+      if (plain[at] === ",") at += 1;
+      else if (plain[at] !== "]") no(at < plain.length ? "a list wants a comma or ] here" : "a list has no ] at its end");
+    }
+    at += 1;
+    return values;
+  };
+  const drawn = (depth) => {
+    const values = new Map();
+    if (depth > MOST_DEPTH) no(`values lie more than ${MOST_DEPTH} deep in each other`);
+    at += 1;
+    blanks();
+    while (plain[at] !== "}") {
+      if (at >= plain.length) no("a table in braces has no } at its end");
+      const key = name();
+      if (plain[at] !== "=" || values.has(key)) no(`${cut(key)} has no = behind it, or is there already`);
+      at += 1;
+      blanks();
+      values.set(key, value(depth + 1));
+      blanks();
+      if (plain[at] === ",") at += 1;
+      else if (plain[at] !== "}") no("a table in braces wants a comma or } here");
+    }
+    at += 1;
+    return { drawn: true };
+  };
+  const value = (depth) => {
+    if (depth > MOST_DEPTH) no(`values lie more than ${MOST_DEPTH} deep in each other`);
+    if (plain[at] === '"' || plain[at] === "'") return quoted();
+    if (plain[at] === "[") return list(depth);
+    if (plain[at] === "{") return drawn(depth);
+    const told = taken(/[^\s,\]}#=]*/y)[0];
+    if (told === "true" || told === "false") return told === "true";
+    let number = null;
+    try {
+      // Digits alone are asked of a long one, so that no pattern goes through it.
+      number = told.length <= 400 ? numberOf(told) : no(`${cut(told)} has ${told.length} letters, and is no number of a cluster`);
+    } catch (why) {
+      no(why.message.replace(/^line \d+: /, ""));
+    }
+    return number ?? no(told ? `${cut(told)} is no value that this page reads${/^[A-Za-z]/.test(told) ? "; a text has quotes" : ""}` : "a value is wanted");
+  };
+  for (gaps(); at < plain.length; gaps()) {
+    control();
+    if (plain[at] !== "[") {
+      if (!table) no(`${cut(taken(/[^\n]*/y)[0])} stands in no table`);
+      ended(pair(table));
+      continue;
+    }
+    const many = plain[at + 1] === "[", here = line;
+    at += many ? 2 : 1;
+    const told = name();
+    if (!plain.startsWith(many ? "]]" : "]", at)) no(`[${cut(told)} has no ${many ? "]]" : "]"} behind it`);
+    at += many ? 2 : 1;
+    ended("the name of a table");
+    if (!TABLES.has(told)) {
+      const like = near(told, [...TABLES.keys()]);
+      no(`there is no table \`${cut(told)}\`${like ? `; did you mean \`${like}\`?` : `; there are ${[...SINGLE, ...LISTED].join(", ")}`}`);
+    }
+    if (many === SINGLE.includes(told)) no(`\`${told}\` has to be ${many ? `one table [${told}]` : `[[${told}]] tables`}`);
+    if (found.has(told) && !many) no(`there is a table [${told}] already`);
+    if (!found.has(told)) found.set(told, []);
+    table = new Map();
+    found.get(told).push({ line: here, keys: table });
+  }
+  return found;
+}
+
+// ---- exact fractions, as [numerator, denominator above 0]
+
+const below = (one, other) => one[0] * other[1] < other[0] * one[1];
+const fraction = (number) => (Array.isArray(number) ? number : [BigInt(number), 1n]);
+const product = (...factors) => factors.map(fraction).reduce((one, other) => [one[0] * other[0], one[1] * other[1]], [1n, 1n]);
+const inverse = ([over, under]) => (over < 0n ? [-under, -over] : [under, over]);
+
+function shownNumber(number) {
+  const [over, under] = fraction(number);
+  return over % under === 0n ? cut(String(over / under)) : cut(digits(over, under, 6));
+}
+
+function shownValue(value) {
+  if (typeof value === "string") return `"${cut(value)}"`;
+  if (Array.isArray(value)) return cut(`[${value.slice(0, 20).map(shownValue).join(", ")}${value.length > 20 ? ", .." : ""}]`);
+  return value && value.number ? cut(value.text) : String(value);
+}
+
+// ---- one table: hands out its values, and refuses what does not fit
+
+class Table {
+  constructor(source, name, index, entry) {
+    Object.assign(this, { source, name, index, keys: entry ? entry.keys : new Map(), line: entry ? entry.line : null });
+  }
+
+  refuse(key, why) {
+    const line = (key !== null && this.keys.get(key)?.line) || this.line;
+    const table = this.index === null ? this.name : `${this.name}[${this.index + 1}]`;
+    throw new NoToml(`${line ? `line ${line}: ` : ""}${table}${key === null ? "" : `.${cut(key)}`}: ${why}`);
+  }
+
+  has(key) {
+    return this.keys.has(key);
+  }
+
+  take(key, wanted, other) {
+    if (this.has(key)) {
+      const { value } = this.keys.get(key);
+      return value && value.drawn ? this.refuse(key, "numbers that are drawn are for flexlab alone") : value;
+    }
+    return other === undefined ? this.refuse(null, `the key \`${key}\` is missing: ${wanted}`) : other;
+  }
+
+  // A number as an exact fraction, or the name of one of [values], a - before it allowed.
+  plain(key, value, span) {
+    if (typeof value === "string") {
+      const named = /^([+-]?)\s*([A-Za-z_]\w*)$/.exec(value), known = this.source.values;
+      if (!named || !known.has(named[2])) {
+        this.refuse(key, `${shownValue(value)} is neither ${span} nor a name of [values] (there: ${cut([...known.keys()].sort().join(", ")) || "none"})`
+          + (/^[+-]?\d+([.,]\d+)?$/.test(value) ? "; write it without quotes" : ""));
+      }
+      const [over, under] = known.get(named[2]);
+      return [named[1] === "-" ? -over : over, under];
+    }
+    return value && value.number ? value.number : this.refuse(key, `${shownValue(value)} is not ${span}`);
+  }
+
+  number(key, least, most, unit, other, more = "") {
+    const span = `a number from ${shownNumber(least)} to ${shownNumber(most)}${unit ? ` ${unit}` : ""}`;
+    const told = this.take(key, span, other), value = Array.isArray(told) && typeof told[0] === "bigint" ? told : this.plain(key, told, span);
+    if (below(value, fraction(least)) || below(fraction(most), value)) this.refuse(key, `${shownNumber(value)} is not ${span}${more}`);
+    return value;
+  }
+
+  // A whole number, as a Number.
+  whole(key, least, most, unit, other) {
+    const span = `a whole number from ${least} to ${most}${unit ? ` ${unit}` : ""}`;
+    if (!this.has(key) && other !== undefined) return other;
+    const value = this.plain(key, this.take(key, span), span);
+    if (value[0] % value[1] !== 0n || below(value, fraction(least)) || below(fraction(most), value)) this.refuse(key, `${shownNumber(value)} is not ${span}`);
+    return Number(value[0] / value[1]);
+  }
+
+  flag(key) {
+    const value = this.take(key, "true or false", false);
+    return typeof value === "boolean" ? value : this.refuse(key, `${shownValue(value)} is not true or false`);
+  }
+
+  channels(key, other) {
+    const value = this.take(key, '"A", "B" or "AB"', other);
+    return ["A", "B", "AB"].includes(value) ? value : this.refuse(key, `${shownValue(value)} is not "A", "B" or "AB"`);
+  }
+
+  hexadecimal(key, most) {
+    const value = this.take(key, "hexadecimal digits", "");
+    if (typeof value === "string" && value.length > most) this.refuse(key, `${value.length} digits are more than ${most}`);
+    return typeof value === "string" && /^([0-9A-Fa-f]{2})*$/.test(value) ? value
+      : this.refuse(key, `${shownValue(value)} is not text of hexadecimal digits, two a byte`);
+  }
+
+  // The ticks of a time that is given as PREFIXus, PREFIXns, PREFIXmicroticks or PREFIXticks.
+  amount(prefix, least, most, other, more = "") {
+    const given = AMOUNTS.filter((unit) => this.has(prefix + unit)), { microtick } = this.source;
+    if (!given.length && other !== undefined) return other;
+    if (given.length !== 1) {
+      this.refuse(given.length ? prefix + given[1] : null, `it wants one of ${AMOUNTS.map((unit) => `\`${prefix}${unit}\``).join(", ")}, and not ${given.length}`);
+    }
+    // How many ticks one of the unit has.
+    const size = { us: product(1000 * Number(TICKS), inverse(microtick)), ns: product(TICKS, inverse(microtick)), microticks: [TICKS, 1n], ticks: [1n, 1n] }[given[0]];
+    const value = this.number(prefix + given[0], product(least, inverse(size)), product(most, inverse(size)), given[0], undefined, more);
+    return nearest(...product(value, size));
+  }
+
+  // Node numbers: one, a list, "all", or a text such as "1-4,6"; in ascending order.
+  nodes(key, other) {
+    const wanted = 'a node number, a list of them, "all", or a text such as "1-4,6"', value = this.take(key, wanted, other);
+    const known = this.source.nodes, found = new Set();
+    if (value === "all") return [...known.keys()];
+    const parts = Array.isArray(value) ? value : typeof value === "string" ? value.split(",").map((part) => part.trim()) : [value];
+    for (const part of parts) {
+      const text = typeof part === "string" ? part : part && part.whole ? part.text : "";
+      const span = /^(\d{1,3})(?:\s*-\s*(\d{1,3}))?$/.exec(text);
+      if (!span) this.refuse(key, `${shownValue(part)} is not ${wanted}`);
+      const first = Number(span[1]), last = Number(span[2] ?? first);
+      if (first > last) this.refuse(key, `${shownValue(part)} runs backward`);
+      this.source.spend(last - first + 1);
+      for (let node = first; node <= last; node += 1) {
+        if (!known.has(node)) this.refuse(key, `there is no node ${node}; nodes are ${[...known.keys()].join(", ")}`);
+        found.add(node);
+      }
+    }
+    return [...found].sort((one, another) => one - another);
+  }
+
+  one(key) {
+    const found = this.nodes(key);
+    return found.length === 1 ? found[0] : this.refuse(key, "one node is wanted");
+  }
+
+  // The first and the last cycle: one number, "all", "FROM-TO" or "FROM-". They may lie behind the end of the run.
+  cycles(other) {
+    const wanted = 'a cycle from 0 to 199999, "all", "FROM-TO" or "FROM-"', value = this.take("cycles", wanted, other), end = this.source.cycles - 1;
+    if (value === "all") return [0, end];
+    const text = typeof value === "string" ? value : value && value.whole ? value.text : "";
+    const span = /^(\d{1,6})(\s*-\s*(\d{1,6})?)?$/.exec(text);
+    if (!span) this.refuse("cycles", `${shownValue(value)} is not ${wanted}`);
+    const first = Number(span[1]), last = !span[2] ? first : Number(span[3] ?? Math.max(first, end));
+    if (last < first) this.refuse("cycles", `${shownValue(value)} runs backward`);
+    return last > 199999 ? this.refuse("cycles", `${shownValue(value)} is not ${wanted}`) : [first, last];
   }
 }
 
-// The tables of a text: {name: {..}} and, of [[name]], {name: [{..}, ..]}. Numbers are kept as their text.
-function tablesOf(text) {
-  const found = {};
-  let table = null, at = 0;
-  const lines = text.replace(/^\ufeff/, "").split(/\r?\n/);
-  const no = (why) => { throw new NoToml(`line ${at}: ${why}`); };
-  const plain = (line) => {
-    const cut = /^(?:[^#"']|"(?:[^"\\]|\\.)*"|'[^']*')*/.exec(line)[0];
-    return cut.trim();
-  };
-  const value = (told) => {
-    if (/^'[^']*'$/.test(told)) return told.slice(1, -1);
-    if (/^"(?:[^"\\]|\\.)*"$/.test(told)) return unescaped(told) ?? no(`${told} has an escape that this page does not read`);
-    if (told === "true" || told === "false") return told === "true";
-    if (/^[+-]?\d[\d_]*(\.\d[\d_]*)?$/.test(told)) return { number: told.replace(/_/g, "") };
-    if (told.startsWith("[") && told.endsWith("]")) return told.slice(1, -1).split(",").map((part) => part.trim()).filter(Boolean).map(value);
-    return no(told.startsWith("{") ? "numbers that are drawn are for flexlab alone" : `${told} is no value that this page reads`);
-  };
-  for (; at < lines.length;) {
-    let line = plain(lines[at]);
-    at += 1;
-    if (!line) continue;
-    const head = /^\[\[\s*([\w-]+)\s*\]\]$/.exec(line), single = /^\[\s*([\w-]+)\s*\]$/.exec(line);
-    if (head) (found[head[1]] ??= []).push(table = {});
-    else if (single) table = found[single[1]] ??= {};
-    else {
-      const pair = /^([\w-]+)\s*=\s*(.*)$/.exec(line);
-      if (!pair || !table) no(`${line} is no TOML that this page reads`);
-      while (pair[2].startsWith("[") && !pair[2].endsWith("]") && at < lines.length) {
-        pair[2] += plain(lines[at]);
-        at += 1;
+// ---- the cluster of a text
+
+class Source {
+  constructor(text) {
+    Object.assign(this, { tables: tablesOf(text), values: new Map(), nodes: new Map(), microtick: [1n, 1n], cycles: 2, work: 0, rows: 0 });
+    for (const name of TABLES.keys()) {
+      for (const table of SINGLE.includes(name) ? [this.single(name)] : this.many(name)) {
+        for (const key of name === "values" ? [] : table.keys.keys()) {
+          if (!TABLES.get(name).includes(key)) {
+            const like = near(key, TABLES.get(name)), home = SINGLE.find((one) => TABLES.get(one).includes(key));
+            table.refuse(key, `there is no such key${home ? `: it belongs into [${home}]` : like ? `; did you mean \`${like}\`?` : `; it may have ${[...TABLES.get(name)].sort().join(", ")}`}`);
+          }
+        }
       }
-      table[pair[1]] = value(pair[2]);
+    }
+    const values = this.single("values");
+    for (const [key, { value }] of values.keys) {
+      if (value && value.drawn) values.refuse(key, "numbers that are drawn are for flexlab alone");
+      this.values.set(key, value && value.number ? value.number : values.refuse(key, `${shownValue(value)} is not a number`));
+    }
+  }
+
+  single(name) {
+    return new Table(this, name, null, this.tables.get(name)?.[0]);
+  }
+
+  many(name) {
+    return (this.tables.get(name) || []).map((entry, index) => new Table(this, name, index, entry));
+  }
+
+  // Counts work, so that no file makes the page reckon without end.
+  spend(count) {
+    this.work += count;
+    if (this.work > MOST_WORK) throw new NoToml(`the file asks for more than ${MOST_WORK} links and cycles, which is too much for this page: flexlab takes it`);
+  }
+
+  // Counts records, of which no file may have more.
+  room(table, count) {
+    this.rows += count;
+    if (this.rows > MOST_RECORDS) {
+      table.refuse(null, `this makes ${this.rows} records and more, and a file of flexray may have ${MOST_BYTES} bytes, so ${MOST_RECORDS} at most`);
+    }
+    this.spend(count);
+  }
+
+  correct() {
+    return [...this.nodes.values()].filter((node) => !node.arbitrary).map((node) => node.id);
+  }
+
+  // [sender, receiver, channel] of different nodes with a common channel; none at all is refused.
+  links(table, senders, receivers, channels, key) {
+    const found = [];
+    this.spend(senders.length * receivers.length);
+    for (const sender of senders) {
+      for (const receiver of receivers) {
+        if (sender === receiver) continue;
+        for (const channel of common(this.nodes.get(sender), this.nodes.get(receiver))) if (channels.includes(channel)) found.push([sender, receiver, channel]);
+      }
+    }
+    return found.length ? found : table.refuse(key, `no two of these nodes have a common channel of ${channels}`);
+  }
+
+  // The correct nodes at an end of links, where nothing is said of arbitrary ones.
+  correctOnly(table, key, why) {
+    if (!table.has(key) || table.take(key) === "all") return this.correct();
+    const found = table.nodes(key), wrong = found.find((node) => this.nodes.get(node).arbitrary);
+    return wrong === undefined ? found : table.refuse(key, `node ${wrong} is arbitrary, and ${why}`);
+  }
+}
+
+function limitsOf(source) {
+  const table = source.single("limits"), found = new Map();
+  const one_of = (key, other) => {
+    if (table.has(key) === table.has(other)) table.refuse(null, `it wants \`${key}\` or \`${other}\` (ticks), one of both`);
+    return table.has(key);
+  };
+  if (one_of("oscillator_ppm", "xRateBound")) {
+    const [over, under] = table.number("oscillator_ppm", 0, [149825n, 100n], "ppm", undefined, "; a slower oscillator has a microtick of more than 1500 ticks beside the nominal one");
+    const off = [1n, -1n].map((sign) => nearest(TICKS * TICKS * under, TICKS * under + sign * over) - TICKS).map((one) => (one < 0n ? -one : one));
+    found.set("xRateBound", off[0] > off[1] ? off[0] : off[1]);
+  } else found.set("xRateBound", table.whole("xRateBound", 0, 1500, "ticks"));
+  if (one_of("change_ppm_per_cycle", "xChangeBound")) {
+    const [over, under] = table.number("change_ppm_per_cycle", 0, 1499, "ppm");
+    found.set("xChangeBound", (over + under - 1n) / under);
+  } else found.set("xChangeBound", table.whole("xChangeBound", 0, 1500, "ticks"));
+  return found.set("xDelayError", table.has("xDelayError") ? table.whole("xDelayError", 0, 10000000, "ticks") : table.amount("delay_error_", 0, 10000000));
+}
+
+function nodesOf(source, most_rate) {
+  const tables = source.many("node"), nodes = new Map();
+  if (!tables.length) throw new NoToml("the file has no [[node]]");
+  for (const table of tables) {
+    const id = table.whole("id", 1, 64), key = table.has("key_slot") ? table.whole("key_slot", 1, 1023) : "";
+    if (nodes.has(id)) table.refuse("id", `node ${id} is there already`);
+    const name = table.take("name", "a text", ""), fault = table.has("name") ? nameFault(name, [...nodes.values()].map((node) => node.name)) : null;
+    if (fault) table.refuse("name", `node ${id}: ${fault}`);
+    const node = { id, name, key, channels: table.channels("channels"), cold: table.flag("coldstart"), arbitrary: table.flag("arbitrary"),
+      ppm: table.number("ppm", -333333, 1000000, "ppm", [0n, 1n]), start: table.amount("start_", 0, 1e12, 0n),
+      rate: table.whole("rate", -most_rate, most_rate, "microticks", 0), table };
+    if (node.cold && key === "") table.refuse("coldstart", "a coldstart node needs a `key_slot`");
+    if (node.arbitrary && key === "") table.refuse("arbitrary", "an arbitrary node needs a `key_slot`");
+    nodes.set(id, node);
+  }
+  for (const id of [...nodes.keys()].sort((one, other) => one - other)) source.nodes.set(id, nodes.get(id));
+}
+
+function slotsOf(source) {
+  const found = new Map();
+  for (const table of source.many("slot")) {
+    const slot = table.whole("slot", 1, 1023), node = table.nodes("node");
+    if (node.length !== 1) table.refuse("node", "a further slot has one node");
+    const base = table.whole("base", 0, 63, "", 0), repetition = table.whole("repetition", 1, 64, "cycles", 1);
+    if (![1, 2, 4, 8, 16, 32, 64].includes(repetition)) table.refuse("repetition", `${repetition} is not 1, 2, 4, 8, 16, 32 or 64 cycles`);
+    if (base >= repetition) table.refuse("base", `${base} is not below the repetition, ${repetition}`);
+    if (found.has(slot)) table.refuse("slot", `slot ${slot} is there already`);
+    found.set(slot, `slot,${slot},${node[0]},${base},${repetition}`);
+  }
+  return [...found.values()];
+}
+
+// What is done to frames, one record for each cycle and link: a Map by cycle.
+function framesOf(source) {
+  const words = Number(source.single("cluster").whole("gPayloadLengthStatic", 0, 127)), said = [], known = new Set(), found = new Map();
+  const put = (table, links, [first, last], kind, value, bytes) => {
+    const end = Math.min(last, source.cycles - 1);
+    if (end >= first) source.room(table, (end - first + 1) * links.length);
+    for (let cycle = first; cycle <= end; cycle += 1) {
+      if (!found.has(cycle)) found.set(cycle, []);
+      const list = found.get(cycle);
+      for (const [sender, receiver, channel] of links) {
+        const key = ((cycle * 64 + sender) * 65 + receiver) * 2 + (channel === "A" ? 0 : 1);
+        if (known.has(key)) {
+          table.refuse(null, `cycle ${cycle}, node ${sender} to node ${receiver}, channel ${channel}: another table says something of these frames already`);
+        }
+        known.add(key);
+        list.push(`${kind},${cycle},${sender},${receiver},${channel},${value},${bytes}`);
+      }
+    }
+  };
+  for (const name of ["two_faced", "say"]) {
+    for (const table of source.many(name)) {
+      const node = table.one("node");
+      if (source.nodes.get(node).key === "") table.refuse("node", `node ${node} has no key slot, and an arbitrary node needs one`);
+      source.nodes.get(node).arbitrary = true;
+      said.push([name, table, node]);
+    }
+  }
+  for (const [name, table, node] of said) {
+    const span = table.cycles(name === "say" ? undefined : "all"), channels = table.channels("channels", "AB");
+    if (name === "say") {
+      const receivers = source.correctOnly(table, "to", "hears nothing"), ticks = table.amount("", -1e12, 1e12, 0n), bytes = table.hexadecimal("frame", 524);
+      put(table, source.links(table, [node], receivers, channels, "channels"), span, "say", ticks, bytes);
+      continue;
+    }
+    const ticks = table.amount("", 0, 1e12), groups = new Map();
+    for (const [key, shift] of [["early", -ticks], ["late", ticks], ["on_time", 0n]]) {
+      for (const receiver of table.nodes(key, [])) {
+        if (source.nodes.get(receiver).arbitrary) table.refuse(key, `node ${receiver} is arbitrary, and hears nothing`);
+        if (groups.has(receiver)) table.refuse(key, `node ${receiver} is in two of \`early\`, \`late\` and \`on_time\``);
+        groups.set(receiver, shift);
+      }
+    }
+    if (!groups.size) table.refuse(null, "it wants receivers: `early`, `late` or `on_time`");
+    for (const [receiver, shift] of groups) put(table, source.links(table, [node], [receiver], channels, "channels"), span, "say", shift, "");
+  }
+  for (const kind of ["lose", "flip"]) {
+    for (const table of source.many(kind)) {
+      const senders = source.correctOnly(table, "from", "says only what [[say]] says"), receivers = source.correctOnly(table, "to", "hears nothing");
+      const span = table.cycles(), channels = table.channels("channels", "AB"), bit = kind === "flip" ? table.whole("bit", 0, 8 * (8 + 2 * words) - 1) : "";
+      put(table, source.links(table, senders, receivers, channels, "channels"), span, kind, bit, "");
     }
   }
   return found;
 }
 
-// The three files that flexlab makes of a TOML text, the length of its microtick, and the names of its nodes:
-// {files, microtick, names}; else NoToml is thrown.
-function filesOfToml(text) {
-  const source = tablesOf(text), values = source.values || {};
-  const no = (where, why) => { throw new NoToml(`${where}: ${why}`); };
-  const named = (told) => {
-    const name = typeof told === "string" && /^([+-]?)\s*([A-Za-z_]\w*)$/.exec(told);
-    if (told && told.number !== undefined) return told.number;
-    if (!name || !values[name[2]]) return null;
-    const number = values[name[2]].number;
-    return name[1] !== "-" ? number : number.startsWith("-") ? number.slice(1) : `-${number}`;
+function joinsOf(source) {
+  const found = new Map(), tables = source.many("join");
+  const correct = (table, key) => {
+    const node = table.one(key);
+    return source.nodes.get(node).arbitrary ? table.refuse(key, `node ${node} is arbitrary, and only correct nodes join`) : node;
   };
-  const number = (table, key, other) => (key in table ? named(table[key]) ?? no(key, "a number is wanted") : other ?? no(key, "it is missing"));
-  const whole = (table, key, other) => {
-    const [over, under] = decimal(number(table, key, other));
-    return over % under === 0n ? String(over / under) : no(key, "a whole number is wanted");
-  };
-  const microtick = number(source.bench || {}, "microtick_ns");
-  const amount = (table, before, other) => {
-    const key = ["us", "ns", "microticks", "ticks"].map((unit) => before + unit).find((one) => one in table);
-    if (!key) return other ?? no(before || "us", "a time is wanted, in us, ns, microticks or ticks");
-    const told = number(table, key), unit = key.slice(before.length), [over, under] = decimal(told);
-    return unit === "us" || unit === "ns" ? ticksOf(told, unit, microtick) : nearest(over * (unit === "ticks" ? 1n : TICKS), under);
-  };
-  const cluster = { nodes: [] }, params = [], drift = [], script = [], names = {};
-  const ofChannels = ["pDelayCompensationA", "pDelayCompensationB"].filter((name) => name in (source.cluster || {}));
-  if (ofChannels.length && "pDelayCompensation" in source.cluster) no(ofChannels[0], "pDelayCompensation stands beside it, which is for both channels");
-  if (ofChannels.length) params.push("version,2,,,");
-  const doubles = Number(whole(source.run || {}, "double_cycles")), cycles = 2 * doubles;
-  const limits = source.limits || {};
-  for (const name of NAMES) {
-    if (name === "xRateBound" && "oscillator_ppm" in limits) {
-      const ppm = number(limits, "oscillator_ppm"), off = [lengthOf(ppm), lengthOf(`-${ppm}`)].map((length) => (length > TICKS ? length - TICKS : TICKS - length));
-      params.push(`param,${name},${off[0] > off[1] ? off[0] : off[1]},,`);
-    } else if (name === "xChangeBound" && "change_ppm_per_cycle" in limits) {
-      const [over, under] = decimal(number(limits, "change_ppm_per_cycle"));
-      params.push(`param,${name},${(over + under - 1n) / under},,`);
-    } else if (name === "xDelayError" && !("xDelayError" in limits)) params.push(`param,${name},${amount(limits, "delay_error_")},,`);
-    else if (name in (source.cluster || {}) || name.startsWith("x")) params.push(`param,${name},${whole(name.startsWith("x") ? limits : source.cluster, name)},,`);
+  for (const table of tables) {
+    const double = table.whole("double_cycle", 0, 99999), node = correct(table, "node"), reference = correct(table, "reference");
+    const { start, rate } = source.nodes.get(node);
+    if (found.has(node)) table.refuse("node", `node ${node} joins already`);
+    if (start || rate) table.refuse("node", `node ${node} has a start or a rate, and both come of what it hears as it joins`);
+    if (node === reference) table.refuse("reference", `node ${node} cannot be its own reference`);
+    if (source.nodes.get(reference).key === "") table.refuse("reference", `node ${reference} has no key slot, and a reference needs one`);
+    if (!common(source.nodes.get(reference), source.nodes.get(node)).length) table.refuse("reference", `nodes ${node} and ${reference} have no channel in common`);
+    found.set(node, `join,${double},${node},${reference},,,`);
   }
-  const said = [...(source.two_faced || []), ...(source.say || [])].map((table) => whole(table, "node"));
-  for (const table of source.node || []) {
-    const id = whole(table, "id"), fault = "name" in table ? nameFault(table.name, Object.values(names)) : null;
-    if (fault) no("name", `node ${id}: ${fault}`);
-    if ("name" in table) names[id] = table.name;
-    cluster.nodes.push({ id, table, channels: table.channels || no("node", "channels are missing"), key: "key_slot" in table ? whole(table, "key_slot") : "",
-      arbitrary: table.arbitrary === true || said.includes(id) });
+  for (const table of tables) {
+    const reference = correct(table, "reference");
+    if (found.has(reference)) table.refuse("reference", `node ${reference} joins itself, and a reference is there from cycle 0 on`);
   }
-  cluster.nodes.sort((one, other) => one.id - other.id);
-  const listed = (told, key) => (told && told.number ? told.number : Array.isArray(told) ? told.map((one) => one.number).join(",") : typeof told === "string" ? told : no(key, "nodes are wanted"));
-  const span = (table, other) => {
-    const told = "cycles" in table ? (table.cycles.number ?? table.cycles) : other ?? no("cycles", "they are missing");
-    const found = told === "all" ? [0, 0, cycles - 1] : /^\s*(\d{1,6})\s*(-\s*(\d{1,6})?)?\s*$/.exec(told) || no("cycles", `${told} is none`);
-    const first = Number(found[1]);
-    return [first, told === "all" ? cycles - 1 : !found[2] ? first : Number(found[3] ?? Math.max(first, cycles - 1))];
-  };
-  const links = (row, key) => {
-    const found = linksOf({ from: "all", to: "all", channels: "AB", ...row }, cluster);
-    return found && found.length ? found : no(key, "no two of these nodes have a common channel of these");
-  };
-  drift.push(`doubles,${doubles},,,,`);
-  for (const node of cluster.nodes) {
-    params.push(`node,${node.id},${node.key},${node.channels},${node.table.coldstart ? 1 : 0}`);
-    const start = amount(node.table, "start_", 0n), rate = whole(node.table, "rate", "0");
-    if (!node.arbitrary && (start !== 0n || rate !== "0")) drift.push(`start,${node.id},${start},${rate},,`);
-  }
-  for (const slot of source.slot || []) params.push(`slot,${whole(slot, "slot")},${listed(slot.node, "node")},${whole(slot, "base", "0")},${whole(slot, "repetition", "1")}`);
-  // Later tables win; behind the cycles of one what was said before holds again.
-  for (const node of cluster.nodes.filter((one) => !one.arbitrary)) {
-    const ppm = number(node.table, "ppm", "0"), plan = [[0, cycles - 1, ppm, ppm]];
-    for (const table of source.oscillator || []) {
-      const nodes = listed(table.nodes, "nodes");
-      if (nodes !== "all" && !(listOf(nodes, 1, 64) || no("nodes", `${nodes} are none`)).includes(Number(node.id))) continue;
-      plan.push([...span(table, "all"), ...("ppm" in table ? [number(table, "ppm"), number(table, "ppm")] : [number(table, "ppm_from"), number(table, "ppm_to")])]);
-    }
-    const marks = [...new Set([0, ...plan.flatMap(([first, last]) => [first, last + 1])])].filter((mark) => mark < cycles).sort((one, other) => one - other);
-    let before = null;
-    marks.forEach((mark, at) => {
-      const [first, last, begin, end] = plan.filter((row) => row[0] <= mark && mark <= row[1]).pop();
-      const until = begin === end ? mark + 1 : marks[at + 1] ?? cycles, [from, to] = [decimal(begin), decimal(end)];
-      for (let cycle = mark; cycle < until; cycle += 1) {
-        const length = BigInt(last > first ? last - first : 1), done = BigInt(cycle - first), below = from[1] * to[1] * length;
-        const ticks = nearest(TICKS * TICKS * below, TICKS * below + from[0] * to[1] * (length - done) + to[0] * from[1] * done);
-        if (ticks !== before) drift.push(`length,${node.id},${cycle},${ticks},,`);
-        before = ticks;
-      }
-    });
-  }
-  const delays = new Map();
-  for (const table of source.delay || []) {
-    const ticks = amount(table, ""), first = whole(table, "from_cycle", "0");
-    const row = { from: listed(table.from ?? "all", "from"), to: listed(table.to ?? "all", "to"), channels: table.channels ?? "AB" };
-    const correct = (id) => !cluster.nodes.find((node) => Number(node.id) === id).arbitrary;
-    for (const link of links(row, "delay")) if (correct(link[0]) && correct(link[1])) delays.set([...link, first].join(), ticks);
-  }
-  for (const [link, ticks] of delays) drift.push(`delay,${link},${ticks}`);
-  for (const node of cluster.nodes.filter((one) => one.arbitrary)) script.push(`arbitrary,${node.id},,,,,`);
-  for (const table of source.join || []) script.push(`join,${whole(table, "double_cycle")},${listed(table.node, "node")},${listed(table.reference, "reference")},,,`);
-  const frames = new Map();
-  const put = (table, row, kind, told, bytes, other) => {
-    const [first, last] = span(table, other);
-    for (const link of links({ ...row, channels: table.channels ?? "AB" }, kind)) {
-      for (let cycle = first; cycle <= Math.min(last, cycles - 1); cycle += 1) {
-        const key = [cycle, ...link].join();
-        if (frames.has(key)) no(kind, `another table says something of the frames of cycle ${cycle}, nodes ${link[0]} to ${link[1]} already`);
-        frames.set(key, `${kind},${key},${told},${bytes}`);
-      }
-    }
-  };
-  for (const table of source.two_faced || []) {
-    const ticks = amount(table, "");
-    for (const [key, shift] of [["early", -ticks], ["late", ticks], ["on_time", 0n]]) {
-      if (key in table && listed(table[key], key) !== "") put(table, { from: listed(table.node, "node"), to: listed(table[key], key) }, "say", shift, "", "all");
-    }
-  }
-  for (const table of source.say || []) put(table, { from: listed(table.node, "node"), to: listed(table.to ?? "all", "to") }, "say", amount(table, "", 0n), table.frame ?? "");
-  for (const kind of ["lose", "flip"]) {
-    for (const table of source[kind] || []) put(table, { from: listed(table.from ?? "all", "from"), to: listed(table.to ?? "all", "to") }, kind, kind === "flip" ? whole(table, "bit") : "", "");
-  }
-  script.push(...[...frames.keys()].sort((one, other) => parseInt(one, 10) - parseInt(other, 10)).map((key) => frames.get(key)));
-  const joined = (lines) => lines.map((line) => `${line}\n`).join("");
-  return { files: { params: joined(params), drift: joined(drift), script: joined(script) }, microtick, names };
+  return [...found.values()];
 }
 
-// The form as a TOML file of flexlab.
+// The cycles at which the lengths of microticks change, one record each: of each cycle the latest table holds.
+function lengthsOf(source) {
+  const plans = new Map(), found = [], least = 500000n, most = 1500000n;
+  const length = (table, key, ppm) => {
+    const ticks = lengthAt(ppm);
+    if (ticks < least || ticks > most) table.refuse(key, `a microtick would last ${ticks} ticks, which is not from 500000 to 1500000`);
+  };
+  for (const node of source.nodes.values()) {
+    length(node.table, "ppm", node.ppm);
+    plans.set(node.id, [{ first: 0, last: source.cycles - 1, begin: node.ppm, end: node.ppm, table: node.table }]);
+  }
+  const ppm = (table, key) => table.number(key, -333333, 1000000, "ppm");
+  for (const table of source.many("oscillator")) {
+    const nodes = table.nodes("nodes"), [first, last] = table.cycles("all");
+    const [one, other] = table.has("ppm") ? ["ppm", "ppm"] : ["ppm_from", "ppm_to"];
+    if (table.has("ppm") && (table.has("ppm_from") || table.has("ppm_to"))) table.refuse("ppm", "it wants `ppm`, or `ppm_from` and `ppm_to`, and not both");
+    const row = { first, last, begin: ppm(table, one), end: ppm(table, other), table };
+    length(table, one, row.begin);
+    length(table, other, row.end);
+    source.spend(nodes.length);
+    for (const node of nodes) plans.get(node).push(row);
+  }
+  for (const [id, plan] of plans) {
+    if (source.nodes.get(id).arbitrary) continue;
+    let before = null;
+    for (const { from, until, row } of segments(plan, source.cycles)) {
+      for (const [cycle, ticks] of rampChanges(row, from, until, before)) {
+        source.room(row.table, 1);
+        found.push(`length,${id},${cycle},${ticks},,`);
+        before = ticks;
+      }
+    }
+  }
+  return found;
+}
+
+// Which row of a plan holds from which cycle until before which: the last one that has the cycle. Each cycle is given away once.
+function segments(plan, cycles) {
+  if (plan.length === 1) return [{ from: 0, until: cycles, row: plan[0] }];
+  const owner = new Int32Array(cycles).fill(-1), next = Int32Array.from({ length: cycles + 1 }, (_, at) => at), found = [];
+  const free = (at) => {
+    let end = at;
+    while (next[end] !== end) end = next[end];
+    for (let step = at; next[step] !== end;) {
+      const after = next[step];
+      next[step] = end;
+      step = after;
+    }
+    return end;
+  };
+  for (let at = plan.length - 1; at >= 0; at -= 1) {
+    for (let cycle = free(Math.min(plan[at].first, cycles)); cycle < cycles && cycle <= plan[at].last; cycle = free(cycle)) {
+      owner[cycle] = at;
+      next[cycle] = cycle + 1;
+    }
+  }
+  for (let cycle = 0; cycle < cycles; cycle += 1) {
+    if (cycle && owner[cycle] === owner[cycle - 1]) found[found.length - 1].until = cycle + 1;
+    else found.push({ from: cycle, until: cycle + 1, row: plan[owner[cycle]] });
+  }
+  return found;
+}
+
+function delaysOf(source) {
+  const found = new Map();
+  const ends = (table, key) => (!table.has(key) || table.take(key) === "all" ? source.correct() : table.nodes(key).filter((node) => !source.nodes.get(node).arbitrary));
+  for (const table of source.many("delay")) {
+    const senders = ends(table, "from"), receivers = ends(table, "to"), channels = table.channels("channels", "AB");
+    const first = table.whole("from_cycle", 0, 199999, "", 0), ticks = table.amount("", 0, 1e9);
+    if (!senders.length || !receivers.length) continue;
+    for (const [sender, receiver, channel] of source.links(table, senders, receivers, channels, "channels")) {
+      const key = `${sender},${receiver},${channel},${first}`;
+      if (!found.has(key)) source.room(table, 1);
+      found.set(key, ticks);
+    }
+  }
+  return [...found].map(([key, ticks]) => `delay,${key},${ticks}`);
+}
+
+// The three files that flexlab makes of a TOML text, the length of its microtick, and the names of its nodes, a Map by their
+// number as a text: {files, microtick, names}; else NoToml is thrown.
+function filesOfToml(text) {
+  const source = new Source(text), bench = source.single("bench"), cluster = source.single("cluster");
+  bench.number("bit_rate_mbit", 1, 10, "Mbit/s", [10n, 1n]);
+  bench.whole("start_bits", 1, 15, "bits", 15);
+  source.microtick = bench.number("microtick_ns", 1, 1000, "ns");
+  const microtick = digits(...source.microtick, 24);
+  if (below(source.microtick, decimal(microtick)) || below(decimal(microtick), source.microtick)) bench.refuse("microtick_ns", "it has more than 24 digits behind the point");
+  const params = new Map(), ranges = new Map(PARAMETERS.map((row) => [row[0], row]));
+  const of_channels = ["pDelayCompensationA", "pDelayCompensationB"], given = of_channels.find((name) => cluster.has(name));
+  if (given && cluster.has("pDelayCompensation")) {
+    cluster.refuse(given, "`pDelayCompensation` stands beside it, which is for both channels: give that one, or `pDelayCompensationA` and `pDelayCompensationB`");
+  }
+  for (const name of TABLES.get("cluster")) {
+    if (given ? name !== "pDelayCompensation" : !of_channels.includes(name)) params.set(name, cluster.whole(name, ...ranges.get(name).slice(1, 4)));
+  }
+  for (const [name, value] of limitsOf(source)) params.set(name, value);
+  const doubles = source.single("run").whole("double_cycles", 1, 100000);
+  source.single("run").whole("seed", 0, 4294967295, "", 1);
+  source.cycles = 2 * doubles;
+  nodesOf(source, params.get("pRateCorrectionOut"));
+  const slots = slotsOf(source), frames = framesOf(source), joins = joinsOf(source), lengths = lengthsOf(source), delays = delaysOf(source);
+  const nodes = [...source.nodes.values()];
+  const starts = nodes.filter((node) => !node.arbitrary && (node.start || node.rate)).map((node) => `start,${node.id},${node.start},${node.rate},,`);
+  const joined = (lines) => lines.map((line) => `${line}\n`).join("");
+  return { microtick, names: new Map(nodes.filter((node) => node.name).map((node) => [String(node.id), node.name])), files: {
+    params: joined([...(given ? ["version,2,,,"] : []), ...NAMES.filter((name) => params.has(name)).map((name) => `param,${name},${params.get(name)},,`),
+      ...nodes.map((node) => `node,${node.id},${node.key},${node.channels},${node.cold ? 1 : 0}`), ...slots]),
+    drift: joined([`doubles,${doubles},,,,`, ...starts, ...lengths, ...delays]),
+    script: joined([...nodes.filter((node) => node.arbitrary).map((node) => `arbitrary,${node.id},,,,,`), ...joins,
+      ...[...frames.keys()].sort((one, other) => one - other).flatMap((cycle) => frames.get(cycle))]),
+  } };
+}
+
+// ---- the form as a TOML file of flexlab; NoToml is thrown where a field is not understood, or it would be too long
+
+const MOST_TABLES = 20000;
+
 function tomlOf(cluster) {
+  const { wrong } = writeCluster(cluster);
+  if (wrong.length) throw new NoToml(`${wrong.length === 1 ? "1 field is" : `${wrong.length} fields are`} not understood`);
   const lines = ["# Of the page of flexray. flexlab run FILE.toml prints its page; docs/FLEXLAB.md has the file."];
+  let count = 0;
   // flexlab has no steps in lists of nodes, as the form has them.
   const quoted = (text) => (/^\d+$/.test(text.trim()) ? text.trim() : `"${text.includes("/") ? listOf(text, 1, 64).join(",") : text.trim()}"`);
-  const table = (name, pairs) => lines.push("", name, ...pairs.filter(([, told]) => told !== null).map(([key, told]) => `${key} = ${told}`));
+  const table = (name, pairs) => {
+    count += 1;
+    if (count <= MOST_TABLES) lines.push("", name, ...pairs.filter(([, told]) => told !== null).map(([key, told]) => `${key} = ${told}`));
+  };
   const clean = (text) => { const told = decimal(text); return told ? digits(told[0], told[1], 24) : text; };
   table("[bench]", [["microtick_ns", clean(cluster.microtick)]]);
-  const parameters = Object.entries(cluster.parameters);
+  const parameters = NAMES.filter((name) => name in cluster.parameters).map((name) => [name, cluster.parameters[name]]);
   table("[cluster]", parameters.filter(([name]) => !name.startsWith("x")));
   table("[limits]", parameters.filter(([name]) => name.startsWith("x")));
   table("[run]", [["double_cycles", cluster.doubles.trim()]]);
@@ -223,5 +729,6 @@ function tomlOf(cluster) {
       } else table(`[[${row.kind}]]`, [["from", quoted(row.from)], ...of, ["bit", row.kind === "flip" ? row.value.trim() : null]]);
     }
   }
+  if (count > MOST_TABLES) throw new NoToml(`it would have ${count} tables, and ${MOST_TABLES} are the most that this page writes`);
   return `${lines.join("\n")}\n`;
 }

@@ -1,34 +1,36 @@
 "use strict";
 // What lines of the program say, in plain words: refusals with the record and the field, gaps, checks.
 
+const kindsOf = (kinds) => new Map(Object.entries(kinds));
 const empty = { kind: "empty" }, channel = { name: "CHANNEL", kind: "channel" };
 const number = (name, least, most, unit = "") => ({ name, kind: "number", least, most, unit });
 const nodeField = (name = "NODE") => ({ ...number(name, 1, 64), node: true });
 const CYCLES = [0, 199999], SHIFTS = [-1e12, 1e12];
+// What the first field of a record says is of a stranger, so these are Maps: a record may begin with constructor.
 const FORMS = {
-  params: [5, {
+  params: [5, kindsOf({
     version: [number("VERSION", 2, 2), empty, empty, empty],
     param: [{ name: "NAME", kind: "name" }, { name: "VALUE", kind: "value" }, empty, empty],
     node: [number("ID", 1, 64), { ...number("KEY", 1, 1023), optional: true }, { name: "CHANNELS", kind: "channels" },
       number("COLD", 0, 1)],
     slot: [number("SLOT", 1, 1023), { ...nodeField(), earlier: true }, number("BASE", 0, 63), number("REPETITION", 1, 64)],
-  }],
-  drift: [6, {
+  })],
+  drift: [6, kindsOf({
     doubles: [number("COUNT", 1, 100000, "double cycles"), empty, empty, empty, empty],
     start: [nodeField(), number("TICKS", 0, 1e12, "ticks"), { name: "RATE", kind: "rate" }, empty, empty],
     length: [nodeField(), number("FROM", ...CYCLES, "(a cycle)"),
       number("TICKS", 500000, 1500000, "ticks: the length of a microtick, 1000000 where the oscillator is right"), empty, empty],
     delay: [nodeField("SENDER"), nodeField("RECEIVER"), channel, number("FROM", ...CYCLES, "(a cycle)"),
       number("TICKS", 0, 1e9, "ticks")],
-  }],
-  script: [7, {
+  })],
+  script: [7, kindsOf({
     arbitrary: [nodeField(), empty, empty, empty, empty, empty],
     join: [number("DOUBLE", 0, 99999, "(a double cycle)"), nodeField(), nodeField("REFERENCE"), empty, empty, empty],
     say: [number("CYCLE", ...CYCLES), nodeField("SENDER"), nodeField("RECEIVER"), channel, number("SHIFT", ...SHIFTS, "ticks"),
       { name: "BYTES", kind: "hex" }],
     lose: [number("CYCLE", ...CYCLES), nodeField("SENDER"), nodeField("RECEIVER"), channel, empty, empty],
     flip: [number("CYCLE", ...CYCLES), nodeField("SENDER"), nodeField("RECEIVER"), channel, { name: "BIT", kind: "bit" }, empty],
-  }],
+  })],
 };
 const REASONS = {
   Shape: "The record has not as many fields as a record of this file, or a field that has to be empty is not.",
@@ -43,7 +45,7 @@ const REASONS = {
   Repeated: "There is such a record already.",
 };
 // Where no single field is at fault.
-const RULES = {
+const RULES = kindsOf({
   "params node Role": "A coldstart node needs a key slot.",
   "params version Role": "This record has to be the first one.",
   "params slot Role": "The repetition is 1, 2, 4, 8, 16, 32 or 64, and the base is below it.",
@@ -54,7 +56,7 @@ const RULES = {
   "script say Role": "The sender has to be an arbitrary node, the receiver a correct one, and not the same.",
   "script lose Role": "Sender and receiver are two correct nodes.",
   "script flip Role": "Sender and receiver are two correct nodes.",
-};
+});
 const CONSTRAINTS = [
   null,
   (p) => [`gMacroPerCycle is gNumberOfStaticSlots times gdStaticSlot plus gdNIT`,
@@ -81,20 +83,23 @@ const CONSTRAINTS = [
     p.slots.filter((slot) => slot > p.gNumberOfStaticSlots || p.keys.some((key) => key[1] === slot)).map((slot) => `slot ${slot} is not so`).join(", ")],
 ];
 // Of which fields there may be one record, by the places of these.
-const KEYS = { param: [1], node: [1], slot: [1], doubles: [], start: [1], length: [1, 2], delay: [1, 2, 3, 4], arbitrary: [1], join: [2] };
+const KEYS = kindsOf({ param: [1], node: [1], slot: [1], doubles: [], start: [1], length: [1, 2], delay: [1, 2, 3, 4], arbitrary: [1], join: [2] });
 
 // An earlier record that is of the same, or undefined.
 function earlierOf(record, records) {
   const key = ({ fields }) => {
-    const places = KEYS[fields[0]] || [1, 2, 3, 4];
+    const places = KEYS.get(fields[0]) || [1, 2, 3, 4];
     const parts = places.map((at) => (/^-?\d+$/.test(fields[at]) ? Number(fields[at]) : fields[at]));
-    return [KEYS[fields[0]] ? fields[0] : "frame", ...parts].join();
+    return [KEYS.has(fields[0]) ? fields[0] : "frame", ...parts].join();
   };
   return records.find((other) => other.number < record.number && key(other) === key(record));
 }
 
+// The values of parameters by their names; a name that is none of flexray's is left out.
 function parametersOf(text) {
-  return Object.fromEntries(recordsOf(text).filter((record) => record.fields[0] === "param").map(({ fields }) => fields.slice(1, 3)));
+  const found = Object.create(null);
+  for (const { fields } of recordsOf(text)) if (fields[0] === "param" && NAMES.includes(fields[1])) found[fields[1]] = fields[2];
+  return found;
 }
 
 function fieldFault(reason, field, text, record, known) {
@@ -129,8 +134,8 @@ function fieldFault(reason, field, text, record, known) {
 function explain(line, files) {
   const found = /^(params|drift|script): record (\d+): (\w+)$/.exec(line);
   const of = (kind) => recordsOf(files.params).filter((one) => one.fields[0] === kind).map((one) => one.fields);
-  const known = { ...parametersOf(files.params), nodes: of("node").map((fields) => Number(fields[1])),
-    keys: of("node").filter((fields) => fields[2]).map((fields) => [fields[1], Number(fields[2])]), slots: of("slot").map((fields) => Number(fields[1])) };
+  const known = Object.assign(parametersOf(files.params), { nodes: of("node").map((fields) => Number(fields[1])),
+    keys: of("node").filter((fields) => fields[2]).map((fields) => [fields[1], Number(fields[2])]), slots: of("slot").map((fields) => Number(fields[1])) });
   if (found) {
     const [, role, told, reason] = found, record = recordsOf(files[role])[Number(told) - 1];
     const title = `${role}.csv, record ${told}, is refused: ${reason}`;
@@ -139,14 +144,14 @@ function explain(line, files) {
     if (reason === "Shape" && record.fields.length !== count) {
       lines.push(`It has ${record.fields.length} fields, and a record of this file has ${count}: commas behind the last value belong to it.`);
     }
-    if (reason === "UnknownName" && !kinds[kind]) lines.push(`“${kind}” is none of ${Object.keys(kinds).join(", ")}.`);
-    (kinds[kind] || []).forEach((field, at) => {
+    if (reason === "UnknownName" && !kinds.has(kind)) lines.push(`“${cut(kind)}” is none of ${[...kinds.keys()].join(", ")}.`);
+    (kinds.get(kind) || []).forEach((field, at) => {
       const text = record.fields[at + 1], why = text === undefined ? null : fieldFault(reason, field, text, record, known);
-      if (why) lines.push(`${field.kind === "value" ? record.fields[1] : field.name || "Field " + (at + 2)} “${text}” ${why}.`);
+      if (why) lines.push(`${field.kind === "value" ? cut(record.fields[1]) : field.name || "Field " + (at + 2)} “${cut(text)}” ${why}.`);
     });
     const same = reason === "Repeated" ? earlierOf(record, recordsOf(files[role])) : undefined;
-    if (same) lines.push(`Record ${same.number} is of the same: ${same.text}`);
-    const rule = RULES[`${role} ${kind} ${reason}`];
+    if (same) lines.push(`Record ${same.number} is of the same: ${cut(same.text, 200)}`);
+    const rule = RULES.get(`${role} ${kind} ${reason}`);
     if (!lines.length && rule) lines.push(rule);
     return { title, lines: [REASONS[reason], ...lines], role, record };
   }

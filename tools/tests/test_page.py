@@ -182,7 +182,7 @@ class Page(Bench):
         self.put('[aria-label="name, node 2"]', "Bremse")
         self.settle()
         self.run_in('selectTab("answers", "Nodes")')
-        self.assertIn(name, self.run_in('$("answers-panel").innerText'))
+        self.assertIn(name, self.run_in('$("results-panel").innerText'))
         written = self.run_in("tomlOf(page.cluster)")
         found = {node["id"]: node.get("name") for node in tomllib.loads(written)["node"]}
         self.assertEqual({node: told for node, told in found.items() if told}, {1: name, 2: "Bremse", 6: "Lügner"})
@@ -191,34 +191,212 @@ class Page(Bench):
             self.assertEqual(significant(self.read("again", f"{file}.csv")), significant(self.read("made", f"{file}.csv")), file)
         self.run_in('selectTab("editor", "Nodes")')
         self.put('[aria-label="name, node 2"]', "Lügner")
+        self.settle()
         self.assertEqual(self.run_in('$("state").textContent'), "1 field is not understood")
 
     def test_toml_that_cannot_be_read(self):
         bench = (EXAMPLES / "bench" / "bench.toml").read_text()
         self.take("bench")
         self.run_in('selectTab("editor", "TOML")')
-        for old, new, wanted in (("ppm = 150", "ppm = { uniform = [0, 1] }", "line 39: numbers that are drawn are for flexlab alone"),
-                                 ("ppm = 150", "ppm = fast", "line 39: fast is no value that this page reads"),
-                                 ("double_cycles = 200", "", "double_cycles: it is missing"),
-                                 ("id = 1\n", "id = 1\nname = '2'\n", "name: node 1: it is a number, and a node's number is its id"),
+        for old, new, wanted in (("ppm = 150", "ppm = { uniform = [0, 1] }",
+                                  "line 39: node[1].ppm: numbers that are drawn are for flexlab alone"),
+                                 ("ppm = 150", "ppm = fast", "line 39: fast is no value that this page reads; a text has quotes"),
+                                 ("double_cycles = 200", "", "run: the key `double_cycles` is missing"),
+                                 ("id = 1\n", "id = 1\nname = '2'\n",
+                                  "node[1].name: node 1: it is a number, and a node's number is its id"),
                                  ("pDelayCompensation = 0", "pDelayCompensation = 0\npDelayCompensationB = 0",
-                                  "pDelayCompensationB: pDelayCompensation stands beside it, which is for both channels"),
-                                 ("late = [2, 4]", "late = [2, 9]", "say: no two of these nodes")):
+                                  "cluster.pDelayCompensationB: `pDelayCompensation` stands beside it, which is for both channels"),
+                                 ("late = [2, 4]", "late = [2, 9]", "two_faced[1].late: there is no node 9; nodes are 1, 2, 3, 4, 5")):
             self.assertIn(old, bench)
             self.put("#file-toml", bench.replace(old, new, 1))
+            self.settle()
             self.assertIn(wanted, self.run_in('$("toml-fault").textContent'))
+            self.assert_stale("The TOML file is not understood", wanted)
         self.put("#file-toml", bench.replace("ppm = 150", "ppm = 200", 1))
         self.settle()
         self.assertEqual(self.run_in('$("toml-fault").textContent'), "")
         self.assertIn("\nlength,1,0,999800,,\n", self.run_in("page.files.drift"))
 
+    def assert_stale(self, title, why):
+        """The verdict has no colours, and a card in sight says that it is of the cluster before, and why."""
+        state, classes, told = self.run_in('[document.documentElement.dataset.state, ["verdict", "results"].map((id) => '
+                                           '$(id).classList.contains("stale")), $("stale").innerText]')
+        self.assertEqual((state, classes), ("stale", [True, True]))
+        self.assertIn("What stands below is of the cluster before", told)
+        self.assertIn(title, told)
+        self.assertIn(why, told)
+        self.assertTrue(self.in_sight("#stale"))
+
+    def in_sight(self, selector):
+        return self.run_in(f"(() => {{ const box = document.querySelector({json.dumps(selector)}).getBoundingClientRect(); "
+                           "return box.height > 0 && box.top >= 0 && box.bottom <= innerHeight; })()")
+
     def test_what_is_not_understood_is_marked_and_nothing_is_run(self):
         self.take("offset")
         self.run_in('selectTab("editor", "Nodes")')
         self.put('[aria-label="ppm, node 1"]', "fast")
+        self.settle()
         self.assertEqual(self.run_in("document.querySelector('[aria-label=\"ppm, node 1\"]').getAttribute('aria-invalid')"), "true")
         self.assertEqual(self.run_in('$("state").textContent'), "1 field is not understood")
+        self.assert_stale("1 field is not understood", "Nodes, node 1, ppm “fast”: a number of ppm is wanted.")
         self.assertEqual(self.text_of("report"), (EXAMPLES / "offset" / "printed.txt").read_text())
+        # From another tab the field is found again, with what was typed.
+        self.run_in('selectTab("editor", "Cluster"); [...document.querySelectorAll("#stale button")].at(-1).click()')
+        self.assertEqual(self.run_in("[page.editor, document.activeElement.getAttribute('aria-label'), document.activeElement.value]"),
+                         ["Nodes", "ppm, node 1", "fast"])
+        self.put('[aria-label="ppm, node 1"]', "0")
+        self.settle()
+        self.assertEqual(self.run_in('[document.documentElement.dataset.state, $("notice").innerText, $("verdict").className]'),
+                         ["ready", "", ""])
+
+    def test_a_microtick_that_is_none(self):
+        self.take("offset")
+        self.run_in('selectTab("editor", "Cluster")')
+        for text in ("x", "0", "-25", "1001", ""):
+            self.put("#microtick", text)
+            self.settle()
+            self.assert_stale("1 field is not understood",
+                              f"Cluster, microtick “{text}”: a number of nanoseconds from 1 to 1000 is wanted.")
+            self.assertEqual(self.run_in('$("microtick").getAttribute("aria-invalid")'), "true")
+        self.put("#microtick", "12,5")
+        self.settle()
+        self.assertEqual(self.run_in('[page.microtick, $("microtick").getAttribute("aria-invalid"), $("notice").innerText]'),
+                         ["12.5", "false", ""])
+
+    def hand_in(self, by="choice", **files):
+        """Files as a person chooses them, or drops them on the page; a name has _ for its point."""
+        made = json.dumps([[name.replace("_", "."), text] for name, text in files.items()])
+        event = ('$("files").files = all.files; $("files").dispatchEvent(new Event("change"));' if by == "choice" else
+                 'document.body.dispatchEvent(new DragEvent("drop", { dataTransfer: all, bubbles: true, cancelable: true }));')
+        self.run_in(f"(() => {{ const all = new DataTransfer(); for (const [name, text] of {made}) all.items.add(new File([typeof text === "
+                    f"'string' ? text : Uint8Array.from(text)], name)); {event} }})()")
+        self.settle()
+
+    def test_an_example_brings_its_microtick(self):
+        bench = (EXAMPLES / "bench" / "bench.toml").read_text()
+        self.take("bench")
+        wanted = self.run_in('$("verdict").innerText')
+        self.assertIn("3.756 us", wanted)
+        self.hand_in(mine_toml=bench.replace("microtick_ns = 25", "microtick_ns = 50"))
+        self.assertEqual(self.run_in('[page.microtick, $("source").textContent]'), ["50", "mine.toml: a microtick lasts 50 ns."])
+        # Files of records say nothing of it: what the field says is taken, and the page says so.
+        self.hand_in(drift_csv=(EXAMPLES / "bench" / "drift.csv").read_text())
+        self.assertEqual(self.run_in('$("source").textContent'), "drift.csv: a microtick lasts 50 ns, as the field under Cluster says, "
+                         "since such files have ticks alone. params and script as before.")
+        self.take("bench")
+        self.assertEqual(self.run_in('[page.microtick, $("source").textContent]'), ["25", "Example bench: a microtick lasts 25 ns."])
+        self.assertEqual(self.run_in('$("verdict").innerText'), wanted)
+
+    def test_a_file_that_is_none(self):
+        self.take("offset")
+        bench = (EXAMPLES / "bench" / "bench.toml").read_text()
+        for files, title, why in (({"mine_toml": "this is none"}, "mine.toml is not opened", "line 1: this is none stands in no table"),
+                                  ({"mine_toml": bench.replace("microtick_ns = 25", "microtick_ns = 0")}, "mine.toml is not opened",
+                                   "line 5: bench.microtick_ns: 0 is not a number from 1 to 1000 ns"),
+                                  ({"mine_toml": list(b"# \xe4\n")}, "mine.toml is not opened", "It is no UTF-8"),
+                                  ({"notes_txt": "x"}, "notes.txt is not opened",
+                                   "A .toml file is wanted, or files whose names hold params"),
+                                  ({"drift_csv": "x", "drift2_csv": "y"}, "drift2.csv is not opened", "one file of each is wanted")):
+            self.hand_in(**files)
+            self.assert_stale(title, why)
+            self.assertEqual(self.run_in('$("example").value'), "offset")
+        self.run_in('document.querySelector("#stale button").click()')
+        self.settle()
+        self.assertEqual(self.run_in('[document.documentElement.dataset.state, $("notice").innerText]'), ["ready", ""])
+
+    def test_the_same_file_is_read_again(self):
+        bench = (EXAMPLES / "bench" / "bench.toml").read_text()
+        self.hand_in(mine_toml=bench)
+        self.assertEqual(self.run_in('[$("files").value, $("files").files.length, page.cluster.doubles]'), ["", 0, "200"])
+        self.hand_in(mine_toml=bench.replace("double_cycles = 200", "double_cycles = 9"))
+        self.assertEqual(self.run_in("page.cluster.doubles"), "9")
+
+    def test_a_file_that_is_dropped_is_taken(self):
+        self.take("offset")
+        self.hand_in("drop", mine_toml=(EXAMPLES / "bench" / "bench.toml").read_text())
+        self.assertEqual(self.run_in('[page.source.name, page.cluster.nodes.length]'), ["mine.toml", 5])
+
+    def test_a_hostile_file_changes_no_later_answer(self):
+        bench = (EXAMPLES / "bench" / "bench.toml").read_text()
+        self.hand_in(mine_toml=bench)
+        before = self.run_in("page.files")
+        self.hand_in(proto_toml=f"{bench}\n[__proto__]\nstart_us = 100\nrate = 7\n")
+        self.assert_stale("proto.toml is not opened", "there is no table `__proto__`")
+        self.hand_in(mine_toml=bench)
+        self.assertEqual(self.run_in("page.files"), before)
+        # One that goes on for long is told at once, and the page answers meanwhile.
+        self.hand_in(long_toml=bench.replace("double_cycles = 200", "double_cycles = 100000000000"))
+        self.assert_stale("long.toml is not opened", "is not a whole number from 1 to 100000")
+        self.hand_in(open_toml=bench + "\nx = [\n" + "1,\n" * 200000)
+        self.assert_stale("open.toml is not opened", "a list has no ] at its end")
+
+    def test_reading_can_be_stopped(self):
+        self.take("offset")
+        bench = (EXAMPLES / "bench" / "bench.toml").read_text()
+        text = bench.replace("double_cycles = 200", "double_cycles = 90000")
+        self.run_in(f"opened([new File([{json.dumps(text)}], 'long.toml')]); 0")
+        self.browser.until('reader.waiting.size === 1 || document.documentElement.dataset.state !== "busy"')
+        self.assertFalse(self.run_in('$("stop").hidden'))
+        self.run_in('$("stop").click()')
+        self.assert_stale("Stopped before it was computed", "")
+        self.assertEqual(self.run_in("page.cluster.doubles"), "2")
+
+    def test_a_refusal_is_in_sight_and_so_is_the_field(self):
+        self.browser.size(1280, 800)
+        self.addCleanup(self.browser.size, 1400, 1000)
+        self.take("bench")
+        self.run_in('selectTab("editor", "Cluster")')
+        for name in ("pAllowPassiveToActive", "gMacroPerCycle", "xRateBound"):
+            field = f"#parameter-{name}"
+            before = self.run_in(f"document.querySelector('{field}').value")
+            self.run_in(f"document.querySelector('{field}').focus(); document.querySelector('{field}').scrollIntoView({{ block: 'end' }})")
+            self.put(field, "999999")
+            self.refused()
+            self.assertTrue(self.in_sight("#refusal .big"), name)
+            self.assertTrue(self.in_sight(field), name)
+            self.put(field, before)
+            self.settle()
+
+    def test_tables_fit_at_1280(self):
+        self.addCleanup(self.browser.size, 1400, 1000)
+        for width in (1280, 1366, 1600):
+            self.browser.size(width, 800)
+            for name in ("growing", "bench"):
+                self.take(name)
+                for tab in ("Nodes", "Clocks and delays", "Faults"):
+                    self.run_in(f"selectTab('editor', '{tab}')")
+                    self.assertEqual(self.run_in("Math.max(0, ...[...document.querySelectorAll('#editor-panel .scroll')].map((one) => "
+                                                 "one.scrollWidth - one.clientWidth))"), 0, (width, name, tab))
+
+    def test_the_focus_stays_where_rows_come_and_go(self):
+        self.take("bench")
+        self.run_in('selectTab("editor", "Clocks and delays")')
+        count = self.run_in("page.cluster.delays.length")
+        for at in range(count, 0, -1):
+            number = min(at, 2)
+            self.run_in(f"globalThis.button = document.querySelector('[aria-label=\"Remove delay {number}\"]'); button.focus(); "
+                        "button.click()")
+            left = at - 1
+            self.assertEqual(self.run_in("document.activeElement.getAttribute('aria-label') || document.activeElement.textContent"),
+                             f"Remove delay {min(number, left)}" if left else "Add delay")
+        self.run_in("document.activeElement.click()")
+        self.assertEqual(self.run_in("document.activeElement.getAttribute('aria-label')"), "from nodes, delay 1")
+        self.settle()
+
+    def test_panels_have_names_and_the_curve_has_numbers(self):
+        self.take("bench")
+        for which, tab in (("editor", "Faults"), ("answers", "Checks")):
+            self.run_in(f'selectTab("{which}", "{tab}")')
+        self.assertEqual(self.run_in("[...document.querySelectorAll('[role=tabpanel]')].map((one) => "
+                                     "document.getElementById(one.getAttribute('aria-labelledby')).textContent)"), ["Faults", "Checks"])
+        rows = self.run_in("[...document.querySelectorAll('#curve tbody tr')].map((row) => [...row.cells].map((cell) => cell.textContent))")
+        skew = self.run_in("page.found.series.skew.map(usNumber)")
+        self.assertEqual(len(rows), 20)
+        for told, least, most, cycle in rows:
+            first, last = map(int, told.split(" to "))
+            self.assertEqual((least, most), (f"{min(skew[first:last + 1]):.3f}", f"{max(skew[first:last + 1]):.3f}"))
+            self.assertEqual(f"{skew[int(cycle)]:.3f}", most)
+        self.assertEqual(rows[-1][0].split(" to ")[1], "399")
 
     def refused(self):
         self.settle()
@@ -365,6 +543,7 @@ class Page(Bench):
         self.browser.until('document.documentElement.dataset.state === "busy" && program.waiting.size === 1')
         self.run_in('$("stop").click()')
         self.assertEqual(self.run_in('$("state").textContent'), "stopped")
+        self.assert_stale("Stopped before it was computed", "")
         self.put("#doubles", "2")
         self.settle()
         self.assertEqual(self.text_of("report"), (EXAMPLES / "offset" / "printed.txt").read_text())
