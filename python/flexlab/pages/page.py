@@ -3,6 +3,7 @@ from fractions import Fraction
 
 from .gaps import check_words, gap_words
 from .model import warnings
+from ..program.calls import coming
 from ..runs.sharp import ends_of, first_of, is_covered
 from .sharp_page import check_lines as sharp_check_lines
 from .sharp_page import sharp_lines
@@ -235,9 +236,8 @@ def page(run):
     for line in [*warnings(run.cluster), *run.cluster.notes]:
         found += field("WARNING", line)
     if not run.series:
-        found += field("Not installed", "flexray-series, which prints the skew of each cycle (in the repository "
-                                        "`./flexray-series` builds it); without it the picture has how far the starts "
-                                        "of cycles lie apart")
+        found += field("Not installed", f"flexray-series, which prints the skew of each cycle: {coming()}. Without it the picture has "
+                                        "how far the starts of cycles lie apart")
     begin = "nodes run from cycle 0 or join" if run.cluster.joins else "all nodes run from cycle 0"
     found += field("Left out", f"the dynamic segment, the duration of frames, wakeup and startup: {begin}, with one "
                                "set of parameters")

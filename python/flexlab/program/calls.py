@@ -1,5 +1,6 @@
 """Finding and calling other programs: flexray, and those of Debian's packages. Where the Python package of flexray is there, a
 call of flexray is one of its library in this process."""
+import fcntl
 import functools
 import importlib
 import os
@@ -12,6 +13,8 @@ from .stamp import stamp
 
 PACKAGES = {"gnuplot": "gnuplot-nox", "parallel": "parallel", "tshark": "tshark"}
 HERE = os.path.dirname(os.path.realpath(__file__))
+# Where the repository has what its tools build, and what they say of that.
+OUT = os.path.realpath(os.path.join(HERE, "..", "..", "..", "out"))
 
 
 def flexray(given=None):
@@ -24,8 +27,32 @@ def flexray(given=None):
     found = own_program()
     if found:
         return found
-    raise Stop(MISSING, "flexray: not built yet, and not on the path; at the top of the repository `./flexray bound "
-                        "examples/reference/params.csv` builds it, or name it by --flexray")
+    raise Stop(MISSING, f"flexray: not built yet, and not on the path; {coming()}, or name it by --flexray. `./flexray --try WORDS` there "
+                        "answers a call of flexray without proof, in one to two minutes")
+
+
+def coming(out: str = OUT) -> str:
+    """What is said of a program that is not built: how far a build is that goes on, or which command builds it."""
+    try:
+        with open(os.path.join(out, "building"), encoding="utf-8") as file:
+            how_far = file.read().strip()
+    except OSError:
+        how_far = ""
+    if how_far and any(is_held(os.path.join(out, name)) for name in ("lock", "proving")):
+        return f"it is being built: {how_far}"
+    return "`./flexray --build` at the top of the repository builds it, and says how long that takes"
+
+
+def is_held(path: str) -> bool:
+    """Whether a process has locked a file."""
+    try:
+        with open(path, "rb") as file:
+            fcntl.flock(file, fcntl.LOCK_SH | fcntl.LOCK_NB)
+    except BlockingIOError:
+        return True
+    except OSError:
+        pass
+    return False
 
 
 def own_program():
