@@ -6,8 +6,8 @@ STATUSES = """exit statuses:
   0  done; of `run`: the page was printed, whatever it says, unless something is required of it
   1  the answer is no: `flexray` refused the files, a run of a study failed, a packet of a capture is damaged,
      or it has none; none or several nodes lead a startup, clocks that begin so may not come into sync, no run
-     of the cluster is covered (`worst`), there is no design (`design`), or clocks lay further apart than the
-     precision or the verdict is no (`observe`)
+     of the cluster is covered (`worst`), there is no design (`design`), nothing can be claimed (`case`), or
+     clocks lay further apart than the precision or the verdict is no (`observe`)
   2  the words are wrong
   3  a file could not be read or written
   4  a program that is needed is missing; the line names the Debian package

@@ -127,6 +127,17 @@ def parser():
     worst.add_argument("--jobs", metavar="COUNT", type=int, default=1, help="seeds side by side, the best wins (1)")
     worst.add_argument("--flexray", metavar="PROGRAM", help=PROGRAM_HELP)
 
+    case = request("case", "write a page for a safety case: claim, premises, evidence, and what is not covered",
+                   "\nThe claim is of all runs that keep to the premises, and no run is made. One HTML file, to be printed.")
+    case.add_argument("file", metavar="FILE.toml")
+    case.add_argument("--flutter-ns", metavar="NS", required=True,
+                      help="by how much a delay may differ between the two cycles of a double cycle: a promise of the hardware")
+    case.add_argument("--arbitrary", metavar="COUNT", type=int, choices=(0, 1, 2),
+                      help="how many sync nodes may be arbitrary: 0, 1 or 2 (else as many as the file has)")
+    case.add_argument("--join", action="store_true", help="nodes may join (else where the file has [[join]])")
+    case.add_argument("-o", "--out", metavar="OUT.html", help="the page, which is not there yet (FILE.case.html)")
+    case.add_argument("--flexray", metavar="PROGRAM", help=PROGRAM_HELP)
+
     for one in (run, pcap, precision):
         one.add_argument("--seed", metavar="SEED", type=int, help="of numbers that are drawn (else `seed` of [run], else 1)")
         one.add_argument("--draw", metavar="NUMBER", type=int, default=1, help="which draw of them (1)")
@@ -219,14 +230,14 @@ def parser():
     observe.add_argument("-p", "--pictures", action="store_true", help="draw skew, rates and offset terms, by gnuplot")
     observe.add_argument("--flexray", metavar="PROGRAM", help=PROGRAM_HELP)
 
-    for one in (read_in, write_back, run, power, design, explain, study, capture, observe):
+    for one in (read_in, write_back, case, run, power, design, explain, study, capture, observe):
         one.add_argument("--json", action="store_true", help="print one JSON object in place of the page")
 
     one = requests.add_parser("study-run", add_help=False)
     one.set_defaults(does="study-run")
     one.add_argument("plan")
     one.add_argument("runs", nargs="+")
-    requests.metavar = "{new,import,export,build,run,power,settle,precision,design,worst,explain,study,capture,log,observe,pcap}"
+    requests.metavar = "{new,import,export,build,run,power,settle,precision,case,design,worst,explain,study,capture,log,observe,pcap}"
     return top
 
 
@@ -354,6 +365,11 @@ def do_design(words):
     return design(words)
 
 
+def do_case(words: argparse.Namespace) -> int:
+    from ..pages.case import write_case
+    return write_case(words)
+
+
 def do_worst(words):
     from ..program import calls as program
     from ..toml.cluster import read_cluster
@@ -403,7 +419,7 @@ def do_observe(words):
     return observe(words, folder_of(words))
 
 
-DO = {"new": do_new, "import": do_import, "export": do_export, "build": do_build, "run": do_run, "power": do_power, "settle": do_settle, "pcap": do_pcap,
+DO = {"new": do_new, "import": do_import, "export": do_export, "case": do_case, "build": do_build, "run": do_run, "power": do_power, "settle": do_settle, "pcap": do_pcap,
       "explain": do_explain, "study": do_study, "precision": do_precision, "design": do_design, "worst": do_worst, "study-run": do_study_run,
       "capture": do_capture, "log": do_log, "observe": do_observe}
 
