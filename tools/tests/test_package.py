@@ -1,6 +1,7 @@
 """The Debian package: installed under another root it runs, also where there is nothing but libc, its pages are shown, its library
 is called from C and Python, and nothing is left where its making is killed; a release of all; and bash completes words."""
 import glob
+import hashlib
 import os
 import re
 import shutil
@@ -12,6 +13,7 @@ import time
 import unittest
 
 from bench import EXAMPLE, FLEXRAY, REPOSITORY, SERIES, TOOLS, Bench, needs
+from flexlab.program import stamp
 
 with open(FLEXRAY, "rb") as program:
     FLEXRAY_BYTES = program.read()
@@ -276,6 +278,147 @@ exec {shutil.which("dpkg")} "$@"
         ended = subprocess.run([package], capture_output=True, text=True, check=False, cwd=self.room,
                                env={**os.environ, "FLEXRAY": self.path("none")})
         self.assertEqual(ended.returncode, 4)
+
+
+@needs("git")
+@needs("dpkg")
+@needs("cc")
+class Release(Bench):
+    """A release of a repository that is like this one, with stand-ins of what is built but for the program."""
+
+    def setUp(self):
+        super().setUp()
+        self.top = self.path("repository")
+        os.makedirs(self.top)
+        for name in ("README.md", "CHANGELOG.md", "VERSION", "TOOLCHAIN", "HANDLES", ".gitignore", "crates.txt", "flexray", "flexray-series"):
+            shutil.copy2(os.path.join(REPOSITORY, name), self.top)
+        for name in ("docs", "examples", "include", "page", "python", "tools"):
+            shutil.copytree(os.path.join(REPOSITORY, name), os.path.join(self.top, name), symlinks=True,
+                            ignore=shutil.ignore_patterns("__pycache__", "tests", "edits", ".lab"))
+        for words in (["init", "-q"], ["add", "-A"], ["-c", "user.name=a", "-c", "user.email=a@b", "commit", "-q", "-m", "all"]):
+            subprocess.run(["git", *words], cwd=self.top, check=True, env=self.env())
+        for name, program in (("flexray_cli", FLEXRAY), ("flexray_series_cli", SERIES or FLEXRAY)):
+            os.makedirs(os.path.join(self.top, "crates", name, "out"))
+            shutil.copyfile(program, os.path.join(self.top, "crates", name, "out", name))
+            os.chmod(os.path.join(self.top, "crates", name, "out", name), 0o755)
+        out = os.path.join(self.top, "out")
+        for part in ("library/lib/pkgconfig", "library/include", "page"):
+            os.makedirs(os.path.join(out, part))
+        self.write("a.c", "int flexray_version(void) { return 0; }\n")
+        self.shared(stamp.stamp(self.top))
+        for name, text in (("library/lib/libflexray.a", "archive"), ("library/include/flexray.h", "/* header */\n"), ("page/flexray.html", "page"),
+                           ("library/lib/pkgconfig/flexray.pc", "prefix=${pcfiledir}/../..\nlibdir=${prefix}/lib\n")):
+            self.write(os.path.join("repository", "out", name), text)
+        subprocess.run([sys.executable, "-B", os.path.join(self.top, "python", "build_wheel.py"), os.path.join(out, "library"),
+                        os.path.join(out, "library/lib/libflexray.so.0")], check=True, stdout=subprocess.DEVNULL)
+
+    def env(self):
+        return {**{key: value for key, value in os.environ.items() if not key.startswith(("FLEXRAY", "GIT_"))}, "HOME": self.room}
+
+    def shared(self, build):
+        subprocess.run(["cc", "-shared", "-fPIC", f"-Wl,--build-id=0x{build}", self.path("a.c"), "-o",
+                        os.path.join(self.top, "out/library/lib/libflexray.so.0")], check=True)
+
+    def release(self, *words, status=0):
+        ended = subprocess.run([os.path.join(self.top, "tools", "release"), *words], capture_output=True, text=True, check=False, env=self.env(),
+                               cwd=self.room)
+        self.assertEqual(ended.returncode, status, ended.stdout + ended.stderr)
+        self.assertNotIn("Traceback", ended.stderr)
+        return ended.stdout + ended.stderr
+
+    def commit(self):
+        return subprocess.run(["git", "rev-parse", "HEAD"], cwd=self.top, capture_output=True, text=True, check=True).stdout.strip()
+
+    def test_it_is_the_same_twice_and_runs_where_it_is_unpacked(self):
+        self.release("one")
+        self.release("two")
+        names = sorted(os.listdir(self.path("one")))
+        self.assertEqual(names, sorted(os.listdir(self.path("two"))))
+        for name in names:
+            with open(self.path("one", name), "rb") as first, open(self.path("two", name), "rb") as second:
+                self.assertEqual(first.read(), second.read(), name)
+        subprocess.run(["sha256sum", "--quiet", "--strict", "-c", "SHA256SUMS"], cwd=self.path("one"), check=True)
+        self.assertEqual(len(self.read("one", "SHA256SUMS").splitlines()), len(names) - 1)
+        page = self.read("one", "RELEASE.md")
+        self.assertIn(f"**Commit** `{self.commit()}`", page)
+        self.assertIn("That the gate passed is not known", page)
+        with open(os.path.join(REPOSITORY, "TOOLCHAIN"), encoding="ascii") as file:
+            self.assertIn(f"**Toolchain** `{file.read().strip()}`", page)
+        tar, = (name for name in names if name.endswith(".tar.gz"))
+        os.makedirs(self.path("any where"))
+        subprocess.run(["tar", "xf", self.path("one", tar)], cwd=self.path("any where"), check=True)
+        top = self.path("any where", tar.removesuffix(".tar.gz"))
+        env = {**self.env(), "PATH": os.path.join(top, "bin") + ":" + os.environ["PATH"]}
+        for words, folder in ((["flexray", "bound", "params.csv"], "reference"), (["flexray", "run", "params.csv", "drift.csv", "script.csv"], "offset")):
+            ended = subprocess.run(words, capture_output=True, text=True, check=False, env=env, cwd=os.path.join(REPOSITORY, "examples", folder))
+            with open(os.path.join(REPOSITORY, "examples", folder, "printed.txt"), encoding="ascii") as file:
+                self.assertEqual((ended.returncode, ended.stdout, ended.stderr), (0, file.read(), ""))
+        self.write("a.toml", EXAMPLE)
+        os.symlink(os.path.join(top, "bin", "flexlab"), self.path("linked"))
+        for flexlab in ("flexlab", self.path("linked")):
+            ended = subprocess.run([flexlab, "run", "a.toml"], capture_output=True, text=True, check=False, env={**env, "FLEXRAY_SERIES": ""},
+                                   cwd=self.room)
+            self.assertEqual((ended.returncode, ended.stderr), (0, ""))
+            self.assertIn("and still in sync at the end", self.one_line(ended.stdout))
+        for path in ("lib/libflexray.a", "lib/libflexray.so", "include/flexray.h", "share/man/man1/flexray.1.gz", "share/man/man3/libflexray.3.gz",
+                     "share/doc/flexray/flexray.html", "share/flexray/python/flexray/library.py", "RELEASE.md"):
+            self.assertTrue(os.path.exists(os.path.join(top, path)), path)
+
+    def test_what_is_known_of_the_gate(self):
+        """That it passed is said where a file says it of this commit, and of these files, and nowhere else."""
+        tried = []
+        for path in ("crates/flexray_cli/out/flexray_cli", "crates/flexray_series_cli/out/flexray_series_cli", "out/library/lib/libflexray.so.0",
+                     "out/library/lib/libflexray.a", "out/page/flexray.html"):
+            with open(os.path.join(self.top, path), "rb") as file:
+                name = {"flexray_cli": "flexray", "flexray_series_cli": "flexray-series"}.get(os.path.basename(path), os.path.basename(path))
+                tried.append(f"tried {hashlib.sha256(file.read()).hexdigest()} {name}\n")
+        passed = self.write("repository/out/passed.txt", f"commit {self.commit()}\nkit a kit\n" + "".join(tried))
+        self.release("whole")
+        self.assertIn("`.ci/run` passed on this commit, by `a kit`. What it tried are these very files", self.read("whole", "RELEASE.md"))
+        self.assertIn("It left nothing out.", self.read("whole", "RELEASE.md"))
+        other = self.write("other.txt", f"commit {self.commit()}\n" + "".join(tried[1:]) + "left out the page in a browser\n")
+        self.release("--gate", other, "part")
+        page = self.read("part", "RELEASE.md")
+        self.assertIn("not tried by it byte for byte: `flexray`.", page)
+        self.assertIn("It left out:\n\n- the page in a browser", page)
+        self.write("other.txt", "commit " + "5a" * 20 + "\n")
+        self.assertIn("it speaks of 5a5a", self.release("--gate", other, "none", status=1))
+        self.assertFalse(os.path.exists(self.path("none")))
+        shutil.copy(other, passed)
+        self.release("stale")
+        self.assertIn("That the gate passed on this commit is not known", self.read("stale", "RELEASE.md"))
+        self.release("--gate", self.path("nothing"), "none", status=3)
+
+    def test_what_is_not_of_a_commit_is_refused(self):
+        self.write("repository/docs/more.md", "more\n")
+        self.assertIn("not as committed: docs/more.md", self.release("none", status=1))
+        os.remove(self.path("repository/docs/more.md"))
+        self.shared("5a" * 20)
+        self.assertIn("not built of this commit: C library", self.release("none", status=4))
+        self.shared(stamp.stamp(self.top))
+        os.remove(self.path("repository/out/page/flexray.html"))
+        self.assertIn("not built of this commit: page", self.release("none", status=4))
+        self.assertEqual([name for name in os.listdir(self.room) if "none" in name], [])
+
+    def test_wrong_words(self):
+        for words, status in ((["--help"], 0), (["--version"], 0), ([], 2), (["a", "b"], 2), (["--fast", "a"], 2), (["--gate"], 2),
+                              ([self.path("repository")], 3), ([self.path("none", "deep")], 3)):
+            self.release(*words, status=status)
+
+    def test_nothing_is_left_where_it_is_killed(self):
+        process = subprocess.Popen([os.path.join(self.top, "tools", "release"), "out"], cwd=self.room, env=self.env(), start_new_session=True,
+                                   stdout=subprocess.DEVNULL, stderr=subprocess.DEVNULL)
+        for _ in range(600):
+            rooms = [name for name in os.listdir(self.room) if name.startswith(".out.")]
+            if rooms or process.poll() is not None:
+                break
+            time.sleep(0.05)
+        os.killpg(process.pid, signal.SIGKILL)
+        process.wait()
+        self.assertEqual(len(rooms), 1)
+        self.assertFalse(os.path.exists(self.path("out")))
+        self.release("out")
+        self.assertEqual([name for name in os.listdir(self.room) if "out" in name], ["out"])
 
 
 class Completion(Bench):
