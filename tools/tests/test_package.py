@@ -326,6 +326,11 @@ class Release(Bench):
         self.assertNotIn("Traceback", ended.stderr)
         return ended.stdout + ended.stderr
 
+    def passed(self, commit, left, status=0):
+        ended = subprocess.run([os.path.join(self.top, "tools", "release"), "--passed", commit], input=left, capture_output=True, text=True,
+                               check=False, env=self.env())
+        self.assertEqual(ended.returncode, status, ended.stderr)
+
     def commit(self):
         return subprocess.run(["git", "rev-parse", "HEAD"], cwd=self.top, capture_output=True, text=True, check=True).stdout.strip()
 
@@ -366,13 +371,14 @@ class Release(Bench):
 
     def test_what_is_known_of_the_gate(self):
         """That it passed is said where a file says it of this commit, and of these files, and nowhere else."""
-        tried = []
-        for path in ("crates/flexray_cli/out/flexray_cli", "crates/flexray_series_cli/out/flexray_series_cli", "out/library/lib/libflexray.so.0",
-                     "out/library/lib/libflexray.a", "out/page/flexray.html"):
-            with open(os.path.join(self.top, path), "rb") as file:
-                name = {"flexray_cli": "flexray", "flexray_series_cli": "flexray-series"}.get(os.path.basename(path), os.path.basename(path))
-                tried.append(f"tried {hashlib.sha256(file.read()).hexdigest()} {name}\n")
-        passed = self.write("repository/out/passed.txt", f"commit {self.commit()}\nkit a kit\n" + "".join(tried))
+        passed = self.path("repository", "out", "passed.txt")
+        self.passed("0" * 40, "", status=1)
+        self.assertFalse(os.path.exists(passed))
+        self.passed(self.commit(), "")
+        lines = self.read("repository", "out", "passed.txt").splitlines(keepends=True)
+        tried = [line for line in lines if line.startswith("tried ")]
+        self.assertEqual([line.split()[2] for line in tried], ["flexray", "flexray-series", "libflexray.so.0", "libflexray.a", "flexray.html"])
+        self.write("repository/out/passed.txt", "".join(lines[:1]) + "kit a kit\n" + "".join(tried))
         self.release("whole")
         self.assertIn("`.ci/run` passed on this commit, by `a kit`. What it tried are these very files", self.read("whole", "RELEASE.md"))
         self.assertIn("It left nothing out.", self.read("whole", "RELEASE.md"))
@@ -388,6 +394,9 @@ class Release(Bench):
         self.release("stale")
         self.assertIn("That the gate passed on this commit is not known", self.read("stale", "RELEASE.md"))
         self.release("--gate", self.path("nothing"), "none", status=3)
+        self.passed(self.commit(), "the page in a browser\n\n3 tests of test_page\n")
+        self.release("left")
+        self.assertIn("It left out:\n\n- the page in a browser\n- 3 tests of test_page\n", self.read("left", "RELEASE.md"))
 
     def test_what_is_not_of_a_commit_is_refused(self):
         self.write("repository/docs/more.md", "more\n")
