@@ -251,7 +251,7 @@ async function compute() {
   const found = { files, report, texts: { report: report.text } };
   if (report.status === 0) {
     const series = await program.request(["first", "second", "third", "sharp"], given, true);
-    const joins = recordsOf(files.script).some((record) => record.fields[0] === "join");
+    const joins = /(?:^\ufeff?|[\r\n])join,/.test(files.script);
     const bound = await program.request(joins ? ["bound", "first", "join"] : ["bound", "first"], given.slice(0, 1));
     if (turn !== page.turn) return;
     const told = readSeries(series.text), flutter = Math.min(MOST_FLUTTER, Number(told.last.flutter?.[0] || 0));
@@ -262,9 +262,15 @@ async function compute() {
     Object.assign(found, { run: readReport(report.text), series: told, bound: readBounds(bound.text), sharp: readBounds(sharp.text),
       flutter, joins, known: parametersOf(files.params) });
   }
+  const failed = report.status !== 0 ? report : found.fault;
+  if (failed) {
+    // A file may have a million records, so the reader looks for the one that is refused.
+    const told = await reader.ask({ job: "explain", line: failed.line, files });
+    if (turn !== page.turn) return;
+    found.told = told.title ? told : { title: cut(failed.line, 200), lines: [told.fault || ""] };
+  }
   page.found = found;
   page.stale = false;
-  const failed = report.status !== 0 ? report : found.fault;
   if (failed) state("failed", STATUSES[failed.status] || "stopped");
   else state("ready", `${Math.round(performance.now() - begun)} ms`);
   showVerdict();
@@ -282,7 +288,7 @@ function showVerdict() {
   markWrong();
   const found = page.found, failed = found.report.status !== 0 ? found.report : found.fault, cards = [];
   if (failed) {
-    const told = explain(failed.line, found.files), fields = told.record ? told.record.fields : [];
+    const { told } = found, fields = told.record ? told.record.fields : [];
     if (fields[0] === "param" && $(`parameter-${fields[1]}`)) $(`parameter-${fields[1]}`).setAttribute("aria-invalid", "true");
     notice(element("div", { class: "card bad refused", id: "refusal", role: "alert" }, element("h2", {}, `flexray: ${cut(failed.line, 300)}`),
       element("div", { class: "big" }, told.title), ...told.lines.map((line) => element("p", {}, line)),
@@ -428,7 +434,7 @@ const RESULTS = {
     return plainTable(["", ""], list);
   },
   Nodes() {
-    const { run, known, files } = page.found, names = namesOf(page.cluster), called = (node) => names.get(node) ?? "", arbitrary = recordsOf(files.script).filter((record) => record.fields[0] === "arbitrary").map((record) => record.fields[1]);
+    const { run, known, files } = page.found, names = namesOf(page.cluster), called = (node) => names.get(node) ?? "", arbitrary = [...files.script.matchAll(/(?:^\ufeff?|[\r\n])arbitrary,([^,\r\n]*)/g)].map((found) => found[1]);
     const rows = run.ends.map((one) => [one.node, called(one.node), one.state, one.rate, one.offset]);
     rows.push(...arbitrary.map((node) => [node, called(node), "arbitrary: it has no clock", "", ""]));
     return element("div", {}, plainTable([" node", "name", "at the end", " rate term", " offset term"], rows),

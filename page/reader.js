@@ -1,5 +1,5 @@
 "use strict";
-// Reads files into the form and writes the form into files, in a worker of its own, behind cluster.js and toml.js.
+// Reads files into the form and writes the form into files, in a worker of its own, behind cluster.js, toml.js and words.js; says what a refusal means.
 const JOBS = new Map([
   ["read", ({ files, microtick, names }) => ({ cluster: readCluster(files, microtick, names) })],
   ["toml", ({ text }) => {
@@ -8,6 +8,7 @@ const JOBS = new Map([
   }],
   ["write", ({ cluster }) => writeCluster(cluster)],
   ["written", ({ cluster }) => ({ text: tomlOf(cluster) })],
+  ["explain", ({ line, files }) => explain(line, files)],
 ]);
 
 // What a job answers; {no} with a reason where the text is refused, {fault} where this page has a fault or memory ran out.

@@ -192,7 +192,8 @@ class Page(Bench):
         self.run_in('selectTab("editor", "Nodes")')
         self.put('[aria-label="name, node 2"]', "Lügner")
         self.settle()
-        self.assertEqual(self.run_in('$("state").textContent'), "1 field is not understood")
+        # Both that have it are marked.
+        self.assertEqual(self.run_in('$("state").textContent'), "2 fields are not understood")
 
     def test_toml_that_cannot_be_read(self):
         bench = (EXAMPLES / "bench" / "bench.toml").read_text()
