@@ -42,7 +42,8 @@ class Made:
         for at, name in enumerate(rng.sample(NAMES, count)):
             has_key = at < 2 or rng.random() < 0.7
             is_sync = at < 2 or has_key and rng.random() < 0.8
-            self.nodes.append((name, keys[at] if has_key else None, is_sync and has_key, is_sync and has_key and (at < 2 or rng.random() < 0.3),
+            is_cold = is_sync and has_key and (at < 2 or rng.random() < 0.3)
+            self.nodes.append((name, keys[at] if has_key else None, is_sync and has_key, is_cold,
                                "AB" if at < 2 else rng.choice(("A", "B", "AB", "AB"))))
         rng.shuffle(self.nodes)
         self.further = {}
@@ -233,8 +234,8 @@ def arxml(made):
         refs, triggerings = [], []
         for at, (name, _, _, _, on) in enumerate(made.nodes):
             if channel in on:
-                refs.append(tag("COMMUNICATION-CONNECTOR-REF-CONDITIONAL", ref("COMMUNICATION-CONNECTOR-REF", "FLEXRAY-COMMUNICATION-CONNECTOR",
-                                                                              f"{path(name)}/C{on if joined else channel}")))
+                told = ref("COMMUNICATION-CONNECTOR-REF", "FLEXRAY-COMMUNICATION-CONNECTOR", f"{path(name)}/C{on if joined else channel}")
+                refs.append(tag("COMMUNICATION-CONNECTOR-REF-CONDITIONAL", told))
         rng.shuffle(refs)
         for at, slot, timings in frames:
             if channel not in made.nodes[at][4]:
@@ -249,7 +250,8 @@ def arxml(made):
                                    + tag("ABSOLUTELY-SCHEDULED-TIMINGS", told)))
         channels += tag("FLEXRAY-PHYSICAL-CHANNEL", short(f"Ch{channel}") + tag("COMM-CONNECTORS", "\n".join(refs))
                         + tag("FRAME-TRIGGERINGS", "\n".join(triggerings)) + tag("CHANNEL-NAME", f"CHANNEL-{channel}"))
-    values = [("ACTION-POINT-OFFSET", p["gdActionPointOffset"]), ("NETWORK-IDLE-TIME", made.nit), ("STATIC-SLOT-DURATION", p["gdStaticSlot"]),
+    values = [("ACTION-POINT-OFFSET", p["gdActionPointOffset"]), ("NETWORK-IDLE-TIME", made.nit),
+              ("STATIC-SLOT-DURATION", p["gdStaticSlot"]),
               ("TRANSMISSION-START-SEQUENCE-DURATION", made.start_bits), ("MACRO-PER-CYCLE", p["gMacroPerCycle"]),
               ("MAX-WITHOUT-CLOCK-CORRECTION-FATAL", p["gMaxWithoutClockCorrectionFatal"]), ("BAUDRATE", made.bit_rate),
               ("MAX-WITHOUT-CLOCK-CORRECTION-PASSIVE", p["gMaxWithoutClockCorrectionPassive"]),

@@ -111,8 +111,10 @@ class Case(Bench):
         self.assertIn("beside 1 arbitrary nodes of 3 sync nodes that do not join", self.case("--flutter-ns", "5", text=joined, status=1))
 
     def test_a_claim_for_some_time(self):
-        found = json.loads(self.case("--flutter-ns", "5", "--json", text=self.sharp.replace("pClusterDriftDamping = 1", "pClusterDriftDamping = 0", 1)
-                                     if "pClusterDriftDamping = 1" in self.sharp else edited(("pClusterDriftDamping = 5", "pClusterDriftDamping = 1"))))
+        found = json.loads(self.case("--flutter-ns", "5", "--json", text=self.sharp.replace("pClusterDriftDamping = "
+                                                                                            "1", "pClusterDriftDamping = 0", 1)
+                                     if "pClusterDriftDamping = 1" in self.sharp else edited(("pClusterDriftDamping = "
+                                                                                              "5", "pClusterDriftDamping = 1"))))
         self.assertGreater(found["lasts_double_cycles"], 0)
         self.assertIn(f"for the {found['lasts_double_cycles']} double cycles from there on (", found["claim"][0])
         found = json.loads(self.case("--flutter-ns", "5", "--json", text=edited()))

@@ -16,7 +16,8 @@ from flexlab.toml.cluster import read_cluster
 
 CHANGED = {"pClusterDriftDamping = 1": "pClusterDriftDamping = 2", "pAllowPassiveToActive = 0": "pAllowPassiveToActive = 3"}
 # Changes of the ARXML sample from which others follow: its microticks are 125 in a macrotick.
-FOLLOWED = {"gMacroPerCycle = 1280": "gMacroPerCycle = 1284", "gdNIT = 92": "gdNIT = 96", "pMicroPerCycle = 160000": "pMicroPerCycle = 160500",
+FOLLOWED = {"gMacroPerCycle = 1280": "gMacroPerCycle = 1284", "gdNIT = 92": "gdNIT = 96", "pMicroPerCycle = 160000": "pMicroPerCycle = "
+                                                                                                                     "160500",
             "gdActionPointOffset = 4": "gdActionPointOffset = 3", "pDelayCompensationA = 4": "pDelayCompensationA = 6",
             "pAllowHaltDueToClock = 1": "pAllowHaltDueToClock = 0"}
 FOLLOWS = {"NETWORK-IDLE-TIME": ("70", "74"), "CYCLE": ("0.002", "0.00200625"), "MACRO-INITIAL-OFFSET-A": ("5", "4"),
@@ -132,14 +133,17 @@ class Export(Bench):
         self.assertFalse(os.path.exists("motion-arxml43.new.arxml"))
         self.called("export", "motion-arxml43.arxml", "--from", "net.toml", "--anyway")
         self.write("bare.toml", re.sub(r"(?m)^#.*\n", "", self.read("net.toml")))
-        self.assertIn("bare.toml: its head has no SHA-256 of", self.called("export", "motion-arxml43.arxml", "--from", "bare.toml", "-o", "x",
+        self.assertIn("bare.toml: its head has no SHA-256 "
+                      "of", self.called("export", "motion-arxml43.arxml", "--from", "bare.toml", "-o", "x",
                                                                            status=5))
 
     def test_only_numbers_of_parameters_go_back(self):
         name = "motion-arxml43.arxml"
         for old, new, told in (("key_slot = 3", "key_slot = 9", "key_slot of ECU_RL is 9, and in motion-arxml43.arxml 3"),
-                               ('name = "ECU_RL"', 'name = "Other"', "its nodes are not those of motion-arxml43.arxml: ECU_RL, Other are in"),
-                               ("base = 7", "base = 6", "its [[slot]] tables are not those of"), ("start_bits = 6", "start_bits = 7", "bench."),
+                               ('name = "ECU_RL"', 'name = "Other"', "its nodes are not those of motion-arxml43.arxml: ECU_RL, Other are "
+                                                                     "in"),
+                               ("base = 7", "base = 6", "its [[slot]] tables are not those of"), ("start_bits = 6", "start_bits = "
+                                                                                                                    "7", "bench."),
                                ("microtick_ns = 12.5", "microtick_ns = 25", "bench.microtick_ns is 25, and in"),
                                ("coldstart = true", "coldstart = false", "coldstart of ECU_FL is False, and in")):
             with self.subTest(new=new):
@@ -171,8 +175,10 @@ class Export(Bench):
             made = fieldfiles.Made(seed, is_plain=seed % 6 < 4)
             name, data = ("r.xml", fieldfiles.fibex(made)) if seed % 2 else ("r.arxml", fieldfiles.arxml(made))
             p = made.p
-            changes = [(f"pOffsetCorrectionOut = {p['pOffsetCorrectionOut']}", f"pOffsetCorrectionOut = {max(1, p['pOffsetCorrectionOut'] - 1)}"),
-                       (f"gMaxWithoutClockCorrectionPassive = {p['gMaxWithoutClockCorrectionPassive']}", "gMaxWithoutClockCorrectionPassive = 1")]
+            changes = [(f"pOffsetCorrectionOut = {p['pOffsetCorrectionOut']}", "pOffsetCorrectionOut = "
+                                                                               f"{max(1, p['pOffsetCorrectionOut'] - 1)}"),
+                       ("gMaxWithoutClockCorrectionPassive = "
+                        f"{p['gMaxWithoutClockCorrectionPassive']}", "gMaxWithoutClockCorrectionPassive = 1")]
             with self.subTest(seed=seed):
                 self.imported(name, data, changes, made.words())
                 for path in ("new", "r.toml"):

@@ -51,7 +51,7 @@ def headed(head, text):
 
 SECOND = re.search(r"\t\t\t<CLUSTER .*?</CLUSTER>\n", FIBEX, re.S)[0]
 TWO = put(FIBEX, ("\t\t</CLUSTERS>", SECOND.replace('"_3"', '"_4"').replace("FR_Backbone", "FR_Other") + "\t\t</CLUSTERS>"))
-CONDITIONAL = re.search(r" *<FLEXRAY-COMMUNICATION-CONTROLLER-CONDITIONAL>.*?</FLEXRAY-COMMUNICATION-CONTROLLER-CONDITIONAL>\n", ARXML, re.S)[0]
+CONDITIONAL = re.search(r" *<(FLEXRAY-COMMUNICATION-CONTROLLER-CONDITIONAL)>.*?</\1>\n", ARXML, re.S)[0]
 PORT = "/Topology/Ecus/ECU_FL/FrConn_AB/FP_Key_ECU_FL_AB_Tx<"
 NESTED = "<a>" * 100000 + "</a>" * 100000
 EVIL = "Steer&#10;[limits]&#10;oscillator_ppm = 0"
@@ -94,7 +94,8 @@ BROKEN = {
     "no cluster": (put(FIBEX, (SECOND, "")), (), 5, "a.xml: it has no FlexRay cluster"),
     "no ECU": (re.sub(r"<ECUS>.*</ECUS>", "", FIBEX, flags=re.S), (), 5, "no node of cluster FR_Backbone is in the file"),
     "microticks that differ": (put(FIBEX, ("<fr:MICROTICK> 0.050", "<fr:MICROTICK> 0.025")), (), 5,
-                               "a.xml: MICROTICK differs: 0.050 of Steer, Brake, Susp, .. (line 50); 0.025 of Gateway (line 38). All nodes of "
+                               "a.xml: MICROTICK differs: 0.050 of Steer, Brake, Susp, .. (line 50); 0.025 of Gateway (line 38). All nodes "
+                               "of "
                                "flexray have one value: --take ECU takes that of one"),
     "values of one": (put(FIBEX, ("<fr:RATE-CORRECTION-OUT> 601", "<fr:RATE-CORRECTION-OUT> 600")), ("--take", "Gateway"), 0,
                       "pRateCorrectionOut = 600    # 38"),
@@ -119,7 +120,8 @@ BROKEN = {
                                  "# NOTE a.xml:8: the parts behind the static slots are 3401 macroticks, and the cycle has 3400 there"),
     "broken constraint": (put(ARXML, ("CORRECTION-START>1240<", "CORRECTION-START>1100<")), (), 5,
                           "gOffsetCorrectionStart, 1100, is not above 1188 and below 1280; line 900: gNumberOfStaticSlots 44; line 904"),
-    "external correction": (put(FIBEX, ("<fr:LISTEN-TIMEOUT>", "<fr:EXTERN-RATE-CORRECTION>1</fr:EXTERN-RATE-CORRECTION><fr:LISTEN-TIMEOUT>")),
+    "external correction": (put(FIBEX, ("<fr:LISTEN-TIMEOUT>", "<fr:EXTERN-RATE-CORRECTION>1</fr:EXTERN-RATE-CORRECTION>"
+                                        "<fr:LISTEN-TIMEOUT>")),
                             (), 5, "EXTERN-RATE-CORRECTION: 1 of Gateway: external clock correction breaks the premises"),
     "no external correction": (put(FIBEX, ("<fr:LISTEN-TIMEOUT>", "<fr:EXTERN-RATE-CORRECTION>0.0</fr:EXTERN-RATE-CORRECTION>"
                                            "<fr:LISTEN-TIMEOUT>")), (), 0, "pRateCorrectionOut = 601"),
@@ -128,15 +130,19 @@ BROKEN = {
     "flag that is none": (put(ARXML, ("CLOCK>1<", "CLOCK>yes<")), (), 5, "ALLOW-HALT-DUE-TO-CLOCK: yes is not true, false, 1 or 0"),
     "key slot without a number": (put(FIBEX, ("STARTUP-SYNC>2<", "STARTUP-SYNC>two<")), (), 5, "STARTUP-SYNC: two is no number"),
     "payload in bytes": (put(FIBEX, ("STATIC>12<", "STATIC>8<")), (), 0, "frames of static slots have more than 16 bytes"),
-    "more sync nodes than allowed": (put(FIBEX, ("SYNC-NODE-MAX>5<", "SYNC-NODE-MAX>4<")), (), 0, "5 nodes have a key slot for sync, and 4"),
+    "more sync nodes than allowed": (put(FIBEX, ("SYNC-NODE-MAX>5<", "SYNC-NODE-MAX>4<")), (), 0, "5 nodes have a key slot for sync, and "
+                                                                                                  "4"),
     "another version": (put(FIBEX, ("VERSION>2.1<", "VERSION>3.0.1<")), (), 0, "the protocol is of version 3.0.1, and flexray's is 2.1"),
     "name with line breaks": (put(FIBEX, ("SHORT-NAME>Steer<", f"SHORT-NAME>{EVIL}<")), (), 0, 'name = "Steer[limits]oscillator_ppm = 0"'),
-    "name of the cluster with line breaks": (put(FIBEX, ("FR_Backbone<", f"{EVIL}<")), (), 0, "cluster Steer[limits]oscillator_ppm = 0, by"),
+    "name of the cluster with line breaks": (put(FIBEX, ("FR_Backbone<", f"{EVIL}<")), (), 0, "cluster Steer[limits]oscillator_ppm = 0, "
+                                                                                              "by"),
     "name with quotes": (put(FIBEX, ("SHORT-NAME>Steer<", "SHORT-NAME>St&quot;e\\er<")), (), 0, 'name = "St\\"e\\\\er"'),
     "ECU without a controller": (put(FIBEX, ('<CONTROLLER ID="c5" xsi:type="fr:CONTROLLER-TYPE">', "<OTHER>"),
-                                     ("</CONTROLLER>\n\t\t\t</CONTROLLERS></ECU>\n\t\t</ECUS>", "</OTHER></CONTROLLERS></ECU></ECUS>")), (), 5,
+                                     ("</CONTROLLER>\n\t\t\t</CONTROLLERS></ECU>\n\t\t</ECUS>",
+                                      "</OTHER></CONTROLLERS></ECU></ECUS>")), (), 5,
                                  "ECU Radar is on channel B, and of no FlexRay controller there the parameters are told"),
-    "ECU that is left out": (FIBEX, ("--leave-out", "Radar"), 0, "# NOTE ECU Radar is left out, as --leave-out asks: what is promised is of a cluster without it"),
+    "ECU that is left out": (FIBEX, ("--leave-out", "Radar"), 0, "# NOTE ECU Radar is left out, as --leave-out asks: what is promised is "
+                                                                 "of a cluster without it"),
     "ECU that is left out of an ARXML file": (ARXML, ("--leave-out", "Sensor"), 0, "2 frames of static slots have no sender in the file"),
     "another name": (FIBEX.replace("fr:N-I-T", "fr:NIT").replace("fr:MACRO-PER-CYCLE", "fr:MACROS"), ("--map", "map.toml"), 0,
                      "gMacroPerCycle = 5000    # 8"),
@@ -235,8 +241,10 @@ class Import(Bench):
 
     def test_no_file_and_wrong_words(self):
         self.keep("a.xml", FIBEX)
-        for words, status, told in ((("none.xml",), 3, "none.xml: No such file"), (("a.xml", "--delay-ns", "300"), 2, "FROM-TO in ns is wanted"),
-                                    (("a.xml", "--delay-ns", "300-50"), 2, "FROM-TO in ns"), (("a.xml", "--oscillator-ppm", "1e9"), 2, "1498.25"),
+        for words, status, told in ((("none.xml",), 3, "none.xml: No such file"), (("a.xml", "--delay-ns", "300"), 2, "FROM-TO in ns is "
+                                                                                                                      "wanted"),
+                                    (("a.xml", "--delay-ns", "300-50"), 2, "FROM-TO in ns"),
+                                    (("a.xml", "--oscillator-ppm", "1e9"), 2, "1498.25"),
                                     (("a.xml", "--oscillator-ppm", "1500"), 2, "a number from 0 to 1498.25 ppm is wanted"),
                                     (("a.xml", "--delay-ns", "1-2", "--delay-a-ns", "1-2"), 2, "stands beside --delay-ns"),
                                     (("a.xml", "--delay-a-ns", "100-200"), 2, "--delay-b-ns is missing"),
@@ -275,7 +283,8 @@ class Import(Bench):
         self.keep("whole.arxml", ARXML)
         status, out, err = self.called("net.arxml", "-o", "-")
         self.assertEqual((status, out), (5, ""))
-        self.assertIn("COMMUNICATION-CONNECTOR-REF: it refers to /Topology/Ecus/ECU_FL/FrConn_AB, which is not in the file; give all files of", err)
+        self.assertIn("COMMUNICATION-CONNECTOR-REF: it refers to /Topology/Ecus/ECU_FL/FrConn_AB, which is not in the file; give all files "
+                      "of", err)
         status, out, err = self.called("net.arxml", "ecus.arxml", "-o", "-")
         self.assertEqual(status, 0, err)
         plain = lambda text: [line.split("    #")[0] for line in text.splitlines() if not line.startswith("#")]  # noqa: E731
@@ -297,7 +306,8 @@ class Import(Bench):
 
     def test_a_file_of_many_megabytes_in_little_memory(self):
         """All but the FlexRay part is passed over, so memory does not grow with the file."""
-        foreign = "".join(f"<I-SIGNAL-I-PDU UUID='{at}'><SHORT-NAME>P{at}</SHORT-NAME><LENGTH>8</LENGTH><X><Y>{at}</Y></X></I-SIGNAL-I-PDU>\n"
+        foreign = "".join("<I-SIGNAL-I-PDU "
+                          f"UUID='{at}'><SHORT-NAME>P{at}</SHORT-NAME><LENGTH>8</LENGTH><X><Y>{at}</Y></X></I-SIGNAL-I-PDU>\n"
                           for at in range(1000))
         place = ARXML.index("<FLEXRAY-FRAME>")
         with open(self.path("big.arxml"), "w", encoding="utf-8", newline="") as file:

@@ -34,7 +34,8 @@ def parser():
                       "\nEach number of the TOML file that is written has its line there. Oscillators and delays are in no such file, and\n"
                       "are asked. All files of one system are given together.")
     read_in.add_argument("files", metavar="FILE", nargs="+", help="FIBEX 2 to 4, or ARXML 3 and 4")
-    read_in.add_argument("-o", "--out", metavar="OUT.toml", help="the file to be written, which is not there yet (FILE.toml beside the first "
+    read_in.add_argument("-o", "--out", metavar="OUT.toml", help="the file to be written, which is not there yet (FILE.toml beside the "
+                                                                 "first "
                          "file), or - for standard output")
     read_in.add_argument("--cluster", metavar="NAME", help="which FlexRay cluster, where there are several")
     read_in.add_argument("--take", metavar="ECU", help="where controllers differ, the values of this ECU's for all")
@@ -45,11 +46,13 @@ def parser():
     for channel in "ab":
         read_in.add_argument(f"--delay-{channel}-ns", metavar="FROM-TO", help=f"the same, of channel {channel.upper()} alone")
     read_in.add_argument("--set", metavar="NAME=NUMBER", action="append", help="a parameter that the file has not")
-    read_in.add_argument("--map", metavar="RENAMED.toml", help="other names of elements: [fibex] and [arxml] with keys of the table of names")
+    read_in.add_argument("--map", metavar="RENAMED.toml", help="other names of elements: [fibex] and [arxml] with keys of the table of "
+                                                               "names")
     read_in.add_argument("--list", action="store_true", help="print the FlexRay clusters and their nodes, and write nothing")
 
     write_back = request("export", "put changed parameters of a cluster back into the FIBEX or ARXML file that it came from",
-                         "\nOnly changed numbers are other bytes in the new file, and those that follow from them. A file that was changed\n"
+                         "\nOnly changed numbers are other bytes in the new file, and those that follow from them. A file that was "
+                         "changed\n"
                          "since it was imported is refused, and so are other nodes, key slots and frames.")
     write_back.add_argument("file", metavar="FILE", help="the file that was imported; it is not written over")
     write_back.add_argument("--from", dest="source", metavar="CLUSTER.toml", required=True, help="the cluster as it is wanted")
@@ -58,7 +61,8 @@ def parser():
     write_back.add_argument("--cluster", metavar="NAME", help="which FlexRay cluster, where there are several")
     write_back.add_argument("--leave-out", metavar="ECU", action="append", help="an ECU that is no node, as import had it")
     write_back.add_argument("--map", metavar="RENAMED.toml", help="other names of elements, as import had them")
-    write_back.add_argument("--anyway", action="store_true", help="take a file that changed since; leave what follows in a way that is not known")
+    write_back.add_argument("--anyway", action="store_true", help="take a file that changed since; leave what follows in a way that is not "
+                                                                  "known")
 
     build = request("build", "write the three files of a cluster for flexray",
                     "\nIt has flexray bound say whether the parameters keep their constraints.")
@@ -419,8 +423,9 @@ def do_observe(words):
     return observe(words, folder_of(words))
 
 
-DO = {"new": do_new, "import": do_import, "export": do_export, "case": do_case, "build": do_build, "run": do_run, "power": do_power, "settle": do_settle, "pcap": do_pcap,
-      "explain": do_explain, "study": do_study, "precision": do_precision, "design": do_design, "worst": do_worst, "study-run": do_study_run,
+DO = {"new": do_new, "import": do_import, "export": do_export, "case": do_case, "build": do_build, "run": do_run, "power": do_power,
+      "settle": do_settle, "pcap": do_pcap, "explain": do_explain, "study": do_study, "precision": do_precision, "design": do_design,
+      "worst": do_worst, "study-run": do_study_run,
       "capture": do_capture, "log": do_log, "observe": do_observe}
 
 

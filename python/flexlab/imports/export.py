@@ -75,7 +75,8 @@ class Exporting:
             for what, one, two in (("key_slot", key_of(node), there.key_slot), ("channels", "".join(sorted(node.channels)), there.channels),
                                    ("coldstart", node.is_startup, there.coldstart)):
                 if one != two:
-                    raise self.refuse(f"{what} of {name} is {two}, and in {self.path} {one}: frames hang on it, so the tool that made the file "
+                    raise self.refuse(f"{what} of {name} is {two}, and in {self.path} {one}: frames hang on it, so the tool that made the "
+                                      "file "
                                       "has to change it")
         numbers = {node.number: told[name].number for name, node in own.items()}
         slots = sorted((one.slot, numbers[one.node.number], one.base, one.repetition) for one in self.found.slots)
@@ -85,7 +86,8 @@ class Exporting:
                                           ("bit_rate_mbit", self.bench("bit_rate_mbit", 10), self.cluster.bit_rate),
                                           ("start_bits", self.bench("start_bits", 15), Fraction(self.cluster.start_bits))):
             if length != other_length:
-                raise self.refuse(f"bench.{key} is {plain(other_length)}, and in {self.path} {plain(length)}: it is hardware, or the decoding of frames "
+                raise self.refuse(f"bench.{key} is {plain(other_length)}, and in {self.path} {plain(length)}: it is hardware, or the "
+                                  "decoding of frames "
                                   "hangs on it, so the tool that made the file has to change it")
 
     def bench(self, key: str, default: int) -> Fraction:
@@ -118,7 +120,8 @@ class Exporting:
             for element, ecu in places:
                 if element is None:
                     name = row.name(self.network.form).split("|")[0].split(":")[-1]
-                    raise self.refuse(f"{row.key} is {self.new(row.key)}, and {self.path} has no {name}{' of ' + ecu if ecu else ''} to put it "
+                    raise self.refuse(f"{row.key} is {self.new(row.key)}, and {self.path} has no {name}{' of ' + ecu if ecu else ''} to "
+                                      "put it "
                                       "into")
                 self.put(element, row.key, self.new(row.key), ecu)
         if self.old("gdNIT") != self.new("gdNIT"):
@@ -171,7 +174,8 @@ class Exporting:
             value = self.old if read else self.new
             return value("gdNIT") - window - (count * length + max(0, value("gdActionPointOffset") - point) if count else 0)
         if rest("old", True) != number(nit):
-            self.leave(nit, f"the parts behind the static slots do not add up to {self.old('gdNIT')} macroticks in the file, so its new value "
+            self.leave(nit, f"the parts behind the static slots do not add up to {self.old('gdNIT')} macroticks in the file, so its new "
+                            "value "
                             "is not known")
             return
         new = rest("new", False)
@@ -189,7 +193,8 @@ class Exporting:
             if element is None or old == new:
                 continue
             if not near(nanoseconds(element, form), old * microtick):
-                self.leave(element, f"it is not what {self.old('pMicroPerCycle')} microticks come to in the file, so its new value is not known")
+                self.leave(element, f"it is not what {self.old('pMicroPerCycle')} microticks come to in the file, so its new value is not "
+                                    "known")
                 continue
             unit = 1000 if form == "FIBEX" else 1000000000
             self.edits.append(Edit(element, key, digits(new * microtick / unit), own=False))
@@ -234,7 +239,8 @@ class Exporting:
                                 (int(number(drift)), int(number(drift))))
         if drift is not None and "pMicroPerCycle" in self.changed:
             if most(self.old("pMicroPerCycle")) != number(drift):
-                self.leave(drift, f"it follows from pMicroPerCycle, and the formula gives {most(self.old('pMicroPerCycle'))} for what the file has")
+                self.leave(drift, f"it follows from pMicroPerCycle, and the formula gives {most(self.old('pMicroPerCycle'))} for what the "
+                                  "file has")
             else:
                 new_drift = most(self.new("pMicroPerCycle"))
                 self.put(drift, drift.plain, new_drift, node.name, False)
@@ -297,7 +303,8 @@ def hold_hash(cluster: Cluster, network: Network, anyway: bool) -> None:
     told = re.findall(r"(?m)^# SHA-256 of [^\n]{1,200}: ([0-9a-f]{64})$", cluster.text)
     if file.sha256 in told or anyway:
         return
-    raise Stop(REFUSED, f"{cluster.path}: " + (f"it was made of another file than {file.path} is now: its head has the SHA-256 {told[0]}, and "
+    raise Stop(REFUSED, f"{cluster.path}: " + (f"it was made of another file than {file.path} is now: its head has the SHA-256 {told[0]}, "
+                                               "and "
                                                f"that file has {file.sha256}" if told else
                                                f"its head has no SHA-256 of {file.path}, so it may be of another cluster")
                + "; with --anyway it is taken all the same")
@@ -362,5 +369,6 @@ def hold_written(part: str, words: argparse.Namespace, cluster: Cluster, exporti
     check.hold_shapes()
     check.differ()
     if check.changed or check.edits:
-        raise Stop(PROGRAM, f"{printable(words.file)}: {', '.join(sorted(check.changed))} would not be as wanted in the new file: nothing is "
+        raise Stop(PROGRAM, f"{printable(words.file)}: {', '.join(sorted(check.changed))} would not be as wanted in the new file: nothing "
+                            "is "
                             f"written ({len(exporting.edits)} numbers were to be changed)")

@@ -9,7 +9,7 @@ from ..base import ranges
 from ..base.ending import REFUSED, USAGE, Stop
 from ..base.units import decimal
 from ..toml.constraints import broken, explain_constraint
-from .names import CLUSTER, CLUSTER_CHECKED, CONTROLLER, CONTROLLER_CHECKED, CONTROLLER_OFF, TIMING
+from .names import CLUSTER, CONTROLLER, CONTROLLER_CHECKED, CONTROLLER_OFF, TIMING
 from .network import Controller, Network, Sending
 from .numbers import flag, microtick, nanoseconds, near, number, shown, whole
 from .xml_file import Element, printable
@@ -119,9 +119,9 @@ class Importing:
     def __init__(self, network: Network, asked: Asked):
         self.network, self.asked = network, asked
         self.used: set[str] = set()
-        named(network.controllers)
         if len(network.controllers) > 64:
             raise network.element.refused(f"it has {len(network.controllers)} nodes, and flexray takes 64")
+        named(network.controllers)
         ordered = [one for one in network.controllers if key_of(one) is not None]
         ordered.sort(key=lambda one: key_of(one) or 0)
         self.nodes = ordered + [one for one in network.controllers if key_of(one) is None]
@@ -269,8 +269,10 @@ class Importing:
             words.append(f"{channel} {plain(low)}-{plain(high)} beside {plain(wait)}")
             if here > MOST_ERROR * microtick_ns:
                 amid = round((low + high) / 2 / microtick_ns)
-                raise Stop(REFUSED, f"{self.network.files[0].path}: delays of {plain(low)} to {plain(high)} ns on channel {channel} lie up to "
-                                    f"{plain(here)} ns off its compensation, {plain(wait)} ns: {plain(here / microtick_ns)} microticks, and "
+                raise Stop(REFUSED, f"{self.network.files[0].path}: delays of {plain(low)} to {plain(high)} ns on channel {channel} lie up "
+                                    "to "
+                                    f"{plain(here)} ns off its compensation, {plain(wait)} ns: {plain(here / microtick_ns)} microticks, "
+                                    "and "
                                     f"{MOST_ERROR} are the range of flexray's xDelayError. A compensation amid them is {amid} microticks")
             error = max(error, here)
         return Told(plain(error), None, f"--delay-ns: {'; '.join(words)}")
@@ -299,11 +301,13 @@ class Importing:
         cycle = found.value("pMicroPerCycle") * microtick_ns
         if "cycle" in values and not near(nanoseconds(values["cycle"], form), cycle):
             told = nanoseconds(values["cycle"], form)
-            note(values["cycle"], f"CYCLE is {plain(told / 1000)} us, and {found.value('pMicroPerCycle')} microticks are {plain(cycle / 1000)} "
+            note(values["cycle"], f"CYCLE is {plain(told / 1000)} us, and {found.value('pMicroPerCycle')} microticks are "
+                                  f"{plain(cycle / 1000)} "
                                   "us: microticks count")
         if "macrotick" in values and not near(nanoseconds(values["macrotick"], form) * found.value("gMacroPerCycle"), cycle):
             told = nanoseconds(values["macrotick"], form)
-            note(values["macrotick"], f"a macrotick is {plain(told / 1000)} us, and {found.value('gMacroPerCycle')} of them are no cycle of "
+            note(values["macrotick"], f"a macrotick is {plain(told / 1000)} us, and {found.value('gMacroPerCycle')} of them are no cycle "
+                                      "of "
                                       f"{plain(cycle / 1000)} us: microticks count")
         if "bit" in values and "bit_rate" in values and not near(nanoseconds(values["bit"], form) * number(values["bit_rate"]),
                                                                  Fraction(1000000000)):
@@ -381,7 +385,8 @@ class Importing:
         first = min(cycles)
         step = next(step for step in reversed(ranges.REPETITIONS) if len({cycle % step for cycle in cycles}) == 1)
         if cycles != set(range(first % step, 64, step)):
-            self.network.note(element, f"the frames of slot {slot} come in {len(cycles)} of 64 cycles, which is no base and repetition: base "
+            self.network.note(element, f"the frames of slot {slot} come in {len(cycles)} of 64 cycles, which is no base and repetition: "
+                                       "base "
                                        f"{first % step}, repetition {step} covers them and more")
         return Slot(slot, node, first % step, step, element)
 
@@ -403,9 +408,7 @@ def plain(value: Fraction) -> str:
 
 def known_and_unused(network: Network) -> list[str]:
     """The names of what stands in the cluster and its controllers and is left out."""
-    rows = [row for row in (*CLUSTER_CHECKED, *CONTROLLER_CHECKED) if row.key in ("decoding", "latest_tx", "startup_range", "listen_timeout",
-                                                                                "max_drift", "macro_initial_A", "macro_initial_B",
-                                                                                "micro_initial_A", "micro_initial_B")]
+    rows = CONTROLLER_CHECKED
     have = {key for controller in network.controllers for key in controller.values}
     found = {row.name(network.form).split("|")[0].split(":")[-1] for row in rows if row.key in have}
     return sorted(found | {printable(name, 64) for name in network.omitted})

@@ -45,7 +45,8 @@ def given_of(words: list[str]) -> dict[str, Fraction]:
             raise Stop(USAGE, f"--set {printable(word)}: there is no such parameter; write NAME=NUMBER, as pClusterDriftDamping=2")
         if not re.fullmatch(NUMBER, text, re.ASCII) or not least <= Fraction(text) <= most or (
                 name != "microtick_ns" and Fraction(text).denominator != 1):
-            raise Stop(USAGE, f"--set {printable(word)}: a {'' if name == 'microtick_ns' else 'whole '}number from {least} to {most} is wanted")
+            raise Stop(USAGE, f"--set {printable(word)}: a {'' if name == 'microtick_ns' else 'whole '}number from {least} to {most} is "
+                              "wanted")
         found[name] = Fraction(text)
     return found
 
@@ -138,7 +139,8 @@ def page(found: Imported, path: str, called: str) -> str:
         lines += field("Asked", "no such file has these; give them as options, or write them into the file:", *missing_of(found))
     else:
         lines += field("Asked", "nothing more")
-    lines += field("Not seen", "no file of a real tool was at hand when this was written: hold the numbers against your file by their lines")
+    lines += field("Not seen", "no file of a real tool was at hand when this was written: hold the numbers against your file by their "
+                               "lines")
     if path:
         lines += field("Written", f"{path}; next: {called} run {path}")
     return "\n".join(lines) + "\n"

@@ -157,7 +157,8 @@ class Fibex(Reading):
                         protocol=cluster.find(FIBEX["version"]), omitted=set(cluster.omitted))
         damping = cluster.find("fr:CLUSTER-DRIFT-DAMPING")
         if damping:
-            found.note(damping, f"{damping.plain} of the cluster, {printable(damping.text.strip(), 32)}, is left out: the controllers' counts")
+            found.note(damping, f"{damping.plain} of the cluster, {printable(damping.text.strip(), 32)}, is left out: the controllers' "
+                                "counts")
         sent = [pair for root in roots if root.name == "ECU" and root.short_name() not in self.left
                 for pair in self.ecu(root, channels)]
         triggerings = {told: list(ids[told].all(FIBEX["triggerings"])) for told in channels}

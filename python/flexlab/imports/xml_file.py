@@ -107,6 +107,7 @@ class XmlFile:
         self.packages: list[Package] = []
         self.named: Package | None = None
         self.pieces: list[str] = []
+        self.letters = 0
         self.begun = -1
         self.broken = False
         self.parser = expat.ParserCreate(namespace_separator=" ")
@@ -203,7 +204,7 @@ class XmlFile:
                 self.skipped = 1
                 self.interrupted("")
                 if not "".join(self.pieces).strip():
-                    self.pieces = []
+                    self.pieces, self.letters = [], 0
                 return
             self.keep(name, parent, attributes)
         elif names.ROOTS[self.form].get(name) == self.outside[-1]:
@@ -219,7 +220,7 @@ class XmlFile:
                 self.skipped = 1
                 return
             self.outside.append(name)
-            self.pieces = []
+            self.pieces, self.letters = [], 0
 
     def keep(self, name: str, parent: Element | None, attributes: dict[str, str]) -> None:
         self.kept += 1
@@ -236,7 +237,7 @@ class XmlFile:
         else:
             parent.children.append(element)
         self.open.append(element)
-        self.pieces, self.begun, self.broken = [], -1, False
+        self.pieces, self.letters, self.begun, self.broken = [], 0, -1, False
 
     def data(self, text: str) -> None:
         if self.skipped or not (self.open or self.named):
@@ -244,7 +245,8 @@ class XmlFile:
         if self.begun < 0:
             self.begun = self.parser.CurrentByteIndex
         self.pieces.append(text)
-        if len(self.pieces) > TEXT or sum(map(len, self.pieces[-2:])) > TEXT:
+        self.letters += len(text)
+        if self.letters > TEXT:
             raise self.refused(f"a text of more than {TEXT} letters: no number or name has so many")
 
     def interrupted(self, _: str) -> None:
@@ -266,11 +268,9 @@ class XmlFile:
         element = self.open.pop()
         if not element.children:
             element.text = "".join(self.pieces)
-            if len(element.text) > TEXT:
-                raise self.refused(f"a text of more than {TEXT} letters: no number or name has so many")
             if not self.broken and self.begun >= 0:
                 element.start, element.end = self.begun, self.parser.CurrentByteIndex
-        self.pieces, self.begun, self.broken = [], -1, True
+        self.pieces, self.letters, self.begun, self.broken = [], 0, -1, True
         if not self.open:
             self.closed(element)
 

@@ -114,14 +114,17 @@ def claim(case: Case) -> list[str]:
     cluster, bounds = case.cluster, case.bounds
     precision = upper_us(bounds.precision, cluster)
     with_whom = ("No sync node is arbitrary." if not case.arbitrary else
-                 f"Beside the correct nodes stand at most {case.arbitrary} arbitrary sync node{'s' if case.arbitrary > 1 else ''}, each of which "
+                 f"Beside the correct nodes stand at most {case.arbitrary} arbitrary sync node{'s' if case.arbitrary > 1 else ''}, each of "
+                 "which "
                  "may say anything in its own slot, and something else to each receiver.")
     span = (f"to the end of the run, of up to {ranges.CYCLES[1] + 1:,} cycles" if bounds.lasts is None else
             f"for the {bounds.lasts} double cycles from there on ({lasting(ms_of_cycle(2 * bounds.lasts, cluster))})")
     found = [f"From each double cycle in sharp sync on, {span}, no two corresponding macroticks of correct nodes lie further apart than "
-             f"{precision} us ({bounds.precision} ticks), no correction term is cut or missing, and each correct node is active.", with_whom]
+             f"{precision} us ({bounds.precision} ticks), no correction term is cut or missing, and each correct node is "
+             "active.", with_whom]
     if case.join:
-        found.append("Nodes may join: one that listens in a double cycle e in that time, in which no node follows yet or later, takes part from "
+        found.append("Nodes may join: one that listens in a double cycle e in that time, in which no node follows yet or later, takes part "
+                     "from "
                      "cycle 2 e + 6 on, and the claim is of all that take part.")
     return found
 
@@ -148,20 +151,26 @@ def premises(case: Case) -> list[Premise]:
         ("No oscillator changes by more from one cycle to the next.", f"{p['xChangeBound']} ticks, about ppm (xChangeBound)",
          "hardware: thermal and supply design"),
         ("Each delay from a correct sync node to a correct node lies within these limits: cables, transceivers, stars, and what is left of "
-         "the decoding correction.", f"{delays(case)} (xDelayError, {p['xDelayError']} ticks)", "network: topology, data sheets, measurement"),
+         "the decoding correction.", f"{delays(case)} (xDelayError, {p['xDelayError']} ticks)", "network: topology, data sheets, "
+                                                                                                "measurement"),
         ("A delay differs by no more between the two cycles of a double cycle.", f"{flutter} ns ({case.flutter} ticks)",
          "network: jitter of transceivers and stars, measurement"),
-        (f"At most {case.arbitrary} of the {len(case.keys)} sync nodes behave otherwise than the rules; the other {correct} and all nodes without "
-         f"a key slot keep them, silicon and drivers included. At least {CORRECT[case.arbitrary]} correct sync nodes are there from the beginning.", f"sync nodes {', '.join(cluster.called(node) for node in case.keys)}",
+        (f"At most {case.arbitrary} of the {len(case.keys)} sync nodes behave otherwise than the rules; the other {correct} and all nodes "
+         "without "
+         f"a key slot keep them, silicon and drivers included. At least {CORRECT[case.arbitrary]} correct sync nodes are there from the "
+         "beginning.", f"sync nodes {', '.join(cluster.called(node) for node in case.keys)}",
          "system: fault hypothesis, FMEA; supplier of the controllers"),
-        ("In each double cycle every correct sync node's frames reach every other correct node in both its cycles, undamaged, on a channel that "
+        ("In each double cycle every correct sync node's frames reach every other correct node in both its cycles, undamaged, on a channel "
+         "that "
          "both have.", "no such loss", "system: error rates, EMC, bus load of none but these frames"),
         ("All nodes are configured with these parameters, and with no external clock correction.",
          f"params.csv, SHA-256 {sha256(case.parameters.encode('ascii'))}"
-         + "".join(f"; imported of a file with SHA-256 {one}" for one in imported[:8]), "integration: read back the configuration of each ECU"),
+         + "".join(f"; imported of a file with SHA-256 {one}" for one in imported[:8]), "integration: read back the configuration of each "
+                                                                                        "ECU"),
         ("The program that printed the evidence is one whose functions were proved before it was built.",
          f"{os.path.basename(case.program)}, SHA-256 {sha256_of(case.program)}", "you: build it from the sources by the gate, and compare"),
-        ("The cluster comes into sharp sync.", "seen or proved otherwise", "test: flexlab settle, power or observe; startup tests on the bus"),
+        ("The cluster comes into sharp sync.", "seen or proved otherwise", "test: flexlab settle, power or observe; startup tests on the "
+                                                                           "bus"),
     ]
     return [Premise(number, *row) for number, row in enumerate(rows, 1)]
 
@@ -180,7 +189,8 @@ def rests_on(case: Case) -> list[tuple[str, str]]:
     law, place, statement, specs = LAWS[case.join]
     return [
         ("Statement", f"{statement} ({specs}), word by word in docs/STATEMENT.md"),
-        ("Law", f"{law} ({place}): of all parameters, clocks, delays and scripts that are sharply covered{' to join' if case.join else ''}"),
+        ("Law", f"{law} ({place}): of all parameters, clocks, delays and scripts that are sharply "
+                f"covered{' to join' if case.join else ''}"),
         ("What is printed", "is the answer that the rules give, for every file: the clause `ends` of `flexray` (docs/PROMISES.md)"),
         ("Gate", ".ci/run of the sources proves every function of every crate, builds both programs and holds them to worked cases"),
         ("Kit", toolchain()),
@@ -207,11 +217,18 @@ STYLE = """
 :root { color-scheme: light; }
 body { font: 11pt/1.45 "DejaVu Sans", Arial, sans-serif; max-width: 60rem; margin: 2rem auto; padding: 0 1rem; color: #1a1a1a; }
 h1 { font-size: 1.5rem; } h2 { font-size: 1.15rem; margin-top: 2rem; border-bottom: 1px solid #999; }
-table { border-collapse: collapse; width: 100%; } th, td { border: 1px solid #999; padding: .3rem .5rem; text-align: left; vertical-align: top; }
-th { background: #eee; } .claim { border-left: 4px solid #0072b2; padding: .2rem 1rem; } .hash, code { font-family: monospace; word-break: break-all; }
+table { border-collapse: collapse; width: 100%; }
+th, td { border: 1px solid #999; padding: .3rem .5rem; text-align: left; vertical-align: top; overflow-wrap: anywhere; }
+th { background: #eee; }
+.claim { border-left: 4px solid #0072b2; padding: .2rem 1rem; }
+code { font-family: monospace; overflow-wrap: anywhere; }
 @page { size: A4; margin: 18mm; }
-@media print { body { margin: 0; max-width: none; font-size: 9.5pt; } h2 { break-after: avoid; } tr { break-inside: avoid; } th { background: #eee !important;
-print-color-adjust: exact; } }
+@media print {
+  body { margin: 0; max-width: none; font-size: 9.5pt; }
+  h2 { break-after: avoid; }
+  tr { break-inside: avoid; }
+  th { background: #eee !important; print-color-adjust: exact; }
+}
 """
 
 
@@ -231,7 +248,8 @@ def page(case: Case, path: str) -> str:
     sections = [
         ("Claim", "<div class=\"claim\">" + "".join(f"<p>{html.escape(line)}</p>" for line in claim(case)) + "</div>"
          + "<p>A double cycle is an even cycle with the odd one behind it. It is in sharp sync where every correct node is active, "
-           f"and starts and lengths of their cycles lie within {case.bounds.pi} and {case.bounds.lambda_} ticks of each other (pi and lambda), "
+           f"and starts and lengths of their cycles lie within {case.bounds.pi} and {case.bounds.lambda_} ticks of each other (pi and "
+           "lambda), "
            "each length in its range (docs/GLOSSARY.md).</p>"),
         ("Premises, and who has to see to each", "<p>The claim holds where all of these do, and says nothing where one does not.</p>"
          + table(("", "Premise", "Value", "Who sees to it", "Shown by"), ((f"P{one.number}", one.text, one.value, one.who, "") for one in
@@ -239,7 +257,8 @@ def page(case: Case, path: str) -> str:
         ("Evidence: what the claim rests on", table(("", ""), rests_on(case))),
         ("Evidence: the checks", "<p>As the program printed them: each holds where its left side is at least its right one.</p>"
          + table(("Check", "What it asks", "Both sides", "Used"), check_rows(case))),
-        ("Evidence: how to print it again", "<p>" + "<br>".join(f"<code>{html.escape(' '.join(words))}</code>" for words in again(case, path))
+        ("Evidence: how to print it "
+         "again", "<p>" + "<br>".join(f"<code>{html.escape(' '.join(words))}</code>" for words in again(case, path))
          + "</p>" + table(("What", "SHA-256"), hashes(case, path))),
         ("Not covered", "<ul>" + "".join(f"<li>{html.escape(line)}</li>" for line in NOT_COVERED) + "</ul>"),
         ("The cluster", table(("Node", "Name", "Key slot", "Channels"), nodes)
@@ -286,7 +305,8 @@ def flutter_asked(text: str, cluster: Cluster) -> int:
         raise Stop(USAGE, f"--flutter-ns {text}: at most {most} ns, 20 microticks, is taken")
     if found < flutter_of(cluster):
         raise Stop(REFUSED, f"{cluster.path}: its delays flutter by "
-                            f"{decimal(us_of_ticks(flutter_of(cluster), cluster.microtick_ns) * 1000, 3)} ns, more than --flutter-ns {text}")
+                            f"{decimal(us_of_ticks(flutter_of(cluster), cluster.microtick_ns) * 1000, 3)} ns, more than --flutter-ns "
+                            f"{text}")
     return found
 
 
@@ -297,7 +317,8 @@ def stated(words: argparse.Namespace, params: str) -> Case:
         raise Stop(REFUSED, f"{cluster.path}: it has {len(cluster.arbitrary)} arbitrary nodes, more than --arbitrary {arbitrary}")
     keys = len(keys_of(cluster))
     if keys - arbitrary < CORRECT.get(arbitrary, keys + 1):
-        raise Stop(NO, f"{cluster.path}: nothing is proved beside {arbitrary} arbitrary nodes of {keys} sync nodes that do not join: none asks "
+        raise Stop(NO, f"{cluster.path}: nothing is proved beside {arbitrary} arbitrary nodes of {keys} sync nodes that do not join: none "
+                       "asks "
                        "for 1 correct one, one for 3, two for 6")
     program, join = os.path.realpath(calls.flexray(words.flexray)), bool(cluster.joins) or words.join
     flutter, text = flutter_asked(words.flutter_ns, cluster), "".join(parameter_lines(cluster))
@@ -313,7 +334,8 @@ def stated(words: argparse.Namespace, params: str) -> Case:
                            for line in sharp_check_words(number, left, right, cluster.parameters, kind))
         raise Stop(NO, f"{cluster.path}: nothing can be claimed:\n{faults}")
     if bounds.lasts == 0:
-        raise Stop(NO, f"{cluster.path}: nothing can be claimed: C1 fails, and the rate limit holds the walk of all rates for no double cycle")
+        raise Stop(NO, f"{cluster.path}: nothing can be claimed: C1 fails, and the rate limit holds the walk of all rates for no double "
+                       "cycle")
     return Case(cluster, arbitrary, flutter, join, bounds, program, text, [Evidence(sharp, told)])
 
 
@@ -332,7 +354,8 @@ def write_case(words: argparse.Namespace) -> int:
         printed({"written": path, "claim": claim(case), "precision_ticks": case.bounds.precision,
                  "precision_us": float(upper_us(case.bounds.precision, case.cluster)), "lasts_double_cycles": case.bounds.lasts,
                  "arbitrary": case.arbitrary, "flutter_ticks": case.flutter, "joins": case.join,
-                 "premises": [{"premise": f"P{one.number}", "text": one.text, "value": one.value, "who": one.who} for one in premises(case)],
+                 "premises": [{"premise": f"P{one.number}", "text": one.text, "value": one.value, "who": one.who}
+                              for one in premises(case)],
                  "evidence": dict(rests_on(case)), "checks": [{"check": f"C{number}", "holds": held, "left": left, "right": right}
                                                               for number, held, left, right in case.bounds.checks],
                  "sha256": dict(hashes(case, words.file)), "again": [" ".join(one) for one in again(case, words.file)],

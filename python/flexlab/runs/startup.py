@@ -211,12 +211,14 @@ def table_lines(startup):
     for number, why in sorted(startup.out.items()):
         found += lines_of("", f"node {startup.cluster.called(number)} is not in the run: {why}")
     for number in startup.cluster.arbitrary:
-        found += lines_of("", f"node {startup.cluster.called(number)} is arbitrary: it is left off until one leads, since nothing is promised of a "
+        found += lines_of("", f"node {startup.cluster.called(number)} is arbitrary: it is left off until one leads, since nothing is "
+                              "promised of a "
                               "faulty coldstart node, and then says what the file has it say")
     for number, times in sorted(startup.power.items()):
         off = [time for _, time in times if time is not None and time > startup.lead_at]
         if off and number in startup.run.cluster.nodes:
-            found += lines_of("", f"node {startup.cluster.called(number)} is switched off at {shown(startup.ms(off[0]))} ms: the run does not have "
+            found += lines_of("", f"node {startup.cluster.called(number)} is switched off at {shown(startup.ms(off[0]))} ms: the run does "
+                                  "not have "
                                   "that, in it nobody leaves")
     return found
 

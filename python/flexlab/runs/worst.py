@@ -238,7 +238,8 @@ def who(bench, trial):
     unit = bench.cluster.microtick_ns
     for node in bench.cluster.correct:
         first, last = (bench.length(trial, node, cycle) for cycle in (0, bench.cycles - 1))
-        yield (f"node {bench.cluster.called(node)}: {CAMPS[trial.camps[node]]}; its oscillator is off by {signed(ppm_of(first), 2)} ppm at first "
+        yield (f"node {bench.cluster.called(node)}: {CAMPS[trial.camps[node]]}; its oscillator is off by {signed(ppm_of(first), 2)} ppm at "
+               "first "
                f"and {signed(ppm_of(last), 2)} ppm in the last cycle; it starts "
                f"{microseconds(trial.starts.get(node, 0), unit)} late\n")
         for parity, name in ((0, "even"), (1, "odd")):
