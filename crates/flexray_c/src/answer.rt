@@ -1,5 +1,5 @@
 ghost use Rattle.std.specs.Prelude.{◌≡◌};
-ghost use Rattle.fr_answer.specs.Answer.{flexray_program};
+ghost use Rattle.fr_whole.specs.Whole.{flexray_program};
 ghost use Rattle.fr_program.specs.Program.{texts};
 ghost use Rattle.fr_series.specs.Request.{series_program};
 ghost use Rattle.flexray_c.specs.Call.{CallEnds};
@@ -45,7 +45,7 @@ fn call_flexray(
     let mut files = files;
     let mut text = KeptText::new(alloc);
     let mut line = KeptText::new(alloc);
-    let status = fr_answer::flexray(alloc, words, &mut files, &mut text, &mut line);
+    let status = fr_whole::flexray(alloc, words, &mut files, &mut text, &mut line);
     hand_over(status, &text, &line, out, err, told)
 }
 

@@ -1,5 +1,5 @@
 ghost use Rattle.std.specs.Prelude.{◌≡◌, ◌∷◌, [], codes, IsUtf8};
-ghost use Rattle.fr_answer.specs.Answer.{flexray_program};
+ghost use Rattle.fr_whole.specs.Whole.{flexray_program};
 ghost use Rattle.fr_series.specs.Request.{series_program};
 ghost use Rattle.flexray_c.specs.Call.{CallEnds};
 ghost use Rattle.flexray_c.specs.Shown.{places_of};

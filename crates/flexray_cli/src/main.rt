@@ -1,10 +1,11 @@
 //! `flexray`: a FlexRay cluster in one program. `flexray frame A FILE` decodes the frame in a file,
 //! `flexray bound PARAMS` computes the bounds and checks of a cluster, `flexray settle PARAMS START RATE` how long its
-//! clocks take until they are in sync, and `flexray run PARAMS DRIFT SCRIPT` runs it.
+//! clocks take until they are in sync, `flexray run PARAMS DRIFT SCRIPT` runs it, and `flexray observe PARAMS LOG` tells what
+//! a log of it tells of its clocks.
 #![tactic(auto)]
 
-use fr_answer::{Status, flexray};
 use fr_program::{DiskShelf, StreamSink, exit_code, request_words};
+use fr_whole::{Status, flexray};
 use std::env;
 use std::process::ExitCode;
 

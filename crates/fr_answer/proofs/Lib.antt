@@ -11,4 +11,3 @@ pub mod FilesStatus
 pub mod RequestStatus
 pub mod RoundTrips
 pub mod FilesChecked
-pub mod Observed

@@ -11,8 +11,7 @@ use Rattle.fr_report.specs.Files.{run_files}
 use Rattle.fr_report.specs.TraceAnswer.{IsTraceText}
 use Rattle.fr_answer.specs.BoundAnswer.{bound_files, join_files, sharp_files, sharp_join_files}
 use Rattle.fr_answer.specs.FrameAnswer.{frame_files}
-use Rattle.fr_answer.specs.ObserveAnswer.{observe_files}
-use Rattle.fr_answer.specs.Request.{bound, bound_join, bound_sharp, bound_sharp_join, capture, check, cold, frame, make, nm, observe, run, settle, settle_sharp, trace, upgrade}
+use Rattle.fr_answer.specs.Request.{bound, bound_join, bound_sharp, bound_sharp_join, capture, check, cold, frame, make, nm, run, settle, settle_sharp, trace, upgrade}
 use Rattle.fr_answer.specs.RunAnswer.{IsKeptRunText}
 use Rattle.fr_answer.specs.SettleAnswer.{settle_files, sharp_settle_files}
 use Rattle.fr_answer.specs.Statuses.{HasOneStatusEach}
@@ -37,7 +36,6 @@ pub record Commands : Type 0 where
   pub startups : DefinesOneStatus cold_files 2
   pub traces : DefinesOneStatus (run_files IsTraceText) 3
   pub checks : DefinesOneStatus check_files 2
-  pub observations : DefinesOneStatus observe_files 2
 
 pub each_request : Commands → HasOneStatusEach
 each_request commands words (frame channel file) asks = commands.frames channel
@@ -58,4 +56,3 @@ each_request commands words (nm width file) asks = commands.vectors width
 each_request commands words (cold params power) asks = commands.startups
 each_request commands words (trace names) asks = commands.traces
 each_request commands words (check params recorded) asks = commands.checks
-each_request commands words (observe params log) asks = commands.observations

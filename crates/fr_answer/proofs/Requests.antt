@@ -13,7 +13,7 @@ use Rattle.fr_base.specs.declared.numbers.NumberFault.{NumberFault}
 use Rattle.fr_bound.specs.Settling.{most_stated}
 use Rattle.fr_text.specs.Fields.{natural_of}
 use Rattle.fr_program.specs.Program.{texts}
-use Rattle.fr_answer.specs.Request.{most_stated_flutter, Asked, AsksFor, frame, bound, bound_join, bound_sharp, bound_sharp_join, upgrade, settle, settle_sharp, run, capture, nm, cold, make, trace, check, observe}
+use Rattle.fr_answer.specs.Request.{most_stated_flutter, Asked, AsksFor, frame, bound, bound_join, bound_sharp, bound_sharp_join, upgrade, settle, settle_sharp, run, capture, nm, cold, make, trace, check}
 
 -- two numbers that are there
 abbrev settle_in : List ℕ → Result ℕ NumberFault → Result ℕ NumberFault → Option Asked
@@ -51,9 +51,8 @@ asked_in_three command first second =
     else (if bytes_eq command (codes "capture") then option_map (λ ch. capture ch second) (channel_of first)
     else (if bytes_eq command (codes "cold") then Some (cold first second)
     else (if bytes_eq command (codes "check") then Some (check first second)
-    else (if bytes_eq command (codes "observe") then Some (observe first second)
     else (if bytes_eq command (codes "nm") then nm_in second (natural_of 1 12 first)
-    else (if bytes_eq command (codes "bound") then bound_in first second else None)))))))
+    else (if bytes_eq command (codes "bound") then bound_in first second else None))))))
 
 -- four words
 abbrev asked_in_four : List ℕ → List ℕ → List ℕ → List ℕ → Option Asked
@@ -106,7 +105,6 @@ asked_again words (cold params power) asks = ap asked_in asks
 asked_again words (make seed doubles) asks = ap asked_in asks.spelt ∙ ap₂ make_in asks.seed_is asks.doubles_is
 asked_again words (trace names) asks = ap asked_in asks
 asked_again words (check params recorded) asks = ap asked_in asks
-asked_again words (observe params log) asks = ap asked_in asks
 
 -- they are two to six
 record HasLength (words : List (List ℕ)) : Type 0 where
@@ -132,7 +130,6 @@ asks_length words (cold params power) asks = has_length words 3 (ap length asks)
 asks_length words (make seed doubles) asks = has_length words 3 (ap length asks.spelt) (lit≤ tt) (lit≤ tt)
 asks_length words (trace names) asks = has_length words 4 (ap length asks) (lit≤ tt) (lit≤ tt)
 asks_length words (check params recorded) asks = has_length words 3 (ap length asks) (lit≤ tt) (lit≤ tt)
-asks_length words (observe params log) asks = has_length words 3 (ap length asks) (lit≤ tt) (lit≤ tt)
 
 pub asks_not_short : (words : List (String Global)) (asked : Asked) → AsksFor (texts words) asked → length words < 2 → ⊥
 asks_not_short words asked asks short =

@@ -10,12 +10,11 @@ use Rattle.fr_capture.specs.CaptureAnswer.{capture_command}
 use Rattle.fr_check.specs.CheckAnswer.{check_command}
 use Rattle.fr_cold.specs.ColdAnswer.{cold_command}
 use Rattle.fr_answer.specs.FrameAnswer.{frame_command}
-use Rattle.fr_answer.specs.ObserveAnswer.{observe_command}
 use Rattle.fr_nm.specs.NmAnswer.{nm_command}
 use Rattle.fr_report.specs.MakeAnswer.{make_command}
 use Rattle.fr_report.specs.TraceAnswer.{IsTraceText}
 use Rattle.fr_params.specs.UpgradeAnswer.{upgrade_command}
-use Rattle.fr_answer.specs.Request.{Asked, AsksFor, frame, bound, bound_join, bound_sharp, bound_sharp_join, upgrade, settle, settle_sharp, run, capture, nm, cold, make, trace, check, observe}
+use Rattle.fr_answer.specs.Request.{Asked, AsksFor, frame, bound, bound_join, bound_sharp, bound_sharp_join, upgrade, settle, settle_sharp, run, capture, nm, cold, make, trace, check}
 
 -- the files of what was asked for, and what may be written of them
 abbrev pub command_of : Asked → Command
@@ -34,8 +33,7 @@ command_of (nm width file) = nm_command width file
 command_of (cold params power) = cold_command params power
 command_of (trace names) = run_command IsTraceText names
 command_of (check params recorded) = check_command params recorded
-command_of (observe params log) = observe_command params log
 
--- the program
-abbrev pub flexray_program : Program Asked
-flexray_program = record { asks_for = AsksFor; command_of = command_of; usage = codes "usage: flexray COMMAND WORDS" }
+-- the program of these words, which are all but `observe`
+abbrev pub core_program : Program Asked
+core_program = record { asks_for = AsksFor; command_of = command_of; usage = codes "usage: flexray COMMAND WORDS" }

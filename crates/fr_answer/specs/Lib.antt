@@ -13,4 +13,3 @@ pub mod SharpText
 pub mod SharpSettleText
 pub mod Statuses
 pub mod Rounds
-pub mod ObserveAnswer

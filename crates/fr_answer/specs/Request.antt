@@ -7,7 +7,7 @@ use Rattle.fr_generator.specs.Generated.{IsMadeCount}
 use Rattle.fr_text.specs.Fields.{natural_of}
 use Rattle.fr_answer.specs.declared.request.Request.{Request}
 use Rattle.fr_report.specs.Names.{RunNames, run_names_of}
-use Rattle.fr_answer.specs.declared.request.Request.TheVariants.{Frame, Bound, BoundJoin, BoundSharp, BoundSharpJoin, Upgrade, Settle, SettleSharp, Run, Capture, Nm, Cold, Make, Trace, Check, Observe}
+use Rattle.fr_answer.specs.declared.request.Request.TheVariants.{Frame, Bound, BoundJoin, BoundSharp, BoundSharpJoin, Upgrade, Settle, SettleSharp, Run, Capture, Nm, Cold, Make, Trace, Check}
 
 -- decode the bytes of the file as a frame on the channel; print the bounds and checks of the parameters in the file;
 -- print these and those of a cluster that nodes join; print the sharper ones where delays flutter by no more than so many
@@ -16,7 +16,7 @@ use Rattle.fr_answer.specs.declared.request.Request.TheVariants.{Frame, Bound, B
 -- run the cluster that the files decide, or the cluster of a seed over so many double cycles, and print the report; list the frames
 -- of the recording in the file; print the network management vectors of the recording in the file, of so many bytes; print who
 -- leads the startup that the files decide; print the trace of the run that the files decide; say whether a recorded trace is that
--- of a lawful and covered run; print what the log of a bus analyzer tells of the cluster's clocks
+-- of a lawful and covered run
 pub data Asked : Type 0 where
   frame : (channel : Channel) (file : List ℕ) → Asked
   bound : (file : List ℕ) → Asked
@@ -33,7 +33,6 @@ pub data Asked : Type 0 where
   cold : (params power : List ℕ) → Asked
   trace : (names : RunNames) → Asked
   check : (params recorded : List ℕ) → Asked
-  observe : (params log : List ℕ) → Asked
 
 -- the greatest flutter of delays that may be stated, in ticks: twice the greatest delay error
 abbrev pub most_stated_flutter : ℕ
@@ -86,7 +85,7 @@ pub record AsksNm (words : List (List ℕ)) (width : ℕ) (file : List ℕ) : Ty
 -- the words ask for this: `frame A FILE` or `frame B FILE`; `bound PARAMS`; `bound PARAMS join`; `bound
 -- PARAMS sharp FLUTTER`; `bound PARAMS sharp FLUTTER join`; `upgrade PARAMS`; `settle PARAMS START RATE`; `settle PARAMS START RATE
 -- sharp FLUTTER`; `run PARAMS DRIFT SCRIPT`; `make SEED DOUBLES`; `trace PARAMS DRIFT SCRIPT`; `capture A FILE` or `capture B FILE`;
--- `nm WIDTH FILE`; `cold PARAMS POWER`; `check PARAMS TRACE`; `observe PARAMS LOG`
+-- `nm WIDTH FILE`; `cold PARAMS POWER`; `check PARAMS TRACE`
 abbrev pub AsksFor : List (List ℕ) → Asked → Type 0
 AsksFor words (frame channel file) = words ≡ codes "frame" ∷ letter channel ∷ file ∷ []
 AsksFor words (bound file) = words ≡ codes "bound" ∷ file ∷ []
@@ -103,7 +102,6 @@ AsksFor words (nm width file) = AsksNm words width file
 AsksFor words (cold params power) = words ≡ codes "cold" ∷ params ∷ power ∷ []
 AsksFor words (trace names) = words ≡ codes "trace" ∷ names.params ∷ names.drift ∷ names.script ∷ []
 AsksFor words (check params recorded) = words ≡ codes "check" ∷ params ∷ recorded ∷ []
-AsksFor words (observe params log) = words ≡ codes "observe" ∷ params ∷ log ∷ []
 
 -- what a request asks for
 abbrev pub asked_of : Request → Asked
@@ -122,7 +120,6 @@ asked_of (Nm width file) = nm width file.now
 asked_of (Cold files) = cold files.params.now files.power.now
 asked_of (Trace files) = trace (run_names_of files)
 asked_of (Check files) = check files.params.now files.trace.now
-asked_of (Observe files) = observe files.params.now files.log.now
 
 -- what words are read as: a request that asks for what they ask for, or none
 abbrev pub IsRequestOf : List (List ℕ) → Option Request → Type 0

@@ -1,7 +1,8 @@
 //! The program's answer as a call: words, a shelf and two sinks in, a status out. What `flexray frame CHANNEL FILE`, `flexray
 //! bound PARAMS`, also with the word `join`, with `sharp FLUTTER` or with both, and `flexray settle PARAMS START RATE`, also
-//! with `sharp FLUTTER`, and `flexray observe PARAMS LOG`, answer is made here, the answer to each other command in the crate of its subject; of a run it
+//! with `sharp FLUTTER`, answer is made here, the answer to each other command in the crate of its subject; of a run it
 //! says here what the sharper promise says of it. And that the bytes of the files of each request define one status.
+//! Of all words of `flexray` these are all but `observe`, which stands on much that no run needs: `fr_whole` answers it.
 #![tactic(auto)]
 
 mod bound;
@@ -13,7 +14,6 @@ mod fault_line;
 mod frame;
 mod frame_laws;
 mod frame_line;
-mod observe;
 mod request;
 mod round_laws;
 mod run;
@@ -35,15 +35,14 @@ pub use fr_report::play;
 pub use fr_text::Status;
 pub use frame::answer_frame;
 pub use frame_laws::file_decides_the_line;
-pub use observe::{ObserveFiles, answer_observe, files_decide_what_is_told};
 pub use round_laws::{traced_files_are_checked, what_is_traced_is_checked};
 pub use run::answer_kept_run;
 pub use settle::answer_settle;
 pub use settle_sharp::answer_settle_sharp;
 pub use status_laws::{
     a_capture_has_one_status, a_check_has_one_status, a_frame_has_one_status, a_run_has_one_status,
-    a_startup_has_one_status, an_observation_has_one_status, an_upgrade_has_one_status,
+    a_startup_has_one_status, an_upgrade_has_one_status,
     bounds_have_one_status, each_request_has_one_status, settlings_have_one_status,
     vectors_have_one_status,
 };
-pub use top::flexray;
+pub use top::{answer_core, flexray_core, told};

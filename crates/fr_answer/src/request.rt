@@ -2,7 +2,6 @@ ghost use Rattle.std.specs.Prelude.{◌∷◌, [], codes, IfSome};
 ghost use Rattle.fr_program.specs.Program.{texts};
 ghost use Rattle.fr_answer.specs.Request.{IsInRange, IsRequestOf};
 
-use crate::observe::ObserveFiles;
 use fr_base::Channel;
 use fr_check::CheckFiles;
 use fr_cold::ColdFiles;
@@ -82,8 +81,6 @@ pub enum Request<'a> {
     Trace(RunFiles<'a>),
     /// Say whether a recorded trace is that of a lawful and covered run.
     Check(CheckFiles<'a>),
-    /// Print what the log of a bus analyzer tells of the cluster's clocks.
-    Observe(ObserveFiles<'a>),
 }
 
 /// Reads the words by position. It takes no memory.
@@ -139,10 +136,6 @@ fn request_of_three<'a>(command: &str, first: &'a str, second: &'a str) -> Optio
         "check" => Some(Request::Check(CheckFiles {
             params: first,
             trace: second,
-        })),
-        "observe" => Some(Request::Observe(ObserveFiles {
-            params: first,
-            log: second,
         })),
         _ => None,
     }

@@ -10,7 +10,6 @@ ghost use Rattle.fr_report.specs.Files.{run_files};
 ghost use Rattle.fr_text.specs.Defined.{DefinesOneStatus};
 ghost use Rattle.fr_answer.specs.BoundAnswer.{bound_files, join_files, sharp_files, sharp_join_files};
 ghost use Rattle.fr_answer.specs.FrameAnswer.{frame_files};
-ghost use Rattle.fr_answer.specs.ObserveAnswer.{observe_files};
 ghost use Rattle.fr_answer.specs.RunAnswer.{IsKeptRunText};
 ghost use Rattle.fr_answer.specs.SettleAnswer.{settle_files, sharp_settle_files};
 ghost use Rattle.fr_answer.specs.Statuses.{HasOneStatusEach};
@@ -126,17 +125,7 @@ pub fn a_check_has_one_status()
     a_passing_trace_keeps_its_precision();
 }
 
-/// A law: the bytes of the two files of a request for what a log tells define one status.
-pub fn an_observation_has_one_status()
-    ensures { DefinesOneStatus observe_files 2 }
-{
-    fr_params::one_answer();
-    fr_params::some_answer();
-    fr_log::one_answer();
-    fr_log::some_answer();
-}
-
-/// A law: whatever words of `flexray` ask for, the bytes of the files that they name define exactly one status beside
+/// A law: whatever words of `flexray` but `observe` ask for, the bytes of the files that they name define exactly one status beside
 /// want of memory.
 pub fn each_request_has_one_status()
     ensures { HasOneStatusEach }
@@ -152,5 +141,4 @@ pub fn each_request_has_one_status()
     a_startup_has_one_status();
     a_trace_has_one_status();
     a_check_has_one_status();
-    an_observation_has_one_status();
 }

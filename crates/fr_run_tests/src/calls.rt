@@ -1,5 +1,5 @@
 // How a call of a program is tried: what it is given and what it answers are data. Nothing here has a contract.
-use fr_answer::{Status, flexray};
+use fr_answer::{Status, flexray_core};
 use fr_base::MAX_FILE;
 use fr_program::{MemoryShelf, MemorySink};
 use fr_samples::{changed, file_of};
@@ -88,7 +88,7 @@ pub(crate) fn ends(
     let mut out = sink_of(alloc, put)?;
     let mut err = sink_of(alloc, tell)?;
     let status = match program {
-        Program::Flexray => flexray(alloc, words, shelf, &mut out, &mut err),
+        Program::Flexray => flexray_core(alloc, words, shelf, &mut out, &mut err),
         Program::Series => flexray_series(alloc, words, shelf, &mut out, &mut err),
     };
     let (done, written, told) = wanted;

@@ -10,7 +10,7 @@ use crate::calls::{
 };
 use crate::series::{APART_FILES, APART_SERIES, HELD_FILES, HELD_FOR_NONE, SERIES, SHARP_SERIES};
 use fr_answer::Status::{Done, No, ReadFault, Refused, Usage, WriteFault};
-use fr_answer::{Status, flexray};
+use fr_answer::{Status, flexray_core};
 use fr_base::PutFault;
 use fr_nm::fold;
 use fr_program::{MemoryShelf, MemorySink, SureShelf, SureSink};
@@ -329,7 +329,7 @@ fn surely(alloc: Global, words: &[&str]) -> Result<Status, AllocError> {
     let mut shelf = SureShelf::new(alloc);
     shelf.hold("f", SYNC)?;
     let (mut out, mut err) = (SureSink::new(), SureSink::new());
-    Ok(flexray(alloc, &words, &mut shelf, &mut out, &mut err))
+    Ok(flexray_core(alloc, &words, &mut shelf, &mut out, &mut err))
 }
 
 #[test]

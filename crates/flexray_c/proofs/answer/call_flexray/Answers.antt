@@ -1,4 +1,4 @@
-use Rattle.fr_answer.specs.Answer.{flexray_program}
+use Rattle.fr_whole.specs.Whole.{flexray_program}
 use Rattle.fr_program.specs.Program.{texts}
 use Rattle.flexray_c.proofs.Calls.{answered}
 use Rattle.flexray_c.specs.Lent.{lent_state}

@@ -1,5 +1,5 @@
 use Rattle.std.proofs.Common.{refl}
-use Rattle.fr_answer.specs.Answer.{flexray_program}
+use Rattle.fr_whole.specs.Whole.{flexray_program}
 use Rattle.flexray_c.proofs.Calls.{same_call}
 use Rattle.flexray_c.proofs.requests.flexray_run.Goals as goal
 

@@ -18,5 +18,4 @@ returns c = each_request (record {
   startups = c.a_startup_has_one_status.ensures;
   traces = c.a_trace_has_one_status.ensures;
   checks = c.a_check_has_one_status.ensures;
-  observations = c.an_observation_has_one_status.ensures;
 })

@@ -13,7 +13,7 @@ use Rattle.fr_text.proofs.Commands.{stops_behind, stops_first, stops_next, two_a
 use Rattle.fr_text.proofs.Shelves.{has_earlier}
 use Rattle.fr_text.specs.Files.{Files, IsNeverSaid, StopsIn, file, text}
 use Rattle.fr_text.specs.declared.told.Told.{Told}
-use Rattle.fr_answer.proofs.observe.answer_observe.Goals as goal
+use Rattle.fr_whole.proofs.observe.answer_observe.Goals as goal
 
 abbrev is_told : Values → LogView → List ℕ → Type 0
 is_told p l written = written ≡ observe_text p l

@@ -5,7 +5,7 @@ ghost use Rattle.fr_program.specs.Command.{CommandEnds};
 ghost use Rattle.fr_program.specs.Failure.{EndingWritesNothing};
 ghost use Rattle.fr_text.specs.Files.{IsDecided};
 ghost use Rattle.fr_text.specs.Told.{no_memory};
-ghost use Rattle.fr_answer.specs.ObserveAnswer.{observe_command, observe_files};
+ghost use Rattle.fr_whole.specs.ObserveAnswer.{observe_command, observe_files};
 
 use fr_base::{Shelf, Sink};
 use fr_cluster::Params;

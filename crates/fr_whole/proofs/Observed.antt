@@ -9,7 +9,7 @@ use Rattle.fr_text.proofs.Defining.{one_status, some_status}
 use Rattle.fr_text.specs.Defined.{DefinesOneStatus}
 use Rattle.fr_text.specs.Files.{IsDecided}
 use Rattle.fr_text.specs.Kind.{HasOneAnswer, HasSomeAnswer}
-use Rattle.fr_answer.specs.ObserveAnswer.{observe_files}
+use Rattle.fr_whole.specs.ObserveAnswer.{observe_files}
 
 pub one_observation : HasOneAnswer params_file → ((p : Values) → HasOneAnswer (log_file p)) → IsDecided observe_files
 one_observation params_one log_one = decided observe_files (params_one, λ p. (log_one p, λ l written again is more. is ∙ sym more))

@@ -7,7 +7,7 @@ use Rattle.fr_answer.specs.Answer.{command_of}
 use Rattle.fr_answer.specs.Request.{Asked, asked_of}
 use Rattle.fr_answer.proofs.Requests.{one_asked}
 use Rattle.fr_answer.proofs.Undone.{undone}
-use Rattle.fr_answer.proofs.top.answer.Goals as goal
+use Rattle.fr_answer.proofs.top.answer_core.Goals as goal
 
 pub returns-in-Some-clause-ends : goal.returns-in-Some-clause-ends
 returns-in-Some-clause-ends g c =

@@ -1,0 +1,3 @@
+mod Words
+mod Wholes
+pub mod Observed

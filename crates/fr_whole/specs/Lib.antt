@@ -1,0 +1,3 @@
+-- what the public contract cites
+pub mod Whole
+pub mod ObserveAnswer

@@ -1,0 +1,39 @@
+-- What all words of `flexray` ask for, and the program.
+use Rattle.std.specs.Prelude.{◌≡◌, ℕ, List, [], ◌∷◌, codes, length, Option, Some, None}
+use Rattle.fr_program.specs.Command.{Command}
+use Rattle.fr_program.specs.Program.{Program}
+use Rattle.fr_text.specs.Defined.{DefinesOneStatus}
+use Rattle.fr_answer.specs.Answer.{command_of}
+use Rattle.fr_answer.specs.Request.{Asked, AsksFor}
+use Rattle.fr_whole.specs.ObserveAnswer.{observe_command}
+use Rattle.fr_whole.specs.declared.observe.ObserveFiles.{ObserveFiles}
+
+-- what the words of the core ask for; or print what the log of a bus analyzer tells of the cluster's clocks
+pub data WholeAsked : Type 0 where
+  core : (asked : Asked) → WholeAsked
+  observe : (params log : List ℕ) → WholeAsked
+
+-- the words ask for this: those of the core; `observe PARAMS LOG`
+abbrev pub AsksWhole : List (List ℕ) → WholeAsked → Type 0
+AsksWhole words (core asked) = AsksFor words asked
+AsksWhole words (observe params log) = words ≡ codes "observe" ∷ params ∷ log ∷ []
+
+-- what words are read as: the files of a log's request, or no such request
+abbrev pub IsLogRequest : List (List ℕ) → Option ObserveFiles → Type 0
+IsLogRequest words None = (params log : List ℕ) → words ≡ codes "observe" ∷ params ∷ log ∷ [] → ⊥
+IsLogRequest words (Some files) = words ≡ codes "observe" ∷ files.params.now ∷ files.log.now ∷ []
+
+-- the files of what was asked for, and what may be written of them
+abbrev pub whole_command : WholeAsked → Command
+whole_command (core asked) = command_of asked
+whole_command (observe params log) = observe_command params log
+
+-- the program
+abbrev pub flexray_program : Program WholeAsked
+flexray_program = record { asks_for = AsksWhole; command_of = whole_command; usage = codes "usage: flexray COMMAND WORDS" }
+
+-- where words ask for something, the bytes of as many files as it names define one status
+abbrev pub HasOneStatusOfAll : Type 0
+HasOneStatusOfAll =
+    (words : List (List ℕ)) (asked : WholeAsked) → AsksWhole words asked
+    → DefinesOneStatus (whole_command asked).files (length (whole_command asked).names)
