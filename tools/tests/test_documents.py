@@ -118,6 +118,23 @@ class Statement(Case):
         self.ends(0, "1 definitions, 3 lines", "statement", "IsWhole", "--stop", "fr_low")
         self.ends(0, "3 definitions, 8 lines", "statement", "IsWhole", "--case", "run")
 
+    def test_of_several_cases_the_first_that_a_definition_has_is_read(self) -> None:
+        self.ends(0, "3 definitions, 8 lines", "statement", "IsWhole", "--case", "core", "run")
+        self.ends(0, "4 definitions, 10 lines", "statement", "IsWhole", "--case", "stop", "run")
+        self.ends(0, "4 definitions, 11 lines", "statement", "IsWhole", "--case", "core")
+
+    def test_what_a_file_lists_is_held(self) -> None:
+        self.write("tools/statements.toml", '[whole]\nnames = ["IsWhole"]\nmost = 4\nmost_lines = 11\n'
+                                            '[part]\nnames = ["IsWhole"]\ncase = ["run"]\nstop = "\\n  IsPart\\n"\nmost = 2\n')
+        told = self.ends(0, "IsWhole: 4 definitions, 11 lines", "statement", "--held")
+        self.assertEqual(len(told.splitlines()), 2, told)
+        self.change("tools/statements.toml", "most = 2", "most = 1")
+        self.ends(1, "2 definitions, and at most 1 are allowed", "statement", "--held")
+        self.change("tools/statements.toml", '["IsWhole"]\nmost = 4', '["IsNothing"]\nmost = 4')
+        self.ends(2, "no definition has this name", "statement", "--held")
+        for words in ((), ("IsWhole", "--held")):
+            self.ends(2, "give a NAME, or --held", "statement", *words)
+
     def test_limits(self):
         self.ends(0, "4 definitions", "statement", "IsWhole", "--most", "4", "--most-lines", "11")
         self.ends(1, "at most 3 are allowed", "statement", "IsWhole", "--most", "3")
@@ -132,7 +149,7 @@ class Statement(Case):
 
 class House(Case):
     def test_within_its_limits(self):
-        self.ends(0, "crates 2 (at most 55)", "house")
+        self.ends(0, "crates 2 (at most 57)", "house")
 
     def test_a_crate_that_is_not_cited(self):
         self.change("crates/fr_high/src/thing.rt", "use fr_low::a_law;\n", "")

@@ -1,5 +1,5 @@
 pub mod Requests
-mod Undone
+pub mod Undone
 pub mod FrameDecided
 pub mod BoundDecided
 pub mod KeptRuns

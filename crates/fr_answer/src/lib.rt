@@ -41,8 +41,7 @@ pub use settle::answer_settle;
 pub use settle_sharp::answer_settle_sharp;
 pub use status_laws::{
     a_capture_has_one_status, a_check_has_one_status, a_frame_has_one_status, a_run_has_one_status,
-    a_startup_has_one_status, an_upgrade_has_one_status,
-    bounds_have_one_status, each_request_has_one_status, settlings_have_one_status,
-    vectors_have_one_status,
+    a_startup_has_one_status, an_upgrade_has_one_status, bounds_have_one_status,
+    each_request_has_one_status, settlings_have_one_status, vectors_have_one_status,
 };
 pub use top::{answer_core, flexray_core, told};

@@ -330,7 +330,7 @@ def draw_observed(cluster, told, folder, name):
 
 
 def observe(words, folder):
-    program, cluster = programs.flexray(words.flexray), read_cluster(words.cluster)
+    program, cluster = programs.flexray(words.flexray, "observe"), read_cluster(words.cluster)
     params, log = os.path.join(folder, "params.csv"), os.path.join(folder, "log.csv")
     try:
         os.makedirs(folder, exist_ok=True)

@@ -317,7 +317,7 @@ def explain(words, line, given, as_json=False):
     """Prints the explanation; runs flexray where no line is given."""
     accepted, found = False, None
     if line is None:
-        status, text, line = programs.call(programs.flexray(given), words)
+        status, text, line = programs.call(programs.flexray(given, words[0] if words else ""), words)
         accepted = status == 0
         if accepted:
             line, found = None, explain_answer(text, words)

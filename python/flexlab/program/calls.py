@@ -17,14 +17,14 @@ HERE = os.path.dirname(os.path.realpath(__file__))
 OUT = os.path.realpath(os.path.join(HERE, "..", "..", "..", "out"))
 
 
-def flexray(given=None):
-    """The program: as given, of the variable FLEXRAY, of this repository, or on the path."""
+def flexray(given: str | None = None, command: str = "") -> str:
+    """The program that answers a command: as given, of the variable FLEXRAY, of this repository, or on the path."""
     for path, whence in ((given, "--flexray"), (os.environ.get("FLEXRAY"), "the variable FLEXRAY")):
         if path:
             if not os.access(path, os.X_OK) or os.path.isdir(path):
                 raise Stop(MISSING, f"{path}, which {whence} names, is no program that can be run")
             return os.path.abspath(path)
-    found = own_program()
+    found = own_program(command)
     if found:
         return found
     raise Stop(MISSING, f"flexray: not built yet, and not on the path; {coming()}, or name it by --flexray. `./flexray --try WORDS` there "
@@ -55,14 +55,16 @@ def is_held(path: str) -> bool:
     return False
 
 
-def own_program():
-    """The program of this repository, of the package that this flexlab is part of, or the one on the path."""
-    built = os.path.join(HERE, "..", "..", "..", "crates", "flexray_cli", "out", "flexray_cli")
+def own_program(command: str = "") -> str | None:
+    """The program of this repository, of the package that this flexlab is part of, or the one on the path. A repository may have
+    built the whole program, or at first the one that answers all commands but `observe`."""
     # Of a package the program itself, and not the script bin/flexray that calls it.
     share = os.path.join(HERE, "..", "..", "..")
     packed = os.path.join(share, "..", "..", "lib", "flexray", "flexray")
-    if os.access(built, os.X_OK):
-        return os.path.realpath(built)
+    for crate in ("flexray_cli", *(["flexray_core_cli"] if command != "observe" else [])):
+        built = os.path.join(HERE, "..", "..", "..", "crates", crate, "out", crate)
+        if os.access(built, os.X_OK):
+            return os.path.realpath(built)
     if os.path.exists(os.path.join(share, "stamp")) and os.access(packed, os.X_OK):
         return os.path.realpath(packed)
     return shutil.which("flexray")

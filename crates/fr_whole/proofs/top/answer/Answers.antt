@@ -1,0 +1,32 @@
+use Rattle.std.proofs.Common.{subst, sym}
+use Rattle.fr_program.specs.Around.{Around, around_of}
+use Rattle.fr_program.specs.Program.{texts}
+use Rattle.fr_program.proofs.Endings.{apart}
+use Rattle.fr_answer.proofs.Undone.{undone}
+use Rattle.fr_whole.specs.ObserveAnswer.{observe_command}
+use Rattle.fr_whole.proofs.Wholes.{by_core, by_log, none_of_core}
+use Rattle.fr_whole.proofs.top.answer.Goals as goal
+
+pub returns-in-Some-clause-ends : goal.returns-in-Some-clause-ends
+returns-in-Some-clause-ends g c =
+    let around : Around = around_of (g.S.Shelf.state c.args.shelf.now) (g.S.Shelf.state c.answer_observe.new.shelf) (g.O.Sink.state c.args.out.now) (g.O.Sink.state c.answer_observe.new.out) in
+    by_log (texts c.args.words.now) c.in-Some.files.params.now c.in-Some.files.log.now around c.answer_observe.result c.in-Some.ensures c.answer_observe.ensures.ends
+
+pub returns-in-Some-clause-usage : goal.returns-in-Some-clause-usage
+returns-in-Some-clause-usage g c = λ e. absurd (apart (observe_command c.in-Some.files.params.now c.in-Some.files.log.now) _ c.answer_observe.result c.answer_observe.ensures.ends e)
+
+pub returns-in-Some-clause-unread : goal.returns-in-Some-clause-unread
+returns-in-Some-clause-unread g c = λ e. absurd (apart (observe_command c.in-Some.files.params.now c.in-Some.files.log.now) _ c.answer_observe.result c.answer_observe.ensures.ends e)
+
+pub returns-in-Some-clause-undone : goal.returns-in-Some-clause-undone
+returns-in-Some-clause-undone g c =
+    let around : Around = around_of (g.S.Shelf.state c.args.shelf.now) (g.S.Shelf.state c.answer_observe.new.shelf) (g.O.Sink.state c.args.out.now) (g.O.Sink.state c.answer_observe.new.out) in
+    undone (observe_command c.in-Some.files.params.now c.in-Some.files.log.now) around c.answer_observe.result c.answer_observe.ensures.ends
+
+pub returns-in-None-clause-ends : goal.returns-in-None-clause-ends
+returns-in-None-clause-ends g c =
+    let around : Around = around_of (g.S.Shelf.state c.args.shelf.now) (g.S.Shelf.state c.answer_core.new.shelf) (g.O.Sink.state c.args.out.now) (g.O.Sink.state c.answer_core.new.out) in
+    by_core (texts c.args.words.now) around c.answer_core.result c.in-None.ensures c.answer_core.ensures.ends
+
+pub returns-in-None-clause-usage : goal.returns-in-None-clause-usage
+returns-in-None-clause-usage g c = λ e. none_of_core (texts c.args.words.now) c.in-None.ensures (c.answer_core.ensures.usage e)
