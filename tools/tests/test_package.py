@@ -86,6 +86,7 @@ class Package(Bench):
     def test_installed_programs_run(self):
         root = self.install()
         self.write("a.toml", EXAMPLE)
+        self.assertEqual(self.installed(root, "flexlab", "new", "b.toml"), "b.toml: written; next: flexlab run b.toml\n")
         page = self.one_line(self.installed(root, os.path.join(root, "usr/bin/flexlab"), "run", "a.toml"))
         self.assertIn("and still in sync at the end", page)
         examples = os.path.join(root, "usr/share/doc/flexray/examples")

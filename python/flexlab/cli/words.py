@@ -259,9 +259,13 @@ def cluster_of(words):
 
 
 def called():
-    """What flexlab is called as here: by its name where that is on the path, else by its path."""
+    """What flexlab is called as here: by its name where that is on the path, else by its path. That of a package is called by
+    what is in bin."""
+    path, folder = sys.argv[0], os.path.dirname(os.path.realpath(sys.argv[0]))
+    if os.path.exists(os.path.join(folder, "..", "stamp")):
+        path = os.path.normpath(os.path.join(folder, "..", "..", "..", "bin", "flexlab"))
     found = shutil.which("flexlab")
-    return "flexlab" if found and os.path.samefile(found, sys.argv[0]) else sys.argv[0]
+    return "flexlab" if found and os.path.realpath(found) == os.path.realpath(path) else path
 
 
 def do_new(words):
