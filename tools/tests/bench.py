@@ -66,10 +66,21 @@ class Bench(unittest.TestCase):
         """
         env = {**os.environ, "FLEXRAY": FLEXRAY, "FLEXRAY_SERIES": "", "FLEXLAB_LIBRARY": "no", **(env or {})}
         ended = subprocess.run([sys.executable, FLEXLAB, *words], capture_output=True, text=True, check=False, env=env,
-                               cwd=cwd or self.room)
+                               cwd=cwd or self.room, stdin=subprocess.DEVNULL, timeout=300)
         self.assertEqual(ended.returncode, status, f"{words}: {ended.stdout}{ended.stderr}")
         self.assertNotIn("Traceback", ended.stderr)
         return ended.stdout, ended.stderr
+
+    def shell(self, script):
+        """A line of a shell in which `flexlab` is flexlab, as a user has it."""
+        folder = self.path("bin")
+        os.makedirs(folder, exist_ok=True)
+        if not os.path.exists(os.path.join(folder, "flexlab")):
+            os.symlink(FLEXLAB, os.path.join(folder, "flexlab"))
+        env = {**os.environ, "FLEXRAY": FLEXRAY, "FLEXRAY_SERIES": "", "FLEXLAB_LIBRARY": "no",
+               "PATH": folder + os.pathsep + os.environ["PATH"]}
+        return subprocess.run(["sh", "-c", script], capture_output=True, text=True, check=False, env=env, cwd=self.room,
+                              timeout=300)
 
     def series_of(self, skew, *last):
         """A flexray-series that answers of the example with this skew of each cycle in ticks, and these last lines. Sync and sharp

@@ -163,8 +163,8 @@ class Studies(Bench):
 
     def test_hosts_that_are_spelt_otherwise(self):
         self.write("a.toml", SHORT)
-        for host in ("host/:", "0/host", "8/", "/host", "8/4/host"):
-            _, err = self.flexlab("study", "a.toml", "--vary", "values.drift", "--values", "50", "--hosts", f"{host},:", status=2)
+        for host in ("host/:", "0/host", "8/", "/host", "8/4/host", "-oProxyCommand=x", "8/-oProxyCommand=x"):
+            _, err = self.flexlab("study", "a.toml", "--vary", "values.drift", "--values", "50", f"--hosts={host},:", status=2)
             self.assertEqual(err.strip(), f"flexlab: --hosts: {host} is neither HOST nor COUNT/HOST, as in host1,8/host2,: "
                                           "where : is this machine")
 

@@ -8,8 +8,10 @@ import re
 from dataclasses import dataclass
 from fractions import Fraction
 from itertools import product
+from typing import Any
 
-from ..base.ending import NO, REFUSED, Stop
+from ..base.ending import NO, REFUSED, Stop, printable
+from ..base.files import LONGEST, text_of
 from .frames import header_crcs, proved_header
 from ..toml.source import Source
 
@@ -118,11 +120,11 @@ def picoseconds(word):
     return (int(found[1]) * 10**12 + int((found[2] or "").ljust(12, "0")), len(found[2] or "")) if found else None
 
 
-def read_lines(path, layouts):
+def read_lines(path: str, layouts: list[Layout], most: int = LONGEST) -> tuple[Log, list[Line]]:
     """What the head of a file says, and its lines that have the form of rows. A relative time is that since the event before."""
     log, lines, clock = Log(), [], 0
     end = max(layout.end for layout in layouts)
-    with open(path, encoding="ascii", errors="replace") as file:
+    with text_of(path, most) as file:
         for number, line in enumerate(file, 1):
             words = line.split(None, end)[:end]
             head = re.match(r"\s*base\s+(hex|dec)\b(.*)", line, re.I)
@@ -188,7 +190,7 @@ def chosen(path, log, lines, layouts, hexadecimal):
 def told_wrong(layout, bases, words):
     """What was read of a row that is not proved, and what its CRC would have to be."""
     names = [name for name in ("time", *layout.numbers, "channels", "direction") if name in layout.places]
-    told = "read were " + ", ".join(f"{layout.word(words, name)!r} as {name}" for name in names)
+    told = "read were " + ", ".join(f"'{printable(layout.word(words, name))}' as {name}" for name in names)
     slot, length, kept = numbers_of(layout, bases, words)
     if slot is None or length is None or kept is None or not 1 <= slot <= 2047 or length > 127:
         return f"{told}, which is no header"
@@ -238,10 +240,10 @@ def with_cycles(path, rows, bases, cycle):
 # ---- all
 
 
-def read_asc(path, cluster):
+def read_asc(path: str, cluster: Any, most: int = LONGEST) -> tuple[Fraction, list[Any], dict[str, int], str]:
     """The step of the times in ns; frames as (ns, channel, header); how many lines were left out, by reason; and the columns."""
     layouts, hexadecimal, are_sums_exact = read_layouts(cluster)
-    log, lines = read_lines(path, layouts)
+    log, lines = read_lines(path, layouts, most)
     if not lines and not log.others:
         raise Stop(NO, f"{path}: it has no line of an event")
     if not lines:

@@ -5,10 +5,12 @@ Of the two fields that may have the flags it is the one that agrees with that; i
 """
 import struct
 import zlib
+from collections.abc import Iterable, Iterator
 from dataclasses import dataclass
 from functools import cached_property
 
 from ..base.ending import REFUSED, Stop
+from ..base.files import LONGEST, MIB, read, too_long
 from .frames import proved_header
 from .packets import FRAME, UNSURE, Packet
 
@@ -57,16 +59,48 @@ class Received:
         return bytes([head[0] & 0x1F | first]) + head[1:]
 
 
-def objects(data):
-    """(kind, bytes, length of its header) of objects, with what stands between them left out."""
-    at = data.find(b"LOBJ")
-    while 0 <= at <= len(data) - 16:
-        head, _, size, kind = struct.unpack_from("<HHII", data, at + 4)
-        yield kind, data[at:at + size], head
-        at = data.find(b"LOBJ", at + max(16, head, size))
+def objects(pieces: Iterable[bytes]) -> Iterator[tuple[int, bytes, int]]:
+    """(kind, bytes, length of its header) of objects, with what stands between them left out. What was passed of the pieces is
+    not kept."""
+    some, data, at = iter(pieces), bytearray(), 0
+
+    def reach(end: int) -> bool:
+        while len(data) < end:
+            piece = next(some, None)
+            if piece is None:
+                return False
+            data.extend(piece)
+        return True
+
+    while reach(at + 16):
+        found = data.find(b"LOBJ", at)
+        if found < 0:
+            # Its first letters may stand at the end of the piece.
+            del data[:max(at, len(data) - 3)]
+            at = 0
+            if not reach(len(data) + 1):
+                return
+            continue
+        if not reach(found + 16):
+            return
+        head, _, size, kind = struct.unpack_from("<HHII", data, found + 4)
+        reach(found + size)
+        yield kind, bytes(data[found:found + size]), head
+        at = found + max(16, head, size)
+        if at > MIB:
+            reach(at)
+            del data[:at]
+            at = 0
 
 
-def unpacked(path, item, head):
+def pieces_of(data: bytes) -> Iterator[bytes]:
+    """A file in pieces."""
+    for at in range(0, len(data), MIB):
+        yield data[at:at + MIB]
+
+
+def unpacked(path: str, item: bytes, head: int, most: int) -> bytes:
+    """What a container has, of which not more than so many bytes are made."""
     if len(item) < head + 16:
         return b""
     packing, size = struct.unpack_from("<H6xI", item, head)
@@ -74,21 +108,30 @@ def unpacked(path, item, head):
         return item[head + 16:]
     try:
         if packing == 2:
-            # Of a file that ends too early this is what is there.
-            return zlib.decompressobj().decompress(item[head + 16:], size)
+            # Of a file that ends too early this is what is there. The size is the file's own word, and 0 would be no limit.
+            return zlib.decompressobj().decompress(item[head + 16:], min(size or most + 1, most + 1))
     except zlib.error as fault:
         raise Stop(REFUSED, f"{path}: a container of it cannot be unpacked: {fault}")
     raise Stop(REFUSED, f"{path}: a container of it is packed by a method {packing}, which flexlab does not know")
 
 
-def received(path):
+def contents(path: str, data: bytes, most: int) -> Iterator[bytes]:
+    """What the containers of a file have, one after the other, of at most so many bytes in all."""
+    left = most
+    for kind, item, head in objects(pieces_of(data)):
+        piece = unpacked(path, item, head, left) if kind == CONTAINER else item
+        left -= len(piece)
+        if left < 0:
+            raise too_long(path, most, unpacked=True)
+        yield piece
+
+
+def received(path: str, most: int = LONGEST) -> list[Received]:
     """The frames of a file in the order in which they stand there."""
-    with open(path, "rb") as file:
-        data = file.read()
+    data = read(path, most)
     length = struct.unpack_from("<I", data, 4)[0] if len(data) >= 8 else len(data)
-    content = b"".join(unpacked(path, item, head) if kind == CONTAINER else item for kind, item, head in objects(data[length:]))
     found = []
-    for kind, item, head in objects(content):
+    for kind, item, head in objects(contents(path, data[length:], most)):
         if kind in FRAMES and len(item) >= max(32, head) + FRAMES[kind] and len(item) == struct.unpack_from("<I", item, 8)[0]:
             code, stamp = struct.unpack_from("<I4xQ", item, 16)
             fields = FIELDS.unpack_from(item, head)
@@ -98,9 +141,9 @@ def received(path):
     return found
 
 
-def read_blf(path):
-    """The packets of a file, by channels, and the longest step of its stamps in ns."""
-    frames = received(path)
+def read_blf(path: str, most: int = LONGEST) -> tuple[list[Packet], int]:
+    """The packets of a file, by channels, and the longest step of its stamps in ns; it unpacks to at most so many bytes."""
+    frames = received(path, most)
     proved = [frame for frame in frames if frame.header]
     place = max((0, 1), key=lambda place: sum(frame.is_told(frame.flags[place]) for frame in proved))
     found = []

@@ -8,9 +8,10 @@ from dataclasses import dataclass, field
 from ..program import calls as programs
 from .blf import MAGIC, read_blf
 from ..toml.cluster import read_cluster
-from ..base.ending import DONE, FILE, NO, PROGRAM, REFUSED, USAGE, Stop
+from ..base.ending import DONE, NO, PROGRAM, REFUSED, USAGE, Stop
+from ..base.files import LONGEST, MIB, check_is_file, hold, named_faults, put_bytes, too_long, whole
 from .frames import frame_crc
-from .packets import FLAGS, FRAME, LINK_FLEXRAY, SYMBOL, read_capture
+from .packets import FLAGS, FRAME, LINK_FLEXRAY, SYMBOL, Packet, packets_of
 from ..pages.machine import printed
 from ..pages.page import field as lines_of
 from .timing import draw_timing, timing, timing_lines, timing_objects, write_timing
@@ -39,13 +40,15 @@ class Taken:
         return {**self.headed, **self.whole}
 
 
-def load(path):
-    """The packets of a capture, a BLF file or whatever form tshark reads, by their numbers there."""
-    with open(path, "rb") as file:
+def load(path: str, most: int = LONGEST) -> list[Packet]:
+    """The packets of a capture, a BLF file or whatever form tshark reads, by their numbers there; unpacked it has at most so many
+    bytes."""
+    check_is_file(path)
+    with named_faults(path), open(path, "rb") as file:
         first = file.read(4)
     if not first:
         raise Stop(NO, f"{path}: it has 0 bytes, so it is no capture: did the logger write?")
-    link, packets = (LINK_FLEXRAY, read_blf(path)[0]) if first == MAGIC else load_by_tshark(path)
+    link, packets = (LINK_FLEXRAY, read_blf(path, most)[0]) if first == MAGIC else load_by_tshark(path, most)
     if packets and link != LINK_FLEXRAY:
         raise Stop(REFUSED, f"{path}: its link type is {link}, and FlexRay's is {LINK_FLEXRAY}")
     if not packets:
@@ -53,17 +56,18 @@ def load(path):
     return packets
 
 
-def load_by_tshark(path):
-    """The link type and the packets."""
+def load_by_tshark(path: str, most: int) -> tuple[int, list[Packet]]:
+    """The link type and the packets. The file may be packed, so what comes of it is taken in pieces, and no more than so many
+    bytes of it."""
     tshark = programs.helper("tshark")
-    with tempfile.TemporaryDirectory() as room:
-        plain = os.path.join(room, "plain.pcap")
-        status, _, told = programs.call(tshark, ["-r", path, "-F", "nsecpcap", "-w", plain])
-        if status != 0 and not os.path.exists(plain):
-            raise Stop(REFUSED, f"{path}: tshark does not read it: {told}")
-        if status != 0:
-            print(f"{'WARNING':<16}tshark says: {told}")
-        return read_capture(plain)
+    status, data, told = programs.stream(tshark, ["-n", "-r", path, "-F", "nsecpcap", "-w", "-"], most)
+    if len(data) > most:
+        raise too_long(path, most, unpacked=True)
+    if status != 0 and not data:
+        raise Stop(REFUSED, f"{path}: tshark does not read it: {told}")
+    if status != 0:
+        print(f"{'WARNING':<16}tshark says: {told}")
+    return packets_of(path, data)
 
 
 def stated(frame):
@@ -93,8 +97,7 @@ def sort_packets(packets):
 
 def ask(program, words, data, room):
     path = os.path.join(room, "bytes")
-    with open(path, "wb") as file:
-        file.write(data)
+    put_bytes(path, data)
     return programs.call(program, [*words, path])
 
 
@@ -145,8 +148,9 @@ def count_cycles(taken):
     taken.ends = (min(ends), max(ends)) if ends else None
 
 
-def take_apart(path, program):
-    taken, todo = sort_packets(load(path))
+def take_apart(path: str, program: str, most: int = LONGEST) -> Taken:
+    """What became of the packets of a capture."""
+    taken, todo = sort_packets(load(path, most))
     with tempfile.TemporaryDirectory() as room:
         for channel in "AB":
             check_channel(program, channel, todo[channel], taken.whole, taken, room)
@@ -172,15 +176,14 @@ def write_bytes(folder, channel, frames):
     paths = []
     for number, part in enumerate(parts, 1):
         paths.append(os.path.join(folder, f"{channel}.bin" if number == 1 else f"{channel}-{number}.bin"))
-        with open(paths[-1], "wb") as file:
-            file.write(b"".join(part))
+        put_bytes(paths[-1], b"".join(part))
     return paths
 
 
 def write_vectors(folder, taken):
     """A recording for flexray nm: the whole frames with the payload preamble indicator, which alone can count."""
     path, beyond = os.path.join(folder, "vectors.csv"), 0
-    with open(path, "w", encoding="ascii", newline="") as file:
+    with whole(path, encoding="ascii") as file:
         for packet in taken.packets:
             if packet.number in taken.whole and packet.frame[0] & 0x40:
                 cycle = taken.cycles[packet.number]
@@ -193,7 +196,7 @@ def write_vectors(folder, taken):
 
 def write_table(folder, taken):
     path = os.path.join(folder, "frames.csv")
-    with open(path, "w", encoding="utf-8", newline="") as file:
+    with whole(path) as file:
         writer = csv.writer(file, lineterminator="\n")
         writer.writerow(("packet", "seconds", "channel", "id", "cycle_count", "cycle", "words", "flags", "checked", "fault"))
         all_known = taken.known
@@ -339,16 +342,13 @@ def capture(words, folder):
         raise Stop(USAGE, f"--nm: {words.nm} is not from 1 to 12 bytes")
     program = programs.flexray(words.flexray)
     cluster = read_cluster(words.cluster) if words.cluster else None
-    taken = take_apart(words.file, program)
+    taken = take_apart(words.file, program, words.most_mib * MIB)
     times = timing(taken, cluster)
-    try:
-        os.makedirs(folder, exist_ok=True)
-        files = [path for channel in "AB" for path in write_bytes(folder, channel, [
-            packet.frame for packet in taken.packets if packet.number in taken.whole and packet.channel == channel])]
-        vectors, beyond = write_vectors(folder, taken)
-        files += [vectors, write_table(folder, taken), *(write_timing(folder, times) if times else [])]
-    except OSError as fault:
-        raise Stop(FILE, f"{fault.filename}: {fault.strerror}")
+    hold(folder)
+    files = [path for channel in "AB" for path in write_bytes(folder, channel, [
+        packet.frame for packet in taken.packets if packet.number in taken.whole and packet.channel == channel])]
+    vectors, beyond = write_vectors(folder, taken)
+    files += [vectors, write_table(folder, taken), *(write_timing(folder, times) if times else [])]
     folded = fold(program, words.nm, vectors) if words.nm else None
     if words.json:
         printed({**capture_object(words.file, taken, times), "vectors": folded and folded.splitlines(), "files": files})

@@ -5,13 +5,13 @@ from fractions import Fraction
 
 from ..program import calls as programs
 from ..toml.cluster import read_cluster
-from ..base.ending import DONE, FILE, NO, PROGRAM, Stop
-from ..base.files import parameter_lines
+from ..base.ending import DONE, NO, PROGRAM, Stop
+from ..base.files import hold, parameter_lines, put
 from ..pages.machine import printed
 from .observer import analyzer_words, left_lines, plain, write_log
 from ..pages.page import field as lines_of
 from ..pages.page import ms_of_cycle
-from ..pages.pictures import COLOURS, POINTS, draw, node_label, plain_axes, quoted
+from ..pages.pictures import COLOURS, POINTS, draw, node_label, node_texts, plain_axes
 from ..runs.runs import answer, keep
 from ..base.units import TICKS, decimal, us_of_ticks
 
@@ -283,12 +283,12 @@ def data(name, rows):
     return f"${name} << end\n" + "".join(lines) + "end\n"
 
 
-def skew_script(cluster, told, name):
+def skew_script(cluster, told):
     unit = cluster.microtick_ns
     rows = [(cycle, us_of_ticks(low, unit), us_of_ticks(high, unit))
             for cycle, _, low, high, _ in told.cycles if high is not None]
     precision = decimal(us_of_ticks(told.precision, unit), 6)
-    return (data("skew", rows) + plain_axes() + f"set title {quoted('Limits of the skew in ' + name)} font ',14'\n"
+    return (data("skew", rows) + plain_axes() + "set title 'Limits of the skew in '.file noenhanced font ',14'\n"
             "set xlabel 'cycle'\nset ylabel 'microseconds'\nset yrange [0:*]\n"
             "set key outside bottom center horizontal\nset style fill solid 0.35 noborder\n"
             "plot $skew using 1:2:3 title 'the skew lies in between' with filledcurves linecolor '#0072b2', \\\n"
@@ -297,7 +297,7 @@ def skew_script(cluster, told, name):
             f"     {precision} title 'precision' with lines linewidth 2 linecolor '#b00020'\n")
 
 
-def nodes_script(cluster, told, name):
+def nodes_script(cluster, told):
     """Two panels: limits of each node's rate, and of its offset terms."""
     found, panels = "", (("rate", "ppm"), ("offset", "microticks"))
     parts = {"rate": {}, "offset": {}}
@@ -306,10 +306,10 @@ def nodes_script(cluster, told, name):
         parts["offset"][node] = [(row[0], row[3], row[4]) for row in rows if row[3] is not None]
     for what, nodes in parts.items():
         found += "".join(data(f"{what}{node}", rows) for node, rows in nodes.items() if rows)
-    found += plain_axes() + f"set multiplot layout 2,1 title {quoted('Rates and offset terms in ' + name)} font ',14'\n"
+    found += plain_axes() + "set multiplot layout 2,1 title 'Rates and offset terms in '.file noenhanced font ',14'\n"
     found += "set xlabel 'double cycle'\nset key outside right top\n"
     for what, unit in panels:
-        plots = [f"${what}{node} using 1:(($2+$3)/2):2:3 title {node_label(cluster, node)} noenhanced with yerrorlines pointtype 7 "
+        plots = [f"${what}{node} using 1:(($2+$3)/2):2:3 title {node_label(node)} noenhanced with yerrorlines pointtype 7 "
                  f"pointsize 0.3 linecolor '{COLOURS[at % len(COLOURS)]}'"
                  for at, (node, rows) in enumerate(parts[what].items()) if rows]
         if plots:
@@ -320,9 +320,9 @@ def nodes_script(cluster, told, name):
 def draw_observed(cluster, told, folder, name):
     drawn = []
     if any(row[3] is not None for row in told.cycles):
-        drawn += draw(folder, "observed-skew", skew_script(cluster, told, name))
+        drawn += draw(folder, "observed-skew", skew_script(cluster, told), file=name)
     if told.nodes:
-        drawn += draw(folder, "observed-nodes", nodes_script(cluster, told, name), "1000,860")
+        drawn += draw(folder, "observed-nodes", nodes_script(cluster, told), "1000,860", file=name, **node_texts(cluster))
     return drawn
 
 
@@ -332,12 +332,8 @@ def draw_observed(cluster, told, folder, name):
 def observe(words, folder):
     program, cluster = programs.flexray(words.flexray, "observe"), read_cluster(words.cluster)
     params, log = os.path.join(folder, "params.csv"), os.path.join(folder, "log.csv")
-    try:
-        os.makedirs(folder, exist_ok=True)
-        with open(params, "w", encoding="ascii", newline="") as file:
-            file.write("".join(parameter_lines(cluster)))
-    except OSError as fault:
-        raise Stop(FILE, f"{fault.filename}: {fault.strerror}")
+    hold(folder)
+    put(params, "".join(parameter_lines(cluster)), "ascii")
     observer, frames, entries = write_log(cluster, log, words)
     text = answer(program, ["observe", params, log], cluster=cluster)
     told, name = read_observed(text), os.path.basename(words.file)

@@ -5,15 +5,19 @@ Units are converted and limits rounded outwards; which frame is whole, and what 
 import csv
 import re
 import struct
+import sys
+from collections.abc import Iterator
 from dataclasses import dataclass, field
 from fractions import Fraction
 from functools import cached_property
+from typing import Any
 
 from ..base import ranges
 from .asc import UNPROVED, read_asc
 from .blf import MAGIC, read_blf
 from .capture import load, sort_packets
-from ..base.ending import FILE, NO, REFUSED, USAGE, Stop
+from ..base.ending import NO, REFUSED, USAGE, Refused, Stop, printable
+from ..base.files import LONGEST, MIB, check_is_file, named_faults, put, text_of
 from .frames import crc, frame_crc
 from .packets import UNSURE
 from ..pages.page import field as lines_of
@@ -125,12 +129,13 @@ def stated(cluster):
 # ---- frames of a capture
 
 
-def step_of(path):
+def step_of(path: str, most: int = LONGEST) -> Fraction | None:
     """In steps of how many ns a pcap, pcapng or BLF file keeps its times; None where it does not say it."""
-    with open(path, "rb") as file:
+    check_is_file(path)
+    with named_faults(path), open(path, "rb") as file:
         data = file.read(1 << 16)
     if data[:4] == MAGIC:
-        return Fraction(read_blf(path)[1])
+        return Fraction(read_blf(path, most)[1])
     if data[:4] in (b"\xd4\xc3\xb2\xa1", b"\xa1\xb2\xc3\xd4"):
         return Fraction(1000)
     if data[:4] in (b"\x4d\x3c\xb2\xa1", b"\xa1\xb2\x3c\x4d"):
@@ -162,11 +167,11 @@ def interface_step(options, order):
     return Fraction(1000)
 
 
-def capture_frames(path):
+def capture_frames(path: str, most: int = LONGEST) -> Frames:
     """The frames of a capture. Of one without its frame CRC, or that was cut, the header counts, where the logger saw no
     error. Of a file that does not say its steps, as one that is packed, these are microseconds where its times are."""
-    taken, todo = sort_packets(load(path))
-    step = step_of(path)
+    taken, todo = sort_packets(load(path, most))
+    step = step_of(path, most)
     if step is None:
         step = Fraction(1000 if all(packet.ns % 1000 == 0 for packet in taken.packets) else 1)
     frames = Frames(path, max(Fraction(1), step), [])
@@ -191,41 +196,55 @@ def columns_of(words):
     """The names of the columns, as time=NAME,channel=NAME,bytes=NAME."""
     found = dict(part.split("=", 1) for part in words.split(",") if "=" in part)
     if set(found) != {"time", "channel", "bytes"}:
-        raise Stop(USAGE, f"--columns: {words!r} is not of the form time=NAME,channel=NAME,bytes=NAME")
+        raise Stop(USAGE, f"--columns: '{printable(words)}' is not of the form time=NAME,channel=NAME,bytes=NAME")
     return found
 
 
-def table_rows(path, columns):
+def table_rows(path: str, columns: dict[str, str], most: int = LONGEST) -> Iterator[tuple[int, str, str, str]]:
     """The rows of a CSV file (by commas, semicolons or tabs) with their line, as (time, channel, bytes)."""
-    with open(path, encoding="utf-8-sig", newline="") as file:
+    # A field may be as long as the file.
+    csv.field_size_limit(sys.maxsize)
+    with text_of(path, most) as file:
         head = file.readline()
         mark = max(",;\t", key=head.count)
         names = [name.strip() for name in next(csv.reader([head], delimiter=mark), [])]
         for column in columns.values():
             if column not in names:
-                raise Stop(REFUSED, f"{path}:1: there is no column `{column}`; there are {', '.join(names)}")
+                raise Refused(path, 1, f"there is no column `{printable(column)}`; there are {printable(', '.join(names))}")
         places = [names.index(columns[name]) for name in ("time", "channel", "bytes")]
         reader = csv.reader(file, delimiter=mark)
-        for row in reader:
-            if row and len(row) <= max(places):
-                raise Stop(REFUSED, f"{path}:{reader.line_num + 1}: it has {len(row)} columns")
-            if row:
-                yield reader.line_num + 1, *(row[place].strip() for place in places)
+        try:
+            for row in reader:
+                if row and len(row) <= max(places):
+                    raise Refused(path, reader.line_num + 1, f"it has {len(row)} columns")
+                if row:
+                    time, channel, data = (row[place].strip() for place in places)
+                    yield reader.line_num + 1, time, channel, data
+        except csv.Error as fault:
+            raise Refused(path, reader.line_num + 1, f"it is no row of a table: {fault}")
 
 
-def table_frames(path, columns, unit):
+def time_of(path: str, line: int, time: str) -> re.Match[str]:
+    """The digits of a time; what looks like a number of another form is told as that."""
+    number = re.fullmatch(r"[0-9]{1,18}(?:\.([0-9]{1,18}))?", time)
+    if number:
+        return number
+    form = (", since it has a decimal comma: have the table written with points" if re.fullmatch(r"[+-]?[0-9]+,[0-9]+", time) else
+            ", since it has marks between thousands: have the table written without them"
+            if re.fullmatch(r"[0-9]{1,3}(?:[.,' ][0-9]{3})+(?:[.,][0-9]+)?", time) else "")
+    raise Refused(path, line, f"the time '{printable(time)}' is not a number from 0 on{form}")
+
+
+def table_frames(path: str, columns: dict[str, str], unit: str, most_bytes: int = LONGEST) -> Frames:
     """The frames of a CSV file: bytes are those of a whole frame, of one without its frame CRC, or of a header."""
     frames, most = Frames(path, Fraction(0), []), 0
-    for line, time, channel, text in table_rows(path, columns):
-        number = re.fullmatch(r"\d{1,18}(?:\.(\d{1,18}))?", time)
-        if not number:
-            raise Stop(REFUSED, f"{path}:{line}: the time {time!r} is not a number from 0 on")
-        most = max(most, len(number[1] or ""))
+    for line, time, channel, text in table_rows(path, columns, most_bytes):
+        most = max(most, len(time_of(path, line, time)[1] or ""))
         if channel.upper() not in ("A", "B"):
-            raise Stop(REFUSED, f"{path}:{line}: the channel {channel!r} is not A or B")
+            raise Refused(path, line, f"the channel '{printable(channel)}' is not A or B")
         digits = re.sub(r"[\s:-]", "", text)
         if not re.fullmatch(r"(?:[0-9A-Fa-f]{2})*", digits):
-            raise Stop(REFUSED, f"{path}:{line}: the bytes {text!r} are not hexadecimal digits, two a byte")
+            raise Refused(path, line, f"the bytes '{printable(text)}' are not hexadecimal digits, two a byte")
         data = bytes.fromhex(digits)
         length = 8 + 2 * (data[2] >> 1) if len(data) > 2 else 0
         if len(data) not in (5, length - 3, length) or len(data) < 5:
@@ -236,19 +255,20 @@ def table_frames(path, columns, unit):
     return frames
 
 
-def asc_frames(path, cluster):
+def asc_frames(path: str, cluster: Any, most: int = LONGEST) -> Frames:
     """The frames of an ASC file, by their headers."""
-    step, found, left, columns = read_asc(path, cluster)
+    step, found, left, columns = read_asc(path, cluster, most)
     frames = Frames(path, step, [(ns, channel, header, False) for ns, channel, header in found], columns=columns)
     for reason, count in left.items():
         frames.leave(reason, count)
     return frames
 
 
-def read_frames(cluster, path, columns, unit):
+def read_frames(cluster: Any, path: str, columns: str | None, unit: str, most: int = LONGEST) -> Frames:
+    """The frames of a file, by the columns that are named, by its name, or by its first bytes."""
     if columns:
-        return table_frames(path, columns_of(columns), unit)
-    return asc_frames(path, cluster) if path.lower().endswith(".asc") else capture_frames(path)
+        return table_frames(path, columns_of(columns), unit, most)
+    return asc_frames(path, cluster, most) if path.lower().endswith(".asc") else capture_frames(path, most)
 
 
 # ---- the log
@@ -326,13 +346,10 @@ def left_lines(frames):
 
 def write_log(cluster, path, words):
     """Writes the log of a capture: its observer, its frames, and how many entries it has."""
-    observer, frames = stated(cluster), read_frames(cluster, words.file, words.columns, words.time_unit)
+    observer, frames = stated(cluster), read_frames(
+        cluster, words.file, words.columns, words.time_unit, words.most_mib * MIB)
     text, entries = log_of(cluster, observer, frames)
-    try:
-        with open(path, "w", encoding="ascii", newline="") as file:
-            file.write(text)
-    except OSError as fault:
-        raise Stop(FILE, f"{fault.filename}: {fault.strerror}")
+    put(path, text, "ascii")
     return observer, frames, entries
 
 

@@ -7,6 +7,7 @@ import struct
 from dataclasses import dataclass
 
 from ..base.ending import PROGRAM, Stop
+from ..base.files import read, whole
 
 LINK_FLEXRAY = 210
 MAGIC_NS = 0xA1B23C4D
@@ -41,17 +42,20 @@ class Packet:
 
 def write_capture(path, packets):
     """Writes (nanoseconds, channel, frame bytes) as packets without error flags, in their order."""
-    with open(path, "wb") as file:
+    with whole(path, binary=True) as file:
         file.write(struct.pack("<IHHiIII", MAGIC_NS, 2, 4, 0, 0, 65535, LINK_FLEXRAY))
         for ns, channel, frame in packets:
             data = bytes([FRAME | (0x80 if channel == "B" else 0), 0]) + frame
             file.write(struct.pack("<IIII", ns // 10**9, ns % 10**9, len(data), len(data)) + data)
 
 
-def read_capture(path):
+def read_capture(path: str) -> tuple[int, list[Packet]]:
     """The link type and the packets of a pcap file with nanoseconds, as tshark writes it."""
-    with open(path, "rb") as file:
-        data = file.read()
+    return packets_of(path, read(path))
+
+
+def packets_of(path: str, data: bytes) -> tuple[int, list[Packet]]:
+    """Those of the bytes of such a file."""
     order = "<" if data[:4] == struct.pack("<I", MAGIC_NS) else ">"
     if len(data) < 24 or struct.unpack(order + "I", data[:4])[0] != MAGIC_NS:
         raise Stop(PROGRAM, f"{path}: tshark wrote something that is no pcap with nanoseconds")

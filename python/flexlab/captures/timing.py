@@ -6,6 +6,7 @@ from dataclasses import dataclass
 from fractions import Fraction
 from math import isqrt
 
+from ..base.files import whole
 from ..base.units import decimal
 
 SYNC = 0x10
@@ -145,14 +146,14 @@ def timing(taken, cluster=None):
 
 def write_timing(folder, found):
     paths = [os.path.join(folder, "timing.csv"), os.path.join(folder, "channels.csv")]
-    with open(paths[0], "w", encoding="ascii", newline="") as file:
+    with whole(paths[0], encoding="ascii") as file:
         writer = csv.writer(file, lineterminator="\n")
         writer.writerow(("channel", "id", "frames", "first_cycle", "last_cycle", "cycle_us", "least_cycle_us",
                          "greatest_cycle_us", "jitter_us", "deviation_us", "offset_us"))
         for slot in found.slots:
             writer.writerow((slot.channel, slot.number, len(slot.rows), slot.rows[0][0], slot.rows[-1][0],
                              *map(us, (slot.cycle, slot.least, slot.greatest, slot.jitter, slot.deviation, slot.offset))))
-    with open(paths[1], "w", encoding="ascii", newline="") as file:
+    with whole(paths[1], encoding="ascii") as file:
         writer = csv.writer(file, lineterminator="\n")
         writer.writerow(("id", "pairs", "least_us", "mean_us", "greatest_us"))
         for number, count, *apart in found.pairs:
@@ -194,9 +195,9 @@ def timing_lines(found, field):
                                                                   "--cluster with the TOML file of the network"))]
 
 
-def draw_timing(folder, found, name):
+def draw_timing(folder: str, found: Timing, name: str) -> list[str]:
     """The cycle over time, and each slot's place beside the line through it."""
-    from ..pages.pictures import COLOURS, draw, plain_axes, quoted, thinned
+    from ..pages.pictures import COLOURS, draw, plain_axes, thinned
     slots = [slot for slot in found.slots if slot.cycle is not None][:SHOWN]
     data, upper, lower = "", [], []
     for at, slot in enumerate(slots):
@@ -207,12 +208,12 @@ def draw_timing(folder, found, name):
         for kind, rows in (("step", steps), ("rest", rest)):
             data += f"${kind}{at} << end\n" + "".join(f"{x} {decimal(y, 6)}\n" for x, y in thinned(rows)) + "end\n"
         style = f"linecolor '{COLOURS[at % len(COLOURS)]}'"
-        title = quoted(f"ID {slot.number} on {slot.channel}")
+        title = f"'ID {int(slot.number)} on {slot.channel}'"
         upper.append(f"$step{at} using 1:2 title {title} with lines {style}")
         lower.append(f"$rest{at} using 1:2 title {title} with points pointtype 7 pointsize 0.4 {style}")
-    script = (data + plain_axes() + f"set multiplot layout 2,1 title {quoted('Times of ' + name)} font ',14'\n"
+    script = (data + plain_axes() + f"set multiplot layout 2,1 title 'Times of '.file noenhanced font ',14'\n"
               "set lmargin 12\nset rmargin 18\nset key outside right top Left reverse samplen 2\nset format y '%.3f'\n"
               "set ylabel 'cycle, us'\nplot " + ", \\\n     ".join(upper)
               + "\nset ylabel 'off its own line, us'\nset xlabel 'cycle'\nplot " + ", \\\n     ".join(lower)
               + "\nunset multiplot\n")
-    return draw(folder, "timing", script, "1000,720")
+    return draw(folder, "timing", script, "1000,720", file=name)

@@ -1,19 +1,42 @@
 """The words of flexlab: its requests, their options, and how each ends."""
 import argparse
 import os
+import shlex
 import shutil
 import signal
 import sys
+import traceback
 
-from ..base.ending import DONE, FILE, STATUSES, USAGE, Stop
+from ..base.ending import DONE, FAULT, FILE, STATUSES, STOPPED, USAGE, Stop, printable
+from ..base.files import HELD, hold, put_new
+from ..base.numbers import whole
 from ..base.version import version
 
 RAW = argparse.RawDescriptionHelpFormatter
 PROGRAM_HELP = "the program flexray (else: $FLEXRAY, the one built in this repository, or the one on the path)"
 
 
+def mebibytes(text):
+    """The count of --most-mib."""
+    count = whole(text)
+    if not 1 <= count <= 1 << 20:
+        raise argparse.ArgumentTypeError(f"{count} is not from 1 to {1 << 20}")
+    return count
+
+
+class Parser(argparse.ArgumentParser):
+    """A parser whose texts are written like all others: what cannot be written is told."""
+
+    def _print_message(self, message, file=None):
+        if message:
+            (file or sys.stderr).write(message)
+
+    def error(self, message):
+        super().error(told(message))
+
+
 def parser():
-    top = argparse.ArgumentParser(
+    top = Parser(
         prog="flexlab", formatter_class=RAW, epilog=STATUSES, allow_abbrev=False,
         description="Tools around flexray, in the units of a bench. flexlab computes no answer of its own: what it "
                     "shows are numbers\nthat flexray printed, converted, divided or compared. docs/FLEXLAB.md has "
@@ -80,7 +103,7 @@ def parser():
     run.add_argument("-p", "--pictures", action="store_true",
                      help="draw skew and correction terms, by gnuplot, as SVG and PNG")
 
-    run.add_argument("--from", dest="begin", metavar="CYCLE", type=int,
+    run.add_argument("--from", dest="begin", metavar="CYCLE", type=whole,
                      help="take the later skew from this cycle on (else from where it has settled)")
     run.add_argument("--cycles", metavar="RANGES", default="",
                      help="the skew of these cycles, as 20-99,100-200,201- (else of stretches between changes)")
@@ -89,9 +112,9 @@ def parser():
                         "\nIt runs the cluster as `run` does.")
     precision.add_argument("file", metavar="FILE.toml")
     precision.add_argument("-o", "--out", metavar="FOLDER", help="where files go (FILE.lab beside the TOML file)")
-    precision.add_argument("--from", dest="begin", metavar="CYCLE", type=int,
+    precision.add_argument("--from", dest="begin", metavar="CYCLE", type=whole,
                            help="take the later skew from this cycle on (else from where it has settled)")
-    precision.add_argument("--standard", metavar="MICROTICKS", type=int, default=38,
+    precision.add_argument("--standard", metavar="MICROTICKS", type=whole, default=38,
                            help="the constant of the standard's worst case (38)")
     precision.add_argument("--flutter-ns", metavar="NS",
                            help="by how much a delay may differ between the two cycles of a double cycle (else as in the file)")
@@ -113,7 +136,7 @@ def parser():
     design.add_argument("--flutter-ns", metavar="NS",
                         help="by how much a delay may differ between the two cycles of a double cycle (else as in the file)")
     design.add_argument("--whole-macroticks", action="store_true", help="only macroticks of a whole number of microticks")
-    design.add_argument("--top", metavar="COUNT", type=int, default=2, help="so many designs, the best ones (2)")
+    design.add_argument("--top", metavar="COUNT", type=whole, default=2, help="so many designs, the best ones (2)")
     design.add_argument("--certificate", metavar="FOLDER",
                         help="write the parameter files of the chain there, each of which flexray bound refuses as is said")
     design.add_argument("-o", "--out", metavar="OUT.toml", help="write the design of a topology as a cluster, for `flexlab run`")
@@ -124,11 +147,11 @@ def parser():
                     "candidate,\nand writes the worst as files to be run again: edge/ and kept/.")
     worst.add_argument("file", metavar="FILE.toml")
     worst.add_argument("-o", "--out", metavar="FOLDER", help="where files go (FILE.worst beside the TOML file)")
-    worst.add_argument("--runs", metavar="COUNT", type=int, default=600, help="at most so many runs of a seed (600)")
-    worst.add_argument("--seconds", metavar="COUNT", type=int, default=120, help="stop after so many seconds (120)")
-    worst.add_argument("--seed", metavar="SEED", type=int, default=1, help="of the search (1); the same finds the same")
-    worst.add_argument("--double-cycles", metavar="COUNT", type=int, default=16, help="of a candidate (16)")
-    worst.add_argument("--jobs", metavar="COUNT", type=int, default=1, help="seeds side by side, the best wins (1)")
+    worst.add_argument("--runs", metavar="COUNT", type=whole, default=600, help="at most so many runs of a seed (600)")
+    worst.add_argument("--seconds", metavar="COUNT", type=whole, default=120, help="stop after so many seconds (120)")
+    worst.add_argument("--seed", metavar="SEED", type=whole, default=1, help="of the search (1); the same finds the same")
+    worst.add_argument("--double-cycles", metavar="COUNT", type=whole, default=16, help="of a candidate (16)")
+    worst.add_argument("--jobs", metavar="COUNT", type=whole, default=1, help="seeds side by side, the best wins (1)")
     worst.add_argument("--flexray", metavar="PROGRAM", help=PROGRAM_HELP)
 
     case = request("case", "write a page for a safety case: claim, premises, evidence, and what is not covered",
@@ -136,15 +159,15 @@ def parser():
     case.add_argument("file", metavar="FILE.toml")
     case.add_argument("--flutter-ns", metavar="NS", required=True,
                       help="by how much a delay may differ between the two cycles of a double cycle: a promise of the hardware")
-    case.add_argument("--arbitrary", metavar="COUNT", type=int, choices=(0, 1, 2),
+    case.add_argument("--arbitrary", metavar="COUNT", type=whole, choices=(0, 1, 2),
                       help="how many sync nodes may be arbitrary: 0, 1 or 2 (else as many as the file has)")
     case.add_argument("--join", action="store_true", help="nodes may join (else where the file has [[join]])")
     case.add_argument("-o", "--out", metavar="OUT.html", help="the page, which is not there yet (FILE.case.html)")
     case.add_argument("--flexray", metavar="PROGRAM", help=PROGRAM_HELP)
 
     for one in (run, pcap, precision):
-        one.add_argument("--seed", metavar="SEED", type=int, help="of numbers that are drawn (else `seed` of [run], else 1)")
-        one.add_argument("--draw", metavar="NUMBER", type=int, default=1, help="which draw of them (1)")
+        one.add_argument("--seed", metavar="SEED", type=whole, help="of numbers that are drawn (else `seed` of [run], else 1)")
+        one.add_argument("--draw", metavar="NUMBER", type=whole, default=1, help="which draw of them (1)")
     power = request("power", "tell who leads a startup, and when all are in sync, from power-on",
                     "\nIt asks flexray cold who leads, has the leader run and the others join it, and prints a page in\n"
                     "milliseconds from power-on. Who is switched on when is said by [[power]]; all at 0 else.")
@@ -179,12 +202,12 @@ def parser():
                        help="TABLE.KEY or TABLE[N].KEY, as values.drift or node[2].ppm; several, each with its --values, make "
                             "a grid")
     study.add_argument("--values", metavar="LIST", action="append", help="as 50,100,150 or FROM:TO:STEP, as 50:200:25")
-    study.add_argument("--draws", metavar="COUNT", type=int,
+    study.add_argument("--draws", metavar="COUNT", type=whole,
                        help="so many draws of the numbers that the file has drawn, as ppm = { uniform = [-100, 100] }")
-    study.add_argument("--seed", metavar="SEED", type=int, help="of the draws (else `seed` of [run], else 1)")
+    study.add_argument("--seed", metavar="SEED", type=whole, help="of the draws (else `seed` of [run], else 1)")
     study.add_argument("--seeds", metavar="LIST", help="seeds of flexray make, as 1:20:1 or 1,7,9")
-    study.add_argument("--doubles", metavar="COUNT", type=int, default=50, help="double cycles of make (50)")
-    study.add_argument("--from", dest="begin", metavar="CYCLE", type=int,
+    study.add_argument("--doubles", metavar="COUNT", type=whole, default=50, help="double cycles of make (50)")
+    study.add_argument("--from", dest="begin", metavar="CYCLE", type=whole,
                        help="take the later skew from this cycle on (else from where each run has settled)")
     study.add_argument("--cycles", metavar="RANGES", default="",
                        help="columns of the skew of these cycles too, as 20-99,100-200,201-")
@@ -208,7 +231,7 @@ def parser():
                       "there, missing and\ndamaged. Whether a frame is whole is what flexray says of it.")
     capture.add_argument("file", metavar="FILE")
     capture.add_argument("-o", "--out", metavar="FOLDER", help="where files go (FILE.lab beside the capture)")
-    capture.add_argument("--nm", metavar="WIDTH", type=int, help="fold network management vectors of 1 to 12 bytes too")
+    capture.add_argument("--nm", metavar="WIDTH", type=whole, help="fold network management vectors of 1 to 12 bytes too")
     capture.add_argument("--cluster", metavar="FILE.toml", help="the network, for the places of its static slots")
     capture.add_argument("-p", "--pictures", action="store_true",
                          help="draw cycles and jitter over time, by gnuplot, as SVG and PNG")
@@ -233,6 +256,10 @@ def parser():
     observe.add_argument("-o", "--out", metavar="FOLDER", help="where files go (CAPTURE.lab beside the capture)")
     observe.add_argument("-p", "--pictures", action="store_true", help="draw skew, rates and offset terms, by gnuplot")
     observe.add_argument("--flexray", metavar="PROGRAM", help=PROGRAM_HELP)
+
+    for one in (capture, log, observe):
+        one.add_argument("--most-mib", metavar="COUNT", type=mebibytes, default=256,
+                         help="take captures of up to so many MiB, of packed ones what they unpack to (256)")
 
     for one in (read_in, write_back, case, run, power, design, explain, study, capture, observe):
         one.add_argument("--json", action="store_true", help="print one JSON object in place of the page")
@@ -274,9 +301,8 @@ def do_new(words):
     if words.file == "-":
         sys.stdout.write(text)
         return DONE
-    with open(words.file, "x", encoding="utf-8") as file:
-        file.write(text.replace("THIS.toml", os.path.basename(words.file)))
-    print(f"{words.file}: written; next: {called()} run {words.file}")
+    put_new(words.file, text.replace("THIS.toml", os.path.basename(words.file)))
+    print(f"{words.file}: written; next: {called()} run {shlex.quote(words.file)}")
     return DONE
 
 
@@ -296,6 +322,7 @@ def do_build(words):
     from ..base.files import write_files
     from ..runs.runs import answer, bound_words
     cluster = read_cluster(words.file)
+    hold(folder_of(words))
     paths = write_files(cluster, folder_of(words))
     for path in paths:
         print(path)
@@ -322,6 +349,7 @@ def do_run(words):
     asked = wanted(words.require)
     cluster, folder = cluster_of(words), folder_of(words)
     begin, spans = begin_of(words.begin, cluster), ranges_of(words.cycles, cluster)
+    hold(folder)
     run = run_cluster(cluster, folder, program.flexray(words.flexray), begin=begin)
     run.asked, run.ways = spans, weigh(run, program.flexray(words.flexray), run_cluster)
     text = page(run)
@@ -361,6 +389,7 @@ def do_precision(words):
     from ..runs.windows import begin_of
     cluster, folder = cluster_of(words), folder_of(words)
     begin = begin_of(words.begin, cluster)
+    hold(folder)
     given = program.flexray(words.flexray)
     text = compared(run_cluster(cluster, folder, given, begin=begin), given, words.standard, words.flutter_ns)
     sys.stdout.write(text)
@@ -382,13 +411,17 @@ def do_worst(words):
     from ..program import calls as program
     from ..toml.cluster import read_cluster
     from ..runs.worst import worst
-    return worst(read_cluster(words.file), folder_of(words, ".worst"), program.flexray(words.flexray), words)
+    cluster, folder = read_cluster(words.file), folder_of(words, ".worst")
+    hold(folder)
+    return worst(cluster, folder, program.flexray(words.flexray), words)
 
 
 def do_pcap(words):
     from ..program import calls as program
     from ..runs.sending import write_run
-    return write_run(cluster_of(words), folder_of(words), program.flexray(words.flexray))
+    cluster, folder = cluster_of(words), folder_of(words)
+    hold(folder)
+    return write_run(cluster, folder, program.flexray(words.flexray))
 
 
 def do_explain(words):
@@ -443,21 +476,84 @@ def joined(arguments):
     return found
 
 
+def check_names(words):
+    """Ends flexlab where the name of a file or folder has a control character: it could stand for a line of its own."""
+    for key in ("file", "out", "cluster", "flexray"):
+        name = getattr(words, key, None)
+        if name and any(not one.isprintable() and not "\udc80" <= one <= "\udcff" for one in name):
+            raise Stop(USAGE, f"{printable(name)}: a name with a control character, as a line feed, is not taken: rename it")
+        # A program would take it for an option.
+        if name and name.startswith("-") and key in ("file", "out", "cluster") and words.does != "new":
+            setattr(words, key, os.path.join(".", name))
+
+
+def told(line):
+    """The line of an ending, as it may stand on a terminal; where it is several, each by itself."""
+    return "\n".join("".join(printable(one) if not one.isprintable() else one for one in part) for part in line.split("\n"))
+
+
+def done(words):
+    """Does what the words ask, and hands back the exit status, whatever comes."""
+    try:
+        check_names(words)
+        return DO[words.does](words)
+    except Stop as stop:
+        print(f"flexlab: {told(stop.line)}", file=sys.stderr)
+        return stop.status
+    except OSError as fault:
+        print(f"flexlab: {told(str(fault.filename or 'standard output'))}: {fault.strerror}", file=sys.stderr)
+        return FILE
+    except KeyboardInterrupt:
+        if words.does != "study-run":
+            print("flexlab: stopped", file=sys.stderr)
+        return STOPPED
+    except MemoryError:
+        print("flexlab: no memory is left for this; fewer cycles, nodes or frames take less", file=sys.stderr)
+        return FAULT
+    except Exception as fault:  # pylint: disable=broad-except
+        if os.environ.get("FLEXLAB_DEBUG"):
+            traceback.print_exc()
+        place = traceback.extract_tb(fault.__traceback__)[-1]
+        print(f"flexlab: a fault of flexlab {version()}, which is to be reported, with its words and files: "
+              f"{type(fault).__name__} in {os.path.basename(place.filename)}, line {place.lineno}: {printable(str(fault))}",
+              file=sys.stderr)
+        return FAULT
+    finally:
+        HELD.close()
+
+
+def flushed(status):
+    """The status, or that of a file where standard output does not take what was printed."""
+    try:
+        sys.stdout.flush()
+    except OSError as fault:
+        return unwritten(fault)
+    return status
+
+
+def unwritten(fault):
+    """The status where standard output does not take what is printed."""
+    # What is left of it would be tried once more at the end.
+    os.dup2(os.open(os.devnull, os.O_WRONLY), sys.stdout.fileno())
+    print(f"flexlab: standard output: {fault.strerror}", file=sys.stderr)
+    return FILE
+
+
 def main(arguments):
     """Does what the words ask, and hands back the exit status."""
     signal.signal(signal.SIGPIPE, signal.SIG_DFL)
+    if signal.getsignal(signal.SIGINT) is not signal.SIG_IGN:
+        signal.signal(signal.SIGINT, signal.default_int_handler)
+    # Names of files have the bytes that they have.
+    sys.stdout.reconfigure(errors="surrogateescape")
+    sys.stderr.reconfigure(errors="surrogateescape")
     try:
         words = parser().parse_args(joined(arguments))
     except SystemExit as ended:
-        return USAGE if ended.code else DONE
-    try:
-        return DO[words.does](words)
-    except Stop as stop:
-        print(f"flexlab: {stop.line}", file=sys.stderr)
-        return stop.status
+        return flushed(USAGE if ended.code else DONE)
     except OSError as fault:
-        print(f"flexlab: {fault.filename}: {fault.strerror}", file=sys.stderr)
-        return FILE
+        return unwritten(fault)
     except KeyboardInterrupt:
         print("flexlab: stopped", file=sys.stderr)
-        return 130
+        return STOPPED
+    return flushed(done(words))

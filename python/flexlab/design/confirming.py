@@ -4,8 +4,8 @@ import os
 import tempfile
 from dataclasses import dataclass, field
 
-from ..base import ranges
-from ..base.ending import FILE, NO, PROGRAM, Stop
+from ..base import files, ranges
+from ..base.ending import NO, PROGRAM, Stop
 from ..pages.advice import latest_start
 from ..program import calls as programs
 from ..program.report import SharpBounds, read_sharp_bounds
@@ -73,11 +73,7 @@ def params_text(parameters: dict[str, int], nodes: Nodes) -> str:
 
 def asked(program: str, task: Task, p: dict[str, int], nodes: Nodes, path: str) -> SharpBounds:
     """What the program prints of these parameters, of the task's kind."""
-    try:
-        with open(path, "w", encoding="ascii", newline="") as file:
-            file.write(params_text(parameters_of(task, p), nodes))
-    except OSError as fault:
-        raise Stop(FILE, f"{fault.filename}: {fault.strerror}")
+    files.put(path, params_text(parameters_of(task, p), nodes), "ascii")
     words = sharp_words(path, task.kind.flutter, task.join)
     status, text, told = programs.call(program, words)
     if status == 5:
@@ -148,19 +144,15 @@ def certificate(program: str, design: Design, nodes: Nodes, folder: str) -> list
     chain.txt, which says of each step what it shows."""
     chain: list[Raise] = []
     least(design.task, design.parameters["gMacroPerCycle"], chain)
-    try:
-        os.makedirs(folder, exist_ok=True)
-        found = [step(program, design.task, one, number, nodes, folder) for number, one in enumerate(chain, 1)]
-        asked(program, design.task, design.parameters, nodes, os.path.join(folder, "design.csv"))
-        words = " ".join(sharp_words("FILE", design.task.kind.flutter, design.task.join))
-        lines = [f"Each file is one of flexray {words}; of kind {design.task.kind.name} it prints what stands behind it.",
-                 "With all else no greater than in any solution the parameter is one too low there, so it is raised to the value.", ""]
-        lines += [f"{one.file or '-':<16}{one.parameter if one.parameter != BEHIND else 'behind the action point':<24} to "
-                  f"{one.value:<7} {one.told}" for one in found]
-        with open(os.path.join(folder, "chain.txt"), "w", encoding="utf-8") as file:
-            file.write("\n".join([*lines, f"{'design.csv':<16}all checks hold"]) + "\n")
-    except OSError as fault:
-        raise Stop(FILE, f"{fault.filename}: {fault.strerror}")
+    files.hold(folder)
+    found = [step(program, design.task, one, number, nodes, folder) for number, one in enumerate(chain, 1)]
+    asked(program, design.task, design.parameters, nodes, os.path.join(folder, "design.csv"))
+    words = " ".join(sharp_words("FILE", design.task.kind.flutter, design.task.join))
+    lines = [f"Each file is one of flexray {words}; of kind {design.task.kind.name} it prints what stands behind it.",
+             "With all else no greater than in any solution the parameter is one too low there, so it is raised to the value.", ""]
+    lines += [f"{one.file or '-':<16}{one.parameter if one.parameter != BEHIND else 'behind the action point':<24} to "
+              f"{one.value:<7} {one.told}" for one in found]
+    files.put(os.path.join(folder, "chain.txt"), "\n".join([*lines, f"{'design.csv':<16}all checks hold"]) + "\n")
     return found
 
 

@@ -6,6 +6,7 @@ import sys
 from fractions import Fraction
 
 from ..base.ending import DONE, FILE, NO, USAGE, Stop
+from ..base.files import put_new
 from ..base.units import TICKS
 from ..pages.machine import printed
 from ..program import calls as programs
@@ -26,7 +27,7 @@ def kept_of(words: argparse.Namespace) -> tuple[tuple[str, int], ...]:
     """What --keep fixes, each parameter once."""
     found: dict[str, int] = {}
     for text in words.keep or []:
-        match = re.fullmatch(r"(\w+)=(\d{1,6})", text)
+        match = re.fullmatch(r"(\w+)=([0-9]{1,6})", text)
         if not match or match[1] not in KEEPABLE:
             raise Stop(USAGE, f"--keep {text}: it has to be NAME=VALUE, NAME one of {', '.join(KEEPABLE)}")
         why = of_range(match[1], int(match[2]))
@@ -40,7 +41,7 @@ def nanoseconds(text: str | None, option: str, most: int) -> Fraction | None:
     """The ns of an option, or None where it is not given."""
     if text is None:
         return None
-    if not re.fullmatch(r"\d{1,6}(\.\d{1,6})?", text) or Fraction(text) > most:
+    if not re.fullmatch(r"[0-9]{1,6}(\.[0-9]{1,6})?", text) or Fraction(text) > most:
         raise Stop(USAGE, f"{option} {text}: a number from 0 to {most} is wanted")
     return Fraction(text)
 
@@ -89,13 +90,9 @@ def nodes_words(nodes: Nodes) -> str:
 
 def write_new(path: str, text: str) -> None:
     """Writes a file that is not there yet."""
-    try:
-        with open(path, "x", encoding="utf-8") as file:
-            file.write(text)
-    except FileExistsError:
+    if os.path.lexists(path):
         raise Stop(FILE, f"{path}: it is there already, and a design is not written over another file")
-    except OSError as fault:
-        raise Stop(FILE, f"{path}: {fault.strerror}")
+    put_new(path, text)
 
 
 def design(words: argparse.Namespace) -> int:

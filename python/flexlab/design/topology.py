@@ -3,16 +3,17 @@ nodes and active stars stand; and how long a frame is under way from each node t
 import tomllib
 from collections.abc import Iterator
 from dataclasses import dataclass, field
-from decimal import Decimal, InvalidOperation
+from decimal import Decimal
 from fractions import Fraction
 from itertools import combinations
 from typing import Any, NoReturn
 
-from ..base import ranges, units
-from ..base.ending import FILE, REFUSED, Refused, Stop
+from ..base import numbers, ranges, units
+from ..base.ending import Refused, Stop, printable
+from ..base.files import read
 from ..toml.cluster import MOST_PPM
 from ..toml.places import line_of
-from ..toml.source import Source
+from ..toml.source import MOST_BYTES, Source
 from ..toml.values import Table, near, shown
 
 TOPOLOGY_KEYS: dict[str, tuple[str, ...]] = {
@@ -82,18 +83,7 @@ class TopologySource(Source):
     """The tables of a topology; values are refused as those of a cluster's file are."""
 
     def __init__(self, path: str) -> None:
-        self.path, self.values, self.faults = path, {}, []
-        try:
-            with open(path, "rb") as file:
-                self.text = file.read().decode("utf-8-sig")
-        except OSError as fault:
-            raise Stop(FILE, f"{path}: {fault.strerror}")
-        except UnicodeDecodeError as fault:
-            raise Stop(REFUSED, f"{path}: byte {fault.start} is no UTF-8: have the editor keep the file as UTF-8")
-        try:
-            self.entries = tomllib.loads(self.text, parse_float=Decimal)
-        except (tomllib.TOMLDecodeError, InvalidOperation) as fault:
-            raise self.no_toml(str(fault))
+        self.load(path)
         self.check_names()
 
     def check_names(self) -> None:
@@ -101,7 +91,7 @@ class TopologySource(Source):
             if name not in TOPOLOGY_KEYS:
                 like = near(name, TOPOLOGY_KEYS)
                 hint = f"; did you mean `{like}`?" if like else f"; there are {', '.join(TOPOLOGY_KEYS)}"
-                raise Refused(self.path, line_of(self.text, name, 0, None), f"there is no table `{name}`{hint}")
+                raise Refused(self.path, line_of(self.text, name, 0, None), f"there is no table `{printable(name)}`{hint}")
             listed = isinstance(entries, list) and all(isinstance(entry, dict) for entry in entries)
             if not (listed if name == "line" else isinstance(entries, dict)):
                 kind = "[[line]] tables" if name == "line" else f"one table [{name}]"
@@ -128,9 +118,8 @@ class TopologySource(Source):
 def is_topology(path: str) -> bool:
     """Whether a TOML file is one of a topology, by its tables; a file that is none is for another reader to refuse."""
     try:
-        with open(path, "rb") as file:
-            entries = tomllib.load(file)
-    except (OSError, UnicodeDecodeError, tomllib.TOMLDecodeError):
+        entries = tomllib.loads(read(path, MOST_BYTES).decode("utf-8-sig"), parse_float=numbers.of_file)
+    except (Stop, ValueError, RecursionError):
         return False
     return "cluster" not in entries
 

@@ -13,6 +13,7 @@ from fractions import Fraction
 
 from ..base import ranges
 from ..base.ending import DONE, FILE, PROGRAM, REFUSED, Refused, Stop
+from ..base import files
 from ..base.units import rounded
 from ..pages.machine import printed
 from ..pages.page import field
@@ -282,7 +283,7 @@ def spans(network: Network, edits: list[Edit]) -> Iterator[tuple[int, int, bytes
 def write(network: Network, edits: list[Edit], path: str) -> None:
     """Writes the file with the new texts in their places, and all else as it is."""
     places = list(spans(network, edits))
-    with open(network.files[0].path, "rb") as source, open(path, "xb") as target:
+    with open(network.files[0].path, "rb") as source, files.new(path) as target:
         at = 0
         for first, behind, new in [*places, (os.path.getsize(network.files[0].path), -1, b"")]:
             while at < first:

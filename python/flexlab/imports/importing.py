@@ -8,9 +8,11 @@ from fractions import Fraction
 
 from ..base import ranges
 from ..base.ending import DONE, FILE, USAGE, Stop
+from ..base.files import put_new, read
 from ..pages.machine import printed
 from ..pages.page import field
 from ..toml.cluster import MOST_PPM
+from ..toml.source import MOST_BYTES
 from .imported import ASKED, Asked, Imported, Importing, known_and_unused, key_of, plain
 from .names import CLUSTER, CLUSTER_CHECKED, CONTROLLER, CONTROLLER_CHECKED, CONTROLLER_OFF, KEY_SLOT_ARXML
 from .network import read_network
@@ -68,11 +70,8 @@ def renamed_of(path: str | None) -> dict[str, dict[str, str]]:
     if path is None:
         return {}
     try:
-        with open(path, "rb") as file:
-            found = tomllib.load(file)
-    except OSError as fault:
-        raise Stop(FILE, f"{path}: {fault.strerror}")
-    except (tomllib.TOMLDecodeError, UnicodeDecodeError) as fault:
+        found = tomllib.loads(read(path, MOST_BYTES).decode("utf-8-sig"))
+    except (ValueError, RecursionError) as fault:
         raise Stop(USAGE, f"{path}: this is not TOML: {printable(str(fault))}")
     keys = {row.key for row in (*CLUSTER, *CLUSTER_CHECKED, *CONTROLLER, *CONTROLLER_OFF, *CONTROLLER_CHECKED, *KEY_SLOT_ARXML)}
     for form, pairs in found.items():
@@ -184,8 +183,7 @@ def import_files(words: argparse.Namespace, called: str) -> int:
         for note in notes_of(found):
             print(f"flexlab: note: {note}", file=sys.stderr)
         return DONE
-    with open(path, "x", encoding="utf-8", newline="\n") as file:
-        file.write(text)
+    put_new(path, text)
     if words.json:
         printed(imported_object(found, path))
     else:

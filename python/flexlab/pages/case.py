@@ -6,6 +6,7 @@ import hashlib
 import html
 import os
 import re
+import shlex
 import subprocess
 import sys
 from collections.abc import Iterable
@@ -14,7 +15,7 @@ from fractions import Fraction
 
 from ..base import ranges
 from ..base.ending import DONE, FILE, NO, PROGRAM, REFUSED, USAGE, Stop
-from ..base.files import parameter_lines
+from ..base.files import parameter_lines, put, put_new
 from ..base.units import TICKS, decimal, lasting, ppm_of, us_of_ticks
 from ..base.version import version
 from ..program import calls
@@ -258,7 +259,7 @@ def page(case: Case, path: str) -> str:
         ("Evidence: the checks", "<p>As the program printed them: each holds where its left side is at least its right one.</p>"
          + table(("Check", "What it asks", "Both sides", "Used"), check_rows(case))),
         ("Evidence: how to print it "
-         "again", "<p>" + "<br>".join(f"<code>{html.escape(' '.join(words))}</code>" for words in again(case, path))
+         "again", "<p>" + "<br>".join(f"<code>{html.escape(shlex.join(words))}</code>" for words in again(case, path))
          + "</p>" + table(("What", "SHA-256"), hashes(case, path))),
         ("Not covered", "<ul>" + "".join(f"<li>{html.escape(line)}</li>" for line in NOT_COVERED) + "</ul>"),
         ("The cluster", table(("Node", "Name", "Key slot", "Channels"), nodes)
@@ -322,8 +323,7 @@ def stated(words: argparse.Namespace, params: str) -> Case:
                        "for 1 correct one, one for 3, two for 6")
     program, join = os.path.realpath(calls.flexray(words.flexray)), bool(cluster.joins) or words.join
     flutter, text = flutter_asked(words.flutter_ns, cluster), "".join(parameter_lines(cluster))
-    with open(params, "w", encoding="ascii", newline="") as file:
-        file.write(text)
+    put(params, text, "ascii")
     sharp = ["bound", "params.csv", "sharp", str(flutter), *(["join"] if join else [])]
     told = asked_of(program, sharp, params, cluster)
     kind = Kind(arbitrary > 0, flutter, max(node.key_slot for node in cluster.nodes.values() if node.key_slot is not None))
@@ -348,8 +348,7 @@ def write_case(words: argparse.Namespace) -> int:
     with tempfile.TemporaryDirectory() as room:
         case = stated(words, os.path.join(room, "params.csv"))
     text = page(case, words.file)
-    with open(path, "x", encoding="utf-8") as file:
-        file.write(text)
+    put_new(path, text)
     if words.json:
         printed({"written": path, "claim": claim(case), "precision_ticks": case.bounds.precision,
                  "precision_us": float(upper_us(case.bounds.precision, case.cluster)), "lasts_double_cycles": case.bounds.lasts,
@@ -358,7 +357,7 @@ def write_case(words: argparse.Namespace) -> int:
                               for one in premises(case)],
                  "evidence": dict(rests_on(case)), "checks": [{"check": f"C{number}", "holds": held, "left": left, "right": right}
                                                               for number, held, left, right in case.bounds.checks],
-                 "sha256": dict(hashes(case, words.file)), "again": [" ".join(one) for one in again(case, words.file)],
+                 "sha256": dict(hashes(case, words.file)), "again": [shlex.join(one) for one in again(case, words.file)],
                  "not_covered": list(NOT_COVERED)})
         return DONE
     sys.stdout.write("\n".join(claim(case)) + f"\n{path}: written, with {len(premises(case))} premises and what each asks; print it from a "

@@ -1,6 +1,7 @@
 """What a line of flexray on standard error says, with the files that it speaks of."""
 import os
 import re
+import shlex
 from fractions import Fraction
 from types import SimpleNamespace
 
@@ -8,6 +9,7 @@ from .advice import (FORMULA, LETTERS, SHARP_FORMULA, SHARP_LETTERS, SHARP_WAY_F
                      advise)
 from ..toml.constraints import broken, explain_constraint
 from ..base.ending import USAGE as WORDS
+from ..base.files import check_is_file
 from ..base.ending import DONE, FILE, NO, Stop
 from ..program.forms import FORMS
 from .gaps import check_words, gap_words, sharp_check_words, sharp_way_words
@@ -137,10 +139,11 @@ def explain_read(role, path):
     if path is None:
         return [f"the file that is the {role} could not be read"]
     try:
+        check_is_file(path)
         with open(path, "rb") as file:
             file.read(1)
-    except OSError as fault:
-        return [f"{path} ({role}): {fault.strerror}"]
+    except (OSError, Stop) as fault:
+        return [f"{path} ({role}): {fault.strerror if isinstance(fault, OSError) else fault.line.removeprefix(path + ': ')}"]
     return [f"{path} ({role}): it could not be read then; now it can"]
 
 
@@ -195,15 +198,19 @@ def beyond(path, number):
 def explain_record(role, number, reason, words):
     path, cluster = named(role, words), known_of(words)
     if role == "log" and path.lower().endswith(CAPTURES):
-        return [f"{path}: this is a capture, and flexray reads logs: `flexlab log {path} CLUSTER.toml` writes one, and `flexlab observe` "
+        return [f"{path}: this is a capture, and flexray reads logs: `flexlab log {shlex.quote(path)} CLUSTER.toml` writes one, and `flexlab observe` "
                 "asks flexray itself"]
     found = loaded(path)
     if number > len(found):
         return [beyond(path, number)]
     record = found[number - 1]
     if path.endswith(".toml"):
-        return [f"{path}: this is a TOML file, and flexray reads its own three files: `flexlab run {path}` writes and runs them"]
-    causes = list(EXPLAIN[reason](role, record, cluster, found[:number - 1]))
+        return [f"{path}: this is a TOML file, and flexray reads its own three files: `flexlab run {shlex.quote(path)}` writes and runs them"]
+    try:
+        causes = list(EXPLAIN[reason](role, record, cluster, found[:number - 1]))
+    except (LookupError, ValueError):
+        # A line that is given need not be one of these files: what it tells is then not there to be shown.
+        causes = []
     return [f"{path}:{record.line}: {short(record.text)}", f"{reason}: {MEANING[reason]}",
             *(causes or ["no field of it is found to be so; is it another file than flexray read?"])]
 
@@ -295,12 +302,13 @@ def explain_answer(text, words):
             found += [line, "  behind this place no frame begins"]
             path = file_of("capture", words)
             if path and is_pcap(path):
-                found.append(f"  {path} is a pcap file, and flexray takes frames alone: `flexlab capture {path}`")
+                found.append(f"  {path} is a pcap file, and flexray takes frames alone: `flexlab capture {shlex.quote(path)}`")
     return found
 
 
 def is_pcap(path):
     """Whether a file begins as pcap or pcapng files do."""
+    check_is_file(path)
     with open(path, "rb") as file:
         return file.read(4) in (b"\xd4\xc3\xb2\xa1", b"\xa1\xb2\xc3\xd4", b"\x4d\x3c\xb2\xa1", b"\xa1\xb2\x3c\x4d",
                                 b"\x0a\x0d\x0d\x0a")

@@ -3,7 +3,7 @@ import json
 import re
 from fractions import Fraction
 
-from ..base.ending import DONE, UNMET, USAGE, Stop
+from ..base.ending import DONE, UNMET, USAGE, Stop, printable
 from .gaps import check_words, gap_words, sharp_check_words
 from .model import warnings
 from .page import ms_of_cycle
@@ -144,9 +144,9 @@ def wanted(text):
     """What `--require` asks for: pairs of a name and, of `within`, microseconds."""
     found = []
     for part in filter(None, (text or "").split(",")):
-        span = re.fullmatch(r"within=(\d+(?:\.\d+)?)", part)
+        span = re.fullmatch(r"within=([0-9]{1,30}(?:\.[0-9]{1,30})?)", part)
         if part not in ("covered", "in-sync", "sharply-covered") and not span:
-            raise Stop(USAGE, f"--require {text}: {part} is none of covered, in-sync, within=USEC, sharply-covered")
+            raise Stop(USAGE, f"--require {printable(text)}: {printable(part)} is none of covered, in-sync, within=USEC, sharply-covered")
         found.append((part, Fraction(span[1]) if span else None))
     return found
 

@@ -1,9 +1,11 @@
 """Pictures of a run by gnuplot: the skew over time beside the precision, and each node's terms."""
 import os
+import tempfile
 from fractions import Fraction
 
 from ..program import calls as programs
-from ..base.ending import FILE, PROGRAM, Stop
+from ..base.ending import PROGRAM, Stop, printable
+from ..base.files import put, put_bytes, read
 from .page import ms_of_cycle
 from ..runs.sharp import ends_of, first_of, is_covered, skew_of
 from ..runs.sync import starts_apart
@@ -25,39 +27,49 @@ def thinned(rows):
     return [max(rows[at:at + width], key=lambda row: row[1]) for at in range(0, len(rows), width)]
 
 
-def quoted(text):
-    return '"' + text.replace("\\", "\\\\").replace('"', '\\"').replace("_", "\\\\_") + '"'
+def literal(text: str) -> str:
+    """A text from outside as gnuplot takes it as nothing but a text: in single quotes it runs and expands nothing, and a single
+    quote stands by itself, since gnuplot takes two of them that begin a text for an empty one."""
+    return '."\'".'.join("'" + part + "'" for part in printable(os.fsencode(text).decode("utf-8", "replace")).split("'"))
 
 
-def draw(folder, name, script, size="1000,560"):
-    """Runs gnuplot twice, for SVG and for PNG, on a script that is kept beside them."""
-    gnuplot, drawn = programs.helper("gnuplot"), []
-    path = os.path.join(folder, f"{name}.gnuplot")
+def draw(folder: str, name: str, script: str, size: str = "1000,560", **texts: str) -> list[str]:
+    """Runs gnuplot for SVG and for PNG, on a script that is kept beside them, and hands back their paths.
+
+    This is the one way by which text from outside comes to gnuplot: as `texts`, variables of a string each, set at the head of
+    the script. A script itself has fixed words and numbers, and gnuplot works in a folder of its own on files of fixed names.
+    """
+    gnuplot = programs.helper("gnuplot")
     width, height = size.split(",")
     head = {"svg": f'set terminal svg size {size} dynamic background "white" font "DejaVu Sans,13"',
             "png": f'set terminal pngcairo size {width},{height} background "white" font "DejaVu Sans,11"'}
-    try:
+    named = "".join(f"{variable} = {literal(text)}\n" for variable, text in texts.items())
+    drawn = []
+    with tempfile.TemporaryDirectory(prefix="flexlab-picture-") as room:
         for kind, terminal in head.items():
+            text = f"set encoding utf8\n{terminal}\nset output '{name}.{kind}'\n{named}{script}"
+            put(os.path.join(room, f"{name}.gnuplot"), text)
+            # By -d it reads no settings of the user, which could draw other pictures or run a command.
+            status, _, told = programs.call(gnuplot, ["-d", f"{name}.gnuplot"], cwd=room)
+            picture = os.path.join(room, f"{name}.{kind}")
+            if status != 0 or not os.path.isfile(picture) or not os.path.getsize(picture):
+                raise Stop(PROGRAM, f"gnuplot on {os.path.join(folder, name)}.gnuplot ended with status {status}: {told}")
             drawn.append(os.path.join(folder, f"{name}.{kind}"))
-            with open(path, "w", encoding="utf-8") as file:
-                file.write(f"{terminal}\nset output {single(drawn[-1])}\n{script}")
-            status, _, told = programs.call(gnuplot, [path])
-            if status != 0 or not os.path.getsize(drawn[-1]):
-                raise Stop(PROGRAM, f"gnuplot {path} ended with status {status}: {told}")
-    except OSError as fault:
-        raise Stop(FILE, f"{fault.filename}: {fault.strerror}")
+            put(os.path.join(folder, f"{name}.gnuplot"), text)
+            put_bytes(drawn[-1], read(picture))
     return drawn
 
 
-def single(text: str) -> str:
-    """A text between single quotes, in which gnuplot takes nothing for a word of its own."""
-    return "'" + text.replace("'", "''") + "'"
+def node_texts(cluster: Cluster) -> dict[str, str]:
+    """The variables of the nodes, node1 and so on, for `draw`: the number of each with its name."""
+    return {f"node{number}": f"{number} {shortened(node.name)}".rstrip() for number, node in cluster.nodes.items()}
 
 
-def node_label(cluster: Cluster, *nodes: int, more: str = "") -> str:
-    """The label of nodes in a picture, with their names; to be written with `noenhanced`, since names are of any characters."""
-    found = [f"{node} {shortened(cluster.nodes[node].name)}".rstrip() for node in nodes]
-    return single(("node " if len(nodes) == 1 else "nodes ") + ", ".join(found) + more)
+def node_label(*nodes: int, more: str = "") -> str:
+    """The label of nodes in a picture, with their names, as an expression of their variables; to be written with `noenhanced`,
+    since names are of any characters."""
+    return f"'{'node' if len(nodes) == 1 else 'nodes'} '." + ".', '.".join(f"node{int(node)}" for node in nodes) + (
+        f".'{more}'" if more else "")
 
 
 def shortened(name: str) -> str:
@@ -118,8 +130,7 @@ def skew_script(run):
     top = max(most, precision) * 115 / 100
     wide = most > 20 * precision
     lines = [f"$skew << end\n" + "".join(f"{cycle} {decimal(value, 6)}\n" for cycle, value in thinned(rows)) + "end",
-             plain_axes() + "set multiplot layout 2,1 title "
-             f"{quoted('Clock skew of ' + os.path.basename(run.cluster.path))} font ',14'",
+             plain_axes() + "set multiplot layout 2,1 title 'Clock skew of '.file noenhanced font ',14'",
              "set xlabel 'cycle'", f"set ylabel 'microseconds{', a logarithmic scale' if wide else ''}'",
              f"set xrange [0:{last}]\nset x2range [0:{decimal(ms_of_cycle(last, run.cluster), 3)}]",
              "set x2tics nomirror\nset x2label 'milliseconds'\nset border 7\nset lmargin 9",
@@ -163,7 +174,7 @@ def near_panel(run):
              "set ylabel 'microseconds, magnified'", "unset label", "unset object 1"]
     changing, _ = changes(run)
     for at, (first, end, nodes) in enumerate(changing[:8]):
-        label = node_label(run.cluster, *sorted(nodes), more=" changes" if len(nodes) == 1 else " change")
+        label = node_label(*sorted(nodes), more=" changes" if len(nodes) == 1 else " change")
         lines += [f"set object {20 + at} rectangle from {first}, graph 0 to {end + 1}, graph 1 fillcolor '#e3eef7' "
                   "fillstyle solid noborder behind",
                   f"set label {20 + at} {label} noenhanced at {first}, graph 0.93 "
@@ -181,7 +192,7 @@ def join_lines(run):
     """Where nodes that join begin to take part: a node that listens or follows has no row."""
     found = []
     for at, (cycle, nodes) in enumerate(sorted(begun(run).items())):
-        label = node_label(run.cluster, *nodes, more=f" from cycle {cycle}")
+        label = node_label(*nodes, more=f" from cycle {cycle}")
         height = f"graph {decimal(Fraction(84 - 6 * (at % 4), 100), 2)}"
         found += [f"set arrow {10 + at} from {cycle}, graph 0 to {cycle}, graph 1 nohead linecolor '#009e73' "
                   "dashtype 3",
@@ -209,8 +220,7 @@ def terms_script(run):
         data = "".join(f"{cycle} {run.cycles[cycle][node].rate} {run.cycles[cycle + 1][node].offset}\n"
                        for cycle in told or [run.first_row(node)])
         lines.append(f"$node{node} << end\n{data}end")
-    lines.append(plain_axes() + f"set multiplot layout 2,1 title "
-                 f"{quoted('Correction terms of ' + os.path.basename(run.cluster.path))} font ',14'")
+    lines.append(plain_axes() + "set multiplot layout 2,1 title 'Correction terms of '.file noenhanced font ',14'")
     lines.append(f"set xrange [0:{len(run.cycles)}]\nset lmargin 10\nset rmargin 14\n"
                  "set key outside right top Left reverse samplen 2")
     for column, name, limit in ((2, "rate term", "pRateCorrectionOut"), (3, "offset term", "pOffsetCorrectionOut")):
@@ -218,7 +228,7 @@ def terms_script(run):
                   "set xlabel 'cycle'" if column == 3 else "unset xlabel",
                   f"set label 3 '{limit}: {parameters[limit]}' at graph 0.99, graph 0.94 right textcolor '#777777'",
                   "plot " + ", \\\n     ".join(
-                      f"$node{node} using 1:{column} title {node_label(run.cluster, node)} noenhanced with steps linewidth 1.6 linecolor "
+                      f"$node{node} using 1:{column} title {node_label(node)} noenhanced with steps linewidth 1.6 linecolor "
                       f"'{COLOURS[at % len(COLOURS)]}' dashtype {1 + at // len(COLOURS)}"
                       for at, node in enumerate(nodes))]
     return "\n".join(lines) + "\nunset multiplot\n"
@@ -228,5 +238,6 @@ def draw_run(run):
     """Draws both pictures into the run's folder, and hands back their paths."""
     if not run.cycles:
         return []
-    return (draw(run.folder, "skew", skew_script(run), "1000,860")
-            + draw(run.folder, "terms", terms_script(run), "1000,720"))
+    file = os.path.basename(run.cluster.path)
+    return (draw(run.folder, "skew", skew_script(run), "1000,860", file=file, **node_texts(run.cluster))
+            + draw(run.folder, "terms", terms_script(run), "1000,720", file=file, **node_texts(run.cluster)))

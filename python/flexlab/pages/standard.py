@@ -6,6 +6,7 @@ from fractions import Fraction
 from ..runs import sharp
 from ..base import ranges
 from ..base.ending import USAGE, Stop
+from ..base.numbers import number_of
 from .page import field, ms_of_cycle
 from ..program.report import read_sharp_bounds
 from ..runs.runs import answer
@@ -46,8 +47,8 @@ def flutter_asked(text, run):
     if text is None:
         return run.sharp.bounds.flutter
     try:
-        ticks = rounded(Fraction(text) / run.cluster.microtick_ns * TICKS)
-    except (ValueError, ZeroDivisionError):
+        ticks = rounded(number_of(text) / run.cluster.microtick_ns * TICKS)
+    except ValueError:
         ticks = -1
     if not 0 <= ticks <= sharp.MOST:
         most = decimal(us_of_ticks(sharp.MOST, run.cluster.microtick_ns) * 1000, 3).rstrip("0").rstrip(".")

@@ -3,7 +3,7 @@ import os
 from fractions import Fraction
 
 from ..base.ending import DONE
-from .pictures import COLOURS, KEY, POINTS, draw, plain_axes, quoted
+from .pictures import COLOURS, KEY, POINTS, draw, plain_axes
 from ..runs.study import worth
 from ..base.units import decimal
 
@@ -39,8 +39,8 @@ def picture(folder, plan, lines):
         return []
     of = os.path.basename(plan.get("file", "flexray make"))
     drawn = curves(plan, good)
-    key = quoted(plan["keys"][0]) if plan["keys"] else "'% of the runs, the worst at the right'"
-    title = f"{len(good)} runs of {of}"
+    key = plan["keys"][0] if plan["keys"] else "% of the runs, the worst at the right"
+    title, names = f"{len(good)} runs of {of}", {}
     if plan["keys"] and plan["draws"] > 1:
         title += f", the worst of {plan['draws']} draws"
     joined = "points" if "make" in plan else "linespoints"
@@ -57,11 +57,12 @@ def picture(folder, plan, lines):
                 plots.append(f"$runs{at} using 1:6 title 'not covered' with points pointtype 2 pointsize 1.6 "
                              "linecolor '#b00020'")
         if any(line.get("later_skew_us") for _, line in points_):
-            plots.append(f"$runs{at} using 1:5 title {quoted('later skew' + (f', {name}' if name else ''))} with {joined} "
+            names[f"curve{at}"] = "later skew" + (f", {name}" if name else "")
+            plots.append(f"$runs{at} using 1:5 title curve{at} noenhanced with {joined} "
                          f"pointtype 7 pointsize 0.6 linecolor '{COLOURS[(at + 2) % len(COLOURS)]}'")
     if not plots:
         return []
     return draw(folder, "study", "".join(blocks) + plain_axes() + (
-        f"set title {quoted(title)} font ',14'\nset xlabel {key}\nset ylabel 'microseconds'\n"
+        "set title heading noenhanced font ',14'\nset xlabel key noenhanced\nset ylabel 'microseconds'\n"
         "set offsets graph 0.02, graph 0.02, 0, 0\nset yrange [0:*]\n" + KEY + "\nplot "
-        + ", \\\n     ".join(plots) + "\n"))
+        + ", \\\n     ".join(plots) + "\n"), heading=title, key=key, **names)

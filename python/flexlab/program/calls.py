@@ -4,9 +4,14 @@ import fcntl
 import functools
 import importlib
 import os
+import queue
 import shutil
 import subprocess
 import sys
+import tempfile
+import threading
+from collections.abc import Callable
+from typing import IO, Any
 
 from ..base.ending import MISSING, PROGRAM, Stop
 from .stamp import stamp
@@ -158,13 +163,55 @@ def answered(program, words):
         except OSError:
             return None
         spelt[place] = name
-    found = request(spelt, *files)
+    found = beside(lambda: request(spelt, *files))
     return found.status, found.text, found.line
 
 
-def call(program, words, out=None):
-    """Calls a program: its status, what it printed (or wrote to the file `out`), and its last line on err."""
-    found = answered(program, words)
+def beside(ask: Callable[[], Any]) -> Any:
+    """What a call of the library answers. It goes on in a thread of its own: the first thread would not hear ^C meanwhile."""
+    if threading.current_thread() is not threading.main_thread():
+        return ask()
+    told: queue.SimpleQueue[tuple[Any, BaseException | None]] = queue.SimpleQueue()
+
+    def work() -> None:
+        try:
+            told.put((ask(), None))
+        except BaseException as fault:  # pylint: disable=broad-except
+            told.put((None, fault))
+
+    threading.Thread(target=work, daemon=True).start()
+    found, fault = told.get()
+    if fault:
+        raise fault
+    return found
+
+
+def stream(program: str, words: list[str], most: int) -> tuple[int, bytes, str]:
+    """Calls a program, and takes what it prints in pieces: its status, its bytes, and its last line on err. Of more than so many
+    bytes it is ended, and one byte more is handed back."""
+    found = bytearray()
+    with tempfile.TemporaryFile() as told:
+        try:
+            with subprocess.Popen([program, *words], stdin=subprocess.DEVNULL, stdout=subprocess.PIPE, stderr=told) as ended:
+                try:
+                    while len(found) <= most and (piece := ended.stdout.read(1 << 16) if ended.stdout else b""):
+                        found += piece
+                    if len(found) > most:
+                        ended.kill()
+                except BaseException:
+                    ended.kill()
+                    raise
+        except OSError as fault:
+            raise Stop(PROGRAM, f"{program}: {fault.strerror}")
+        told.seek(0)
+        lines = told.read(1 << 16).decode("utf-8", "replace").strip().splitlines()
+    return ended.returncode, bytes(found[:most + 1]), lines[-1] if lines else ""
+
+
+def call(program: str, words: list[str], out: IO[bytes] | None = None, cwd: str | None = None) -> tuple[int, str, str]:
+    """Calls a program, in the folder `cwd` where one is named: its status, what it printed (or wrote to the file `out`), and its
+    last line on err. No shell reads the words."""
+    found = answered(program, words) if cwd is None else None
     if found is not None:
         status, text, told = found
         if out:
@@ -172,7 +219,7 @@ def call(program, words, out=None):
         return status, "" if out else text, told
     try:
         ended = subprocess.run([program, *words], stdin=subprocess.DEVNULL, stderr=subprocess.PIPE,
-                               stdout=out or subprocess.PIPE, check=False)
+                               stdout=out or subprocess.PIPE, check=False, cwd=cwd)
     except OSError as fault:
         raise Stop(PROGRAM, f"{program}: {fault.strerror}")
     text = "" if out else ended.stdout.decode("utf-8", "replace")

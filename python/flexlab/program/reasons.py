@@ -3,6 +3,7 @@ import re
 
 from .forms import FORMS, form_of, placed, span
 from .known import version_of, whole
+from ..base.ending import printable
 from ..base.ranges import REPETITIONS, table
 from ..toml.values import near
 
@@ -20,7 +21,9 @@ MEANING = {
 }
 
 
-def short(text):
+def short(text: str) -> str:
+    """A text of a record as it may stand on a line."""
+    text = printable(text)
     return text if len(text) <= 72 else f"{text[:60]}.. ({len(text)} characters)"
 
 

@@ -1,6 +1,9 @@
 """Records of a file as flexray reads them, each with its line: commas, quotes, no header, no comments."""
 from dataclasses import dataclass
 
+from ..base.files import read
+from ..base.ranges import FILE_BYTES
+
 
 @dataclass
 class Record:
@@ -55,5 +58,4 @@ def shown(field):
 
 
 def load(path):
-    with open(path, "rb") as file:
-        return records(file.read())
+    return records(read(path, FILE_BYTES))

@@ -5,8 +5,8 @@ from dataclasses import dataclass, field
 
 from ..program import calls as programs
 from ..toml.constraints import broken, explain_constraint
-from ..base.ending import FILE, NO, PROGRAM, Stop
-from ..base.files import write_files
+from ..base.ending import NO, PROGRAM, Stop
+from ..base.files import put, whole, write_files
 from ..program.known import KnownToml
 from ..program.report import Bounds, Report, Series, read_bounds, read_report, read_series, read_trace
 from .settled import skew_in_sync
@@ -69,12 +69,9 @@ def answer(program, words, out=None, cluster=None):
     return text
 
 
-def keep(folder, name, text):
-    try:
-        with open(os.path.join(folder, name), "w", encoding="utf-8") as file:
-            file.write(text)
-    except OSError as fault:
-        raise Stop(FILE, f"{fault.filename}: {fault.strerror}")
+def keep(folder: str, name: str, text: str) -> None:
+    """Writes a text into a folder, as a file of this name."""
+    put(os.path.join(folder, name), text)
 
 
 def bound_words(cluster, path):
@@ -92,7 +89,7 @@ def run_cluster(cluster, folder, program, begin=None):
     keep(folder, "report.txt", told)
     report = read_report(told)
     trace = os.path.join(folder, "trace.csv")
-    with open(trace, "wb") as out:
+    with whole(trace, binary=True) as out:
         answer(program, ["trace", *paths], out)
     cycles = read_trace(trace)
     synced = sync_of(cycles, bounds, cluster.parameters)

@@ -5,7 +5,7 @@ import copy
 import os
 
 from ..program import calls as programs
-from ..base.files import write_files
+from ..base.files import whole, write_files
 from ..program.report import read_report, read_trace
 
 
@@ -54,7 +54,7 @@ def skew_in_sync(cluster, cycles, double, program, folder):
     if status != 0:
         return None
     trace = os.path.join(folder, "in-sync", "trace.csv")
-    with open(trace, "wb") as out:
+    with whole(trace, binary=True) as out:
         if programs.call(program, ["trace", *paths], out)[0] != 0:
             return None
     report = read_report(text)

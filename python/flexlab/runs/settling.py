@@ -3,7 +3,8 @@ import re
 from fractions import Fraction
 
 from ..base.ending import DONE, NO, PROGRAM, USAGE, REFUSED, Stop
-from ..base.files import write_files
+from ..base.numbers import MANY, number_of
+from ..base.files import hold, write_files
 from ..pages.gaps import check_words, sharp_way_words
 from ..pages.page import ORIGIN, field, ms_of_cycle
 from ..program.calls import flexray
@@ -29,9 +30,13 @@ def lengths(cluster, cycle):
 
 def given(text, option, size):
     """Ticks of a number of an option."""
-    if not re.fullmatch(r"\d+(\.\d+)?", text):
-        raise Stop(USAGE, f"{option} {text}: a number from 0 on is wanted")
-    ticks = rounded(Fraction(text) * size)
+    try:
+        number = number_of(text) if re.fullmatch(r"[0-9]+(\.[0-9]+)?", text) else Fraction(-1)
+    except ValueError:
+        number = Fraction(-1)
+    if number < 0:
+        raise Stop(USAGE, f"{option} {text}: a number from 0 on is wanted; {MANY}")
+    ticks = rounded(number * size)
     if ticks > MOST:
         raise Stop(USAGE, f"{option} {text}: it is more than {MOST} ticks, the most that flexray settle takes")
     return ticks
@@ -62,6 +67,7 @@ def settle(words, folder):
         raise Stop(REFUSED, f"{cluster.path}: nodes join it ([[join]]), and how soon clocks settle is proved of runs that no "
                             "node joins; `flexlab run` and `flexlab power` tell of others")
     program = flexray(words.flexray)
+    hold(folder)
     paths = write_files(cluster, folder)
     answer(program, bound_words(cluster, paths[0]), cluster=cluster)
     start, rate = asked(cluster, words)

@@ -8,13 +8,13 @@ from dataclasses import dataclass, field
 from fractions import Fraction
 
 from ..base import ranges
-from ..base.ending import DONE, FILE, NO, Stop
+from ..base.ending import DONE, NO
 from ..pages.gaps import gap_words
 from ..pages.machine import ended, printed, run_object, wanted
 from ..pages.page import ORIGIN, check_lines, field as lines_of
 from ..program.calls import flexray
 from .runs import Run, answer, bound_words, keep, run_cluster
-from ..base.files import write_files
+from ..base.files import hold, whole, write_files
 from ..base.units import decimal, microseconds, percent
 
 LISTENING, RESOLVING = 2, 4
@@ -80,14 +80,11 @@ def write_power(cluster, power, folder):
     last = max([time for node in nodes for times in power[node] for time in times if time is not None], default=0)
     cycles = min(1000, last // cluster.parameters["gMacroPerCycle"] + 12)
     path = os.path.join(folder, "power.csv")
-    try:
-        with open(path, "w", encoding="ascii", newline="") as file:
-            file.write(f"cycles,{cycles},\n")
-            for node in nodes:
-                for on, off in power[node]:
-                    file.write(f"on,{node},{on}\n" + (f"off,{node},{off}\n" if off is not None else ""))
-    except OSError as fault:
-        raise Stop(FILE, f"{fault.filename}: {fault.strerror}")
+    with whole(path, encoding="ascii") as file:
+        file.write(f"cycles,{cycles},\n")
+        for node in nodes:
+            for on, off in power[node]:
+                file.write(f"on,{node},{on}\n" + (f"off,{node},{off}\n" if off is not None else ""))
     return path, cycles
 
 
@@ -347,7 +344,7 @@ def spans(startup, end):
 
 
 def draw_startup(startup, folder):
-    from ..pages.pictures import draw, node_label, plain_axes, quoted
+    from ..pages.pictures import draw, node_label, node_texts, plain_axes
     rows, synced = table(startup), startup.synced
     last = max([time for _, _, *times in rows for time in times if time is not None])
     ready = startup.of_cycle(2 * synced) if synced is not None else None
@@ -358,10 +355,10 @@ def draw_startup(startup, folder):
         data = "".join(f"{decimal(begun, 6)} {at} {decimal(begun, 6)} {decimal(until, 6)} {at - 0.3:.1f} {at + 0.3:.1f}\n"
                        for at, phase, begun, until in found if phase == name) or "NaN NaN NaN NaN NaN NaN\n"
         lines.append(f"${name.replace(' ', '')} << end\n{data}end")
-    lines += [plain_axes() + f"set title {quoted('Startup of ' + os.path.basename(startup.cluster.path))} font ',14'",
+    lines += [plain_axes() + "set title 'Startup of '.file noenhanced font ',14'",
               "set xlabel 'milliseconds from power-on'", "set bmargin 6\nset key at screen 0.5, 0.02 bottom center horizontal",
               f"set xrange [0:{decimal(end, 3)}]\nset yrange [{len(rows)}:-1] noreverse\nunset grid",
-              "set ytics (" + ", ".join(f"{node_label(startup.cluster, row[0])} {at}" for at, row in enumerate(rows)) + ") noenhanced",
+              "set ytics (" + ", ".join(f"{node_label(row[0])} {at}" for at, row in enumerate(rows)) + ") noenhanced",
               "set style fill solid noborder"]
     led = decimal(startup.ms(startup.lead_at), 6)
     lines += [f"set arrow 1 from {led}, graph 0 to {led}, graph 1 nohead linecolor '#555555' dashtype 3",
@@ -373,14 +370,17 @@ def draw_startup(startup, folder):
     lines.append("plot " + ", \\\n     ".join(
         f"${name.replace(' ', '')} using 1:2:3:4:5:6 with boxxyerror linecolor '{colour}' title '{name}'"
         for name, colour in COLOURS.items()))
-    return draw(folder, "power", "\n".join(lines) + "\n", f"1000,{220 + 40 * len(rows)}")
+    return draw(folder, "power", "\n".join(lines) + "\n", f"1000,{220 + 40 * len(rows)}",
+                file=os.path.basename(startup.cluster.path), **node_texts(startup.cluster))
 
 
 def power(words, folder, complain):
     """The request `power`."""
     from ..toml.cluster import read_cluster
     asked = wanted(words.require)
-    startup = begin(read_cluster(words.file), folder, flexray(words.flexray))
+    cluster = read_cluster(words.file)
+    hold(folder)
+    startup = begin(cluster, folder, flexray(words.flexray))
     text = page(startup)
     keep(folder, "power.txt", text)
     drawn = draw_startup(startup, folder) if words.pictures and startup.run else []

@@ -4,26 +4,31 @@ import base64
 import contextlib
 import csv
 import hashlib
-import io
 import itertools
 import json
+import math
 import multiprocessing
 import os
 import re
 import shlex
+import shutil
+import signal
 import socket
 import subprocess
 import sys
 import tempfile
 import time
 import zlib
-from decimal import Decimal, InvalidOperation
+from decimal import Decimal
 from fractions import Fraction
+from typing import Any
 
 from ..program import calls as programs
 from . import sharp
 from ..toml.draws import SEED
-from ..base.ending import DONE, FILE, MISSING, NO, PROGRAM, USAGE, Stop
+from ..base.ending import DONE, FILE, MISSING, NO, PROGRAM, STOPPED, USAGE, Stop, printable
+from ..base.files import alone, make_folder, named_faults, put, read, whole
+from ..base.numbers import MANY, number_of
 from ..pages.machine import printed
 from ..base.units import decimal, percent, us_of_ticks
 
@@ -31,26 +36,31 @@ COLUMNS = ("status", "covered", "in_sync_double", "in_sync_at_end", "precision_u
            "percent_of_precision", "later_from_cycle", "later_skew_us", "later_99_us", "later_mean_us",
            "greatest_skew_us", "greatest_cycle", "greatest_macrotick", "cut", "gap", "sharply_covered", "sharp_gap",
            "sharp_precision_us", "in_sharp_sync_double", "sharp_skew_us", "seconds", "told")
+# Columns of numbers, of which each may be empty.
+NUMBERS = tuple(name for name in COLUMNS if name.endswith("_us"))
 # By which column runs are the worst: the first that a run has.
 WORST = ("later_skew_us", "skew_in_sync_us", "greatest_skew_us")
 MOST = 10000000
+MOST_RESULTS = 16 << 30
 LONGEST_PLAN = 90000
 SHOWN = 200
 MAKE_NS = Fraction(25)
+# How many go side by side; beside a number GNU parallel takes a part of the processors, and more or less than there are.
+JOBS, JOBS_OF_PARALLEL = r"[1-9][0-9]{0,3}", r"[1-9][0-9]{0,3}(?:\.[0-9]{1,3})?%|[+-][0-9]{1,3}(?:%)?"
 
 
 def listed(text, option):
     """The exact numbers of a list, 1,2.5,4 or FROM:TO:STEP."""
     try:
         if ":" in text:
-            first, last, step = (Fraction(Decimal(part)) for part in text.split(":"))
+            first, last, step = (number_of(part) for part in text.split(":"))
             if step <= 0 or last < first or (last - first) / step >= MOST:
                 raise ValueError
             return [first + step * at for at in range(int((last - first) / step) + 1)]
-        return [Fraction(Decimal(part.strip())) for part in text.split(",")]
-    except (ValueError, InvalidOperation, OverflowError):
-        raise Stop(USAGE, f"{option} {text}: a list of numbers is wanted, as 50,100,150 or FROM:TO:STEP with STEP "
-                          f"above 0, of at most {MOST}")
+        return [number_of(part) for part in text.split(",")]
+    except ValueError:
+        raise Stop(USAGE, f"{option} {printable(text)}: a list of numbers is wanted, as 50,100,150 or FROM:TO:STEP with STEP "
+                          f"above 0, of at most {MOST}; {MANY}")
 
 
 def written(value):
@@ -74,6 +84,8 @@ def plan_of(words):
         raise Stop(USAGE, "study: it wants FILE.toml with --vary KEY --values LIST, once or several times for a grid, or "
                           "with --draws COUNT, or --seeds LIST alone")
     keep_of(words.keep)
+    if words.jobs is not None and not re.fullmatch(f"{JOBS}|{JOBS_OF_PARALLEL}", words.jobs):
+        raise Stop(USAGE, f"--jobs {printable(words.jobs)}: a number from 1 to 9999 is wanted, or as GNU parallel takes it, as 50%")
     if words.seeds:
         values = listed(words.seeds, "--seeds")
         for value in values:
@@ -90,6 +102,9 @@ def plan_of(words):
         raise Stop(USAGE, f"--seed: {words.seed} is not from {SEED[0]} to {SEED[1]}")
     from ..toml.source import Source
     values = [[written(value) for value in listed(text, "--values")] for text in lists]
+    runs = math.prod(map(len, values)) * (words.draws or 1)
+    if runs > MOST:
+        raise Stop(USAGE, f"study: these are {runs} runs, and a study has at most {MOST}")
     source = Source(words.file, {key: Fraction(Decimal(some[0])) for key, some in zip(vary, values)}, (words.seed, 1))
     if drawn and not source.drawn:
         raise Stop(USAGE, f"--draws: {words.file} has no number that is drawn, as ppm = {{ uniform = [-100, 100] }}")
@@ -115,35 +130,50 @@ def folder_for(words):
     return words.out or (os.path.splitext(words.file)[0] + ".study" if words.file else "make.study")
 
 
-def begin(folder, plan):
+def begin(folder: str, plan: dict[str, Any]) -> None:
     """Writes the plan, or finds that the folder has the same one."""
     path = os.path.join(folder, "study.json")
     kept_plan = {**plan, "text": hashlib.sha256(plan.get("text", "").encode()).hexdigest()}
-    if os.path.exists(path):
-        with open(path, encoding="utf-8") as file:
-            if json.load(file) != kept_plan:
-                raise Stop(USAGE, f"{folder} has another study (of other values, or the TOML file was changed since); name "
-                                  "another folder by --out, or remove this one")
-    os.makedirs(folder, exist_ok=True)
-    with open(path, "w", encoding="utf-8") as file:
-        json.dump(kept_plan, file, indent=1)
+    if not os.path.exists(path):
+        put(path, json.dumps(kept_plan, indent=1))
+        return
+    try:
+        found = json.loads(read(path))
+    except (ValueError, RecursionError):
+        raise Stop(FILE, f"{path}: it is no plan of a study, so which study {folder} has is not known; name another folder by --out, "
+                         "or remove this one")
+    if found != kept_plan:
+        raise Stop(USAGE, f"{folder} has another study (of other values, or the TOML file was changed since); name "
+                          "another folder by --out, or remove this one")
 
 
 def results_path(folder):
     return os.path.join(folder, "study.jsonl")
 
 
-def kept_lines(folder):
-    """The results by run; a line that was cut where the study was stopped is none."""
+def is_line(line: object, plan: dict[str, Any]) -> bool:
+    """Whether this is a line of results of this study, as `run_one` makes them."""
+    if not isinstance(line, dict) or set(COLUMNS) - set(line) or any(type(value) not in (str, int) for value in line.values()):
+        return False
+    if not (type(line.get("run")) is int and 1 <= line["run"] <= count_of(plan) and type(line["status"]) is int):
+        return False
+    values = [line.get(key) for key in plan["keys"]] + [line[name] for name in NUMBERS if line[name] != ""]
+    return all(isinstance(value, str) and re.fullmatch(r"-?[0-9]{1,30}(?:\.[0-9]{1,6})?", value) for value in values) and (
+        line["status"] != DONE or line["precision_us"] != "" != line["greatest_skew_us"]) and (
+        all(re.fullmatch(r"[a-z_0-9-]{1,60}", name) for name in set(line) - {*plan["keys"], *plan.get("drawn", [])}))
+
+
+def kept_lines(folder: str, plan: dict[str, Any]) -> dict[int, dict[str, Any]]:
+    """The results by run; a line that was cut where the study was stopped, or that is none of this study, is none."""
     found = {}
     if os.path.exists(results_path(folder)):
-        with open(results_path(folder), encoding="utf-8") as file:
-            for text in file:
-                try:
-                    line = json.loads(text)
-                    found[line["run"]] = line
-                except ValueError:
-                    continue
+        for text in read(results_path(folder), MOST_RESULTS).splitlines():
+            try:
+                line = json.loads(text)
+            except (ValueError, RecursionError):
+                continue
+            if is_line(line, plan):
+                found[line["run"]] = line
     return found
 
 
@@ -157,14 +187,12 @@ def write_results(folder, plan, lines):
     ranges = sorted({name for line in lines.values() for name in line if name.startswith("cycles_")}, key=range_order)
     names = ["run", *plan["keys"], *(["draw"] if plan.get("drawn") else []), *plan.get("drawn", []), *COLUMNS, *ranges]
     path = os.path.join(folder, "study.csv")
-    with open(results_path(folder) + ".part", "w", encoding="utf-8") as results, \
-            open(path, "w", encoding="utf-8", newline="") as table:
+    with whole(results_path(folder)) as results, whole(path) as table:
         writer = csv.writer(table, lineterminator="\n")
         writer.writerow(names)
         for number in sorted(lines):
             results.write(json.dumps(lines[number]) + "\n")
             writer.writerow(lines[number].get(name, "") for name in names)
-    os.replace(results_path(folder) + ".part", results_path(folder))
     return path
 
 
@@ -236,12 +264,11 @@ def measure(plan, values, number, folder):
         # A covered run that came into sync stays so: that is proved.
         at_end = True if report.in_sync is not None and report.gap is None else None
         return measured(report, MAKE_NS, (report.skew,) if known else None, at_end), {}
-    os.makedirs(folder, exist_ok=True)
+    make_folder(folder)
     path = plan["file"]
     if not has_text(path, plan):
         path = os.path.join(folder, os.path.basename(path))
-        with open(path, "w", encoding="utf-8") as file:
-            file.write(plan["text"])
+        put(path, plan["text"])
     changes = {key: Fraction(Decimal(value)) for key, value in zip(plan["keys"], values)}
     cluster = read_cluster(path, changes, (plan["seed"], number))
     spans = ranges_of(plan.get("cycles") or "", cluster)
@@ -264,16 +291,25 @@ def run_folder(folder, number):
 def run_one(plan, number, values, draw, folder=None):
     """The results of one run, as a line has them."""
     begun, line = time.monotonic(), {"run": number, **dict(zip(plan["keys"], values))}
+    part = folder and f"{folder}.part"
     if plan.get("drawn"):
         line["draw"] = draw
     line.update(dict.fromkeys(COLUMNS, ""), status=DONE)
     with tempfile.TemporaryDirectory(prefix="flexlab-study-") as room:
         try:
-            columns, drawn = measure(plan, values, draw, folder or os.path.join(room, "run"))
+            columns, drawn = measure(plan, values, draw, part or os.path.join(room, "run"))
             line.update(columns)
             line.update(drawn)
         except Stop as stop:
+            if stop.status == FILE:
+                # That says nothing of the run: the study ends, and goes on with it.
+                raise
             line.update(status=stop.status, told=stop.line.replace("\n", "; "))
+        if folder and part and os.path.isdir(part):
+            # A folder of a run is there once it is whole.
+            with named_faults(folder):
+                shutil.rmtree(folder, ignore_errors=True)
+                os.rename(part, folder)
     line["seconds"] = f"{time.monotonic() - begun:.2f}"
     return line
 
@@ -308,15 +344,21 @@ class Results:
         self.plan, self.lines, self.total = plan, lines, count_of(plan)
         self.every = 1 if self.total <= SHOWN else self.total // 100
         self.path = results_path(folder)
+        with named_faults(self.path):
+            # Nothing of a line is kept back that would have to be written later.
+            self.file = open(self.path, "ab", buffering=0)
         # What a stopped study left of a line is none, and no line begins behind it.
-        cut = os.path.exists(self.path) and open(self.path, "rb").read()[-1:] not in (b"", b"\n")
-        self.file = open(self.path, "a", encoding="utf-8")
-        if cut:
-            self.file.write("\n")
+        self.is_cut = os.path.getsize(self.path) > 0
 
     def take(self, line):
-        self.file.write(json.dumps(line) + "\n")
-        self.file.flush()
+        text = json.dumps(line) + "\n"
+        with named_faults(self.path):
+            left = (b"\n" if self.is_cut else b"") + text.encode("ascii")
+            self.is_cut = True
+            # What there is no room for is not written, and the rest of it is told.
+            while left:
+                left = left[self.file.write(left) or 0:]
+        self.is_cut = False
         self.lines[line["run"]] = line
         if self.every == 1:
             print(f"run {line['run']} of {self.total}: {named(self.plan, line)}: {told_line(line)}", flush=True)
@@ -324,7 +366,8 @@ class Results:
             print(f"{len(self.lines)} of {self.total} runs", flush=True)
 
 
-HOST = re.compile(r"(?:[1-9][0-9]*/)?(?P<address>[^/]+)")
+# What begins with - would be an option of ssh.
+HOST = re.compile(r"(?:[1-9][0-9]*/)?(?P<address>[^/\s-][^/\s]*)")
 
 
 def living_hosts(words, flexlab):
@@ -362,7 +405,7 @@ def jobs_of(plan, todo):
 
 def beside_of(words):
     """How many runs go side by side."""
-    return max(1, int(words.jobs) if (words.jobs or "").isdigit() else os.cpu_count() or 1)
+    return int(words.jobs) if re.fullmatch(JOBS, words.jobs or "") else os.cpu_count() or 1
 
 
 def kept_folder(folder, plan, number):
@@ -375,6 +418,11 @@ class Forked:
     plan, folder = {}, ""
 
     @staticmethod
+    def begin() -> None:
+        """^C is for the process that was called: it ends the others."""
+        signal.signal(signal.SIGINT, signal.SIG_IGN)
+
+    @staticmethod
     def run(job):
         number, values, draw = job
         return run_one(Forked.plan, number, values, draw, kept_folder(Forked.folder, Forked.plan, number))
@@ -385,14 +433,23 @@ def run_forked(folder, plan, todo, words, results):
     Forked.plan, Forked.folder = plan, folder
     count = min(beside_of(words), len(todo))
     jobs = (point for point in points(plan) if point[0] in todo)
-    with multiprocessing.get_context("fork").Pool(count) as pool:
+    with multiprocessing.get_context("fork").Pool(count, Forked.begin) as pool:
         for line in pool.imap_unordered(Forked.run, jobs, max(1, min(50, len(todo) // (8 * count)))):
             results.take(line)
 
 
+def end_parallel(ended: subprocess.Popen[str]) -> None:
+    """Ends GNU parallel and what it started: at the first signal it would wait for that, at the second it ends it."""
+    for _ in range(2):
+        ended.terminate()
+        with contextlib.suppress(subprocess.TimeoutExpired):
+            ended.wait(0.2)
+    ended.kill()
+
+
 def run_all(folder, plan, todo, words, results):
     """Runs what is to be done: by the library, by GNU parallel, or one after the other where both are missing."""
-    if not words.hosts and not words.parallel and (words.jobs or "1").isdigit() and programs.by_library(plan["flexray"]):
+    if not words.hosts and not words.parallel and re.fullmatch(JOBS, words.jobs or "1") and programs.by_library(plan["flexray"]):
         run_forked(folder, plan, todo, words, results)
         return
     flexlab = os.path.realpath(sys.argv[0])
@@ -419,13 +476,19 @@ def run_all(folder, plan, todo, words, results):
         jobs.writelines(jobs_of(plan, todo))
         jobs.seek(0)
         with subprocess.Popen(wanted, stdin=jobs, stdout=subprocess.PIPE, text=True) as ended:
-            for text in ended.stdout:
-                try:
-                    line = json.loads(text)
-                except ValueError:
-                    print(text.rstrip(), file=sys.stderr)
-                    continue
-                results.take(line)
+            try:
+                for text in ended.stdout:
+                    try:
+                        line = json.loads(text)
+                    except ValueError:
+                        line = None
+                    if not is_line(line, plan):
+                        print(printable(text.rstrip()), file=sys.stderr)
+                        continue
+                    results.take(line)
+            except BaseException:
+                end_parallel(ended)
+                raise
     if ended.returncode > 101:
         raise Stop(PROGRAM, f"GNU parallel ended with status {ended.returncode}")
 
@@ -484,12 +547,19 @@ def study(words):
 
 
 def run_study(words):
-    """The status, the folder, the plan and the lines by their numbers."""
+    """The status, the folder, the plan and the lines by their numbers. Where another study works in the folder it waits for it, and
+    then has its lines."""
     program = programs.flexray(words.flexray)
     plan, folder = plan_of(words), folder_for(words)
+    with alone(folder):
+        return run_held(words, program, plan, folder)
+
+
+def run_held(words: Any, program: str, plan: dict[str, Any], folder: str) -> tuple[int, str, dict[str, Any], dict[int, Any]]:
+    """The same, in a folder that is held."""
     begin(folder, plan)
     plan.update(flexray=program, folder=os.path.abspath(folder), machine=socket.gethostname(), keep=words.keep)
-    lines, total = kept_lines(folder), count_of(plan)
+    lines, total = kept_lines(folder, plan), count_of(plan)
     kept = {number for number, line in lines.items() if line["status"] == DONE or not words.again}
     todo = set(range(1, total + 1)) - kept
     if kept:
@@ -501,9 +571,7 @@ def run_study(words):
     except KeyboardInterrupt:
         write_results(folder, plan, lines)
         print(f"flexlab: stopped after {len(lines)} of {total} runs; the same words go on", file=sys.stderr)
-        return 130, folder, plan, lines
-    except OSError as fault:
-        raise Stop(FILE, f"{fault.filename or folder}: {fault.strerror}")
+        return STOPPED, folder, plan, lines
     finally:
         results.file.close()
     keep_worst(folder, plan, lines)

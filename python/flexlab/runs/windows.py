@@ -139,7 +139,7 @@ def ranges_of(text, cluster):
     """(first, last) of each range of --cycles."""
     found = []
     for part in filter(None, (part.strip() for part in text.split(","))):
-        span = re.fullmatch(r"(\d{1,6})(-(\d{1,6})?)?", part)
+        span = re.fullmatch(r"([0-9]{1,6})(-([0-9]{1,6})?)?", part)
         first = int(span[1]) if span else -1
         last = -1 if not span else first if not span[2] else int(span[3] or cluster.cycles - 1)
         if not 0 <= first <= last < cluster.cycles:

@@ -5,14 +5,15 @@ import copy
 import os
 import random
 import tempfile
+import threading
 import time
-from concurrent.futures import ThreadPoolExecutor
+from collections.abc import Callable
 from dataclasses import dataclass, field
+from typing import Any
 
-from ..program import calls as programs
 from ..base import ranges
-from ..base.ending import DONE, FILE, NO, USAGE, Stop
-from ..base.files import parameter_lines
+from ..base.ending import DONE, NO, USAGE, Stop
+from ..base.files import make_folder, parameter_lines, put
 from ..pages.gaps import gap_words
 from ..pages.page import field as lines_of
 from ..program.report import read_bounds, read_report
@@ -46,18 +47,10 @@ class Bench:
         self.parameters = "".join(parameter_lines(cluster))
         with tempfile.TemporaryDirectory() as room:
             path = os.path.join(room, "params.csv")
-            self.put(path, self.parameters)
+            put(path, self.parameters, "ascii")
             self.bounds = read_bounds(answer(program, ["bound", path]))
         self.p, self.cycles = cluster.parameters, 2 * doubles
         self.shift = self.reachable()
-
-    @staticmethod
-    def put(path, text):
-        try:
-            with open(path, "w", encoding="ascii", newline="") as file:
-                file.write(text)
-        except OSError as fault:
-            raise Stop(FILE, f"{fault.filename}: {fault.strerror}")
 
     def reachable(self):
         """How early or late an arbitrary node may be so that its frame falls into its slot at every clock in sync."""
@@ -137,7 +130,7 @@ class Bench:
         """The report of a run of these two files."""
         paths = [os.path.join(room, f"{name}.csv") for name in ("params", "drift", "script")]
         for path, text in zip(paths, (self.parameters, drift, script)):
-            self.put(path, text)
+            put(path, text, "ascii")
         self.runs += 1
         return read_report(answer(self.program, ["run", *paths]))
 
@@ -202,20 +195,20 @@ def changed(trial, bench, draw):
     return found
 
 
-def climb(bench, begin, budget, seed, until):
+def climb(bench: Bench, begin: tuple[int, Any], budget: int, seed: int, until: float, room: str,
+          stop: threading.Event) -> tuple[int, Any]:
     """(skew, trial) of the best that is found from a begin on: a change is kept where it is no worse than now, less an
     allowance that falls to nothing as the runs go on."""
     draw, best, now = random.Random(seed), begin, begin
-    with tempfile.TemporaryDirectory() as room:
-        for turn in range(budget):
-            if time.monotonic() > until:
-                break
-            trial = changed(now[1], bench, draw)
-            skew = worth(bench.run(trial, room))
-            if skew >= now[0] - TICKS // 2 * (budget - turn) // budget and skew >= 0:
-                now = skew, trial
-            if skew > best[0]:
-                best = skew, trial
+    for turn in range(budget):
+        if time.monotonic() > until or stop.is_set():
+            break
+        trial = changed(now[1], bench, draw)
+        skew = worth(bench.run(trial, room))
+        if skew >= now[0] - TICKS // 2 * (budget - turn) // budget and skew >= 0:
+            now = skew, trial
+        if skew > best[0]:
+            best = skew, trial
     return best
 
 
@@ -238,9 +231,8 @@ def who(bench, trial):
     unit = bench.cluster.microtick_ns
     for node in bench.cluster.correct:
         first, last = (bench.length(trial, node, cycle) for cycle in (0, bench.cycles - 1))
-        yield (f"node {bench.cluster.called(node)}: {CAMPS[trial.camps[node]]}; its oscillator is off by {signed(ppm_of(first), 2)} ppm at "
-               "first "
-               f"and {signed(ppm_of(last), 2)} ppm in the last cycle; it starts "
+        yield (f"node {bench.cluster.called(node)}: {CAMPS[trial.camps[node]]}; its oscillator is off by "
+               f"{signed(ppm_of(first), 2)} ppm at first and {signed(ppm_of(last), 2)} ppm in the last cycle; it starts "
                f"{microseconds(trial.starts.get(node, 0), unit)} late\n")
         for parity, name in ((0, "even"), (1, "odd")):
             heard = sorted((link[0], link[2], bench.heard(trial, node, link, parity)) for link in bench.links()
@@ -253,12 +245,50 @@ def who(bench, trial):
                        + ("nothing\n" if late is None else f"{CAMPS[late]} by {microseconds(bench.shift, unit)}\n"))
 
 
-def write(bench, folder, drift, script, told):
-    """Writes the files of a run, runs them once more, and hands back the report."""
-    os.makedirs(folder, exist_ok=True)
-    report = bench.judge(drift, script, folder)
-    keep(folder, "who.txt", told)
-    return report
+def judged(bench: Bench, drift: str, script: str) -> Any:
+    """The report of a run of these two files."""
+    with tempfile.TemporaryDirectory() as room:
+        return bench.judge(drift, script, room)
+
+
+def write(bench: Bench, folder: str, drift: str, script: str, told: str) -> None:
+    """Writes the files of a run."""
+    make_folder(folder)
+    for name, text in (("params.csv", bench.parameters), ("drift.csv", drift), ("script.csv", script), ("who.txt", told)):
+        keep(folder, name, text)
+
+
+def side_by_side(seeds: range, work: Callable[[int, str, threading.Event], tuple[int, Any]]) -> list[tuple[int, Any]]:
+    """What comes of each seed, each in a thread and a folder of its own. ^C ends this, whatever the threads do: they look for it,
+    and what they still write is away with the folder."""
+    found: list[tuple[int, Any]] = []
+    faults: list[BaseException] = []
+    stop = threading.Event()
+    with tempfile.TemporaryDirectory(ignore_cleanup_errors=True) as room:
+        def one(seed: int) -> None:
+            try:
+                place = os.path.join(room, str(seed))
+                make_folder(place)
+                found.append(work(seed, place, stop))
+            except BaseException as fault:  # pylint: disable=broad-except
+                faults.append(fault)
+                stop.set()
+
+        threads = [threading.Thread(target=one, args=(seed,), daemon=True) for seed in seeds]
+        try:
+            for thread in threads:
+                thread.start()
+            for thread in threads:
+                thread.join()
+        except BaseException:
+            stop.set()
+            end = time.monotonic() + 0.5
+            for thread in threads:
+                thread.join(max(0, end - time.monotonic()))
+            raise
+    if faults:
+        raise faults[0]
+    return found
 
 
 def search(cluster, program, words):
@@ -269,10 +299,10 @@ def search(cluster, program, words):
     if hand[1] is None:
         return bench, hand, hand
     budget = max(0, words.runs - bench.runs)
-    with ThreadPoolExecutor(words.jobs) as pool:
-        found = list(pool.map(lambda seed: climb(bench, hand, budget, seed, until),
-                              range(words.seed, words.seed + words.jobs)))
-    return bench, hand, max(found, key=lambda one: one[0])
+    found = side_by_side(range(words.seed, words.seed + words.jobs),
+                         lambda seed, room, stop: (seed, climb(bench, hand, budget, seed, until, room, stop)))
+    # Of equals it is that of the first seed, whichever thread is done first.
+    return bench, hand, max(sorted(found, key=lambda one: one[0]), key=lambda one: one[1][0])[1]
 
 
 def check_words(words):
@@ -296,7 +326,7 @@ def worst(cluster, folder, program, words):
     drift, script, pair = edge(first)
     told = (f"nodes {pair[0]} and {pair[1]} begin as far apart as `in sync` allows: their starts by pi, the lengths of their "
             "cycles by lambda, as near as whole ticks come to it. There is one double cycle.\n")
-    report = write(first, os.path.join(folder, "edge"), drift, script, told)
+    report = judged(first, drift, script)
     if report.gap is not None:
         raise Stop(NO, f"{cluster.path}: no run of this cluster is covered: " + "; ".join(gap_words(report.gap, cluster)))
     bench, hand, best = search(cluster, program, words)
@@ -308,8 +338,9 @@ def worst(cluster, folder, program, words):
     else:
         page += lines_of("By hand", f"{microseconds(hand[0], unit)}, {percent(hand[0], report.precision)}: the best division "
                                     "of the nodes into camps, with limits everywhere")
-        kept = write(bench, os.path.join(folder, "kept"), "".join(bench.drift(best[1])), "".join(bench.script(best[1])),
-                     "".join(who(bench, best[1])))
+        found = "".join(bench.drift(best[1])), "".join(bench.script(best[1]))
+        kept = judged(bench, *found)
+        write(bench, os.path.join(folder, "kept"), *found, "".join(who(bench, best[1])))
         page += lines_of("Worst found", f"{microseconds(kept.skew, unit)}, {percent(kept.skew, kept.precision)} (cycle "
                                         f"{kept.cycle}, macrotick {kept.macrotick}): clocks that begin together, and are "
                                         "driven apart")
@@ -318,6 +349,7 @@ def worst(cluster, folder, program, words):
     page += lines_of("Origin", "Each skew is one that flexray run printed of a run that it calls covered and in sync from "
                                "double cycle 0 on. A search proves nothing: there may be a worse run, up to the precision.")
     text = "\n".join(page) + "\n"
+    write(first, os.path.join(folder, "edge"), drift, script, told)
     keep(folder, "worst.txt", text)
     print(text, end="")
     print(f"{'Search':<16}{first.runs + bench.runs} runs of flexray in {time.monotonic() - begin:.1f} s, seed {words.seed}")

@@ -5,7 +5,7 @@ import random
 from decimal import Decimal
 from fractions import Fraction
 
-from ..base.ending import REFUSED, Stop
+from ..base.ending import REFUSED, Stop, printable
 from .places import line_of
 
 FORMS = "{ uniform = [FROM, TO] } or { normal = [MEAN, DEVIATION], limit = MOST }, and whole = true for whole numbers"
@@ -70,13 +70,13 @@ def draw(path, text, entries, seed, number):
     where none is given."""
     own = entries.get("run", {}).pop("seed", 1) if isinstance(entries.get("run"), dict) else 1
     if not is_number(own) or own != int(own) or not SEED[0] <= own <= SEED[1]:
-        raise Stop(REFUSED, f"{path}:{line_of(text, 'run', None, 'seed')}: run.seed: {own} is not a whole number from "
+        raise Stop(REFUSED, f"{path}:{line_of(text, 'run', None, 'seed')}: run.seed: {printable(str(own))} is not a whole number from "
                             f"{SEED[0]} to {SEED[1]}")
     seed, found = int(own) if seed is None else seed, {}
     for table, index, holder in places(entries):
         for key, value in holder.items():
             if isinstance(value, dict):
-                name = f"{table}.{key}" if index is None else f"{table}[{index + 1}].{key}"
+                name = f"{printable(table)}.{printable(key)}" if index is None else f"{printable(table)}[{index + 1}].{printable(key)}"
                 wrong = fault(value)
                 if wrong:
                     line = line_of(text, table, index, key)

@@ -1,11 +1,18 @@
 """Rows for many nodes and cycles: oscillators, delays, two-faced nodes and what is done to frames."""
+import heapq
 from fractions import Fraction
+from typing import Any
 
 from ..base import ranges
+from ..base.ending import REFUSED, Stop
 
 from ..base import units
 from .cluster import amount
 from .source import TIMES
+
+
+# The shortest rows of each file.
+LEAST_BYTES = {"drift": len("delay,1,2,A,0,0\n"), "script": len("say,0,1,2,A,0,\n")}
 
 
 def length(table, key, ppm):
@@ -48,9 +55,12 @@ def read_lengths(source, cluster):
             nodes, row = read_oscillator(table, cluster)
             for node in nodes:
                 plans[node].append(row)
+    made = 0
     for node, plan in plans.items():
         if not cluster.nodes[node].arbitrary:
             cluster.lengths[node] = steps(plan, cluster.cycles)
+            made += len(cluster.lengths[node])
+            make_room(cluster, "drift", made)
 
 
 def read_oscillator(table, cluster):
@@ -82,10 +92,17 @@ def steps(plan, cycles):
     """The cycles at which a length changes, each with its length; a ramp is linear in ppm."""
     found, before = {}, None
     marks = sorted({0} | {first for first, _, _, _ in plan} | {last + 1 for _, last, _, _ in plan})
+    # The row that stands last of those that have a mark counts: it is the first of these.
+    coming, now = sorted((row[0], at) for at, row in enumerate(plan)), []
+    coming.reverse()
     for mark, end_mark in zip(marks, marks[1:] + [cycles]):
         if mark >= cycles:
             break
-        first, last, begin, end = [row for row in plan if row[0] <= mark <= row[1]][-1]
+        while coming and coming[-1][0] <= mark:
+            heapq.heappush(now, -coming.pop()[1])
+        while plan[-now[0]][1] < mark:
+            heapq.heappop(now)
+        first, last, begin, end = plan[-now[0]]
         for cycle in range(mark, min(end_mark, cycles)) if begin != end else [mark]:
             ppm = begin if last == first else begin + (end - begin) * Fraction(cycle - first, last - first)
             ticks = units.length_of(ppm)
@@ -114,6 +131,7 @@ def correct_only(table, key, cluster, why):
 
 
 def read_delays(source, cluster):
+    made = sum(map(len, cluster.lengths.values()))
     for table in source.tables("delay"):
         with source.part():
             senders, receivers = delay_ends(table, cluster, "from"), delay_ends(table, cluster, "to")
@@ -123,7 +141,10 @@ def read_delays(source, cluster):
             ticks = amount(table, "", cluster.microtick_ns, *ranges.DELAY)
             if senders and receivers:
                 for link in links(table, cluster, senders, receivers, channels, "channels"):
-                    cluster.delays.setdefault(link, {})[first] = ticks
+                    times = cluster.delays.setdefault(link, {})
+                    made += first not in times
+                    times[first] = ticks
+                make_room(cluster, "drift", made)
 
 
 def delay_ends(table, cluster, key):
@@ -199,8 +220,18 @@ def one_correct(table, key, cluster):
     return nodes[0]
 
 
+def make_room(cluster: Any, name: str, rows: int) -> None:
+    """Ends flexlab where a file would have more rows than its length takes, before they are made: a few lines can ask for
+    billions of them."""
+    most = ranges.FILE_BYTES // LEAST_BYTES[name]
+    if rows > most:
+        raise Stop(REFUSED, f"{cluster.path}: {name}.csv would have more than {most} rows, and flexray takes files of at most "
+                            f"{ranges.FILE_BYTES} bytes; fewer cycles or nodes make it shorter")
+
+
 def put(table, cluster, link, first, last, row):
     """A row for each of these cycles that the run has."""
+    make_room(cluster, "script", len(cluster.script) + min(last, cluster.cycles - 1) + 1 - first)
     for cycle in range(first, min(last, cluster.cycles - 1) + 1):
         if (cycle, *link) in cluster.script:
             table.refuse(None, "cycle {}, node {} to node {}, channel {}: another table says something of "

@@ -2,11 +2,13 @@
 import contextlib
 import re
 import tomllib
-from decimal import Decimal, InvalidOperation
+from decimal import Decimal
 from fractions import Fraction
+from typing import Any
 
 from .draws import draw
-from ..base.ending import FILE, REFUSED, Refused, Stop
+from ..base import files, numbers
+from ..base.ending import REFUSED, Refused, Stop, printable
 from .places import line_of
 from ..base.ranges import NAMES
 from .values import Table, near, shown
@@ -41,40 +43,72 @@ KEYS = {
 }
 SINGLE = ("bench", "cluster", "limits", "run", "values", "observer", "asc")
 MANY = tuple(name for name in KEYS if name not in SINGLE)
+# Values are nested less deep than this.
+DEEPEST, DEEP = 12, "lists or tables are nested deeper here than any value is"
+MOST_TOLD = 100
+MOST_BYTES = 4 << 20
 
 
 class Source:
     def __init__(self, path, changes=None, drawing=(None, 1)):
         """Reads the file; `changes` are pairs of a key's path and a number that takes its value's place, `drawing` is the
         seed, or None for that of the file, and the number of the draw."""
-        self.path, self.values, self.faults = path, {}, []
-        try:
-            with open(path, "rb") as file:
-                # A byte order mark is none of the text.
-                self.text = file.read().decode("utf-8-sig")
-        except OSError as fault:
-            raise Stop(FILE, f"{path}: {fault.strerror}")
-        except UnicodeDecodeError as fault:
-            raise Stop(REFUSED, f"{path}: byte {fault.start} is no UTF-8: have the editor keep the file as UTF-8")
-        try:
-            self.entries = tomllib.loads(self.text, parse_float=Decimal)
-        except (tomllib.TOMLDecodeError, InvalidOperation) as fault:
-            raise self.no_toml(str(fault))
+        self.load(path)
         self.check_names()
         for key, number in (changes or {}).items():
             self.change(key, number)
         self.drawn = draw(path, self.text, self.entries, *drawing)
         self.named()
 
+    def load(self, path: str) -> None:
+        """Reads the text and its tables, whatever their names are."""
+        self.path = path
+        self.values: dict[str, Fraction] = {}
+        self.faults: dict[str, Refused] = {}
+        try:
+            # A byte order mark is none of the text.
+            self.text = files.read(path, MOST_BYTES).decode("utf-8-sig")
+        except UnicodeDecodeError as fault:
+            raise Stop(REFUSED, f"{path}: byte {fault.start} is no UTF-8: have the editor keep the file as UTF-8")
+        try:
+            self.entries = tomllib.loads(self.text, parse_float=numbers.of_file)
+        except tomllib.TOMLDecodeError as fault:
+            raise self.no_toml(str(fault))
+        except ValueError:
+            # Python makes no whole number of thousands of digits.
+            raise Refused(path, self.line_with(r"[0-9_]{1000}"), numbers.MANY)
+        except RecursionError:
+            raise Refused(path, self.line_with(r"(?:[\[{]\s*(?:\w+\s*=\s*)?){20}"), DEEP)
+        self.bound()
+
+    def line_with(self, pattern: str) -> int | None:
+        """The first line in which a pattern is found."""
+        return next((number for number, line in enumerate(self.text.split("\n"), 1) if re.search(pattern, line)), None)
+
+    def bound(self) -> None:
+        """Puts a mark in the place of each whole number that has more digits than a value can have, and refuses what is nested
+        deeper than any value is."""
+        todo: list[tuple[Any, int]] = [(self.entries, 0)]
+        while todo:
+            holder, depth = todo.pop()
+            if depth > DEEPEST:
+                raise Refused(self.path, None, DEEP)
+            for key, value in list(holder.items() if isinstance(holder, dict) else enumerate(holder)):
+                if isinstance(value, int) and abs(value) >= 10**numbers.DIGITS:
+                    holder[key] = numbers.Beyond(hex(value))
+                elif isinstance(value, (dict, list)):
+                    todo.append((value, depth + 1))
+
     def no_toml(self, fault):
         """What ends flexlab where the file is no TOML: the line and its text, and what it may be."""
         place = re.search(r"at line (\d+)", fault)
         if not place:
-            return Stop(REFUSED, f"{self.path}: this is not TOML: {fault}")
-        text = self.text.splitlines()[int(place[1]) - 1].strip() if int(place[1]) <= len(self.text.splitlines()) else ""
+            return Stop(REFUSED, f"{self.path}: this is not TOML: {printable(fault)}")
+        lines = self.text.split("\n")
+        text = lines[int(place[1]) - 1].strip() if int(place[1]) <= len(lines) else ""
         hint = "; a number has a point, no comma" if re.search(r"=\s*[+-]?\d+,\d", text) else (
             "; a text has quotes" if re.search(r"=\s*[A-Za-z]", text) and not re.search(r"=\s*(true|false)\b", text) else "")
-        return Refused(self.path, int(place[1]), f"this is not TOML: {fault}: {text}{hint}")
+        return Refused(self.path, int(place[1]), f"this is not TOML: {printable(fault)}: {printable(text)}{hint}")
 
     @contextlib.contextmanager
     def part(self):
@@ -82,14 +116,14 @@ class Source:
         try:
             yield
         except Refused as fault:
-            if fault.line not in (known.line for known in self.faults):
-                self.faults.append(fault)
+            self.faults.setdefault(fault.line, fault)
 
     def tell(self):
         """Ends flexlab where the file has faults, with all of them by line."""
         if self.faults:
-            found = sorted(self.faults, key=lambda fault: fault.place or 0)
-            raise Stop(REFUSED, "\nflexlab: ".join(fault.line for fault in found))
+            found = [fault.line for fault in sorted(self.faults.values(), key=lambda fault: fault.place or 0)]
+            more = [f"{self.path}: and {len(found) - MOST_TOLD} more"] if len(found) > MOST_TOLD else []
+            raise Stop(REFUSED, "\nflexlab: ".join(found[:MOST_TOLD] + more))
 
     def check_names(self):
         for name, entries in self.entries.items():
@@ -114,7 +148,7 @@ class Source:
     def refuse_table(self, name):
         like = near(name, KEYS)
         hint = f"; did you mean `{like}`?" if like else f"; there are {', '.join(SINGLE + MANY)}"
-        raise Refused(self.path, line_of(self.text, name, 0, None), f"there is no table `{name}`{hint}")
+        raise Refused(self.path, line_of(self.text, name, 0, None), f"there is no table `{printable(name)}`{hint}")
 
     def change(self, key, number):
         """Sets `table.key` or `table[N].key`, N from 1, which has to be there."""
@@ -123,16 +157,18 @@ class Source:
         holder = self.entries.get(name)
         if place:
             rest = place.rstrip("]")
-            index = int(rest) if rest.isdigit() else 0
+            index = int(rest) if re.fullmatch(r"[0-9]{1,9}", rest) else 0
             holder = holder[index - 1] if isinstance(holder, list) and 1 <= index <= len(holder) else None
         if not isinstance(holder, dict) or entry not in holder:
-            raise Stop(REFUSED, f"{self.path}: there is no value `{key}` to be varied; write TABLE.KEY, or "
+            raise Stop(REFUSED, f"{self.path}: there is no value `{printable(key)}` to be varied; write TABLE.KEY, or "
                                 "TABLE[N].KEY for the Nth table of that name")
         holder[entry] = number
 
     def named(self):
         for name, value in self.entries.get("values", {}).items():
             with self.part():
+                if isinstance(value, numbers.Beyond):
+                    Table(self, "values", None, {}).refuse(name, f"{shown(value)}: {numbers.MANY}")
                 if isinstance(value, bool) or not isinstance(value, (int, Decimal, Fraction)) or (
                         isinstance(value, Decimal) and not value.is_finite()):
                     Table(self, "values", None, {}).refuse(name, f"{shown(value)} is not a number")

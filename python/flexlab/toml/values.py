@@ -4,22 +4,24 @@ import re
 from decimal import Decimal
 from fractions import Fraction
 
-from ..base.ending import Refused
+from ..base.ending import Refused, printable
 from .places import line_of
+from ..base.numbers import MANY, Beyond
 from ..base.ranges import CYCLES
 from ..base.units import decimal
 
 
-def shown(value):
+def shown(value: object) -> str:
+    """A value of a file as it may stand on a line."""
     if isinstance(value, Fraction):
         return str(value.numerator) if value.denominator == 1 else decimal(value, 6).rstrip("0")
     if isinstance(value, Decimal):
         return format(value, "f") if value.is_finite() else str(value)
     if isinstance(value, str):
-        return f'"{value}"'
+        return f'"{printable(value)}"'
     if isinstance(value, bool):
         return "true" if value else "false"
-    return str(value)
+    return printable(str(value))
 
 
 def near(word, known):
@@ -37,7 +39,7 @@ class Table:
 
     def key(self, key=None):
         table = self.name if self.index is None else f"{self.name}[{self.index + 1}]"
-        return table if key is None else f"{table}.{key}"
+        return table if key is None else f"{table}.{printable(key)}"
 
     def line(self, key=None):
         return line_of(self.source.text, self.name, self.index, key)
@@ -85,6 +87,8 @@ class Table:
                 self.refuse(key, f"{shown(value)} is neither {span} nor a name of [values] (there: {known}){plain}")
             number = self.source.values[named.group(2)]
             return -number if named.group(1) == "-" else number
+        if isinstance(value, Beyond):
+            self.refuse(key, f"{shown(value)} is not {span}: {MANY}")
         if isinstance(value, bool) or not isinstance(value, (int, Decimal, Fraction)):
             self.refuse(key, f"{shown(value)} is not {span}")
         if isinstance(value, Decimal) and not value.is_finite():
@@ -135,7 +139,7 @@ class Table:
         if isinstance(value, str):
             parts = [part.strip() for part in value.split(",")]
         for part in parts:
-            span = re.fullmatch(r"(\d{1,3})(?:\s*-\s*(\d{1,3}))?", str(part))
+            span = re.fullmatch(r"([0-9]{1,3})(?:\s*-\s*([0-9]{1,3}))?", str(part))
             if isinstance(part, bool) or not span:
                 self.refuse(key, f"{shown(part)} is not {wanted}")
             first, last = int(span.group(1)), int(span.group(2) or span.group(1))
@@ -153,7 +157,7 @@ class Table:
         value = self.take(key, wanted, default)
         if value == "all":
             return 0, cycles - 1
-        span = re.fullmatch(r"(\d{1,6})(\s*-\s*(\d{1,6})?)?", str(value))
+        span = re.fullmatch(r"([0-9]{1,6})(\s*-\s*([0-9]{1,6})?)?", str(value))
         if isinstance(value, bool) or not span:
             self.refuse(key, f"{shown(value)} is not {wanted}")
         first = int(span.group(1))
