@@ -278,3 +278,27 @@ def cycle(tag, base, step):
     if step == 64 and base % 2:
         return tag("CYCLE-COUNTER", tag("CYCLE-COUNTER", base))
     return tag("CYCLE-REPETITION", tag("BASE-CYCLE", base) + tag("CYCLE-REPETITION", f"CYCLE-REPETITION-{step}"))
+
+
+def registers(made):
+    """The nodes as dumps of registers of a Bosch E-Ray, by name: addresses of a chip or names, in any order."""
+    rng, p, found = made.random, made.p, {}
+    for name, key, is_sync, cold, channels in made.nodes:
+        words = {
+            "SUCC1": (0x80, cold << 8 | is_sync << 9 | rng.randrange(32) << 11 | p["pAllowPassiveToActive"] << 16
+                      | p["pAllowHaltDueToClock"] << 23 | ("A" in channels) << 26 | ("B" in channels) << 27),
+            "SUCC3": (0x88, p["gMaxWithoutClockCorrectionPassive"] | p["gMaxWithoutClockCorrectionFatal"] << 4),
+            "PRTC1": (0x90, made.start_bits | rng.randrange(128) << 4 | {10000000: 0, 5000000: 1, 2500000: 2}[made.bit_rate] << 14),
+            "MHDC": (0x98, p["gPayloadLengthStatic"] | rng.randrange(8192) << 16), "GTUC1": (0xA0, p["pMicroPerCycle"]),
+            "GTUC2": (0xA4, p["gMacroPerCycle"] | 15 << 16), "GTUC4": (0xAC, rng.randrange(16384) | p["gOffsetCorrectionStart"] - 1 << 16),
+            "GTUC5": (0xB0, p["A"] | p["B"] << 8 | p["pClusterDriftDamping"] << 16 | rng.randrange(256) << 24),
+            "GTUC7": (0xB8, p["gdStaticSlot"] | p["gNumberOfStaticSlots"] << 16),
+            "GTUC9": (0xC0, p["gdActionPointOffset"] | rng.randrange(32) << 8),
+            "GTUC10": (0xC4, p["pOffsetCorrectionOut"] | p["pRateCorrectionOut"] << 16), "GTUC11": (0xC8, 0)}
+        base = rng.choice((0, 0xF001C000))
+        lines = [f"{word if rng.random() < 0.5 else f'0x{base + offset:08X}'}{rng.choice((' ', ' = ', ': ', chr(9)))}"
+                 f"{rng.choice(('', '0x'))}{value:08X}" for word, (offset, value) in words.items()]
+        lines += ["# a comment", "0x0FC 00000003", *([f"WRHS1 {key | rng.randrange(4) << 28:#x}"] if is_sync else [])]
+        rng.shuffle(lines)
+        found[name] = "\n".join(lines) + "\n"
+    return found

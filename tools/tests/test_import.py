@@ -294,6 +294,53 @@ class Import(Bench):
         self.keep("a.xml", FIBEX)
         self.assertIn("files of one system are of one format", self.called("a.xml", "net.arxml", "-o", "-")[2])
 
+    def dumps(self, made):
+        """Writes the dumps of a cluster, and hands back their names in the order of its nodes."""
+        for name, text in fieldfiles.registers(made).items():
+            self.write(f"{name}.txt", text)
+        return [f"{node[0]}.txt" for node in made.nodes]
+
+    def test_registers(self):
+        for seed in range(40):
+            with self.subTest(seed=seed):
+                made = fieldfiles.Made(seed)
+                status, out, err = self.called(*self.dumps(made), "--chip", "e-ray", "-o", "-", "--set",
+                                               f"microtick_ns={float(made.microtick)}", *made.words())
+                self.assertEqual(status, 0, err)
+                self.write("r.toml", out)
+                # Frames in further slots are in none of these registers.
+                wanted = "".join(line for line in made.wanted().splitlines(keepends=True) if not line.startswith("slot,"))
+                self.assertEqual("".join(parameter_lines(read_cluster("r.toml"))), wanted)
+                told = tomllib.loads(out)
+                self.assertEqual((told["bench"]["bit_rate_mbit"], told["bench"]["start_bits"]), (made.bit_rate / 1000000, made.start_bits))
+                self.assertEqual({node["name"] for node in told["node"]}, {node[0] for node in made.nodes})
+                self.assertIn("# NOTE bits of registers are from memory, and were held against no manual", out)
+
+    def test_registers_that_are_refused(self):
+        made = fieldfiles.Made(3)
+        names = self.dumps(made)
+        words = (*names, "--chip", "e-ray", "-o", "-", "--set", "microtick_ns=25")
+        first = next(f"{node[0]}.txt" for node in made.nodes if node[2])
+        whole = self.read(first)
+        self.assertEqual(self.called(*words)[0], 0)
+        for text, status, told in (
+                (whole + "GTUC1 0\nGTUC1 0\n", 5, "stands in line"), (whole + "GTUC1 is 7\n", 5, "is neither ADDRESS VALUE nor NAME VALUE"),
+                (re.sub(r"(?m)^WRHS1.*\n", "", whole), 5, "SUCC1.TXSY: the node sends sync frames, and its key slot is not told"),
+                (re.sub(r"(?m)^(SUCC1|0x\w{5}080)\b.*\n", "", whole), 5, "SUCC1 is missing, or says that the node is on no channel"),
+                (re.sub(r"(?m)^(GTUC11|0x\w{5}0C8)\b.*\n", "GTUC11 1\n", whole), 5, "external clock correction breaks the premises"),
+                (re.sub(r"(?m)^(GTUC2|0x\w{5}0A4)\b.*\n", "GTUC2 0x1234\n", whole), 5, "all nodes of a cluster have one"),
+                (re.sub(r"(?m)^(GTUC10|0x\w{5}0C4)\b.*\n", "GTUC10 0x10001\n", whole), 5, "GTUC10.MOC differs: "),
+                ("", 5, "it has no register of an E-Ray that is read"), ("0FC 3\n", 5, "it has no register of an E-Ray"),
+                ("x" * 1100000, 5, "a dump of registers has not")):
+            with self.subTest(told=told):
+                self.write(first, text)
+                found, out, err = self.called(*words)
+                self.assertEqual((found, out), (status, ""))
+                self.assertIn(told, err)
+        self.write(first, whole)
+        self.assertIn("MICROTICK-DURATION is missing in the controllers: give it by --set microtick_ns=25", self.called(*words[:-2])[2])
+        self.assertIn("--chip is for dumps of registers", self.called(*words, "--list")[2])
+
     def test_list(self):
         self.keep("a.arxml", ARXML)
         status, out, _ = self.called("a.arxml", "--list")

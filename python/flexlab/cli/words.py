@@ -71,6 +71,8 @@ def parser():
     read_in.add_argument("--set", metavar="NAME=NUMBER", action="append", help="a parameter that the file has not")
     read_in.add_argument("--map", metavar="RENAMED.toml", help="other names of elements: [fibex] and [arxml] with keys of the table of "
                                                                "names")
+    read_in.add_argument("--chip", choices=("e-ray",), help="the files are dumps of registers of such controllers, one a node: lines of "
+                         "ADDRESS VALUE or NAME VALUE")
     read_in.add_argument("--list", action="store_true", help="print the FlexRay clusters and their nodes, and write nothing")
 
     write_back = request("export", "put changed parameters of a cluster back into the FIBEX or ARXML file that it came from",

@@ -137,7 +137,7 @@ class Importing:
         if key in self.asked.given:
             self.used.add(key)
             return Told(plain(self.asked.given[key]), None, "by --set")
-        raise self.network.element.refused(f"{name.split('|')[0].split(':')[-1]} is missing {where}; give it by --set {key}=NUMBER")
+        raise self.network.element.refused(f"{name} is missing {where}; give it by --set {key}=NUMBER")
 
     def of_cluster(self) -> dict[str, Told]:
         found: dict[str, Told] = {}
@@ -146,7 +146,7 @@ class Importing:
                 continue
             element = self.network.values.get(row.key)
             if element is None:
-                found[row.key] = self.given(row.key, row.name(self.network.form), "in the cluster")
+                found[row.key] = self.given(row.key, self.network.label(row), "in the cluster")
                 continue
             least, most, unit, _ = ranges.NAMES[row.key]
             found[row.key] = Told(str(whole(element, least, most, unit)), element)
@@ -180,14 +180,14 @@ class Importing:
         for row in CONTROLLER:
             channel = row.key[-1] if row.key.startswith("pDelayCompensation") else ""
             nodes = [node for node in self.nodes if channel in node.channels] if channel else self.nodes
-            name = row.name(self.network.form).split("|")[0].split(":")[-1]
+            name = self.network.label(row)
             element, _ = self.of_nodes(row.key, nodes, name)
             if channel and not nodes:
                 continue
             if element is None:
                 if row.key == "microtick_ns" and row.key not in self.asked.given:
                     raise self.network.element.refused(f"{name} is missing in the controllers: give it by --set microtick_ns=25")
-                found[row.key] = self.given(row.key, row.name(self.network.form), "in the controllers")
+                found[row.key] = self.given(row.key, name, "in the controllers")
             elif row.key == "microtick_ns":
                 length = microtick(element, self.network.form)
                 found[row.key] = Told(plain(length), element)
@@ -410,5 +410,5 @@ def known_and_unused(network: Network) -> list[str]:
     """The names of what stands in the cluster and its controllers and is left out."""
     rows = CONTROLLER_CHECKED
     have = {key for controller in network.controllers for key in controller.values}
-    found = {row.name(network.form).split("|")[0].split(":")[-1] for row in rows if row.key in have}
+    found = {network.label(row) for row in rows if row.key in have}
     return sorted(found | {printable(name, 64) for name in network.omitted})

@@ -15,7 +15,8 @@ from ..toml.cluster import MOST_PPM
 from ..toml.source import MOST_BYTES
 from .imported import ASKED, Asked, Imported, Importing, known_and_unused, key_of, plain
 from .names import CLUSTER, CLUSTER_CHECKED, CONTROLLER, CONTROLLER_CHECKED, CONTROLLER_OFF, KEY_SLOT_ARXML
-from .network import read_network
+from .network import Network, read_network
+from .registers import register_network
 from .text import name_of, notes_of, toml_of
 from .xml_file import XmlFile, printable
 
@@ -131,7 +132,7 @@ def page(found: Imported, path: str, called: str) -> str:
     lines += field("Used", f"{len(used_of(found))} numbers, each with its line in the file that is written")
     lines += field("Derived", *derived_of(found))
     lines += field("Left out", ", ".join(known_and_unused(network)) or "nothing of the cluster and its controllers",
-                   "and all of the file that is no FlexRay cluster, ECU or frame")
+                   *([] if words_of_registers(network) else ["and all of the file that is no FlexRay cluster, ECU or frame"]))
     for note in notes_of(found):
         lines += field("NOTE", note)
     if missing_of(found):
@@ -143,6 +144,10 @@ def page(found: Imported, path: str, called: str) -> str:
     if path:
         lines += field("Written", f"{path}; next: {called} run {path}")
     return "\n".join(lines) + "\n"
+
+
+def words_of_registers(network: Network) -> bool:
+    return network.form == "registers"
 
 
 def list_page(words: argparse.Namespace, renamed: dict[str, dict[str, str]]) -> str:
@@ -171,11 +176,14 @@ def out_of(words: argparse.Namespace) -> str:
 def import_files(words: argparse.Namespace, called: str) -> int:
     """The request."""
     renamed = renamed_of(words.map)
+    if words.chip and (words.list or words.map or words.cluster or words.leave_out):
+        raise Stop(USAGE, "--chip is for dumps of registers, and --list, --map, --cluster and --leave-out are for FIBEX and ARXML")
     if words.list:
         sys.stdout.write(list_page(words, renamed))
         return DONE
     asked, path = asked_of(words), out_of(words)
-    network = read_network(words.files, words.cluster, renamed, words.leave_out or [])
+    network = (register_network(words.files) if words.chip else
+               read_network(words.files, words.cluster, renamed, words.leave_out or []))
     found = Importing(network, asked).made()
     text = toml_of(found)
     if path == "-":

@@ -1,12 +1,12 @@
 """A FlexRay cluster as FIBEX and ARXML files have it, in one form: values with their places, controllers, frames in slots."""
-from collections.abc import Iterable, Iterator
+from collections.abc import Iterable, Iterator, Sequence
 from dataclasses import dataclass, field
 
 from ..base.ending import REFUSED, USAGE, Refused, Stop
 from . import names
 from .names import ARXML, CONTROLLER, CONTROLLER_CHECKED, CONTROLLER_OFF, FIBEX, KEY_SLOT, KEY_SLOT_ARXML, KEY_SLOT_FIBEX, Row
 from .numbers import flag
-from .xml_file import Element, XmlFile, is_flexray, printable
+from .xml_file import Element, Source, XmlFile, is_flexray, printable
 
 
 @dataclass
@@ -38,7 +38,7 @@ class Sending:
 class Network:
     """The cluster that is imported."""
     form: str
-    files: list[XmlFile]
+    files: Sequence[Source]
     name: str
     element: Element
     values: dict[str, Element]
@@ -47,6 +47,11 @@ class Network:
     protocol: Element | None = None
     notes: list[tuple[Element | None, str]] = field(default_factory=list)
     omitted: set[str] = field(default_factory=set)
+    labels: dict[str, str] = field(default_factory=dict)
+
+    def label(self, row: Row) -> str:
+        """What the files call a value, in a line of flexlab."""
+        return self.labels.get(row.key) or row.name(self.form).split("|")[0].split(":")[-1]
 
     def place(self, element: Element) -> str:
         """Where an element stands: its line, with the file where there are several."""

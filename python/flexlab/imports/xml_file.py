@@ -20,11 +20,16 @@ MOST_OMITTED = 200
 KEPT_ATTRIBUTES = ("ID", "ID-REF", "DEST", "BASE")
 
 
+class Source:
+    """A file that is imported: what it is, and its SHA-256."""
+    path = form = version = encoding = sha256 = ""
+
+
 class Element:
     """An element that is kept: its text has its bytes in the file, where it is one plain piece."""
     __slots__ = ("name", "file", "line", "parent", "children", "attributes", "text", "start", "end", "package", "omitted", "kind")
 
-    def __init__(self, name: str, file: "XmlFile", line: int, parent: "Element | None"):
+    def __init__(self, name: str, file: Source, line: int, parent: "Element | None"):
         self.name, self.file, self.line, self.parent = name, file, line, parent
         self.children: list[Element] = []
         self.attributes: dict[str, str] = {}
@@ -90,7 +95,7 @@ def printable(text: str, most: int = 128) -> str:
     return kept if len(kept) <= most else kept[:most - 2] + ".."
 
 
-class XmlFile:
+class XmlFile(Source):
     """Reads a file of one of both formats: `form`, `version`, and the kept elements as `roots`."""
 
     def __init__(self, path: str, renamed: dict[str, dict[str, str]]):
