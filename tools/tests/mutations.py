@@ -262,8 +262,8 @@ def answer_of(name: str) -> str:
     return json.dumps(found, sort_keys=True)
 
 
-def called(words: list[str]) -> tuple[int, str]:
-    """The status of a call, and what stands on standard error; what is left of an earlier one is away."""
+def called(words: list[str]) -> tuple[int, str, str]:
+    """The status of a call, what stands on standard error, and what it printed; what is left of an earlier one is away."""
     shutil.rmtree("out", ignore_errors=True)
     os.mkdir("out")
     out, err = (io.TextIOWrapper(io.BytesIO(), encoding="utf-8") for _ in range(2))
@@ -271,8 +271,11 @@ def called(words: list[str]) -> tuple[int, str]:
     sys.stdout, sys.stderr = out, err
     try:
         status = cli.main(words)
-        err.flush()
-        return status, err.buffer.getvalue().decode("utf-8", "replace")  # type: ignore[attr-defined]
+        texts = []
+        for one in (err, out):
+            one.flush()
+            texts.append(one.buffer.getvalue().decode("utf-8", "replace"))  # type: ignore[attr-defined]
+        return status, texts[0], texts[1]
     finally:
         sys.stdout, sys.stderr = was
 
@@ -292,7 +295,7 @@ def trials(kind: str, made: list[packets.Packet], seed: str) -> Iterator[tuple[l
     answers = []
     for data in one.good:
         write(one.name, data)
-        status, err = called(one.words(one.name))
+        status, err, _ = called(one.words(one.name))
         if status != 0:
             raise AssertionError(f"a good {kind} file is refused: {err}")
         answers.append(answer_of(one.name))
@@ -341,15 +344,15 @@ def run(kind: str, made: list[packets.Packet], seed: str, count: int, report: An
         report.write(json.dumps({"number": number, "words": words}) + "\n")
         report.flush()
         signal.setitimer(signal.ITIMER_PROF, CPU_SECONDS)
-        status, err = called(words)
+        status, err, out = called(words)
         signal.setitimer(signal.ITIMER_PROF, 0)
         fault = ""
         if status not in ENDINGS or "Traceback" in err:
             fault = f"status {status}: {err[-600:]}"
         elif status != 0 and not err and words[0] != "explain":
             fault = f"status {status} without a word"
-        elif any(not one.isprintable() and one != "\n" for one in err):
-            fault = f"a control character on standard error: {err[-300:]!r}"
+        elif any(not one.isprintable() and one not in "\n\ufffd" for one in err + out):
+            fault = f"a control character on the terminal: {(err + out)[-300:]!r}"
         elif wanted is not None and (status, answer_of(words[1])) != (0, wanted):
             fault = f"a change that changes nothing gives another answer, status {status}: {err[-300:]}"
         if fault and data is not None:

@@ -12,7 +12,7 @@ import unittest
 import zlib
 
 import mutations
-from bench import FLEXLAB, FLEXRAY, Bench, edited, needs
+from bench import FLEXLAB, FLEXRAY, REPOSITORY, Bench, edited, needs
 
 SHORT = edited(("double_cycles = 200", "double_cycles = 8"))
 OBSERVER = "[observer]\nresolution_ns = 1\ndrift_ppm = 50\ndelay_from_ns = 0\ndelay_to_ns = 4000\n"
@@ -238,6 +238,17 @@ class Stopped(Bench):
         self.wait_for("here")
         self.assertEqual(self.stop(ended)[1], "flexlab: stopped\n")
 
+    def test_a_call_of_the_library(self):
+        """A call in C hears no signal: ^C does not wait for it."""
+        sleep = "import ctypes; from flexlab.program.calls import beside; beside(lambda: ctypes.CDLL(None).sleep(60))"
+        text = (f"import sys; sys.path.insert(0, {os.path.join(REPOSITORY, 'python')!r})\nprint(flush=True)\ntry:\n    exec({sleep!r})\n"
+                "except KeyboardInterrupt:\n    sys.exit('flexlab: stopped')\n")
+        ended = subprocess.Popen([sys.executable, "-c", text], stdout=subprocess.PIPE, stderr=subprocess.PIPE, text=True)
+        self.addCleanup(ended.kill)
+        ended.stdout.readline()
+        time.sleep(0.5)
+        self.stop(ended, 1)
+
     def test_a_run(self):
         self.write("a.toml", SHORT)
         ended = self.begin("run", "a.toml", "--flexray", self.slow(60))
@@ -286,24 +297,31 @@ class Stopped(Bench):
         self.assertIn("another flexlab writes into a.study", pages[1][1])
         self.assertIn("6 of 6 runs are there already", pages[1][0])
 
+    def limited(self, most, *words):
+        """flexlab where no file can be longer, and no other program is on the path."""
+        text = (f"import os, resource, sys\nresource.setrlimit(resource.RLIMIT_FSIZE, ({most}, {most}))\n"
+                "os.execv(sys.executable, [sys.executable, *sys.argv[1:]])\n")
+        env = {**os.environ, "FLEXRAY": FLEXRAY, "FLEXRAY_SERIES": "", "FLEXLAB_LIBRARY": "no", "PATH": "/nowhere"}
+        return subprocess.run([sys.executable, "-c", text, FLEXLAB, *words], capture_output=True, text=True, check=False, env=env,
+                              cwd=self.room, timeout=300)
+
     def test_no_room_on_the_disk(self):
         """A limit of the length of files stands for a full disk: it fails in the same calls."""
         self.write("a.toml", SHORT)
         self.assertEqual(self.shell("flexlab build a.toml").returncode, 0)
         kept = self.read("a.lab", "script.csv")
         self.write("a.toml", SHORT.replace("microtick_ns = 25", "microtick_ns = 25.5"))
-        ended = self.shell("ulimit -f 1; exec flexlab build a.toml")
+        ended = self.limited(1000, "build", "a.toml")
         self.assertEqual((ended.returncode, ended.stderr), (3, "flexlab: a.lab/script.csv: File too large\n"))
         self.assertEqual(self.read("a.lab", "script.csv"), kept)
         self.assertEqual(sorted(os.listdir(self.path("a.lab"))), ["drift.csv", "params.csv", "script.csv"])
-        ended = self.shell("ulimit -f 1; exec flexlab new b.toml")
+        ended = self.limited(1000, "new", "b.toml")
         self.assertEqual((ended.returncode, ended.stderr), (3, "flexlab: b.toml: File too large\n"))
         self.assertFalse(os.path.exists(self.path("b.toml")))
 
     def test_a_study_goes_on_behind_a_full_disk(self):
         words = "study --seeds 1:8:1 --doubles 1 -o m --jobs 1"
-        # Without GNU parallel, which keeps files of its own.
-        ended = self.shell(f"ulimit -f 4; PATH=/nowhere exec {sys.executable} {FLEXLAB} {words}")
+        ended = self.limited(2000, *words.split())
         self.assertEqual(ended.returncode, 3, ended.stdout + ended.stderr)
         self.assertIn("m/study.jsonl: File too large", ended.stderr)
         out, _ = self.flexlab(*words.split())
