@@ -349,7 +349,7 @@ class Stopped(Bench):
 
 
 class Mutations(unittest.TestCase):
-    """A few mutated inputs of each kind, of a seed that is printed; `bench/mutate` tries many."""
+    """A few mutated inputs of each kind, of a seed that is printed; `bench/inputs` tries many."""
 
     def test_no_input_ends_in_a_fault(self):
         seed = os.environ.get("FLEXLAB_SEED") or str(random.SystemRandom().randrange(10**9))

@@ -29,6 +29,7 @@ class Cluster:
     """What words of contradictions and of a verdict ask of a cluster."""
     microtick_ns = Fraction(25)
     nodes = {}
+    called = staticmethod(str)
 
 
 MICROTICK_NS, MACROS, MICROS, TURN = 25, 5000, 200000, 4900
