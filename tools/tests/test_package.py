@@ -298,7 +298,10 @@ class Release(Bench):
                             ignore=shutil.ignore_patterns("__pycache__", "tests", "edits", ".lab"))
         for words in (["init", "-q"], ["add", "-A"], ["-c", "user.name=a", "-c", "user.email=a@b", "commit", "-q", "-m", "all"]):
             subprocess.run(["git", *words], cwd=self.top, check=True, env=self.env())
-        for name, program in (("flexray_cli", FLEXRAY), ("flexray_series_cli", SERIES or FLEXRAY)):
+        with open(os.path.join(REPOSITORY, "tools", "programs"), encoding="ascii") as file:
+            rows = [line.split("#")[0].split() for line in file]
+        for called, name in {(row[0], row[2]) for row in rows if row}:
+            program = (SERIES or FLEXRAY) if called == "flexray-series" else FLEXRAY
             os.makedirs(os.path.join(self.top, "crates", name, "out"))
             shutil.copyfile(program, os.path.join(self.top, "crates", name, "out", name))
             os.chmod(os.path.join(self.top, "crates", name, "out", name), 0o755)
