@@ -3,15 +3,20 @@ and shared object fit each other. What tools/library wrote into out/library is t
 import os
 import re
 import shutil
+import signal
 import subprocess
+import time
 import unittest
 import zipfile
 
 from bench import REPOSITORY, TOOLS, Bench
+from flexlab.program import stamp
+from flexray import library
 
 FOLDER = os.environ.get("FLEXRAY_LIBRARY_FOLDER") or os.path.join(REPOSITORY, "out", "library")
 ARCHIVE = os.path.join(FOLDER, "lib", "libflexray.a")
 HEADER = os.path.join(FOLDER, "include", "flexray.h")
+SHARED = os.path.join(FOLDER, "lib", "libflexray.so")
 CALLER = os.path.join(TOOLS, "tests", "c", "caller.c")
 EXAMPLES = os.path.join(REPOSITORY, "examples")
 STRICT = ["-Wall", "-Wextra", "-Wpedantic", "-Werror"]
@@ -214,14 +219,52 @@ int main(void) {
         self.assertEqual({line.split()[-1] for line in told.splitlines()}, declared)
         self.assertIn("flexray_run", declared)
 
+    @unittest.skipUnless(shutil.which("readelf"), "there is no readelf")
+    def test_the_shared_object_is_closed_once_it_is_loaded(self):
+        """All names are bound at the load and the table of them is read-only then, no stack is executable, nothing else is searched;
+        and its build ID is the digest of the sources."""
+        def told(*words):
+            return subprocess.run(["readelf", "-W", *words, SHARED], capture_output=True, text=True, check=True).stdout
+        self.assertRegex(told("-d"), r"(?m)BIND_NOW")
+        self.assertNotRegex(told("-d"), "RPATH|RUNPATH|TEXTREL")
+        self.assertIn("GNU_RELRO", told("-l"))
+        self.assertRegex(told("-l"), r"GNU_STACK.* RW ")
+        self.assertIn(f"Build ID: {stamp.stamp(REPOSITORY)}", told("-n"))
+        self.assertEqual(library.build_of(SHARED), stamp.stamp(REPOSITORY))
+
+    @unittest.skipUnless(shutil.which("rt"), "tools/library needs the toolchain, though it proves nothing here")
+    @unittest.skipUnless(FOLDER == os.path.join(REPOSITORY, "out", "library"), "another library is tested than that of the repository")
+    def test_each_file_appears_whole(self):
+        """Killed at any moment, each file that is there is whole, and the next call leaves nothing else."""
+        words = [os.path.join(TOOLS, "library"), self.path("to")]
+        begun = time.monotonic()
+        subprocess.run(words, capture_output=True, check=True)
+        whole = time.monotonic() - begun
+        kept = {path: read(path) for path in self.files()}
+        self.assertIn(self.path("to", "lib", "libflexray.a"), kept)
+        for part in range(4):
+            shutil.rmtree(self.path("to"), ignore_errors=True)
+            process = subprocess.Popen(words, stdout=subprocess.DEVNULL, stderr=subprocess.DEVNULL, start_new_session=True)
+            time.sleep(whole * (0.55 + 0.15 * part))
+            os.killpg(process.pid, signal.SIGKILL)
+            process.wait()
+            for path in self.files():
+                self.assertEqual(read(path), kept[path], path)
+        subprocess.run(words, capture_output=True, check=True)
+        self.assertEqual({path: read(path) for path in self.files(".")}, kept)
+
+    def files(self, hidden=".making"):
+        """The files of a library that is made, but for those of its room."""
+        return [os.path.join(at, name) for at, _, names in os.walk(self.path("to")) for name in names
+                if hidden == "." or f"/{hidden}" not in at]
+
     @unittest.skipUnless(shutil.which("pkg-config"), "there is no pkg-config")
     def test_pkg_config(self):
         env = {**os.environ, "PKG_CONFIG_PATH": os.path.join(FOLDER, "lib", "pkgconfig")}
-        for words, wanted in ((["--modversion"], version()), (["--cflags", "--libs"], "-lflexray")):
+        for words, wanted in ((["--modversion"], version()), (["--cflags", "--libs"], "-lflexray"), (["--static", "--libs"], "-lflexray -lc")):
             told = subprocess.run(["pkg-config", *words, "flexray"], capture_output=True, text=True, check=False, env=env)
             self.assertEqual(told.returncode, 0, told.stderr)
             self.assertIn(wanted, told.stdout)
-
 
     def test_wheel(self):
         """The wheel beside the library has that library, and the modules of the package."""
