@@ -774,8 +774,8 @@ function unopened(name, why) {
   stale("not opened", `${cut(name)} is not opened`, [why], ...(page.source ? [[`Go on with ${cut(page.source.name)}`, () => compute()]] : []));
 }
 
-async function textOf(file) {
-  if (file.size > MOST_BYTES) throw new NoToml(`It has ${file.size} bytes, and a file may have ${MOST_BYTES}.`);
+async function textOf(file, most) {
+  if (file.size > most) throw new NoToml(`It has ${file.size} bytes, and such a file may have ${most}.`);
   const bytes = await file.arrayBuffer();
   try {
     return new TextDecoder("utf-8", { fatal: true, ignoreBOM: true }).decode(bytes);
@@ -793,14 +793,14 @@ async function opened(list) {
     if (toml) {
       ({ name } = toml);
       const left = chosen.filter((file) => file !== toml).map((file) => cut(file.name)).join(", ");
-      await taken({ job: "toml", text: await textOf(toml) }, { kind: "toml", name, left: cut(left, 200) });
+      await taken({ job: "toml", text: await textOf(toml, MOST_TOML) }, { kind: "toml", name, left: cut(left, 200) });
       return;
     }
     for (const file of chosen) {
       const role = roleOf(file);
       ({ name } = file);
       if (role && roles.has(role)) throw new NoToml(`${cut(roles.get(role).name)} has ${role} in its name too: one file of each is wanted.`);
-      if (role) roles.set(role, { name, text: await textOf(file) });
+      if (role) roles.set(role, { name, text: await textOf(file, MOST_BYTES) });
     }
     ({ name } = chosen[0]);
     if (!roles.size) throw new NoToml("A .toml file is wanted, or files whose names hold params, drift or script.");

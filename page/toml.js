@@ -29,8 +29,9 @@ const TABLES = new Map([
 ]);
 const SINGLE = ["bench", "cluster", "limits", "run", "values", "observer", "asc"];
 const LISTED = [...TABLES.keys()].filter((name) => !SINGLE.includes(name));
-// What a number may have, and how deep values may lie in each other: more is no cluster, and takes long.
-const MOST_DIGITS = 60, MOST_POWER = 60, MOST_DEPTH = 8;
+// How many bytes a file may have, how many digits a number before the point and behind it, as in flexlab, and how deep values may
+// lie in each other: more is no cluster, and takes long.
+const MOST_TOML = 4194304, MOST_DIGITS = 30, MOST_DEPTH = 8;
 // How much work a file may ask for, in links and cycles.
 const MOST_WORK = 5000000;
 
@@ -64,20 +65,24 @@ function numberOf(told) {
   const based = /^0(?:x[\dA-Fa-f]+(?:_[\dA-Fa-f]+)*|o[0-7]+(?:_[0-7]+)*|b[01]+(?:_[01]+)*)$/.test(told);
   const found = /^([+-]?)(0|[1-9]\d*(?:_\d+)*)(?:\.(\d+(?:_\d+)*))?(?:[eE]([+-]?)(\d+(?:_\d+)*))?$/.exec(told);
   if (!based && !found) return null;
-  const plain = (text) => (text || "").replace(/_/g, "");
-  const digits_ = based ? plain(told) : plain(found[2]) + plain(found[3]), power = found ? plain(found[5]).replace(/^0+(?=\d)/, "") : "";
-  if (digits_.length > MOST_DIGITS) throw new NoToml(`a number of ${digits_.length} digits is none of a cluster: ${MOST_DIGITS} are the most`);
-  if (power.length > 3 || Number(power) > MOST_POWER) throw new NoToml(`${cut(told)} is none of a cluster: its power of ten is from -${MOST_POWER} to ${MOST_POWER}`);
-  if (based) return { number: [BigInt(digits_), 1n], whole: true, text: String(BigInt(digits_)) };
-  const behind = plain(found[3]).length, shift = 10n ** BigInt(power || 0);
-  const sign = found[1] === "-" ? -1n : 1n, is_whole = found[3] === undefined && found[5] === undefined;
-  const over = sign * BigInt(digits_) * (found[4] === "-" ? 1n : shift), under = 10n ** BigInt(behind) * (found[4] === "-" ? shift : 1n);
-  return { number: [over, under], whole: is_whole, text: is_whole ? String(over) : told };
+  const plain = (text) => (text || "").replace(/_/g, ""), many = `a number has at most ${MOST_DIGITS} digits before the point, and as many behind it`;
+  if (based) {
+    const value = BigInt(plain(told));
+    if (value >= 10n ** BigInt(MOST_DIGITS)) throw new NoToml(many);
+    return { number: [value, 1n], whole: true, text: String(value) };
+  }
+  const behind = plain(found[3]), power = plain(found[5]).replace(/^0+(?=\d)/, ""), spelt = (plain(found[2]) + behind).replace(/^0+(?=\d)/, "");
+  // The power of ten of the last digit.
+  const last = power.length > 3 ? NaN : (found[4] === "-" ? -1 : 1) * Number(power || 0) - behind.length;
+  if (!(last >= -MOST_DIGITS && spelt.length + last <= MOST_DIGITS)) throw new NoToml(many);
+  const over = (found[1] === "-" ? -1n : 1n) * BigInt(spelt) * 10n ** BigInt(Math.max(last, 0)), is_whole = found[3] === undefined && found[5] === undefined;
+  return { number: [over, 10n ** BigInt(Math.max(-last, 0))], whole: is_whole, text: is_whole ? String(over) : told };
 }
 
 // The tables of a text: a Map of names to {many, line, tables}, each table a Map of keys to {line, value}. A value is a text,
 // true or false, a list, a number as above, or {drawn}. It goes through the text once.
 function tablesOf(text) {
+  if (new TextEncoder().encode(text).length > MOST_TOML) throw new NoToml(`it has more than ${MOST_TOML} bytes`);
   const plain = text.replace(/^\ufeff/, "").replace(/\r\n/g, "\n"), found = new Map();
   let at = 0, line = 1, table = null;
   const no = (why) => { throw new NoToml(`line ${line}: ${why}`); };
@@ -187,7 +192,7 @@ function tablesOf(text) {
     let number = null;
     try {
       // Digits alone are asked of a long one, so that no pattern goes through it.
-      number = told.length <= 400 ? numberOf(told) : no(`${cut(told)} has ${told.length} letters, and is no number of a cluster`);
+      number = told.length <= 100 ? numberOf(told) : no(`${cut(told)} has ${told.length} letters, and is no number of a cluster`);
     } catch (why) {
       no(why.message.replace(/^line \d+: /, ""));
     }

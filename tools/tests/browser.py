@@ -33,7 +33,7 @@ class Browser:
         os.close(their_out)
         self.number, self.kept, self.faults, self.tab = 0, b"", [], None
         # What hangs is ended, so that a read of the pipe ends too.
-        self.watch = threading.Timer(300, self.process.kill)
+        self.watch = threading.Timer(900, self.process.kill)
         self.watch.daemon = True
         self.watch.start()
         target = self.send("Target.createTarget", url="about:blank")["targetId"]
