@@ -410,6 +410,13 @@ class Release(Bench):
         self.assertIn("not built of this commit: C library", self.release("none", status=4))
         self.shared(stamp.stamp(self.top))
         os.remove(self.path("repository/out/page/flexray.html"))
+        # What is missing is built by the launcher, which wants the toolchain.
+        env = {**self.env(), "PATH": "/usr/bin:/bin"}
+        ended = subprocess.run([sys.executable, os.path.join(self.top, "tools", "release"), "--build", "none"], capture_output=True, text=True,
+                               check=False, env=env, cwd=self.room)
+        if not shutil.which("rt", path=env["PATH"]):
+            self.assertEqual((ended.returncode, ended.stdout), (1, ""), ended.stderr)
+            self.assertIn("./flexray --build ended with status", ended.stderr)
         self.assertIn("not built of this commit: page", self.release("none", status=4))
         self.assertEqual([name for name in os.listdir(self.room) if "none" in name], [])
 

@@ -571,6 +571,18 @@ class Builder(Bench):
         found = re.search(r'id="module">([^<]*)<', texts[0])[1]
         self.assertEqual(gzip.decompress(base64.b64decode(found)), b"\0asm\1\0\0\0")
 
+    def test_a_page_is_whole_or_as_it_was(self):
+        """Where the disk is full in the middle of a page, here by a limit of a file's length, the one that was there stays."""
+        with open(self.path("module.wasm"), "wb") as file:
+            file.write(b"\0asm\1\0\0\0")
+        self.page("--module", "module.wasm", "--out", "a.html")
+        before = self.read("a.html")
+        words = [os.path.join(TOOLS, "page"), "--module", "module.wasm", "--out", "a.html"]
+        ended = subprocess.run(["sh", "-c", 'ulimit -f 16; exec "$@"', "sh", *words], capture_output=True, text=True, check=False, cwd=self.room)
+        self.assertEqual((ended.returncode, ended.stdout), (3, ""), ended.stderr)
+        self.assertEqual(self.read("a.html"), before)
+        self.assertEqual(sorted(os.listdir(self.room)), ["a.html", "module.wasm"])
+
     def test_wrong_words(self):
         self.assertIn("usage: tools/page", self.page("--help"))
         self.assertEqual(self.page("--version"), f"tools/page {Path(REPOSITORY, 'VERSION').read_text()}")
